@@ -1,0 +1,152 @@
+-- Two sockets that are new, connected to each other.
+use Rattle.std.proofs.Common.{◌≡◌, ℕ, ◌+◌, false, ◌⊎◌, inl, inr, [], refl, sym, ap, ◌∙◌, subst, cond, nat_eq, arith}
+use Rattle.std.specs.Prelude.{Option, Some, None, is_some, IsTrue}
+use Rattle.std.specs.Option.{option_map_or}
+use Rattle.std.specs.List.{Contains}
+use Rattle.std.specs.FinMap as map
+use Rattle.std.proofs.lemmas.Bool.{eq-eqb}
+use Rattle.af_base.specs.declared.events.SockType.{SockType}
+use Rattle.af_base.specs.declared.events.State.TheVariants as state
+use Rattle.af_base.specs.World.{AsSocket, File, IsLive, Map, Process, World}
+use Rattle.af_base.specs.Places.{Holds, contents}
+use Rattle.af_base.specs.Counts.{count_in, one, refs}
+use Rattle.af_base.specs.Unheld.{IsSettled}
+use Rattle.af_base.specs.Changes.{add_file, install}
+use Rattle.af_base.specs.Steps.{connected_socket}
+use Rattle.af_base.specs.Whole.{AreMutual, IsWhole, state_at, state_of}
+use Rattle.af_base.proofs.Born.{fresh_file}
+use Rattle.af_base.proofs.Covers.{settled-counted, settled-held}
+use Rattle.af_base.proofs.Lookups.{insert-here, insert-other, same_or_not, told_apart}
+use Rattle.af_base.proofs.Moved.{there-install}
+use Rattle.af_base.proofs.Places.{refs-install}
+use Rattle.af_base.proofs.Settling.{none_in}
+use Rattle.af_base.proofs.Sums.{total-insert}
+use Rattle.af_base.proofs.Whole.{not_connected, peer_or, whole-install}
+
+-- The world with two sockets more, which are connected to each other and have no place yet.
+abbrev pub with_pair : World → SockType → World
+with_pair w kind = add_file (add_file w (AsSocket (connected_socket kind (w.next_ino + 1)))) (AsSocket (connected_socket kind w.next_ino))
+
+-- With a file more come the places that it has.
+pub refs-add_file : (w : World) (x : File) (f : ℕ) → map.get w.files w.next_ino ≡ None → refs (add_file w x) f ≡ refs w f + count_in f (contents x)
+refs-add_file w x f none =
+    let before : option_map_or (λ y. count_in f (contents y)) (map.get w.files w.next_ino) 0 ≡ 0 = ap (λ o. option_map_or (λ y. count_in f (contents y)) o 0) none in
+    omega (arith, before, total-insert (λ y. count_in f (contents y)) w.files w.next_ino x)
+
+module _ (w : World) (kind : SockType) where
+  -- The number of the first socket.
+  abbrev a : ℕ
+  a = w.next_ino
+
+  -- The number of the second socket.
+  abbrev b : ℕ
+  b = w.next_ino + 1
+
+  -- The files with the first socket.
+  abbrev first : Map File
+  first = map.insert w.files a (AsSocket (connected_socket kind b))
+
+  -- The world with both sockets.
+  abbrev new : World
+  new = with_pair w kind
+
+  -- The second socket is there.
+  second_there : map.get new.files b ≡ Some (AsSocket (connected_socket kind a))
+  second_there = insert-here first b (AsSocket (connected_socket kind a))
+
+  -- The first socket is there.
+  first_there : map.get new.files a ≡ Some (AsSocket (connected_socket kind b))
+  first_there = insert-other first b (AsSocket (connected_socket kind a)) a (told_apart a b (λ e. omega (arith, e))) ∙ insert-here w.files a (AsSocket (connected_socket kind b))
+
+  -- The other files are there as before.
+  others_there : (q : ℕ) → nat_eq q a ≡ false → nat_eq q b ≡ false → map.get new.files q ≡ map.get w.files q
+  others_there q e d = insert-other first b (AsSocket (connected_socket kind a)) q d ∙ insert-other w.files a (AsSocket (connected_socket kind b)) q e
+
+  -- A number is that of the one, or of the other, or neither.
+  which : (q : ℕ) → (q ≡ a) ⊎ ((q ≡ b) ⊎ (map.get new.files q ≡ map.get w.files q))
+  which q = elim (same_or_not q a) [
+    | inl e ↦ inl e
+    | inr e ↦ elim (same_or_not q b) [ inl d ↦ inr (inl d) | inr d ↦ inr (inr (others_there q e d)) ]
+  ]
+
+  -- What was there is there.
+  pub live-pair : IsWhole w → (f : ℕ) → IsLive w f → IsLive new f
+  live-pair k f l = let low = k.files_numbered f l in ap is_some (others_there f (told_apart f a (λ e. omega (arith, e, low))) (told_apart f b (λ e. omega (arith, e, low)))) ∙ l
+
+  -- The new sockets hold nothing.
+  held_before : (q f : ℕ) → Holds new q f → Holds w q f
+  held_before q f h = elim (which q) [
+    | inl e ↦ absurd (none_in f (subst (λ o. Contains (option_map_or contents o []) f) (ap (map.get new.files) e ∙ first_there) h))
+    | inr r ↦ elim r [
+      | inl e ↦ absurd (none_in f (subst (λ o. Contains (option_map_or contents o []) f) (ap (map.get new.files) e ∙ second_there) h))
+      | inr e ↦ subst (λ o. Contains (option_map_or contents o []) f) e h
+    ]
+  ]
+
+  -- Whom a file that is there talks to.
+  state_there : (q : ℕ) (o : Option File) → map.get new.files q ≡ o → state_at new q ≡ option_map_or state_of o state.Idle
+  state_there q o e = ap (λ o. option_map_or state_of o state.Idle) e
+
+  -- Who is connected is live.
+  connected_live : (q p : ℕ) → state_at w q ≡ state.Connected p → IsLive w q
+  connected_live q p = by (map.get w.files q) where
+    by : (o : Option File) → option_map_or state_of o state.Idle ≡ state.Connected p → IsTrue (is_some o)
+    by None e = not_connected state.Idle p refl e
+    by (Some x) e = refl
+
+  -- Peers are mutual, the two new ones too.
+  mutual-pair : IsWhole w → AreMutual new
+  mutual-pair k f p e = elim (which f) [
+    | inl s ↦
+        let to : b ≡ p = ap (peer_or p) (sym (ap (state_at new) s ∙ state_there a _ first_there) ∙ e) in
+        ap (state_at new) (sym to) ∙ state_there b _ second_there ∙ ap state.Connected (sym s)
+    | inr r ↦ elim r [
+      | inl s ↦
+          let to : a ≡ p = ap (peer_or p) (sym (ap (state_at new) s ∙ state_there b _ second_there) ∙ e) in
+          ap (state_at new) (sym to) ∙ state_there a _ first_there ∙ ap state.Connected (sym s)
+      | inr s ↦
+          let back : state_at w p ≡ state.Connected f = k.peers f p (sym (ap (λ o. option_map_or state_of o state.Idle) s) ∙ e) in
+          let low = k.files_numbered p (connected_live p f back) in
+          ap (λ o. option_map_or state_of o state.Idle) (others_there p (told_apart p a (λ d. omega (arith, d, low))) (told_apart p b (λ d. omega (arith, d, low)))) ∙ back
+    ]
+  ]
+
+  -- Two sockets more.
+  pub whole-pair : IsWhole w → IsWhole new
+  whole-pair k = record {
+    tables_live = λ f t. live-pair k f (k.tables_live f t);
+    queues_live = λ q f h. live-pair k f (k.queues_live q f (held_before q f h));
+    files_numbered = λ f l. elim (which f) [
+      | inl e ↦ omega (arith, e)
+      | inr r ↦ elim r [
+        | inl e ↦ omega (arith, e)
+        | inr e ↦ let low = k.files_numbered f (sym (ap is_some e) ∙ l) in omega (arith, low)
+      ]
+    ];
+    processes_numbered = k.processes_numbered;
+    peers = mutual-pair k;
+  }
+
+  -- They have no place yet, and add none.
+  pub refs-pair : IsWhole w → (f : ℕ) → refs new f ≡ refs w f
+  refs-pair k f =
+      let none : map.get first b ≡ None = insert-other w.files a (AsSocket (connected_socket kind b)) b (told_apart b a (λ e. omega (arith, e))) ∙ fresh_file w b k (omega arith) in
+      let empty : count_in f [] ≡ 0 = refl in
+      omega (arith, empty, refs-add_file (add_file w (AsSocket (connected_socket kind b))) (AsSocket (connected_socket kind a)) f none, refs-add_file w (AsSocket (connected_socket kind b)) f (fresh_file w a k (omega arith)))
+
+  -- Two sockets more, each with a number that was free.
+  pub settled-pair : (p n m : ℕ) (q : Process) → IsSettled w → IsWhole w → map.get w.processes p ≡ Some q → map.get q.table n ≡ None → map.get q.table m ≡ None → ¬ (n ≡ m) → IsSettled (install (install new p n a) p m b)
+  settled-pair p n m q s k at free free_too apart = settled-counted (install (install new p n a) p m b) (λ f l.
+      let one_more = refs-install new p n a f q at free in
+      let two_more = refs-install (install new p n a) p m b f (record q { table = map.insert q.table n a }) (there-install new p n a q at) (insert-other q.table n a m (told_apart m n (λ e. apart (sym e))) ∙ free_too) in
+      elim (which f) [
+        | inl e ↦ let counted : one f a ≡ 1 = ap {B = ℕ} (λ c. cond c 1 0) (eq-eqb f a e) in omega (arith, one_more, two_more, counted)
+        | inr r ↦ elim r [
+          | inl e ↦ let counted : one f b ≡ 1 = ap {B = ℕ} (λ c. cond c 1 0) (eq-eqb f b e) in omega (arith, one_more, two_more, counted)
+          | inr e ↦ let held = settled-held w f s (sym (ap is_some e) ∙ l) in omega (arith, one_more, two_more, held, refs-pair k f)
+        ]
+      ])
+
+  -- Two sockets more, each with a number.
+  pub whole-paired : (p n m : ℕ) → IsWhole w → IsWhole (install (install new p n a) p m b)
+  whole-paired p n m k = whole-install (install new p n a) p m b (whole-install new p n a (whole-pair k) (ap is_some first_there)) (ap is_some second_there)

@@ -1,0 +1,63 @@
+-- One place added adds one.
+use Rattle.std.proofs.Common.{◌≡◌, ℕ, ◌+◌, List, [], ◌∷◌, ◌++◌, ap, ◌∙◌, arith, append-nil}
+use Rattle.std.specs.Prelude.{Some, None}
+use Rattle.std.specs.Option.{option_map_or}
+use Rattle.std.specs.FinMap as map
+use Rattle.std.proofs.lemmas.List.Sums.{sum_by-append}
+use Rattle.std.proofs.lemmas.Grind.{flat_map-append}
+use Rattle.af_base.specs.World.{AsSocket, Message, Process, Socket, World}
+use Rattle.af_base.specs.Places.{carried, contents, queue_of}
+use Rattle.af_base.specs.Counts.{count_in, inflight, one, refs, total_of}
+use Rattle.af_base.specs.Changes.{file_with, install, push_message, uninstall, with_socket}
+use Rattle.af_base.proofs.Sums.{total-change_at, total-insert, total-remove}
+
+-- a number taken into use
+pub refs-install : (w : World) (p n g f : ℕ) (q : Process) → map.get w.processes p ≡ Some q → map.get q.table n ≡ None → refs (install w p n g) f ≡ refs w f + one f g
+refs-install w p n g f q there free =
+    let table = total-insert (one f) q.table n g in
+    let none = ap (λ o. total_of (one f) (map.insert q.table n g) + option_map_or (one f) o 0) free in
+    omega (arith, table, none, total-change_at (λ x. total_of (one f) x.table) (λ x. record x { table = map.insert x.table n g }) w.processes p q there)
+
+pub refs-uninstall : (w : World) (p n g f : ℕ) (q : Process) → map.get w.processes p ≡ Some q → map.get q.table n ≡ Some g → refs (uninstall w p n) f + one f g ≡ refs w f
+refs-uninstall w p n g f q there is =
+    omega (arith, total-remove (one f) q.table n g is, total-change_at (λ x. total_of (one f) x.table) (λ x. record x { table = map.remove x.table n }) w.processes p q there)
+
+pub count-append : (f : ℕ) (xs ys : List ℕ) → count_in f (xs ++ ys) ≡ count_in f xs + count_in f ys
+count-append f xs ys = sum_by-append _ xs ys
+
+pub carried-push : (q : List Message) (m : Message) → carried (q ++ m ∷ []) ≡ carried q ++ m.attached
+carried-push q m = flat_map-append (λ m. m.attached) q (m ∷ []) ∙ ap (λ xs. carried q ++ xs) (append-nil m.attached)
+
+-- a message put into a queue
+pub refs-push : (w : World) (s : ℕ) (m : Message) (f : ℕ) (x : Socket) → map.get w.files s ≡ Some (AsSocket x) → refs (push_message w s m) f ≡ refs w f + count_in f m.attached
+refs-push w s m f x there =
+    omega (
+      arith,
+      total-change_at (λ y. count_in f (contents y)) (file_with (λ x. record x { queue = x.queue ++ m ∷ [] })) w.files s (AsSocket x) there,
+      ap (λ c. count_in f (c ++ x.backlog)) (carried-push x.queue m),
+      count-append f (carried x.queue ++ m.attached) x.backlog,
+      count-append f (carried x.queue) m.attached,
+      count-append f (carried x.queue) x.backlog,
+    )
+
+pub inflight-push : (w : World) (s : ℕ) (m : Message) (f : ℕ) (x : Socket) → map.get w.files s ≡ Some (AsSocket x) → inflight (push_message w s m) f ≡ inflight w f + count_in f m.attached
+inflight-push w s m f x there =
+    omega (
+      arith,
+      total-change_at (λ y. count_in f (carried (queue_of y))) (file_with (λ x. record x { queue = x.queue ++ m ∷ [] })) w.files s (AsSocket x) there,
+      ap (count_in f) (carried-push x.queue m),
+      count-append f (carried x.queue) m.attached,
+    )
+
+-- the first message taken
+pub refs-pop : (w : World) (s : ℕ) (m : Message) (rest : List Message) (f : ℕ) (x : Socket) → map.get w.files s ≡ Some (AsSocket x) → x.queue ≡ m ∷ rest
+    → refs (with_socket w s (λ x. record x { queue = rest })) f + count_in f m.attached ≡ refs w f
+refs-pop w s m rest f x there is =
+    omega (
+      arith,
+      total-change_at (λ y. count_in f (contents y)) (file_with (λ x. record x { queue = rest })) w.files s (AsSocket x) there,
+      ap (λ q. count_in f (carried q ++ x.backlog)) is,
+      count-append f (m.attached ++ carried rest) x.backlog,
+      count-append f m.attached (carried rest),
+      count-append f (carried rest) x.backlog,
+    )

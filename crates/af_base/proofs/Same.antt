@@ -1,0 +1,99 @@
+-- What the derived `==` of steps, events and replies says.
+use Rattle.std.proofs.Common.{◌≡◌, ℕ, Bool, true, false, ◌&&◌, refl, ap, List, rules}
+use Rattle.std.specs.Prelude.{nat_eq}
+use Rattle.std.specs.Cmp.Lexicographic.{pointwise}
+use Rattle.std.specs.Cmp.{booleans_Decides}
+use Rattle.std.proofs.lemmas.Bool.{eqb-true, eq-eqb, false≢true}
+use Rattle.std.proofs.lemmas.Bool.Decides.{Decides-eqb}
+use Rattle.std.proofs.lemmas.Slice.Eq.{slice_eq-Decides}
+use denote.Enum.Bare.{same_true}
+use Rattle.af_base.specs.contracts.errno.Errno as errno
+use Rattle.af_base.specs.declared.events.SockType.TheVariants.{Seqpacket}
+use Rattle.af_base.specs.declared.events.Step.{Step}
+use Rattle.af_base.specs.declared.events.Step.TheVariants as step
+use Rattle.af_base.specs.declared.events.Event.{Event}
+use Rattle.af_base.specs.declared.events.Event.TheVariants as event
+use Rattle.af_base.specs.declared.events.Reply.{Reply}
+use Rattle.af_base.specs.declared.events.Reply.TheVariants as reply
+use Rattle.af_base.specs.contracts.events.StepPartialEq.TheImpl as step_eq
+use Rattle.af_base.specs.contracts.events.EventPartialEq.TheImpl as event_eq
+use Rattle.af_base.specs.contracts.events.ReplyPartialEq.TheImpl as reply_eq
+
+both : (a b : Bool) → (a && b) ≡ true → (a ≡ true) × (b ≡ true)
+both true b e = (refl, e)
+both false b e = absurd (false≢true e)
+
+each : (a b : Bool) → a ≡ true → b ≡ true → (a && b) ≡ true
+each true b p q = q
+each false b p q = p
+
+number_itself : (x : ℕ) → nat_eq x x ≡ true
+number_itself x = eq-eqb x x refl
+
+list_same : (xs ys : List ℕ) → pointwise nat_eq xs ys ≡ true → xs ≡ ys
+list_same xs ys e = (slice_eq-Decides Decides-eqb xs ys (pointwise nat_eq xs ys) refl).0 e
+
+list_itself : (xs : List ℕ) → pointwise nat_eq xs xs ≡ true
+list_itself xs = (slice_eq-Decides Decides-eqb xs xs (pointwise nat_eq xs xs) refl).1 refl
+
+pub step_same : (a b : Step) → step_eq.ghosts.eq a b ≡ true → a ≡ b
+step_same (step.Close x) (step.Close y) e = ap step.Close (eqb-true x y e)
+step_same (step.Pair Seqpacket) (step.Pair Seqpacket) e = refl
+step_same (step.Send x z t) (step.Send y w u) e =
+    let h = both _ _ e in
+    let k = both _ _ h.1 in
+    λ i. step.Send (eqb-true x y h.0 i) (list_same z w k.0 i) (list_same t u k.1 i)
+step_same (step.Recv x z t) (step.Recv y w u) e =
+    let h = both _ _ e in
+    let k = both _ _ h.1 in
+    λ i. step.Recv (eqb-true x y h.0 i) (eqb-true z w k.0 i) (eqb-true t u k.1 i)
+step_same a b e = absurd (false≢true e)
+
+pub step_itself : (a : Step) → step_eq.ghosts.eq a a ≡ true
+step_itself (step.Close x) = number_itself x
+step_itself (step.Pair x) = refl
+step_itself (step.Send x z t) = each _ _ (number_itself x) (each _ _ (list_itself z) (list_itself t))
+step_itself (step.Recv x z t) = each _ _ (number_itself x) (each _ _ (number_itself z) (number_itself t))
+
+pub event_same : (a b : Event) → event_eq.ghosts.eq a b ≡ true → a ≡ b
+event_same (event.Spawn x z t) (event.Spawn y w u) e =
+    let h = both _ _ e in
+    let k = both _ _ h.1 in
+    λ i. event.Spawn (eqb-true x y h.0 i) (eqb-true z w k.0 i) ((booleans_Decides t u).0 k.1 i)
+event_same (event.Proc x s) (event.Proc y t) e = let h = both _ _ e in λ i. event.Proc (eqb-true x y h.0 i) (step_same s t h.1 i)
+event_same a b e = absurd (false≢true e)
+
+pub event_itself : (a : Event) → event_eq.ghosts.eq a a ≡ true
+event_itself (event.Spawn x z t) = each _ _ (number_itself x) (each _ _ (number_itself z) ((booleans_Decides t t).1 refl))
+event_itself (event.Proc x s) = each _ _ (number_itself x) (step_itself s)
+
+pub reply_same : (a b : Reply) → reply_eq.ghosts.eq a b ≡ true → a ≡ b
+reply_same (reply.Pid x) (reply.Pid y) e = ap reply.Pid (eqb-true x y e)
+reply_same (reply.Fd x) (reply.Fd y) e = ap reply.Fd (eqb-true x y e)
+reply_same (reply.Fds x z) (reply.Fds y w) e = let h = both _ _ e in λ i. reply.Fds (eqb-true x y h.0 i) (eqb-true z w h.1 i)
+reply_same reply.Ok reply.Ok e = refl
+reply_same (reply.Sent x) (reply.Sent y) e = ap reply.Sent (eqb-true x y e)
+reply_same (reply.Got x z t u) (reply.Got y w v s) e =
+    let h = both _ _ e in
+    let k = both _ _ h.1 in
+    let j = both _ _ k.1 in
+    λ i. reply.Got (list_same x y h.0 i) (list_same z w k.0 i) ((booleans_Decides t v).0 j.0 i) ((booleans_Decides u s).0 j.1 i)
+reply_same reply.End reply.End e = refl
+reply_same (reply.Started x) (reply.Started y) e = ap reply.Started (eqb-true x y e)
+reply_same reply.Working reply.Working e = refl
+reply_same (reply.Done x z) (reply.Done y w) e = let h = both _ _ e in λ i. reply.Done (eqb-true x y h.0 i) (eqb-true z w h.1 i)
+reply_same (reply.Refused x) (reply.Refused y) e = ap reply.Refused (same_true errno.the_type (search rules) x y e)
+reply_same a b e = absurd (false≢true e)
+
+pub reply_itself : (a : Reply) → reply_eq.ghosts.eq a a ≡ true
+reply_itself (reply.Pid x) = number_itself x
+reply_itself (reply.Fd x) = number_itself x
+reply_itself (reply.Fds x z) = each _ _ (number_itself x) (number_itself z)
+reply_itself reply.Ok = refl
+reply_itself (reply.Sent x) = number_itself x
+reply_itself (reply.Got x z t u) = each _ _ (list_itself x) (each _ _ (list_itself z) (each _ _ ((booleans_Decides t t).1 refl) ((booleans_Decides u u).1 refl)))
+reply_itself reply.End = refl
+reply_itself (reply.Started x) = number_itself x
+reply_itself reply.Working = refl
+reply_itself (reply.Done x z) = each _ _ (number_itself x) (number_itself z)
+reply_itself (reply.Refused x) = eq-eqb _ _ refl

@@ -1,0 +1,204 @@
+-- Each step of a process, and each start of one, leaves the world sound.
+use Rattle.std.proofs.Common.{◌≡◌, ◌<◌, ◌≤◌, ℕ, zero, suc, ◌+◌, Bool, true, false, not, inl, inr, List, [], ◌∷◌, length, min, refl, sym, ap, ◌∙◌, subst, nat_eq, arith}
+use Rattle.std.specs.Prelude.{Option, Some, None, is_some, is_none, unwrap_or, filter_map, if◌then◌else◌, ⊤}
+use Rattle.std.specs.Option.{option_and_then, option_map_or}
+use Rattle.std.specs.List.{Contains, cons_option, zip}
+use Rattle.std.specs.FinMap as map
+use Rattle.std.proofs.lemmas.Bool.{false≢true, leb-false, ltb-false}
+use Rattle.af_base.specs.declared.errno.Errno.{Errno}
+use Rattle.af_base.specs.declared.errno.Errno.TheVariants.{ESRCH}
+use Rattle.af_base.specs.declared.events.Reply.{Reply}
+use Rattle.af_base.specs.declared.events.SockType.{SockType}
+use Rattle.af_base.specs.declared.events.SockType.TheVariants.{Seqpacket}
+use Rattle.af_base.specs.declared.events.State.{State}
+use Rattle.af_base.specs.declared.events.State.TheVariants as state
+use Rattle.af_base.specs.declared.events.Step.{Step}
+use Rattle.af_base.specs.declared.events.Step.TheVariants as step
+use Rattle.af_base.specs.declared.limits.TheConstants.{MAX_BYTES, MAX_INFLIGHT, MAX_MESSAGES, MAX_NOFILE, SCM_MAX_FD}
+use Rattle.af_base.specs.World.{AsSocket, File, Message, Plain, Process, Socket, World}
+use Rattle.af_base.specs.Places.{queue_at, queue_of, table_at}
+use Rattle.af_base.specs.Counts.{total}
+use Rattle.af_base.specs.Changes.{install_all, with_queue}
+use Rattle.af_base.specs.Refusals.{Row, first_fit, ino_on, is_connected, is_hung_up, no_process, no_socket, peer_of, process_at, refusal, socket_at, socket_of, socket_on, spawn_refusal, spawn_row, step_row}
+use Rattle.af_base.specs.Steps.{Outcome, ProcessStep, SpawnStep, answer, effect, free_at, needs_no_memory, spawned}
+use Rattle.af_base.specs.Table.{free_numbers, lowest_free}
+use Rattle.af_base.specs.Take.{Taken, take_from, take_seqpacket}
+use Rattle.af_base.specs.Whole.{IsSound, IsWhole, IsWithin, state_at, state_of}
+use Rattle.af_base.proofs.Elements.{Contains-none, Contains-rest}
+use Rattle.af_base.proofs.Free.{free-free_numbers, free-lowest_free}
+use Rattle.af_base.proofs.Lookups.{none_some, not_same, same_or_not}
+use Rattle.af_base.proofs.Pairs.{whole-paired}
+use Rattle.af_base.proofs.Sound.{sound-settles}
+use Rattle.af_base.proofs.Trees.{insert_same}
+use Rattle.af_base.proofs.Born.{whole-spawned}
+use Rattle.af_base.proofs.Whole.{not_connected, whole-install_all, whole-push, whole-take, whole-uninstall}
+use Rattle.af_base.proofs.Within.{neither, within-install_all, within-paired, within-push, within-spawned, within-take, within-uninstall}
+
+-- A test that does not fit, and what follows it.
+pub record Passed (test : Bool) (Rest : Type 0) : Type 0 where
+  pub here : test ≡ false
+  pub rest : Rest
+
+-- No test of the row fits.
+abbrev pub NoneFits : Row → Type 0
+NoneFits [] = ⊤
+NoneFits (r ∷ rs) = Passed r.0 (NoneFits rs)
+
+-- A row without an error is one of which no test fits.
+pub none-fits : (row : Row) → first_fit row ≡ None → NoneFits row
+none-fits [] is = tt
+none-fits (r ∷ rs) is = by r.0 is (λ k. none-fits rs k) where
+  by : (b : Bool) → (if b then Some r.1 else first_fit rs) ≡ None → (first_fit rs ≡ None → NoneFits rs) → Passed b (NoneFits rs)
+  by true e go = absurd (none_some r.1 (sym e))
+  by false e go = record { here = refl; rest = go e }
+
+-- A process that is there is the one that its number gives.
+pub process-there : (w : World) (p : ℕ) → not (map.contains_key w.processes p) ≡ false → map.get w.processes p ≡ Some (process_at w p)
+process-there w p = by (map.get w.processes p) where
+  by : (o : Option Process) → not (is_some o) ≡ false → o ≡ Some (unwrap_or o no_process)
+  by None e = absurd (false≢true (sym e))
+  by (Some q) e = refl
+
+-- A number that stands for a socket stands for the one that it gives.
+pub socket-there : (w : World) (p n : ℕ) → is_none (table_at w p n) ≡ false → is_none (socket_at w (ino_on w p n)) ≡ false → map.get w.files (ino_on w p n) ≡ Some (AsSocket (socket_on w p n))
+socket-there w p n = by (table_at w p n) where
+  at : (o : Option File) → is_none (option_and_then socket_of o) ≡ false → o ≡ Some (AsSocket (unwrap_or (option_and_then socket_of o) no_socket))
+  at None e = absurd (false≢true (sym e))
+  at (Some Plain) e = absurd (false≢true (sym e))
+  at (Some (AsSocket s)) e = refl
+
+  by : (t : Option ℕ) → is_none t ≡ false → is_none (socket_at w (unwrap_or t 0)) ≡ false → map.get w.files (unwrap_or t 0) ≡ Some (AsSocket (unwrap_or (option_and_then (socket_at w) t) no_socket))
+  by None e d = absurd (false≢true (sym e))
+  by (Some f) e d = at (map.get w.files f) d
+
+-- Who was connected and whose peer is not gone is connected to it.
+pub connected-to : (t : State) → not (is_connected t) ≡ false → is_hung_up t ≡ false → t ≡ state.Connected (peer_of t)
+connected-to state.Idle e d = absurd (false≢true (sym e))
+connected-to (state.Listening b) e d = absurd (false≢true (sym e))
+connected-to (state.Connected p) e d = refl
+connected-to state.HungUp e d = absurd (false≢true (sym d))
+
+-- Who is connected is a socket.
+pub connected-socket : (w : World) (f p : ℕ) → state_at w f ≡ state.Connected p → (x : Socket) × (map.get w.files f ≡ Some (AsSocket x))
+connected-socket w f p = by (map.get w.files f) refl where
+  by : (o : Option File) → map.get w.files f ≡ o → option_map_or state_of o state.Idle ≡ state.Connected p → (x : Socket) × (map.get w.files f ≡ Some (AsSocket x))
+  by None e d = not_connected state.Idle p refl d
+  by (Some Plain) e d = not_connected state.Idle p refl d
+  by (Some (AsSocket x)) e d = (x, e)
+
+-- What numbers stand for stands in a table.
+pub attached-tabled : (w : World) (p : ℕ) (ns : List ℕ) (f : ℕ) → Contains (filter_map (table_at w p) ns) f → (n : ℕ) × (table_at w p n ≡ Some f)
+attached-tabled w p [] f h = absurd (Contains-none f h)
+attached-tabled w p (n ∷ ns) f h = by (λ k. attached-tabled w p ns f k) (table_at w p n) refl h where
+  by : (Contains (filter_map (table_at w p) ns) f → (k : ℕ) × (table_at w p k ≡ Some f)) → (o : Option ℕ) → table_at w p n ≡ o → Contains (cons_option o (filter_map (table_at w p) ns)) f → (k : ℕ) × (table_at w p k ≡ Some f)
+  by rest None e h = rest h
+  by rest (Some g) e h = elim (same_or_not g f) [
+    | inl same ↦ (n, e ∙ ap Some same)
+    | inr apart ↦ rest (Contains-rest g _ f h (not_same g f apart))
+  ]
+
+-- No more files than numbers.
+pub attached-most : (w : World) (p : ℕ) (ns : List ℕ) → length (filter_map (table_at w p) ns) ≤ length ns
+attached-most w p [] = omega arith
+attached-most w p (n ∷ ns) = let rest = attached-most w p ns in by (table_at w p n) rest where
+  by : (o : Option ℕ) → length (filter_map (table_at w p) ns) ≤ length ns → length (cons_option o (filter_map (table_at w p) ns)) ≤ length (n ∷ ns)
+  by None h = omega (arith, h)
+  by (Some g) h = omega (arith, h)
+
+-- The queue that a socket has in place of its queue changes nothing.
+pub same-with_queue : (w : World) (s : ℕ) (x : Socket) → map.get w.files s ≡ Some (AsSocket x) → with_queue w s x.queue ≡ w
+same-with_queue w s x at = ap (λ fs. record w { files = fs }) (ap (λ o. option_map_or (λ y. map.insert w.files s (queued y)) o w.files) at ∙ insert_same w.files s (AsSocket x) at) where
+  queued : File → File
+  queued Plain = Plain
+  queued (AsSocket y) = AsSocket (record y { queue = x.queue })
+
+-- What a step that nothing refuses leaves is whole, and within the limits.
+abbrev Fits : World → Type 0
+Fits w = IsWhole w × IsWithin w
+
+-- Two sockets more fit.
+fits-pair : (w : World) (p : ℕ) (kind : SockType) → Fits w → map.get w.processes p ≡ Some (process_at w p) → NoneFits (step_row w p (step.Pair kind)) → Fits (effect w p (step.Pair kind))
+fits-pair w p kind k at row =
+    let free = free-free_numbers (process_at w p) in
+    let two = ltb-false (length (free_numbers (process_at w p))) 2 row.here in
+    (whole-paired w kind p (free_at w p 0) (free_at w p 1) k.0, within-paired w kind p (free_at w p 0) (free_at w p 1) (process_at w p) k.1 row.rest.here at (free.low 0 0 (omega (arith, two))) (free.low 1 0 (omega (arith, two))))
+
+-- A message sent fits.
+fits-send : (w : World) (p n : ℕ) (bytes attach : List ℕ) → Fits w → NoneFits (step_row w p (step.Send n bytes attach)) → Fits (effect w p (step.Send n bytes attach))
+fits-send w p n bytes attach k given =
+    let socket = given.rest in
+    let numbers = socket.rest in
+    let short = numbers.rest in
+    let tabled = short.rest in
+    let connected = tabled.rest in
+    let alive = connected.rest in
+    let room = alive.rest.rest in
+    let queued = room.rest in
+    let f = ino_on w p n in
+    let s = socket_on w p n in
+    let to : state_at w f ≡ state.Connected (peer_of s.state) = ap (λ o. option_map_or state_of o state.Idle) (socket-there w p n given.here socket.here) ∙ connected-to s.state connected.here alive.here in
+    let peer = connected-socket w (peer_of s.state) f (k.0.peers f (peer_of s.state) to) in
+    let some = neither _ _ numbers.here in
+    let few = attached-most w p attach in
+    let low = ltb-false SCM_MAX_FD (length attach) some.1 in
+    let flying = ltb-false MAX_INFLIGHT (total w + length attach) room.here in
+    let waiting : length peer.0.queue < MAX_MESSAGES = subst (λ o. length (option_map_or queue_of o []) < MAX_MESSAGES) peer.1 (leb-false MAX_MESSAGES (length (queue_at w (peer_of s.state))) queued.here) in (
+      whole-push w (peer_of s.state) _ k.0 (λ g h. let at = attached-tabled w p attach g h in k.0.tables_live g (p, at.0, at.1)),
+      within-push w (peer_of s.state) _ peer.0 k.1 peer.1 (record { some = positive (length bytes) some.0; bytes = ltb-false MAX_BYTES (length bytes) short.here; attached = omega (arith, few, low) }) waiting (omega (arith, few, flying)),
+    ) where
+      positive : (k : ℕ) → nat_eq k 0 ≡ false → 1 ≤ k
+      positive zero e = absurd (false≢true (sym e))
+      positive (suc k) e = omega arith
+
+-- What a receive leaves, by what it takes.
+abbrev received : World → ℕ → ℕ → ℕ → Taken → World
+received w p f max_fds taken = install_all (with_queue w f taken.rest) p (zip (lowest_free (min (length taken.attached) max_fds) (process_at w p)) taken.attached)
+
+-- Each type takes a packet.
+take-seqpacket : (kind : SockType) (q : List Message) (n : ℕ) → take_from kind q n ≡ take_seqpacket q n
+take-seqpacket Seqpacket q n = refl
+
+-- A message taken fits.
+fits-recv : (w : World) (p n max_bytes max_fds : ℕ) → Fits w → map.get w.processes p ≡ Some (process_at w p) → NoneFits (step_row w p (step.Recv n max_bytes max_fds)) → Fits (effect w p (step.Recv n max_bytes max_fds))
+fits-recv w p n max_bytes max_fds k at row =
+    subst (λ t. Fits (received w p (ino_on w p n) max_fds t)) (sym (take-seqpacket (socket_on w p n).kind (socket_on w p n).queue max_bytes))
+    (by (socket-there w p n row.here row.rest.here) (socket_on w p n).queue refl) where
+      by : map.get w.files (ino_on w p n) ≡ Some (AsSocket (socket_on w p n)) → (q : List Message) → (socket_on w p n).queue ≡ q → Fits (received w p (ino_on w p n) max_fds (take_seqpacket q max_bytes))
+      by there [] e =
+          let same : w ≡ with_queue w (ino_on w p n) [] = sym (same-with_queue w (ino_on w p n) (socket_on w p n) there) ∙ ap (with_queue w (ino_on w p n)) e in
+          let old = subst Fits same k in
+          let ns = lowest_free (min 0 max_fds) (process_at w p) in
+          (whole-install_all _ p ns [] old.0 (λ f h. absurd (Contains-none f h)), within-install_all _ p (process_at w p) ns [] old.1 at (free-lowest_free (min 0 max_fds) (process_at w p)))
+      by there (m ∷ rest) e =
+          let ns = lowest_free (min (length m.attached) max_fds) (process_at w p) in
+          (whole-take w (ino_on w p n) (socket_on w p n) m rest p ns k.0 there e, within-take w (ino_on w p n) (socket_on w p n) m rest p (process_at w p) ns k.1 there e at (free-lowest_free (min (length m.attached) max_fds) (process_at w p)))
+
+-- What a step that nothing refuses leaves is whole and within the limits, before it settles.
+pub fits-effect : (w : World) (p : ℕ) (s : Step) → IsWhole w → IsWithin w → refusal w p s ≡ None → IsWhole (effect w p s) × IsWithin (effect w p s)
+fits-effect w p s whole within none =
+    let row = none-fits ((not (map.contains_key w.processes p), ESRCH) ∷ step_row w p s) none in
+    by s (process-there w p row.here) row.rest where
+      by : (s : Step) → map.get w.processes p ≡ Some (process_at w p) → NoneFits (step_row w p s) → Fits (effect w p s)
+      by (step.Close n) at e = (whole-uninstall w p n whole, within-uninstall w p n within)
+      by (step.Pair kind) at e = fits-pair w p kind (whole, within) at e
+      by (step.Send n bytes attach) at e = fits-send w p n bytes attach (whole, within) e
+      by (step.Recv n max_bytes max_fds) at e = fits-recv w p n max_bytes max_fds (whole, within) at e
+
+-- An outcome whose effect fits leaves the world sound.
+outcome-sound : (o : Option Errno) (frugal : Bool) (a : Reply) (w old : World) (r : Reply) (new : World) → IsSound old → (o ≡ None → Fits w) → Outcome o frugal a w old r new → IsSound new
+outcome-sound (Some e) frugal a w old r new k fits out = subst IsSound (sym out.1) k
+outcome-sound None true a w old r new k fits out = let fit = fits refl in sound-settles w new out.1 fit.0 fit.1
+outcome-sound None false a w old r new k fits out = let fit = fits refl in elim out [
+  | inl y ↦ sound-settles w new y.1 fit.0 fit.1
+  | inr y ↦ subst IsSound (sym y.1) k
+]
+
+-- A step of a process leaves the world sound.
+pub sound-step : (old : World) (p : ℕ) (s : Step) (r : Reply) (new : World) → IsSound old → ProcessStep old p s r new → IsSound new
+sound-step old p s r new k = outcome-sound (refusal old p s) (needs_no_memory s) (answer old p s) (effect old p s) old r new k (λ none. fits-effect old p s k.whole k.within none)
+
+-- A start of a process leaves the world sound.
+pub sound-spawn : (old : World) (uid nofile : ℕ) (privileged : Bool) (r : Reply) (new : World) → IsSound old → SpawnStep old uid nofile privileged r new → IsSound new
+sound-spawn old uid nofile privileged r new k = outcome-sound (spawn_refusal old nofile) false _ (spawned old uid nofile privileged) old r new k (λ none.
+    let row = none-fits (spawn_row old nofile) none in
+    (whole-spawned old uid nofile privileged k.whole, within-spawned old uid nofile privileged k.within row.rest.here (ltb-false MAX_NOFILE nofile row.here)))

@@ -1,0 +1,85 @@
+-- What the finite map of a `BTreeMap`'s entries has, and what a change of the tree does to it.
+use Rattle.std.proofs.Common.{◌≡◌, ℕ, List, [], ◌∷◌, refl, sym, ap, ◌∙◌, cond, Ordering}
+use Rattle.std.specs.Prelude.{Some, None}
+use Rattle.std.specs.Ordering.{eq_by_cmp, is_eq}
+use Rattle.std.specs.declared.cmp.Ordering.TheVariants.{Less, Equal, Greater}
+use Rattle.std.specs.Cmp.{IsTotalOrder, eq_by_cmp_equiv}
+use Rattle.std.specs.Map.{lookup}
+use Rattle.std.specs.BTreeMap as tree
+use Rattle.std.specs.BTreeMap.{BTreeMap, is_at}
+use Rattle.std.specs.Ordering.{nat_cmp}
+use Rattle.std.specs.Cmp.{nat_cmp_total}
+use Rattle.std.specs.Option.{option_map_or}
+use Rattle.af_base.specs.Changes.{change_at}
+use Rattle.std.specs.FinMap.{nat_cmp-IsAntisymmetric, FinMap, IsAntisymmetric, find, from_entries, insert, remove, get, get-from_entries, get-insert, get-remove, same_map}
+
+find_is : {K X : Type 0} (R : K → K → Ordering) (es : List (K × X)) (q : K) → find R q es ≡ lookup (is_at (R q)) es
+find_is R [] q = refl
+find_is R (e ∷ es) q = ap (cond (is_at (R q) e.0) (Some e.1)) (find_is R es q)
+
+module _ {K X : Type 0} {R : K → K → Ordering} where
+  module _ (o : IsTotalOrder R) where
+    -- the tree's look-up is the map's
+    pub looked : (m : BTreeMap K X) (q : K) → get (from_entries {R = R} m.entries) q ≡ tree.get R m q
+    looked m q = get-from_entries o m.entries q ∙ find_is R m.entries q
+
+    module _ (same : IsAntisymmetric R) where
+      pub inserted : (m n : BTreeMap K X) (k : K) (v : X) → tree.Updates R m n k (Some v) → from_entries {R = R} n.entries ≡ insert (from_entries m.entries) k v
+      inserted m n k v h = same_map o same _ _ (λ q.
+          looked n q ∙ h.0 q ∙ ap (λ b. cond b (Some v) (tree.get R m q)) ((eq_by_cmp_equiv o).symm k q)
+          ∙ sym (get-insert o (from_entries m.entries) k v q ∙ ap (cond (eq_by_cmp R q k) (Some v)) (looked m q)))
+
+      pub removed : (m n : BTreeMap K X) (k : K) → tree.Updates R m n k None → from_entries {R = R} n.entries ≡ remove (from_entries m.entries) k
+      removed m n k h = same_map o same _ _ (λ q.
+          looked n q ∙ h.0 q ∙ ap (λ b. cond b None (tree.get R m q)) ((eq_by_cmp_equiv o).symm k q)
+          ∙ sym (get-remove o (from_entries m.entries) k q ∙ ap (cond (eq_by_cmp R q k) None) (looked m q)))
+
+-- the same at numbers
+pub nat_looked : {X : Type 0} (m : BTreeMap ℕ X) (q : ℕ) → get (from_entries {R = nat_cmp} m.entries) q ≡ tree.get nat_cmp m q
+nat_looked m q = looked nat_cmp_total m q
+
+pub nat_inserted : {X : Type 0} (m n : BTreeMap ℕ X) (k : ℕ) (v : X) → tree.Updates nat_cmp m n k (Some v) → from_entries {R = nat_cmp} n.entries ≡ insert (from_entries m.entries) k v
+nat_inserted m n k v h = inserted nat_cmp_total nat_cmp-IsAntisymmetric m n k v h
+
+pub nat_removed : {X : Type 0} (m n : BTreeMap ℕ X) (k : ℕ) → tree.Updates nat_cmp m n k None → from_entries {R = nat_cmp} n.entries ≡ remove (from_entries m.entries) k
+nat_removed m n k h = removed nat_cmp_total nat_cmp-IsAntisymmetric m n k h
+
+-- a change at a key that is there, as through `get_mut`
+pub nat_changed : {X : Type 0} (f : X → X) (m n : BTreeMap ℕ X) (k : ℕ) (x v : X) → Some x ≡ tree.get nat_cmp m k → v ≡ f x → tree.Updates nat_cmp m n k (Some v) → from_entries {R = nat_cmp} n.entries ≡ change_at f (from_entries m.entries) k
+nat_changed f m n k x v was e h =
+    nat_inserted m n k v h ∙ ap (insert (from_entries m.entries) k) e
+    ∙ ap (λ o. option_map_or (λ y. insert (from_entries m.entries) k (f y)) o (from_entries m.entries)) (was ∙ sym (nat_looked m k))
+
+-- no change where there is no key
+pub nat_unchanged : {X : Type 0} (f : X → X) (m : BTreeMap ℕ X) (k : ℕ) → tree.get nat_cmp m k ≡ None → from_entries {R = nat_cmp} m.entries ≡ change_at f (from_entries m.entries) k
+nat_unchanged f m k was = ap (λ o. option_map_or (λ y. insert (from_entries m.entries) k (f y)) o (from_entries m.entries)) (sym (nat_looked m k ∙ was))
+
+-- what was written through `get_mut` is what stood there
+pub nat_put_back : {X : Type 0} (m n : BTreeMap ℕ X) (k : ℕ) (x v : X) → Some x ≡ tree.get nat_cmp m k → v ≡ x → tree.Updates nat_cmp m n k (Some v) → from_entries {R = nat_cmp} n.entries ≡ from_entries m.entries
+nat_put_back m n k x v was e h = same_map nat_cmp_total nat_cmp-IsAntisymmetric _ _ (λ q.
+    nat_looked n q ∙ h.0 q ∙ put_back q (nat_cmp k q) refl ∙ sym (nat_looked m q)) where
+      put_back : (q : ℕ) (o : Ordering) → nat_cmp k q ≡ o → cond (is_eq o) (Some v) (tree.get nat_cmp m q) ≡ tree.get nat_cmp m q
+      put_back q Equal p = ap Some e ∙ was ∙ ap (tree.get nat_cmp m) (nat_cmp-IsAntisymmetric _ _ p)
+      put_back q Less p = refl
+      put_back q Greater p = refl
+
+-- to put in what stands there changes nothing
+pub insert_same : {X : Type 0} (m : FinMap nat_cmp X) (k : ℕ) (v : X) → get m k ≡ Some v → insert m k v ≡ m
+insert_same m k v is = same_map nat_cmp_total nat_cmp-IsAntisymmetric _ _ (λ q. get-insert nat_cmp_total m k v q ∙ put_back q (nat_cmp q k) refl) where
+  put_back : (q : ℕ) (o : Ordering) → nat_cmp q k ≡ o → cond (is_eq o) (Some v) (get m q) ≡ get m q
+  put_back q Equal p = sym is ∙ ap (get m) (sym (nat_cmp-IsAntisymmetric _ _ p))
+  put_back q Less p = refl
+  put_back q Greater p = refl
+
+-- what changes of a tree do to its map
+pub ruleset changes = (nat_looked, nat_inserted, nat_removed, nat_changed, nat_unchanged, insert_same)
+
+-- a new key put in and taken out again
+pub nat_taken_back : {X : Type 0} (old with_it same new : BTreeMap ℕ X) (k : ℕ) (v : X)
+    → tree.get nat_cmp old k ≡ None → tree.Updates nat_cmp old with_it k (Some v) → same.entries ≡ with_it.entries → tree.Updates nat_cmp same new k None → from_entries {R = nat_cmp} new.entries ≡ from_entries old.entries
+nat_taken_back old with_it same new k v was put e taken = same_map nat_cmp_total nat_cmp-IsAntisymmetric _ _ (λ q.
+    nat_looked new q ∙ taken.0 q ∙ ap (λ es. cond (is_at (nat_cmp k) q) None (lookup (is_at (nat_cmp q)) es)) e ∙ ap (cond (is_at (nat_cmp k) q) None) (put.0 q) ∙ back q (nat_cmp k q) refl ∙ sym (nat_looked old q)) where
+      back : (q : ℕ) (o : Ordering) → nat_cmp k q ≡ o → cond (is_eq o) None (cond (is_eq o) (Some v) (tree.get nat_cmp old q)) ≡ tree.get nat_cmp old q
+      back q Equal p = sym was ∙ ap (tree.get nat_cmp old) (nat_cmp-IsAntisymmetric _ _ p)
+      back q Less p = refl
+      back q Greater p = refl

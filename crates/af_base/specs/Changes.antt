@@ -1,0 +1,56 @@
+-- How a world is changed: a value in a map, a table, a socket, a file or a process more.
+use Rattle.std.specs.Prelude.{ℕ, ◌+◌, List, [], ◌∷◌, ◌++◌, nat_eq, if◌then◌else◌}
+use Rattle.std.specs.List.{list_any}
+use Rattle.std.specs.Option.{option_map_or}
+use Rattle.std.specs.FinMap as map
+use Rattle.af_base.specs.World.{World, Map, Process, File, Socket, Message, Plain, AsSocket}
+
+-- The value at k changed, where there is one.
+abbrev pub change_at : {X : Type 0} → (X → X) → Map X → ℕ → Map X
+change_at f m k = option_map_or (λ x. map.insert m k (f x)) (map.get m k) m
+
+-- The table of process p changed.
+abbrev pub with_table : World → ℕ → (Map ℕ → Map ℕ) → World
+with_table w p g = record w { processes = change_at (λ q. record q { table = g q.table }) w.processes p }
+
+-- A socket changed; a plain file is left as it is.
+abbrev pub file_with : (Socket → Socket) → File → File
+file_with g Plain = Plain
+file_with g (AsSocket s) = AsSocket (g s)
+
+-- The socket s changed.
+abbrev pub with_socket : World → ℕ → (Socket → Socket) → World
+with_socket w s g = record w { files = change_at (file_with g) w.files s }
+
+-- The number n of process p stands for f (dup(2)).
+abbrev pub install : World → ℕ → ℕ → ℕ → World
+install w p n f = with_table w p (λ t. map.insert t n f)
+
+-- These numbers stand for these files, one after the other.
+abbrev pub install_all : World → ℕ → List (ℕ × ℕ) → World
+install_all w p [] = w
+install_all w p (e ∷ es) = install_all (install w p e.0 e.1) p es
+
+-- The number n of process p is free (close(2)).
+abbrev pub uninstall : World → ℕ → ℕ → World
+uninstall w p n = with_table w p (λ t. map.remove t n)
+
+-- The queue of s is this one.
+abbrev pub with_queue : World → ℕ → List Message → World
+with_queue w s q = with_socket w s (λ x. record x { queue = q })
+
+-- One message more, last in the queue of s.
+abbrev pub push_message : World → ℕ → Message → World
+push_message w s m = with_socket w s (λ x. record x { queue = x.queue ++ m ∷ [] })
+
+-- The next inode number is this file.
+abbrev pub add_file : World → File → World
+add_file w x = record w { files = map.insert w.files w.next_ino x; next_ino = w.next_ino + 1 }
+
+-- The next pid is this process.
+abbrev pub add_process : World → Process → World
+add_process w q = record w { processes = map.insert w.processes w.next_pid q; next_pid = w.next_pid + 1 }
+
+-- A user goes last, if it is new.
+abbrev pub add_user : World → ℕ → World
+add_user w u = if list_any (nat_eq u) w.users then w else record w { users = w.users ++ u ∷ [] }

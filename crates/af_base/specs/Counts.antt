@@ -1,0 +1,42 @@
+-- How many places hold a file, and how many are charged to a user: numbers of places, repeats included.
+use Rattle.std.specs.Prelude.{ℕ, ◌+◌, List, length, nat_eq, if◌then◌else◌}
+use Rattle.std.specs.List.{sum_by, count_by}
+use Rattle.std.specs.FinMap as map
+use Rattle.af_base.specs.World.{World, Map, Message}
+use Rattle.af_base.specs.Places.{queue_of, contents, carried}
+
+-- What the values of a map add up to.
+abbrev pub total_of : {X : Type 0} → (X → ℕ) → Map X → ℕ
+total_of f m = sum_by (λ e. f e.1) (map.entries m)
+
+-- How often a list has f.
+abbrev pub count_in : ℕ → List ℕ → ℕ
+count_in f xs = count_by (nat_eq f) xs
+
+-- One where the two are equal.
+abbrev pub one : ℕ → ℕ → ℕ
+one f g = if nat_eq f g then 1 else 0
+
+-- How many numbers of all tables stand for f.
+abbrev pub tabled : World → ℕ → ℕ
+tabled w f = total_of (λ p. total_of (λ g. one f g) p.table) w.processes
+
+-- The reference count: how many places hold f, in tables, queues and backlogs (close(2): the description goes with its last reference).
+abbrev pub refs : World → ℕ → ℕ
+refs w f = tabled w f + total_of (λ x. count_in f (contents x)) w.files
+
+-- The in-flight count: how many queue places hold f, sent and not yet accepted by a receive (unix(7), ETOOMANYREFS).
+abbrev pub inflight : World → ℕ → ℕ
+inflight w f = total_of (λ x. count_in f (carried (queue_of x))) w.files
+
+-- What a message charges to user u: each file that travels with it, repeats included, where u sent it (this project's profile).
+abbrev pub charge : ℕ → Message → ℕ
+charge u m = if nat_eq u m.user then length m.attached else 0
+
+-- The charge of user u: the queue places in messages that its processes sent (unix(7), ETOOMANYREFS; whom it counts is this project's profile).
+abbrev pub charged : World → ℕ → ℕ
+charged w u = total_of (λ x. sum_by (charge u) (queue_of x)) w.files
+
+-- All queue places.
+abbrev pub total : World → ℕ
+total w = total_of (λ x. sum_by (λ m. length m.attached) (queue_of x)) w.files

@@ -1,0 +1,15 @@
+pub mod Errno
+pub mod World
+pub mod Places
+pub mod Counts
+pub mod Unheld
+pub mod Reached
+pub mod Table
+pub mod Take
+pub mod Changes
+pub mod Refusals
+pub mod Steps
+pub mod Pass
+pub mod Run
+pub mod Whole
+pub mod Release

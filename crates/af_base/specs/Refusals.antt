@@ -1,0 +1,134 @@
+-- Why a step is refused. In each row the tests are made in order, and the first that fits is the answer (this project's profile, after the manual page of each call).
+use Rattle.std.specs.Prelude.{ℕ, ◌+◌, Bool, true, false, not, ◌&&◌, ◌||◌, List, [], ◌∷◌, length, Option, Some, None, is_none, unwrap_or, nat_eq, nat_lt, nat_le, if◌then◌else◌}
+use Rattle.std.specs.List.{list_any}
+use Rattle.std.specs.Option.{option_and_then}
+use Rattle.std.specs.FinMap as map
+use Rattle.af_base.specs.declared.events.SockType.TheVariants.{Seqpacket}
+use Rattle.af_base.specs.declared.events.State.{State}
+use Rattle.af_base.specs.declared.events.State.TheVariants as state
+use Rattle.af_base.specs.declared.errno.Errno.{Errno}
+use Rattle.af_base.specs.declared.errno.Errno.TheVariants.{EBADF, ENOTSOCK, EINVAL, EMFILE, ENFILE, EAGAIN, EMSGSIZE, ETOOMANYREFS, ENOBUFS, ENOTCONN, EPIPE, ESRCH, ERANGE}
+use Rattle.af_base.specs.declared.events.Step.{Step}
+use Rattle.af_base.specs.declared.events.Step.TheVariants as step
+use Rattle.af_base.specs.declared.limits.TheConstants.{MAX_PROCESSES, MAX_NOFILE, MAX_FILES, MAX_MESSAGES, MAX_BYTES, SCM_MAX_FD, MAX_INFLIGHT, MAX_PID, MAX_INO}
+use Rattle.af_base.specs.World.{World, Process, Socket, File, Plain, AsSocket}
+use Rattle.af_base.specs.Places.{table_at, queue_at}
+use Rattle.af_base.specs.Counts.{charged, total}
+use Rattle.af_base.specs.Table.{free_numbers}
+
+-- Stands for a process that is not there. Stand-ins are never seen: a row's later tests are read only where the earlier ones failed.
+abbrev pub no_process : Process
+no_process = record { user = 0; limit = 0; privileged = false; table = map.empty }
+
+-- Stands for a socket that is not there.
+abbrev pub no_socket : Socket
+no_socket = record { kind = Seqpacket; state = state.Idle; name = None; queue = []; backlog = [] }
+
+-- The process p.
+abbrev pub process_at : World → ℕ → Process
+process_at w p = unwrap_or (map.get w.processes p) no_process
+
+-- The socket that a file is.
+abbrev pub socket_of : File → Option Socket
+socket_of Plain = None
+socket_of (AsSocket s) = Some s
+
+-- The socket of this inode number.
+abbrev pub socket_at : World → ℕ → Option Socket
+socket_at w f = option_and_then socket_of (map.get w.files f)
+
+-- The inode number that process p has at n.
+abbrev pub ino_on : World → ℕ → ℕ → ℕ
+ino_on w p n = unwrap_or (table_at w p n) 0
+
+-- The socket that process p has at n.
+abbrev pub socket_on : World → ℕ → ℕ → Socket
+socket_on w p n = unwrap_or (option_and_then (socket_at w) (table_at w p n)) no_socket
+
+-- Whether it was ever connected, also where the peer is gone.
+abbrev pub is_connected : State → Bool
+is_connected state.Idle = false
+is_connected (state.Listening b) = false
+is_connected (state.Connected q) = true
+is_connected state.HungUp = true
+
+-- Whether its peer is gone.
+abbrev pub is_hung_up : State → Bool
+is_hung_up state.Idle = false
+is_hung_up (state.Listening b) = false
+is_hung_up (state.Connected q) = false
+is_hung_up state.HungUp = true
+
+-- The live peer, or 0, which is no inode number.
+abbrev pub peer_of : State → ℕ
+peer_of state.Idle = 0
+peer_of (state.Listening b) = 0
+peer_of (state.Connected q) = q
+peer_of state.HungUp = 0
+
+-- Whether the number is in a range, both ends included.
+abbrev pub is_between : ℕ → ℕ → ℕ → Bool
+is_between low high n = nat_le low n && nat_le n high
+
+-- Whether fewer than k numbers of the table are free (open(2), EMFILE).
+abbrev pub is_short : Process → ℕ → Bool
+is_short q k = nat_lt (length (free_numbers q)) k
+
+-- Whether k files more are too many, or have no inode numbers left (open(2), ENFILE).
+abbrev pub is_full : World → ℕ → Bool
+is_full w k = nat_lt MAX_FILES (map.len w.files + k) || nat_lt (MAX_INO + 1) (w.next_ino + k)
+
+-- Whether there can be no further process (fork(2), EAGAIN).
+abbrev pub is_crowded : World → Bool
+is_crowded w = nat_le MAX_PROCESSES (map.len w.processes) || nat_lt MAX_PID w.next_pid
+
+-- Whether the user of process q has more in flight than its limit, and q is not privileged (unix(7), ETOOMANYREFS; that the new ones do not count is this project's profile).
+abbrev pub is_over_limit : World → Process → Bool
+is_over_limit w q = not q.privileged && nat_lt q.limit (charged w q.user)
+
+-- Tests with their errors, in the order in which they are made.
+abbrev pub Row : Type 0
+Row = List (Bool × Errno)
+
+-- The error of the first test that fits.
+abbrev pub first_fit : Row → Option Errno
+first_fit [] = None
+first_fit (r ∷ rs) = if r.0 then Some r.1 else first_fit rs
+
+-- Why a process cannot start.
+abbrev pub spawn_row : World → ℕ → Row
+spawn_row w nofile = (nat_lt MAX_NOFILE nofile, ERANGE) ∷ (is_crowded w, EAGAIN) ∷ []
+
+-- Why a step of a process that is there is refused: close(2), socketpair(2), sendmsg(2), recvmsg(2), but for want of memory.
+abbrev pub step_row : World → ℕ → Step → Row
+step_row w p (step.Close n) = (is_none (table_at w p n), EBADF) ∷ []
+step_row w p (step.Pair kind) = (is_short (process_at w p) 2, EMFILE) ∷ (is_full w 2, ENFILE) ∷ []
+step_row w p (step.Send n bytes attach) =
+    let s = socket_on w p n in
+    (is_none (table_at w p n), EBADF)
+    ∷ (is_none (socket_at w (ino_on w p n)), ENOTSOCK)
+    ∷ (nat_eq (length bytes) 0 || nat_lt SCM_MAX_FD (length attach), EINVAL)
+    ∷ (nat_lt MAX_BYTES (length bytes), EMSGSIZE)
+    ∷ (list_any (λ m. is_none (table_at w p m)) attach, EBADF)
+    ∷ (not (is_connected s.state), ENOTCONN)
+    ∷ (is_hung_up s.state, EPIPE)
+    ∷ (nat_lt 0 (length attach) && is_over_limit w (process_at w p), ETOOMANYREFS)
+    ∷ (nat_lt MAX_INFLIGHT (total w + length attach), ENOBUFS)
+    ∷ (nat_le MAX_MESSAGES (length (queue_at w (peer_of s.state))), EAGAIN)
+    ∷ []
+step_row w p (step.Recv n max_bytes max_fds) =
+    let s = socket_on w p n in
+    (is_none (table_at w p n), EBADF)
+    ∷ (is_none (socket_at w (ino_on w p n)), ENOTSOCK)
+    ∷ (not (is_between 1 MAX_BYTES max_bytes), EINVAL)
+    ∷ (not (is_connected s.state), ENOTCONN)
+    ∷ (nat_eq (length s.queue) 0 && not (is_hung_up s.state), EAGAIN)
+    ∷ []
+
+-- The error with which a process cannot start, if there is one but want of memory.
+abbrev pub spawn_refusal : World → ℕ → Option Errno
+spawn_refusal w nofile = first_fit (spawn_row w nofile)
+
+-- The error with which the step of process p is refused, if there is one but want of memory; a process that is not there comes first (kill(2), ESRCH).
+abbrev pub refusal : World → ℕ → Step → Option Errno
+refusal w p s = first_fit ((not (map.contains_key w.processes p), ESRCH) ∷ step_row w p s)

@@ -1,0 +1,26 @@
+-- One step of the machine, and whole runs.
+use Rattle.std.specs.Prelude.{◌≡◌, List, [], ◌∷◌}
+use Rattle.af_base.specs.declared.events.Event.{Event}
+use Rattle.af_base.specs.declared.events.Event.TheVariants as event
+use Rattle.af_base.specs.declared.events.Reply.{Reply}
+use Rattle.af_base.specs.World.{empty_world}
+use Rattle.af_base.specs.Steps.{ProcessStep, SpawnStep}
+use Rattle.af_base.specs.Pass.{Machine, Idle, SamePass}
+
+-- One step: from `old` this reply to the event, and then the machine is `new`.
+abbrev pub Step : Machine → Event → Reply → Machine → Type 0
+Step old (event.Spawn uid nofile privileged) r new = SpawnStep old.world uid nofile privileged r new.world × SamePass old new
+Step old (event.Proc p s) r new = ProcessStep old.world p s r new.world × SamePass old new
+
+-- An event and its reply.
+abbrev pub Entry : Type 0
+Entry = Event × Reply
+
+-- The events with these replies lead from `old` to `new`, one step after another.
+abbrev pub Run : Machine → List Entry → Machine → Type 0
+Run old [] new = new ≡ old
+Run old (e ∷ es) new = (mid : Machine) × Step old e.0 e.1 mid × Run mid es new
+
+-- The machine before anything has happened.
+abbrev pub fresh : Machine
+fresh = record { world = empty_world; pass = Idle; last_pass = 0 }

@@ -1,0 +1,83 @@
+-- What a step of a process answers and what it changes.
+use Rattle.std.specs.Prelude.{◌≡◌, ◌⊎◌, ℕ, ◌+◌, Bool, true, false, List, length, filter_map, min, Option, Some, None, slice_index, nat_eq, nat_lt, if◌then◌else◌}
+use Rattle.std.specs.List.{zip}
+use Rattle.std.specs.FinMap as map
+use Rattle.af_base.specs.declared.events.SockType.{SockType}
+use Rattle.af_base.specs.declared.events.State.TheVariants as state
+use Rattle.af_base.specs.declared.errno.Errno.{Errno}
+use Rattle.af_base.specs.declared.errno.Errno.TheVariants.{ENOMEM}
+use Rattle.af_base.specs.declared.events.Step.{Step}
+use Rattle.af_base.specs.declared.events.Step.TheVariants as step
+use Rattle.af_base.specs.declared.events.Reply.{Reply}
+use Rattle.af_base.specs.declared.events.Reply.TheVariants as reply
+use Rattle.af_base.specs.World.{World, Socket, AsSocket}
+use Rattle.af_base.specs.Places.{table_at}
+use Rattle.af_base.specs.Changes.{install, install_all, uninstall, with_queue, push_message, add_file, add_process, add_user}
+use Rattle.af_base.specs.Table.{free_numbers, lowest_free}
+use Rattle.af_base.specs.Take.{Taken, take_from}
+use Rattle.af_base.specs.Unheld.{Settles}
+use Rattle.af_base.specs.Refusals.{process_at, ino_on, socket_on, peer_of, no_socket, refusal, spawn_refusal}
+
+-- The k-th of the free numbers of process p, from 0.
+abbrev pub free_at : World → ℕ → ℕ → ℕ
+free_at w p k = slice_index (free_numbers (process_at w p)) k
+
+-- A new socket that is connected to this one.
+abbrev pub connected_socket : SockType → ℕ → Socket
+connected_socket kind peer = record no_socket { kind = kind; state = state.Connected peer }
+
+-- What a receive takes.
+abbrev pub taken_on : World → ℕ → ℕ → ℕ → Taken
+taken_on w p n max_bytes = take_from (socket_on w p n).kind (socket_on w p n).queue max_bytes
+
+-- The numbers at which a receive installs files: as many as were taken, as it may, and as are free (cmsg(3), SCM_RIGHTS).
+abbrev pub got_at : World → ℕ → ℕ → ℕ → ℕ → List ℕ
+got_at w p n max_bytes max_fds = lowest_free (min (length (taken_on w p n max_bytes).attached) max_fds) (process_at w p)
+
+-- The world with a process more: its table is empty, and its user goes last in the list if it is new.
+abbrev pub spawned : World → ℕ → ℕ → Bool → World
+spawned w uid nofile privileged = add_user (add_process w (record { user = uid; limit = nofile; privileged = privileged; table = map.empty })) uid
+
+-- The world after the places were changed, which is then settled, where nothing refuses the step.
+abbrev pub effect : World → ℕ → Step → World
+effect w p (step.Close n) = uninstall w p n
+effect w p (step.Pair kind) =
+    let a = w.next_ino in
+    let b = w.next_ino + 1 in
+    install (install (add_file (add_file w (AsSocket (connected_socket kind b))) (AsSocket (connected_socket kind a))) p (free_at w p 0) a) p (free_at w p 1) b
+effect w p (step.Send n bytes attach) =
+    push_message w (peer_of (socket_on w p n).state) (record { bytes = bytes; attached = filter_map (table_at w p) attach; user = (process_at w p).user })
+effect w p (step.Recv n max_bytes max_fds) =
+    let taken = taken_on w p n max_bytes in
+    install_all (with_queue w (ino_on w p n) taken.rest) p (zip (got_at w p n max_bytes max_fds) taken.attached)
+
+-- The answer, where nothing refuses the step (recvmsg(2): no bytes, End, where the peer is gone and nothing is left).
+abbrev pub answer : World → ℕ → Step → Reply
+answer w p (step.Close n) = reply.Ok
+answer w p (step.Pair kind) = reply.Fds (free_at w p 0) (free_at w p 1)
+answer w p (step.Send n bytes attach) = reply.Sent (length bytes)
+answer w p (step.Recv n max_bytes max_fds) =
+    let taken = taken_on w p n max_bytes in
+    let got = got_at w p n max_bytes max_fds in
+    if nat_eq (length (socket_on w p n).queue) 0
+    then reply.End
+    else reply.Got taken.bytes got taken.trunc (nat_lt (length got) (length taken.attached))
+
+-- Whether the step never needs memory (this project's profile).
+abbrev pub needs_no_memory : Step → Bool
+needs_no_memory (step.Close n) = true
+needs_no_memory s = false
+
+-- The outcome of a step: refused by an error and nothing changed; or answered, and the changed world settled; or, where the step may need memory, refused for want of it and nothing changed.
+abbrev pub Outcome : Option Errno → Bool → Reply → World → World → Reply → World → Type 0
+Outcome (Some e) frugal answer effect old r new = (r ≡ reply.Refused e) × (new ≡ old)
+Outcome None true answer effect old r new = (r ≡ answer) × Settles effect new
+Outcome None false answer effect old r new = ((r ≡ answer) × Settles effect new) ⊎ ((r ≡ reply.Refused ENOMEM) × (new ≡ old))
+
+-- From the world `old` process p may get this reply to the step, and then the world is `new`.
+abbrev pub ProcessStep : World → ℕ → Step → Reply → World → Type 0
+ProcessStep old p s r new = Outcome (refusal old p s) (needs_no_memory s) (answer old p s) (effect old p s) old r new
+
+-- From the world `old` a process may start with this reply, and then the world is `new`.
+abbrev pub SpawnStep : World → ℕ → ℕ → Bool → Reply → World → Type 0
+SpawnStep old uid nofile privileged r new = Outcome (spawn_refusal old nofile) false (reply.Pid old.next_pid) (spawned old uid nofile privileged) old r new

@@ -1,0 +1,66 @@
+-- What is true of every world that events lead to.
+use Rattle.std.specs.Prelude.{◌≡◌, ◌<◌, ◌≤◌, ◌+◌, ℕ, IsTrue, Some, length}
+use Rattle.std.specs.List.{Contains}
+use Rattle.std.specs.Option.{option_map_or}
+use Rattle.std.specs.FinMap as map
+use Rattle.af_base.specs.declared.events.State.{State}
+use Rattle.af_base.specs.declared.events.State.TheVariants as state
+use Rattle.af_base.specs.declared.limits.TheConstants.{MAX_PROCESSES, MAX_NOFILE, MAX_FILES, MAX_MESSAGES, MAX_BYTES, SCM_MAX_FD, MAX_BACKLOG, MAX_INFLIGHT, MAX_PID, MAX_INO}
+use Rattle.af_base.specs.World.{World, Process, Socket, File, Plain, AsSocket, Message, IsLive}
+use Rattle.af_base.specs.Places.{InTable, Holds}
+use Rattle.af_base.specs.Counts.{total}
+use Rattle.af_base.specs.Unheld.{IsSettled}
+
+-- Whom a file can talk to: a plain file nobody.
+abbrev pub state_of : File → State
+state_of Plain = state.Idle
+state_of (AsSocket s) = s.state
+
+-- Whom the file f can talk to.
+abbrev pub state_at : World → ℕ → State
+state_at w f = option_map_or state_of (map.get w.files f) state.Idle
+
+-- Who is connected to a file is its peer in turn, so peers are live (socketpair(2)).
+abbrev pub AreMutual : World → Type 0
+AreMutual w = (f p : ℕ) → state_at w f ≡ state.Connected p → state_at w p ≡ state.Connected f
+
+-- The world is whole: each place holds a live file, numbers given are below the next ones, and peers are mutual.
+pub record IsWhole (w : World) : Type 0 where
+  pub tables_live : (f : ℕ) → InTable w f → IsLive w f
+  pub queues_live : (s f : ℕ) → Holds w s f → IsLive w f
+  pub files_numbered : (f : ℕ) → IsLive w f → f < w.next_ino
+  pub processes_numbered : (p : ℕ) → IsTrue (map.contains_key w.processes p) → p < w.next_pid
+  pub peers : AreMutual w
+
+-- A process within its limit, and the limit within its own.
+pub record IsProcessWithin (q : Process) : Type 0 where
+  pub limit : q.limit ≤ MAX_NOFILE
+  pub numbers : (n : ℕ) → IsTrue (map.contains_key q.table n) → n < q.limit
+
+-- A message within the limits (unix(7), SCM_RIGHTS).
+pub record IsMessageWithin (m : Message) : Type 0 where
+  pub some : 1 ≤ length m.bytes
+  pub bytes : length m.bytes ≤ MAX_BYTES
+  pub attached : length m.attached ≤ SCM_MAX_FD
+
+-- A socket within the limits.
+pub record IsSocketWithin (s : Socket) : Type 0 where
+  pub queue : length s.queue ≤ MAX_MESSAGES
+  pub backlog : length s.backlog ≤ MAX_BACKLOG
+  pub messages : (m : Message) → Contains s.queue m → IsMessageWithin m
+
+-- The world is within all limits (this project's profile).
+pub record IsWithin (w : World) : Type 0 where
+  pub process_count : map.len w.processes ≤ MAX_PROCESSES
+  pub file_count : map.len w.files ≤ MAX_FILES
+  pub flying : total w ≤ MAX_INFLIGHT
+  pub pids : w.next_pid ≤ MAX_PID + 1
+  pub inos : w.next_ino ≤ MAX_INO + 1
+  pub processes : (p : ℕ) (q : Process) → map.get w.processes p ≡ Some q → IsProcessWithin q
+  pub sockets : (f : ℕ) (s : Socket) → map.get w.files f ≡ Some (AsSocket s) → IsSocketWithin s
+
+-- The world is sound: whole, within all limits, and settled.
+pub record IsSound (w : World) : Type 0 where
+  pub whole : IsWhole w
+  pub within : IsWithin w
+  pub settled : IsSettled w

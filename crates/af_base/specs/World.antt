@@ -1,0 +1,58 @@
+-- The world: which processes run, which files are open, and what waits in the queues.
+-- Files, processes, users and descriptors go by their numbers.
+use Rattle.std.specs.Prelude.{ℕ, Bool, List, [], Option, IsTrue}
+use Rattle.std.specs.Ordering.{nat_cmp}
+use Rattle.std.specs.FinMap as map
+use Rattle.std.specs.FinMap.{FinMap}
+use Rattle.af_base.specs.declared.events.SockType.{SockType}
+use Rattle.af_base.specs.declared.events.State.{State}
+
+-- A finite map from numbers.
+abbrev pub Map : Type 0 → Type 0
+Map X = FinMap nat_cmp X
+
+-- A message in a receive queue: its bytes, the files that travel with it, and the user who is charged for them (unix(7), SCM_RIGHTS; whom it charges is this project's profile).
+pub record Message : Type 0 where
+  pub bytes : List ℕ
+  pub attached : List ℕ
+  pub user : ℕ
+
+-- A socket (unix(7)): its type, whom it can talk to, its abstract name if it has one, what it has to receive, and the embryos that wait to be accepted.
+pub record Socket : Type 0 where
+  pub kind : SockType
+  pub state : State
+  pub name : Option (List ℕ)
+  pub queue : List Message
+  pub backlog : List ℕ
+
+-- An open file description (open(2)): a plain file, of which nothing is known, or a socket.
+pub data File : Type 0 where
+  Plain : File
+  AsSocket : (socket : Socket) → File
+
+-- A process: its user, its limit on descriptors (getrlimit(2), RLIMIT_NOFILE), whether it is privileged, and what each open number stands for.
+pub record Process : Type 0 where
+  pub user : ℕ
+  pub limit : ℕ
+  pub privileged : Bool
+  pub table : Map ℕ
+
+-- All that is there, with the next numbers to give, and the users in the order of their first process (this project's profile).
+pub record World : Type 0 where
+  pub processes : Map Process
+  pub files : Map File
+  pub next_ino : ℕ
+  pub next_pid : ℕ
+  pub users : List ℕ
+
+-- No process, no file, no user; numbers begin at 1 (this project's profile).
+abbrev pub empty_world : World
+empty_world = record { processes = map.empty; files = map.empty; next_ino = 1; next_pid = 1; users = [] }
+
+-- Whether the world has the file.
+abbrev pub is_live : World → ℕ → Bool
+is_live w f = map.contains_key w.files f
+
+-- The world has the file: something refers to its open file description, or has just ceased to (close(2)).
+abbrev pub IsLive : World → ℕ → Type 0
+IsLive w f = IsTrue (is_live w f)

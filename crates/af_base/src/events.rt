@@ -1,0 +1,95 @@
+//! What may happen, and what is answered.
+use crate::errno::Errno;
+use crate::items::Items;
+use crate::names::{Fd, Ino, Pid, Uid};
+
+/// What a socket keeps of the borders between messages (unix(7)).
+#[derive(Clone, Copy, Debug, PartialEq, Eq)]
+pub enum SockType {
+    /// SOCK_SEQPACKET: connection-oriented, keeps message boundaries, delivers in order.
+    Seqpacket,
+}
+
+/// Whom a socket can talk to.
+#[derive(Clone, Copy, Debug, PartialEq, Eq)]
+pub enum State {
+    /// Never connected, and not listening.
+    Idle,
+    /// Waits for connections; it holds so many embryos at most.
+    Listening(u32),
+    /// Connected to a live peer.
+    Connected(Ino),
+    /// Was connected; the peer is gone.
+    HungUp,
+}
+
+/// A step of a process.
+#[derive(Debug, PartialEq, Eq, Drop)]
+pub enum Step {
+    /// close(2) of a number.
+    Close(Fd),
+    /// socketpair(2): two sockets connected to each other.
+    Pair(SockType),
+    /// sendmsg(2) with SCM_RIGHTS: bytes, and the numbers whose descriptions go with them.
+    Send {
+        on: Fd,
+        bytes: Items<u8>,
+        attach: Items<Fd>,
+    },
+    /// recvmsg(2): at most so many bytes and so many descriptors.
+    Recv {
+        on: Fd,
+        max_bytes: u32,
+        max_fds: u32,
+    },
+}
+
+/// What may happen.
+#[derive(Debug, PartialEq, Eq, Drop)]
+pub enum Event {
+    /// A process of this user starts, with a limit on its descriptors (RLIMIT_NOFILE).
+    Spawn {
+        uid: Uid,
+        nofile: u32,
+        privileged: bool,
+    },
+    /// A process makes a step.
+    Proc(Pid, Step),
+}
+
+/// What is answered.
+#[derive(Debug, PartialEq, Eq, Drop)]
+pub enum Reply {
+    /// A process was made.
+    Pid(Pid),
+    /// A number was opened.
+    Fd(Fd),
+    /// Two numbers were opened.
+    Fds(Fd, Fd),
+    /// It was done.
+    Ok,
+    /// So many bytes were sent.
+    Sent(u32),
+    /// What a receive took, and where its descriptors were installed.
+    Got {
+        bytes: Items<u8>,
+        fds: Items<Fd>,
+        /// Bytes of the message were dropped (MSG_TRUNC).
+        trunc: bool,
+        /// Descriptors of the message were closed (MSG_CTRUNC).
+        ctrunc: bool,
+    },
+    /// Nothing is left to receive, and the peer is gone.
+    End,
+    /// A pass of the collector began.
+    Started(u64),
+    /// The pass goes on.
+    Working,
+    /// The pass is over, and so many sockets were reclaimed.
+    Done {
+        pass: u64,
+        reclaimed: u64,
+    },
+    /// It was refused, and nothing changed.
+    Refused(Errno),
+}

@@ -1,0 +1,10 @@
+//! The types that the crates of the layer share, the limits, and in `specs/` the plain machine
+//! that everything is proved against.
+#![tactic(auto)]
+
+pub mod equality;
+pub mod errno;
+pub mod events;
+pub mod items;
+pub mod limits;
+pub mod names;

@@ -1,0 +1,46 @@
+//! The limits: how much there may be at once, and how far each number runs.
+
+/// Processes at once.
+pub const MAX_PROCESSES: usize = 1024;
+
+/// The largest limit on descriptors (RLIMIT_NOFILE) that a process may have.
+pub const MAX_NOFILE: u32 = 1024;
+
+/// Live open file descriptions.
+pub const MAX_FILES: usize = 65_536;
+
+/// Messages in a queue.
+pub const MAX_MESSAGES: usize = 64;
+
+/// Bytes of a message.
+pub const MAX_BYTES: usize = 65_536;
+
+/// Descriptors of a message, as Linux has it (unix(7), SCM_RIGHTS).
+pub const SCM_MAX_FD: usize = 253;
+
+/// Embryos in a backlog.
+pub const MAX_BACKLOG: u32 = 128;
+
+/// Descriptors in flight, of all users together.
+pub const MAX_INFLIGHT: u64 = 1_048_576;
+
+/// Bytes of a name.
+pub const MAX_NAME: usize = 107;
+
+/// The last pid that is given.
+pub const MAX_PID: u32 = 1_000_000_000;
+
+/// The last inode number that is given.
+pub const MAX_INO: u64 = 1_099_511_627_775;
+
+/// The pass number that stays.
+pub const MAX_PASS: u64 = 1_000_000_000_000;
+
+/// The budget of a slice.
+pub const MAX_BUDGET: u32 = 65_536;
+
+/// Entries of a log.
+pub const MAX_LOG: usize = 1_048_576;
+
+/// Seats of a layer.
+pub const MAX_SEATS: u32 = 64;

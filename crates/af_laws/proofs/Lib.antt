@@ -1,0 +1,13 @@
+pub mod Outcomes
+pub mod Counting
+pub mod Lowest
+pub mod Takes
+pub mod Purges
+pub mod Chains
+pub mod Unreached
+pub mod Existing
+pub mod Logs
+pub mod Forever
+pub mod TakeRows
+pub mod Cycle
+pub mod Collected

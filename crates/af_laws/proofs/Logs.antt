@@ -1,0 +1,131 @@
+-- Each event has a reply, the reply tells the machine, and runs come apart as they were joined.
+use Rattle.std.proofs.Common.{◌≡◌, inl, inr, ℕ, Bool, true, false, List, [], ◌∷◌, ◌++◌, refl, sym, ap, ◌∙◌, subst, cond}
+use Rattle.std.specs.Prelude.{Option, Some, None}
+use Rattle.std.proofs.lemmas.Bool.{false≢true}
+use Rattle.af_base.specs.declared.errno.Errno.{Errno}
+use Rattle.af_base.specs.declared.errno.Errno.TheVariants.{ENOMEM}
+use Rattle.af_base.specs.declared.events.Event.TheVariants as event
+use Rattle.af_base.specs.declared.events.Reply.{Reply}
+use Rattle.af_base.specs.declared.events.Reply.TheVariants as reply
+use Rattle.af_base.specs.declared.events.Step.{Step as ProcStep}
+use Rattle.af_base.specs.declared.events.Step.TheVariants as step
+use Rattle.af_base.specs.World.{World}
+use Rattle.af_base.specs.Refusals.{refusal, spawn_refusal}
+use Rattle.af_base.specs.Steps.{Outcome, answer, effect, needs_no_memory, spawned}
+use Rattle.af_base.specs.Pass.{Machine}
+use Rattle.af_base.specs.Run.{Entry, Run, fresh}
+use Rattle.af_base.proofs.Runs.{run-append}
+use Rattle.af_base.specs.Whole.{IsSound}
+use Rattle.af_base.proofs.Settling.{settles_once}
+use Rattle.af_base.proofs.Sound.{fresh_sound}
+use Rattle.af_base.proofs.Stepped.{sound-spawn, sound-step}
+use Rattle.af_laws.proofs.Existing.{settles_to_some}
+use Rattle.af_laws.specs.Running.{EventsHaveReplies, EventsKeepSound, FreshIsSound, LogDetermines, RefusedChangesNothing, RepliesDetermine, RunsAreSound, RunsJoin}
+
+-- an outcome there is
+outcome_some : (o : Option Errno) (frugal : Bool) (answer : Reply) (now old : World) → (r : Reply) × (new : World) × Outcome o frugal answer now old r new
+outcome_some (Some e) frugal answer now old = (reply.Refused e, old, (refl, refl))
+outcome_some None true answer now old = let s = settles_to_some now in (answer, s.0, (refl, s.1))
+outcome_some None false answer now old = let s = settles_to_some now in (answer, s.0, inl (refl, s.1))
+
+abbrev with_world : Machine → World → Machine
+with_world m w = record m { world = w }
+
+pub events_have_replies : EventsHaveReplies
+events_have_replies old (event.Spawn uid nofile privileged) =
+    let o = outcome_some (spawn_refusal old.world nofile) false (reply.Pid old.world.next_pid) (spawned old.world uid nofile privileged) old.world in
+    (o.0, with_world old o.1, (o.2, (refl, refl)))
+events_have_replies old (event.Proc p s) =
+    let o = outcome_some (refusal old.world p s) (needs_no_memory s) (answer old.world p s) (effect old.world p s) old.world in
+    (o.0, with_world old o.1, (o.2, (refl, refl)))
+
+-- whether the reply is a refusal
+is_refused : Reply → Bool
+is_refused (reply.Refused e) = true
+is_refused (reply.Pid p) = false
+is_refused (reply.Fd n) = false
+is_refused (reply.Fds n m) = false
+is_refused reply.Ok = false
+is_refused (reply.Sent n) = false
+is_refused (reply.Got bytes fds trunc ctrunc) = false
+is_refused reply.End = false
+is_refused (reply.Started n) = false
+is_refused reply.Working = false
+is_refused (reply.Done n m) = false
+
+-- an answer is none
+answers : (w : World) (p : ℕ) (s : ProcStep) → is_refused (answer w p s) ≡ false
+unfolding is_refused
+answers w p (step.Close n) = refl
+answers w p (step.Pair kind) = refl
+answers w p (step.Send n bytes attach) = refl
+answers w p (step.Recv n max_bytes max_fds) = either _ _ _ _ _ where
+  either : (b : Bool) (bytes fds : List ℕ) (trunc ctrunc : Bool) → is_refused (cond b reply.End (reply.Got bytes fds trunc ctrunc)) ≡ false
+  either true bytes fds trunc ctrunc = refl
+  either false bytes fds trunc ctrunc = refl
+
+module _ (answer : Reply) (given : is_refused answer ≡ false) (now old a b : World) (r : Reply) where
+  apart : (e : Errno) → r ≡ answer → r ≡ reply.Refused e → ⊥
+  unfolding is_refused
+  apart e x y = false≢true (sym given ∙ ap is_refused (sym x ∙ y))
+
+  outcome_one : (o : Option Errno) (frugal : Bool) → Outcome o frugal answer now old r a → Outcome o frugal answer now old r b → a ≡ b
+  outcome_one (Some e) frugal x y = x.1 ∙ sym y.1
+  outcome_one None true x y = settles_once now a b x.1 y.1
+  outcome_one None false (inl x) (inl y) = settles_once now a b x.1 y.1
+  outcome_one None false (inl x) (inr y) = absurd (apart ENOMEM x.0 y.0)
+  outcome_one None false (inr x) (inl y) = absurd (apart ENOMEM y.0 x.0)
+  outcome_one None false (inr x) (inr y) = x.1 ∙ sym y.1
+
+same_machine : (a b : Machine) → a.world ≡ b.world → a.pass ≡ b.pass → a.last_pass ≡ b.last_pass → a ≡ b
+same_machine a b x y z = λ i. record { world = x i; pass = y i; last_pass = z i }
+
+pub replies_determine : RepliesDetermine
+unfolding is_refused
+replies_determine old a b (event.Spawn uid nofile privileged) r x y =
+    same_machine a b (outcome_one (reply.Pid old.world.next_pid) refl (spawned old.world uid nofile privileged) old.world a.world b.world r (spawn_refusal old.world nofile) false x.0 y.0) (x.1.0 ∙ sym y.1.0) (x.1.1 ∙ sym y.1.1)
+replies_determine old a b (event.Proc p s) r x y =
+    same_machine a b (outcome_one (answer old.world p s) (answers old.world p s) (effect old.world p s) old.world a.world b.world r (refusal old.world p s) (needs_no_memory s) x.0 y.0) (x.1.0 ∙ sym y.1.0) (x.1.1 ∙ sym y.1.1)
+
+outcome_refused : (answer : Reply) → is_refused answer ≡ false → (now old new : World) (error : Errno) (o : Option Errno) (frugal : Bool) → Outcome o frugal answer now old (reply.Refused error) new → new ≡ old
+unfolding is_refused
+outcome_refused answer given now old new error (Some e) frugal h = h.1
+outcome_refused answer given now old new error None true h = absurd (false≢true (sym given ∙ ap is_refused (sym h.0)))
+outcome_refused answer given now old new error None false (inl h) = absurd (false≢true (sym given ∙ ap is_refused (sym h.0)))
+outcome_refused answer given now old new error None false (inr h) = h.1
+
+pub refused_changes_nothing : RefusedChangesNothing
+unfolding is_refused
+refused_changes_nothing old new (event.Spawn uid nofile privileged) error h =
+    same_machine new old (outcome_refused (reply.Pid old.world.next_pid) refl (spawned old.world uid nofile privileged) old.world new.world error (spawn_refusal old.world nofile) false h.0) h.1.0 h.1.1
+refused_changes_nothing old new (event.Proc p s) error h =
+    same_machine new old (outcome_refused (answer old.world p s) (answers old.world p s) (effect old.world p s) old.world new.world error (refusal old.world p s) (needs_no_memory s) h.0) h.1.0 h.1.1
+
+pub log_determines : LogDetermines
+log_determines old a b [] x y = x ∙ sym y
+log_determines old a b (e ∷ log) x y =
+    let same : x.0 ≡ y.0 = replies_determine old x.0 y.0 e.0 e.1 x.1 y.1 in
+    log_determines y.0 a b log (subst (λ m. Run m log a) same x.2) y.2
+
+run_split : (old new : Machine) (first second : List Entry) → Run old (first ++ second) new → (mid : Machine) × Run old first mid × Run mid second new
+run_split old new [] second run = (old, refl, run)
+run_split old new (e ∷ first) second run =
+    let rest = run_split run.0 new first second run.2 in
+    (rest.0, (run.0, run.1, rest.1), rest.2)
+
+pub runs_join : RunsJoin
+runs_join old new first second = (run_split old new first second, λ run. run-append old run.0 new first second run.1 run.2)
+
+pub fresh_is_sound : FreshIsSound
+fresh_is_sound = fresh_sound
+
+pub events_keep_sound : EventsKeepSound
+events_keep_sound old new (event.Spawn uid nofile privileged) r sound h = sound-spawn old.world uid nofile privileged r new.world sound h.0
+events_keep_sound old new (event.Proc p s) r sound h = sound-step old.world p s r new.world sound h.0
+
+run_sound : (old new : Machine) (log : List Entry) → IsSound old.world → Run old log new → IsSound new.world
+run_sound old new [] sound run = subst (λ m. IsSound m.world) (sym run) sound
+run_sound old new (e ∷ log) sound run = run_sound run.0 new log (events_keep_sound old run.0 e.0 e.1 sound run.1) run.2
+
+pub runs_are_sound : RunsAreSound
+runs_are_sound m log run = run_sound fresh m log fresh_sound run

@@ -1,0 +1,252 @@
+-- What a step leads to was reached before, or is new.
+use Rattle.std.proofs.Common.{◌≡◌, ◌⊎◌, inl, inr, ◌<◌, ◌≤◌, ℕ, ◌+◌, Bool, true, false, List, [], ◌∷◌, ◌++◌, refl, sym, ap, ◌∙◌, subst, cond, arith}
+use Rattle.std.specs.Prelude.{Option, Some, None, filter_map, option_map, unwrap_or}
+use Rattle.std.specs.Option.{option_and_then, option_map_or}
+use Rattle.std.specs.List.{Contains, zip}
+use Rattle.std.specs.Ordering.{eq_by_cmp, nat_cmp}
+use Rattle.std.specs.Cmp.{nat_cmp_total}
+use Rattle.std.specs.FinMap as map
+use Rattle.std.proofs.lemmas.List.Elements.{Contains-append_cases, Contains-append_left, Contains-append_right}
+use Rattle.af_base.specs.declared.errno.Errno.{Errno}
+use Rattle.af_base.specs.declared.events.Event.{Event}
+use Rattle.af_base.specs.declared.events.Event.TheVariants as event
+use Rattle.af_base.specs.declared.events.Reply.{Reply}
+use Rattle.af_base.specs.declared.events.Reply.TheVariants as reply
+use Rattle.af_base.specs.declared.events.SockType.{SockType}
+use Rattle.af_base.specs.declared.events.SockType.TheVariants.{Seqpacket}
+use Rattle.af_base.specs.declared.events.Step.{Step}
+use Rattle.af_base.specs.declared.events.Step.TheVariants as step
+use Rattle.af_base.specs.World.{AsSocket, File, Message, Plain, Process, Socket, World}
+use Rattle.af_base.specs.Places.{Holds, InTable, carried, contents, table_at}
+use Rattle.af_base.specs.Unheld.{Settles}
+use Rattle.af_base.specs.Reached.{ByTable, BySocket, Reached}
+use Rattle.af_base.specs.Changes.{add_file, add_process, file_with, install, install_all, uninstall, with_queue}
+use Rattle.af_base.specs.Refusals.{ino_on, no_socket, peer_of, process_at, refusal, socket_at, socket_of, socket_on, spawn_refusal}
+use Rattle.af_base.specs.Take.{take_from}
+use Rattle.af_base.specs.Steps.{Outcome, ProcessStep, SpawnStep, answer, connected_socket, effect, free_at, got_at, needs_no_memory, spawned, taken_on}
+use Rattle.af_base.specs.Pass.{Machine}
+use Rattle.af_base.specs.Run.{Step as MachineStep}
+use Rattle.af_base.specs.Whole.{IsWhole}
+use Rattle.af_base.proofs.Settling.{none_in}
+use Rattle.af_base.proofs.Stepping.{get-change_at}
+use Rattle.af_base.proofs.Lookups.{none_some}
+use Rattle.af_base.proofs.Moved.{tabled-install, tabled-uninstall}
+use Rattle.af_base.proofs.Stepped.{attached-tabled}
+use Rattle.af_laws.proofs.Chains.{held_or_sent, holder_live, reached_before}
+use Rattle.af_laws.proofs.Takes.{packet_keeps_files}
+use Rattle.af_laws.specs.Reaching.{GarbageStaysOutOfReach, SpawnReachesNoGarbage, StepReachesNoGarbage}
+
+-- a number that is not given yet
+abbrev IsNew : World → ℕ → Type 0
+IsNew w f = w.next_ino ≤ f
+
+-- Where each place of a world is one of the old, or of what was reached, or in a table and new, a chain leads to what was reached or is new.
+module _ (old now : World) (whole : IsWhole old) (tables : (f : ℕ) → InTable now f → Reached old f ⊎ IsNew old f) (holders : (s f : ℕ) → Holds now s f → Holds old s f ⊎ Reached old f) where
+  reached_or_new : (f : ℕ) → Reached now f → Reached old f ⊎ IsNew old f
+  reached_or_new _ (ByTable f t) = tables f t
+  reached_or_new _ (BySocket s f r h) = elim (holders s f h) [
+    | inr d ↦ inl d
+    | inl g ↦ elim (reached_or_new s r) [
+      | inl d ↦ inl (BySocket s f d g)
+      | inr n ↦ absurd (omega (arith, n, whole.files_numbered s (holder_live old s f g)))
+    ]
+  ]
+
+abbrev Leads : World → World → Type 0
+Leads old now = (f : ℕ) → Reached now f → Reached old f ⊎ IsNew old f
+
+-- a file that holds nothing is no holder
+held_before : (w : World) (x : File) → contents x ≡ [] → (s f : ℕ) → Holds (add_file w x) s f → Holds w s f
+held_before w x empty s f h = by (eq_by_cmp nat_cmp s w.next_ino) (subst (λ o. Contains (option_map_or contents o []) f) (map.get-insert nat_cmp_total w.files w.next_ino x s) h) where
+  by : (b : Bool) → Contains (option_map_or contents (cond b (Some x) (map.get w.files s)) []) f → Holds w s f
+  by true h = absurd (none_in f (subst (λ xs. Contains xs f) empty h))
+  by false h = h
+
+-- a queue put in place of another
+held_or_left : (w : World) (s : ℕ) (rest : List Message) (q f : ℕ) → Holds (with_queue w s rest) q f → Holds w q f ⊎ Contains (carried rest) f
+held_or_left w s rest q f h = by (eq_by_cmp nat_cmp q s) (map.get w.files q) (subst (λ o. Contains (option_map_or contents o []) f) (get-change_at (file_with (λ x. record x { queue = rest })) w.files s q) h) where
+  split : (x : Socket) → Contains (carried rest) f ⊎ Contains x.backlog f → Contains (carried x.queue ++ x.backlog) f ⊎ Contains (carried rest) f
+  split x (inl a) = inr a
+  split x (inr b) = inl (Contains-append_right (carried x.queue) _ f b)
+
+  by : (b : Bool) (o : Option File) → Contains (option_map_or contents (option_map (λ x. cond b (file_with (λ x. record x { queue = rest }) x) x) o) []) f → Contains (option_map_or contents o []) f ⊎ Contains (carried rest) f
+  by b None h = inl h
+  by false (Some x) h = inl h
+  by true (Some Plain) h = inl h
+  by true (Some (AsSocket x)) h = split x (Contains-append_cases (carried rest) x.backlog f h)
+
+-- what a table's numbers stand for is in the table
+attached_in_table : (w : World) (p f : ℕ) (ns : List ℕ) → Contains (filter_map (table_at w p) ns) f → InTable w f
+attached_in_table w p f ns h = let at = attached-tabled w p ns f h in (p, at.0, at.1)
+
+-- what waits in the queue of a socket that a table holds is reached
+queued_reached : (w : World) (p n f : ℕ) → Contains (carried (socket_on w p n).queue) f → Reached w f
+queued_reached w p n f h = by (table_at w p n) refl h where
+  at : (s : ℕ) → table_at w p n ≡ Some s → (o : Option File) → map.get w.files s ≡ o → Contains (carried (unwrap_or (option_and_then socket_of o) no_socket).queue) f → Reached w f
+  at s is None there h = absurd (none_in f h)
+  at s is (Some Plain) there h = absurd (none_in f h)
+  at s is (Some (AsSocket x)) there h = BySocket s f (ByTable s (p, n, is)) (subst (λ o. Contains (option_map_or contents o []) f) (sym there) (Contains-append_left (carried x.queue) x.backlog f h))
+
+  by : (o : Option ℕ) → table_at w p n ≡ o → Contains (carried (unwrap_or (option_and_then (socket_at w) o) no_socket).queue) f → Reached w f
+  by None is h = absurd (none_in f h)
+  by (Some s) is h = at s is (map.get w.files s) refl h
+
+-- what is taken and what is left were in the queue
+taken_keeps : (kind : SockType) (q : List Message) (n : ℕ) → (take_from kind q n).attached ++ carried (take_from kind q n).rest ≡ carried q
+taken_keeps Seqpacket q n = packet_keeps_files q n
+
+files-install_all : (w : World) (p : ℕ) (es : List (ℕ × ℕ)) → (install_all w p es).files ≡ w.files
+files-install_all w p [] = refl
+files-install_all w p (e ∷ es) = files-install_all (install w p e.0 e.1) p es
+
+in_table_or_installed : (w : World) (p f : ℕ) (ns xs : List ℕ) → InTable (install_all w p (zip ns xs)) f → InTable w f ⊎ Contains xs f
+in_table_or_installed w p f [] xs t = inl t
+in_table_or_installed w p f (n ∷ ns) [] t = inl t
+in_table_or_installed w p f (n ∷ ns) (x ∷ xs) t = elim (in_table_or_installed (install w p n x) p f ns xs t) [
+  | inr h ↦ inr (Contains-append_right (x ∷ []) xs f h)
+  | inl s ↦ elim (tabled-install w p n x f s) [
+    | inl r ↦ inl r
+    | inr e ↦ inr (0, omega arith, e)
+  ]
+]
+
+module _ (w : World) (whole : IsWhole w) where
+  close_leads : (p n : ℕ) → Leads w (effect w p (step.Close n))
+  close_leads p n = reached_or_new w (uninstall w p n) whole (λ f t. inl (ByTable f (tabled-uninstall w p n f t))) (λ s f h. inl h)
+
+  module _ (p n : ℕ) (bytes attach : List ℕ) where
+    abbrev pub sent : Message
+    sent = record { bytes = bytes; attached = filter_map (table_at w p) attach; user = (process_at w p).user }
+
+    send_holders : (s f : ℕ) → Holds (effect w p (step.Send n bytes attach)) s f → Holds w s f ⊎ Reached w f
+    send_holders s f h = elim (held_or_sent w (peer_of (socket_on w p n).state) sent s f h) [
+      | inl a ↦ inl a
+      | inr a ↦ inr (ByTable f (attached_in_table w p f attach a))
+    ]
+
+    send_leads : Leads w (effect w p (step.Send n bytes attach))
+    send_leads = reached_or_new w (effect w p (step.Send n bytes attach)) whole (λ f t. inl (ByTable f t)) send_holders
+
+  module _ (p n max_bytes max_fds : ℕ) where
+    pub within : (f : ℕ) → Contains ((taken_on w p n max_bytes).attached ++ carried (taken_on w p n max_bytes).rest) f → Reached w f
+    within f h = queued_reached w p n f (subst (λ xs. Contains xs f) (taken_keeps (socket_on w p n).kind (socket_on w p n).queue max_bytes) h)
+
+    abbrev cut_world : World
+    cut_world = with_queue w (ino_on w p n) (taken_on w p n max_bytes).rest
+
+    abbrev given : List (ℕ × ℕ)
+    given = zip (got_at w p n max_bytes max_fds) (taken_on w p n max_bytes).attached
+
+    tables : (f : ℕ) → InTable (install_all cut_world p given) f → Reached w f ⊎ IsNew w f
+    tables f t = elim (in_table_or_installed cut_world p f (got_at w p n max_bytes max_fds) (taken_on w p n max_bytes).attached t) [
+      | inl s ↦ inl (ByTable f s)
+      | inr h ↦ inl (within f (Contains-append_left _ _ f h))
+    ]
+
+    holders : (s f : ℕ) → Holds (install_all cut_world p given) s f → Holds w s f ⊎ Reached w f
+    holders s f h = elim (held_or_left w (ino_on w p n) (taken_on w p n max_bytes).rest s f (subst (λ fs. Contains (option_map_or contents (map.get fs s) []) f) (files-install_all cut_world p given) h)) [
+      | inl a ↦ inl a
+      | inr a ↦ inr (within f (Contains-append_right (taken_on w p n max_bytes).attached _ f a))
+    ]
+
+    receive_leads : Leads w (effect w p (step.Recv n max_bytes max_fds))
+    receive_leads = reached_or_new w (effect w p (step.Recv n max_bytes max_fds)) whole tables holders
+
+  module _ (p : ℕ) (kind : SockType) where
+    abbrev a : ℕ
+    a = w.next_ino
+
+    abbrev b : ℕ
+    b = w.next_ino + 1
+
+    abbrev one_more : World
+    one_more = add_file w (AsSocket (connected_socket kind b))
+
+    abbrev two_more : World
+    two_more = add_file one_more (AsSocket (connected_socket kind a))
+
+    pair_tables : (f : ℕ) → InTable (effect w p (step.Pair kind)) f → Reached w f ⊎ IsNew w f
+    pair_tables f t = elim (tabled-install (install two_more p (free_at w p 0) a) p (free_at w p 1) b f t) [
+      | inr e ↦ inr (omega (arith, e))
+      | inl s ↦ elim (tabled-install two_more p (free_at w p 0) a f s) [
+        | inr e ↦ inr (omega (arith, e))
+        | inl r ↦ inl (ByTable f r)
+      ]
+    ]
+
+    pair_leads : Leads w (effect w p (step.Pair kind))
+    pair_leads = reached_or_new w (effect w p (step.Pair kind)) whole pair_tables (λ s f h. inl (held_before w (AsSocket (connected_socket kind b)) refl s f (held_before one_more (AsSocket (connected_socket kind a)) refl s f h)))
+
+  effect_leads : (p : ℕ) (s : Step) → Leads w (effect w p s)
+  effect_leads p (step.Close n) = close_leads p n
+  effect_leads p (step.Pair kind) = pair_leads p kind
+  effect_leads p (step.Send n bytes attach) = send_leads p n bytes attach
+  effect_leads p (step.Recv n max_bytes max_fds) = receive_leads p n max_bytes max_fds
+
+  module _ (uid nofile : ℕ) (privileged : Bool) where
+    abbrev pub started : Process
+    started = record { user = uid; limit = nofile; privileged = privileged; table = map.empty }
+
+    pub opened_before : (f k n : ℕ) (c : Bool) → option_map_or (λ x. map.get x.table n) (cond c (Some started) (map.get w.processes k)) None ≡ Some f → table_at w k n ≡ Some f
+    opened_before f k n true e = absurd (none_some f (sym (map.get-empty nat_cmp n) ∙ e))
+    opened_before f k n false e = e
+
+    old_table : (x : World) (c : Bool) (f : ℕ) → InTable (cond c x (record x { users = x.users ++ uid ∷ [] })) f → InTable x f
+    old_table x true f t = t
+    old_table x false f t = t
+
+    spawn_tables : (f : ℕ) → InTable (spawned w uid nofile privileged) f → InTable w f
+    spawn_tables f t =
+        let s = old_table (add_process w started) _ f t in
+        (s.0, s.1, opened_before f s.0 s.1 (eq_by_cmp nat_cmp s.0 w.next_pid) (sym (ap (λ o. option_map_or (λ x. map.get x.table s.1) o None) (map.get-insert nat_cmp_total w.processes w.next_pid started s.0)) ∙ s.2))
+
+    old_holder : (x : World) (c : Bool) (s f : ℕ) → Holds (cond c x (record x { users = x.users ++ uid ∷ [] })) s f → Holds x s f
+    old_holder x true s f h = h
+    old_holder x false s f h = h
+
+    spawn_leads : Leads w (spawned w uid nofile privileged)
+    spawn_leads = reached_or_new w (spawned w uid nofile privileged) whole (λ f t. inl (ByTable f (spawn_tables f t))) (λ s f h. inl (old_holder (add_process w started) _ s f h))
+
+-- whatever the outcome
+module _ (old now new : World) (leads : Leads old now) where
+  settled_leads : Settles now new → Leads old new
+  settled_leads t f r = leads f (reached_before now new t f r)
+
+  same_leads : new ≡ old → Leads old new
+  same_leads e f r = inl (subst (λ x. Reached x f) e r)
+
+  outcome_leads : (o : Option Errno) (frugal : Bool) (answer r : Reply) → Outcome o frugal answer now old r new → Leads old new
+  outcome_leads (Some e) frugal answer r h = same_leads h.1
+  outcome_leads None true answer r h = settled_leads h.1
+  outcome_leads None false answer r (inl h) = settled_leads h.1
+  outcome_leads None false answer r (inr h) = same_leads h.1
+
+pub numbered_leads : (old new : World) → Leads old new → (f : ℕ) → f < old.next_ino → Reached new f → Reached old f
+numbered_leads old new leads f known r = elim (leads f r) [
+  | inl d ↦ d
+  | inr n ↦ absurd (omega (arith, n, known))
+]
+
+spawn_step_leads : (old new : World) (uid nofile : ℕ) (privileged : Bool) (r : Reply) → IsWhole old → SpawnStep old uid nofile privileged r new → Leads old new
+spawn_step_leads old new uid nofile privileged r whole h =
+    outcome_leads old (spawned old uid nofile privileged) new (spawn_leads old whole uid nofile privileged) (spawn_refusal old nofile) false (reply.Pid old.next_pid) r h
+
+process_step_leads : (old new : World) (p : ℕ) (s : Step) (r : Reply) → IsWhole old → ProcessStep old p s r new → Leads old new
+process_step_leads old new p s r whole h =
+    outcome_leads old (effect old p s) new (effect_leads old whole p s) (refusal old p s) (needs_no_memory s) (answer old p s) r h
+
+pub spawn_reaches_no_garbage : SpawnReachesNoGarbage
+spawn_reaches_no_garbage old new uid nofile privileged r whole h f live =
+    numbered_leads old new (spawn_step_leads old new uid nofile privileged r whole h) f (whole.files_numbered f live)
+
+pub step_reaches_no_garbage : StepReachesNoGarbage
+step_reaches_no_garbage old new p s r whole h f live =
+    numbered_leads old new (process_step_leads old new p s r whole h) f (whole.files_numbered f live)
+
+pub event_leads : (old new : Machine) (e : Event) (r : Reply) → IsWhole old.world → MachineStep old e r new → Leads old.world new.world
+event_leads old new (event.Spawn uid nofile privileged) r whole h = spawn_step_leads old.world new.world uid nofile privileged r whole h.0
+event_leads old new (event.Proc p s) r whole h = process_step_leads old.world new.world p s r whole h.0
+
+pub garbage_stays_out_of_reach : GarbageStaysOutOfReach
+garbage_stays_out_of_reach old new e r whole h f g d =
+    g.1 (numbered_leads old.world new.world (event_leads old new e r whole h) f (whole.files_numbered f g.0) d)

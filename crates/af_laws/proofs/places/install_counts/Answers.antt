@@ -1,0 +1,5 @@
+use Rattle.af_laws.proofs.Counting.{install_counts}
+use Rattle.af_laws.proofs.places.install_counts.Goals as goal
+
+pub returns : goal.returns
+returns c = install_counts

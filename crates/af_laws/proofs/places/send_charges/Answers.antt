@@ -1,0 +1,5 @@
+use Rattle.af_laws.proofs.Counting.{send_charges}
+use Rattle.af_laws.proofs.places.send_charges.Goals as goal
+
+pub returns : goal.returns
+returns c = send_charges

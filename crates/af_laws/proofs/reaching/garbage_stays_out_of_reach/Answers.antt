@@ -1,0 +1,5 @@
+use Rattle.af_laws.proofs.Unreached.{garbage_stays_out_of_reach}
+use Rattle.af_laws.proofs.reaching.garbage_stays_out_of_reach.Goals as goal
+
+pub returns : goal.returns
+returns c = garbage_stays_out_of_reach

@@ -1,0 +1,57 @@
+-- Laws of places and of their counts.
+use Rattle.std.specs.Prelude.{◌≡◌, ◌⊎◌, ◌↔◌, ℕ, ◌+◌, IsTrue, List, ◌∷◌, length, Some, None}
+use Rattle.std.specs.FinMap as map
+use Rattle.af_base.specs.World.{World, Message, Socket, AsSocket}
+use Rattle.af_base.specs.Places.{table_at, InTable, InQueue, InBacklog, Holds}
+use Rattle.af_base.specs.Counts.{charge, charged, count_in, inflight, one, refs, tabled, total}
+use Rattle.af_base.specs.Reached.{IsGarbageCount}
+use Rattle.af_base.specs.Changes.{install, uninstall, push_message, with_queue}
+use Rattle.af_laws.specs.Settling.{IsHeld}
+
+-- What a socket holds is in its queue or in its backlog.
+abbrev pub HoldsInQueueOrBacklog : Type 0
+HoldsInQueueOrBacklog = (w : World) (s f : ℕ) → Holds w s f ↔ (InQueue w s f ⊎ InBacklog w s f)
+
+-- The reference count is zero exactly where no place holds the file.
+abbrev pub NoneWhereUnplaced : Type 0
+NoneWhereUnplaced = (w : World) (f : ℕ) → (refs w f ≡ 0) ↔ (¬ (IsHeld w f))
+
+-- The tables' part of it is zero exactly where no table holds the file.
+abbrev pub NoneWhereUntabled : Type 0
+NoneWhereUntabled = (w : World) (f : ℕ) → (tabled w f ≡ 0) ↔ (¬ (InTable w f))
+
+-- The in-flight count is zero exactly where no queue holds the file.
+abbrev pub NoneWhereNotInFlight : Type 0
+NoneWhereNotInFlight = (w : World) (f : ℕ) → (inflight w f ≡ 0) ↔ ((s : ℕ) → ¬ (InQueue w s f))
+
+-- A number that is taken into use is one reference more to its file, and none to any other.
+abbrev pub InstallCounts : Type 0
+InstallCounts = (w : World) (p n g f : ℕ) → IsTrue (map.contains_key w.processes p) → table_at w p n ≡ None → refs (install w p n g) f ≡ refs w f + one f g
+
+-- A number that is given up is one reference less to its file, and to no other.
+abbrev pub UninstallCounts : Type 0
+UninstallCounts = (w : World) (p n g f : ℕ) → table_at w p n ≡ Some g → refs (uninstall w p n) f + one f g ≡ refs w f
+
+-- A message that is sent is as many references more to a file, and as many more in flight, as it carries the file.
+abbrev pub SendCounts : Type 0
+SendCounts = (w : World) (s f : ℕ) (m : Message) (x : Socket) → map.get w.files s ≡ Some (AsSocket x)
+    → (refs (push_message w s m) f ≡ refs w f + count_in f m.attached) × (inflight (push_message w s m) f ≡ inflight w f + count_in f m.attached)
+
+-- A message that is received whole gives back as many references as it carried, before they are installed.
+abbrev pub ReceiveCounts : Type 0
+ReceiveCounts = (w : World) (s f : ℕ) (m : Message) (rest : List Message) (x : Socket) → map.get w.files s ≡ Some (AsSocket x) → x.queue ≡ m ∷ rest
+    → (refs (with_queue w s rest) f + count_in f m.attached ≡ refs w f) × (inflight (with_queue w s rest) f + count_in f m.attached ≡ inflight w f)
+
+-- A message that is sent is charged to its sender, a place for each file that it carries, and to nobody else (unix(7), ETOOMANYREFS; whom it counts is this project's profile).
+abbrev pub SendCharges : Type 0
+SendCharges = (w : World) (s u : ℕ) (m : Message) (x : Socket) → map.get w.files s ≡ Some (AsSocket x)
+    → (charged (push_message w s m) u ≡ charged w u + charge u m) × (total (push_message w s m) ≡ total w + length m.attached)
+
+-- A message that is received whole is charged no more, whoever receives it.
+abbrev pub ReceiveDischarges : Type 0
+ReceiveDischarges = (w : World) (s u : ℕ) (m : Message) (rest : List Message) (x : Socket) → map.get w.files s ≡ Some (AsSocket x) → x.queue ≡ m ∷ rest
+    → (charged (with_queue w s rest) u + charge u m ≡ charged w u) × (total (with_queue w s rest) + length m.attached ≡ total w)
+
+-- How many sockets are garbage is one number.
+abbrev pub GarbageCountsOnce : Type 0
+GarbageCountsOnce = (w : World) (n m : ℕ) → IsGarbageCount w n → IsGarbageCount w m → n ≡ m

@@ -1,0 +1,60 @@
+-- Laws of taking: what a receive takes from a queue, and what it leaves.
+use Rattle.std.specs.Prelude.{◌≡◌, ◌↔◌, ◌<◌, ◌≤◌, ℕ, ◌+◌, not, IsTrue, List, [], ◌∷◌, ◌++◌, drop, length, Some, None}
+use Rattle.std.specs.List.{All, find, take_while}
+use Rattle.af_base.specs.World.{Message}
+use Rattle.af_base.specs.Places.{carried}
+use Rattle.af_base.specs.Take.{has_files, joined, take_seqpacket, take_stream}
+
+-- Each message has a byte, as a send sees to it (unix(7): files go with at least one byte).
+abbrev pub HaveBytes : List Message → Type 0
+HaveBytes q = All (λ m. 1 ≤ length m.bytes) q
+
+-- How many bytes stand before the first message with files.
+abbrev pub bytes_before_files : List Message → ℕ
+bytes_before_files q = length (joined (take_while (λ m. not (has_files m)) q))
+
+-- A packet loses no byte but those that it drops, and leaves the messages behind it.
+abbrev pub PacketKeepsBytes : Type 0
+PacketKeepsBytes = (m : Message) (q : List Message) (n : ℕ) →
+    let taken = take_seqpacket (m ∷ q) n in
+    taken.bytes ++ drop n m.bytes ++ joined taken.rest ≡ joined (m ∷ q)
+
+-- A packet loses no file: what is not taken is left.
+abbrev pub PacketKeepsFiles : Type 0
+PacketKeepsFiles = (q : List Message) (n : ℕ) →
+    let taken = take_seqpacket q n in
+    taken.attached ++ carried taken.rest ≡ carried q
+
+-- It says that bytes were dropped exactly where some were (recvmsg(2), MSG_TRUNC).
+abbrev pub PacketTellsOfDrops : Type 0
+PacketTellsOfDrops = (m : Message) (q : List Message) (n : ℕ) → IsTrue (take_seqpacket (m ∷ q) n).trunc ↔ (0 < length (drop n m.bytes))
+
+-- A stream loses no byte: what is not taken is left.
+abbrev pub StreamKeepsBytes : Type 0
+StreamKeepsBytes = (q : List Message) (n : ℕ) →
+    let taken = take_stream q n in
+    taken.bytes ++ joined taken.rest ≡ joined q
+
+-- A stream loses no file, where each message has a byte.
+abbrev pub StreamKeepsFiles : Type 0
+StreamKeepsFiles = (q : List Message) (n : ℕ) → HaveBytes q →
+    let taken = take_stream q n in
+    taken.attached ++ carried taken.rest ≡ carried q
+
+-- It takes no more bytes than it was asked for.
+abbrev pub StreamTakesAtMost : Type 0
+StreamTakesAtMost = (q : List Message) (n : ℕ) → length (take_stream q n).bytes ≤ n
+
+-- It takes no byte past the first message with files (unix(7): ancillary data are a barrier).
+abbrev pub StreamStopsAtFiles : Type 0
+StreamStopsAtFiles = (q : List Message) (n : ℕ) (m : Message) → find has_files q ≡ Some m → length (take_stream q n).bytes ≤ bytes_before_files q + length m.bytes
+
+-- The files of that message come all at once, with its first byte, and not before it.
+abbrev pub FilesComeWithFirstByte : Type 0
+FilesComeWithFirstByte = (q : List Message) (n : ℕ) (m : Message) → find has_files q ≡ Some m →
+    let taken = take_stream q n in
+    (bytes_before_files q < length taken.bytes → taken.attached ≡ m.attached) × (length taken.bytes ≤ bytes_before_files q → taken.attached ≡ [])
+
+-- Where no message has files, none come.
+abbrev pub NoFilesFromNone : Type 0
+NoFilesFromNone = (q : List Message) (n : ℕ) → find has_files q ≡ None → (take_stream q n).attached ≡ []

@@ -1,0 +1,58 @@
+//! Laws of places and of their counts.
+ghost use Rattle.af_laws.specs.Places.{HoldsInQueueOrBacklog, NoneWhereUnplaced, NoneWhereUntabled, NoneWhereNotInFlight};
+ghost use Rattle.af_laws.specs.Places.{InstallCounts, UninstallCounts, SendCounts, ReceiveCounts, SendCharges, ReceiveDischarges, GarbageCountsOnce};
+
+/// What a socket holds is in its queue or in its backlog.
+pub fn holds_in_queue_or_backlog()
+    ensures { HoldsInQueueOrBacklog }
+{}
+
+/// The reference count is zero exactly where no place holds the file.
+pub fn none_where_unplaced()
+    ensures { NoneWhereUnplaced }
+{}
+
+/// The tables' part of it is zero exactly where no table holds the file.
+pub fn none_where_untabled()
+    ensures { NoneWhereUntabled }
+{}
+
+/// The in-flight count is zero exactly where no queue holds the file.
+pub fn none_where_not_in_flight()
+    ensures { NoneWhereNotInFlight }
+{}
+
+/// A number that is taken into use is one reference more to its file, and none to any other.
+pub fn install_counts()
+    ensures { InstallCounts }
+{}
+
+/// A number that is given up is one reference less to its file, and to no other.
+pub fn uninstall_counts()
+    ensures { UninstallCounts }
+{}
+
+/// A message that is sent counts each file that travels with it once more, repeats included.
+pub fn send_counts()
+    ensures { SendCounts }
+{}
+
+/// A message that is received whole gives back what it counted.
+pub fn receive_counts()
+    ensures { ReceiveCounts }
+{}
+
+/// A message that is sent is charged to its sender, and to nobody else.
+pub fn send_charges()
+    ensures { SendCharges }
+{}
+
+/// A message that is received whole is charged no more.
+pub fn receive_discharges()
+    ensures { ReceiveDischarges }
+{}
+
+/// How many sockets are garbage is one number.
+pub fn garbage_counts_once()
+    ensures { GarbageCountsOnce }
+{}

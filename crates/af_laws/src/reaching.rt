@@ -1,0 +1,53 @@
+//! Laws of reach: what a chain of places that begins in a table leads to.
+ghost use Rattle.af_laws.specs.Reaching.{PlacesKeepReached, InstallKeepsReached, SendKeepsReached, ReachedIsHeld};
+ghost use Rattle.af_laws.specs.Reaching.{SettlingKeepsReached, PurgingKeepsReached, SpawnReachesNoGarbage, StepReachesNoGarbage, GarbageStaysOutOfReach, GarbageIsForEver};
+
+/// What is reached stays reached where no place is lost.
+pub fn places_keep_reached()
+    ensures { PlacesKeepReached }
+{}
+
+/// What is reached stays reached where a free number is taken into use.
+pub fn install_keeps_reached()
+    ensures { InstallKeepsReached }
+{}
+
+/// What is reached stays reached where a message is sent.
+pub fn send_keeps_reached()
+    ensures { SendKeepsReached }
+{}
+
+/// What is reached is never unheld.
+pub fn reached_is_held()
+    ensures { ReachedIsHeld }
+{}
+
+/// Settling leaves what is reached as it was.
+pub fn settling_keeps_reached()
+    ensures { SettlingKeepsReached }
+{}
+
+/// To purge garbage leaves what is reached as it was.
+pub fn purging_keeps_reached()
+    ensures { PurgingKeepsReached }
+{}
+
+/// A process that starts reaches nothing that was live and out of reach.
+pub fn spawn_reaches_no_garbage()
+    ensures { SpawnReachesNoGarbage }
+{}
+
+/// No step of a process reaches anything that was live and out of reach.
+pub fn step_reaches_no_garbage()
+    ensures { StepReachesNoGarbage }
+{}
+
+/// What is garbage is out of reach after any event, whatever the answer.
+pub fn garbage_stays_out_of_reach()
+    ensures { GarbageStaysOutOfReach }
+{}
+
+/// Garbage is garbage for ever: no run from there reaches it.
+pub fn garbage_is_for_ever()
+    ensures { GarbageIsForEver }
+{}

@@ -1,0 +1,43 @@
+//! Laws of steps and of runs.
+ghost use Rattle.af_laws.specs.Running.{EventsHaveReplies, RepliesDetermine, LogDetermines, RefusedChangesNothing, RunsJoin};
+ghost use Rattle.af_laws.specs.Running.{FreshIsSound, EventsKeepSound, RunsAreSound};
+
+/// From every machine each event has a reply and leads somewhere.
+pub fn events_have_replies()
+    ensures { EventsHaveReplies }
+{}
+
+/// An event with its reply leads to one machine.
+pub fn replies_determine()
+    ensures { RepliesDetermine }
+{}
+
+/// A log of events with their replies leads to one machine.
+pub fn log_determines()
+    ensures { LogDetermines }
+{}
+
+/// What is refused changes nothing.
+pub fn refused_changes_nothing()
+    ensures { RefusedChangesNothing }
+{}
+
+/// A run of two lists joined is a run of the first, and then one of the second.
+pub fn runs_join()
+    ensures { RunsJoin }
+{}
+
+/// The empty world is sound.
+pub fn fresh_is_sound()
+    ensures { FreshIsSound }
+{}
+
+/// Each event leaves a sound world sound.
+pub fn events_keep_sound()
+    ensures { EventsKeepSound }
+{}
+
+/// Every run from the beginning leads to a sound world.
+pub fn runs_are_sound()
+    ensures { RunsAreSound }
+{}

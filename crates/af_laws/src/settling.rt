@@ -1,0 +1,48 @@
+//! Laws of settling: what goes when nothing holds it.
+ghost use Rattle.af_laws.specs.Settling.{SettlesToOne, SettlesToSome, SettledStays, SettlingSettles, SettlingTwiceIsOnce};
+ghost use Rattle.af_laws.specs.Settling.{HeldWorldIsSettled, CyclesStay, UnplacedIsUnheld, UnplacedGoesFirst};
+
+/// Settling has at most one outcome.
+pub fn settles_to_one()
+    ensures { SettlesToOne }
+{}
+
+/// Settling has an outcome.
+pub fn settles_to_some()
+    ensures { SettlesToSome }
+{}
+
+/// A settled world settles to itself, and to nothing else.
+pub fn settled_stays()
+    ensures { SettledStays }
+{}
+
+/// What settles is settled.
+pub fn settling_settles()
+    ensures { SettlingSettles }
+{}
+
+/// To settle twice is to settle once.
+pub fn settling_twice_is_once()
+    ensures { SettlingTwiceIsOnce }
+{}
+
+/// Where some place holds each live file, nothing is to go.
+pub fn held_world_is_settled()
+    ensures { HeldWorldIsSettled }
+{}
+
+/// Files that hold one another never go by themselves.
+pub fn cycles_stay()
+    ensures { CyclesStay }
+{}
+
+/// A live file that no place holds is unheld.
+pub fn unplaced_is_unheld()
+    ensures { UnplacedIsUnheld }
+{}
+
+/// To take an unheld file away first leaves the outcome of settling as it was.
+pub fn unplaced_goes_first()
+    ensures { UnplacedGoesFirst }
+{}

@@ -1,0 +1,48 @@
+//! Laws of taking: what a receive takes from a queue, and what it leaves.
+ghost use Rattle.af_laws.specs.Taking.{PacketKeepsBytes, PacketKeepsFiles, PacketTellsOfDrops};
+ghost use Rattle.af_laws.specs.Taking.{StreamKeepsBytes, StreamKeepsFiles, StreamTakesAtMost, StreamStopsAtFiles, FilesComeWithFirstByte, NoFilesFromNone};
+
+/// A packet loses no byte but those that it drops.
+pub fn packet_keeps_bytes()
+    ensures { PacketKeepsBytes }
+{}
+
+/// A packet loses no file.
+pub fn packet_keeps_files()
+    ensures { PacketKeepsFiles }
+{}
+
+/// A packet says that bytes were dropped exactly where some were.
+pub fn packet_tells_of_drops()
+    ensures { PacketTellsOfDrops }
+{}
+
+/// A stream loses no byte.
+pub fn stream_keeps_bytes()
+    ensures { StreamKeepsBytes }
+{}
+
+/// A stream loses no file, where each message has a byte.
+pub fn stream_keeps_files()
+    ensures { StreamKeepsFiles }
+{}
+
+/// A stream takes no more bytes than it was asked for.
+pub fn stream_takes_at_most()
+    ensures { StreamTakesAtMost }
+{}
+
+/// A stream takes no byte past the first message with files.
+pub fn stream_stops_at_files()
+    ensures { StreamStopsAtFiles }
+{}
+
+/// The files of that message come all at once, with its first byte, and not before it.
+pub fn files_come_with_first_byte()
+    ensures { FilesComeWithFirstByte }
+{}
+
+/// Where no message has files, none come.
+pub fn no_files_from_none()
+    ensures { NoFilesFromNone }
+{}

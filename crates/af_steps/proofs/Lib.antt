@@ -1,0 +1,12 @@
+pub mod Slots
+pub mod Free
+pub mod Dropped
+pub mod Releasing
+pub mod Queues
+pub mod Totals
+pub mod Births
+pub mod Received
+pub mod Paired
+pub mod Running
+pub mod Installed
+pub mod Refused

@@ -1,0 +1,12 @@
+use Rattle.std.proofs.Common.{◌≡◌, ◌≤◌, ◌+◌, ◌*◌, length}
+use Rattle.std.specs.List.{sum_by}
+use Rattle.af_base.specs.declared.limits.TheConstants.{MAX_MESSAGES, SCM_MAX_FD, MAX_FILES}
+use Rattle.af_base.specs.Counts.{charge, charged}
+use Rattle.af_base.specs.Places.{queue_of}
+use Rattle.af_steps.proofs.store.Store.charged.Given as goal
+
+abbrev pub invariant-loop-socket : goal.invariant-loop-socket
+invariant-loop-socket l = record {
+  so_far : l.sum + sum_by (λ x. sum_by (charge l.user) (queue_of x)) l.socket-iterator ≡ charged l.self l.user;
+  bound : l.sum + MAX_MESSAGES * SCM_MAX_FD * length l.socket-iterator ≤ MAX_FILES * (MAX_MESSAGES * SCM_MAX_FD);
+}

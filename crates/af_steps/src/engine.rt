@@ -1,0 +1,126 @@
+//! The engine: events in, replies out.
+ghost use Rattle.std.specs.Prelude.{◌≡◌, ◌<◌, ℕ, Option, IfOk, IfErr, length, take};
+ghost use Rattle.std.specs.List.{zip};
+ghost use Rattle.af_base.specs.Run.{fresh, Run, Step};
+
+use crate::store::Store;
+use af_base::events;
+use af_base::events::{Event, Reply};
+use af_base::names::Pid;
+use std::alloc::{AllocError, Global};
+use std::marker::Model;
+use thiserror::Error;
+
+/// A machine that does one event after another.
+#[derive(Drop)]
+pub struct Engine {
+    alloc: Global,
+    pub(crate) store: Store,
+}
+
+impl Model for Engine {
+    ghost use Rattle.std.specs.FinMap as map;
+    ghost use Rattle.std.specs.Coded.{codes};
+    ghost use Rattle.af_base.specs.Pass.{Machine, Idle};
+    ghost use Rattle.af_base.specs.Whole.{IsSound};
+
+    ghost Value = { Machine };
+
+    ghost coded = { Prim.hlevel (codes, map.code) };
+
+    ghost view = { λ e. record { world = e.store; pass = Idle; last_pass = 0 } };
+
+    ghost invariant = { λ e. IsSound e.store };
+}
+
+/// A run ended early, since room for one more reply was refused.
+#[derive(Debug, Drop, Error)]
+#[error("no memory for a reply")]
+pub struct RunStopped {
+    /// The replies of the events that were done.
+    pub done: Vec<Reply>,
+}
+
+impl Engine {
+    ghost use Rattle.af_base.specs.Whole.{IsSound};
+
+    /// An engine to which nothing has happened.
+    pub fn new(alloc: Global) -> Result<Engine, AllocError>
+        ensures { IfOk result (λ e. e ≡ fresh) }
+    {
+        Ok(Engine {
+            alloc,
+            store: Store::new(alloc),
+        })
+    }
+
+    /// Does one event. Want of memory is answered by ENOMEM, where no other refusal fits; after any
+    /// refusal the engine is as it was.
+    pub fn step(&mut self, event: &Event) -> Reply
+        ensures { Step self.old event.now result self.new }
+    {
+        let alloc = self.alloc;
+        match event {
+            Event::Spawn {
+                uid,
+                nofile,
+                privileged,
+            } => self.store.start(alloc, *uid, *nofile, *privileged),
+            Event::Proc(pid, step) => self.store.step(alloc, *pid, step),
+        }
+    }
+
+    /// Does these events in order. The error holds the replies of those that were done.
+    pub fn run(&mut self, events: &[Event]) -> Result<Vec<Reply>, RunStopped>
+        ensures whole { IfOk result (λ replies. length replies.items ≡ length events.now) }
+        ensures run { IfOk result (λ replies. Run self.old (zip events.now replies.items) self.new) }
+        ensures some { IfErr result (λ stopped. length stopped.done.items < length events.now) }
+        ensures stopped { IfErr result (λ stopped. Run self.old (zip events.now stopped.done.items) self.new) }
+    {
+        let mut done = Vec::new(self.alloc);
+        for event in events {
+            if done.reserve(1).is_err() {
+                return Err(RunStopped { done });
+            }
+            let reply = self.step(event);
+            done.push_reserved(reply);
+        }
+        Ok(done)
+    }
+
+    /// What an engine shows is whole, within all limits, and settled, whatever happened before.
+    pub fn is_sound(&self)
+        ensures { IsSound self.now.world }
+    {
+        let _store = &self.store;
+    }
+}
+
+impl Store {
+    ghost use Rattle.af_base.specs.Whole.{IsSound};
+    ghost use Rattle.af_base.specs.Steps.{ProcessStep};
+
+    /// A step of a process.
+    fn step(&mut self, alloc: Global, pid: Pid, step: &events::Step) -> Reply
+        requires { IsSound self.old }
+        ensures step { ProcessStep self.old pid step.now result self.new }
+        ensures sound { IsSound self.new }
+    {
+        match step {
+            events::Step::Close(fd) => self.close(alloc, pid, *fd),
+            events::Step::Pair(kind) => self.pair(alloc, pid, *kind),
+            events::Step::Send { on, bytes, attach } => self.send(
+                alloc,
+                pid,
+                *on,
+                bytes.as_slice(),
+                attach.as_slice(),
+            ),
+            events::Step::Recv {
+                on,
+                max_bytes,
+                max_fds,
+            } => self.recv(alloc, pid, *on, *max_bytes, *max_fds),
+        }
+    }
+}

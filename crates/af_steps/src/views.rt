@@ -1,0 +1,94 @@
+//! What can be seen of an engine. No view takes memory.
+ghost use Rattle.std.specs.Prelude.{◌≡◌, ◌<◌, ℕ, false, IsTrue, IfSome, IfNone, Some, None, slice_get, option_map, length};
+ghost use Rattle.std.specs.FinMap as map;
+ghost use Rattle.af_base.specs.World.{World, is_live, IsLive};
+ghost use Rattle.af_base.specs.Counts.{refs, inflight, charged, total};
+ghost use Rattle.af_steps.specs.Shown.{shown_of};
+
+use crate::engine::Engine;
+use af_base::events::{SockType, State};
+use af_base::names::{Ino, Pid, Uid};
+
+/// What a file is.
+#[derive(Clone, Copy, Debug, PartialEq, Eq)]
+pub enum FileInfo {
+    /// A socket: its type, whom it can talk to, and how many messages it has to receive.
+    Socket {
+        kind: SockType,
+        state: State,
+        messages: usize,
+    },
+}
+
+impl Engine {
+    /// How many places hold the file: its reference count. A stranger's is 0.
+    pub fn refs(&self, ino: Ino) -> u64
+        ensures { result ≡ refs self.now.world ino }
+    {
+        self.store.refs(ino)
+    }
+
+    /// How many queue places hold the file: how often it is in flight. A stranger's is 0.
+    pub fn inflight(&self, ino: Ino) -> u64
+        ensures { result ≡ inflight self.now.world ino }
+    {
+        self.store.inflight(ino)
+    }
+
+    /// How many queue places are charged to the user. A stranger's are 0.
+    pub fn charged(&self, user: Uid) -> u64
+        ensures { result ≡ charged self.now.world user }
+    {
+        self.store.charged(user)
+    }
+
+    /// How many queue places there are.
+    pub fn total(&self) -> u64
+        ensures { result ≡ total self.now.world }
+    {
+        self.store.total()
+    }
+
+    /// How many files are live.
+    pub fn live(&self) -> usize
+        ensures { result ≡ map.len self.now.world.files }
+    {
+        self.store.file_count()
+    }
+
+    /// The least live file above that number.
+    pub fn next_after(&self, ino: Ino) -> Option<Ino>
+        ensures above { IfSome result (λ n. ino < n) }
+        ensures live { IfSome result (IsLive self.now.world) }
+        ensures least { IfSome result (λ n. (q : ℕ) → ino < q → q < n → is_live self.now.world q ≡ false) }
+        ensures none { IfNone result ((q : ℕ) → ino < q → is_live self.now.world q ≡ false) }
+    {
+        self.store.next_after(ino)
+    }
+
+    /// The pid that the next process gets.
+    pub fn next_pid(&self) -> Pid
+        ensures { result ≡ self.now.world.next_pid }
+    {
+        Pid(self.store.next_pid())
+    }
+
+    /// The i-th user, from 0, in the order of their first process.
+    pub fn user_at(&self, i: usize) -> Option<Uid>
+        ensures { result ≡ slice_get self.now.world.users i }
+    {
+        self.store.users().get(i).copied()
+    }
+
+    /// What the file is; nothing for a stranger.
+    pub fn file(&self, ino: Ino) -> Option<FileInfo>
+        ensures { result ≡ shown_of (map.get self.now.world.files ino) }
+    {
+        let socket = self.store.socket(ino)?;
+        Some(FileInfo::Socket {
+            kind: socket.kind(),
+            state: socket.state(),
+            messages: socket.messages(),
+        })
+    }
+}

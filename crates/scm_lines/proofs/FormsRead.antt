@@ -1,0 +1,51 @@
+-- The lines of the table are read.
+use Rattle.std.proofs.Common.{◌≡◌, ℕ, ◌≤◌, List, [], ◌∷◌, Bool, true, false, length, nat_lt, Some, refl, inl, inr, arith, codes}
+use Rattle.std.proofs.lemmas.Grind.{common_steps}
+use Rattle.af_base.specs.declared.events.Step.{Step}
+use Rattle.af_base.specs.declared.events.Step.TheVariants as step
+use Rattle.af_base.specs.declared.events.Event.TheVariants as event
+use Rattle.scm_lines.specs.Words.{words_of}
+use Rattle.scm_lines.specs.Lines.{close_of, event_of, line_of, pair_of, privilege_of, process_of, recv_of, send_of, spawn_of, step_of, words_say}
+use Rattle.scm_lines.specs.Says.{IsLine, IsNumber, Says, SaysStep}
+use Rattle.scm_lines.specs.declared.keywords.Opening.TheVariants as opening
+use Rattle.scm_lines.specs.declared.line.Line.{Line}
+use Rattle.scm_lines.specs.declared.line.Line.TheVariants as line
+use Rattle.scm_lines.specs.declared.line.TheConstants.{MAX_LINE}
+use Rattle.scm_lines.proofs.NumberLemmas.{number_read}
+use Rattle.scm_lines.proofs.PayloadSays.{payload_read}
+use Rattle.scm_lines.proofs.AttachedSays.{attached_read}
+use Rattle.scm_lines.proofs.KeywordLemmas.{opening_read, type_read}
+
+step_read : (words : List (List ℕ)) (pid : ℕ) (st : Step) → SaysStep words st → process_of pid words ≡ Some (event.Proc pid st)
+unfolding process_of step_of close_of pair_of send_of recv_of
+step_read words pid (step.Close fd) (a, (e, n)) = rw (e, number_read a fd n) refl
+step_read words pid (step.Pair kind) e = rw (e, type_read kind) refl
+step_read words pid (step.Send on bytes attach) (a, b, (items, e, n, payload, attached)) = rw (e, number_read a on n, payload_read b bytes payload, attached_read items attach attached) refl
+step_read words pid (step.Recv on max_bytes max_fds) (a, b, c, (e, n1, n2, n3)) = rw (e, number_read a on n1, number_read b max_bytes n2, number_read c max_fds n3) refl
+
+spawn_read : (a b : List ℕ) (uid nofile : ℕ) (rest : List (List ℕ)) (p : Bool) → IsNumber a uid → IsNumber b nofile → privilege_of rest ≡ Some p
+    → event_of (codes "spawn") (a ∷ b ∷ rest) ≡ Some (event.Spawn uid nofile p)
+unfolding event_of spawn_of
+spawn_read a b uid nofile rest p m n e = rw (number_read a uid m, number_read b nofile n, e) refl
+
+process_read : (a : List ℕ) (others : List (List ℕ)) (pid : ℕ) (st : Step) → IsNumber a pid → SaysStep others st → event_of a others ≡ Some (event.Proc pid st)
+unfolding event_of
+process_read a others pid st number says = rw (opening_read a (opening.Process pid) number) (step_read others pid st says)
+
+words_read : (words : List (List ℕ)) (said : Line) → Says words said → words_say words ≡ Some said
+words_read words line.Silence says = rw says refl
+words_read words (line.Event (event.Spawn uid nofile false)) (a, b, (w, m, n)) = rw (w, spawn_read a b uid nofile [] false m n refl) refl
+words_read words (line.Event (event.Spawn uid nofile true)) (a, b, (w, m, n)) = rw (w, spawn_read a b uid nofile (codes "priv" ∷ []) true m n refl) refl
+words_read words (line.Event (event.Proc pid st)) (a, (others, w, number, says)) = rw (w, process_read a others pid st number says) refl
+
+pub line_read : (bytes : List ℕ) (said : Line) → IsLine bytes said → line_of bytes ≡ Some said
+unfolding line_of
+line_read bytes said (short, which) =
+    let within : nat_lt MAX_LINE (length bytes) ≡ false = below (length bytes) short in
+    elim which [
+      | inl (t, e) ↦ rw (within, t, e) refl
+      | inr (f, printable, says) ↦ rw (within, f, printable, words_read (words_of bytes) said says) refl
+    ]
+  where
+    below : (n : ℕ) → n ≤ MAX_LINE → nat_lt MAX_LINE n ≡ false
+    below n h = grind (arith, common_steps)

@@ -1,0 +1,156 @@
+-- The lines that are read are those of the table.
+use Rattle.std.proofs.Common.{◌≡◌, ◌⊎◌, ℕ, ◌≤◌, List, [], ◌∷◌, Bool, true, false, cond, length, nat_lt, Some, None, refl, sym, ap, ◌∙◌, inl, inr, arith, subst, codes}
+use Rattle.std.specs.Str.{bytes_eq}
+use Rattle.std.proofs.lemmas.Option.{some_pair_parts}
+use Rattle.std.proofs.lemmas.Grind.{common_steps}
+use Rattle.af_base.specs.declared.events.Step.{Step}
+use Rattle.af_base.specs.declared.events.Step.TheVariants as step
+use Rattle.af_base.specs.declared.events.Event.{Event}
+use Rattle.af_base.specs.declared.events.Event.TheVariants as event
+use Rattle.scm_lines.specs.Words.{at_end, word_in, words_of}
+use Rattle.scm_lines.specs.Numbers.{number_in}
+use Rattle.scm_lines.specs.Payload.{payload_of}
+use Rattle.scm_lines.specs.Attached.{attached_of}
+use Rattle.scm_lines.specs.Keywords.{opening_of, type_of, verb_of}
+use Rattle.scm_lines.specs.Lines.{all_printable, close_of, event_of, is_comment, line_of, opened_by, pair_of, privilege_of, process_of, recv_of, send_of, spawn_of, step_of, words_say}
+use Rattle.scm_lines.specs.Says.{IsLine, IsNumber, Says, SaysStep, type_name}
+use Rattle.scm_lines.specs.declared.keywords.Opening.{Opening}
+use Rattle.scm_lines.specs.declared.keywords.Opening.TheVariants as opening
+use Rattle.scm_lines.specs.declared.keywords.Verb.{Verb}
+use Rattle.scm_lines.specs.declared.keywords.Verb.TheVariants as verb
+use Rattle.scm_lines.specs.declared.line.Line.{Line}
+use Rattle.scm_lines.specs.declared.line.Line.TheVariants as line
+use Rattle.scm_lines.specs.declared.line.TheConstants.{MAX_LINE}
+use Rattle.scm_lines.proofs.Choices.{allowed, bound, chosen, ended, mapped, same_word}
+use Rattle.scm_lines.proofs.NumberLemmas.{number_first}
+use Rattle.scm_lines.proofs.PayloadSays.{payload_said}
+use Rattle.scm_lines.proofs.AttachedSays.{attached_said}
+use Rattle.scm_lines.proofs.KeywordLemmas.{Opens, opening_said, type_said, verb_name, verb_said}
+
+abbrev onto : List ℕ → List (List ℕ) → List (List ℕ)
+onto word words = word ∷ words
+
+word_first : (words : List (List ℕ)) (a : List ℕ) (rest : List (List ℕ)) → word_in words ≡ Some (a, rest) → words ≡ a ∷ rest
+word_first [] a rest e = cc
+word_first (x ∷ words) a rest e = let (p, q) = some_pair_parts x a words rest e in cc
+
+-- ---- spawn
+
+privileged : (words : List (List ℕ)) (p : Bool) → privilege_of words ≡ Some p → ((p ≡ false) × (words ≡ [])) ⊎ ((p ≡ true) × (words ≡ codes "priv" ∷ []))
+privileged [] p e = inl (cc, refl)
+privileged (word ∷ words) p e =
+    let (test, same) = allowed (bytes_eq word (codes "priv")) (at_end true words) p e in
+    let (none, is) = ended true p words same in
+    inr (sym is, ap (onto word) none ∙ ap (λ (w : List ℕ). w ∷ []) (same_word word (codes "priv") test))
+
+spawn_said : (words : List (List ℕ)) (ev : Event) → spawn_of words ≡ Some ev → Says (codes "spawn" ∷ words) (line.Event ev)
+unfolding spawn_of
+spawn_said words ev e =
+    let (uid, (e1, f1)) = bound (number_in words) _ ev e in
+    let (nofile, (e2, f2)) = bound (number_in uid.1) _ ev f1 in
+    let (priv, (e3, f3)) = bound (privilege_of nofile.1) _ ev f2 in
+    let (a, (w1, n1)) = number_first words uid.0 uid.1 e1 in
+    let (b, (w2, n2)) = number_first uid.1 nofile.0 nofile.1 e2 in
+    elim (privileged nofile.1 priv e3) [
+      | inl (plain, w3) ↦ let whole : words ≡ a ∷ b ∷ [] = cc in
+          let is : ev ≡ event.Spawn uid.0 nofile.0 false = cc in
+          rw is (a, b, (ap (onto (codes "spawn")) whole, n1, n2))
+      | inr (granted, w3) ↦ let whole : words ≡ a ∷ b ∷ codes "priv" ∷ [] = cc in
+          let is : ev ≡ event.Spawn uid.0 nofile.0 true = cc in
+          rw is (a, b, (ap (onto (codes "spawn")) whole, n1, n2))
+    ]
+
+-- ---- steps
+
+close_said : (words : List (List ℕ)) (st : Step) → close_of words ≡ Some st → SaysStep (codes "close" ∷ words) st
+unfolding close_of
+close_said words st e =
+    let (fd, (e1, f1)) = bound (number_in words) _ st e in
+    let (a, (w1, n1)) = number_first words fd.0 fd.1 e1 in
+    let (none, is) = ended (step.Close fd.0) st fd.1 f1 in
+    let whole : words ≡ a ∷ [] = w1 ∙ ap (onto a) none in
+    rw (← is) (a, (ap (onto (codes "close")) whole, n1))
+
+pair_said : (words : List (List ℕ)) (st : Step) → pair_of words ≡ Some st → SaysStep (codes "pair" ∷ words) st
+unfolding pair_of
+pair_said words st e =
+    let (word, (e1, f1)) = bound (word_in words) _ st e in
+    let (kind, (e2, f2)) = bound (type_of word.0) _ st f1 in
+    let (none, is) = ended (step.Pair kind) st word.1 f2 in
+    let whole : words ≡ type_name kind ∷ [] = word_first words word.0 word.1 e1 ∙ ap (onto word.0) none ∙ ap (λ (w : List ℕ). w ∷ []) (type_said word.0 kind e2) in
+    rw (← is) (ap (onto (codes "pair")) whole)
+
+send_said : (words : List (List ℕ)) (st : Step) → send_of words ≡ Some st → SaysStep (codes "send" ∷ words) st
+unfolding send_of
+send_said words st e =
+    let (on, (e1, f1)) = bound (number_in words) _ st e in
+    let (word, (e2, f2)) = bound (word_in on.1) _ st f1 in
+    let (bytes, (e3, f3)) = bound (payload_of word.0) _ st f2 in
+    let (attach, (e4, f4)) = bound (attached_of word.1) _ st f3 in
+    let (a, (w1, n1)) = number_first words on.0 on.1 e1 in
+    let whole : words ≡ a ∷ word.0 ∷ word.1 = w1 ∙ ap (onto a) (word_first on.1 word.0 word.1 e2) in
+    let is : step.Send on.0 bytes attach ≡ st = cc in
+    rw (← is) (a, word.0, (word.1, ap (onto (codes "send")) whole, n1, payload_said word.0 bytes e3, attached_said word.1 attach e4))
+
+recv_said : (words : List (List ℕ)) (st : Step) → recv_of words ≡ Some st → SaysStep (codes "recv" ∷ words) st
+unfolding recv_of
+recv_said words st e =
+    let (on, (e1, f1)) = bound (number_in words) _ st e in
+    let (max_bytes, (e2, f2)) = bound (number_in on.1) _ st f1 in
+    let (max_fds, (e3, f3)) = bound (number_in max_bytes.1) _ st f2 in
+    let (a, (w1, n1)) = number_first words on.0 on.1 e1 in
+    let (b, (w2, n2)) = number_first on.1 max_bytes.0 max_bytes.1 e2 in
+    let (c, (w3, n3)) = number_first max_bytes.1 max_fds.0 max_fds.1 e3 in
+    let (none, is) = ended (step.Recv on.0 max_bytes.0 max_fds.0) st max_fds.1 f3 in
+    let whole : words ≡ a ∷ b ∷ c ∷ [] = cc in
+    rw (← is) (a, b, c, (ap (onto (codes "recv")) whole, n1, n2, n3))
+
+step_said : (v : Verb) (words : List (List ℕ)) (st : Step) → step_of v words ≡ Some st → SaysStep (verb_name v ∷ words) st
+unfolding step_of
+step_said verb.Close = close_said
+step_said verb.Pair = pair_said
+step_said verb.Send = send_said
+step_said verb.Recv = recv_said
+
+-- ---- lines
+
+process_said : (a : List ℕ) (pid : ℕ) (words : List (List ℕ)) (ev : Event) → IsNumber a pid → process_of pid words ≡ Some ev → Says (a ∷ words) (line.Event ev)
+unfolding process_of
+process_said a pid words ev number e =
+    let (word, (e1, f1)) = bound (word_in words) _ ev e in
+    let (v, (e2, f2)) = bound (verb_of word.0) _ ev f1 in
+    let (st, (e3, f3)) = bound (step_of v word.1) _ ev f2 in
+    let is : event.Proc pid st ≡ ev = cc in
+    let whole : words ≡ verb_name v ∷ word.1 = word_first words word.0 word.1 e1 ∙ ap (λ (w : List ℕ). w ∷ word.1) (verb_said word.0 v e2) in
+    rw (← is) (a, (words, refl, number, subst (λ (ws : List (List ℕ)). SaysStep ws st) (sym whole) (step_said v word.1 st e3)))
+
+opened_said : (word : List ℕ) (o : Opening) (words : List (List ℕ)) (ev : Event) → Opens word o → opened_by o words ≡ Some ev → Says (word ∷ words) (line.Event ev)
+opened_said word opening.Spawn words ev opens e = subst (λ (w : List ℕ). Says (w ∷ words) (line.Event ev)) (sym opens) (spawn_said words ev e)
+opened_said word (opening.Process pid) words ev opens e = process_said word pid words ev opens e
+
+event_said : (word : List ℕ) (words : List (List ℕ)) (ev : Event) → event_of word words ≡ Some ev → Says (word ∷ words) (line.Event ev)
+unfolding event_of
+event_said word words ev e =
+    let (o, (e1, f1)) = bound (opening_of word) (λ o. opened_by o words) ev e in
+    opened_said word o words ev (opening_said word o e1) f1
+
+words_said : (words : List (List ℕ)) (said : Line) → words_say words ≡ Some said → Says words said
+words_said [] said e = let is : line.Silence ≡ said = cc in rw (← is) refl
+words_said (word ∷ words) said e = let (ev, (e1, is)) = mapped line.Event (event_of word words) said e in subst (λ (l : Line). Says (word ∷ words) l) is (event_said word words ev e1)
+
+pub line_said : (bytes : List ℕ) (said : Line) → line_of bytes ≡ Some said → IsLine bytes said
+unfolding line_of
+line_said bytes said e = elim (chosen (nat_lt MAX_LINE (length bytes)) None _ _ e) [
+  | inl (long, e1) ↦ cc
+  | inr (t, e2) ↦ (within (length bytes) t, by_comment e2)
+]
+  where
+    within : (n : ℕ) → nat_lt MAX_LINE n ≡ false → n ≤ MAX_LINE
+    within n t = grind (arith, common_steps)
+
+    by_comment : cond (is_comment bytes) (Some line.Silence) (cond (all_printable bytes) (words_say (words_of bytes)) None) ≡ Some said
+        → ((is_comment bytes ≡ true) × (said ≡ line.Silence)) ⊎ ((is_comment bytes ≡ false) × (all_printable bytes ≡ true) × Says (words_of bytes) said)
+    by_comment e = elim (chosen (is_comment bytes) _ _ _ e) [
+      | inl (t, e1) ↦ inl (t, cc)
+      | inr (f, e2) ↦ let (printable, e3) = allowed (all_printable bytes) _ said e2 in inr (f, printable, words_said (words_of bytes) said e3)
+    ]

@@ -1,0 +1,82 @@
+-- A numeral is the decimal digits of its number.
+use Rattle.std.proofs.Common.{◌≡◌, ℕ, ◌^◌, ◌<◌, ◌≤◌, ◌==◌, ◌&&◌, List, [], ◌∷◌, Bool, true, false, length, Some, refl, sym, ap, ◌∙◌, arith, rules, subst, get_or, nat_lt, suc, zero}
+use Rattle.std.specs.Str.{bytes_eq}
+use Rattle.std.specs.Fmt.{decimal}
+use Rattle.std.proofs.lemmas.Slice.Eq.{bytes_eq-Decides}
+use Rattle.std.proofs.lemmas.Fmt.{decimal_digit, decimal_nonempty, digits_decimal, digits_value-decimal, first_decimal, length-decimal-le, decimal-digits_value}
+use Rattle.std.proofs.lemmas.Str.Parse.{IsNumeralModel, numerals_by_fold}
+use Rattle.std.proofs.lemmas.Grind.{common_steps}
+use Rattle.scm_lines.specs.Numbers.{all_digits, is_numeral, leads_with_zero, number_in, number_of, value_on}
+use Rattle.scm_lines.specs.Says.{IsNumber}
+use Rattle.scm_lines.proofs.Choices.{guarded, mapped, split_and}
+
+own : IsNumeralModel (λ ds. all_digits ds ≡ true) (value_on 0)
+own = numerals_by_fold _ (search rules) value_on (search rules)
+
+-- ---- a number that is read
+
+lone_zero : (word : List ℕ) → 0 < length word → leads_with_zero word ≡ false → get_or word 0 0 ≡ 48 → length word ≡ 1
+lone_zero [] some lead first = absurd (omega arith)
+lone_zero (b ∷ []) some lead first = refl
+lone_zero (b ∷ c ∷ bytes) some lead first = ten_lead b first lead
+  where
+    ten_lead : (b : ℕ) → b ≡ 48 → (b == 48) ≡ false → length (b ∷ c ∷ bytes) ≡ 1
+    ten_lead b same lead = absurd (grind (arith, common_steps))
+
+numeral_parts : (word : List ℕ) → is_numeral word ≡ true → (0 < length word) × (all_digits word ≡ true) × (leads_with_zero word ≡ false)
+numeral_parts word e = (grind (arith, common_steps), grind (arith, common_steps), grind (arith, common_steps))
+
+pub number_said : (word : List ℕ) (n : ℕ) → number_of word ≡ Some n → IsNumber word n
+number_said word n e =
+    let (test, same) = guarded (is_numeral word && nat_lt (value_on 0 word) (2 ^ 32)) (value_on 0 word) n e in
+    let (numeral, small) = split_and (is_numeral word) (nat_lt (value_on 0 word) (2 ^ 32)) test in
+    let (some, digits, lead) = numeral_parts word numeral in
+    let below : value_on 0 word < 2 ^ 32 = grind (arith, common_steps) in
+    let text : decimal (value_on 0 word) ≡ word = decimal-digits_value own word digits some (lone_zero word some lead) (omega arith) in
+    (subst (λ (k : ℕ). k < 2 ^ 32) same below, sym text ∙ ap decimal same)
+
+pub number_first : (words : List (List ℕ)) (n : ℕ) (rest : List (List ℕ)) → number_in words ≡ Some (n, rest) → (a : List ℕ) × ((words ≡ a ∷ rest) × IsNumber a n)
+number_first [] n rest e = cc
+number_first (a ∷ words) n rest e =
+    let (k, (found, same)) = mapped (λ (m : ℕ). (m, words)) (number_of a) (n, rest) e in
+    (a, (ap (λ (l : List (List ℕ)). a ∷ l) (ap (λ (p : ℕ × List (List ℕ)). p.1) same), number_said a n (found ∙ ap Some (ap (λ (p : ℕ × List (List ℕ)). p.0) same))))
+
+-- ---- a number that is said
+
+no_lead : (word : List ℕ) → 48 < get_or word 0 0 → leads_with_zero word ≡ false
+no_lead [] h = refl
+no_lead (b ∷ []) h = refl
+no_lead (b ∷ c ∷ bytes) h = above b h
+  where
+    above : (b : ℕ) → 48 < b → (b == 48) ≡ false
+    above b h = grind (arith, common_steps)
+
+decimal_lead : (n : ℕ) → n < 2 ^ 32 → leads_with_zero (decimal n) ≡ false
+decimal_lead zero h = rw (decimal_digit 0 (omega arith)) refl
+decimal_lead (suc n) h = no_lead (decimal (suc n)) (first_decimal (suc n) (omega arith) (omega arith))
+
+decimal_numeral : (n : ℕ) → n < 2 ^ 32 → is_numeral (decimal n) ≡ true
+decimal_numeral n h =
+    let digits : all_digits (decimal n) ≡ true = digits_decimal own n (omega arith) in
+    let lead = decimal_lead n h in
+    let some : 0 < length (decimal n) = decimal_nonempty n (omega arith) in
+    let few : length (decimal n) ≤ 10 = length-decimal-le 10 n (omega arith) (omega arith) (omega arith) in
+    grind (arith, common_steps)
+
+pub number_read : (word : List ℕ) (n : ℕ) → IsNumber word n → number_of word ≡ Some n
+number_read word n (small, text) =
+    let numeral = decimal_numeral n small in
+    let value : value_on 0 (decimal n) ≡ n = digits_value-decimal own n (omega arith) in
+    let below : nat_lt n (2 ^ 32) ≡ true = grind (arith, common_steps) in
+    rw (text, numeral, value, below) refl
+
+pub number_digits : (word : List ℕ) (n : ℕ) → IsNumber word n → all_digits word ≡ true
+number_digits word n (small, e) = subst (λ (w : List ℕ). all_digits w ≡ true) (sym e) (digits_decimal own n (omega arith))
+
+-- a number is no keyword
+pub no_keyword : (word text : List ℕ) (n : ℕ) → IsNumber word n → all_digits text ≡ false → bytes_eq word text ≡ false
+no_keyword word text n number h = go (bytes_eq word text) refl (number_digits word n number)
+  where
+    go : (b : Bool) → bytes_eq word text ≡ b → all_digits word ≡ true → b ≡ false
+    go true t digits = let same : word ≡ text = (bytes_eq-Decides word text).0 t in cc
+    go false t digits = refl

@@ -1,0 +1,11 @@
+-- Bytes in front of what the rest of a word stands for.
+use Rattle.std.proofs.Common.{◌≡◌, ℕ, List, [], ◌∷◌, ◌++◌, Option, Some, None, refl, sym, ap, append_assoc}
+use Rattle.scm_lines.specs.Payload.{byte_before}
+
+abbrev pub bytes_before : List ℕ → Option (List ℕ) → Option (List ℕ)
+bytes_before front None = None
+bytes_before front (Some bytes) = Some (front ++ bytes)
+
+pub bytes_before_more : (front : List ℕ) (b : ℕ) (rest : Option (List ℕ)) → bytes_before front (byte_before (Some b) rest) ≡ bytes_before (front ++ b ∷ []) rest
+bytes_before_more front b None = refl
+bytes_before_more front b (Some bytes) = ap Some (sym (append_assoc front (b ∷ []) bytes))

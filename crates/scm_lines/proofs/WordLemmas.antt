@@ -1,0 +1,35 @@
+-- Words that are found from their front.
+use Rattle.std.proofs.Common.{◌≡◌, ℕ, List, [], ◌∷◌, ◌++◌, Bool, true, false, cond, refl, sym, ap, append_assoc}
+use Rattle.scm_lines.specs.Words.{is_blank, ends_word, onto_word, words_of}
+
+-- the front of a word before the words of the rest
+abbrev pub front_of_word : List ℕ → List (List ℕ) → List (List ℕ)
+front_of_word front [] = front ∷ []
+front_of_word front (word ∷ words) = (front ++ word) ∷ words
+
+-- the words where a word has begun with this front
+abbrev pub words_after : List ℕ → List ℕ → List (List ℕ)
+words_after front rest = cond (ends_word rest) (front ∷ words_of rest) (front_of_word front (words_of rest))
+
+front-onto : (front : List ℕ) (b : ℕ) (words : List (List ℕ)) → front_of_word front (onto_word b words) ≡ front_of_word (front ++ b ∷ []) words
+front-onto front b [] = refl
+front-onto front b (word ∷ words) = ap (λ w. w ∷ words) (sym (append_assoc front (b ∷ []) word))
+
+pub words_after-more : (front : List ℕ) (b : ℕ) (rest : List ℕ) → is_blank b ≡ false → words_after front (b ∷ rest) ≡ words_after (front ++ b ∷ []) rest
+words_after-more front b [] h = rw h refl
+words_after-more front b (c ∷ rest) h = rw h (by_end (is_blank c))
+  where
+    by_end : (ends : Bool) → front_of_word front (cond ends ((b ∷ []) ∷ words_of (c ∷ rest)) (onto_word b (words_of (c ∷ rest))))
+        ≡ cond ends ((front ++ b ∷ []) ∷ words_of (c ∷ rest)) (front_of_word (front ++ b ∷ []) (words_of (c ∷ rest)))
+    by_end true = refl
+    by_end false = front-onto front b (words_of (c ∷ rest))
+
+-- the first byte of a word
+pub words_of-first : (b : ℕ) (rest : List ℕ) → is_blank b ≡ false → words_of (b ∷ rest) ≡ words_after (b ∷ []) rest
+words_of-first b [] h = rw h refl
+words_of-first b (c ∷ rest) h = rw h (by_end (is_blank c) (words_of (c ∷ rest)))
+  where
+    by_end : (ends : Bool) (words : List (List ℕ)) → cond ends ((b ∷ []) ∷ words) (onto_word b words) ≡ cond ends ((b ∷ []) ∷ words) (front_of_word (b ∷ []) words)
+    by_end true words = refl
+    by_end false [] = refl
+    by_end false (word ∷ words) = refl

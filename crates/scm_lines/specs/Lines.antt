@@ -1,0 +1,116 @@
+-- What a line says. This project's profile.
+use Rattle.std.specs.Prelude.{ℕ, ◌==◌, ◌&&◌, ◌||◌, nat_le, nat_lt, List, [], ◌∷◌, length, Bool, true, false, if◌then◌else◌, Option, Some, None, codes}
+use Rattle.std.specs.Option.{option_map}
+use Rattle.std.specs.Str.{bytes_eq}
+use Rattle.af_base.specs.declared.events.Step.{Step}
+use Rattle.af_base.specs.declared.events.Step.TheVariants as step
+use Rattle.af_base.specs.declared.events.Event.{Event}
+use Rattle.af_base.specs.declared.events.Event.TheVariants as event
+use Rattle.scm_lines.specs.Words.{at_end, is_blank, word_in, words_of}
+use Rattle.scm_lines.specs.Numbers.{number_in}
+use Rattle.scm_lines.specs.Payload.{payload_of}
+use Rattle.scm_lines.specs.Attached.{attached_of}
+use Rattle.scm_lines.specs.Keywords.{opening_of, type_of, verb_of}
+use Rattle.scm_lines.specs.declared.keywords.Opening.{Opening}
+use Rattle.scm_lines.specs.declared.keywords.Opening.TheVariants as opening
+use Rattle.scm_lines.specs.declared.keywords.Verb.{Verb}
+use Rattle.scm_lines.specs.declared.keywords.Verb.TheVariants as verb
+use Rattle.scm_lines.specs.declared.line.Line.{Line}
+use Rattle.scm_lines.specs.declared.line.Line.TheVariants as line
+use Rattle.scm_lines.specs.declared.line.TheConstants.{MAX_LINE}
+
+-- What follows from a thing that was read, where it was.
+infixl 10 ◌>>=◌
+abbrev pub ◌>>=◌ : {A B : Type 0} → Option A → (A → Option B) → Option B
+None >>= next = None
+(Some x) >>= next = next x
+
+-- No word, or priv alone.
+abbrev pub privilege_of : List (List ℕ) → Option Bool
+privilege_of [] = Some false
+privilege_of (word ∷ words) = if bytes_eq word (codes "priv") then at_end true words else None
+
+-- After spawn: the user, the limit, and the privilege.
+unfoldable pub spawn_of : List (List ℕ) → Option Event
+spawn_of words = do
+  uid ← number_in words
+  nofile ← number_in uid.1
+  privileged ← privilege_of nofile.1
+  Some (event.Spawn uid.0 nofile.0 privileged)
+
+-- After close: the number.
+unfoldable pub close_of : List (List ℕ) → Option Step
+close_of words = do
+  fd ← number_in words
+  at_end (step.Close fd.0) fd.1
+
+-- After pair: the type.
+unfoldable pub pair_of : List (List ℕ) → Option Step
+pair_of words = do
+  word ← word_in words
+  sockets ← type_of word.0
+  at_end (step.Pair sockets) word.1
+
+-- After send: the socket, the bytes, and the items.
+unfoldable pub send_of : List (List ℕ) → Option Step
+send_of words = do
+  on ← number_in words
+  word ← word_in on.1
+  bytes ← payload_of word.0
+  attach ← attached_of word.1
+  Some (step.Send on.0 bytes attach)
+
+-- After recv: the socket, the most bytes, and the most descriptors.
+unfoldable pub recv_of : List (List ℕ) → Option Step
+recv_of words = do
+  on ← number_in words
+  max_bytes ← number_in on.1
+  max_fds ← number_in max_bytes.1
+  at_end (step.Recv on.0 max_bytes.0 max_fds.0) max_fds.1
+
+-- The step that a verb and the words after it say.
+unfoldable pub step_of : Verb → List (List ℕ) → Option Step
+step_of verb.Close words = close_of words
+step_of verb.Pair words = pair_of words
+step_of verb.Send words = send_of words
+step_of verb.Recv words = recv_of words
+
+-- What a process does, by the words after its number.
+unfoldable pub process_of : ℕ → List (List ℕ) → Option Event
+process_of pid words = do
+  word ← word_in words
+  verb ← verb_of word.0
+  step ← step_of verb word.1
+  Some (event.Proc pid step)
+
+-- The event that an opening and the words after it say.
+abbrev pub opened_by : Opening → List (List ℕ) → Option Event
+opened_by opening.Spawn words = spawn_of words
+opened_by (opening.Process pid) words = process_of pid words
+
+-- The event of a line that begins with this word.
+unfoldable pub event_of : List ℕ → List (List ℕ) → Option Event
+event_of word words = opening_of word >>= λ opening. opened_by opening words
+
+-- No byte but those from 0x20 to 0x7E and the tab.
+abbrev pub all_printable : List ℕ → Bool
+all_printable [] = true
+all_printable (b ∷ bytes) = ((nat_le 32 b && nat_le b 126) || (b == 9)) && all_printable bytes
+
+-- The first word begins with #.
+abbrev pub is_comment : List ℕ → Bool
+is_comment [] = false
+is_comment (b ∷ bytes) = if is_blank b then is_comment bytes else b == 35
+
+-- What the words of a line say.
+abbrev pub words_say : List (List ℕ) → Option Line
+words_say [] = Some line.Silence
+words_say (word ∷ words) = option_map line.Event (event_of word words)
+
+-- What a line says, without its end, where it can be read.
+unfoldable pub line_of : List ℕ → Option Line
+line_of bytes =
+    if nat_lt MAX_LINE (length bytes) then None
+    else if is_comment bytes then Some line.Silence
+    else if all_printable bytes then words_say (words_of bytes)
+    else None

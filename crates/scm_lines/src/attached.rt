@@ -1,0 +1,71 @@
+//! The descriptors that go with a message, as the last words of a line list them.
+ghost use Rattle.std.specs.Prelude.{◌≡◌, ◌≤◌, ◌<◌, ◌==◌, ◌++◌, IfOk, IfSome, OnOk, length, position, replicate};
+ghost use Rattle.std.specs.Option.{option_map};
+ghost use Rattle.scm_lines.specs.Words.{words_of};
+ghost use Rattle.scm_lines.specs.Attached.{item_of, attached_of};
+
+use crate::numbers::number;
+use crate::words::first_word;
+use af_base::items::Items;
+use af_base::names::Fd;
+use std::alloc::{AllocError, Global};
+
+/// The most descriptors that one item stands for, and all items of a line together.
+const MAX_ATTACHED: usize = 1024;
+
+/// Where the first `*` stands.
+fn star_at(word: &[u8]) -> Option<usize>
+    ensures value { result ≡ position (λ b. b == 42) word.now }
+    ensures within { IfSome result (λ i. i < length word.now) }
+{
+    word.iter().position(|b| *b == b'*')
+}
+
+/// A descriptor, and how often it is named.
+fn item(word: &[u8]) -> Option<(Fd, usize)>
+    ensures value { option_map (λ found. replicate found.1 found.0) result ≡ item_of word.now }
+    ensures few { IfSome result (λ found. found.1 ≤ 1024) }
+{
+    let Some(at) = star_at(word) else {
+        return Some((Fd(number(word)?), 1));
+    };
+    let (front, _) = word.split_at(at);
+    let (_, back) = word.split_at(at + 1);
+    let fd = number(front)?;
+    let copies = number(back)? as usize;
+    if 1 <= copies && copies <= MAX_ATTACHED {
+        Some((Fd(fd), copies))
+    } else {
+        None
+    }
+}
+
+/// Copies of a descriptor at the end.
+fn push_copies(fds: &mut Vec<Fd>, fd: Fd, copies: usize) -> Result<(), AllocError>
+    ensures { OnOk result (fds.new.items ≡ fds.old.items ++ replicate copies fd) }
+{
+    for _ in 0..copies {
+        fds.push(fd)?;
+    }
+    Ok(())
+}
+
+/// The descriptors of all items that are left. No more than a line may have are ever held.
+#[tactic(auto, using(crate::proofs::AttachedLemmas::items_before_more, crate::proofs::AttachedLemmas::items_before_over))]
+pub fn attached(alloc: Global, bytes: &[u8]) -> Result<Option<Items<Fd>>, AllocError>
+    ensures { IfOk result (λ found. found ≡ attached_of (words_of bytes.now)) }
+{
+    let mut fds = Vec::new(alloc);
+    let mut rest = bytes;
+    while let Some((word, tail)) = first_word(rest) {
+        let Some((fd, copies)) = item(word) else {
+            return Ok(None);
+        };
+        if fds.len() + copies > MAX_ATTACHED {
+            return Ok(None);
+        }
+        push_copies(&mut fds, fd, copies)?;
+        rest = tail;
+    }
+    Ok(Some(Items::of(fds)))
+}

@@ -1,0 +1,139 @@
+//! The forms of a line: one function for each, over the words after its keyword.
+ghost use Rattle.std.specs.Prelude.{◌≡◌, IfOk};
+ghost use Rattle.scm_lines.specs.Words.{words_of};
+ghost use Rattle.scm_lines.specs.Lines.{privilege_of, spawn_of, close_of, pair_of, send_of, recv_of, step_of, process_of, event_of};
+
+use crate::attached::attached;
+use crate::keywords::{Opening, Verb, opening_named, type_named, verb_named};
+use crate::numbers::number_in;
+use crate::payload::payload;
+use crate::words::{first_word, is_end};
+use af_base::events::{Event, Step};
+use af_base::names::{Fd, Pid, Uid};
+use std::alloc::{AllocError, Global};
+
+/// Whether `priv` is the only word left, or none is.
+fn privilege(bytes: &[u8]) -> Option<bool>
+    ensures { result ≡ privilege_of (words_of bytes.now) }
+{
+    match first_word(bytes) {
+        None => Some(false),
+        Some((b"priv", rest)) if is_end(rest) => Some(true),
+        Some(_) => None,
+    }
+}
+
+/// `spawn N N` and `spawn N N priv`.
+#[tactic(auto, unfolding(crate::specs::Lines::spawn_of))]
+fn spawn(bytes: &[u8]) -> Option<Event>
+    ensures { result ≡ spawn_of (words_of bytes.now) }
+{
+    let (uid, rest) = number_in(bytes)?;
+    let (nofile, rest) = number_in(rest)?;
+    let privileged = privilege(rest)?;
+    Some(Event::Spawn {
+        uid: Uid(uid),
+        nofile,
+        privileged,
+    })
+}
+
+/// `P close N`.
+#[tactic(auto, unfolding(crate::specs::Lines::close_of))]
+fn close(bytes: &[u8]) -> Option<Step>
+    ensures { result ≡ close_of (words_of bytes.now) }
+{
+    let (fd, rest) = number_in(bytes)?;
+    is_end(rest).then_some(Step::Close(Fd(fd)))
+}
+
+/// `P pair TYPE`.
+#[tactic(auto, unfolding(crate::specs::Lines::pair_of))]
+fn pair(bytes: &[u8]) -> Option<Step>
+    ensures { result ≡ pair_of (words_of bytes.now) }
+{
+    let (word, rest) = first_word(bytes)?;
+    let sockets = type_named(word)?;
+    is_end(rest).then_some(Step::Pair(sockets))
+}
+
+/// `P recv N N N`.
+#[tactic(auto, unfolding(crate::specs::Lines::recv_of))]
+fn recv(bytes: &[u8]) -> Option<Step>
+    ensures { result ≡ recv_of (words_of bytes.now) }
+{
+    let (on, rest) = number_in(bytes)?;
+    let (max_bytes, rest) = number_in(rest)?;
+    let (max_fds, rest) = number_in(rest)?;
+    is_end(rest).then_some(Step::Recv {
+        on: Fd(on),
+        max_bytes,
+        max_fds,
+    })
+}
+
+/// `P send N BYTES` and then items.
+#[tactic(auto, unfolding(crate::specs::Lines::send_of))]
+fn send(alloc: Global, bytes: &[u8]) -> Result<Option<Step>, AllocError>
+    ensures { IfOk result (λ found. found ≡ send_of (words_of bytes.now)) }
+{
+    let Some((on, rest)) = number_in(bytes) else {
+        return Ok(None);
+    };
+    let Some((word, rest)) = first_word(rest) else {
+        return Ok(None);
+    };
+    let Some(bytes) = payload(alloc, word)? else {
+        return Ok(None);
+    };
+    let Some(attach) = attached(alloc, rest)? else {
+        return Ok(None);
+    };
+    Ok(Some(Step::Send {
+        on: Fd(on),
+        bytes,
+        attach,
+    }))
+}
+
+/// The step that this verb begins.
+#[tactic(auto, unfolding(crate::specs::Lines::step_of))]
+fn step(alloc: Global, verb: Verb, rest: &[u8]) -> Result<Option<Step>, AllocError>
+    ensures { IfOk result (λ found. found ≡ step_of verb (words_of rest.now)) }
+{
+    match verb {
+        Verb::Close => Ok(close(rest)),
+        Verb::Pair => Ok(pair(rest)),
+        Verb::Send => send(alloc, rest),
+        Verb::Recv => Ok(recv(rest)),
+    }
+}
+
+/// What this process does.
+#[tactic(auto, unfolding(crate::specs::Lines::process_of))]
+fn process(alloc: Global, pid: Pid, bytes: &[u8]) -> Result<Option<Event>, AllocError>
+    ensures { IfOk result (λ found. found ≡ process_of pid (words_of bytes.now)) }
+{
+    let Some((word, rest)) = first_word(bytes) else {
+        return Ok(None);
+    };
+    let Some(verb) = verb_named(word) else {
+        return Ok(None);
+    };
+    let Some(step) = step(alloc, verb, rest)? else {
+        return Ok(None);
+    };
+    Ok(Some(Event::Proc(pid, step)))
+}
+
+/// The event of a line that begins with this word.
+#[tactic(auto, unfolding(crate::specs::Lines::event_of))]
+pub fn event(alloc: Global, word: &[u8], rest: &[u8]) -> Result<Option<Event>, AllocError>
+    ensures { IfOk result (λ found. found ≡ event_of word.now (words_of rest.now)) }
+{
+    match opening_named(word) {
+        None => Ok(None),
+        Some(Opening::Spawn) => Ok(spawn(rest)),
+        Some(Opening::Process(pid)) => process(alloc, Pid(pid), rest),
+    }
+}

@@ -1,0 +1,68 @@
+//! One line of a script.
+ghost use Rattle.std.specs.Prelude.{◌≡◌, IfOk};
+ghost use Rattle.scm_lines.specs.Lines.{all_printable, is_comment, line_of};
+
+use crate::forms::event;
+use crate::words::{first_word, is_blank};
+use af_base::events::Event;
+use std::alloc::{AllocError, Global};
+
+/// The most bytes of a line, without its end.
+pub const MAX_LINE: usize = 262_144;
+
+/// What a line says.
+#[derive(Debug, PartialEq, Eq, Drop)]
+pub enum Line {
+    /// Nothing: it has no words, or is a comment.
+    Silence,
+    /// An event.
+    Event(Event),
+}
+
+/// Whether each byte is a printable ASCII character, a space or a tab.
+fn all_printable(bytes: &[u8]) -> bool
+    ensures { result ≡ all_printable bytes.now }
+{
+    for b in bytes {
+        if !matches!(*b, b' '..=b'~' | b'\t') {
+            return false;
+        }
+    }
+    true
+}
+
+/// Whether the first word begins with `#`.
+fn is_comment(bytes: &[u8]) -> bool
+    ensures { result ≡ is_comment bytes.now }
+{
+    for b in bytes {
+        if !is_blank(*b) {
+            return *b == b'#';
+        }
+    }
+    false
+}
+
+/// What a line says, or `None` where it cannot be read.
+///
+/// `bytes` is the line without its end: the caller takes off the LF, and one CR before it. A line
+/// of more than [`MAX_LINE`] bytes cannot be read, not even a comment. Only `send` takes memory, for
+/// its bytes and its descriptors; where it is refused, the call answers `AllocError`.
+#[tactic(auto, unfolding(crate::specs::Lines::line_of))]
+pub fn line_of(alloc: Global, bytes: &[u8]) -> Result<Option<Line>, AllocError>
+    ensures { IfOk result (λ found. found ≡ line_of bytes.now) }
+{
+    if bytes.len() > MAX_LINE {
+        return Ok(None);
+    }
+    if is_comment(bytes) {
+        return Ok(Some(Line::Silence));
+    }
+    if !all_printable(bytes) {
+        return Ok(None);
+    }
+    let Some((word, rest)) = first_word(bytes) else {
+        return Ok(Some(Line::Silence));
+    };
+    Ok(event(alloc, word, rest)?.map(|event| Line::Event(event)))
+}

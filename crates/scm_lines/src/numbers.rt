@@ -1,0 +1,36 @@
+//! Numbers in decimal digits.
+ghost use Rattle.std.specs.Prelude.{◌≡◌};
+ghost use Rattle.std.specs.Option.{option_map};
+ghost use Rattle.scm_lines.specs.Numbers.{number_of, number_in};
+ghost use Rattle.scm_lines.specs.Words.{words_of};
+
+use crate::words::first_word;
+
+/// The most digits of a number.
+const MAX_DIGITS: usize = 10;
+
+/// The number that a word stands for.
+pub fn number(word: &[u8]) -> Option<u32>
+    ensures { result ≡ number_of word.now }
+{
+    if word.is_empty() || word.len() > MAX_DIGITS || (word[0] == b'0' && word.len() > 1) {
+        return None;
+    }
+    let mut value: u64 = 0;
+    for b in word {
+        if !b.is_ascii_digit() {
+            return None;
+        }
+        value = value * 10 + u64::from(*b - b'0');
+    }
+    u32::try_from(value).ok()
+}
+
+/// The first word as a number, and the bytes after it.
+pub fn number_in(bytes: &[u8]) -> Option<(u32, &[u8])>
+    ensures { option_map (λ found. (found.0, words_of found.1.now)) result
+        ≡ number_in (words_of bytes.now) }
+{
+    let (word, rest) = first_word(bytes)?;
+    Some((number(word)?, rest))
+}

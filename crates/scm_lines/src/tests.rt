@@ -1,0 +1,139 @@
+//! Lines with what each says, from the worked examples of the script language.
+use crate::laws::{what_is_read_is_said, what_is_said_is_read};
+use crate::line::{Line, MAX_LINE, line_of};
+use af_base::events::{Event, SockType, Step};
+use af_base::items::Items;
+use af_base::names::{Fd, Pid, Uid};
+use std::alloc::AllocGlobal;
+use std::process::Abort;
+use std::test::Fail;
+
+/// Lines that cannot be read.
+const UNREADABLE: [&[u8]; 22] = [
+    b"spawn 01 4",
+    b"spawn 4294967296 4",
+    b"spawn 1 4 root",
+    b"spawn 1",
+    b"1 pair dgram",
+    b"1 pair stream",
+    b"1 send 0",
+    b"1 send 0 a%2",
+    b"1 send 0 a%2G",
+    b"1 send 0 *65538",
+    b"1 send 0 *01",
+    b"1 send 0 a 0*0",
+    b"1 send 0 a 0*1025",
+    b"1 send 0 a 0*1024 0",
+    b"1 send 0 a 0*01",
+    b"1 close 0 0",
+    b"1 recv 0 10",
+    b"1 open",
+    b"pass",
+    b"1 close 0\r",
+    b"\x0C",
+    b"1 close \xFF",
+];
+
+/// The line says this.
+fn said<T: Abort + AllocGlobal>(rt: &T, line: &[u8], wanted: Line) -> Result<(), Fail> {
+    let found = line_of(rt.alloc(), line)?;
+    assert_eq!(rt; found, Some(wanted));
+    Ok(())
+}
+
+/// The line says this step of process 1.
+fn stepped<T: Abort + AllocGlobal>(rt: &T, line: &[u8], wanted: Step) -> Result<(), Fail> {
+    said(rt, line, Line::Event(Event::Proc(Pid(1), wanted)))
+}
+
+#[test]
+fn spawn_lines(rt: HostRuntime) -> Result<(), Fail> {
+    let plain = Event::Spawn {
+        uid: Uid(1000),
+        nofile: 16,
+        privileged: false,
+    };
+    said(&rt, b"spawn 1000 16", Line::Event(plain))?;
+    let privileged = Event::Spawn {
+        uid: Uid(4_294_967_295),
+        nofile: 0,
+        privileged: true,
+    };
+    said(
+        &rt,
+        b"\t spawn  4294967295\t0 priv ",
+        Line::Event(privileged),
+    )
+}
+
+#[test]
+fn steps_with_numbers(rt: HostRuntime) -> Result<(), Fail> {
+    stepped(&rt, b"1 pair seqpacket", Step::Pair(SockType::Seqpacket))?;
+    stepped(&rt, b"1 close 2", Step::Close(Fd(2)))?;
+    let recv = Step::Recv {
+        on: Fd(0),
+        max_bytes: 10,
+        max_fds: 8,
+    };
+    stepped(&rt, b"1 recv 0 10 8", recv)
+}
+
+/// The line says that these bytes are sent on socket 0, and these descriptors with them.
+fn sent<T: Abort + AllocGlobal>(rt: &T, line: &[u8], bytes: &[u8], fds: &[Fd]) -> Result<(), Fail> {
+    let send = Step::Send {
+        on: Fd(0),
+        bytes: Items::of(bytes.to_vec(rt.alloc())?),
+        attach: Items::of(fds.to_vec(rt.alloc())?),
+    };
+    stepped(rt, line, send)
+}
+
+#[test]
+fn messages(rt: HostRuntime) -> Result<(), Fail> {
+    sent(&rt, b"1 send 0 hi", b"hi", &[])?;
+    sent(
+        &rt,
+        b"1 send 0 a%20b%25%41z.%0a 3*2 0",
+        b"a b%Az.\n",
+        &[Fd(3), Fd(3), Fd(0)],
+    )?;
+    sent(&rt, b"1 send 0 *0", b"", &[])
+}
+
+#[test]
+fn largest_message(rt: HostRuntime) -> Result<(), Fail> {
+    let bytes = vec![in rt.alloc(); b'x'; 65_537]?;
+    let fds = vec![in rt.alloc(); Fd(0); 1024]?;
+    sent(
+        &rt,
+        b"1 send 0 *65537 0*1024",
+        bytes.as_slice(),
+        fds.as_slice(),
+    )
+}
+
+#[test]
+fn silent_lines(rt: HostRuntime) -> Result<(), Fail> {
+    said(&rt, b"", Line::Silence)?;
+    said(&rt, b" \t", Line::Silence)?;
+    said(&rt, b"#\xFF", Line::Silence)?;
+    said(&rt, b" # 1 close 0", Line::Silence)?;
+    let blanks = vec![in rt.alloc(); b' '; MAX_LINE]?;
+    said(&rt, blanks.as_slice(), Line::Silence)
+}
+
+#[test]
+fn unreadable_lines(rt: HostRuntime) -> Result<(), Fail> {
+    for line in UNREADABLE {
+        assert_eq!(rt; line_of(rt.alloc(), line)?, None);
+    }
+    let long = vec![in rt.alloc(); b' '; MAX_LINE + 1]?;
+    assert_eq!(rt; line_of(rt.alloc(), long.as_slice())?, None);
+    Ok(())
+}
+
+#[test]
+fn laws_may_be_called() {
+    what_is_read_is_said();
+    what_is_said_is_read();
+}

@@ -1,0 +1,60 @@
+//! The words of a line, which spaces and tabs part.
+ghost use Rattle.std.specs.Prelude.{◌≡◌, ◌∷◌, ◌≤◌, ◌<◌, [], IfSome, IfNone, length, false};
+ghost use Rattle.scm_lines.specs.Words.{is_blank, words_of, ends_word, no_words, StartsWord};
+
+/// A space or a tab.
+pub fn is_blank(b: u8) -> bool
+    ensures { result ≡ is_blank b }
+{
+    b == b' ' || b == b'\t'
+}
+
+/// The bytes from the first that is no blank.
+fn without_blanks(bytes: &[u8]) -> &[u8]
+    ensures words { words_of result.now ≡ words_of bytes.now }
+    ensures starts { StartsWord result.now }
+    ensures shorter { length result.now ≤ length bytes.now }
+{
+    let mut rest = bytes;
+    while let [first, tail @ ..] = rest {
+        if !is_blank(*first) {
+            return rest;
+        }
+        rest = tail;
+    }
+    rest
+}
+
+/// The first word of bytes that begin with one, and the bytes after it.
+fn cut_word(bytes: &[u8]) -> (&[u8], &[u8])
+    requires { ends_word bytes.now ≡ false }
+    ensures word { words_of bytes.now ≡ result.0.now ∷ words_of result.1.now }
+    ensures shorter { length result.1.now < length bytes.now }
+{
+    let mut end = 1;
+    while end < bytes.len() && !is_blank(bytes[end]) {
+        end += 1;
+    }
+    bytes.split_at(end)
+}
+
+/// The first word, and the bytes after it.
+pub fn first_word(bytes: &[u8]) -> Option<(&[u8], &[u8])>
+    ensures some { IfSome result (λ found. words_of bytes.now ≡ found.0.now ∷ words_of found.1.now) }
+    ensures none { IfNone result (words_of bytes.now ≡ []) }
+    ensures shorter { IfSome result (λ found. length found.1.now < length bytes.now) }
+{
+    let start = without_blanks(bytes);
+    if start.is_empty() {
+        None
+    } else {
+        Some(cut_word(start))
+    }
+}
+
+/// Whether no word is left.
+pub fn is_end(bytes: &[u8]) -> bool
+    ensures { result ≡ no_words (words_of bytes.now) }
+{
+    first_word(bytes).is_none()
+}

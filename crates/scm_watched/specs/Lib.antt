@@ -1,0 +1,3 @@
+-- What a watched reader or writer has done.
+pub mod Watch
+pub mod Watched

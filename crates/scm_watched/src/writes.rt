@@ -1,0 +1,34 @@
+//! Writing all of some bytes, by as many writes as it takes.
+ghost use Rattle.std.specs.Prelude.{◌≡◌, OnOk, OnErr, true, false};
+ghost use Rattle.std.specs.Io.KnownBytes.{Appends};
+ghost use Rattle.scm_watched.specs.Watched.{AppendsFront};
+
+use super::watched::Watched;
+use std::io::Write;
+use thiserror::Error;
+
+/// A write failed, or took no byte of some.
+#[derive(Clone, Copy, Debug, PartialEq, Eq, Error)]
+#[error("writing failed")]
+pub struct WriteFailed;
+
+/// Writes all of the bytes, in as many writes as it takes.
+///
+/// A write that was interrupted is a failed one: there is no second try.
+pub fn write_whole<W: Write>(writer: &mut Watched<W>, bytes: &[u8]) -> Result<(), WriteFailed>
+    requires { writer.old.has_failed ≡ false }
+    ensures ok { OnOk result (Appends (W.contents writer.old.inner) (W.contents writer.new.inner) bytes.now) }
+    ensures ok_not_failed { OnOk result (writer.new.has_failed ≡ false) }
+    ensures err { OnErr result (AppendsFront (W.contents writer.old.inner) (W.contents writer.new.inner) bytes.now) }
+    ensures err_failed { OnErr result (writer.new.has_failed ≡ true) }
+{
+    let mut rest = bytes;
+    while !rest.is_empty() {
+        match writer.write(rest) {
+            Ok(0) => return Err(WriteFailed),
+            Ok(n) => rest = &rest[n..],
+            Err(_) => return Err(WriteFailed),
+        }
+    }
+    Ok(())
+}

@@ -1,0 +1,3 @@
+-- Lemmas.
+pub mod LinesLemmas
+pub mod RunLemmas

@@ -1,0 +1,50 @@
+-- The text of replies.
+use Rattle.std.specs.Prelude.{ℕ, ◌+◌, ◌/◌, ◌%◌, ◌==◌, ◌&&◌, ◌||◌, nat_le, nat_lt, length, List, [], ◌∷◌, ◌++◌, Bool, if◌then◌else◌, codes}
+use Rattle.std.specs.List.{flat_map}
+use Rattle.std.specs.Fmt.{decimal}
+use Rattle.af_base.specs.Errno.{name_of}
+use Rattle.af_base.specs.declared.events.Reply.{Reply}
+use Rattle.af_base.specs.declared.events.Reply.TheVariants as reply
+
+-- A letter, a digit, `_`, `-` or `.` is printed as itself. This project's profile.
+abbrev pub is_plain : ℕ → Bool
+is_plain b = (nat_le 48 b && nat_le b 57) || (nat_le 65 b && nat_le b 90) || (nat_le 97 b && nat_le b 122) || (b == 95) || (b == 45) || (b == 46)
+
+-- The capital hexadecimal digit of a number below 16.
+abbrev pub hex_digit : ℕ → ℕ
+hex_digit d = if nat_lt d 10 then 48 + d else 55 + d
+
+-- A byte as itself where it is plain, else % and its two hexadecimal digits. This project's profile.
+abbrev pub escaped : ℕ → List ℕ
+escaped b = if is_plain b then b ∷ [] else 37 ∷ hex_digit (b / 16) ∷ hex_digit (b % 16) ∷ []
+
+-- A number behind a space.
+abbrev pub spaced : ℕ → List ℕ
+spaced n = 32 ∷ decimal n
+
+-- ` fds` and the numbers in order, where there is one.
+abbrev pub fds_text : List ℕ → List ℕ
+fds_text fds = if length fds == 0 then [] else codes " fds" ++ flat_map spaced fds
+
+-- A word that stands only where a flag is set.
+abbrev pub flag_text : Bool → List ℕ → List ℕ
+flag_text flag word = if flag then word else []
+
+-- A reply without the end of its line. This project's profile.
+abbrev pub reply_text : Reply → List ℕ
+reply_text (reply.Pid pid) = codes "pid " ++ decimal pid
+reply_text (reply.Fd fd) = codes "fd " ++ decimal fd
+reply_text (reply.Fds first second) = codes "fds " ++ decimal first ++ spaced second
+reply_text reply.Ok = codes "ok"
+reply_text (reply.Sent count) = codes "sent " ++ decimal count
+reply_text (reply.Got bytes fds trunc ctrunc) =
+    codes "got " ++ flat_map escaped bytes ++ fds_text fds ++ flag_text trunc (codes " trunc") ++ flag_text ctrunc (codes " ctrunc")
+reply_text reply.End = codes "end"
+reply_text (reply.Started pass) = codes "started " ++ decimal pass
+reply_text reply.Working = codes "working"
+reply_text (reply.Done pass reclaimed) = codes "pass " ++ decimal pass ++ codes " reclaimed " ++ decimal reclaimed
+reply_text (reply.Refused error) = name_of error
+
+-- The line of a reply ends in a line feed.
+unfoldable pub reply_line : Reply → List ℕ
+reply_line answer = reply_text answer ++ 10 ∷ []

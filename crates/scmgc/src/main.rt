@@ -1,0 +1,45 @@
+//! Runs scripts of events against the layer, from standard input to standard output.
+#![tactic(auto)]
+
+mod fault;
+mod line;
+mod program;
+mod run;
+mod task;
+#[cfg(test)]
+mod tests;
+mod text;
+
+use crate::fault::RunFault;
+use crate::program::program;
+use scm_watched::watched::Watched;
+use std::alloc::AllocError;
+use std::env;
+use std::io::ErrorKind;
+use std::process::ExitCode;
+
+fn main(rt: HostRuntime) -> ExitCode {
+    let alloc = rt.alloc();
+    let mut input = Watched::new(rt.stdin());
+    let mut output = Watched::new(rt.stdout());
+    let mut errors = rt.stderr();
+    let words = match env::args(&rt) {
+        Ok(words) => words.collect::<Vec<String>>(alloc),
+        Err(error) if error.kind() == ErrorKind::OutOfMemory => Err(AllocError),
+        Err(_) => {
+            let _ = eprintln!(rt; "error: invalid UTF-8 was detected in one or more arguments");
+            return ExitCode::from(2);
+        }
+    };
+    let Ok(words) = words else {
+        let _ = eprintln!(rt; "scmgc: {}", RunFault::Memory);
+        return ExitCode::from(1);
+    };
+    ExitCode::from(program(
+        alloc,
+        words.as_slice(),
+        &mut input,
+        &mut output,
+        &mut errors,
+    ))
+}

@@ -1,0 +1,4 @@
+//! Whole runs over memory, and streams that fail.
+mod programs;
+mod runs;
+mod streams;
