@@ -1,4 +1,5 @@
 //! Whole runs over memory, and streams that fail.
 mod programs;
+mod rows;
 mod runs;
 mod streams;
