@@ -23,3 +23,7 @@ pub mod Sound
 pub mod Stepped
 pub mod Ordered
 pub mod Above
+pub mod Purging
+pub mod Purged
+pub mod Listed
+pub mod Bare

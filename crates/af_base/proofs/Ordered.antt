@@ -23,7 +23,7 @@ module _ {X : Type 0} where
   put_least k v [] h = refl
   put_least k v (e ∷ es) h = ap (λ o. by_order o ((k, v) ∷ e ∷ es) ((e.0, v) ∷ es) (e ∷ put nat_cmp k v es)) h.0
 
-  listed : (es : List (ℕ × X)) → IsStrictlySortedBy nat_cmp (keys_of es) → map.entries (map.from_entries {R = nat_cmp} es) ≡ es
+  pub listed : (es : List (ℕ × X)) → IsStrictlySortedBy nat_cmp (keys_of es) → map.entries (map.from_entries {R = nat_cmp} es) ≡ es
   unfolding IsStrictlySortedBy
   listed [] h = none _ (sym (len-entries (map.empty {X = X} {R = nat_cmp})) ∙ map.len-empty nat_cmp X)
   listed (e ∷ es) h = entries-insert nat_cmp_total (map.from_entries es) e.0 e.1 ∙ ap (put nat_cmp e.0 e.1) (listed es h.1) ∙ put_least e.0 e.1 es h.0

@@ -40,7 +40,7 @@ pub len-insert_most : {X : Type 0} (m : Map X) (k : ℕ) (v : X) → map.len (ma
 len-insert_most m k v = omega (arith, total-insert (λ y. 1) m k v, total-count m, total-count (map.insert m k v))
 
 -- A socket is a file in one way.
-socket_same : (x y : Socket) → AsSocket x ≡ AsSocket y → x ≡ y
+pub socket_same : (x y : Socket) → AsSocket x ≡ AsSocket y → x ≡ y
 socket_same x y e = some_same x y (ap socket_of e)
 
 -- A number taken into use, below the limit.

@@ -13,3 +13,5 @@ pub mod Pass
 pub mod Run
 pub mod Whole
 pub mod Release
+pub mod Bare
+pub mod Listing

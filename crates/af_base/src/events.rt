@@ -55,6 +55,8 @@ pub enum Event {
     },
     /// A process makes a step.
     Proc(Pid, Step),
+    /// The collector makes a whole pass.
+    Pass,
 }
 
 /// What is answered.

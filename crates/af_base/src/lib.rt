@@ -7,4 +7,5 @@ pub mod errno;
 pub mod events;
 pub mod items;
 pub mod limits;
+pub mod listing;
 pub mod names;

@@ -16,9 +16,9 @@ use Rattle.af_base.specs.Changes.{file_with, install, push_message, with_table}
 use Rattle.af_base.specs.Pass.{emptied}
 use Rattle.af_base.proofs.Lookups.{none_some}
 use Rattle.af_base.proofs.Places.{carried-push}
+use Rattle.af_base.proofs.Purging.{from_emptied, to_emptied}
 use Rattle.af_base.proofs.Settling.{from_without, none_in, to_without}
 use Rattle.af_base.proofs.Stepping.{get-change_at}
-use Rattle.af_laws.proofs.Purges.{from_emptied, to_emptied}
 use Rattle.af_laws.specs.Reaching.{InstallKeepsReached, PlacesKeepReached, PurgingKeepsReached, ReachedIsHeld, SendKeepsReached, SettlingKeepsReached}
 
 -- what holds something is live
@@ -37,7 +37,7 @@ reached_is_held w _ (ByTable f t) (Goes g l no_table hs) = no_table t
 reached_is_held w _ (BySocket s f r h) (Goes g l no_table hs) = reached_is_held w s r (hs s h)
 
 module _ (w new : World) (t : Settles w new) where
-  not_gone : (f : ℕ) → Reached w f → t.0 f ≡ false
+  pub not_gone : (f : ℕ) → Reached w f → t.0 f ≡ false
   not_gone f r = elim (cases_Bool (t.0 f)) [
     | inl e ↦ absurd (reached_is_held w f r ((t.1 f).0 e))
     | inr e ↦ e
@@ -57,13 +57,13 @@ pub settling_keeps_reached : SettlingKeepsReached
 settling_keeps_reached w new t f = (reached_after w new t f, reached_before w new t f)
 
 module _ (w : World) (test : ℕ → Bool) (garbage : (f : ℕ) → test f ≡ true → Garbage w f) where
-  not_emptied : (s : ℕ) → Reached w s → test s ≡ false
+  pub not_emptied : (s : ℕ) → Reached w s → test s ≡ false
   not_emptied s r = elim (cases_Bool (test s)) [
     | inl e ↦ absurd ((garbage s e).1 r)
     | inr e ↦ e
   ]
 
-  reached_emptied : (f : ℕ) → Reached w f → Reached (emptied test w) f
+  pub reached_emptied : (f : ℕ) → Reached w f → Reached (emptied test w) f
   reached_emptied _ (ByTable f h) = ByTable f h
   reached_emptied _ (BySocket s f r h) = BySocket s f (reached_emptied s r) (to_emptied test w s f (not_emptied s r) h)
 

@@ -4,6 +4,7 @@ pub mod Lowest
 pub mod Takes
 pub mod Purges
 pub mod Chains
+pub mod Passed
 pub mod Unreached
 pub mod Existing
 pub mod Logs

@@ -1,9 +1,10 @@
 -- Each event has a reply, the reply tells the machine, and runs come apart as they were joined.
 use Rattle.std.proofs.Common.{◌≡◌, inl, inr, ℕ, Bool, true, false, List, [], ◌∷◌, ◌++◌, refl, sym, ap, ◌∙◌, subst, cond}
 use Rattle.std.specs.Prelude.{Option, Some, None}
+use Rattle.std.specs.Cmp.{both_ways}
 use Rattle.std.proofs.lemmas.Bool.{false≢true}
 use Rattle.af_base.specs.declared.errno.Errno.{Errno}
-use Rattle.af_base.specs.declared.errno.Errno.TheVariants.{ENOMEM}
+use Rattle.af_base.specs.declared.errno.Errno.TheVariants.{EBUSY, ENOMEM}
 use Rattle.af_base.specs.declared.events.Event.TheVariants as event
 use Rattle.af_base.specs.declared.events.Reply.{Reply}
 use Rattle.af_base.specs.declared.events.Reply.TheVariants as reply
@@ -12,10 +13,11 @@ use Rattle.af_base.specs.declared.events.Step.TheVariants as step
 use Rattle.af_base.specs.World.{World}
 use Rattle.af_base.specs.Refusals.{refusal, spawn_refusal}
 use Rattle.af_base.specs.Steps.{Outcome, answer, effect, needs_no_memory, spawned}
-use Rattle.af_base.specs.Pass.{Machine}
+use Rattle.af_base.specs.Pass.{Idle, Machine, Pass, Passes, PassesWhole, Purges, Running, emptied}
 use Rattle.af_base.specs.Run.{Entry, Run, fresh}
 use Rattle.af_base.proofs.Runs.{run-append}
 use Rattle.af_base.specs.Whole.{IsSound}
+use Rattle.af_base.proofs.Purged.{sound-pass}
 use Rattle.af_base.proofs.Settling.{settles_once}
 use Rattle.af_base.proofs.Sound.{fresh_sound}
 use Rattle.af_base.proofs.Stepped.{sound-spawn, sound-step}
@@ -28,6 +30,11 @@ outcome_some (Some e) frugal answer now old = (reply.Refused e, old, (refl, refl
 outcome_some None true answer now old = let s = settles_to_some now in (answer, s.0, (refl, s.1))
 outcome_some None false answer now old = let s = settles_to_some now in (answer, s.0, inl (refl, s.1))
 
+-- a whole pass may be refused
+pass_some : (p : Pass) (old : Machine) → (r : Reply) × (new : Machine) × PassesWhole p old r new
+pass_some Idle old = (reply.Refused ENOMEM, old, inr (refl, refl))
+pass_some (Running begun spent) old = (reply.Refused EBUSY, old, (refl, refl))
+
 abbrev with_world : Machine → World → Machine
 with_world m w = record m { world = w }
 
@@ -38,6 +45,7 @@ events_have_replies old (event.Spawn uid nofile privileged) =
 events_have_replies old (event.Proc p s) =
     let o = outcome_some (refusal old.world p s) (needs_no_memory s) (answer old.world p s) (effect old.world p s) old.world in
     (o.0, with_world old o.1, (o.2, (refl, refl)))
+events_have_replies old event.Pass = pass_some old.pass old
 
 -- whether the reply is a refusal
 is_refused : Reply → Bool
@@ -80,12 +88,27 @@ module _ (answer : Reply) (given : is_refused answer ≡ false) (now old a b : W
 same_machine : (a b : Machine) → a.world ≡ b.world → a.pass ≡ b.pass → a.last_pass ≡ b.last_pass → a ≡ b
 same_machine a b x y z = λ i. record { world = x i; pass = y i; last_pass = z i }
 
+-- the garbage of a world determines what a whole pass leaves
+passes_one : (w a b : World) (n : ℕ) (r s : Reply) → Passes w n r a → Passes w n s b → a ≡ b
+passes_one w a b n r s x y =
+    let same : (f : ℕ) → x.test f ≡ y.test f = λ f. both_ways (x.test f) (y.test f) (λ e. (y.is_garbage f).1 ((x.is_garbage f).0 e)) (λ e. (x.is_garbage f).1 ((y.is_garbage f).0 e)) in
+    settles_once (emptied y.test w) a b (subst (λ t. Purges t w a) (λ i f. same f i) x.purged) y.purged
+
+pass_one : (p : Pass) (old a b : Machine) (r : Reply) → PassesWhole p old r a → PassesWhole p old r b → a ≡ b
+unfolding is_refused
+pass_one Idle old a b r (inl x) (inl y) = same_machine a b (passes_one old.world a.world b.world _ r r x.0 y.0) (x.1 ∙ sym y.1) (x.2 ∙ sym y.2)
+pass_one Idle old a b r (inl x) (inr y) = absurd (false≢true (sym (ap is_refused x.0.answered) ∙ ap is_refused y.0))
+pass_one Idle old a b r (inr x) (inl y) = absurd (false≢true (sym (ap is_refused y.0.answered) ∙ ap is_refused x.0))
+pass_one Idle old a b r (inr x) (inr y) = x.1 ∙ sym y.1
+pass_one (Running begun spent) old a b r x y = x.1 ∙ sym y.1
+
 pub replies_determine : RepliesDetermine
 unfolding is_refused
 replies_determine old a b (event.Spawn uid nofile privileged) r x y =
     same_machine a b (outcome_one (reply.Pid old.world.next_pid) refl (spawned old.world uid nofile privileged) old.world a.world b.world r (spawn_refusal old.world nofile) false x.0 y.0) (x.1.0 ∙ sym y.1.0) (x.1.1 ∙ sym y.1.1)
 replies_determine old a b (event.Proc p s) r x y =
     same_machine a b (outcome_one (answer old.world p s) (answers old.world p s) (effect old.world p s) old.world a.world b.world r (refusal old.world p s) (needs_no_memory s) x.0 y.0) (x.1.0 ∙ sym y.1.0) (x.1.1 ∙ sym y.1.1)
+replies_determine old a b event.Pass r x y = pass_one old.pass old a b r x y
 
 outcome_refused : (answer : Reply) → is_refused answer ≡ false → (now old new : World) (error : Errno) (o : Option Errno) (frugal : Bool) → Outcome o frugal answer now old (reply.Refused error) new → new ≡ old
 unfolding is_refused
@@ -94,12 +117,19 @@ outcome_refused answer given now old new error None true h = absurd (false≢tru
 outcome_refused answer given now old new error None false (inl h) = absurd (false≢true (sym given ∙ ap is_refused (sym h.0)))
 outcome_refused answer given now old new error None false (inr h) = h.1
 
+pass_refused : (p : Pass) (old new : Machine) (error : Errno) → PassesWhole p old (reply.Refused error) new → new ≡ old
+unfolding is_refused
+pass_refused Idle old new error (inl h) = absurd (false≢true (sym (ap is_refused h.0.answered)))
+pass_refused Idle old new error (inr h) = h.1
+pass_refused (Running begun spent) old new error h = h.1
+
 pub refused_changes_nothing : RefusedChangesNothing
 unfolding is_refused
 refused_changes_nothing old new (event.Spawn uid nofile privileged) error h =
     same_machine new old (outcome_refused (reply.Pid old.world.next_pid) refl (spawned old.world uid nofile privileged) old.world new.world error (spawn_refusal old.world nofile) false h.0) h.1.0 h.1.1
 refused_changes_nothing old new (event.Proc p s) error h =
     same_machine new old (outcome_refused (answer old.world p s) (answers old.world p s) (effect old.world p s) old.world new.world error (refusal old.world p s) (needs_no_memory s) h.0) h.1.0 h.1.1
+refused_changes_nothing old new event.Pass error h = pass_refused old.pass old new error h
 
 pub log_determines : LogDetermines
 log_determines old a b [] x y = x ∙ sym y
@@ -122,6 +152,7 @@ fresh_is_sound = fresh_sound
 pub events_keep_sound : EventsKeepSound
 events_keep_sound old new (event.Spawn uid nofile privileged) r sound h = sound-spawn old.world uid nofile privileged r new.world sound h.0
 events_keep_sound old new (event.Proc p s) r sound h = sound-step old.world p s r new.world sound h.0
+events_keep_sound old new event.Pass r sound h = sound-pass old.pass old new r sound h
 
 run_sound : (old new : Machine) (log : List Entry) → IsSound old.world → Run old log new → IsSound new.world
 run_sound old new [] sound run = subst (λ m. IsSound m.world) (sym run) sound

@@ -24,7 +24,7 @@ use Rattle.af_base.specs.Changes.{add_file, add_process, file_with, install, ins
 use Rattle.af_base.specs.Refusals.{ino_on, no_socket, peer_of, process_at, refusal, socket_at, socket_of, socket_on, spawn_refusal}
 use Rattle.af_base.specs.Take.{take_from}
 use Rattle.af_base.specs.Steps.{Outcome, ProcessStep, SpawnStep, answer, connected_socket, effect, free_at, got_at, needs_no_memory, spawned, taken_on}
-use Rattle.af_base.specs.Pass.{Machine}
+use Rattle.af_base.specs.Pass.{Idle, Machine, Pass, PassesWhole, Running}
 use Rattle.af_base.specs.Run.{Step as MachineStep}
 use Rattle.af_base.specs.Whole.{IsWhole}
 use Rattle.af_base.proofs.Settling.{none_in}
@@ -32,7 +32,7 @@ use Rattle.af_base.proofs.Stepping.{get-change_at}
 use Rattle.af_base.proofs.Lookups.{none_some}
 use Rattle.af_base.proofs.Moved.{tabled-install, tabled-uninstall}
 use Rattle.af_base.proofs.Stepped.{attached-tabled}
-use Rattle.af_laws.proofs.Chains.{held_or_sent, holder_live, reached_before}
+use Rattle.af_laws.proofs.Chains.{held_or_sent, holder_live, purging_keeps_reached, reached_before}
 use Rattle.af_laws.proofs.Takes.{packet_keeps_files}
 use Rattle.af_laws.specs.Reaching.{GarbageStaysOutOfReach, SpawnReachesNoGarbage, StepReachesNoGarbage}
 
@@ -243,9 +243,15 @@ pub step_reaches_no_garbage : StepReachesNoGarbage
 step_reaches_no_garbage old new p s r whole h f live =
     numbered_leads old new (process_step_leads old new p s r whole h) f (whole.files_numbered f live)
 
+pass_leads : (p : Pass) (old new : Machine) (r : Reply) → PassesWhole p old r new → Leads old.world new.world
+pass_leads Idle old new r (inl h) f d = inl ((purging_keeps_reached old.world new.world h.0.test (λ g e. (h.0.is_garbage g).0 e) h.0.purged f).1 d)
+pass_leads Idle old new r (inr h) f d = inl (subst (λ m. Reached m.world f) h.1 d)
+pass_leads (Running begun spent) old new r h f d = inl (subst (λ m. Reached m.world f) h.1 d)
+
 pub event_leads : (old new : Machine) (e : Event) (r : Reply) → IsWhole old.world → MachineStep old e r new → Leads old.world new.world
 event_leads old new (event.Spawn uid nofile privileged) r whole h = spawn_step_leads old.world new.world uid nofile privileged r whole h.0
 event_leads old new (event.Proc p s) r whole h = process_step_leads old.world new.world p s r whole h.0
+event_leads old new event.Pass r whole h = pass_leads old.pass old new r h
 
 pub garbage_stays_out_of_reach : GarbageStaysOutOfReach
 garbage_stays_out_of_reach old new e r whole h f g d =

@@ -12,8 +12,8 @@ use Rattle.af_base.specs.Counts.{charged, inflight, refs}
 use Rattle.af_base.specs.Reached.{Garbage, IsGarbageCount, Reached}
 use Rattle.af_base.specs.Take.{take_seqpacket, take_stream}
 use Rattle.af_base.specs.Steps.{ProcessStep}
-use Rattle.af_base.specs.Pass.{Machine, PassesWhole}
-use Rattle.af_base.specs.Run.{Entry, Run, fresh}
+use Rattle.af_base.specs.Pass.{Machine}
+use Rattle.af_base.specs.Run.{Entry, Run, Step, fresh}
 
 -- The bytes `bcd`, with one file.
 abbrev pub bcd : Message
@@ -85,4 +85,4 @@ pub record IsCollected (w : World) : Type 0 where
 
 -- A whole pass after them counts one, takes the cycle away, and leaves such a world.
 abbrev pub CycleIsCollected : Type 0
-CycleIsCollected = (m : Machine) × (after : Machine) × Run fresh cycle_events m × PassesWhole m.pass m (reply.Done 1 1) after × IsCollected after.world
+CycleIsCollected = (m : Machine) × (after : Machine) × Run fresh cycle_events m × Step m event.Pass (reply.Done 1 1) after × IsCollected after.world

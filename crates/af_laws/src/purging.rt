@@ -1,5 +1,5 @@
 //! Laws of purging: queues emptied, and then what goes.
-ghost use Rattle.af_laws.specs.Purging.{PurgesBoth, PurgesInAnyOrder};
+ghost use Rattle.af_laws.specs.Purging.{PurgesBoth, PurgesInAnyOrder, PassSparesTheReached, PassLeavesNoGarbage};
 
 /// To purge some files and then others is to purge all of them at once.
 pub fn purges_both()
@@ -9,4 +9,14 @@ pub fn purges_both()
 /// The order of two purges does not matter.
 pub fn purges_in_any_order()
     ensures { PurgesInAnyOrder }
+{}
+
+/// A whole pass changes no table, and no queue or backlog of what is reached.
+pub fn pass_spares_the_reached()
+    ensures { PassSparesTheReached }
+{}
+
+/// A whole pass that is done leaves no garbage.
+pub fn pass_leaves_no_garbage()
+    ensures { PassLeavesNoGarbage }
 {}

@@ -10,3 +10,8 @@ pub mod Paired
 pub mod Running
 pub mod Installed
 pub mod Refused
+pub mod Marking
+pub mod Walking
+pub mod Unmarked
+pub mod Emptying
+pub mod Listed

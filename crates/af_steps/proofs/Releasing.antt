@@ -17,7 +17,7 @@ use Rattle.af_base.proofs.Dropped.{messages-without}
 use Rattle.af_base.proofs.Covers.{covers-without}
 use Rattle.af_base.proofs.Whole.{whole-without}
 
-carried-append : (ps qs : List Message) → carried (ps ++ qs) ≡ carried ps ++ carried qs
+pub carried-append : (ps qs : List Message) → carried (ps ++ qs) ≡ carried ps ++ carried qs
 carried-append ps qs = flat_map-append (λ m. m.attached) ps qs
 
 -- a live file that no place holds goes

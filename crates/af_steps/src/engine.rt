@@ -14,23 +14,27 @@ use thiserror::Error;
 /// A machine that does one event after another.
 #[derive(Drop)]
 pub struct Engine {
-    alloc: Global,
+    pub(crate) alloc: Global,
     pub(crate) store: Store,
+    /// The number of the last pass, 0 before the first.
+    pub(crate) last_pass: u64,
 }
 
 impl Model for Engine {
     ghost use Rattle.std.specs.FinMap as map;
     ghost use Rattle.std.specs.Coded.{codes};
+    ghost use Rattle.std.specs.Prelude.{◌≤◌};
     ghost use Rattle.af_base.specs.Pass.{Machine, Idle};
+    ghost use Rattle.af_base.specs.declared.limits.TheConstants.{MAX_PASS};
     ghost use Rattle.af_base.specs.Whole.{IsSound};
 
     ghost Value = { Machine };
 
     ghost coded = { Prim.hlevel (codes, map.code) };
 
-    ghost view = { λ e. record { world = e.store; pass = Idle; last_pass = 0 } };
+    ghost view = { λ e. record { world = e.store; pass = Idle; last_pass = e.last_pass } };
 
-    ghost invariant = { λ e. IsSound e.store };
+    ghost invariant = { λ e. IsSound e.store × (e.last_pass ≤ MAX_PASS) };
 }
 
 /// A run ended early, since room for one more reply was refused.
@@ -51,6 +55,7 @@ impl Engine {
         Ok(Engine {
             alloc,
             store: Store::new(alloc),
+            last_pass: 0,
         })
     }
 
@@ -67,6 +72,7 @@ impl Engine {
                 privileged,
             } => self.store.start(alloc, *uid, *nofile, *privileged),
             Event::Proc(pid, step) => self.store.step(alloc, *pid, step),
+            Event::Pass => self.pass(),
         }
     }
 

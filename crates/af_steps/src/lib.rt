@@ -4,7 +4,10 @@
 //! every count is a walk over them.
 #![tactic(auto)]
 
+mod collector;
 mod engine;
+mod listings;
+mod marks;
 mod messages;
 mod places;
 mod process;

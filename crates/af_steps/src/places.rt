@@ -3,7 +3,7 @@
 //! Each is one change of the world. What no place holds any more is dropped by `release`, which
 //! goes down a chain of files of any length without recursion and without memory.
 ghost use Rattle.std.specs.Prelude.{◌≡◌, ◌<◌, ◌≤◌, ◌+◌, ◌*◌, ◌++◌, ◌∷◌, [], ℕ, List, Some, None, IfSome, IfNone, OnOk, OnErr, length, drop, take, nat_eq};
-ghost use Rattle.std.specs.List.{zip, All};
+ghost use Rattle.std.specs.List.{zip, All, list_any};
 ghost use Rattle.std.specs.FinMap as map;
 ghost use Rattle.af_base.specs.World as world;
 ghost use Rattle.af_base.specs.Places.{queue_at, held_by, carried};
@@ -11,8 +11,10 @@ ghost use Rattle.af_base.specs.Changes.{install, install_all, uninstall, push_me
 ghost use Rattle.af_base.specs.Unheld.{Settles, without};
 ghost use Rattle.af_base.specs.Whole.{IsWhole, IsWithin, IsSound, AreMutual};
 ghost use Rattle.af_base.specs.Release.{Covered, messages_in};
+ghost use Rattle.af_base.specs.Pass.{Purges};
 ghost use Rattle.af_base.specs.declared.events.State.TheVariants as state;
 ghost use Rattle.af_steps.specs.Limits.{IsBelowLimit, most_messages};
+ghost use Rattle.af_steps.specs.Releasing.{Empties};
 
 use crate::socket::Message;
 use crate::store::Store;
@@ -166,8 +168,58 @@ impl Store {
     {
         let mut pending = LinkedList::new(alloc);
         self.drop_unheld(inos, &mut pending);
+        self.drain(&mut pending);
+    }
+
+    /// All files go that no place holds, among them at most those that came with these messages,
+    /// and what goes with them.
+    fn drain(&mut self, pending: &mut LinkedList<Message>)
+        requires whole { IsWhole self.old }
+        requires within { IsWithin self.old }
+        requires few { messages_in self.old + length pending.old ≤ most_messages }
+        requires covered { Covered self.old (carried pending.old) }
+        ensures settles { Settles self.old self.new }
+        ensures sound { IsSound self.new }
+    {
         while let Some(message) = pending.pop_front() {
-            self.drop_unheld(message.attached(), &mut pending);
+            self.drop_unheld(message.attached(), pending);
         }
+    }
+
+    /// The queue of a file is emptied: what it had to receive goes last into `pending`.
+    #[tactic(auto, using(af_base::proofs::Trees::changes))]
+    fn empty(&mut self, ino: Ino, pending: &mut LinkedList<Message>)
+        requires { length pending.old ≤ most_messages }
+        ensures emptied { self.new ≡ with_socket self.old ino (λ s. record s { queue = []; backlog = [] }) }
+        ensures pending { pending.new ≡ pending.old ++ queue_at self.old ino }
+        ensures held { held_by self.old ino ≡ carried (queue_at self.old ino) }
+    {
+        let Some(socket) = self.files.get_mut(&ino) else {
+            return;
+        };
+        socket.empty(pending);
+    }
+
+    /// The queues of these files are emptied, one after the other.
+    fn empty_all(&mut self, inos: &[Ino], pending: &mut LinkedList<Message>)
+        requires sound { IsSound self.old }
+        requires none { pending.old ≡ [] }
+        ensures { Empties self.old self.new inos.now pending.new }
+    {
+        for ino in inos {
+            self.empty(*ino, pending);
+        }
+    }
+
+    /// The queues of these files are emptied, and all files go that no place holds then. It takes
+    /// no memory.
+    pub fn purge(&mut self, alloc: Global, inos: &[Ino])
+        requires { IsSound self.old }
+        ensures purges { Purges (λ f. list_any (nat_eq f) inos.now) self.old self.new }
+        ensures sound { IsSound self.new }
+    {
+        let mut pending = LinkedList::new(alloc);
+        self.empty_all(inos, &mut pending);
+        self.drain(&mut pending);
     }
 }

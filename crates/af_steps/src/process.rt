@@ -1,11 +1,16 @@
 //! A process, and what its numbers stand for.
-ghost use Rattle.std.specs.Prelude.{◌≡◌, ◌<◌, ◌≤◌, ◌↔◌, ℕ, IsTrue, IfOk, length};
+ghost use Rattle.std.specs.Prelude.{◌≡◌, ◌<◌, ◌≤◌, ◌↔◌, ℕ, IsTrue, IfOk, OnOk, length};
 ghost use Rattle.std.specs.FinMap as map;
 ghost use Rattle.af_base.specs.Counts.{total_of, one};
 ghost use Rattle.af_base.specs.Table.{free_numbers, lowest_free};
+ghost use Rattle.af_steps.specs.Marking.{HasFile, Marked, NoFile};
+ghost use Rattle.af_base.specs.Bare.{bare_process};
+ghost use Rattle.af_base.specs.Listing.{process_of, IsRisingTable};
 
+use crate::marks::Marks;
 use af_base::limits::MAX_NOFILE;
-use af_base::names::{Fd, Ino, Uid};
+use af_base::listing::{ListedNumber, ListedTable};
+use af_base::names::{Fd, Ino, Pid, Uid};
 use std::alloc::{AllocError, Global};
 use std::marker::Model;
 
@@ -130,12 +135,42 @@ impl Process {
         Ok(fds)
     }
 
+    /// Its table as a plain list.
+    pub fn listed(&self, alloc: Global, pid: Pid) -> Result<ListedTable, AllocError>
+        ensures pid { IfOk result (λ t. t.pid ≡ pid) }
+        ensures shown { IfOk result (λ t. process_of t ≡ bare_process self.now) }
+        ensures rising { IfOk result IsRisingTable }
+        ensures few { IfOk result (λ t. length t.numbers.items ≤ MAX_NOFILE) }
+    {
+        let mut numbers = Vec::new(alloc);
+        for (number, slot) in self.slots.iter().enumerate() {
+            if let Some(ino) = *slot {
+                let fd = Fd(number as u32);
+                numbers.push(ListedNumber { fd, ino })?;
+            }
+        }
+        Ok(ListedTable { pid, numbers })
+    }
+
     /// How many of its numbers stand for the file.
     pub fn count(&self, ino: Ino) -> u64
         ensures value { result ≡ total_of (λ g. one ino g) self.now.table }
         ensures bound { result ≤ MAX_NOFILE }
     {
         self.slots.iter().filter(|slot| **slot == Some(ino)).count() as u64
+    }
+
+    /// Marks all that its numbers stand for.
+    pub fn mark(&self, marks: &mut Marks) -> Result<(), AllocError>
+        ensures { OnOk result (Marked (HasFile self.now) NoFile marks.old marks.new) }
+    {
+        for slot in &self.slots {
+            let Some(ino) = *slot else {
+                continue;
+            };
+            marks.mark(ino)?;
+        }
+        Ok(())
     }
 }
 

@@ -1,17 +1,23 @@
 //! A socket, and the messages that it has to receive.
-ghost use Rattle.std.specs.Prelude.{◌≡◌, ◌∷◌, ◌++◌, [], ◌<◌, ◌≤◌, ◌^◌, ℕ, Option, Some, None, List, OnOk, OnErr, IsTrue, IfSome, IfNone, length, drop, take, ◌*◌};
-ghost use Rattle.std.specs.List.{sum_by};
+ghost use Rattle.std.specs.Prelude.{◌≡◌, ◌∷◌, ◌++◌, [], ◌<◌, ◌≤◌, ◌^◌, ℕ, Option, Some, None, List, OnOk, OnErr, IfOk, IsTrue, IfSome, IfNone, length, drop, take, ◌*◌};
+ghost use Rattle.std.specs.List.{sum_by, Contains};
 ghost use Rattle.af_base.specs.World as world;
 ghost use Rattle.af_base.specs.Places.{queue_of, carried, contents};
 ghost use Rattle.af_base.specs.Counts.{count_in, charge};
 ghost use Rattle.af_base.specs.Changes.{file_with};
 ghost use Rattle.af_base.specs.Reached.{is_socket};
 ghost use Rattle.af_base.specs.Whole.{state_of};
+ghost use Rattle.af_base.specs.Bare.{bare_file, bare_message};
+ghost use Rattle.af_base.specs.Listing.{message_of, socket_of};
 ghost use Rattle.af_steps.specs.Kinds.{kind_of};
+ghost use Rattle.af_steps.specs.Limits.{most_messages};
+ghost use Rattle.af_steps.specs.Marking.{Marked, NoFile};
 ghost use Rattle.af_base.specs.declared.events.State.TheVariants as state;
 
+use crate::marks::Marks;
 use af_base::events::{SockType, State};
 use af_base::limits::{MAX_MESSAGES, SCM_MAX_FD};
+use af_base::listing::{ListedMessage, ListedSocket};
 use af_base::names::{Ino, Uid};
 use std::alloc::{AllocError, Global};
 use std::collections::LinkedList;
@@ -72,6 +78,18 @@ impl Message {
         let Message { mut bytes, .. } = self;
         bytes.truncate(max);
         bytes
+    }
+
+    /// What travels with it, as a plain list, and whom it is charged to.
+    pub fn listed(&self, alloc: Global) -> Result<ListedMessage, AllocError>
+        ensures shown { IfOk result (λ m. message_of m ≡ bare_message self.now) }
+        ensures few { IfOk result (λ m. length m.attached.items ≤ SCM_MAX_FD) }
+    {
+        let attached = self.attached.as_slice().to_vec(alloc)?;
+        Ok(ListedMessage {
+            user: self.user,
+            attached,
+        })
     }
 
     /// How many of its places hold the file.
@@ -187,6 +205,26 @@ impl Socket {
         self.queue.pop_front()
     }
 
+    /// All that it has to receive goes last into `pending`. It takes no memory.
+    pub fn empty(&mut self, pending: &mut LinkedList<Message>)
+        requires { length pending.old ≤ most_messages }
+        ensures emptied { self.new ≡ file_with (λ s. record s { queue = []; backlog = [] }) self.old }
+        ensures pending { pending.new ≡ pending.old ++ queue_of self.old }
+        ensures held { contents self.old ≡ carried (queue_of self.old) }
+    {
+        pending.append(&mut self.queue).unwrap();
+    }
+
+    /// Marks all that it holds.
+    pub fn mark(&self, marks: &mut Marks) -> Result<(), AllocError>
+        ensures { OnOk result (Marked (Contains (contents self.now)) NoFile marks.old marks.new) }
+    {
+        for message in &self.queue {
+            marks.mark_all(message.attached())?;
+        }
+        Ok(())
+    }
+
     /// All that it has to receive, handed on. It takes no memory.
     pub fn into_messages(self) -> LinkedList<Message>
         ensures value { result ≡ queue_of self }
@@ -195,6 +233,19 @@ impl Socket {
     {
         let Socket { queue, .. } = self;
         queue
+    }
+
+    /// What it has to receive, as plain lists; no embryos wait yet.
+    pub fn listed(&self, alloc: Global) -> Result<ListedSocket, AllocError>
+        ensures shown { IfOk result (λ s. world.AsSocket (socket_of s) ≡ bare_file self.now) }
+        ensures few { IfOk result (λ s. length (contents (world.AsSocket (socket_of s))) ≤ MAX_MESSAGES * SCM_MAX_FD) }
+    {
+        let mut queue = Vec::new(alloc);
+        for message in &self.queue {
+            queue.push(message.listed(alloc)?)?;
+        }
+        let backlog = Vec::new(alloc);
+        Ok(ListedSocket { queue, backlog })
     }
 
     /// How many places of its queue hold the file.

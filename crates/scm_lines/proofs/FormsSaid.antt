@@ -12,7 +12,7 @@ use Rattle.scm_lines.specs.Numbers.{number_in}
 use Rattle.scm_lines.specs.Payload.{payload_of}
 use Rattle.scm_lines.specs.Attached.{attached_of}
 use Rattle.scm_lines.specs.Keywords.{opening_of, type_of, verb_of}
-use Rattle.scm_lines.specs.Lines.{all_printable, close_of, event_of, is_comment, line_of, opened_by, pair_of, privilege_of, process_of, recv_of, send_of, spawn_of, step_of, words_say}
+use Rattle.scm_lines.specs.Lines.{all_printable, close_of, form_of, is_comment, line_of, opened_by, pair_of, privilege_of, process_of, recv_of, send_of, spawn_of, step_of, words_say}
 use Rattle.scm_lines.specs.Says.{IsLine, IsNumber, Says, SaysStep, type_name}
 use Rattle.scm_lines.specs.declared.keywords.Opening.{Opening}
 use Rattle.scm_lines.specs.declared.keywords.Opening.TheVariants as opening
@@ -20,6 +20,7 @@ use Rattle.scm_lines.specs.declared.keywords.Verb.{Verb}
 use Rattle.scm_lines.specs.declared.keywords.Verb.TheVariants as verb
 use Rattle.scm_lines.specs.declared.line.Line.{Line}
 use Rattle.scm_lines.specs.declared.line.Line.TheVariants as line
+use Rattle.scm_lines.specs.declared.line.Report.TheVariants as report
 use Rattle.scm_lines.specs.declared.line.TheConstants.{MAX_LINE}
 use Rattle.scm_lines.proofs.Choices.{allowed, bound, chosen, ended, mapped, same_word}
 use Rattle.scm_lines.proofs.NumberLemmas.{number_first}
@@ -124,19 +125,32 @@ process_said a pid words ev number e =
     let whole : words ≡ verb_name v ∷ word.1 = word_first words word.0 word.1 e1 ∙ ap (λ (w : List ℕ). w ∷ word.1) (verb_said word.0 v e2) in
     rw (← is) (a, (words, refl, number, subst (λ (ws : List (List ℕ)). SaysStep ws st) (sym whole) (step_said v word.1 st e3)))
 
-opened_said : (word : List ℕ) (o : Opening) (words : List (List ℕ)) (ev : Event) → Opens word o → opened_by o words ≡ Some ev → Says (word ∷ words) (line.Event ev)
-opened_said word opening.Spawn words ev opens e = subst (λ (w : List ℕ). Says (w ∷ words) (line.Event ev)) (sym opens) (spawn_said words ev e)
-opened_said word (opening.Process pid) words ev opens e = process_said word pid words ev opens e
+-- a keyword that stands alone
+alone : (word keyword : List ℕ) (words : List (List ℕ)) (one said : Line) → Says (keyword ∷ []) one → word ≡ keyword → at_end one words ≡ Some said → Says (word ∷ words) said
+alone word keyword words one said says opens e =
+    let (none, is) = ended one said words e in
+    rw (opens, none, ← is) says
 
-event_said : (word : List ℕ) (words : List (List ℕ)) (ev : Event) → event_of word words ≡ Some ev → Says (word ∷ words) (line.Event ev)
-unfolding event_of
-event_said word words ev e =
-    let (o, (e1, f1)) = bound (opening_of word) (λ o. opened_by o words) ev e in
-    opened_said word o words ev (opening_said word o e1) f1
+opened_said : (word : List ℕ) (o : Opening) (words : List (List ℕ)) (said : Line) → Opens word o → opened_by o words ≡ Some said → Says (word ∷ words) said
+opened_said word opening.Spawn words said opens e =
+    let (ev, (e1, is)) = mapped line.Event (spawn_of words) said e in
+    rw (opens, ← is) (spawn_said words ev e1)
+opened_said word opening.Pass words said opens e = alone word (codes "pass") words (line.Event event.Pass) said refl opens e
+opened_said word opening.Totals words said opens e = alone word (codes "totals") words (line.Report report.Totals) said refl opens e
+opened_said word opening.Check words said opens e = alone word (codes "check") words (line.Report report.Check) said refl opens e
+opened_said word (opening.Process pid) words said opens e =
+    let (ev, (e1, is)) = mapped line.Event (process_of pid words) said e in
+    rw (← is) (process_said word pid words ev opens e1)
+
+form_said : (word : List ℕ) (words : List (List ℕ)) (said : Line) → form_of word words ≡ Some said → Says (word ∷ words) said
+unfolding form_of
+form_said word words said e =
+    let (o, (e1, f1)) = bound (opening_of word) (λ o. opened_by o words) said e in
+    opened_said word o words said (opening_said word o e1) f1
 
 words_said : (words : List (List ℕ)) (said : Line) → words_say words ≡ Some said → Says words said
 words_said [] said e = let is : line.Silence ≡ said = cc in rw (← is) refl
-words_said (word ∷ words) said e = let (ev, (e1, is)) = mapped line.Event (event_of word words) said e in subst (λ (l : Line). Says (word ∷ words) l) is (event_said word words ev e1)
+words_said (word ∷ words) said e = form_said word words said e
 
 pub line_said : (bytes : List ℕ) (said : Line) → line_of bytes ≡ Some said → IsLine bytes said
 unfolding line_of

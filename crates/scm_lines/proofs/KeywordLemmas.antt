@@ -1,10 +1,11 @@
 -- Keywords and their names.
-use Rattle.std.proofs.Common.{◌≡◌, ℕ, List, cond, Option, Some, None, refl, ap, ◌∙◌, inl, inr, codes}
+use Rattle.std.proofs.Common.{◌≡◌, ℕ, List, cond, Option, Some, None, is_some, false, refl, ap, ◌∙◌, inl, inr, subst, codes}
+use Rattle.std.specs.Option.{option_map}
 use Rattle.std.specs.Str.{bytes_eq}
 use Rattle.af_base.specs.declared.events.SockType.{SockType}
 use Rattle.af_base.specs.declared.events.SockType.TheVariants.{Seqpacket}
-use Rattle.scm_lines.specs.Numbers.{number_of}
-use Rattle.scm_lines.specs.Keywords.{opening_of, type_of, verb_of}
+use Rattle.scm_lines.specs.Numbers.{all_digits, number_of}
+use Rattle.scm_lines.specs.Keywords.{keyword_of, opening_of, type_of, verb_of}
 use Rattle.scm_lines.specs.Says.{IsNumber, type_name}
 use Rattle.scm_lines.specs.declared.keywords.Opening.{Opening}
 use Rattle.scm_lines.specs.declared.keywords.Opening.TheVariants as opening
@@ -16,17 +17,42 @@ use Rattle.scm_lines.proofs.NumberLemmas.{no_keyword, number_read, number_said}
 -- the word that says an opening
 abbrev pub Opens : List ℕ → Opening → Type 0
 Opens word opening.Spawn = word ≡ codes "spawn"
+Opens word opening.Pass = word ≡ codes "pass"
+Opens word opening.Totals = word ≡ codes "totals"
+Opens word opening.Check = word ≡ codes "check"
 Opens word (opening.Process pid) = IsNumber word pid
 
+-- this keyword, or one of the others
+opened : (word keyword : List ℕ) (one o : Opening) (others : Option Opening) → (word ≡ keyword → Opens word one) → cond (bytes_eq word keyword) (Some one) others ≡ Some o → (others ≡ Some o → Opens word o) → Opens word o
+opened word keyword one o others opens e else = elim (chosen (bytes_eq word keyword) _ _ _ e) [
+  | inl (t, e1) ↦ let is : one ≡ o = cc in subst (λ (x : Opening). Opens word x) is (opens (same_word word keyword t))
+  | inr (f, e2) ↦ else e2
+]
+
+none_opened : (word : List ℕ) (o : Opening) → None ≡ Some o → Opens word o
+none_opened word o e = cc
+
+keyword_said : (word : List ℕ) (o : Opening) → keyword_of word ≡ Some o → Opens word o
+keyword_said word o e =
+    opened word (codes "spawn") opening.Spawn o _ (λ w. w) e (λ e1.
+    opened word (codes "pass") opening.Pass o _ (λ w. w) e1 (λ e2.
+    opened word (codes "totals") opening.Totals o _ (λ w. w) e2 (λ e3.
+    opened word (codes "check") opening.Check o _ (λ w. w) e3 (none_opened word o))))
+
 pub opening_said : (word : List ℕ) (o : Opening) → opening_of word ≡ Some o → Opens word o
-opening_said word o e = elim (chosen (bytes_eq word (codes "spawn")) _ _ _ e) [
-  | inl (t, e1) ↦ let is : opening.Spawn ≡ o = cc in rw (← is) (same_word word (codes "spawn") t)
+opening_said word o e = elim (chosen (is_some (keyword_of word)) _ _ _ e) [
+  | inl (t, e1) ↦ keyword_said word o e1
   | inr (f, e2) ↦ let (pid, (e3, is)) = mapped opening.Process (number_of word) o e2 in rw (← is) (number_said word pid e3)
 ]
 
 pub opening_read : (word : List ℕ) (o : Opening) → Opens word o → opening_of word ≡ Some o
 opening_read word opening.Spawn e = rw e refl
-opening_read word (opening.Process pid) number = rw (no_keyword word (codes "spawn") pid number refl, number_read word pid number) refl
+opening_read word opening.Pass e = rw e refl
+opening_read word opening.Totals e = rw e refl
+opening_read word opening.Check e = rw e refl
+opening_read word (opening.Process pid) number =
+    let other : (text : List ℕ) → all_digits text ≡ false → bytes_eq word text ≡ false = λ text letters. no_keyword word text pid number letters in
+    rw (other (codes "spawn") refl, other (codes "pass") refl, other (codes "totals") refl, other (codes "check") refl, number_read word pid number) refl
 
 -- the word that says a verb
 abbrev pub verb_name : Verb → List ℕ

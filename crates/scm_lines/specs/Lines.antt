@@ -17,6 +17,7 @@ use Rattle.scm_lines.specs.declared.keywords.Verb.{Verb}
 use Rattle.scm_lines.specs.declared.keywords.Verb.TheVariants as verb
 use Rattle.scm_lines.specs.declared.line.Line.{Line}
 use Rattle.scm_lines.specs.declared.line.Line.TheVariants as line
+use Rattle.scm_lines.specs.declared.line.Report.TheVariants as report
 use Rattle.scm_lines.specs.declared.line.TheConstants.{MAX_LINE}
 
 -- What follows from a thing that was read, where it was.
@@ -83,14 +84,17 @@ process_of pid words = do
   step ← step_of verb word.1
   Some (event.Proc pid step)
 
--- The event that an opening and the words after it say.
-abbrev pub opened_by : Opening → List (List ℕ) → Option Event
-opened_by opening.Spawn words = spawn_of words
-opened_by (opening.Process pid) words = process_of pid words
+-- What an opening and the words after it say.
+abbrev pub opened_by : Opening → List (List ℕ) → Option Line
+opened_by opening.Spawn words = option_map line.Event (spawn_of words)
+opened_by opening.Pass words = at_end (line.Event event.Pass) words
+opened_by opening.Totals words = at_end (line.Report report.Totals) words
+opened_by opening.Check words = at_end (line.Report report.Check) words
+opened_by (opening.Process pid) words = option_map line.Event (process_of pid words)
 
--- The event of a line that begins with this word.
-unfoldable pub event_of : List ℕ → List (List ℕ) → Option Event
-event_of word words = opening_of word >>= λ opening. opened_by opening words
+-- What a line says that begins with this word.
+unfoldable pub form_of : List ℕ → List (List ℕ) → Option Line
+form_of word words = opening_of word >>= λ opening. opened_by opening words
 
 -- No byte but those from 0x20 to 0x7E and the tab.
 abbrev pub all_printable : List ℕ → Bool
@@ -105,7 +109,7 @@ is_comment (b ∷ bytes) = if is_blank b then is_comment bytes else b == 35
 -- What the words of a line say.
 abbrev pub words_say : List (List ℕ) → Option Line
 words_say [] = Some line.Silence
-words_say (word ∷ words) = option_map line.Event (event_of word words)
+words_say (word ∷ words) = form_of word words
 
 -- What a line says, without its end, where it can be read.
 unfoldable pub line_of : List ℕ → Option Line

@@ -11,6 +11,7 @@ use Rattle.scm_lines.specs.Payload.{hex_value, is_plain}
 use Rattle.scm_lines.specs.Lines.{all_printable, is_comment}
 use Rattle.scm_lines.specs.declared.line.Line.{Line}
 use Rattle.scm_lines.specs.declared.line.Line.TheVariants as line
+use Rattle.scm_lines.specs.declared.line.Report.TheVariants as report
 use Rattle.scm_lines.specs.declared.line.TheConstants.{MAX_LINE}
 
 -- A word that is the decimal digits of a number below 2 ^ 32.
@@ -74,6 +75,9 @@ Says words (line.Event (event.Spawn uid nofile true)) =
     (a b : List ℕ) × ((words ≡ codes "spawn" ∷ a ∷ b ∷ codes "priv" ∷ []) × IsNumber a uid × IsNumber b nofile)
 Says words (line.Event (event.Proc pid does)) =
     (a : List ℕ) × ((others : List (List ℕ)) × (words ≡ a ∷ others) × IsNumber a pid × SaysStep others does)
+Says words (line.Event event.Pass) = words ≡ codes "pass" ∷ []
+Says words (line.Report report.Totals) = words ≡ codes "totals" ∷ []
+Says words (line.Report report.Check) = words ≡ codes "check" ∷ []
 
 -- A line, without its end, that says this: a comment is silent, and any other line has printable bytes and words of the table.
 abbrev pub IsLine : List ℕ → Line → Type 0

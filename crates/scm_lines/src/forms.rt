@@ -1,10 +1,11 @@
 //! The forms of a line: one function for each, over the words after its keyword.
 ghost use Rattle.std.specs.Prelude.{◌≡◌, IfOk};
 ghost use Rattle.scm_lines.specs.Words.{words_of};
-ghost use Rattle.scm_lines.specs.Lines.{privilege_of, spawn_of, close_of, pair_of, send_of, recv_of, step_of, process_of, event_of};
+ghost use Rattle.scm_lines.specs.Lines.{privilege_of, spawn_of, close_of, pair_of, send_of, recv_of, step_of, process_of, form_of};
 
 use crate::attached::attached;
 use crate::keywords::{Opening, Verb, opening_named, type_named, verb_named};
+use crate::line::{Line, Report};
 use crate::numbers::number_in;
 use crate::payload::payload;
 use crate::words::{first_word, is_end};
@@ -126,14 +127,19 @@ fn process(alloc: Global, pid: Pid, bytes: &[u8]) -> Result<Option<Event>, Alloc
     Ok(Some(Event::Proc(pid, step)))
 }
 
-/// The event of a line that begins with this word.
-#[tactic(auto, unfolding(crate::specs::Lines::event_of))]
-pub fn event(alloc: Global, word: &[u8], rest: &[u8]) -> Result<Option<Event>, AllocError>
-    ensures { IfOk result (λ found. found ≡ event_of word.now (words_of rest.now)) }
+/// What a line says that begins with this word.
+#[tactic(auto, unfolding(crate::specs::Lines::form_of))]
+pub fn form(alloc: Global, word: &[u8], rest: &[u8]) -> Result<Option<Line>, AllocError>
+    ensures { IfOk result (λ found. found ≡ form_of word.now (words_of rest.now)) }
 {
-    match opening_named(word) {
-        None => Ok(None),
-        Some(Opening::Spawn) => Ok(spawn(rest)),
-        Some(Opening::Process(pid)) => process(alloc, Pid(pid), rest),
-    }
+    let Some(opening) = opening_named(word) else {
+        return Ok(None);
+    };
+    Ok(match opening {
+        Opening::Spawn => spawn(rest).map(|event| Line::Event(event)),
+        Opening::Pass => is_end(rest).then_some(Line::Event(Event::Pass)),
+        Opening::Totals => is_end(rest).then_some(Line::Report(Report::Totals)),
+        Opening::Check => is_end(rest).then_some(Line::Report(Report::Check)),
+        Opening::Process(pid) => process(alloc, Pid(pid), rest)?.map(|event| Line::Event(event)),
+    })
 }

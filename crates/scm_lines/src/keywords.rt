@@ -1,6 +1,6 @@
 //! The words that say which form a line has.
 ghost use Rattle.std.specs.Prelude.{◌≡◌};
-ghost use Rattle.scm_lines.specs.Keywords.{opening_of, verb_of, type_of};
+ghost use Rattle.scm_lines.specs.Keywords.{keyword_of, opening_of, verb_of, type_of};
 
 use crate::numbers::number;
 use af_base::events::SockType;
@@ -10,6 +10,12 @@ use af_base::events::SockType;
 pub enum Opening {
     /// `spawn`
     Spawn,
+    /// `pass`
+    Pass,
+    /// `totals`
+    Totals,
+    /// `check`
+    Check,
     /// The number of a process.
     Process(u32),
 }
@@ -27,14 +33,33 @@ pub enum Verb {
     Recv,
 }
 
+/// What a line's first word stands for, if it is a keyword.
+fn keyword_named(word: &[u8]) -> Option<Opening>
+    ensures { result ≡ keyword_of word.now }
+{
+    if word == b"spawn".as_slice() {
+        return Some(Opening::Spawn);
+    }
+    if word == b"pass".as_slice() {
+        return Some(Opening::Pass);
+    }
+    if word == b"totals".as_slice() {
+        return Some(Opening::Totals);
+    }
+    if word == b"check".as_slice() {
+        return Some(Opening::Check);
+    }
+    None
+}
+
 /// What the first word of a line stands for.
 pub fn opening_named(word: &[u8]) -> Option<Opening>
     ensures { result ≡ opening_of word.now }
 {
-    match word {
-        b"spawn" => Some(Opening::Spawn),
-        _ => Some(Opening::Process(number(word)?)),
+    if let Some(opening) = keyword_named(word) {
+        return Some(opening);
     }
+    Some(Opening::Process(number(word)?))
 }
 
 /// What the word after a process's number stands for.

@@ -2,13 +2,23 @@
 ghost use Rattle.std.specs.Prelude.{◌≡◌, IfOk};
 ghost use Rattle.scm_lines.specs.Lines.{all_printable, is_comment, line_of};
 
-use crate::forms::event;
+use crate::forms::form;
 use crate::words::{first_word, is_blank};
 use af_base::events::Event;
 use std::alloc::{AllocError, Global};
 
 /// The most bytes of a line, without its end.
 pub const MAX_LINE: usize = 262_144;
+
+/// What may be asked about the state at a line. A report is no event, and changes nothing.
+#[derive(Clone, Copy, Debug, PartialEq, Eq)]
+pub enum Report {
+    /// How many descriptors of each user are in flight.
+    Totals,
+    /// How many files are live, how many of them are garbage, and whether all counts that are kept
+    /// are the recounts.
+    Check,
+}
 
 /// What a line says.
 #[derive(Debug, PartialEq, Eq, Drop)]
@@ -17,6 +27,8 @@ pub enum Line {
     Silence,
     /// An event.
     Event(Event),
+    /// A report is wanted.
+    Report(Report),
 }
 
 /// Whether each byte is a printable ASCII character, a space or a tab.
@@ -64,5 +76,5 @@ pub fn line_of(alloc: Global, bytes: &[u8]) -> Result<Option<Line>, AllocError>
     let Some((word, rest)) = first_word(bytes) else {
         return Ok(Some(Line::Silence));
     };
-    Ok(event(alloc, word, rest)?.map(|event| Line::Event(event)))
+    form(alloc, word, rest)
 }

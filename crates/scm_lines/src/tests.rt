@@ -1,6 +1,6 @@
 //! Lines with what each says, from the worked examples of the script language.
 use crate::laws::{what_is_read_is_said, what_is_said_is_read};
-use crate::line::{Line, MAX_LINE, line_of};
+use crate::line::{Line, MAX_LINE, Report, line_of};
 use af_base::events::{Event, SockType, Step};
 use af_base::items::Items;
 use af_base::names::{Fd, Pid, Uid};
@@ -9,7 +9,7 @@ use std::process::Abort;
 use std::test::Fail;
 
 /// Lines that cannot be read.
-const UNREADABLE: [&[u8]; 22] = [
+const UNREADABLE: [&[u8]; 25] = [
     b"spawn 01 4",
     b"spawn 4294967296 4",
     b"spawn 1 4 root",
@@ -28,7 +28,10 @@ const UNREADABLE: [&[u8]; 22] = [
     b"1 close 0 0",
     b"1 recv 0 10",
     b"1 open",
-    b"pass",
+    b"pass 1",
+    b"totals 1",
+    b"check all",
+    b"begin",
     b"1 close 0\r",
     b"\x0C",
     b"1 close \xFF",
@@ -64,6 +67,13 @@ fn spawn_lines(rt: HostRuntime) -> Result<(), Fail> {
         b"\t spawn  4294967295\t0 priv ",
         Line::Event(privileged),
     )
+}
+
+#[test]
+fn words_that_stand_alone(rt: HostRuntime) -> Result<(), Fail> {
+    said(&rt, b"\tpass ", Line::Event(Event::Pass))?;
+    said(&rt, b"totals", Line::Report(Report::Totals))?;
+    said(&rt, b"check", Line::Report(Report::Check))
 }
 
 #[test]

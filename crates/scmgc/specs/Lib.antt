@@ -1,7 +1,3 @@
--- What a script does, what is written of it, and what the program answers.
-pub mod Text
-pub mod Script
-pub mod Line
-pub mod Progress
+-- What the program is asked to do, and what it answers.
 pub mod Task
 pub mod Program

@@ -1,8 +1,8 @@
 -- What the program answers.
 use Rattle.std.specs.Prelude.{◌≡◌, ℕ, List, Bool, Option, Result, Ok, Err, IfOk, IfErr}
-use Rattle.scmgc.specs.Script.{RanToEnd, StopsBy, is_read_fault, is_write_fault}
-use Rattle.scmgc.specs.declared.fault.RunFault.{RunFault}
-use Rattle.scmgc.specs.declared.fault.RunFault.TheVariants as fault
+use Rattle.scm_run.specs.Script.{RanToEnd, StopsBy, is_read_fault, is_write_fault}
+use Rattle.scm_run.specs.declared.fault.RunFault.{RunFault}
+use Rattle.scm_run.specs.declared.fault.RunFault.TheVariants as fault
 
 -- The exit status after a fault: 2 for a line that cannot be read, else 1. This project's profile.
 abbrev pub fault_status : RunFault → ℕ

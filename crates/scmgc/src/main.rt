@@ -1,17 +1,13 @@
 //! Runs scripts of events against the layer, from standard input to standard output.
 #![tactic(auto)]
 
-mod fault;
-mod line;
 mod program;
-mod run;
 mod task;
 #[cfg(test)]
 mod tests;
-mod text;
 
-use crate::fault::RunFault;
 use crate::program::program;
+use scm_run::fault::RunFault;
 use scm_watched::watched::Watched;
 use std::alloc::AllocError;
 use std::env;

@@ -3,14 +3,14 @@ ghost use Rattle.std.specs.Prelude.{◌≡◌, ◌≢◌, ◌≤◌, ◌⊎◌, 
 ghost use Rattle.clap.specs.Words.{kind_of};
 ghost use Rattle.clap.specs.declared.error.kind.ErrorKind.TheVariants.{OutOfMemory};
 ghost use Rattle.scmgc.specs.Program.{RanScript, fault_status};
-ghost use Rattle.scmgc.specs.Script.{RanToEnd};
+ghost use Rattle.scm_run.specs.Script.{RanToEnd};
 ghost use Rattle.scmgc.specs.Task.{fits, task_in};
 ghost use Rattle.scmgc.specs.declared.task.Task.TheVariants as task;
 
-use crate::fault::RunFault;
-use crate::run::run_script;
 use crate::task::{Task, task_of};
 use clap::error::ErrorKind;
+use scm_run::fault::RunFault;
+use scm_run::run::run_script;
 use scm_watched::watched::Watched;
 use std::alloc::Global;
 use std::convert::AsStr;

@@ -1,5 +1,2 @@
-//! Whole runs over memory, and streams that fail.
+//! The whole program over memory.
 mod programs;
-mod rows;
-mod runs;
-mod streams;

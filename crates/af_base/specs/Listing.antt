@@ -1,0 +1,66 @@
+-- The bare world that plain lists of tables and files describe.
+use Rattle.std.specs.Prelude.{ℕ, ◌<◌, ◌^◌, List, [], None, false, map, length}
+use Rattle.std.specs.List.{All, sum_by}
+use Rattle.std.specs.List.Sorted.{IsStrictlyIncreasing}
+use Rattle.std.specs.Option.{option_map_or}
+use Rattle.std.specs.FinMap as finmap
+use Rattle.af_base.specs.declared.events.SockType.TheVariants.{Seqpacket}
+use Rattle.af_base.specs.declared.events.State.TheVariants as state
+use Rattle.af_base.specs.declared.listing.ListedFile.{ListedFile}
+use Rattle.af_base.specs.declared.listing.ListedMessage.{ListedMessage}
+use Rattle.af_base.specs.declared.listing.ListedNumber.{ListedNumber}
+use Rattle.af_base.specs.declared.listing.ListedSocket.{ListedSocket}
+use Rattle.af_base.specs.declared.listing.ListedTable.{ListedTable}
+use Rattle.af_base.specs.World.{World, Map, Process, File, Socket, Message, Plain, AsSocket}
+use Rattle.af_base.specs.Places.{contents}
+
+-- The map that a list describes, each item by its key (this project's profile).
+abbrev pub keyed : {A X : Type 0} → (A → ℕ) → (A → X) → List A → Map X
+keyed key value xs = finmap.from_entries (map (λ x. (key x, value x)) xs)
+
+-- The message that is listed: its bytes are left out (this project's profile).
+abbrev pub message_of : ListedMessage → Message
+message_of m = record { bytes = []; attached = m.attached.items; user = m.user }
+
+-- The socket that is listed: its queue and its backlog (this project's profile).
+abbrev pub socket_of : ListedSocket → Socket
+socket_of s = record { kind = Seqpacket; state = state.Idle; name = None; queue = map message_of s.queue.items; backlog = s.backlog.items }
+
+-- The file that is listed: plain, or a socket (this project's profile).
+abbrev pub file_of : ListedFile → File
+file_of x = option_map_or (λ s. AsSocket (socket_of s)) x.socket Plain
+
+-- What the numbers of a listed table stand for (open(2)).
+abbrev pub table_of : ListedTable → Map ℕ
+table_of t = keyed (λ n. n.fd) (λ n. n.ino) t.numbers.items
+
+-- The process that is listed: its table (this project's profile).
+abbrev pub process_of : ListedTable → Process
+process_of t = record { user = 0; limit = 0; privileged = false; table = table_of t }
+
+-- The processes that a list of tables describes (this project's profile).
+abbrev pub processes_of : List ListedTable → Map Process
+processes_of tables = keyed (λ t. t.pid) process_of tables
+
+-- The files that a list of files describes (this project's profile).
+abbrev pub files_of : List ListedFile → Map File
+files_of files = keyed (λ x. x.ino) file_of files
+
+-- The bare world that the lists describe (this project's profile).
+abbrev pub listed : List ListedTable → List ListedFile → World
+listed tables files = record { processes = processes_of tables; files = files_of files; next_ino = 0; next_pid = 0; users = [] }
+
+-- The numbers of a table rise, so that none is listed twice (this project's profile).
+abbrev pub IsRisingTable : ListedTable → Type 0
+IsRisingTable t = IsStrictlyIncreasing (map (λ n. n.fd) t.numbers.items)
+
+-- Pids and numbers rise, and all numbers together are few enough to be counted (this project's profile).
+pub record AreTables (tables : List ListedTable) : Type 0 where
+  pub pids : IsStrictlyIncreasing (map (λ t. t.pid) tables)
+  pub numbers : All IsRisingTable tables
+  pub few : sum_by (λ t. length t.numbers.items) tables < 2 ^ 63
+
+-- Inode numbers rise, and all that files hold together is little enough to be counted (this project's profile).
+pub record AreFiles (files : List ListedFile) : Type 0 where
+  pub inos : IsStrictlyIncreasing (map (λ x. x.ino) files)
+  pub few : sum_by (λ x. length (contents (file_of x))) files < 2 ^ 63

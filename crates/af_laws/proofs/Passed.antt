@@ -1,0 +1,91 @@
+-- What a whole pass leaves as it was, and that it leaves no garbage.
+use Rattle.std.proofs.Common.{◌≡◌, ℕ, Bool, true, false, not, inl, inr, [], refl, sym, ap, ◌∙◌, subst, cond}
+use Rattle.std.specs.Prelude.{◌↔◌, Option, Some, None, is_some, option_map, if◌then◌else◌}
+use Rattle.std.specs.Option.{option_map_or}
+use Rattle.std.specs.FinMap as map
+use Rattle.std.proofs.lemmas.Bool.{false≢true}
+use Rattle.af_base.specs.declared.errno.Errno.{Errno}
+use Rattle.af_base.specs.declared.errno.Errno.TheVariants.{EBUSY, ENOMEM}
+use Rattle.af_base.specs.declared.events.Reply.{Reply}
+use Rattle.af_base.specs.declared.events.Reply.TheVariants as reply
+use Rattle.af_base.specs.World.{AsSocket, File, Plain, World}
+use Rattle.af_base.specs.Places.{backlog_of, queue_of}
+use Rattle.af_base.specs.Unheld.{Goes, Unheld, file_without}
+use Rattle.af_base.specs.Reached.{ByTable, BySocket, Garbage, Reached}
+use Rattle.af_base.specs.Pass.{Idle, Machine, Pass, PassesWhole, Purges, Running, emptied, empty_file}
+use Rattle.af_base.proofs.Purging.{from_emptied, get-emptied, live-emptied}
+use Rattle.af_base.proofs.Settling.{get-without, live-without, stays}
+use Rattle.af_laws.proofs.Chains.{holder_live, not_emptied, not_gone, purging_keeps_reached, reached_emptied}
+use Rattle.af_laws.specs.Purging.{PassLeavesNoGarbage, PassSparesTheReached, Spares}
+
+-- a world whose garbage is purged
+module _ (old new : World) (test : ℕ → Bool) (garbage : (f : ℕ) → (test f ≡ true) ↔ Garbage old f) (purged : Purges test old new) where
+  is_garbage : (f : ℕ) → test f ≡ true → Garbage old f
+  is_garbage f e = (garbage f).0 e
+
+  -- what is reached is what it was, but for a peer that has hung up
+  same_file : (f : ℕ) → Reached old f → map.get new.files f ≡ option_map (file_without purged.0) (map.get old.files f)
+  same_file f r =
+      ap (λ w. map.get w.files f) purged.2 ∙ get-without purged.0 (emptied test old) f
+      ∙ ap (λ b. cond (not b) (option_map (file_without purged.0) (map.get (emptied test old).files f)) None) (not_gone (emptied test old) new purged f (reached_emptied old test is_garbage f r))
+      ∙ ap (option_map (file_without purged.0)) (get-emptied test old f ∙ ap (λ b. option_map (λ x. if b then empty_file x else x) (map.get old.files f)) (not_emptied old test is_garbage f r) ∙ whole (map.get old.files f)) where
+        whole : (o : Option File) → option_map (λ x. if false then empty_file x else x) o ≡ o
+        whole None = refl
+        whole (Some x) = refl
+
+  spared : Spares old new
+  spared = record {
+    tables = ap (λ w. w.processes) purged.2;
+    live = λ f r l. ap is_some (same_file f r) ∙ live (map.get old.files f) ∙ l;
+    queues = λ f r. ap (λ o. option_map_or queue_of o []) (same_file f r) ∙ queue (map.get old.files f);
+    backlogs = λ f r. ap (λ o. option_map_or backlog_of o []) (same_file f r) ∙ backlog (map.get old.files f);
+  } where
+    live : (o : Option File) → is_some (option_map (file_without purged.0) o) ≡ is_some o
+    live None = refl
+    live (Some x) = refl
+
+    queue : (o : Option File) → option_map_or queue_of (option_map (file_without purged.0) o) [] ≡ option_map_or queue_of o []
+    queue None = refl
+    queue (Some Plain) = refl
+    queue (Some (AsSocket s)) = refl
+
+    backlog : (o : Option File) → option_map_or backlog_of (option_map (file_without purged.0) o) [] ≡ option_map_or backlog_of o []
+    backlog None = refl
+    backlog (Some Plain) = refl
+    backlog (Some (AsSocket s)) = refl
+
+  -- only garbage holds garbage, and that was emptied
+  goes : (f : ℕ) → Garbage old f → Unheld (emptied test old) f
+  goes f g = Goes f (live-emptied test old f ∙ g.0) (λ t. g.1 (ByTable f t)) (λ s h.
+      let from = from_emptied test old s f h in
+      absurd (false≢true (sym from.0 ∙ (garbage s).1 (holder_live old s f from.1, λ r. g.1 (BySocket s f r from.1)))))
+
+  none_left : (f : ℕ) → ¬ (Garbage new f)
+  none_left f g =
+      let left = stays _ _ (sym (ap (λ w. is_some (map.get w.files f)) purged.2 ∙ live-without purged.0 (emptied test old) f) ∙ g.0) in
+      let was : Garbage old f = (sym (live-emptied test old f) ∙ left.1, λ r. g.1 ((purging_keeps_reached old new test is_garbage purged f).0 r)) in
+      false≢true (sym left.0 ∙ (purged.1 f).1 (goes f was))
+
+-- where nothing changes
+spares_all : (old new : Machine) → new ≡ old → Spares old.world new.world
+spares_all old new e = subst (λ m. Spares old.world m.world) (sym e) (record { tables = refl; live = λ f r l. l; queues = λ f r. refl; backlogs = λ f r. refl })
+
+spares_by : (p : Pass) (old new : Machine) (r : Reply) → PassesWhole p old r new → Spares old.world new.world
+spares_by Idle old new r (inl h) = spared old.world new.world h.0.test h.0.is_garbage h.0.purged
+spares_by Idle old new r (inr h) = spares_all old new h.1
+spares_by (Running begun spent) old new r h = spares_all old new h.1
+
+pub pass_spares_the_reached : PassSparesTheReached
+pass_spares_the_reached old new r h = spares_by old.pass old new r h
+
+-- who is done is not refused
+done_refused : (pass count : ℕ) (e : Errno) → reply.Done pass count ≡ reply.Refused e → ⊥
+done_refused pass count e d = cc
+
+leaves_by : (p : Pass) (old new : Machine) (pass count : ℕ) → PassesWhole p old (reply.Done pass count) new → (f : ℕ) → ¬ (Garbage new.world f)
+leaves_by Idle old new pass count (inl h) = none_left old.world new.world h.0.test h.0.is_garbage h.0.purged
+leaves_by Idle old new pass count (inr h) = absurd (done_refused pass count ENOMEM h.0)
+leaves_by (Running begun spent) old new pass count h = absurd (done_refused pass count EBUSY h.0)
+
+pub pass_leaves_no_garbage : PassLeavesNoGarbage
+pass_leaves_no_garbage old new pass count h = leaves_by old.pass old new pass count h

@@ -1,0 +1,16 @@
+use Rattle.std.proofs.Common.{length, arith}
+use Rattle.af_base.specs.Counts.{count_in}
+use Rattle.af_base.specs.Listing.{file_of}
+use Rattle.af_base.specs.Places.{carried, contents, queue_of}
+use Rattle.af_plain.proofs.Adding.{sum_fits}
+use Rattle.af_plain.proofs.Queues.{count-le}
+use Rattle.af_plain.proofs.Wholes.{files_end}
+use Rattle.af_plain.proofs.counts.recount_inflight.Goals as goal
+
+pub overflow_add-sum : goal.overflow_add-sum
+overflow_add-sum c =
+    let fits = sum_fits (λ x. count_in c.args.ino (carried (queue_of (file_of x)))) (λ x. length (contents (file_of x))) (λ x. count-le c.args.ino (file_of x)) c.files-file-items.result.now c.loop-file.file-index c.file-item.result c.loop-file-test.true c.file-item.is c.files-file-items.ensures.ordered.few in
+    omega (arith, fits, c.loop-file.invariant, c.inflight_at-sum.ensures)
+
+pub returns : goal.returns
+returns c = files_end (λ x. count_in c.args.ino (carried (queue_of x))) c.args.listing.now c.files-file-items.result.now c.loop-file.file-index c.loop-file.sum c.files-file-items.ensures.value c.files-file-items.ensures.ordered c.loop-file-test.false c.loop-file.invariant

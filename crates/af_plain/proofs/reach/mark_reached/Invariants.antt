@@ -1,0 +1,10 @@
+use Rattle.std.proofs.Common.{◌+◌, length}
+use Rattle.af_plain.specs.Marking.{left}
+use Rattle.af_plain.proofs.Searching.{Searches, all_held}
+use Rattle.af_plain.proofs.reach.mark_reached.Given as goal
+
+abbrev pub invariant-loop-ino : goal.invariant-loop-ino
+invariant-loop-ino l = Searches l.listing l.marking
+
+abbrev pub decreases-loop-ino : goal.decreases-loop-ino
+decreases-loop-ino l = left l.marking.marked (all_held l.files) + length l.marking.ahead.items

@@ -1,0 +1,35 @@
+-- How far a search is, and what its list is of.
+use Rattle.std.specs.Prelude.{◌≡◌, ◌≤◌, ◌⊎◌, ◌↔◌, ℕ, ◌+◌, true, not, List, [], length}
+use Rattle.std.specs.List.{Contains, count_by}
+use Rattle.std.specs.List.Sorted.{IsStrictlyIncreasing}
+use Rattle.std.specs.Option.{option_map_or}
+use Rattle.std.specs.Ordering.{nat_cmp}
+use Rattle.std.specs.BTreeSet as tree
+use Rattle.std.specs.BTreeSet.{BTreeSet}
+use Rattle.std.specs.FinMap as finmap
+use Rattle.af_base.specs.Listing.{files_of}
+use Rattle.af_base.specs.Places.{contents}
+use Rattle.af_base.specs.declared.listing.ListedFile.{ListedFile}
+use Rattle.af_plain.specs.declared.reach.Marking.{Marking}
+
+-- The numbers of the list are those that P is true of, each once, rising (this project's profile).
+abbrev pub IsListOf : (ℕ → Type 0) → List ℕ → Type 0
+IsListOf P xs = IsStrictlyIncreasing xs × ((f : ℕ) → Contains xs f ↔ P f)
+
+-- What the file s of a list holds (this project's profile).
+abbrev pub held_in : List ListedFile → ℕ → List ℕ
+held_in files s = option_map_or contents (finmap.get (files_of files) s) []
+
+-- How many of a list are not in the set.
+abbrev pub left : BTreeSet ℕ → List ℕ → ℕ
+left s xs = count_by (λ x. not (tree.contains nat_cmp s x)) xs
+
+-- The search went on by these files: they and no others were added, and whichever was new is to be looked at (this project's profile).
+pub record Marks (old new : Marking) (found : List ℕ) : Type 0 where
+  pub marked : (f : ℕ) → Contains found f → tree.contains nat_cmp new.marked f ≡ true
+  pub kept : (f : ℕ) → tree.contains nat_cmp old.marked f ≡ true → tree.contains nat_cmp new.marked f ≡ true
+  pub only : (f : ℕ) → tree.contains nat_cmp new.marked f ≡ true → (tree.contains nat_cmp old.marked f ≡ true) ⊎ Contains found f
+  pub fresh : (f : ℕ) → tree.contains nat_cmp new.marked f ≡ true → (tree.contains nat_cmp old.marked f ≡ true) ⊎ Contains new.ahead.items f
+  pub stays : (f : ℕ) → Contains old.ahead.items f → Contains new.ahead.items f
+  pub ahead : (f : ℕ) → Contains new.ahead.items f → Contains old.ahead.items f ⊎ Contains found f
+  pub less : (all : List ℕ) → ((f : ℕ) → Contains found f → Contains all f) → left new.marked all + length new.ahead.items ≤ left old.marked all + length old.ahead.items

@@ -1,0 +1,17 @@
+//! A second, independent count: each number and each reach is found from the lists alone, by plain
+//! walks. It is slow, and shares no walk and no count with the engine, so that to compare the two
+//! compares two things.
+#![tactic(auto)]
+
+mod agreement;
+mod counts;
+pub mod laws;
+mod reach;
+mod walks;
+
+pub use agreement::{Kept, KeptFile, KeptUser, agrees};
+pub use counts::{recount_inflight, recount_refs, recount_total, recount_user};
+pub use reach::{garbage, reached};
+
+#[cfg(test)]
+mod tests;

@@ -1,0 +1,114 @@
+//! The collector. A whole pass finds the files that no chain of places leads to from a table,
+//! empties their queues, and lets go what no place holds then.
+ghost use Rattle.std.specs.Prelude.{◌≡◌, IfOk, OnOk};
+ghost use Rattle.std.specs.List.{count_by};
+ghost use Rattle.std.specs.Option.{option_and_then};
+ghost use Rattle.std.specs.FinMap as map;
+ghost use Rattle.af_base.specs.Pass.{PassesWhole};
+ghost use Rattle.af_base.specs.Places.{InTable, Holds};
+ghost use Rattle.af_base.specs.Whole.{IsWhole};
+ghost use Rattle.af_steps.specs.Kinds.{kind_of};
+ghost use Rattle.af_steps.specs.Marking.{AreGarbage, AreReached, Marked, NoFile, is_socket_at, unmarked};
+
+use crate::engine::Engine;
+use crate::marks::Marks;
+use crate::store::Store;
+use af_base::errno::Errno;
+use af_base::events::{Reply, SockType};
+use af_base::limits::MAX_PASS;
+use af_base::names::Ino;
+use std::alloc::{AllocError, Global};
+
+impl Engine {
+    /// A whole pass: all garbage goes, with what nothing but garbage held. Its number is one more
+    /// than the last one's, up to the largest, which stays.
+    pub(crate) fn pass(&mut self) -> Reply
+        ensures { PassesWhole self.old.pass self.old result self.new }
+    {
+        let alloc = self.alloc;
+        let Ok(garbage) = self.store.garbage(alloc) else {
+            return Reply::Refused(Errno::ENOMEM);
+        };
+        let reclaimed = self.store.sockets_among(&garbage);
+        self.store.purge(alloc, &garbage);
+        self.last_pass = (self.last_pass + 1).min(MAX_PASS);
+        Reply::Done {
+            pass: self.last_pass,
+            reclaimed,
+        }
+    }
+}
+
+impl Store {
+    /// The live files that no chain of places leads to from a table, rising.
+    fn garbage(&self, alloc: Global) -> Result<Vec<Ino>, AllocError>
+        requires { IsWhole self.now }
+        ensures { IfOk result (λ inos. AreGarbage self.now inos.items) }
+    {
+        let marks = self.reached(alloc)?;
+        self.unmarked(alloc, &marks)
+    }
+
+    /// The live files without a mark, rising.
+    fn unmarked(&self, alloc: Global, marks: &Marks) -> Result<Vec<Ino>, AllocError>
+        ensures { IfOk result (λ inos. inos.items ≡ unmarked marks.now self.now) }
+    {
+        let mut unmarked = Vec::new(alloc);
+        for ino in self.files.keys() {
+            if marks.is_marked(*ino) {
+                continue;
+            }
+            unmarked.push(*ino)?;
+        }
+        Ok(unmarked)
+    }
+
+    /// How many of these files are sockets.
+    fn sockets_among(&self, inos: &[Ino]) -> u64
+        ensures { result ≡ count_by (is_socket_at self.now) inos.now }
+    {
+        inos.iter().filter(|ino| self.kind(**ino).is_some()).count() as u64
+    }
+
+    /// The type of a socket. A plain file and a stranger have none.
+    fn kind(&self, ino: Ino) -> Option<SockType>
+        ensures { result ≡ option_and_then kind_of (map.get self.now.files ino) }
+    {
+        let socket = self.socket(ino)?;
+        Some(socket.kind())
+    }
+
+    /// The files that a chain of places leads to from a table. It looks at each of them once, and
+    /// goes down a chain of any length without recursion.
+    fn reached(&self, alloc: Global) -> Result<Marks, AllocError>
+        requires { IsWhole self.now }
+        ensures { IfOk result (AreReached self.now) }
+    {
+        let mut marks = Marks::new(alloc);
+        self.mark_tabled(&mut marks)?;
+        while let Some(ino) = marks.next() {
+            self.mark_held(ino, &mut marks)?;
+        }
+        Ok(marks)
+    }
+
+    /// Marks all that tables hold.
+    fn mark_tabled(&self, marks: &mut Marks) -> Result<(), AllocError>
+        ensures { OnOk result (Marked (InTable self.now) NoFile marks.old marks.new) }
+    {
+        for process in self.processes.values() {
+            process.mark(marks)?;
+        }
+        Ok(())
+    }
+
+    /// Marks all that the file holds.
+    fn mark_held(&self, ino: Ino, marks: &mut Marks) -> Result<(), AllocError>
+        ensures { OnOk result (Marked (Holds self.now ino) NoFile marks.old marks.new) }
+    {
+        let Some(socket) = self.socket(ino) else {
+            return Ok(());
+        };
+        socket.mark(marks)
+    }
+}

@@ -1,0 +1,55 @@
+//! One allocation refused, the Nth, by `rt try --test --fail-alloc N`.
+use super::bench::{Bench, close, got, pair, recv, send, spawn};
+use af_base::errno::Errno;
+use af_base::events::{Event, Reply};
+use af_base::names::{Fd, Ino, Pid};
+use std::alloc::{AllocError, Global};
+use std::process::Abort;
+
+/// Events, each with its reply where memory is ample.
+fn script(alloc: Global) -> Result<Vec<(Event, Reply)>, AllocError> {
+    let lines = vec![in alloc;
+        (spawn(16), Reply::Pid(Pid(1))),
+        (pair(1), Reply::Fds(Fd(0), Fd(1))),
+        (send(alloc, 1, 1, b"hi", &[0])?, Reply::Sent(2)),
+        (recv(1, 0, 10, 8), got(alloc, b"hi", &[2], false, false)?),
+        (close(1, 0), Reply::Ok),
+    ]?;
+    Ok(lines)
+}
+
+/// All that the views show of the files and processes of the script.
+fn shown(bench: &Bench) -> [(u64, u64); 4] {
+    let (charged, total, live) = bench.totals();
+    let pid = u64::from(bench.engine.next_pid().0);
+    [
+        bench.held(1),
+        bench.held(2),
+        (charged, total),
+        (live as u64, pid),
+    ]
+}
+
+/// The event has this reply, at the second trial where the first was refused for want of memory.
+fn assert_done(rt: &impl Abort, bench: &mut Bench, event: &Event, reply: &Reply) {
+    let before = shown(bench);
+    let first = bench.engine.step(event);
+    if first == Reply::Refused(Errno::ENOMEM) {
+        assert!(rt; shown(bench) == before);
+        assert!(rt; bench.does(event, reply));
+    } else {
+        assert!(rt; first == *reply);
+    }
+}
+
+#[test]
+fn one_refused(rt: HostRuntime) {
+    let alloc = rt.alloc();
+    let (Ok(mut bench), Ok(lines)) = (Bench::new(alloc), script(alloc)) else {
+        return;
+    };
+    for (event, reply) in &lines {
+        assert_done(&rt, &mut bench, event, reply);
+    }
+    assert_eq!(rt; bench.engine.refs(Ino(1)), 1);
+}

@@ -1,0 +1,5 @@
+-- Lemmas.
+pub mod LinesLemmas
+pub mod RunLemmas
+pub mod UserLines
+pub mod Audited

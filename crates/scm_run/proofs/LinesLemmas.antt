@@ -1,0 +1,195 @@
+-- The lines of bytes that are read piece by piece.
+use Rattle.std.proofs.Common.{◌≡◌, ℕ, ◌+◌, ◌-◌, ◌<◌, ◌==◌, List, [], ◌∷◌, ◌++◌, Bool, true, false, cond, length, take, drop, Some, None, refl, sym, ap, ◌∙◌, append_assoc, append-nil, arith, length-append, ◌⊎◌, inl, inr, get_or, take-append-drop}
+use Rattle.std.specs.Prelude.{map, slice_get, slice_index}
+use Rattle.std.specs.List.{AllByRecursion, flat_map, slice_split, onto_first}
+use Rattle.std.specs.Str.Lines.{lines, lines_of_parts, strip_carriage_return}
+use Rattle.std.proofs.lemmas.List.{flat_map_more, take_at, drop_more, map-append, length-map}
+use Rattle.std.proofs.lemmas.List.Splits.{slice_split_at, slice_split_none}
+use Rattle.std.proofs.lemmas.List.Elements.{All-append, All-nil, All-push, All-cons}
+use Rattle.std.proofs.lemmas.Grind.{common_steps}
+use Rattle.scm_lines.specs.Lines.{line_of}
+use Rattle.scm_lines.specs.declared.line.TheConstants.{MAX_LINE}
+use Rattle.scm_run.specs.Progress.{may_fit}
+use Rattle.scm_run.specs.Script.{IsCut, NoFeed, ended_by_feed}
+
+-- ---- whole lines
+
+-- each list has a first part
+parts : (p : ℕ → Bool) (xs : List ℕ) → (y : List ℕ) × ((more : List (List ℕ)) × (slice_split p xs ≡ y ∷ more))
+parts p [] = ([], ([], refl))
+parts p (x ∷ xs) = by_test (p x) (slice_split p xs)
+  where
+    by_test : (b : Bool) (rest : List (List ℕ)) → (y : List ℕ) × ((more : List (List ℕ)) × (cond b ([] ∷ rest) (onto_first x rest) ≡ y ∷ more))
+    by_test true rest = ([], (rest, refl))
+    by_test false [] = (x ∷ [], ([], refl))
+    by_test false (r ∷ rest) = (x ∷ r, (rest, refl))
+
+-- a part before another ends with a line feed
+first_part : (w : List ℕ) (others : List (List ℕ)) (y : List ℕ) (more : List (List ℕ)) → others ≡ y ∷ more
+    → lines_of_parts (w ∷ others) ≡ strip_carriage_return w ∷ lines_of_parts others
+first_part w others y more e = rw e refl
+
+-- a line feed ends the first line
+line-front : (w rest : List ℕ) → NoFeed w → lines (w ++ 10 ∷ rest) ≡ strip_carriage_return w ∷ lines rest
+line-front w rest here =
+    let (y, (more, e)) = parts (λ b. b == 10) rest in
+    ap lines_of_parts (slice_split_at (λ b. b == 10) w 10 rest here refl) ∙ first_part w (slice_split (λ b. b == 10) rest) y more e
+
+-- whole lines come first
+pub lines-front : (whole : List (List ℕ)) (rest : List ℕ) → AllByRecursion NoFeed whole
+    → lines (flat_map ended_by_feed whole ++ rest) ≡ map strip_carriage_return whole ++ lines rest
+lines-front [] rest h = refl
+lines-front (w ∷ whole) rest (here, others) =
+    ap lines (append_assoc (w ++ 10 ∷ []) (flat_map ended_by_feed whole) rest ∙ append_assoc w (10 ∷ []) (flat_map ended_by_feed whole ++ rest))
+    ∙ line-front w (flat_map ended_by_feed whole ++ rest) here
+    ∙ ap (λ l. strip_carriage_return w ∷ l) (lines-front whole rest others)
+
+all_end : (whole : List (List ℕ)) (rest : List ℕ) → AllByRecursion NoFeed whole → NoFeed rest → AllByRecursion NoFeed (whole ++ rest ∷ [])
+all_end [] rest all h = (h, tt)
+all_end (w ∷ whole) rest (here, others) h = (here, all_end whole rest others h)
+
+-- the line feed ends a line
+pub cut_end : (taken : List ℕ) (whole : List (List ℕ)) (rest : List ℕ) → IsCut taken whole rest → IsCut (taken ++ 10 ∷ []) (whole ++ rest ∷ []) []
+cut_end taken whole rest cut = record {
+  joined = ap (λ t. t ++ 10 ∷ []) cut.joined ∙ append_assoc (flat_map ended_by_feed whole) rest (10 ∷ []) ∙ flat_map_more ended_by_feed [] whole rest
+      ∙ sym (append-nil (flat_map ended_by_feed (whole ++ rest ∷ [])));
+  each = all_end whole rest cut.each cut.open_end;
+  open_end = All-nil (λ x. (x == 10) ≡ false);
+}
+
+-- another byte goes on with the line
+pub cut_push : (taken : List ℕ) (whole : List (List ℕ)) (rest : List ℕ) (b : ℕ) → IsCut taken whole rest → (b == 10) ≡ false → IsCut (taken ++ b ∷ []) whole (rest ++ b ∷ [])
+cut_push taken whole rest b cut h = record {
+  joined = rw (cut.joined) (append_assoc (flat_map ended_by_feed whole) rest (b ∷ []));
+  each = cut.each;
+  open_end = All-push (λ x. (x == 10) ≡ false) rest b cut.open_end h;
+}
+
+-- the first lines of an input that begins so
+pub front_lines : (taken : List ℕ) (whole : List (List ℕ)) (rest more : List ℕ) → IsCut taken whole rest → lines (taken ++ more) ≡ map strip_carriage_return whole ++ lines (rest ++ more)
+front_lines taken whole rest more cut =
+    ap (λ t. lines (t ++ more)) cut.joined ∙ ap lines (append_assoc (flat_map ended_by_feed whole) rest more) ∙ lines-front whole (rest ++ more) cut.each
+
+-- the lines of an input that has a line feed here
+pub ended_lines : (taken : List ℕ) (whole : List (List ℕ)) (rest more : List ℕ) → IsCut taken whole rest
+    → lines ((taken ++ 10 ∷ []) ++ more) ≡ (map strip_carriage_return whole ++ strip_carriage_return rest ∷ []) ++ lines more
+ended_lines taken whole rest more cut =
+    front_lines (taken ++ 10 ∷ []) (whole ++ rest ∷ []) [] more (cut_end taken whole rest cut)
+    ∙ ap (λ l. l ++ lines more) (map-append strip_carriage_return whole (rest ∷ []))
+
+-- the lines before the one that goes on
+pub firsts : (taken : List ℕ) (whole : List (List ℕ)) (rest more : List ℕ) (n : ℕ) → IsCut taken whole rest → n ≡ length whole
+    → take n (lines (taken ++ more)) ≡ map strip_carriage_return whole
+firsts taken whole rest more n cut counted =
+    ap (λ l. take n l) (front_lines taken whole rest more cut)
+    ∙ take_at (map strip_carriage_return whole) (lines (rest ++ more)) n (length-map whole strip_carriage_return ∙ sym counted)
+
+pub slice_get_at : (xs : List (List ℕ)) (y : List ℕ) (ys : List (List ℕ)) → slice_get (xs ++ y ∷ ys) (length xs) ≡ Some y
+slice_get_at [] y ys = refl
+slice_get_at (x ∷ xs) y ys = slice_get_at xs y ys
+
+-- the line that ends here
+pub line_at : (taken : List ℕ) (whole : List (List ℕ)) (rest more : List ℕ) (n : ℕ) → IsCut taken whole rest → n ≡ length whole
+    → slice_get (lines ((taken ++ 10 ∷ []) ++ more)) n ≡ Some (strip_carriage_return rest)
+line_at taken whole rest more n cut counted =
+    let first = map strip_carriage_return whole in
+    let here = strip_carriage_return rest in
+    let sum : n ≡ length first = counted ∙ sym (length-map whole strip_carriage_return) in
+    rw (ended_lines taken whole rest more cut, append_assoc first (here ∷ []) (lines more), sum) (slice_get_at first here (lines more))
+
+-- ---- a line that is too long
+
+is_ten : (b : ℕ) → (b == 10) ≡ true → b ≡ 10
+is_ten b e = grind (arith, common_steps)
+
+-- the bytes before the first line feed, if there is one
+first_cut : (bs : List ℕ) → (x : List ℕ) × (NoFeed x × ((bs ≡ x) ⊎ ((r : List ℕ) × (bs ≡ x ++ 10 ∷ r))))
+first_cut [] = ([], (All-nil (λ c. (c == 10) ≡ false), inl refl))
+first_cut (b ∷ bs) = by_test (b == 10) refl (first_cut bs)
+  where
+    by_test : (t : Bool) → (b == 10) ≡ t → (x : List ℕ) × (NoFeed x × ((bs ≡ x) ⊎ ((r : List ℕ) × (bs ≡ x ++ 10 ∷ r))))
+        → (x : List ℕ) × (NoFeed x × ((b ∷ bs ≡ x) ⊎ ((r : List ℕ) × (b ∷ bs ≡ x ++ 10 ∷ r))))
+    by_test true e later = ([], (All-nil (λ c. (c == 10) ≡ false), inr (bs, ap (λ (c : ℕ). c ∷ bs) (is_ten b e))))
+    by_test false e (x, (none, inl h)) = (b ∷ x, (All-cons (λ c. (c == 10) ≡ false) b x e none, inl (ap (λ l. b ∷ l) h)))
+    by_test false e (x, (none, inr (r, h))) = (b ∷ x, (All-cons (λ c. (c == 10) ≡ false) b x e none, inr (r, ap (λ l. b ∷ l) h)))
+
+-- bytes with no line feed are the last line
+pub last_line : (rest : List ℕ) → NoFeed rest → 0 < length rest → lines rest ≡ rest ∷ []
+last_line rest none some = ap lines_of_parts (slice_split_none (λ b. b == 10) rest none) ∙ single rest some
+  where
+    single : (xs : List ℕ) → 0 < length xs → lines_of_parts (xs ∷ []) ≡ xs ∷ []
+    single xs h = let t : (length xs == 0) ≡ false = grind (arith, common_steps) in rw t refl
+
+-- a line that is too long cannot be read
+long_line : (bytes : List ℕ) → MAX_LINE < length bytes → line_of bytes ≡ None
+unfolding line_of
+long_line bytes h = grind (arith, common_steps)
+
+strip_long : (line : List ℕ) → 262145 < length line → MAX_LINE < length (strip_carriage_return line)
+strip_long line h = grind (arith, common_steps)
+
+last_of : (front : List ℕ) (b : ℕ) → slice_index (front ++ b ∷ []) (length front) ≡ b
+last_of [] b = refl
+last_of (a ∷ front) b = last_of front b
+
+-- only a carriage return is left out
+strip_other : (front : List ℕ) (b : ℕ) → (b == 13) ≡ false → strip_carriage_return (front ++ b ∷ []) ≡ front ++ b ∷ []
+strip_other front b other =
+    let count : length (front ++ b ∷ []) - 1 ≡ length front = rw (length-append front (b ∷ [])) (omega arith) in
+    let test : (slice_index (front ++ b ∷ []) (length (front ++ b ∷ []) - 1) == 13) ≡ false = rw (count, last_of front b) other in
+    rw test refl
+
+past_return : (pending : List ℕ) (b : ℕ) → (b == 13) ≡ true → may_fit pending b ≡ false → MAX_LINE < length pending
+past_return pending b is_return over = grind (arith, common_steps)
+
+past_limit : (pending : List ℕ) (b : ℕ) → may_fit pending b ≡ false → 262143 < length pending
+past_limit pending b over = grind (arith, common_steps)
+
+-- however the line goes on, it is too long
+long_stripped : (pending x : List ℕ) (b : ℕ) → may_fit pending b ≡ false → MAX_LINE < length (strip_carriage_return ((pending ++ b ∷ []) ++ x))
+long_stripped pending x b over = by_test (b == 13) refl x
+  where
+    size : (x : List ℕ) → length ((pending ++ b ∷ []) ++ x) ≡ length pending + 1 + length x
+    size x = length-append (pending ++ b ∷ []) x ∙ ap (λ (n : ℕ). n + length x) (length-append pending (b ∷ []))
+
+    by_test : (t : Bool) → (b == 13) ≡ t → (x : List ℕ) → MAX_LINE < length (strip_carriage_return ((pending ++ b ∷ []) ++ x))
+    by_test true e x = strip_long ((pending ++ b ∷ []) ++ x) (omega (arith, size x, past_return pending b e over))
+    by_test false e [] = rw (append-nil (pending ++ b ∷ []), strip_other pending b e, length-append pending (b ∷ [])) (omega (arith, past_limit pending b over))
+    by_test false e (a ∷ x) = strip_long ((pending ++ b ∷ []) ++ a ∷ x) (omega (arith, size (a ∷ x), past_limit pending b over))
+
+-- the line that begins so cannot be read
+pub long_first : (pending more : List ℕ) (b : ℕ) → NoFeed (pending ++ b ∷ []) → may_fit pending b ≡ false
+    → (line : List ℕ) × ((others : List (List ℕ)) × ((lines ((pending ++ b ∷ []) ++ more) ≡ line ∷ others) × (line_of line ≡ None)))
+long_first pending more b none over =
+    let bad = pending ++ b ∷ [] in
+    let (x, (free, end)) = first_cut more in
+    let joined : NoFeed (bad ++ x) = All-append (λ c. (c == 10) ≡ false) bad x none free in
+    let size : length (bad ++ x) ≡ length pending + 1 + length x = length-append bad x ∙ ap (λ (n : ℕ). n + length x) (length-append pending (b ∷ [])) in
+    let big : MAX_LINE < length (bad ++ x) = omega (arith, size, past_limit pending b over) in
+    elim end [
+      | inl h ↦ (bad ++ x, ([], (ap (λ m. lines (bad ++ m)) h ∙ last_line (bad ++ x) joined (omega arith), long_line (bad ++ x) big)))
+      | inr (r, h) ↦ (
+        strip_carriage_return (bad ++ x),
+        (
+          lines r,
+          (
+            ap (λ m. lines (bad ++ m)) h ∙ ap lines (sym (append_assoc bad x (10 ∷ r))) ∙ line-front (bad ++ x) r joined,
+            long_line (strip_carriage_return (bad ++ x)) (long_stripped pending x b over),
+          ),
+        ),
+      )
+    ]
+
+-- ---- the end of the input
+
+pub all_lines : (taken : List ℕ) (whole : List (List ℕ)) (rest : List ℕ) → IsCut taken whole rest → lines taken ≡ map strip_carriage_return whole ++ lines rest
+all_lines taken whole rest cut = ap lines cut.joined ∙ lines-front whole rest cut.each
+
+-- ---- the bytes of a chunk
+
+pub around : (taken chunk more : List ℕ) (i d : ℕ) → i < length chunk
+    → ((taken ++ take i chunk) ++ get_or chunk i d ∷ []) ++ (drop (i + 1) chunk ++ more) ≡ (taken ++ chunk) ++ more
+around taken chunk more i d h =
+    let whole : take i chunk ++ (get_or chunk i d ∷ drop (i + 1) chunk) ≡ chunk = ap (λ l. take i chunk ++ l) (sym (drop_more chunk i d h)) ∙ take-append-drop i chunk in
+    let joined : ((taken ++ take i chunk) ++ get_or chunk i d ∷ []) ++ (drop (i + 1) chunk ++ more) ≡ (taken ++ (take i chunk ++ (get_or chunk i d ∷ drop (i + 1) chunk))) ++ more = simp append_assoc in
+    joined ∙ ap (λ c. (taken ++ c) ++ more) whole

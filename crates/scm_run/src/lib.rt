@@ -1,0 +1,14 @@
+//! The run of a script: its lines are read, done and answered, one after another.
+//!
+//! A caller wants [`run::run_script`] and [`fault::RunFault`]. Each line is read by `scm_lines`,
+//! done by an engine of `af_steps` (`line`), and its text is made whole before it is written: of a
+//! reply (`text`) or of a report (`report`).
+#![tactic(auto)]
+
+pub mod fault;
+mod line;
+mod report;
+pub mod run;
+#[cfg(test)]
+mod tests;
+mod text;

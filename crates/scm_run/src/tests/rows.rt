@@ -1,0 +1,240 @@
+//! Worked rows over memory: scripts whose output was worked out by hand.
+use crate::fault::RunFault;
+use crate::run::run_script;
+use scm_watched::watched::Watched;
+use std::alloc::AllocGlobal;
+use std::process::Abort;
+use std::test::Fail;
+
+/// The lines of a script have these texts, in order; a report may have several lines, or none.
+fn plays<T: Abort + AllocGlobal>(rt: &T, rows: &[(&str, &str)]) -> Result<(), Fail> {
+    let mut script = String::new(rt.alloc());
+    let mut texts = String::new(rt.alloc());
+    for (line, text) in rows {
+        writeln!(script, "{line}")?;
+        writeln!(texts, "{text}")?;
+    }
+    let mut input = Watched::new(script.as_bytes());
+    let mut output = Watched::new(Vec::new(rt.alloc()));
+    let done = run_script(rt.alloc(), &mut input, &mut output);
+    assert!(rt; done.is_ok());
+    assert_eq!(rt; output.inner().as_slice(), texts.as_bytes());
+    Ok(())
+}
+
+#[test]
+fn the_smallest_cycle(rt: HostRuntime) -> Result<(), Fail> {
+    let rows = [
+        ("spawn 1000 16", "pid 1"),
+        ("1 pair seqpacket", "fds 0 1"),
+        ("1 send 1 hi 0", "sent 2"),
+        ("1 close 0", "ok"),
+        ("totals", "user 1000 inflight 1"),
+        ("check", "check ok live 2 garbage 1"),
+        ("pass", "pass 1 reclaimed 1"),
+        ("totals", "user 1000 inflight 0"),
+        ("1 send 1 x", "EPIPE"),
+        ("check", "check ok live 1 garbage 0"),
+    ];
+    plays(&rt, rows.as_slice())
+}
+
+#[test]
+fn a_cycle_that_a_table_still_reaches(rt: HostRuntime) -> Result<(), Fail> {
+    let rows = [
+        ("spawn 1000 16", "pid 1"),
+        ("1 pair seqpacket", "fds 0 1"),
+        ("1 send 1 hi 0", "sent 2"),
+        ("1 close 1", "ok"),
+        ("pass", "pass 1 reclaimed 0"),
+        ("1 recv 0 10 8", "got hi fds 1"),
+        ("1 recv 0 10 8", "end"),
+    ];
+    plays(&rt, rows.as_slice())
+}
+
+#[test]
+fn the_boundary_of_exceeds(rt: HostRuntime) -> Result<(), Fail> {
+    let rows = [
+        ("spawn 1000 2", "pid 1"),
+        ("1 pair seqpacket", "fds 0 1"),
+        ("1 send 0 a 0", "sent 1"),
+        ("1 send 0 a 0", "sent 1"),
+        ("1 send 0 a 0", "sent 1"),
+        ("1 send 0 a 0", "ETOOMANYREFS"),
+        ("1 send 0 a", "sent 1"),
+        ("spawn 1000 2 priv", "pid 2"),
+        ("2 pair seqpacket", "fds 0 1"),
+        ("2 send 0 a 1", "sent 1"),
+        ("totals", "user 1000 inflight 4"),
+    ];
+    plays(&rt, rows.as_slice())
+}
+
+#[test]
+fn one_number_many_times(rt: HostRuntime) -> Result<(), Fail> {
+    let rows = [
+        ("spawn 1000 16", "pid 1"),
+        ("1 pair seqpacket", "fds 0 1"),
+        ("1 send 0 a 0*253", "sent 1"),
+        ("1 send 0 a 0*254", "EINVAL"),
+        ("totals", "user 1000 inflight 253"),
+        ("1 send 0 a 0", "ETOOMANYREFS"),
+        (
+            "1 recv 1 9 253",
+            "got a fds 2 3 4 5 6 7 8 9 10 11 12 13 14 15 ctrunc",
+        ),
+        ("totals", "user 1000 inflight 0"),
+    ];
+    plays(&rt, rows.as_slice())
+}
+
+#[test]
+fn a_full_table(rt: HostRuntime) -> Result<(), Fail> {
+    let rows = [
+        ("spawn 1000 3", "pid 1"),
+        ("1 pair seqpacket", "fds 0 1"),
+        ("1 send 0 a 0*3", "sent 1"),
+        ("1 recv 1 10 253", "got a fds 2 ctrunc"),
+        ("totals", "user 1000 inflight 0"),
+        ("check", "check ok live 2 garbage 0"),
+    ];
+    plays(&rt, rows.as_slice())
+}
+
+#[test]
+fn bytes_dropped_and_printed(rt: HostRuntime) -> Result<(), Fail> {
+    let rows = [
+        ("spawn 5 4", "pid 1"),
+        ("1 pair seqpacket", "fds 0 1"),
+        ("1 send 0 a%20b", "sent 3"),
+        ("1 recv 1 2 0", "got a%20 trunc"),
+    ];
+    plays(&rt, rows.as_slice())
+}
+
+#[test]
+fn a_chain_dropped_by_one_close(rt: HostRuntime) -> Result<(), Fail> {
+    let rows = [
+        ("spawn 1000 16", "pid 1"),
+        ("1 pair seqpacket", "fds 0 1"),
+        ("1 pair seqpacket", "fds 2 3"),
+        ("1 send 1 a 2", "sent 1"),
+        ("1 close 2", "ok"),
+        ("1 close 0", "ok"),
+        ("1 send 3 x", "EPIPE"),
+        ("check", "check ok live 2 garbage 0"),
+        ("totals", "user 1000 inflight 0"),
+    ];
+    plays(&rt, rows.as_slice())
+}
+
+/// X (inode 1, numbers 0 and 1), Y (inode 3, numbers 2 and 3) and Z (inode 5, numbers 4 and 5): X
+/// goes into Y's queue, Y into Z's, Z into Y's and Y into X's. A live kernel may keep such a group.
+#[test]
+fn three_sockets_in_two_cycles(rt: HostRuntime) -> Result<(), Fail> {
+    let rows = [
+        ("spawn 1000 16", "pid 1"),
+        ("1 pair seqpacket", "fds 0 1"),
+        ("1 pair seqpacket", "fds 2 3"),
+        ("1 pair seqpacket", "fds 4 5"),
+        ("1 send 3 a 0", "sent 1"),
+        ("1 send 5 b 2", "sent 1"),
+        ("1 send 3 c 4", "sent 1"),
+        ("1 send 1 d 2", "sent 1"),
+        ("1 close 0", "ok"),
+        ("1 close 1", "ok"),
+        ("1 close 2", "ok"),
+        ("1 close 3", "ok"),
+        ("1 close 4", "ok"),
+        ("1 close 5", "ok"),
+        ("totals", "user 1000 inflight 4"),
+        ("check", "check ok live 3 garbage 3"),
+        ("pass", "pass 1 reclaimed 3"),
+        ("check", "check ok live 0 garbage 0"),
+        ("totals", "user 1000 inflight 0"),
+    ];
+    plays(&rt, rows.as_slice())
+}
+
+#[test]
+fn users_in_the_order_of_their_first_process(rt: HostRuntime) -> Result<(), Fail> {
+    let rows = [
+        ("spawn 7 8", "pid 1"),
+        ("spawn 5 8", "pid 2"),
+        ("spawn 7 8", "pid 3"),
+        ("3 pair seqpacket", "fds 0 1"),
+        ("3 send 0 a 0 1", "sent 1"),
+        ("totals", "user 7 inflight 2\nuser 5 inflight 0"),
+    ];
+    plays(&rt, rows.as_slice())
+}
+
+#[test]
+fn reports_of_nothing(rt: HostRuntime) -> Result<(), Fail> {
+    let mut input = Watched::new(b"totals\ncheck\n\tpass \r\n".as_slice());
+    let mut output = Watched::new(Vec::new(rt.alloc()));
+    let done = run_script(rt.alloc(), &mut input, &mut output);
+    assert_eq!(rt; done, Ok(1));
+    assert_eq!(rt;
+        output.inner().as_slice(),
+        b"check ok live 0 garbage 0\npass 1 reclaimed 0\n".as_slice()
+    );
+    Ok(())
+}
+
+#[test]
+fn cannot_read_these_lines(rt: HostRuntime) -> Result<(), Fail> {
+    for line in [
+        b"spawn 01 4\n".as_slice(),
+        b"spawn 4294967296 4\n".as_slice(),
+        b"spawn 1 4 root\n".as_slice(),
+        b"spawn 1\n".as_slice(),
+        b"1 pair dgram\n".as_slice(),
+        b"1 send 0\n".as_slice(),
+        b"1 send 0 a%2\n".as_slice(),
+        b"1 send 0 a%2G\n".as_slice(),
+        b"1 send 0 *65538\n".as_slice(),
+        b"1 send 0 a 0*0\n".as_slice(),
+        b"1 send 0 a 0*1024 0\n".as_slice(),
+        b"1 close 0 0\n".as_slice(),
+        b"pass\r\r\n".as_slice(),
+    ] {
+        let mut input = Watched::new(line);
+        let mut output = Watched::new(Vec::new(rt.alloc()));
+        let done = run_script(rt.alloc(), &mut input, &mut output);
+        assert_eq!(rt; done, Err(RunFault::Unreadable(1)), "{line:?}");
+        assert_eq!(rt; output.inner().as_slice(), b"".as_slice());
+    }
+    Ok(())
+}
+
+#[test]
+fn reads_these_lines(rt: HostRuntime) -> Result<(), Fail> {
+    for (line, reply) in [
+        (b"spawn 4294967295 0".as_slice(), b"pid 1\n".as_slice()),
+        (b"\tspawn 1 4 \r\n".as_slice(), b"pid 1\n".as_slice()),
+        (b"1 send 0 a 0*1024".as_slice(), b"ESRCH\n".as_slice()),
+        (b"#\xff\n1 close 0\n".as_slice(), b"ESRCH\n".as_slice()),
+    ] {
+        let mut input = Watched::new(line);
+        let mut output = Watched::new(Vec::new(rt.alloc()));
+        let done = run_script(rt.alloc(), &mut input, &mut output);
+        assert_eq!(rt; done, Ok(1), "{line:?}");
+        assert_eq!(rt; output.inner().as_slice(), reply);
+    }
+    Ok(())
+}
+
+#[test]
+fn the_version_cannot_be_read_yet(rt: HostRuntime) -> Result<(), Fail> {
+    let mut input = Watched::new(b"pass\nversion 2\n".as_slice());
+    let mut output = Watched::new(Vec::new(rt.alloc()));
+    let done = run_script(rt.alloc(), &mut input, &mut output);
+    assert_eq!(rt; done, Err(RunFault::Unreadable(2)));
+    assert_eq!(rt;
+        output.inner().as_slice(),
+        b"pass 1 reclaimed 0\n".as_slice()
+    );
+    Ok(())
+}

@@ -1,3 +1,0 @@
--- Lemmas.
-pub mod LinesLemmas
-pub mod RunLemmas
