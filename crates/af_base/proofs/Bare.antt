@@ -5,8 +5,8 @@ use Rattle.std.specs.Option.{option_map_or}
 use Rattle.std.specs.List.{sum_by, Contains}
 use Rattle.std.specs.FinMap as finmap
 use Rattle.std.proofs.lemmas.List.Folds.{flat_map-map}
-use Rattle.af_base.specs.World.{World, Map, Process, File, Socket, Message, Plain, AsSocket, IsLive, is_live}
-use Rattle.af_base.specs.Places.{table_at, held_by, contents, carried, queue_of, InTable, Holds}
+use Rattle.af_base.specs.World.{World, Map, Process, File, Message, Plain, AsSocket, is_live}
+use Rattle.af_base.specs.Places.{table_at, held_by, contents, carried, queue_of}
 use Rattle.af_base.specs.Counts.{total_of, count_in, one, charge, tabled, refs, inflight, charged, total}
 use Rattle.af_base.specs.Reached.{Reached, ByTable, BySocket, Garbage}
 use Rattle.af_base.specs.Unheld.{map_entries}

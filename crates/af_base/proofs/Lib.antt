@@ -19,6 +19,9 @@ pub mod Settled
 pub mod Born
 pub mod Pairs
 pub mod Within
+pub mod Opened
+pub mod Ended
+pub mod Replaced
 pub mod Sound
 pub mod Stepped
 pub mod Ordered

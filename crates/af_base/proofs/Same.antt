@@ -37,7 +37,12 @@ list_itself : (xs : List ℕ) → pointwise nat_eq xs xs ≡ true
 list_itself xs = (slice_eq-Decides Decides-eqb xs xs (pointwise nat_eq xs xs) refl).1 refl
 
 pub step_same : (a b : Step) → step_eq.ghosts.eq a b ≡ true → a ≡ b
+step_same step.Open step.Open e = refl
+step_same (step.Dup x) (step.Dup y) e = ap step.Dup (eqb-true x y e)
+step_same (step.Dup2 x z) (step.Dup2 y w) e = let h = both _ _ e in λ i. step.Dup2 (eqb-true x y h.0 i) (eqb-true z w h.1 i)
 step_same (step.Close x) (step.Close y) e = ap step.Close (eqb-true x y e)
+step_same step.Fork step.Fork e = refl
+step_same step.Exit step.Exit e = refl
 step_same (step.Pair Seqpacket) (step.Pair Seqpacket) e = refl
 step_same (step.Send x z t) (step.Send y w u) e =
     let h = both _ _ e in
@@ -50,7 +55,12 @@ step_same (step.Recv x z t) (step.Recv y w u) e =
 step_same a b e = absurd (false≢true e)
 
 pub step_itself : (a : Step) → step_eq.ghosts.eq a a ≡ true
+step_itself step.Open = refl
+step_itself (step.Dup x) = number_itself x
+step_itself (step.Dup2 x z) = each _ _ (number_itself x) (number_itself z)
 step_itself (step.Close x) = number_itself x
+step_itself step.Fork = refl
+step_itself step.Exit = refl
 step_itself (step.Pair x) = refl
 step_itself (step.Send x z t) = each _ _ (number_itself x) (each _ _ (list_itself z) (list_itself t))
 step_itself (step.Recv x z t) = each _ _ (number_itself x) (each _ _ (number_itself z) (number_itself t))

@@ -1,6 +1,6 @@
 -- Each step of a process, and each start of one, leaves the world sound.
-use Rattle.std.proofs.Common.{◌≡◌, ◌<◌, ◌≤◌, ℕ, zero, suc, ◌+◌, Bool, true, false, not, inl, inr, List, [], ◌∷◌, length, min, refl, sym, ap, ◌∙◌, subst, nat_eq, arith}
-use Rattle.std.specs.Prelude.{Option, Some, None, is_some, is_none, unwrap_or, filter_map, if◌then◌else◌, ⊤}
+use Rattle.std.proofs.Common.{◌≡◌, ◌<◌, ◌≤◌, ℕ, zero, suc, ◌+◌, Bool, true, false, not, ◌&&◌, inl, inr, List, [], ◌∷◌, length, min, refl, sym, ap, ◌∙◌, subst, nat_eq, arith}
+use Rattle.std.specs.Prelude.{Option, Some, None, is_some, is_none, unwrap_or, filter_map, nat_le, if◌then◌else◌, ⊤}
 use Rattle.std.specs.Option.{option_and_then, option_map_or}
 use Rattle.std.specs.List.{Contains, cons_option, zip}
 use Rattle.std.specs.FinMap as map
@@ -15,11 +15,11 @@ use Rattle.af_base.specs.declared.events.State.TheVariants as state
 use Rattle.af_base.specs.declared.events.Step.{Step}
 use Rattle.af_base.specs.declared.events.Step.TheVariants as step
 use Rattle.af_base.specs.declared.limits.TheConstants.{MAX_BYTES, MAX_INFLIGHT, MAX_MESSAGES, MAX_NOFILE, SCM_MAX_FD}
-use Rattle.af_base.specs.World.{AsSocket, File, Message, Plain, Process, Socket, World}
+use Rattle.af_base.specs.World.{AsSocket, File, IsLive, Message, Plain, Process, Socket, World}
 use Rattle.af_base.specs.Places.{queue_at, queue_of, table_at}
 use Rattle.af_base.specs.Counts.{total}
-use Rattle.af_base.specs.Changes.{install_all, with_queue}
-use Rattle.af_base.specs.Refusals.{Row, first_fit, ino_on, is_connected, is_hung_up, no_process, no_socket, peer_of, process_at, refusal, socket_at, socket_of, socket_on, spawn_refusal, spawn_row, step_row}
+use Rattle.af_base.specs.Changes.{install, install_all, with_queue}
+use Rattle.af_base.specs.Refusals.{Row, first_fit, ino_on, is_connected, is_hung_up, is_short, no_process, no_socket, peer_of, process_at, refusal, socket_at, socket_of, socket_on, spawn_refusal, spawn_row, step_row}
 use Rattle.af_base.specs.Steps.{Outcome, ProcessStep, SpawnStep, answer, effect, free_at, needs_no_memory, spawned}
 use Rattle.af_base.specs.Table.{free_numbers, lowest_free}
 use Rattle.af_base.specs.Take.{Taken, take_from, take_seqpacket}
@@ -27,12 +27,15 @@ use Rattle.af_base.specs.Whole.{IsSound, IsWhole, IsWithin, state_at, state_of}
 use Rattle.af_base.proofs.Elements.{Contains-none, Contains-rest}
 use Rattle.af_base.proofs.Free.{free-free_numbers, free-lowest_free}
 use Rattle.af_base.proofs.Lookups.{none_some, not_same, same_or_not}
+use Rattle.af_base.proofs.Moved.{there-table}
+use Rattle.af_base.proofs.Opened.{whole-opened, within-opened}
+use Rattle.af_base.proofs.Ended.{whole-remove_process, within-remove_process}
 use Rattle.af_base.proofs.Pairs.{whole-paired}
 use Rattle.af_base.proofs.Sound.{sound-settles}
 use Rattle.af_base.proofs.Trees.{insert_same}
-use Rattle.af_base.proofs.Born.{whole-spawned}
-use Rattle.af_base.proofs.Whole.{not_connected, whole-install_all, whole-push, whole-take, whole-uninstall}
-use Rattle.af_base.proofs.Within.{neither, within-install_all, within-paired, within-push, within-spawned, within-take, within-uninstall}
+use Rattle.af_base.proofs.Born.{whole-add_process, whole-spawned}
+use Rattle.af_base.proofs.Whole.{not_connected, whole-install, whole-install_all, whole-push, whole-take, whole-uninstall}
+use Rattle.af_base.proofs.Within.{neither, within-add_process, within-install, within-install_all, within-paired, within-push, within-spawned, within-take, within-uninstall}
 
 -- A test that does not fit, and what follows it.
 pub record Passed (test : Bool) (Rest : Type 0) : Type 0 where
@@ -123,6 +126,39 @@ fits-pair w p kind k at row =
     let two = ltb-false (length (free_numbers (process_at w p))) 2 row.here in
     (whole-paired w kind p (free_at w p 0) (free_at w p 1) k.0, within-paired w kind p (free_at w p 0) (free_at w p 1) (process_at w p) k.1 row.rest.here at (free.low 0 0 (omega (arith, two))) (free.low 1 0 (omega (arith, two))))
 
+-- The lowest free number of a process that has one is below its limit.
+lowest-below : (w : World) (p : ℕ) → is_short (process_at w p) 1 ≡ false → free_at w p 0 < (process_at w p).limit
+lowest-below w p some = (free-free_numbers (process_at w p)).low 0 0 (let one = ltb-false (length (free_numbers (process_at w p))) 1 some in omega (arith, one))
+
+-- What a number stands for is live.
+live-on : (w : World) (p n : ℕ) → IsWhole w → is_none (table_at w p n) ≡ false → IsLive w (ino_on w p n)
+live-on w p n k = by (table_at w p n) refl where
+  by : (o : Option ℕ) → table_at w p n ≡ o → is_none o ≡ false → IsLive w (unwrap_or o 0)
+  by None e d = absurd (false≢true (sym d))
+  by (Some f) e d = k.tables_live f (p, n, e)
+
+-- A file opened fits.
+fits-open : (w : World) (p : ℕ) → Fits w → map.get w.processes p ≡ Some (process_at w p) → NoneFits (step_row w p step.Open) → Fits (effect w p step.Open)
+fits-open w p k at row = (whole-opened w p (free_at w p 0) k.0, within-opened w p (free_at w p 0) (process_at w p) k.1 row.rest.here at (lowest-below w p row.here))
+
+-- A number more for what one stands for fits.
+fits-dup : (w : World) (p n : ℕ) → Fits w → map.get w.processes p ≡ Some (process_at w p) → NoneFits (step_row w p (step.Dup n)) → Fits (effect w p (step.Dup n))
+fits-dup w p n k at row = (whole-install w p (free_at w p 0) (ino_on w p n) k.0 (live-on w p n k.0 row.here), within-install w p (free_at w p 0) (ino_on w p n) (process_at w p) k.1 at (lowest-below w p row.rest.here))
+
+-- A number in place of another fits.
+fits-dup2 : (w : World) (p n m : ℕ) → Fits w → map.get w.processes p ≡ Some (process_at w p) → NoneFits (step_row w p (step.Dup2 n m)) → Fits (effect w p (step.Dup2 n m))
+fits-dup2 w p n m k at row = by (nat_eq m n) row.rest.here where
+  by : (b : Bool) → (not b && nat_le (process_at w p).limit m) ≡ false → Fits (if b then w else install w p m (ino_on w p n))
+  by true e = k
+  by false e = (whole-install w p m (ino_on w p n) k.0 (live-on w p n k.0 row.here), within-install w p m (ino_on w p n) (process_at w p) k.1 at (leb-false (process_at w p).limit m e))
+
+-- A child fits.
+fits-fork : (w : World) (p : ℕ) → Fits w → map.get w.processes p ≡ Some (process_at w p) → NoneFits (step_row w p step.Fork) → Fits (effect w p step.Fork)
+fits-fork w p k at row = (
+  whole-add_process w (process_at w p) k.0 (λ n f is. k.0.tables_live f (p, n, there-table w p n (process_at w p) at ∙ is)),
+  within-add_process w (process_at w p) k.1 row.here (k.1.processes p (process_at w p) at),
+)
+
 -- A message sent fits.
 fits-send : (w : World) (p n : ℕ) (bytes attach : List ℕ) → Fits w → NoneFits (step_row w p (step.Send n bytes attach)) → Fits (effect w p (step.Send n bytes attach))
 fits-send w p n bytes attach k given =
@@ -179,7 +215,12 @@ fits-effect w p s whole within none =
     let row = none-fits ((not (map.contains_key w.processes p), ESRCH) ∷ step_row w p s) none in
     by s (process-there w p row.here) row.rest where
       by : (s : Step) → map.get w.processes p ≡ Some (process_at w p) → NoneFits (step_row w p s) → Fits (effect w p s)
+      by step.Open at e = fits-open w p (whole, within) at e
+      by (step.Dup n) at e = fits-dup w p n (whole, within) at e
+      by (step.Dup2 n m) at e = fits-dup2 w p n m (whole, within) at e
       by (step.Close n) at e = (whole-uninstall w p n whole, within-uninstall w p n within)
+      by step.Fork at e = fits-fork w p (whole, within) at e
+      by step.Exit at e = (whole-remove_process w p whole, within-remove_process w p within)
       by (step.Pair kind) at e = fits-pair w p kind (whole, within) at e
       by (step.Send n bytes attach) at e = fits-send w p n bytes attach (whole, within) e
       by (step.Recv n max_bytes max_fds) at e = fits-recv w p n max_bytes max_fds (whole, within) at e

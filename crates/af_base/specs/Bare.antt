@@ -1,5 +1,5 @@
 -- The bare world: who holds what, and whom it is charged to, without all else.
-use Rattle.std.specs.Prelude.{ℕ, List, [], None, false, map}
+use Rattle.std.specs.Prelude.{[], None, false, map}
 use Rattle.std.specs.FinMap as finmap
 use Rattle.af_base.specs.declared.events.SockType.TheVariants.{Seqpacket}
 use Rattle.af_base.specs.declared.events.State.TheVariants as state

@@ -43,6 +43,10 @@ with_queue w s q = with_socket w s (λ x. record x { queue = q })
 abbrev pub push_message : World → ℕ → Message → World
 push_message w s m = with_socket w s (λ x. record x { queue = x.queue ++ m ∷ [] })
 
+-- Process p is gone, and its table with it (_exit(2)).
+abbrev pub remove_process : World → ℕ → World
+remove_process w p = record w { processes = map.remove w.processes p }
+
 -- The next inode number is this file.
 abbrev pub add_file : World → File → World
 add_file w x = record w { files = map.insert w.files w.next_ino x; next_ino = w.next_ino + 1 }

@@ -8,7 +8,6 @@ use Rattle.af_base.specs.declared.events.SockType.TheVariants.{Seqpacket}
 use Rattle.af_base.specs.declared.events.State.TheVariants as state
 use Rattle.af_base.specs.declared.listing.ListedFile.{ListedFile}
 use Rattle.af_base.specs.declared.listing.ListedMessage.{ListedMessage}
-use Rattle.af_base.specs.declared.listing.ListedNumber.{ListedNumber}
 use Rattle.af_base.specs.declared.listing.ListedSocket.{ListedSocket}
 use Rattle.af_base.specs.declared.listing.ListedTable.{ListedTable}
 use Rattle.af_base.specs.World.{World, Map, Process, File, Socket, Message, Plain, AsSocket}

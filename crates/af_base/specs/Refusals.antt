@@ -99,9 +99,18 @@ first_fit (r ∷ rs) = if r.0 then Some r.1 else first_fit rs
 abbrev pub spawn_row : World → ℕ → Row
 spawn_row w nofile = (nat_lt MAX_NOFILE nofile, ERANGE) ∷ (is_crowded w, EAGAIN) ∷ []
 
--- Why a step of a process that is there is refused: close(2), socketpair(2), sendmsg(2), recvmsg(2), but for want of memory.
+-- Whether process p may not have number m in place of what it has there: m is not n, and not below its limit (dup2(2), EBADF).
+abbrev pub is_beyond : World → ℕ → ℕ → ℕ → Bool
+is_beyond w p n m = not (nat_eq m n) && nat_le (process_at w p).limit m
+
+-- Why a step of a process that is there is refused: open(2), dup(2), dup2(2), close(2), fork(2), _exit(2), socketpair(2), sendmsg(2), recvmsg(2), but for want of memory.
 abbrev pub step_row : World → ℕ → Step → Row
+step_row w p step.Open = (is_short (process_at w p) 1, EMFILE) ∷ (is_full w 1, ENFILE) ∷ []
+step_row w p (step.Dup n) = (is_none (table_at w p n), EBADF) ∷ (is_short (process_at w p) 1, EMFILE) ∷ []
+step_row w p (step.Dup2 n m) = (is_none (table_at w p n), EBADF) ∷ (is_beyond w p n m, EBADF) ∷ []
 step_row w p (step.Close n) = (is_none (table_at w p n), EBADF) ∷ []
+step_row w p step.Fork = (is_crowded w, EAGAIN) ∷ []
+step_row w p step.Exit = []
 step_row w p (step.Pair kind) = (is_short (process_at w p) 2, EMFILE) ∷ (is_full w 2, ENFILE) ∷ []
 step_row w p (step.Send n bytes attach) =
     let s = socket_on w p n in

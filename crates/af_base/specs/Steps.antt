@@ -10,9 +10,9 @@ use Rattle.af_base.specs.declared.events.Step.{Step}
 use Rattle.af_base.specs.declared.events.Step.TheVariants as step
 use Rattle.af_base.specs.declared.events.Reply.{Reply}
 use Rattle.af_base.specs.declared.events.Reply.TheVariants as reply
-use Rattle.af_base.specs.World.{World, Socket, AsSocket}
+use Rattle.af_base.specs.World.{World, Socket, Plain, AsSocket}
 use Rattle.af_base.specs.Places.{table_at}
-use Rattle.af_base.specs.Changes.{install, install_all, uninstall, with_queue, push_message, add_file, add_process, add_user}
+use Rattle.af_base.specs.Changes.{install, install_all, uninstall, with_queue, push_message, add_file, add_process, remove_process, add_user}
 use Rattle.af_base.specs.Table.{free_numbers, lowest_free}
 use Rattle.af_base.specs.Take.{Taken, take_from}
 use Rattle.af_base.specs.Unheld.{Settles}
@@ -40,7 +40,12 @@ spawned w uid nofile privileged = add_user (add_process w (record { user = uid; 
 
 -- The world after the places were changed, which is then settled, where nothing refuses the step.
 abbrev pub effect : World → ℕ → Step → World
+effect w p step.Open = install (add_file w Plain) p (free_at w p 0) w.next_ino
+effect w p (step.Dup n) = install w p (free_at w p 0) (ino_on w p n)
+effect w p (step.Dup2 n m) = if nat_eq m n then w else install w p m (ino_on w p n)
 effect w p (step.Close n) = uninstall w p n
+effect w p step.Fork = add_process w (process_at w p)
+effect w p step.Exit = remove_process w p
 effect w p (step.Pair kind) =
     let a = w.next_ino in
     let b = w.next_ino + 1 in
@@ -53,7 +58,12 @@ effect w p (step.Recv n max_bytes max_fds) =
 
 -- The answer, where nothing refuses the step (recvmsg(2): no bytes, End, where the peer is gone and nothing is left).
 abbrev pub answer : World → ℕ → Step → Reply
+answer w p step.Open = reply.Fd (free_at w p 0)
+answer w p (step.Dup n) = reply.Fd (free_at w p 0)
+answer w p (step.Dup2 n m) = reply.Fd m
 answer w p (step.Close n) = reply.Ok
+answer w p step.Fork = reply.Pid w.next_pid
+answer w p step.Exit = reply.Ok
 answer w p (step.Pair kind) = reply.Fds (free_at w p 0) (free_at w p 1)
 answer w p (step.Send n bytes attach) = reply.Sent (length bytes)
 answer w p (step.Recv n max_bytes max_fds) =
@@ -66,6 +76,7 @@ answer w p (step.Recv n max_bytes max_fds) =
 -- Whether the step never needs memory (this project's profile).
 abbrev pub needs_no_memory : Step → Bool
 needs_no_memory (step.Close n) = true
+needs_no_memory step.Exit = true
 needs_no_memory s = false
 
 -- The outcome of a step: refused by an error and nothing changed; or answered, and the changed world settled; or, where the step may need memory, refused for want of it and nothing changed.

@@ -26,8 +26,18 @@ pub enum State {
 /// A step of a process.
 #[derive(Debug, PartialEq, Eq, Drop)]
 pub enum Step {
+    /// open(2) of a plain file.
+    Open,
+    /// dup(2) of a number.
+    Dup(Fd),
+    /// dup2(2): the first number's description also at the second, in place of what that had.
+    Dup2(Fd, Fd),
     /// close(2) of a number.
     Close(Fd),
+    /// fork(2): a child with a copy of the table.
+    Fork,
+    /// The process ends (_exit(2)), and all its numbers are closed.
+    Exit,
     /// socketpair(2): two sockets connected to each other.
     Pair(SockType),
     /// sendmsg(2) with SCM_RIGHTS: bytes, and the numbers whose descriptions go with them.

@@ -14,11 +14,15 @@ use Rattle.af_base.specs.Counts.{charge, count_in, inflight, one, refs, tabled, 
 use Rattle.af_base.specs.Reached.{is_socket}
 use Rattle.af_base.specs.Changes.{file_with, install, push_message, uninstall, with_queue}
 use Rattle.std.proofs.lemmas.List.Sums.{sum_by-append, sum_by-cons}
+use Rattle.af_base.proofs.Born.{fresh_process, refs-add_process}
+use Rattle.af_base.proofs.Ended.{refs-remove_process}
+use Rattle.af_base.proofs.Moved.{table-there}
+use Rattle.af_base.proofs.Replaced.{refs-replace}
 use Rattle.af_base.proofs.Sums.{total-change_at}
 use Rattle.af_base.proofs.Held.{Contains-count, InTable-tabled, count-Contains, held_by_none, held_by_some, tabled-InTable, total-has, total-some}
 use Rattle.af_base.proofs.Places.{count-append, inflight-push, refs-install, refs-pop, refs-push, refs-uninstall}
 use Rattle.af_base.proofs.Settling.{none_in}
-use Rattle.af_laws.specs.Places.{GarbageCountsOnce, HoldsInQueueOrBacklog, InstallCounts, NoneWhereNotInFlight, NoneWhereUnplaced, NoneWhereUntabled, ReceiveCounts, ReceiveDischarges, SendCharges, SendCounts, UninstallCounts}
+use Rattle.af_laws.specs.Places.{ExitCounts, ExitKeepsCharges, ForkCounts, GarbageCountsOnce, HoldsInQueueOrBacklog, InstallCounts, NoneWhereNotInFlight, NoneWhereUnplaced, NoneWhereUntabled, ReceiveCounts, ReceiveDischarges, ReplaceCounts, SendCharges, SendCounts, UninstallCounts}
 
 pub holds_in_queue_or_backlog : HoldsInQueueOrBacklog
 holds_in_queue_or_backlog w s f = either (map.get w.files s) where
@@ -87,6 +91,18 @@ uninstall_counts w p n g f taken = by (map.get w.processes p) refl where
   by : (o : Option Process) → map.get w.processes p ≡ o → refs (uninstall w p n) f + one f g ≡ refs w f
   by None e = absurd (none_some g (sym (ap (λ o. option_map_or (λ q. map.get q.table n) o None) e) ∙ taken))
   by (Some q) e = refs-uninstall w p n g f q e (sym (ap (λ o. option_map_or (λ q. map.get q.table n) o None) e) ∙ taken)
+
+pub replace_counts : ReplaceCounts
+replace_counts w p n g h f taken = let at = table-there w p n h taken in refs-replace w p n g h f at.0 at.1 at.2
+
+pub fork_counts : ForkCounts
+fork_counts w f q whole = refs-add_process w q f (fresh_process w whole)
+
+pub exit_counts : ExitCounts
+exit_counts w p f q at = refs-remove_process w p f q at
+
+pub exit_keeps_charges : ExitKeepsCharges
+exit_keeps_charges w p u = refl
 
 pub send_counts : SendCounts
 send_counts w s f m x there = (refs-push w s m f x there, inflight-push w s m f x there)

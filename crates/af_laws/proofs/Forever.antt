@@ -33,7 +33,15 @@ same_user x u true = refl
 same_user x u false = refl
 
 effect_next : (w : World) (p : ℕ) (s : Step) → w.next_ino ≤ (effect w p s).next_ino
+effect_next w p step.Open = omega arith
+effect_next w p (step.Dup n) = omega arith
+effect_next w p (step.Dup2 n m) = by (nat_eq m n) where
+  by : (b : Bool) → w.next_ino ≤ (cond b w (install w p m (ino_on w p n))).next_ino
+  by true = omega arith
+  by false = omega arith
 effect_next w p (step.Close n) = omega arith
+effect_next w p step.Fork = omega arith
+effect_next w p step.Exit = omega arith
 effect_next w p (step.Pair kind) = omega arith
 effect_next w p (step.Send n bytes attach) = omega arith
 effect_next w p (step.Recv n max_bytes max_fds) = omega (arith, same_next (with_queue w (ino_on w p n) (taken_on w p n max_bytes).rest) p (zip (got_at w p n max_bytes max_fds) (taken_on w p n max_bytes).attached))

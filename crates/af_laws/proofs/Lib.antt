@@ -1,4 +1,5 @@
 pub mod Outcomes
+pub mod Single
 pub mod Counting
 pub mod Lowest
 pub mod Takes

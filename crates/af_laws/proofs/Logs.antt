@@ -64,7 +64,12 @@ is_refused (reply.Done n m) = false
 -- an answer is none
 answers : (w : World) (p : ℕ) (s : ProcStep) → is_refused (answer w p s) ≡ false
 unfolding is_refused
+answers w p step.Open = refl
+answers w p (step.Dup n) = refl
+answers w p (step.Dup2 n m) = refl
 answers w p (step.Close n) = refl
+answers w p step.Fork = refl
+answers w p step.Exit = refl
 answers w p (step.Pair kind) = refl
 answers w p (step.Send n bytes attach) = refl
 answers w p (step.Recv n max_bytes max_fds) = either _ _ _ _ _ where

@@ -1,13 +1,15 @@
 -- What a step leads to was reached before, or is new.
 use Rattle.std.proofs.Common.{◌≡◌, ◌⊎◌, inl, inr, ◌<◌, ◌≤◌, ℕ, ◌+◌, Bool, true, false, List, [], ◌∷◌, ◌++◌, refl, sym, ap, ◌∙◌, subst, cond, arith}
-use Rattle.std.specs.Prelude.{Option, Some, None, filter_map, option_map, unwrap_or}
+use Rattle.std.specs.Prelude.{Option, Some, None, filter_map, is_none, nat_eq, not, option_map, unwrap_or}
 use Rattle.std.specs.Option.{option_and_then, option_map_or}
 use Rattle.std.specs.List.{Contains, zip}
 use Rattle.std.specs.Ordering.{eq_by_cmp, nat_cmp}
 use Rattle.std.specs.Cmp.{nat_cmp_total}
 use Rattle.std.specs.FinMap as map
+use Rattle.std.proofs.lemmas.Bool.{false≢true}
 use Rattle.std.proofs.lemmas.List.Elements.{Contains-append_cases, Contains-append_left, Contains-append_right}
 use Rattle.af_base.specs.declared.errno.Errno.{Errno}
+use Rattle.af_base.specs.declared.errno.Errno.TheVariants.{ESRCH}
 use Rattle.af_base.specs.declared.events.Event.{Event}
 use Rattle.af_base.specs.declared.events.Event.TheVariants as event
 use Rattle.af_base.specs.declared.events.Reply.{Reply}
@@ -21,7 +23,7 @@ use Rattle.af_base.specs.Places.{Holds, InTable, carried, contents, table_at}
 use Rattle.af_base.specs.Unheld.{Settles}
 use Rattle.af_base.specs.Reached.{ByTable, BySocket, Reached}
 use Rattle.af_base.specs.Changes.{add_file, add_process, file_with, install, install_all, uninstall, with_queue}
-use Rattle.af_base.specs.Refusals.{ino_on, no_socket, peer_of, process_at, refusal, socket_at, socket_of, socket_on, spawn_refusal}
+use Rattle.af_base.specs.Refusals.{ino_on, no_socket, peer_of, process_at, refusal, socket_at, socket_of, socket_on, spawn_refusal, step_row}
 use Rattle.af_base.specs.Take.{take_from}
 use Rattle.af_base.specs.Steps.{Outcome, ProcessStep, SpawnStep, answer, connected_socket, effect, free_at, got_at, needs_no_memory, spawned, taken_on}
 use Rattle.af_base.specs.Pass.{Idle, Machine, Pass, PassesWhole, Running}
@@ -29,9 +31,10 @@ use Rattle.af_base.specs.Run.{Step as MachineStep}
 use Rattle.af_base.specs.Whole.{IsWhole}
 use Rattle.af_base.proofs.Settling.{none_in}
 use Rattle.af_base.proofs.Stepping.{get-change_at}
-use Rattle.af_base.proofs.Lookups.{none_some}
-use Rattle.af_base.proofs.Moved.{tabled-install, tabled-uninstall}
-use Rattle.af_base.proofs.Stepped.{attached-tabled}
+use Rattle.af_base.proofs.Ended.{tabled-remove}
+use Rattle.af_base.proofs.Lookups.{insert-here, insert-other, none_some, same_or_not, some_same}
+use Rattle.af_base.proofs.Moved.{table-there, tabled-install, tabled-uninstall, there-table}
+use Rattle.af_base.proofs.Stepped.{NoneFits, attached-tabled, none-fits, process-there}
 use Rattle.af_laws.proofs.Chains.{held_or_sent, holder_live, purging_keeps_reached, reached_before}
 use Rattle.af_laws.proofs.Takes.{packet_keeps_files}
 use Rattle.af_laws.specs.Reaching.{GarbageStaysOutOfReach, SpawnReachesNoGarbage, StepReachesNoGarbage}
@@ -110,6 +113,24 @@ in_table_or_installed w p f (n ∷ ns) (x ∷ xs) t = elim (in_table_or_installe
   ]
 ]
 
+-- a number that is open stands for what it gives
+number_there : (w : World) (p n : ℕ) → is_none (table_at w p n) ≡ false → table_at w p n ≡ Some (ino_on w p n)
+number_there w p n = by (table_at w p n) where
+  by : (o : Option ℕ) → is_none o ≡ false → o ≡ Some (unwrap_or o 0)
+  by None e = absurd (false≢true (sym e))
+  by (Some f) e = refl
+
+-- a child's table has what its parent's has
+tabled_fork : (w : World) (p : ℕ) → map.get w.processes p ≡ Some (process_at w p) → (f : ℕ) → InTable (add_process w (process_at w p)) f → InTable w f
+tabled_fork w p at f t =
+    let now = table-there (add_process w (process_at w p)) t.0 t.1 f t.2 in
+    elim (same_or_not t.0 w.next_pid) [
+      | inl same ↦
+          let child : process_at w p ≡ now.0 = some_same (process_at w p) now.0 (sym (insert-here w.processes w.next_pid (process_at w p)) ∙ ap (map.get (map.insert w.processes w.next_pid (process_at w p))) (sym same) ∙ now.1) in
+          (p, t.1, there-table w p t.1 (process_at w p) at ∙ ap (λ q. map.get q.table t.1) child ∙ now.2)
+      | inr apart ↦ (t.0, t.1, there-table w t.0 t.1 now.0 (sym (insert-other w.processes w.next_pid (process_at w p) t.0 apart) ∙ now.1) ∙ now.2)
+    ]
+
 module _ (w : World) (whole : IsWhole w) where
   close_leads : (p n : ℕ) → Leads w (effect w p (step.Close n))
   close_leads p n = reached_or_new w (uninstall w p n) whole (λ f t. inl (ByTable f (tabled-uninstall w p n f t))) (λ s f h. inl h)
@@ -177,11 +198,50 @@ module _ (w : World) (whole : IsWhole w) where
     pair_leads : Leads w (effect w p (step.Pair kind))
     pair_leads = reached_or_new w (effect w p (step.Pair kind)) whole pair_tables (λ s f h. inl (held_before w (AsSocket (connected_socket kind b)) refl s f (held_before one_more (AsSocket (connected_socket kind a)) refl s f h)))
 
-  effect_leads : (p : ℕ) (s : Step) → Leads w (effect w p s)
-  effect_leads p (step.Close n) = close_leads p n
-  effect_leads p (step.Pair kind) = pair_leads p kind
-  effect_leads p (step.Send n bytes attach) = send_leads p n bytes attach
-  effect_leads p (step.Recv n max_bytes max_fds) = receive_leads p n max_bytes max_fds
+  open_tables : (p f : ℕ) → InTable (effect w p step.Open) f → Reached w f ⊎ IsNew w f
+  open_tables p f t = elim (tabled-install (add_file w Plain) p (free_at w p 0) w.next_ino f t) [
+    | inr e ↦ inr (omega (arith, e))
+    | inl r ↦ inl (ByTable f r)
+  ]
+
+  open_leads : (p : ℕ) → Leads w (effect w p step.Open)
+  open_leads p = reached_or_new w (effect w p step.Open) whole (open_tables p) (λ s f h. inl (held_before w Plain refl s f h))
+
+  -- one more number, wherever it is, for what another stands for
+  copied_leads : (p n m : ℕ) → is_none (table_at w p n) ≡ false → Leads w (install w p m (ino_on w p n))
+  copied_leads p n m there = reached_or_new w (install w p m (ino_on w p n)) whole copied (λ s f h. inl h) where
+    copied : (f : ℕ) → InTable (install w p m (ino_on w p n)) f → Reached w f ⊎ IsNew w f
+    copied f t = elim (tabled-install w p m (ino_on w p n) f t) [
+      | inl r ↦ inl (ByTable f r)
+      | inr e ↦ inl (ByTable f (p, n, number_there w p n there ∙ ap Some e))
+    ]
+
+  dup2_leads : (p n m : ℕ) → is_none (table_at w p n) ≡ false → Leads w (effect w p (step.Dup2 n m))
+  dup2_leads p n m there = by (nat_eq m n) where
+    by : (b : Bool) → Leads w (cond b w (install w p m (ino_on w p n)))
+    by true f r = inl r
+    by false f r = copied_leads p n m there f r
+
+  fork_leads : (p : ℕ) → map.get w.processes p ≡ Some (process_at w p) → Leads w (effect w p step.Fork)
+  fork_leads p at = reached_or_new w (effect w p step.Fork) whole (λ f t. inl (ByTable f (tabled_fork w p at f t))) (λ s f h. inl h)
+
+  exit_leads : (p : ℕ) → Leads w (effect w p step.Exit)
+  exit_leads p = reached_or_new w (effect w p step.Exit) whole (λ f t. inl (ByTable f (tabled-remove w p f t))) (λ s f h. inl h)
+
+  effect_leads : (p : ℕ) (s : Step) → refusal w p s ≡ None → Leads w (effect w p s)
+  effect_leads p s none =
+      let row = none-fits ((not (map.contains_key w.processes p), ESRCH) ∷ step_row w p s) none in
+      by s (process-there w p row.here) row.rest where
+        by : (s : Step) → map.get w.processes p ≡ Some (process_at w p) → NoneFits (step_row w p s) → Leads w (effect w p s)
+        by step.Open at e = open_leads p
+        by (step.Dup n) at e = copied_leads p n (free_at w p 0) e.here
+        by (step.Dup2 n m) at e = dup2_leads p n m e.here
+        by (step.Close n) at e = close_leads p n
+        by step.Fork at e = fork_leads p at
+        by step.Exit at e = exit_leads p
+        by (step.Pair kind) at e = pair_leads p kind
+        by (step.Send n bytes attach) at e = send_leads p n bytes attach
+        by (step.Recv n max_bytes max_fds) at e = receive_leads p n max_bytes max_fds
 
   module _ (uid nofile : ℕ) (privileged : Bool) where
     abbrev pub started : Process
@@ -208,18 +268,18 @@ module _ (w : World) (whole : IsWhole w) where
     spawn_leads = reached_or_new w (spawned w uid nofile privileged) whole (λ f t. inl (ByTable f (spawn_tables f t))) (λ s f h. inl (old_holder (add_process w started) _ s f h))
 
 -- whatever the outcome
-module _ (old now new : World) (leads : Leads old now) where
-  settled_leads : Settles now new → Leads old new
-  settled_leads t f r = leads f (reached_before now new t f r)
+module _ (old now new : World) where
+  settled_leads : Leads old now → Settles now new → Leads old new
+  settled_leads leads t f r = leads f (reached_before now new t f r)
 
   same_leads : new ≡ old → Leads old new
   same_leads e f r = inl (subst (λ x. Reached x f) e r)
 
-  outcome_leads : (o : Option Errno) (frugal : Bool) (answer r : Reply) → Outcome o frugal answer now old r new → Leads old new
-  outcome_leads (Some e) frugal answer r h = same_leads h.1
-  outcome_leads None true answer r h = settled_leads h.1
-  outcome_leads None false answer r (inl h) = settled_leads h.1
-  outcome_leads None false answer r (inr h) = same_leads h.1
+  outcome_leads : (o : Option Errno) → (o ≡ None → Leads old now) → (frugal : Bool) (answer r : Reply) → Outcome o frugal answer now old r new → Leads old new
+  outcome_leads (Some e) leads frugal answer r h = same_leads h.1
+  outcome_leads None leads true answer r h = settled_leads (leads refl) h.1
+  outcome_leads None leads false answer r (inl h) = settled_leads (leads refl) h.1
+  outcome_leads None leads false answer r (inr h) = same_leads h.1
 
 pub numbered_leads : (old new : World) → Leads old new → (f : ℕ) → f < old.next_ino → Reached new f → Reached old f
 numbered_leads old new leads f known r = elim (leads f r) [
@@ -229,11 +289,11 @@ numbered_leads old new leads f known r = elim (leads f r) [
 
 spawn_step_leads : (old new : World) (uid nofile : ℕ) (privileged : Bool) (r : Reply) → IsWhole old → SpawnStep old uid nofile privileged r new → Leads old new
 spawn_step_leads old new uid nofile privileged r whole h =
-    outcome_leads old (spawned old uid nofile privileged) new (spawn_leads old whole uid nofile privileged) (spawn_refusal old nofile) false (reply.Pid old.next_pid) r h
+    outcome_leads old (spawned old uid nofile privileged) new (spawn_refusal old nofile) (λ none. spawn_leads old whole uid nofile privileged) false (reply.Pid old.next_pid) r h
 
 process_step_leads : (old new : World) (p : ℕ) (s : Step) (r : Reply) → IsWhole old → ProcessStep old p s r new → Leads old new
 process_step_leads old new p s r whole h =
-    outcome_leads old (effect old p s) new (effect_leads old whole p s) (refusal old p s) (needs_no_memory s) (answer old p s) r h
+    outcome_leads old (effect old p s) new (refusal old p s) (effect_leads old whole p s) (needs_no_memory s) (answer old p s) r h
 
 pub spawn_reaches_no_garbage : SpawnReachesNoGarbage
 spawn_reaches_no_garbage old new uid nofile privileged r whole h f live =

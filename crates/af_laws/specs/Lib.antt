@@ -6,3 +6,4 @@ pub mod Reaching
 pub mod Purging
 pub mod Running
 pub mod Rows
+pub mod Stepping

@@ -1,11 +1,12 @@
 -- Laws of places and of their counts.
 use Rattle.std.specs.Prelude.{◌≡◌, ◌⊎◌, ◌↔◌, ℕ, ◌+◌, IsTrue, List, ◌∷◌, length, Some, None}
 use Rattle.std.specs.FinMap as map
-use Rattle.af_base.specs.World.{World, Message, Socket, AsSocket}
+use Rattle.af_base.specs.World.{World, Process, Message, Socket, AsSocket}
 use Rattle.af_base.specs.Places.{table_at, InTable, InQueue, InBacklog, Holds}
-use Rattle.af_base.specs.Counts.{charge, charged, count_in, inflight, one, refs, tabled, total}
+use Rattle.af_base.specs.Counts.{charge, charged, count_in, inflight, one, refs, tabled, total, total_of}
 use Rattle.af_base.specs.Reached.{IsGarbageCount}
-use Rattle.af_base.specs.Changes.{install, uninstall, push_message, with_queue}
+use Rattle.af_base.specs.Changes.{install, uninstall, push_message, with_queue, add_process, remove_process}
+use Rattle.af_base.specs.Whole.{IsWhole}
 use Rattle.af_laws.specs.Settling.{IsHeld}
 
 -- What a socket holds is in its queue or in its backlog.
@@ -31,6 +32,22 @@ InstallCounts = (w : World) (p n g f : ℕ) → IsTrue (map.contains_key w.proce
 -- A number that is given up is one reference less to its file, and to no other.
 abbrev pub UninstallCounts : Type 0
 UninstallCounts = (w : World) (p n g f : ℕ) → table_at w p n ≡ Some g → refs (uninstall w p n) f + one f g ≡ refs w f
+
+-- A number that stands for another file than before is one reference less to the old and one more to the new, and none to any other (dup2(2)).
+abbrev pub ReplaceCounts : Type 0
+ReplaceCounts = (w : World) (p n g h f : ℕ) → table_at w p n ≡ Some h → refs (install w p n g) f + one f h ≡ refs w f + one f g
+
+-- A child is as many references more to a file as the table that it copies has numbers for it (fork(2)).
+abbrev pub ForkCounts : Type 0
+ForkCounts = (w : World) (f : ℕ) (q : Process) → IsWhole w → refs (add_process w q) f ≡ refs w f + total_of (one f) q.table
+
+-- A process that is gone is as many references less to a file as its table had numbers for it (_exit(2)).
+abbrev pub ExitCounts : Type 0
+ExitCounts = (w : World) (p f : ℕ) (q : Process) → map.get w.processes p ≡ Some q → refs (remove_process w p) f + total_of (one f) q.table ≡ refs w f
+
+-- What it sent stays charged to its user while it waits in a queue (this project's profile).
+abbrev pub ExitKeepsCharges : Type 0
+ExitKeepsCharges = (w : World) (p u : ℕ) → charged (remove_process w p) u ≡ charged w u
 
 -- A message that is sent is as many references more to a file, and as many more in flight, as it carries the file.
 abbrev pub SendCounts : Type 0

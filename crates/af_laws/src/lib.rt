@@ -9,4 +9,5 @@ pub mod reaching;
 pub mod rows;
 pub mod running;
 pub mod settling;
+pub mod stepping;
 pub mod taking;

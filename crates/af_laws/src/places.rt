@@ -1,6 +1,6 @@
 //! Laws of places and of their counts.
 ghost use Rattle.af_laws.specs.Places.{HoldsInQueueOrBacklog, NoneWhereUnplaced, NoneWhereUntabled, NoneWhereNotInFlight};
-ghost use Rattle.af_laws.specs.Places.{InstallCounts, UninstallCounts, SendCounts, ReceiveCounts, SendCharges, ReceiveDischarges, GarbageCountsOnce};
+ghost use Rattle.af_laws.specs.Places.{InstallCounts, UninstallCounts, ReplaceCounts, ForkCounts, ExitCounts, ExitKeepsCharges, SendCounts, ReceiveCounts, SendCharges, ReceiveDischarges, GarbageCountsOnce};
 
 /// What a socket holds is in its queue or in its backlog.
 pub fn holds_in_queue_or_backlog()
@@ -30,6 +30,26 @@ pub fn install_counts()
 /// A number that is given up is one reference less to its file, and to no other.
 pub fn uninstall_counts()
     ensures { UninstallCounts }
+{}
+
+/// A number that stands for another file is one reference less to the old, and one more to the new.
+pub fn replace_counts()
+    ensures { ReplaceCounts }
+{}
+
+/// A child is as many references more to a file as its table has numbers for it.
+pub fn fork_counts()
+    ensures { ForkCounts }
+{}
+
+/// A process that is gone is as many references less to a file as its table had numbers for it.
+pub fn exit_counts()
+    ensures { ExitCounts }
+{}
+
+/// What a process sent stays charged to its user when it is gone.
+pub fn exit_keeps_charges()
+    ensures { ExitKeepsCharges }
 {}
 
 /// A message that is sent counts each file that travels with it once more, repeats included.

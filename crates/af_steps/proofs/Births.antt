@@ -1,4 +1,4 @@
--- A pair of sockets and a process, put into the maps of a store.
+-- Files and processes, put into the maps of a store.
 use Rattle.std.proofs.Common.{rules, ◌≡◌, ℕ, ◌+◌, ◌<◌, Bool, true, false, List, [], ◌∷◌, ◌++◌, nat_eq, ap, ◌∙◌, sym, refl, subst, arith}
 use Rattle.std.specs.Prelude.{Option, Some, None, Result, Ok, Err, OnOk, OnErr, is_some, IsTrue, if◌then◌else◌}
 use Rattle.std.specs.List.{list_any}
@@ -9,7 +9,7 @@ use Rattle.std.specs.BTreeMap as tree
 use Rattle.std.specs.BTreeMap.{BTreeMap}
 use Rattle.std.proofs.lemmas.Bool.{false≢true}
 use Rattle.af_base.specs.declared.events.SockType.{SockType}
-use Rattle.af_base.specs.World.{AsSocket, File, Map, Process, World}
+use Rattle.af_base.specs.World.{AsSocket, File, Map, Plain, Process, World}
 use Rattle.af_base.specs.Changes.{add_file, add_process}
 use Rattle.af_base.specs.Steps.{connected_socket, spawned}
 use Rattle.af_base.proofs.Trees.{nat_inserted, nat_looked}
@@ -30,6 +30,12 @@ with_pair kind w = add_file (add_file w (AsSocket (connected_socket kind (w.next
 module _ (processes : Map Process) (next_pid : ℕ) (users : List ℕ) where
   abbrev pub world_with : BTreeMap ℕ File → ℕ → World
   world_with m n = record { processes = processes; files = map.from_entries m.entries; next_ino = n; next_pid = next_pid; users = users }
+
+  -- one file put in
+  pub plain_added : (n : ℕ) (old one : BTreeMap ℕ File) (x : File) → x ≡ Plain → tree.Updates nat_cmp old one n (Some x) → world_with one (n + 1) ≡ add_file (world_with old n) Plain
+  plain_added n old one x is put =
+      let files = nat_inserted old one n x put ∙ ap (map.insert (map.from_entries old.entries) n) is in
+      λ i. record { processes = processes; files = files i; next_ino = n + 1; next_pid = next_pid; users = users }
 
   -- one file put in, and then the other
   pub pair_added : (kind : SockType) (n : ℕ) (old one both : BTreeMap ℕ File) (x y : File) → x ≡ AsSocket (connected_socket kind (n + 1)) → y ≡ AsSocket (connected_socket kind n)
@@ -54,6 +60,12 @@ with_user u us = if list_any (nat_eq u) us then us else us ++ u ∷ []
 module _ (files : Map File) (next_ino : ℕ) where
   abbrev pub world_of : BTreeMap ℕ Process → ℕ → List ℕ → World
   world_of m n us = record { processes = map.from_entries m.entries; files = files; next_ino = next_ino; next_pid = n; users = us }
+
+  -- a copy of a process put in
+  pub process_copied : (n : ℕ) (old new : BTreeMap ℕ Process) (us : List ℕ) (q p : Process) → q ≡ p → tree.Updates nat_cmp old new n (Some q) → world_of new (n + 1) us ≡ add_process (world_of old n us) p
+  process_copied n old new us q p is put =
+      let processes = nat_inserted old new n q put ∙ ap (map.insert (map.from_entries old.entries) n) is in
+      λ i. record { processes = processes i; files = files; next_ino = next_ino; next_pid = n + 1; users = us }
 
   -- one process put in, and its user
   pub process_added : (uid limit : ℕ) (privileged : Bool) (n : ℕ) (old new : BTreeMap ℕ Process) (p : Process) (us kept vs : List ℕ) → p ≡ record { user = uid; limit = limit; privileged = privileged; table = map.empty }

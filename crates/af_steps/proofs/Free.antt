@@ -1,7 +1,7 @@
 -- The free numbers of a row of slots, and how many of its slots have a file.
 use Rattle.std.proofs.Common.{◌≡◌, ℕ, ◌+◌, ◌-◌, ◌<◌, ◌≤◌, Bool, true, false, cond, zero, suc, take, take_all, zero-add, add-zero, List, [], ◌∷◌, ◌++◌, length, filter, refl, sym, ap, ◌∙◌, arith}
-use Rattle.std.specs.Prelude.{Option, Some, None, not, is_some, nat_eq, slice_index_or}
-use Rattle.std.specs.List.{range_with_len, count_by, sum_by, All}
+use Rattle.std.specs.Prelude.{Option, Some, None, not, is_some, nat_eq, nat_lt, slice_get, slice_index_or}
+use Rattle.std.specs.List.{range_with_len, count_by, sum_by, All, Contains}
 use Rattle.std.specs.Option.{option_map_or}
 use Rattle.std.specs.Ordering.{nat_cmp}
 use Rattle.std.specs.FinMap as map
@@ -9,11 +9,14 @@ use Rattle.std.proofs.lemmas.List.{append-nil, get_or_read, take-append-le}
 use Rattle.std.proofs.lemmas.List.Elements.{filter-append, All-filter, All-take}
 use Rattle.std.proofs.lemmas.List.FromFn.{length-range_with_len, get_or-range_with_len}
 use Rattle.std.proofs.lemmas.List.Sums.{length-filter, sum_by-cons}
+use Rattle.std.proofs.lemmas.Bool.{eqb-false, eqb-true, ltb-false, ltb-true}
 use Rattle.af_base.specs.World.{Process}
 use Rattle.af_base.specs.Table.{free_numbers, lowest_free}
 use Rattle.af_base.specs.Counts.{total_of, one}
+use Rattle.af_base.proofs.Elements.{Contains-later}
 use Rattle.af_base.proofs.Sums.{total-insert}
-use Rattle.af_steps.specs.Slots.{table_from, table_of}
+use Rattle.af_steps.specs.Slots.{listed_in, table_from, table_of}
+use Rattle.af_steps.proofs.Marking.{first_in}
 use Rattle.af_steps.proofs.Slots.{table_at, from_below}
 
 -- the slot has no file
@@ -106,6 +109,63 @@ counted_from f (Some g ∷ xs) k =
 pub file_counted : (f : ℕ) (xs : List (Option ℕ)) → total_of (λ g. one f g) (table_of xs) ≡ count_by (has_file f) xs
 unfolding table_of
 file_counted f xs = counted_from f xs 0
+
+-- a file that some slot has is listed
+counted-listed : (f : ℕ) (xs : List (Option ℕ)) → 0 < count_by (has_file f) xs → Contains (listed_in xs) f
+counted-listed f [] some = absurd (omega (arith, some))
+counted-listed f (None ∷ xs) some = counted-listed f xs (omega (arith, some, sum_by-cons (λ o. cond (has_file f o) 1 0) None xs))
+counted-listed f (Some g ∷ xs) some = by (nat_eq f g) refl (counted-listed f xs) where
+  by : (b : Bool) → nat_eq f g ≡ b → (0 < count_by (has_file f) xs → Contains (listed_in xs) f) → Contains (g ∷ listed_in xs) f
+  by true e later = first_in g (listed_in xs) f (eqb-true f g e)
+  by false e later =
+      let none : cond (has_file f (Some g)) 1 0 ≡ 0 = ap {B = ℕ} (λ b. cond b 1 0) e in
+      Contains-later g (listed_in xs) f (later (omega (arith, some, none, sum_by-cons (λ o. cond (has_file f o) 1 0) (Some g) xs)))
+
+-- a file that some number stands for is listed
+pub table-listed : (f : ℕ) (xs : List (Option ℕ)) → 0 < total_of (λ g. one f g) (table_of xs) → Contains (listed_in xs) f
+table-listed f xs some = counted-listed f xs (omega (arith, some, file_counted f xs))
+
+-- none of the first n slots is empty
+abbrev pub AreTaken : ℕ → List (Option ℕ) → Type 0
+AreTaken n xs = (k : ℕ) → k < n → is_empty (slice_index_or xs k None) ≡ false
+
+below-next : (k n : ℕ) → k < n + 1 → ¬ (k ≡ n) → k < n
+below-next k n low apart = by (nat_lt k n) refl where
+  by : (b : Bool) → nat_lt k n ≡ b → k < n
+  by true e = ltb-true k n e
+  by false e = let past = ltb-false k n e in absurd (apart (omega (arith, past, low)))
+
+-- one more that is not
+pub taken-next : (xs : List (Option ℕ)) (n : ℕ) → AreTaken n xs → is_empty (slice_index_or xs n None) ≡ false → AreTaken (n + 1) xs
+taken-next xs n taken here k low = by (nat_eq k n) refl where
+  by : (b : Bool) → nat_eq k n ≡ b → is_empty (slice_index_or xs k None) ≡ false
+  by true e = ap (λ i. is_empty (slice_index_or xs i None)) (eqb-true k n e) ∙ here
+  by false e = taken k (below-next k n low (eqb-false k n e))
+
+none_below : (xs : List (Option ℕ)) (n : ℕ) → AreTaken n xs → free_below n xs ≡ []
+none_below xs zero taken = refl
+none_below xs (suc n) taken =
+    let next : suc n ≡ n + 1 = omega arith in
+    ap (λ m. free_below m xs) next ∙ free_split xs n 1 ∙ ap (λ l. l ++ cond (is_empty (slice_index_or xs n None)) (n ∷ []) []) (none_below xs n (λ k low. taken k (omega (arith, low))))
+    ∙ ap (λ b. cond b (n ∷ []) []) (taken n (omega arith))
+
+-- the first slot that is empty has the lowest free number
+pub lowest_first : (p : Process) (xs : List (Option ℕ)) (n : ℕ) → p.table ≡ table_of xs → n < p.limit → is_empty (slice_index_or xs n None) ≡ true → AreTaken n xs → slice_get (free_numbers p) 0 ≡ Some n
+lowest_first p xs n e low free taken = ap (λ l. slice_get l 0) (
+    free_below_limit p xs e ∙ ap (λ m. free_below m xs) whole ∙ free_split xs n (suc rest) ∙ ap (λ l. l ++ filter (λ q. is_empty (slice_index_or xs q None)) (range_with_len n (suc rest))) (none_below xs n taken)
+    ∙ ap (λ b. cond b (n ∷ others) others) free) where
+      rest : ℕ
+      rest = p.limit - (n + 1)
+
+      whole : p.limit ≡ n + suc rest
+      whole = omega arith
+
+      others : List ℕ
+      others = filter (λ q. is_empty (slice_index_or xs q None)) (range_with_len (n + 1) rest)
+
+-- where no slot is empty there is none
+pub lowest_none : (p : Process) (xs : List (Option ℕ)) → p.table ≡ table_of xs → AreTaken p.limit xs → slice_get (free_numbers p) 0 ≡ None
+lowest_none p xs e taken = ap (λ l. slice_get l 0) (free_below_limit p xs e ∙ none_below xs p.limit taken)
 
 -- what a walk over the slots has found
 pub ruleset free_changes = (lowest_enough, lowest_all)

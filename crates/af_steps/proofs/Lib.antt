@@ -15,3 +15,4 @@ pub mod Walking
 pub mod Unmarked
 pub mod Emptying
 pub mod Listed
+pub mod Numbers

@@ -45,11 +45,11 @@ lowest_two q ns n m lowest enough first second = record {
 }
 
 -- What a process is that is there.
-same_process : (q r : Process) (o : Option Process) → o ≡ Some q → o ≡ Some r → q ≡ r
+pub same_process : (q r : Process) (o : Option Process) → o ≡ Some q → o ≡ Some r → q ≡ r
 same_process q r o is too = sym (ap (λ p. unwrap_or p no_process) is) ∙ ap (λ p. unwrap_or p no_process) too
 
 -- A row whose first test does not fit, and none of the others.
-passes : (test : Bool) (e : Errno) (rest : Row) → test ≡ false → first_fit rest ≡ None → first_fit ((test, e) ∷ rest) ≡ None
+pub passes : (test : Bool) (e : Errno) (rest : Row) → test ≡ false → first_fit rest ≡ None → first_fit ((test, e) ∷ rest) ≡ None
 passes test e rest is none = ap (λ b. if b then Some e else first_fit rest) is ∙ none
 
 module _ (w : World) (p : ℕ) (kind : SockType) (q : Process) (n m : ℕ) (at : map.get w.processes p ≡ Some q) (two : AreLowest q n m) where

@@ -1,5 +1,5 @@
 -- A row of slots as a map.
-use Rattle.std.proofs.Common.{◌≡◌, ℕ, ◌+◌, ◌<◌, ◌≤◌, Bool, true, false, cond, zero, suc, replicate, add-zero, zero-add, List, [], ◌∷◌, length, refl, sym, ap, ◌∙◌, arith}
+use Rattle.std.proofs.Common.{◌≡◌, ℕ, ◌+◌, ◌<◌, ◌≤◌, Bool, true, false, cond, zero, suc, replicate, add-zero, zero-add, List, [], ◌∷◌, length, drop, drop-cons, refl, sym, ap, ◌∙◌, arith}
 use Rattle.std.specs.Prelude.{Option, Some, None, nat_eq, slice_index_or, slice_set}
 use Rattle.std.specs.Ordering.{nat_cmp}
 use Rattle.std.specs.Cmp.{nat_cmp_total, unsigned_tied}
@@ -8,7 +8,7 @@ use Rattle.std.specs.FinMap.{get-insert, get-remove, get-empty, same_map, nat_cm
 use Rattle.std.proofs.lemmas.Bool.{eqb-true, eqb-false}
 use Rattle.std.proofs.lemmas.List.{get_or-set_other, get_or_past}
 use Rattle.std.proofs.lemmas.Grind.{get_or-set_at}
-use Rattle.af_steps.specs.Slots.{table_from, table_of}
+use Rattle.af_steps.specs.Slots.{listed_in, table_from, table_of}
 
 put_at : (m : map.FinMap nat_cmp ℕ) (k f q : ℕ) → map.get (map.insert m k f) q ≡ cond (nat_eq q k) (Some f) (map.get m q)
 put_at m k f q = get-insert nat_cmp_total m k f q ∙ ap (λ b. cond b (Some f) (map.get m q)) (unsigned_tied q k)
@@ -82,5 +82,12 @@ no_slots_from k (suc n) = no_slots_from (k + 1) n
 pub no_files : (n : ℕ) → table_of (replicate n None) ≡ map.empty
 unfolding table_of
 no_files n = no_slots_from 0 n
+
+-- what the slots from i on have, where slot i has a file, and where it is empty
+pub listed-some : (xs : List (Option ℕ)) (i f : ℕ) (x : Option ℕ) → i < length xs → x ≡ slice_index_or xs i x → x ≡ Some f → listed_in (drop i xs) ≡ f ∷ listed_in (drop (suc i) xs)
+listed-some xs i f x low read is = ap listed_in (drop-cons xs i x low ∙ ap (λ y. y ∷ drop (suc i) xs) (sym read ∙ is))
+
+pub listed-none : (xs : List (Option ℕ)) (i : ℕ) (x : Option ℕ) → i < length xs → x ≡ slice_index_or xs i x → x ≡ None → listed_in (drop i xs) ≡ listed_in (drop (suc i) xs)
+listed-none xs i x low read is = ap listed_in (drop-cons xs i x low ∙ ap (λ y. y ∷ drop (suc i) xs) (sym read ∙ is))
 
 pub ruleset slot_changes = (table_at, installed, taken_out, none_beyond, no_files)

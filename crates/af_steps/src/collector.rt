@@ -74,8 +74,7 @@ impl Store {
     fn kind(&self, ino: Ino) -> Option<SockType>
         ensures { result ≡ option_and_then kind_of (map.get self.now.files ino) }
     {
-        let socket = self.socket(ino)?;
-        Some(socket.kind())
+        self.file(ino)?.kind()
     }
 
     /// The files that a chain of places leads to from a table. It looks at each of them once, and
@@ -106,9 +105,9 @@ impl Store {
     fn mark_held(&self, ino: Ino, marks: &mut Marks) -> Result<(), AllocError>
         ensures { OnOk result (Marked (Holds self.now ino) NoFile marks.old marks.new) }
     {
-        let Some(socket) = self.socket(ino) else {
+        let Some(file) = self.file(ino) else {
             return Ok(());
         };
-        socket.mark(marks)
+        file.mark(marks)
     }
 }

@@ -113,7 +113,12 @@ impl Store {
         ensures sound { IsSound self.new }
     {
         match step {
+            events::Step::Open => self.open(pid),
+            events::Step::Dup(from) => self.dup(pid, *from),
+            events::Step::Dup2(from, to) => self.dup2(alloc, pid, *from, *to),
             events::Step::Close(fd) => self.close(alloc, pid, *fd),
+            events::Step::Fork => self.fork(alloc, pid),
+            events::Step::Exit => self.exit(alloc, pid),
             events::Step::Pair(kind) => self.pair(alloc, pid, *kind),
             events::Step::Send { on, bytes, attach } => self.send(
                 alloc,

@@ -5,6 +5,7 @@
 #![tactic(auto)]
 
 mod collector;
+mod desc;
 mod engine;
 mod listings;
 mod marks;

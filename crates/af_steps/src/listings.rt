@@ -39,8 +39,8 @@ impl Store {
         ensures ordered { IfOk result (λ files. AreFiles files.items) }
     {
         let mut files = Vec::new(alloc);
-        for (ino, socket) in &self.files {
-            let socket = Some(socket.listed(alloc)?);
+        for (ino, file) in &self.files {
+            let socket = file.listed(alloc)?;
             files.push(ListedFile { ino: *ino, socket })?;
         }
         Ok(files)

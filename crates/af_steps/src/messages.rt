@@ -4,7 +4,7 @@ ghost use Rattle.std.specs.List.{list_any, All};
 ghost use Rattle.af_base.specs.Table.{lowest_free};
 ghost use Rattle.af_steps.specs.Limits.{IsBelowLimit};
 ghost use Rattle.af_base.specs.Places.{table_at, queue_at};
-ghost use Rattle.af_base.specs.Refusals.{refusal, is_over_limit, peer_of, socket_on, process_at};
+ghost use Rattle.af_base.specs.Refusals.{refusal, is_over_limit, peer_of, socket_at, socket_on, process_at};
 ghost use Rattle.af_base.specs.Whole.{IsSound};
 ghost use Rattle.af_base.specs.Steps.{ProcessStep};
 
@@ -33,13 +33,21 @@ impl Store {
         !attach.is_empty() && self.is_over_limit(process)
     }
 
+    /// Whom a socket can talk to. A plain file and a stranger talk to nobody.
+    #[tactic(auto, using(af_base::proofs::Trees::changes))]
+    fn state(&self, ino: Ino) -> Option<State>
+        ensures { result ≡ option_map (λ s. s.state) (socket_at self.now ino) }
+    {
+        self.file(ino)?.state()
+    }
+
     /// How many messages a socket has to receive.
     #[tactic(auto, using(af_base::proofs::Trees::changes))]
     fn messages(&self, ino: Ino) -> usize
         ensures { result ≡ length (queue_at self.now ino) }
     {
-        match self.socket(ino) {
-            Some(socket) => socket.messages(),
+        match self.file(ino) {
+            Some(file) => file.messages(),
             None => 0,
         }
     }
@@ -63,10 +71,9 @@ impl Store {
         let Some(ino) = process.lookup(on) else {
             return Err(Errno::EBADF);
         };
-        let Some(socket) = self.socket(ino) else {
+        let Some(state) = self.state(ino) else {
             return Err(Errno::ENOTSOCK);
         };
-        let state = socket.state();
         if bytes.is_empty() || attach.len() > SCM_MAX_FD {
             return Err(Errno::EINVAL);
         }
@@ -162,10 +169,9 @@ impl Store {
         let Some(ino) = process.lookup(on) else {
             return Err(Errno::EBADF);
         };
-        let Some(socket) = self.socket(ino) else {
+        let Some(state) = self.state(ino) else {
             return Err(Errno::ENOTSOCK);
         };
-        let state = socket.state();
         if max_bytes == 0 || max_bytes as usize > MAX_BYTES {
             return Err(Errno::EINVAL);
         }
@@ -174,7 +180,7 @@ impl Store {
             State::Listening(_) => Err(Errno::ENOTCONN),
             State::HungUp => Ok(ino),
             State::Connected(_) => {
-                if socket.messages() == 0 {
+                if self.messages(ino) == 0 {
                     return Err(Errno::EAGAIN);
                 }
                 Ok(ino)
@@ -187,7 +193,7 @@ impl Store {
     fn first_attached(&self, ino: Ino) -> Option<usize>
         ensures { result ≡ option_map (λ m. length m.attached) (slice_get (queue_at self.now ino) 0) }
     {
-        let message = self.socket(ino)?.first()?;
+        let message = self.file(ino)?.first()?;
         Some(message.attached().len())
     }
 

@@ -14,11 +14,11 @@ ghost use Rattle.af_base.specs.Release.{Covered, messages_in};
 ghost use Rattle.af_base.specs.Pass.{Purges};
 ghost use Rattle.af_base.specs.declared.events.State.TheVariants as state;
 ghost use Rattle.af_steps.specs.Limits.{IsBelowLimit, most_messages};
+ghost use Rattle.af_steps.specs.Slots.{listed_in};
 ghost use Rattle.af_steps.specs.Releasing.{Empties};
 
 use crate::socket::Message;
 use crate::store::Store;
-use af_base::events::State;
 use af_base::limits::MAX_MESSAGES;
 use af_base::names::{Fd, Ino, Pid};
 use std::alloc::{AllocError, Global};
@@ -53,8 +53,8 @@ impl Store {
         ensures ok { OnOk result (self.new ≡ push_message self.old ino message) }
         ensures err { OnErr result (self.new ≡ self.old) }
     {
-        if let Some(socket) = self.files.get_mut(&ino) {
-            socket.push(message)?;
+        if let Some(file) = self.files.get_mut(&ino) {
+            file.push(message)?;
         }
         Ok(())
     }
@@ -66,8 +66,8 @@ impl Store {
         ensures some { IfSome result (λ m. queue_at self.old ino ≡ m ∷ drop 1 (queue_at self.old ino)) }
         ensures none { IfNone result (queue_at self.old ino ≡ []) }
     {
-        let socket = self.files.get_mut(&ino)?;
-        socket.pop()
+        let file = self.files.get_mut(&ino)?;
+        file.pop()
     }
 
     /// Files into a table, at these numbers one after the other. It takes no memory.
@@ -97,8 +97,8 @@ impl Store {
     fn hang_up(&mut self, ino: Ino)
         ensures { self.new ≡ with_socket self.old ino (λ s. record s { state = state.HungUp }) }
     {
-        if let Some(socket) = self.files.get_mut(&ino) {
-            socket.hang_up();
+        if let Some(file) = self.files.get_mut(&ino) {
+            file.hang_up();
         }
     }
 
@@ -111,14 +111,13 @@ impl Store {
         ensures pending { pending.new ≡ pending.old ++ queue_at self.old ino }
         ensures held { held_by self.old ino ≡ carried (queue_at self.old ino) }
     {
-        let Some(socket) = self.files.remove(&ino) else {
+        let Some(mut file) = self.files.remove(&ino) else {
             return;
         };
-        if let State::Connected(peer) = socket.state() {
+        if let Some(peer) = file.peer() {
             self.hang_up(peer);
         }
-        let mut messages = socket.into_messages();
-        pending.append(&mut messages).unwrap();
+        file.empty(pending);
     }
 
     /// A file goes, if no place holds it.
@@ -155,6 +154,39 @@ impl Store {
         for ino in inos {
             self.drop_if_unheld(*ino, pending);
         }
+    }
+
+    /// Of the files that these slots stood for those go that no place holds.
+    fn drop_slots(&mut self, slots: &[Option<Ino>], pending: &mut LinkedList<Message>)
+        requires whole { IsWhole self.old }
+        requires within { IsWithin self.old }
+        requires few { messages_in self.old + length pending.old ≤ most_messages }
+        ensures settles { (end : world.World) → Settles self.new end → Settles self.old end }
+        ensures whole { IsWhole self.new }
+        ensures within { IsWithin self.new }
+        ensures covered { Covered self.old (listed_in slots.now ++ carried pending.old) → Covered self.new (carried pending.new) }
+        ensures messages { messages_in self.new + length pending.new ≤ messages_in self.old + length pending.old }
+    {
+        for slot in slots {
+            let Some(ino) = *slot else {
+                continue;
+            };
+            self.drop_if_unheld(ino, pending);
+        }
+    }
+
+    /// All files go that no place holds, among them at most those that these slots stood for, and
+    /// what goes with them. It takes no memory.
+    pub fn release_slots(&mut self, alloc: Global, slots: &[Option<Ino>])
+        requires whole { IsWhole self.old }
+        requires within { IsWithin self.old }
+        requires covered { Covered self.old (listed_in slots.now) }
+        ensures settles { Settles self.old self.new }
+        ensures sound { IsSound self.new }
+    {
+        let mut pending = LinkedList::new(alloc);
+        self.drop_slots(slots, &mut pending);
+        self.drain(&mut pending);
     }
 
     /// All files go that no place holds, among them at most these, and what goes with them. It
@@ -194,10 +226,10 @@ impl Store {
         ensures pending { pending.new ≡ pending.old ++ queue_at self.old ino }
         ensures held { held_by self.old ino ≡ carried (queue_at self.old ino) }
     {
-        let Some(socket) = self.files.get_mut(&ino) else {
+        let Some(file) = self.files.get_mut(&ino) else {
             return;
         };
-        socket.empty(pending);
+        file.empty(pending);
     }
 
     /// The queues of these files are emptied, one after the other.

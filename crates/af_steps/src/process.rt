@@ -1,8 +1,9 @@
 //! A process, and what its numbers stand for.
-ghost use Rattle.std.specs.Prelude.{◌≡◌, ◌<◌, ◌≤◌, ◌↔◌, ℕ, IsTrue, IfOk, OnOk, length};
+ghost use Rattle.std.specs.Prelude.{◌≡◌, ◌<◌, ◌≤◌, ◌↔◌, ℕ, IsTrue, IfOk, OnOk, length, slice_get};
 ghost use Rattle.std.specs.FinMap as map;
 ghost use Rattle.af_base.specs.Counts.{total_of, one};
 ghost use Rattle.af_base.specs.Table.{free_numbers, lowest_free};
+ghost use Rattle.af_steps.specs.Slots.{table_of};
 ghost use Rattle.af_steps.specs.Marking.{HasFile, Marked, NoFile};
 ghost use Rattle.af_base.specs.Bare.{bare_process};
 ghost use Rattle.af_base.specs.Listing.{process_of, IsRisingTable};
@@ -61,6 +62,25 @@ impl Process {
         })
     }
 
+    /// A process with the same user, limit, privilege and table.
+    pub fn copy(&self, alloc: Global) -> Result<Process, AllocError>
+        ensures { IfOk result (λ p. p ≡ self.now) }
+    {
+        Ok(Process {
+            user: self.user,
+            limit: self.limit,
+            privileged: self.privileged,
+            slots: self.slots.to_vec(alloc)?,
+        })
+    }
+
+    /// Its slots: what each number stands for.
+    pub fn slots(&self) -> &[Option<Ino>]
+        ensures { self.now.table ≡ table_of result.now }
+    {
+        &self.slots
+    }
+
     /// Its user.
     pub fn user(&self) -> Uid
         ensures { result ≡ self.now.user }
@@ -116,6 +136,18 @@ impl Process {
         ensures { result ≡ length (free_numbers self.now) }
     {
         self.slots.iter().filter(|slot| slot.is_none()).count()
+    }
+
+    /// The lowest free number.
+    pub fn lowest(&self) -> Option<Fd>
+        ensures { result ≡ slice_get (free_numbers self.now) 0 }
+    {
+        for (number, slot) in self.slots.iter().enumerate() {
+            if slot.is_none() {
+                return Some(Fd(number as u32));
+            }
+        }
+        None
     }
 
     /// The lowest free numbers, rising: so many, or all where there are fewer.

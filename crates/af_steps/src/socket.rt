@@ -225,16 +225,6 @@ impl Socket {
         Ok(())
     }
 
-    /// All that it has to receive, handed on. It takes no memory.
-    pub fn into_messages(self) -> LinkedList<Message>
-        ensures value { result ≡ queue_of self }
-        ensures held { contents self ≡ carried result }
-        ensures bound { length result ≤ MAX_MESSAGES }
-    {
-        let Socket { queue, .. } = self;
-        queue
-    }
-
     /// What it has to receive, as plain lists; no embryos wait yet.
     pub fn listed(&self, alloc: Global) -> Result<ListedSocket, AllocError>
         ensures shown { IfOk result (λ s. world.AsSocket (socket_of s) ≡ bare_file self.now) }

@@ -2,11 +2,13 @@
 ghost use Rattle.std.specs.Prelude.{◌≡◌, ◌<◌, ◌≤◌, ℕ, false, IsTrue, IfSome, IfNone, OnOk, OnErr, IfOk, None, ◌+◌, option_copied, nat_eq, vec_len, vec_capacity, ◌++◌, ◌∷◌, [], if◌then◌else◌};
 ghost use Rattle.std.specs.List.{list_any};
 ghost use Rattle.std.specs.FinMap as map;
-ghost use Rattle.af_base.specs.World.{AsSocket, is_live, empty_world};
+ghost use Rattle.af_base.specs.World.{AsSocket, Plain, is_live, empty_world};
 ghost use Rattle.af_base.specs.Places.{table_at};
-ghost use Rattle.af_base.specs.Changes.{add_file};
+ghost use Rattle.af_base.specs.Changes.{add_file, add_process, remove_process};
+ghost use Rattle.af_base.specs.Refusals.{process_at};
 ghost use Rattle.af_base.specs.Steps.{connected_socket, spawned};
 
+use crate::desc::Desc;
 use crate::process;
 use crate::socket::Socket;
 use af_base::events::SockType;
@@ -21,7 +23,7 @@ use std::ops::Bound;
 #[derive(Drop)]
 pub struct Store {
     pub(crate) processes: BTreeMap<Pid, process::Process>,
-    pub(crate) files: BTreeMap<Ino, Socket>,
+    pub(crate) files: BTreeMap<Ino, Desc>,
     next_ino: u64,
     next_pid: u32,
     users: Vec<Uid>,
@@ -77,9 +79,9 @@ impl Store {
         }
     }
 
-    /// The socket, if it is there.
+    /// The file, if it is there.
     #[tactic(auto, using(af_base::proofs::Trees::changes))]
-    pub fn socket(&self, ino: Ino) -> Option<&Socket>
+    pub fn file(&self, ino: Ino) -> Option<&Desc>
         ensures { option_copied result ≡ map.get self.now.files ino }
     {
         self.files.get(&ino)
@@ -166,6 +168,50 @@ impl Store {
         Ok(pid)
     }
 
+    /// A plain file more. On an error nothing has changed.
+    #[tactic(auto, using(af_base::proofs::Trees::changes, af_base::proofs::Ordered::lists))]
+    pub fn add_plain(&mut self) -> Result<Ino, AllocError>
+        requires room { map.len self.old.files < MAX_FILES }
+        requires inos { self.old.next_ino ≤ MAX_INO }
+        requires new { (f : ℕ) → IsTrue (is_live self.old f) → f < self.old.next_ino }
+        ensures ok { OnOk result (self.new ≡ add_file self.old Plain) }
+        ensures ino { IfOk result (λ ino. ino ≡ self.old.next_ino) }
+        ensures err { OnErr result (self.new ≡ self.old) }
+    {
+        let ino = Ino(self.next_ino);
+        self.files.insert(ino, Desc::plain())?;
+        self.next_ino += 1;
+        Ok(ino)
+    }
+
+    /// A process more, with a copy of what that one has. On an error nothing has changed.
+    #[tactic(auto, using(af_base::proofs::Trees::changes, af_base::proofs::Ordered::lists))]
+    pub fn copy(&mut self, alloc: Global, pid: Pid) -> Result<Pid, AllocError>
+        requires there { IsTrue (map.contains_key self.old.processes pid) }
+        requires room { map.len self.old.processes < MAX_PROCESSES }
+        requires pids { self.old.next_pid ≤ MAX_PID }
+        requires new { map.get self.old.processes self.old.next_pid ≡ None }
+        ensures ok { OnOk result (self.new ≡ add_process self.old (process_at self.old pid)) }
+        ensures pid { IfOk result (λ child. child ≡ self.old.next_pid) }
+        ensures err { OnErr result (self.new ≡ self.old) }
+    {
+        let process = self.process(pid).unwrap().copy(alloc)?;
+        let child = Pid(self.next_pid);
+        self.processes.insert(child, process)?;
+        self.next_pid += 1;
+        Ok(child)
+    }
+
+    /// A process goes, and is handed on. It takes no memory.
+    #[tactic(auto, using(af_base::proofs::Trees::changes))]
+    pub fn take_process(&mut self, pid: Pid) -> Option<process::Process>
+        ensures value { result ≡ map.get self.old.processes pid }
+        ensures gone { self.new ≡ remove_process self.old pid }
+        ensures none { IfNone result (self.new ≡ self.old) }
+    {
+        self.processes.remove(&pid)
+    }
+
     /// Two sockets more, connected to each other: both or, on an error, none.
     #[tactic(auto, using(af_base::proofs::Trees::changes, af_base::proofs::Ordered::lists))]
     pub fn add_pair(&mut self, alloc: Global, kind: SockType) -> Result<(Ino, Ino), AllocError>
@@ -179,10 +225,10 @@ impl Store {
         let first = Ino(self.next_ino);
         let second = Ino(self.next_ino + 1);
         self.files
-            .insert(first, Socket::connected(alloc, kind, second))?;
+            .insert(first, Desc::of(Socket::connected(alloc, kind, second)))?;
         if self
             .files
-            .insert(second, Socket::connected(alloc, kind, first))
+            .insert(second, Desc::of(Socket::connected(alloc, kind, first)))
             .is_err()
         {
             self.files.remove(&first);

@@ -12,6 +12,8 @@ use af_base::names::{Ino, Pid, Uid};
 /// What a file is.
 #[derive(Clone, Copy, Debug, PartialEq, Eq)]
 pub enum FileInfo {
+    /// A plain file, of which nothing is known.
+    Plain,
     /// A socket: its type, whom it can talk to, and how many messages it has to receive.
     Socket {
         kind: SockType,
@@ -84,7 +86,9 @@ impl Engine {
     pub fn file(&self, ino: Ino) -> Option<FileInfo>
         ensures { result ≡ shown_of (map.get self.now.world.files ino) }
     {
-        let socket = self.store.socket(ino)?;
+        let Some(socket) = self.store.file(ino)?.socket() else {
+            return Some(FileInfo::Plain);
+        };
         Some(FileInfo::Socket {
             kind: socket.kind(),
             state: socket.state(),

@@ -29,8 +29,8 @@ impl Store {
         ensures bound { result < 2 ^ 31 }
     {
         let mut sum = 0;
-        for socket in self.files.values() {
-            sum += socket.count(ino);
+        for file in self.files.values() {
+            sum += file.count(ino);
         }
         sum
     }
@@ -49,8 +49,8 @@ impl Store {
         ensures bound { result < 2 ^ 31 }
     {
         let mut sum = 0;
-        for socket in self.files.values() {
-            sum += socket.charged(user);
+        for file in self.files.values() {
+            sum += file.charged(user);
         }
         sum
     }
@@ -62,8 +62,8 @@ impl Store {
         ensures bound { result < 2 ^ 31 }
     {
         let mut sum = 0;
-        for socket in self.files.values() {
-            sum += socket.carries();
+        for file in self.files.values() {
+            sum += file.carries();
         }
         sum
     }

@@ -12,7 +12,7 @@ use Rattle.scm_lines.specs.Numbers.{number_in}
 use Rattle.scm_lines.specs.Payload.{payload_of}
 use Rattle.scm_lines.specs.Attached.{attached_of}
 use Rattle.scm_lines.specs.Keywords.{opening_of, type_of, verb_of}
-use Rattle.scm_lines.specs.Lines.{all_printable, close_of, form_of, is_comment, line_of, opened_by, pair_of, privilege_of, process_of, recv_of, send_of, spawn_of, step_of, words_say}
+use Rattle.scm_lines.specs.Lines.{all_printable, close_of, dup2_of, dup_of, form_of, is_comment, line_of, opened_by, pair_of, privilege_of, process_of, recv_of, send_of, spawn_of, step_of, words_say}
 use Rattle.scm_lines.specs.Says.{IsLine, IsNumber, Says, SaysStep, type_name}
 use Rattle.scm_lines.specs.declared.keywords.Opening.{Opening}
 use Rattle.scm_lines.specs.declared.keywords.Opening.TheVariants as opening
@@ -63,6 +63,32 @@ spawn_said words ev e =
 
 -- ---- steps
 
+-- a verb that stands alone
+bare_said : (verb : List ℕ) (words : List (List ℕ)) (one st : Step) → SaysStep (verb ∷ []) one → at_end one words ≡ Some st → SaysStep (verb ∷ words) st
+bare_said verb words one st says e =
+    let (none, is) = ended one st words e in
+    rw (none, ← is) says
+
+dup_said : (words : List (List ℕ)) (st : Step) → dup_of words ≡ Some st → SaysStep (codes "dup" ∷ words) st
+unfolding dup_of
+dup_said words st e =
+    let (fd, (e1, f1)) = bound (number_in words) _ st e in
+    let (a, (w1, n1)) = number_first words fd.0 fd.1 e1 in
+    let (none, is) = ended (step.Dup fd.0) st fd.1 f1 in
+    let whole : words ≡ a ∷ [] = w1 ∙ ap (onto a) none in
+    rw (← is) (a, (ap (onto (codes "dup")) whole, n1))
+
+dup2_said : (words : List (List ℕ)) (st : Step) → dup2_of words ≡ Some st → SaysStep (codes "dup2" ∷ words) st
+unfolding dup2_of
+dup2_said words st e =
+    let (from, (e1, f1)) = bound (number_in words) _ st e in
+    let (to, (e2, f2)) = bound (number_in from.1) _ st f1 in
+    let (a, (w1, n1)) = number_first words from.0 from.1 e1 in
+    let (b, (w2, n2)) = number_first from.1 to.0 to.1 e2 in
+    let (none, is) = ended (step.Dup2 from.0 to.0) st to.1 f2 in
+    let whole : words ≡ a ∷ b ∷ [] = cc in
+    rw (← is) (a, b, (ap (onto (codes "dup2")) whole, n1, n2))
+
 close_said : (words : List (List ℕ)) (st : Step) → close_of words ≡ Some st → SaysStep (codes "close" ∷ words) st
 unfolding close_of
 close_said words st e =
@@ -108,7 +134,12 @@ recv_said words st e =
 
 step_said : (v : Verb) (words : List (List ℕ)) (st : Step) → step_of v words ≡ Some st → SaysStep (verb_name v ∷ words) st
 unfolding step_of
+step_said verb.Open = λ words st e. bare_said (codes "open") words step.Open st refl e
+step_said verb.Dup = dup_said
+step_said verb.Dup2 = dup2_said
 step_said verb.Close = close_said
+step_said verb.Fork = λ words st e. bare_said (codes "fork") words step.Fork st refl e
+step_said verb.Exit = λ words st e. bare_said (codes "exit") words step.Exit st refl e
 step_said verb.Pair = pair_said
 step_said verb.Send = send_said
 step_said verb.Recv = recv_said

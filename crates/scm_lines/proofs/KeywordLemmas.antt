@@ -1,6 +1,5 @@
 -- Keywords and their names.
 use Rattle.std.proofs.Common.{◌≡◌, ℕ, List, cond, Option, Some, None, is_some, false, refl, ap, ◌∙◌, inl, inr, subst, codes}
-use Rattle.std.specs.Option.{option_map}
 use Rattle.std.specs.Str.{bytes_eq}
 use Rattle.af_base.specs.declared.events.SockType.{SockType}
 use Rattle.af_base.specs.declared.events.SockType.TheVariants.{Seqpacket}
@@ -56,7 +55,12 @@ opening_read word (opening.Process pid) number =
 
 -- the word that says a verb
 abbrev pub verb_name : Verb → List ℕ
+verb_name verb.Open = codes "open"
+verb_name verb.Dup = codes "dup"
+verb_name verb.Dup2 = codes "dup2"
 verb_name verb.Close = codes "close"
+verb_name verb.Fork = codes "fork"
+verb_name verb.Exit = codes "exit"
 verb_name verb.Pair = codes "pair"
 verb_name verb.Send = codes "send"
 verb_name verb.Recv = codes "recv"
@@ -73,10 +77,15 @@ none_picked word v e = cc
 
 pub verb_said : (word : List ℕ) (v : Verb) → verb_of word ≡ Some v → word ≡ verb_name v
 verb_said word v e =
-    picked word verb.Close v _ e (λ e1.
-    picked word verb.Pair v _ e1 (λ e2.
-    picked word verb.Send v _ e2 (λ e3.
-    picked word verb.Recv v _ e3 (none_picked word v))))
+    picked word verb.Open v _ e (λ e1.
+    picked word verb.Dup v _ e1 (λ e2.
+    picked word verb.Dup2 v _ e2 (λ e3.
+    picked word verb.Close v _ e3 (λ e4.
+    picked word verb.Fork v _ e4 (λ e5.
+    picked word verb.Exit v _ e5 (λ e6.
+    picked word verb.Pair v _ e6 (λ e7.
+    picked word verb.Send v _ e7 (λ e8.
+    picked word verb.Recv v _ e8 (none_picked word v)))))))))
 
 pub type_said : (word : List ℕ) (kind : SockType) → type_of word ≡ Some kind → word ≡ type_name kind
 type_said word kind e = elim (chosen (bytes_eq word (codes "seqpacket")) _ _ _ e) [

@@ -26,7 +26,12 @@ opening_of word = if is_some (keyword_of word) then keyword_of word else option_
 -- What the word after a process's number stands for.
 abbrev pub verb_of : List ℕ → Option Verb
 verb_of word =
-    if bytes_eq word (codes "close") then Some verb.Close
+    if bytes_eq word (codes "open") then Some verb.Open
+    else if bytes_eq word (codes "dup") then Some verb.Dup
+    else if bytes_eq word (codes "dup2") then Some verb.Dup2
+    else if bytes_eq word (codes "close") then Some verb.Close
+    else if bytes_eq word (codes "fork") then Some verb.Fork
+    else if bytes_eq word (codes "exit") then Some verb.Exit
     else if bytes_eq word (codes "pair") then Some verb.Pair
     else if bytes_eq word (codes "send") then Some verb.Send
     else if bytes_eq word (codes "recv") then Some verb.Recv

@@ -39,6 +39,19 @@ spawn_of words = do
   privileged ← privilege_of nofile.1
   Some (event.Spawn uid.0 nofile.0 privileged)
 
+-- After dup: the number.
+unfoldable pub dup_of : List (List ℕ) → Option Step
+dup_of words = do
+  fd ← number_in words
+  at_end (step.Dup fd.0) fd.1
+
+-- After dup2: both numbers.
+unfoldable pub dup2_of : List (List ℕ) → Option Step
+dup2_of words = do
+  from ← number_in words
+  to ← number_in from.1
+  at_end (step.Dup2 from.0 to.0) to.1
+
 -- After close: the number.
 unfoldable pub close_of : List (List ℕ) → Option Step
 close_of words = do
@@ -71,7 +84,12 @@ recv_of words = do
 
 -- The step that a verb and the words after it say.
 unfoldable pub step_of : Verb → List (List ℕ) → Option Step
+step_of verb.Open words = at_end step.Open words
+step_of verb.Dup words = dup_of words
+step_of verb.Dup2 words = dup2_of words
 step_of verb.Close words = close_of words
+step_of verb.Fork words = at_end step.Fork words
+step_of verb.Exit words = at_end step.Exit words
 step_of verb.Pair words = pair_of words
 step_of verb.Send words = send_of words
 step_of verb.Recv words = recv_of words

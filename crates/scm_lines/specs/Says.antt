@@ -57,6 +57,13 @@ type_name Seqpacket = codes "seqpacket"
 
 -- The words after a process's number that say this step.
 abbrev pub SaysStep : List (List ℕ) → Step → Type 0
+SaysStep words step.Open = words ≡ codes "open" ∷ []
+SaysStep words (step.Dup fd) =
+    (a : List ℕ) × ((words ≡ codes "dup" ∷ a ∷ []) × IsNumber a fd)
+SaysStep words (step.Dup2 from to) =
+    (a b : List ℕ) × ((words ≡ codes "dup2" ∷ a ∷ b ∷ []) × IsNumber a from × IsNumber b to)
+SaysStep words step.Fork = words ≡ codes "fork" ∷ []
+SaysStep words step.Exit = words ≡ codes "exit" ∷ []
 SaysStep words (step.Close fd) =
     (a : List ℕ) × ((words ≡ codes "close" ∷ a ∷ []) × IsNumber a fd)
 SaysStep words (step.Pair sockets) = words ≡ codes "pair" ∷ type_name sockets ∷ []

@@ -1,7 +1,7 @@
 //! The forms of a line: one function for each, over the words after its keyword.
 ghost use Rattle.std.specs.Prelude.{◌≡◌, IfOk};
 ghost use Rattle.scm_lines.specs.Words.{words_of};
-ghost use Rattle.scm_lines.specs.Lines.{privilege_of, spawn_of, close_of, pair_of, send_of, recv_of, step_of, process_of, form_of};
+ghost use Rattle.scm_lines.specs.Lines.{privilege_of, spawn_of, dup_of, dup2_of, close_of, pair_of, send_of, recv_of, step_of, process_of, form_of};
 
 use crate::attached::attached;
 use crate::keywords::{Opening, Verb, opening_named, type_named, verb_named};
@@ -37,6 +37,25 @@ fn spawn(bytes: &[u8]) -> Option<Event>
         nofile,
         privileged,
     })
+}
+
+/// `P dup N`.
+#[tactic(auto, unfolding(crate::specs::Lines::dup_of))]
+fn dup(bytes: &[u8]) -> Option<Step>
+    ensures { result ≡ dup_of (words_of bytes.now) }
+{
+    let (fd, rest) = number_in(bytes)?;
+    is_end(rest).then_some(Step::Dup(Fd(fd)))
+}
+
+/// `P dup2 N N`.
+#[tactic(auto, unfolding(crate::specs::Lines::dup2_of))]
+fn dup2(bytes: &[u8]) -> Option<Step>
+    ensures { result ≡ dup2_of (words_of bytes.now) }
+{
+    let (from, rest) = number_in(bytes)?;
+    let (to, rest) = number_in(rest)?;
+    is_end(rest).then_some(Step::Dup2(Fd(from), Fd(to)))
 }
 
 /// `P close N`.
@@ -103,7 +122,12 @@ fn step(alloc: Global, verb: Verb, rest: &[u8]) -> Result<Option<Step>, AllocErr
     ensures { IfOk result (λ found. found ≡ step_of verb (words_of rest.now)) }
 {
     match verb {
+        Verb::Open => Ok(is_end(rest).then_some(Step::Open)),
+        Verb::Dup => Ok(dup(rest)),
+        Verb::Dup2 => Ok(dup2(rest)),
         Verb::Close => Ok(close(rest)),
+        Verb::Fork => Ok(is_end(rest).then_some(Step::Fork)),
+        Verb::Exit => Ok(is_end(rest).then_some(Step::Exit)),
         Verb::Pair => Ok(pair(rest)),
         Verb::Send => send(alloc, rest),
         Verb::Recv => Ok(recv(rest)),

@@ -23,8 +23,18 @@ pub enum Opening {
 /// What a process does, by the word after its number.
 #[derive(Clone, Copy, Debug, PartialEq, Eq)]
 pub enum Verb {
+    /// `open`
+    Open,
+    /// `dup`
+    Dup,
+    /// `dup2`
+    Dup2,
     /// `close`
     Close,
+    /// `fork`
+    Fork,
+    /// `exit`
+    Exit,
     /// `pair`
     Pair,
     /// `send`
@@ -66,13 +76,34 @@ pub fn opening_named(word: &[u8]) -> Option<Opening>
 pub fn verb_named(word: &[u8]) -> Option<Verb>
     ensures { result ≡ verb_of word.now }
 {
-    match word {
-        b"close" => Some(Verb::Close),
-        b"pair" => Some(Verb::Pair),
-        b"send" => Some(Verb::Send),
-        b"recv" => Some(Verb::Recv),
-        _ => None,
+    if word == b"open".as_slice() {
+        return Some(Verb::Open);
     }
+    if word == b"dup".as_slice() {
+        return Some(Verb::Dup);
+    }
+    if word == b"dup2".as_slice() {
+        return Some(Verb::Dup2);
+    }
+    if word == b"close".as_slice() {
+        return Some(Verb::Close);
+    }
+    if word == b"fork".as_slice() {
+        return Some(Verb::Fork);
+    }
+    if word == b"exit".as_slice() {
+        return Some(Verb::Exit);
+    }
+    if word == b"pair".as_slice() {
+        return Some(Verb::Pair);
+    }
+    if word == b"send".as_slice() {
+        return Some(Verb::Send);
+    }
+    if word == b"recv".as_slice() {
+        return Some(Verb::Recv);
+    }
+    None
 }
 
 /// The type of sockets that a word names.

@@ -9,7 +9,7 @@ use std::process::Abort;
 use std::test::Fail;
 
 /// Lines that cannot be read.
-const UNREADABLE: [&[u8]; 25] = [
+const UNREADABLE: [&[u8]; 28] = [
     b"spawn 01 4",
     b"spawn 4294967296 4",
     b"spawn 1 4 root",
@@ -27,7 +27,10 @@ const UNREADABLE: [&[u8]; 25] = [
     b"1 send 0 a 0*01",
     b"1 close 0 0",
     b"1 recv 0 10",
-    b"1 open",
+    b"1 open 0",
+    b"1 dup",
+    b"1 dup2 0",
+    b"1 fork 2",
     b"pass 1",
     b"totals 1",
     b"check all",
@@ -79,7 +82,12 @@ fn words_that_stand_alone(rt: HostRuntime) -> Result<(), Fail> {
 #[test]
 fn steps_with_numbers(rt: HostRuntime) -> Result<(), Fail> {
     stepped(&rt, b"1 pair seqpacket", Step::Pair(SockType::Seqpacket))?;
+    stepped(&rt, b"1 open", Step::Open)?;
+    stepped(&rt, b"1 dup 2", Step::Dup(Fd(2)))?;
+    stepped(&rt, b"1 dup2 2 0", Step::Dup2(Fd(2), Fd(0)))?;
     stepped(&rt, b"1 close 2", Step::Close(Fd(2)))?;
+    stepped(&rt, b"1 fork", Step::Fork)?;
+    stepped(&rt, b"1 exit ", Step::Exit)?;
     let recv = Step::Recv {
         on: Fd(0),
         max_bytes: 10,

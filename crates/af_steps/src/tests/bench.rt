@@ -24,6 +24,11 @@ pub fn spawn_privileged(nofile: u32) -> Event {
     }
 }
 
+/// A step of the process.
+pub fn step(pid: u32, step: Step) -> Event {
+    Event::Proc(Pid(pid), step)
+}
+
 pub fn close(pid: u32, fd: u32) -> Event {
     Event::Proc(Pid(pid), Step::Close(Fd(fd)))
 }
@@ -113,6 +118,11 @@ impl Bench {
     /// Whether the process makes a pair at these numbers.
     pub fn pairs(&mut self, pid: u32, lower: u32, higher: u32) -> bool {
         self.does(&pair(pid), &Reply::Fds(Fd(lower), Fd(higher)))
+    }
+
+    /// Whether process 1 opens a plain file at this number.
+    pub fn opens(&mut self, fd: u32) -> bool {
+        self.does(&step(1, Step::Open), &Reply::Fd(Fd(fd)))
     }
 
     /// Whether process 1 closes the number.

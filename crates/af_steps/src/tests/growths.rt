@@ -1,7 +1,7 @@
 //! One allocation refused, the Nth, by `rt try --test --fail-alloc N`.
-use super::bench::{Bench, close, got, pair, recv, send, spawn};
+use super::bench::{Bench, close, got, pair, recv, send, spawn, step};
 use af_base::errno::Errno;
-use af_base::events::{Event, Reply};
+use af_base::events::{Event, Reply, Step};
 use af_base::names::{Fd, Ino, Pid};
 use std::alloc::{AllocError, Global};
 use std::process::Abort;
@@ -13,7 +13,12 @@ fn script(alloc: Global) -> Result<Vec<(Event, Reply)>, AllocError> {
         (pair(1), Reply::Fds(Fd(0), Fd(1))),
         (send(alloc, 1, 1, b"hi", &[0])?, Reply::Sent(2)),
         (recv(1, 0, 10, 8), got(alloc, b"hi", &[2], false, false)?),
+        (step(1, Step::Open), Reply::Fd(Fd(3))),
+        (step(1, Step::Dup(Fd(3))), Reply::Fd(Fd(4))),
+        (step(1, Step::Dup2(Fd(3), Fd(5))), Reply::Fd(Fd(5))),
+        (step(1, Step::Fork), Reply::Pid(Pid(2))),
         (close(1, 0), Reply::Ok),
+        (step(2, Step::Exit), Reply::Ok),
     ]?;
     Ok(lines)
 }

@@ -1,7 +1,7 @@
 //! Each refusal that can arise here, once.
-use super::bench::{Bench, close, pair, recv, send, spawn, spawn_privileged};
+use super::bench::{Bench, close, pair, recv, send, spawn, spawn_privileged, step};
 use af_base::errno::Errno;
-use af_base::events::Reply;
+use af_base::events::{Reply, Step};
 use af_base::names::{Fd, Pid};
 use std::test::Fail;
 
@@ -31,6 +31,61 @@ fn of_a_close(rt: HostRuntime) -> Result<(), Fail> {
         "past the limit"
     );
     assert_eq!(rt; bench.totals(), (0, 0, 2));
+    Ok(())
+}
+
+#[test]
+fn of_an_open(rt: HostRuntime) -> Result<(), Fail> {
+    let mut bench = Bench::with_pair(rt.alloc(), 3)?;
+    assert!(rt; bench.refuses(&step(2, Step::Open), Errno::ESRCH));
+    assert!(rt; bench.opens(2));
+    assert!(rt; bench.refuses(&step(1, Step::Open), Errno::EMFILE));
+    assert_eq!(rt; bench.totals(), (0, 0, 3));
+    Ok(())
+}
+
+#[test]
+fn of_a_plain_file(rt: HostRuntime) -> Result<(), Fail> {
+    let mut bench = Bench::with_pair(rt.alloc(), 3)?;
+    assert!(rt; bench.opens(2));
+    assert!(rt;
+        bench.refuses_send(2, b"", &[], Errno::ENOTSOCK)?,
+        "before EINVAL"
+    );
+    assert!(rt; bench.refuses_recv(2, 0, Errno::ENOTSOCK));
+    Ok(())
+}
+
+#[test]
+fn of_a_dup(rt: HostRuntime) -> Result<(), Fail> {
+    let mut bench = Bench::with_pair(rt.alloc(), 2)?;
+    assert!(rt; bench.refuses(&step(2, Step::Dup(Fd(0))), Errno::ESRCH));
+    assert!(rt; bench.refuses(&step(1, Step::Dup(Fd(2))), Errno::EBADF));
+    assert!(rt; bench.refuses(&step(1, Step::Dup(Fd(1))), Errno::EMFILE));
+    assert!(rt; bench.refuses(&step(2, Step::Dup2(Fd(0), Fd(0))), Errno::ESRCH));
+    assert!(rt;
+        bench.refuses(&step(1, Step::Dup2(Fd(2), Fd(2))), Errno::EBADF),
+        "which is not open"
+    );
+    assert!(rt;
+        bench.refuses(&step(1, Step::Dup2(Fd(0), Fd(2))), Errno::EBADF),
+        "past the limit"
+    );
+    Ok(())
+}
+
+#[test]
+fn of_a_fork_and_an_exit(rt: HostRuntime) -> Result<(), Fail> {
+    let mut bench = Bench::new(rt.alloc())?;
+    assert!(rt; bench.refuses(&step(1, Step::Fork), Errno::ESRCH));
+    assert!(rt; bench.refuses(&step(1, Step::Exit), Errno::ESRCH));
+    for pid in 1..=1_024 {
+        assert!(rt; bench.spawns(0, pid));
+    }
+    assert!(rt; bench.refuses(&step(1, Step::Fork), Errno::EAGAIN));
+    assert!(rt; bench.does(&step(1, Step::Exit), &Reply::Ok));
+    assert!(rt; bench.refuses(&step(1, Step::Fork), Errno::ESRCH));
+    assert!(rt; bench.does(&step(2, Step::Fork), &Reply::Pid(Pid(1_025))));
     Ok(())
 }
 

@@ -1,7 +1,7 @@
 //! Each event done, and all views after it.
-use super::bench::{Bench, close, got, pair, recv, send, spawn};
+use super::bench::{Bench, close, got, pair, recv, send, spawn, step};
 use crate::{Engine, FileInfo};
-use af_base::events::{Event, Reply, SockType, State};
+use af_base::events::{Event, Reply, SockType, State, Step};
 use af_base::names::{Fd, Ino, Pid, Uid};
 use std::test::Fail;
 
@@ -124,5 +124,55 @@ fn closed(rt: HostRuntime) -> Result<(), Fail> {
         "2 is not used again"
     );
     assert!(rt; bench.spawns(1, 2));
+    Ok(())
+}
+
+#[test]
+fn opened(rt: HostRuntime) -> Result<(), Fail> {
+    let mut bench = Bench::with_pair(rt.alloc(), 16)?;
+    assert!(rt; bench.opens(2));
+    assert_eq!(rt; bench.engine.file(Ino(3)), Some(FileInfo::Plain));
+    assert_eq!(rt; bench.held(3), (1, 0));
+    assert_eq!(rt; bench.totals(), (0, 0, 3));
+    assert!(rt; bench.closes(2));
+    assert_eq!(rt; bench.engine.file(Ino(3)), None);
+    Ok(())
+}
+
+#[test]
+fn copied(rt: HostRuntime) -> Result<(), Fail> {
+    let mut bench = Bench::with_pair(rt.alloc(), 16)?;
+    assert!(rt; bench.does(&step(1, Step::Dup(Fd(1))), &Reply::Fd(Fd(2))));
+    assert_eq!(rt; bench.held(2), (2, 0));
+    assert!(rt; bench.does(&step(1, Step::Dup2(Fd(0), Fd(15))), &Reply::Fd(Fd(15))));
+    assert_eq!(rt; bench.held(1), (2, 0));
+    Ok(())
+}
+
+#[test]
+fn put_in_place_of_another(rt: HostRuntime) -> Result<(), Fail> {
+    let mut bench = Bench::with_pair(rt.alloc(), 16)?;
+    assert!(rt; bench.does(&step(1, Step::Dup2(Fd(0), Fd(0))), &Reply::Fd(Fd(0))));
+    assert_eq!(rt; bench.held(1), (1, 0), "nothing changed");
+    assert!(rt; bench.does(&step(1, Step::Dup2(Fd(0), Fd(1))), &Reply::Fd(Fd(1))));
+    assert_eq!(rt; bench.held(1), (2, 0));
+    assert_eq!(rt; bench.engine.file(Ino(2)), None, "its last number");
+    assert_eq!(rt; bench.engine.file(Ino(1)), socket(State::HungUp, 0));
+    Ok(())
+}
+
+#[test]
+fn forked_and_ended(rt: HostRuntime) -> Result<(), Fail> {
+    let mut bench = Bench::with_pair(rt.alloc(), 16)?;
+    assert!(rt; bench.sends(0, b"a", &[1])?);
+    assert!(rt; bench.does(&step(1, Step::Fork), &Reply::Pid(Pid(2))));
+    assert_eq!(rt; bench.held(1), (2, 0));
+    assert_eq!(rt; bench.held(2), (3, 1));
+    assert!(rt; bench.does(&step(1, Step::Exit), &Reply::Ok));
+    assert_eq!(rt; bench.totals(), (1, 1, 2), "the charge stays");
+    assert!(rt; bench.does(&step(2, Step::Exit), &Reply::Ok));
+    assert_eq!(rt; bench.totals(), (1, 1, 1), "a cycle stays");
+    assert_eq!(rt; bench.held(2), (1, 1));
+    assert_eq!(rt; bench.engine.next_pid(), Pid(3));
     Ok(())
 }

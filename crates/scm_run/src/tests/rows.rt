@@ -158,6 +158,62 @@ fn three_sockets_in_two_cycles(rt: HostRuntime) -> Result<(), Fail> {
 }
 
 #[test]
+fn two_ends_in_each_others_queues(rt: HostRuntime) -> Result<(), Fail> {
+    let rows = [
+        ("spawn 1000 16", "pid 1"),
+        ("1 pair seqpacket", "fds 0 1"),
+        ("1 pair seqpacket", "fds 2 3"),
+        ("1 open", "fd 4"),
+        ("1 send 1 a 2 4", "sent 1"),
+        ("1 send 3 b 0", "sent 1"),
+        ("1 exit", "ok"),
+        ("totals", "user 1000 inflight 3"),
+        ("check", "check ok live 3 garbage 3"),
+        ("pass", "pass 1 reclaimed 2"),
+        ("check", "check ok live 0 garbage 0"),
+        ("totals", "user 1000 inflight 0"),
+    ];
+    plays(&rt, rows.as_slice())
+}
+
+#[test]
+fn fork_and_exit(rt: HostRuntime) -> Result<(), Fail> {
+    let rows = [
+        ("spawn 1000 16", "pid 1"),
+        ("1 pair seqpacket", "fds 0 1"),
+        ("1 fork", "pid 2"),
+        ("1 exit", "ok"),
+        ("2 send 0 a 1", "sent 1"),
+        ("2 close 1", "ok"),
+        ("pass", "pass 1 reclaimed 1"),
+        ("2 send 0 x", "EPIPE"),
+    ];
+    plays(&rt, rows.as_slice())
+}
+
+#[test]
+fn numbers_copied(rt: HostRuntime) -> Result<(), Fail> {
+    let rows = [
+        ("spawn 1000 4", "pid 1"),
+        ("1 open", "fd 0"),
+        ("1 dup 0", "fd 1"),
+        ("1 dup2 0 3", "fd 3"),
+        ("1 dup2 1 1", "fd 1"),
+        ("1 dup2 0 4", "EBADF"),
+        ("1 dup 2", "EBADF"),
+        ("1 pair seqpacket", "EMFILE"),
+        ("1 open", "fd 2"),
+        ("check", "check ok live 2 garbage 0"),
+        ("1 dup2 0 2", "fd 2"),
+        ("check", "check ok live 1 garbage 0"),
+        ("1 open", "EMFILE"),
+        ("2 open", "ESRCH"),
+        ("1 send 0 a", "ENOTSOCK"),
+    ];
+    plays(&rt, rows.as_slice())
+}
+
+#[test]
 fn users_in_the_order_of_their_first_process(rt: HostRuntime) -> Result<(), Fail> {
     let rows = [
         ("spawn 7 8", "pid 1"),

@@ -5,8 +5,8 @@ use Rattle.af_base.specs.Counts.{charge, charged}
 use Rattle.af_base.specs.Places.{queue_of}
 use Rattle.af_steps.proofs.store.Store.charged.Given as goal
 
-abbrev pub invariant-loop-socket : goal.invariant-loop-socket
-invariant-loop-socket l = record {
-  so_far : l.sum + sum_by (λ x. sum_by (charge l.user) (queue_of x)) l.socket-iterator ≡ charged l.self l.user;
-  bound : l.sum + MAX_MESSAGES * SCM_MAX_FD * length l.socket-iterator ≤ MAX_FILES * (MAX_MESSAGES * SCM_MAX_FD);
+abbrev pub invariant-loop-file : goal.invariant-loop-file
+invariant-loop-file l = record {
+  so_far : l.sum + sum_by (λ x. sum_by (charge l.user) (queue_of x)) l.file-iterator ≡ charged l.self l.user;
+  bound : l.sum + MAX_MESSAGES * SCM_MAX_FD * length l.file-iterator ≤ MAX_FILES * (MAX_MESSAGES * SCM_MAX_FD);
 }

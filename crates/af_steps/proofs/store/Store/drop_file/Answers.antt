@@ -5,7 +5,7 @@ use Rattle.af_base.specs.Places.{carried}
 use Rattle.af_base.proofs.Trees.{nat_removed, nat_looked}
 use Rattle.af_steps.proofs.Dropped.{gone_connected, gone_alone, gone_none, no_queue, queue_is, held_is, state_is}
 use Rattle.af_steps.proofs.store.Store.drop_file.Goals as goal
-use Rattle.af_steps.proofs.store.Store.drop_file.Goals.{in-Connected, in_default-state}
+use Rattle.af_steps.proofs.store.Store.drop_file.Goals.{in-Some-peer, in_default-peer}
 
 pub returns-in_default-clause-gone : goal.returns-in_default-clause-gone
 returns-in_default-clause-gone c =
@@ -22,19 +22,19 @@ returns-in_default-clause-pending c =
 pub returns-clause-gone : goal.returns-clause-gone
 returns-clause-gone c =
     let w = c.args.self.now in
-    let there : map.get w.files c.args.ino ≡ Some c.in-Some.socket = grind (arith, nat_looked) in
-    let is = state_is w c.args.ino c.in-Some.socket there in
-    elim c.match-state.branch [
-      | in-Connected v ↦
-          let gone = gone_connected w c.args.ino c.requires.peers v.in-Connected.peer (grind (arith, is)) in
+    let there : map.get w.files c.args.ino ≡ Some c.in-Some.file = grind (arith, nat_looked) in
+    let is = state_is w c.args.ino c.in-Some.file there in
+    elim c.match-peer.branch [
+      | in-Some-peer v ↦
+          let gone = gone_connected w c.args.ino c.requires.peers v.in-Some-peer.peer (grind (arith, is)) in
           grind (arith, nat_removed, gone)
-      | in_default-state v ↦
-          let gone = gone_alone w c.args.ino c.requires.peers (λ p e. v.in_default-state.not-Connected p (grind (arith, is, e))) in
+      | in_default-peer v ↦
+          let gone = gone_alone w c.args.ino c.requires.peers (λ p e. v.in_default-peer.ensures.none p (sym is ∙ e)) in
           grind (arith, nat_removed, gone)
     ]
 
 pub returns-clause-held : goal.returns-clause-held
 returns-clause-held c =
     let w = c.args.self.now in
-    let there : map.get w.files c.args.ino ≡ Some c.in-Some.socket = grind (arith, nat_looked) in
-    held_is w c.args.ino c.in-Some.socket there ∙ c.into_messages-messages.ensures.held ∙ ap carried (c.into_messages-messages.ensures.value ∙ sym (queue_is w c.args.ino c.in-Some.socket there))
+    let there : map.get w.files c.args.ino ≡ Some c.in-Some.file = grind (arith, nat_looked) in
+    held_is w c.args.ino c.in-Some.file there ∙ c.empty.ensures.held ∙ ap carried (sym (queue_is w c.args.ino c.in-Some.file there))

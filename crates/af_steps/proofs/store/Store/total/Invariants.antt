@@ -5,8 +5,8 @@ use Rattle.af_base.specs.Counts.{total}
 use Rattle.af_base.specs.Places.{queue_of}
 use Rattle.af_steps.proofs.store.Store.total.Given as goal
 
-abbrev pub invariant-loop-socket : goal.invariant-loop-socket
-invariant-loop-socket l = record {
-  so_far : l.sum + sum_by (λ x. sum_by (λ m. length m.attached) (queue_of x)) l.socket-iterator ≡ total l.self;
-  bound : l.sum + MAX_MESSAGES * SCM_MAX_FD * length l.socket-iterator ≤ MAX_FILES * (MAX_MESSAGES * SCM_MAX_FD);
+abbrev pub invariant-loop-file : goal.invariant-loop-file
+invariant-loop-file l = record {
+  so_far : l.sum + sum_by (λ x. sum_by (λ m. length m.attached) (queue_of x)) l.file-iterator ≡ total l.self;
+  bound : l.sum + MAX_MESSAGES * SCM_MAX_FD * length l.file-iterator ≤ MAX_FILES * (MAX_MESSAGES * SCM_MAX_FD);
 }

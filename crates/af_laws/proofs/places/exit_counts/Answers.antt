@@ -1,0 +1,5 @@
+use Rattle.af_laws.proofs.Counting.{exit_counts}
+use Rattle.af_laws.proofs.places.exit_counts.Goals as goal
+
+pub returns : goal.returns
+returns c = exit_counts

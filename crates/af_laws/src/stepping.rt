@@ -1,0 +1,27 @@
+//! Laws of single steps of a process.
+ghost use Rattle.af_laws.specs.Stepping.{ForkCopies, ExitTakesOneTable, ExitNeverFails, CloseNeverFails, Dup2ToItselfChangesNothing};
+
+/// A child is what its parent was, and has what its parent's numbers stood for.
+pub fn fork_copies()
+    ensures { ForkCopies }
+{}
+
+/// An exit takes the process away, with its table, and changes no other.
+pub fn exit_takes_one_table()
+    ensures { ExitTakesOneTable }
+{}
+
+/// A process that is there can always exit.
+pub fn exit_never_fails()
+    ensures { ExitNeverFails }
+{}
+
+/// An open number can always be closed.
+pub fn close_never_fails()
+    ensures { CloseNeverFails }
+{}
+
+/// A number put in place of itself changes nothing.
+pub fn dup2_to_itself_changes_nothing()
+    ensures { Dup2ToItselfChangesNothing }
+{}

@@ -1,0 +1,17 @@
+use Rattle.std.proofs.Common.{rules}
+use Rattle.af_base.specs.declared.events.Reply.TheVariants as reply
+use Rattle.af_base.specs.declared.events.Step.TheVariants as step
+use Rattle.af_base.proofs.Stepped.{sound-step}
+use Rattle.af_steps.proofs.Numbers.{opened-below, step-opened}
+use Rattle.af_steps.proofs.store.Store.open.Goals as goal
+
+pub table_in-requires : goal.table_in-requires
+table_in-requires c = opened-below c.args.self.now c.args.pid c.in-Some.process.now (search rules) c.in-Some-lowest.fd (search rules) c.add_plain.new.self (search rules)
+
+pub returns-clause-step : goal.returns-clause-step
+returns-clause-step c =
+    step-opened c.args.self.now c.args.pid c.in-Some.process.now (search rules) c.in-Some-lowest.fd (search rules) c.add_plain.new.self c.table_in.new.self c.in-Ok.ino
+    c.requires (search rules) (search rules) (search rules) (search rules) (search rules)
+
+pub returns-clause-sound : goal.returns-clause-sound
+returns-clause-sound c = sound-step c.args.self.now c.args.pid step.Open (reply.Fd c.in-Some-lowest.fd) c.table_in.new.self c.requires (returns-clause-step c)
