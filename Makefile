@@ -1,6 +1,7 @@
 # make          build the program
 # make run      run the example script
 # make test     the gate: every proof from nothing, the wrong bodies, the tests
+# make bench    events in a second, over named workloads
 # make install  put the program below PREFIX
 
 PROGRAM := crates/scmgc/out/scmgc
@@ -18,10 +19,14 @@ run: build
 test:
 	rt ci
 
+bench:
+	cd crates/af_bench && rt run
+	crates/af_bench/out/af_bench all
+
 install: build
 	install -D $(PROGRAM) $(DESTDIR)$(PREFIX)/bin/scmgc
 
 clean:
 	rm -rf crates/*/out
 
-.PHONY: all build run test install clean
+.PHONY: all build run test bench install clean

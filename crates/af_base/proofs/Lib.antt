@@ -1,4 +1,5 @@
 pub mod Trees
+pub mod Hashed
 pub mod Sums
 pub mod Places
 pub mod Held

@@ -5,11 +5,13 @@ use Rattle.std.specs.Option.{option_map_or}
 use Rattle.std.specs.FinMap as map
 use Rattle.af_base.specs.declared.events.State.{State}
 use Rattle.af_base.specs.declared.events.State.TheVariants as state
-use Rattle.af_base.specs.World.{World, File}
+use Rattle.af_base.specs.World.{World, File, Socket, Plain, AsSocket}
 use Rattle.af_base.specs.Places.{queue_of, queue_at, contents, held_by}
 use Rattle.af_base.specs.Changes.{with_socket}
+use Rattle.af_base.specs.Refusals.{socket_of}
 use Rattle.af_base.specs.Unheld.{without}
 use Rattle.af_base.specs.Whole.{AreMutual, state_at, state_of}
+use Rattle.af_base.proofs.Lookups.{some_same}
 use Rattle.af_base.proofs.Dropping.{without_one, drop_with}
 
 -- whether the file is connected
@@ -47,3 +49,13 @@ state_is w f x e = ap (λ o. option_map_or state_of o state.Idle) e
 
 pub held_is : (w : World) (f : ℕ) (x : File) → map.get w.files f ≡ Some x → held_by w f ≡ contents x
 held_is w f x e = ap (λ o. option_map_or contents o []) e
+
+-- what is no socket is connected to nobody
+pub plain_alone : (x : File) → socket_of x ≡ None → (p : ℕ) → state_of x ≡ state.Connected p → ⊥
+plain_alone Plain none p e = cc
+plain_alone (AsSocket s) none p e = cc
+
+-- what is this socket
+pub socket_is : (x : File) (s : Socket) → socket_of x ≡ Some s → x ≡ AsSocket s
+socket_is Plain s e = cc
+socket_is (AsSocket r) s e = ap AsSocket (some_same r s e)

@@ -1,20 +1,14 @@
 -- Marks that grow, and a walk that goes on from what waits to what it holds.
-use Rattle.std.proofs.Common.{◌≡◌, ℕ, ◌+◌, ◌≤◌, ◌<◌, zero, suc, Bool, true, false, ◌⊎◌, inl, inr, List, [], ◌∷◌, ◌++◌, length, refl, sym, ap, ◌∙◌, subst, cond, arith, length-append, drop}
-use Rattle.std.specs.Prelude.{Option, Some, None, slice_index_or}
+use Rattle.std.proofs.Common.{◌≡◌, ℕ, ◌+◌, ◌<◌, zero, suc, Bool, true, false, ◌⊎◌, inl, inr, List, [], ◌∷◌, ◌++◌, length, refl, sym, ap, ◌∙◌, subst, cond, arith, length-append, drop}
+use Rattle.std.specs.Prelude.{slice_index_or}
 use Rattle.std.specs.List.{Contains}
 use Rattle.std.specs.List.Sorted.{IsStrictlySortedBy}
-use Rattle.std.specs.FinMap as map
-use Rattle.std.proofs.lemmas.List.{get_or_past}
 use Rattle.std.specs.Ordering.{nat_cmp, eq_by_cmp}
 use Rattle.std.specs.Cmp.{unsigned_tied}
 use Rattle.std.proofs.lemmas.Bool.{cases_Bool, eqb-true, eq-eqb}
 use Rattle.std.proofs.lemmas.List.Elements.{Contains-append_left, Contains-append_right, Contains-append_cases}
 use Rattle.af_base.proofs.Elements.{Contains-first, Contains-later, Contains-none}
-use Rattle.af_base.proofs.Lookups.{none_some, not_same, same_or_not}
-use Rattle.af_base.specs.World.{Process}
-use Rattle.af_steps.specs.Marking.{HasFile, Marks, Marked, NoFile, is_marked}
-use Rattle.af_steps.specs.Slots.{table_of}
-use Rattle.af_steps.proofs.Slots.{table_at}
+use Rattle.af_steps.specs.Marking.{Marks, Marked, NoFile, is_marked}
 
 -- What is in a list is its first, or in the rest.
 pub first_or_later : {X : Type 0} (x : X) (xs : List X) (y : X) → Contains (x ∷ xs) y → (y ≡ x) ⊎ Contains xs y
@@ -138,25 +132,3 @@ marked-new old now k put rising more waits = record {
     | inl d ↦ inl (sym (eqb-true k f (sym (unsigned_tied k f) ∙ d)))
     | inr d ↦ inr (sym (put f ∙ ap (λ b. cond b true (is_marked old f)) d) ∙ e)
   ]
-
--- A slot from i on has the file.
-abbrev pub StandsFrom : List (Option ℕ) → ℕ → ℕ → Type 0
-StandsFrom xs i f = (n : ℕ) × (i ≤ n) × (slice_index_or xs n None ≡ Some f)
-
--- What a number stands for stands in a slot, and the other way round.
-pub has-stands : (p : Process) (xs : List (Option ℕ)) → p.table ≡ table_of xs → (f : ℕ) → HasFile p f → StandsFrom xs 0 f
-has-stands p xs e f h = (h.0, omega arith, sym (table_at xs h.0) ∙ ap (λ m. map.get m h.0) (sym e) ∙ h.1)
-
-pub stands-has : (p : Process) (xs : List (Option ℕ)) → p.table ≡ table_of xs → (n f : ℕ) → slice_index_or xs n None ≡ Some f → HasFile p f
-stands-has p xs e n f is = (n, ap (λ m. map.get m n) e ∙ table_at xs n ∙ is)
-
--- It stands in this slot, or further on.
-pub stands-next : (xs : List (Option ℕ)) (i : ℕ) (k : Option ℕ) (f : ℕ) → slice_index_or xs i None ≡ k → StandsFrom xs i f → (k ≡ Some f) ⊎ StandsFrom xs (i + 1) f
-stands-next xs i k f is h = elim (same_or_not h.0 i) [
-  | inl e ↦ inl (sym is ∙ ap (λ n. slice_index_or xs n None) (sym e) ∙ h.2)
-  | inr a ↦ let apart = not_same h.0 i a in inr (h.0, omega (arith, h.1, apart), h.2)
-]
-
--- No slot is left.
-pub stands-none : (xs : List (Option ℕ)) (i f : ℕ) → length xs ≤ i → StandsFrom xs i f → ⊥
-stands-none xs i f end h = none_some f (sym (get_or_past xs h.0 None (omega (arith, end, h.1))) ∙ h.2)

@@ -1,16 +1,15 @@
 -- Two sockets more, at the two lowest free numbers of a process.
 use Rattle.std.proofs.Common.{◌≡◌, ◌<◌, ◌≤◌, ℕ, ◌+◌, Bool, false, List, [], ◌∷◌, length, refl, sym, ap, ◌∙◌, subst, arith}
-use Rattle.std.specs.Prelude.{Option, Some, None, not, is_some, unwrap_or, nat_lt, ◌||◌, slice_index, slice_index_or, if◌then◌else◌}
+use Rattle.std.specs.Prelude.{Some, None, not, is_some, unwrap_or, slice_index, slice_index_or, if◌then◌else◌}
 use Rattle.std.specs.FinMap as map
 use Rattle.std.proofs.lemmas.Bool.{le-ltb}
 use Rattle.std.proofs.lemmas.Grind.{get_or_default_zero}
-use Rattle.std.proofs.lemmas.List.{get_or-take}
+use Rattle.std.proofs.lemmas.List.{get_or-take, length-take}
 use Rattle.af_base.specs.declared.errno.Errno.{Errno}
 use Rattle.af_base.specs.declared.errno.Errno.TheVariants.{EMFILE, ENFILE, ESRCH}
 use Rattle.af_base.specs.declared.events.Reply.TheVariants as reply
 use Rattle.af_base.specs.declared.events.SockType.{SockType}
 use Rattle.af_base.specs.declared.events.Step.TheVariants as step
-use Rattle.af_base.specs.declared.limits.TheConstants.{MAX_FILES, MAX_INO}
 use Rattle.af_base.specs.World.{Process, World}
 use Rattle.af_base.specs.Changes.{install}
 use Rattle.af_base.specs.Refusals.{Row, first_fit, is_full, is_short, no_process, process_at, refusal, step_row}
@@ -19,11 +18,10 @@ use Rattle.af_base.specs.Table.{free_numbers, lowest_free}
 use Rattle.af_base.specs.Unheld.{IsSettled, Settles}
 use Rattle.af_base.specs.Whole.{IsSound}
 use Rattle.af_base.proofs.Free.{AreFree, free-free_numbers}
-use Rattle.af_base.proofs.Moved.{there-install}
+use Rattle.af_base.proofs.Lookups.{insert-other, told_apart}
 use Rattle.af_base.proofs.Pairs.{settled-pair, with_pair}
 use Rattle.af_base.proofs.Settling.{settles_none}
 use Rattle.af_base.proofs.Stepping.{accepted}
-use Rattle.af_steps.specs.Limits.{IsBelowLimit}
 
 -- These two are the lowest free numbers of the process.
 pub record AreLowest (q : Process) (n m : ℕ) : Type 0 where
@@ -37,16 +35,18 @@ read_free q ns i n lowest enough low is =
     is ∙ ap (λ xs. slice_index_or xs i n) lowest ∙ get_or-take 2 (free_numbers q) i n low ∙ get_or_default_zero (free_numbers q) i n (omega (arith, enough, low))
 
 -- Two numbers that are read one after the other.
-pub lowest_two : (q : Process) (ns : List ℕ) (n m : ℕ) → ns ≡ lowest_free 2 q → 2 ≤ length (free_numbers q) → n ≡ slice_index_or ns 0 n → m ≡ slice_index_or ns 1 m → AreLowest q n m
+lowest_two : (q : Process) (ns : List ℕ) (n m : ℕ) → ns ≡ lowest_free 2 q → 2 ≤ length (free_numbers q) → n ≡ slice_index_or ns 0 n → m ≡ slice_index_or ns 1 m → AreLowest q n m
 lowest_two q ns n m lowest enough first second = record {
   enough = enough;
   first = read_free q ns 0 n lowest enough (omega arith) first;
   second = read_free q ns 1 m lowest enough (omega arith) second;
 }
 
--- What a process is that is there.
-pub same_process : (q r : Process) (o : Option Process) → o ≡ Some q → o ≡ Some r → q ≡ r
-same_process q r o is too = sym (ap (λ p. unwrap_or p no_process) is) ∙ ap (λ p. unwrap_or p no_process) too
+-- Both together are the two lowest.
+pub both-lowest : (q : Process) (n m : ℕ) → lowest_free 2 q ≡ n ∷ m ∷ [] → AreLowest q n m
+both-lowest q n m is =
+    let two : length (lowest_free 2 q) ≡ 2 = ap length is in
+    lowest_two q (n ∷ m ∷ []) n m (sym is) (omega (arith, two, length-take 2 (free_numbers q))) refl refl
 
 -- A row whose first test does not fit, and none of the others.
 pub passes : (test : Bool) (e : Errno) (rest : Row) → test ≡ false → first_fit rest ≡ None → first_fit ((test, e) ∷ rest) ≡ None
@@ -61,26 +61,35 @@ module _ (w : World) (p : ℕ) (kind : SockType) (q : Process) (n m : ℕ) (at :
   is_process : process_at w p ≡ q
   is_process = ap (λ o. unwrap_or o no_process) at
 
-  -- The first number is below the limit of the process, where both sockets are there.
-  pub first-below : (added : World) → added ≡ with_pair w kind → IsBelowLimit added p n
-  first-below added is = subst (λ v. IsBelowLimit v p n) (sym is) (λ r there.
-      let least = free.low 0 0 (omega (arith, two.enough)) in
-      let low : n < q.limit = omega (arith, two.first, least) in
-      subst (λ s. n < s.limit) (same_process q r (map.get w.processes p) at there) low)
+  -- The first number is below the limit of the process.
+  pub first-below : n < q.limit
+  first-below = let least = free.low 0 0 (omega (arith, two.enough)) in omega (arith, two.first, least)
 
-  -- So is the second, after the first was taken into use.
-  pub second-below : (added one : World) (f : ℕ) → added ≡ with_pair w kind → one ≡ install added p n f → IsBelowLimit one p m
-  second-below added one f is after = subst (λ v. IsBelowLimit v p m) (sym (after ∙ ap (λ v. install v p n f) is)) (λ r there.
-      let least = free.low 1 0 (omega (arith, two.enough)) in
-      let low : m < q.limit = omega (arith, two.second, least) in
-      subst (λ s. m < s.limit) (same_process (record q { table = map.insert q.table n f }) r (map.get (install (with_pair w kind) p n f).processes p) (there-install (with_pair w kind) p n f q at) there) low)
+  -- So is the second.
+  pub second-below : m < q.limit
+  second-below = let least = free.low 1 0 (omega (arith, two.enough)) in omega (arith, two.second, least)
+
+  -- The first number is free.
+  pub first-free : map.get q.table n ≡ None
+  first-free = ap (map.get q.table) two.first ∙ free.free 0 0 (omega (arith, two.enough))
+
+  -- So is the second.
+  second-free : map.get q.table m ≡ None
+  second-free = ap (map.get q.table) two.second ∙ free.free 1 0 (omega (arith, two.enough))
+
+  -- They differ.
+  apart : ¬ (m ≡ n)
+  apart same = let rising = free.rising 0 1 0 (omega arith) (omega (arith, two.enough)) in omega (arith, two.first, two.second, same, rising)
+
+  -- The second is free still, after the first was taken into use.
+  pub second-left : (f : ℕ) → map.get (map.insert q.table n f) m ≡ None
+  second-left f = insert-other q.table n f m (told_apart m n apart) ∙ second-free
 
   -- Nothing refuses the step.
-  pair-fits : map.len w.files + 2 ≤ MAX_FILES → w.next_ino + 1 ≤ MAX_INO → refusal w p (step.Pair kind) ≡ None
-  pair-fits files inos =
+  pair-fits : is_full w 2 ≡ false → refusal w p (step.Pair kind) ≡ None
+  pair-fits room =
       let there : not (map.contains_key w.processes p) ≡ false = ap (λ o. not (is_some o)) at in
       let enough : is_short (process_at w p) 2 ≡ false = ap (λ r. is_short r 2) is_process ∙ le-ltb (length (free_numbers q)) 2 two.enough in
-      let room : is_full w 2 ≡ false = ap (λ b. b || nat_lt (MAX_INO + 1) (w.next_ino + 2)) (le-ltb MAX_FILES (map.len w.files + 2) files) ∙ le-ltb (MAX_INO + 1) (w.next_ino + 2) (omega (arith, inos)) in
       passes (not (map.contains_key w.processes p)) ESRCH (step_row w p (step.Pair kind)) there
       (passes (is_short (process_at w p) 2) EMFILE ((is_full w 2, ENFILE) ∷ []) enough (passes (is_full w 2) ENFILE [] room refl))
 
@@ -90,25 +99,20 @@ module _ (w : World) (p : ℕ) (kind : SockType) (q : Process) (n m : ℕ) (at :
 
   -- Nothing is to go from there.
   settled : IsSound w → IsSettled paired
-  settled sound =
-      let first : map.get q.table n ≡ None = ap (map.get q.table) two.first ∙ free.free 0 0 (omega (arith, two.enough)) in
-      let second : map.get q.table m ≡ None = ap (map.get q.table) two.second ∙ free.free 1 0 (omega (arith, two.enough)) in
-      let rising = free.rising 0 1 0 (omega arith) (omega (arith, two.enough)) in
-      settled-pair w kind p n m q sound.settled sound.whole at first second (λ same. omega (arith, two.first, two.second, same, rising))
+  settled sound = settled-pair w kind p n m q sound.settled sound.whole at first-free second-free (λ same. apart (sym same))
 
   -- That is where the step leads.
-  step-paired : IsSound w → map.len w.files + 2 ≤ MAX_FILES → w.next_ino + 1 ≤ MAX_INO → ProcessStep w p (step.Pair kind) (reply.Fds n m) paired
-  step-paired sound files inos =
+  step-paired : IsSound w → is_full w 2 ≡ false → ProcessStep w p (step.Pair kind) (reply.Fds n m) paired
+  step-paired sound room =
       let first : free_at w p 0 ≡ n = ap (λ r. slice_index (free_numbers r) 0) is_process ∙ sym two.first in
       let second : free_at w p 1 ≡ m = ap (λ r. slice_index (free_numbers r) 1) is_process ∙ sym two.second in
       let reached : effect w p (step.Pair kind) ≡ paired = λ i. install (install (with_pair w kind) p (first i) w.next_ino) p (second i) (w.next_ino + 1) in
       let settles = subst (λ v. Settles v paired) (sym reached) (settles_none paired (settled sound)) in
       subst (λ r. ProcessStep w p (step.Pair kind) r paired) (λ i. reply.Fds (first i) (second i))
-      (accepted (refusal w p (step.Pair kind)) false (answer w p (step.Pair kind)) (effect w p (step.Pair kind)) w paired (pair-fits files inos) settles)
+      (accepted (refusal w p (step.Pair kind)) false (answer w p (step.Pair kind)) (effect w p (step.Pair kind)) w paired (pair-fits room) settles)
 
   -- One change after another leads there.
-  pub step-done : (added one new : World) (f g : ℕ) → IsSound w → map.len w.files + 2 ≤ MAX_FILES → w.next_ino + 1 ≤ MAX_INO
-      → added ≡ with_pair w kind → f ≡ w.next_ino → g ≡ w.next_ino + 1 → one ≡ install added p n f → new ≡ install one p m g → ProcessStep w p (step.Pair kind) (reply.Fds n m) new
-  step-done added one new f g sound files inos is first second after last =
+  pub step-done : (added one new : World) (f g : ℕ) → IsSound w → is_full w 2 ≡ false → added ≡ with_pair w kind → f ≡ w.next_ino → g ≡ w.next_ino + 1 → one ≡ install added p n f → new ≡ install one p m g → ProcessStep w p (step.Pair kind) (reply.Fds n m) new
+  step-done added one new f g sound room is first second after last =
       let both : new ≡ paired = last ∙ ap (λ v. install v p m g) after ∙ (λ i. install (install (is i) p n (first i)) p m (second i)) in
-      subst (ProcessStep w p (step.Pair kind) (reply.Fds n m)) (sym both) (step-paired sound files inos)
+      subst (ProcessStep w p (step.Pair kind) (reply.Fds n m)) (sym both) (step-paired sound room)

@@ -1,15 +1,15 @@
 -- What a receive takes, changes and answers, by the message that is first in the queue.
-use Rattle.std.proofs.Common.{◌≡◌, false, not, suc, arith, ℕ, List, [], ◌∷◌, length, take, drop, refl, sym, ap, ◌∙◌, subst}
+use Rattle.std.proofs.Common.{◌≡◌, ◌<◌, ◌≤◌, false, not, suc, arith, ℕ, List, [], ◌∷◌, length, take, drop, refl, sym, ap, ◌∙◌, subst}
 use Rattle.std.specs.Prelude.{Option, Some, None, unwrap_or, option_map, min, nat_eq, nat_lt, if◌then◌else◌, slice_get}
 use Rattle.std.specs.Option.{option_and_then, option_map_or}
-use Rattle.std.specs.List.{zip}
+use Rattle.std.specs.List.{All, zip}
 use Rattle.std.specs.FinMap as map
 use Rattle.af_base.specs.declared.events.SockType.{SockType}
 use Rattle.af_base.specs.declared.events.SockType.TheVariants.{Seqpacket}
 use Rattle.af_base.specs.declared.errno.Errno.TheVariants.{ESRCH}
 use Rattle.af_base.specs.declared.events.Step.TheVariants as step
 use Rattle.af_base.specs.declared.events.Reply.TheVariants as reply
-use Rattle.af_base.specs.World.{World, Socket, File, Plain, AsSocket, Message}
+use Rattle.af_base.specs.World.{World, Process, Socket, File, Plain, AsSocket, Message}
 use Rattle.af_base.specs.Places.{table_at, queue_of, queue_at}
 use Rattle.af_base.specs.Changes.{install_all, with_queue}
 use Rattle.af_base.specs.Table.{lowest_free}
@@ -17,16 +17,12 @@ use Rattle.af_base.specs.Take.{take_from, Taken, nothing_taken}
 use Rattle.af_base.specs.Refusals.{socket_on, socket_at, socket_of, ino_on, process_at, no_socket, refusal, step_row}
 use Rattle.af_base.specs.Steps.{taken_on, effect, answer, ProcessStep}
 use Rattle.af_base.specs.Unheld.{Settles}
-use Rattle.af_base.specs.Whole.{IsSound, IsWhole, IsWithin}
-use Rattle.af_base.specs.Release.{Covered}
-use Rattle.af_base.proofs.Covers.{covers-take}
+use Rattle.af_base.specs.Whole.{IsSound}
 use Rattle.af_base.proofs.Free.{AreFree, free-lowest_free}
 use Rattle.af_base.proofs.Lookups.{some_same, told_apart}
 use Rattle.af_base.proofs.Settling.{settles_none}
-use Rattle.af_base.proofs.Stepped.{same-with_queue, NoneFits, none-fits, process-there, socket-there}
+use Rattle.af_base.proofs.Stepped.{same-with_queue, NoneFits, none-fits, socket-there}
 use Rattle.af_base.proofs.Stepping.{accepted}
-use Rattle.af_base.proofs.Whole.{whole-take}
-use Rattle.af_base.proofs.Within.{within-take}
 
 -- a queue that is not empty is that of a socket
 pub queue-there : (w : World) (f : ℕ) (m : Message) (rest : List Message) → queue_at w f ≡ m ∷ rest → (x : Socket) × (map.get w.files f ≡ Some (AsSocket x)) × (x.queue ≡ m ∷ rest)
@@ -100,36 +96,31 @@ module _ (w : World) (p n bytes fds ino : ℕ) (sound : IsSound w) (fits : refus
   row : NoneFits ((not (map.contains_key w.processes p), ESRCH) ∷ step_row w p (step.Recv n bytes fds))
   row = none-fits ((not (map.contains_key w.processes p), ESRCH) ∷ step_row w p (step.Recv n bytes fds)) fits
 
-  there : map.get w.processes p ≡ Some (process_at w p)
-  there = process-there w p row.here
-
   -- there is something to receive
-  module _ (m : Message) (rest : List Message) (ns : List ℕ) (mid : World) (q : queue_at w ino ≡ m ∷ rest) (lowest : ns ≡ lowest_free (min (length m.attached) fds) (process_at w p))
-      (is : mid ≡ install_all (with_queue w ino rest) p (zip ns m.attached)) where
+  module _ (m : Message) (rest : List Message) (ns : List ℕ) (q : queue_at w ino ≡ m ∷ rest) (lowest : ns ≡ lowest_free (min (length m.attached) fds) (process_at w p)) where
     found : (x : Socket) × (map.get w.files ino ≡ Some (AsSocket x)) × (x.queue ≡ m ∷ rest)
     found = queue-there w ino m rest q
 
-    free : AreFree (process_at w p) ns
-    free = subst (AreFree (process_at w p)) (sym lowest) (free-lowest_free (min (length m.attached) fds) (process_at w p))
-
-    pub recv-whole : IsWhole mid
-    recv-whole = subst IsWhole (sym is) (whole-take w ino found.0 m rest p ns sound.whole found.1 found.2)
-
-    pub recv-within : IsWithin mid
-    recv-within = subst IsWithin (sym is) (within-take w ino found.0 m rest p (process_at w p) ns sound.within found.1 found.2 there free)
-
-    pub recv-covered : Covered mid (drop (length ns) m.attached)
-    recv-covered = subst (λ v. Covered v (drop (length ns) m.attached)) (sym is) (covers-take w ino found.0 m rest p (process_at w p) ns sound.settled found.1 found.2 there free)
-
-    pub recv-step : (new : World) → Settles mid new
+    recv-step : (new : World) → Settles (install_all (with_queue w ino rest) p (zip ns m.attached)) new
         → ProcessStep w p (step.Recv n bytes fds) (reply.Got (take bytes m.bytes) ns (nat_lt bytes (length m.bytes)) (nat_lt (length ns) (length m.attached))) new
     recv-step new s =
-        let changed : mid ≡ effect w p (step.Recv n bytes fds) =
-        is ∙ ap (λ l. install_all (with_queue w ino rest) p (zip l m.attached)) lowest ∙ sym (received w p n bytes fds ino found.0 at found.1 m rest found.2) in
+        let changed : install_all (with_queue w ino rest) p (zip ns m.attached) ≡ effect w p (step.Recv n bytes fds) =
+        ap (λ l. install_all (with_queue w ino rest) p (zip l m.attached)) lowest ∙ sym (received w p n bytes fds ino found.0 at found.1 m rest found.2) in
         let said : answer w p (step.Recv n bytes fds) ≡ reply.Got (take bytes m.bytes) ns (nat_lt bytes (length m.bytes)) (nat_lt (length ns) (length m.attached)) =
         answered w p n bytes fds ino found.0 at found.1 m rest found.2 ∙ ap (λ l. reply.Got (take bytes m.bytes) l (nat_lt bytes (length m.bytes)) (nat_lt (length l) (length m.attached))) (sym lowest) in
         subst (λ r. ProcessStep w p (step.Recv n bytes fds) r new) said
         (accepted _ false (answer w p (step.Recv n bytes fds)) (effect w p (step.Recv n bytes fds)) w new fits (subst (λ v. Settles v new) changed s))
+
+  -- the same where the world that the message is taken from is equal
+  pub recv-done : (v new : World) (m : Message) (ns given : List ℕ) → v ≡ w → queue_at v ino ≡ m ∷ drop 1 (queue_at v ino) → given ≡ ns → ns ≡ lowest_free (min (length m.attached) fds) (process_at w p)
+      → Settles (install_all (with_queue v ino (drop 1 (queue_at v ino))) p (zip given m.attached)) new
+      → ProcessStep w p (step.Recv n bytes fds) (reply.Got (take bytes m.bytes) ns (nat_lt bytes (length m.bytes)) (nat_lt (length ns) (length m.attached))) new
+  recv-done v new m ns given is first same lowest settles =
+      let here : queue_at w ino ≡ m ∷ drop 1 (queue_at w ino) = subst (λ x. queue_at x ino ≡ m ∷ drop 1 (queue_at x ino)) is first in
+      let ends : Settles (install_all (with_queue w ino (drop 1 (queue_at w ino))) p (zip ns m.attached)) new =
+      subst (λ x. Settles (install_all (with_queue x ino (drop 1 (queue_at x ino))) p (zip ns m.attached)) new) is
+      (subst (λ l. Settles (install_all (with_queue v ino (drop 1 (queue_at v ino))) p (zip l m.attached)) new) same settles) in
+      recv-step m (drop 1 (queue_at w ino)) ns here lowest new ends
 
   -- there is nothing to receive, and no peer
   no_first : (l : List Message) → option_map (λ m. length m.attached) (slice_get l 0) ≡ None → l ≡ []
@@ -144,6 +135,13 @@ module _ (w : World) (p n bytes fds ino : ℕ) (sound : IsSound w) (fits : refus
       let settles : Settles (effect w p (step.Recv n bytes fds)) w = subst (λ v. Settles v w) (sym (ended w p n bytes fds ino x at is q)) (settles_none w sound.settled) in
       subst (λ r. ProcessStep w p (step.Recv n bytes fds) r w) (answered_end w p n bytes fds ino x at is q)
       (accepted _ false (answer w p (step.Recv n bytes fds)) (effect w p (step.Recv n bytes fds)) w w fits settles)
+
+-- the lowest free numbers are below the room that was made for them
+pub numbers-below : (q : Process) (ns : List ℕ) (count room : ℕ) → ns ≡ lowest_free count q → (0 < length ns → q.limit ≤ room) → All (λ n. n < room) ns
+numbers-below q ns count room is most k d within =
+    let low = (subst (AreFree q) (sym is) (free-lowest_free count q)).low k d within in
+    let enough = most (omega (arith, within)) in
+    omega (arith, low, enough)
 
 -- how many files travel with the first message
 pub first_counted : (q : List Message) (m : Message) (rest : List Message) (k : ℕ) → q ≡ m ∷ rest → Some k ≡ option_map (λ m. length m.attached) (slice_get q 0) → k ≡ length m.attached

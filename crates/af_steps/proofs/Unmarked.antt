@@ -1,32 +1,20 @@
 -- The files without a mark, after a walk, are the garbage, and its sockets are counted right.
 use Rattle.std.proofs.Common.{◌≡◌, ℕ, Bool, true, false, not, ◌&&◌, ◌||◌, T, cond, List, [], ◌∷◌, ◌++◌, filter, refl, sym, ap, ◌∙◌, nat_eq, arith, append_assoc}
-use Rattle.std.specs.Prelude.{Option, Some, None, Result, Ok, Err, IfOk, ◌↔◌, is_some}
+use Rattle.std.specs.Prelude.{Some, Result, Ok, Err, IfOk, ◌↔◌, is_some}
 use Rattle.std.specs.List.{list_any, count_by}
-use Rattle.std.specs.Option.{option_and_then, option_map_or}
+use Rattle.std.specs.Option.{option_map_or}
 use Rattle.std.specs.Ordering.{nat_cmp, eq_by_cmp}
 use Rattle.std.specs.Cmp.{unsigned_tied}
 use Rattle.std.specs.Map.{keys_of}
 use Rattle.std.specs.FinMap as map
 use Rattle.std.specs.FinMap.{find, is_sorted, entries_sorted, get-entries}
-use Rattle.std.specs.BTreeMap as tree
-use Rattle.std.specs.BTreeMap.{BTreeMap}
 use Rattle.std.proofs.lemmas.Bool.{false≢true, eqb-true}
 use Rattle.std.proofs.lemmas.List.Sums.{sum_by-cons}
-use Rattle.af_base.specs.World.{AsSocket, File, Plain, World, is_live}
+use Rattle.af_base.specs.World.{File, World, is_live}
 use Rattle.af_base.specs.Reached.{Garbage, is_socket}
 use Rattle.af_base.proofs.Held.{here, later}
-use Rattle.af_base.proofs.Ordered.{nat_entries}
 use Rattle.af_base.proofs.Sums.{first, second}
-use Rattle.af_steps.specs.Kinds.{kind_of}
 use Rattle.af_steps.specs.Marking.{AreGarbage, AreReached, Marks, is_marked, is_socket_at, unmarked}
-
--- A socket has a type, and nothing else has one.
-pub kind_told : (w : World) (f : ℕ) → is_some (option_and_then kind_of (map.get w.files f)) ≡ is_socket_at w f
-kind_told w f = by (map.get w.files f) where
-  by : (o : Option File) → is_some (option_and_then kind_of o) ≡ option_map_or is_socket o false
-  by None = refl
-  by (Some Plain) = refl
-  by (Some (AsSocket s)) = refl
 
 and-false : (b : Bool) → (b && false) ≡ false
 and-false true = refl
@@ -112,10 +100,6 @@ unmarked-garbage w m r = record { each = told; counted = (live_too t w, λ f. (�
 pub if_ok : {A E : Type 0} {P Q : A → Type 0} (r : Result A E) → ((x : A) → P x → Q x) → IfOk r P → IfOk r Q
 if_ok (Ok x) h p = h x p
 if_ok (Err x) h p = p
-
--- The keys of a map, as its tree lists them.
-pub keys-listed : (m : BTreeMap ℕ File) → tree.IsOrdered nat_cmp m → map.keys (map.from_entries {R = nat_cmp} m.entries) ≡ tree.keys m
-keys-listed m h = ap keys_of (nat_entries m h)
 
 -- A file more is looked at: without a mark it is listed.
 pub listed-more : (t : ℕ → Bool) (items : List ℕ) (k : ℕ) (rest : List ℕ) → t k ≡ true → (items ++ k ∷ []) ++ filter t rest ≡ items ++ filter t (k ∷ rest)

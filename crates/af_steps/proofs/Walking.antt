@@ -1,28 +1,22 @@
 -- A walk from the tables on, step by step, and what is marked when nothing waits any more.
-use Rattle.std.proofs.Common.{◌≡◌, ℕ, ◌+◌, ◌*◌, ◌-◌, ◌≤◌, ◌<◌, true, ◌⊎◌, inl, inr, List, [], ◌∷◌, ◌++◌, length, sym, ap, ◌∙◌, subst, arith, length-append}
-use Rattle.std.specs.Prelude.{Some}
+use Rattle.std.proofs.Common.{◌≡◌, ℕ, ◌+◌, ◌*◌, ◌-◌, ◌≤◌, ◌<◌, true, inl, inr, [], ◌∷◌, ◌++◌, length, sym, ap, ◌∙◌, subst, arith, length-append}
 use Rattle.std.specs.List.{Contains, list_any}
 use Rattle.std.specs.List.Sorted.{IsStrictlySortedBy}
 use Rattle.std.specs.Ordering.{nat_cmp, eq_by_cmp}
-use Rattle.std.specs.Cmp.{eq_by_cmp_equiv, nat_cmp_total, unsigned_tied}
+use Rattle.std.specs.Cmp.{eq_by_cmp_equiv, nat_cmp_total}
 use Rattle.std.specs.Map.{keys_of}
 use Rattle.std.specs.FinMap as map
-use Rattle.std.specs.BTreeMap as tree
-use Rattle.std.specs.BTreeMap.{BTreeMap}
-use Rattle.std.proofs.lemmas.Bool.{false≢true, eqb-true}
+use Rattle.std.proofs.lemmas.Bool.{false≢true}
 use Rattle.std.proofs.lemmas.List.Elements.{Contains-append_left, Contains-append_right, Contains-append_cases}
 use Rattle.std.proofs.lemmas.Map.Entries.{length-keys_of}
 use Rattle.std.proofs.lemmas.Map.Keys.{IsDistinct-from_sorted}
-use Rattle.std.proofs.lemmas.Map.Made.{Contains-values_of, Contains-from_values_of, length-le_from_is_member}
-use Rattle.std.proofs.lemmas.Map.Views.{Contains-from_lookup, lookup-from_Contains}
-use Rattle.af_base.specs.World.{IsLive, Process, World}
+use Rattle.std.proofs.lemmas.Map.Made.{length-le_from_is_member}
+use Rattle.af_base.specs.World.{IsLive, World}
 use Rattle.af_base.specs.Places.{Holds, InTable}
 use Rattle.af_base.specs.Reached.{BySocket, ByTable, Reached}
 use Rattle.af_base.specs.Whole.{IsWhole}
-use Rattle.af_base.proofs.Elements.{Contains-first, Contains-later, Contains-none}
-use Rattle.af_base.proofs.Moved.{table-there, there-table}
-use Rattle.af_base.proofs.Trees.{nat_looked}
-use Rattle.af_steps.specs.Marking.{AreReached, HasFile, IsWalk, Marked, Marks, NoFile, is_marked}
+use Rattle.af_base.proofs.Elements.{Contains-first, Contains-none}
+use Rattle.af_steps.specs.Marking.{AreReached, IsWalk, Marked, Marks, NoFile, is_marked}
 use Rattle.af_steps.proofs.Marking.{first_or_later}
 
 -- A reached file is live, in a whole world.
@@ -101,44 +95,3 @@ walk-end w m now k none marks = record { each = λ f. (λ e. k.reached f (sym (s
   all : (f : ℕ) → Reached w f → is_marked m f ≡ true
   all _ (ByTable f t) = k.tables f t
   all _ (BySocket s f r h) = elim (k.closed s f (all s r) h) [ inl c ↦ absurd (Contains-none s (subst (λ xs. Contains xs s) none c)) | inr e ↦ e ]
-
--- Numbers that tie are the same.
-same_key : (x y : ℕ) → eq_by_cmp nat_cmp x y ≡ true → x ≡ y
-same_key x y e = eqb-true x y (sym (unsigned_tied x y) ∙ e)
-
-module _ {X : Type 0} (m : BTreeMap ℕ X) where
-  -- What a map has at a key is among its values.
-  pub value-among : (k : ℕ) (v : X) → map.get (map.from_entries {R = nat_cmp} m.entries) k ≡ Some v → Contains (tree.values m) v
-  value-among k v e = Contains-values_of m.entries k v (Contains-from_lookup same_key k v m.entries (sym (nat_looked m k) ∙ e))
-
-  -- What is among its values it has at a key.
-  pub among-value : tree.IsOrdered nat_cmp m → (v : X) → Contains (tree.values m) v → (k : ℕ) × (map.get (map.from_entries {R = nat_cmp} m.entries) k ≡ Some v)
-  among-value rising v h =
-      let at = Contains-from_values_of m.entries v h in
-      (at.0, nat_looked m at.0 ∙ lookup-from_Contains (eq_by_cmp_equiv nat_cmp_total) at.0 v m.entries (IsDistinct-from_sorted nat_cmp (tree.keys m) rising) at.1)
-
--- One of these processes has the file.
-abbrev pub IsAmong : List Process → ℕ → Type 0
-IsAmong qs f = (q : Process) × Contains qs q × HasFile q f
-
--- It is the first, or one of the rest.
-pub among-next : (q : Process) (qs : List Process) (f : ℕ) → IsAmong (q ∷ qs) f → HasFile q f ⊎ IsAmong qs f
-among-next q qs f h = elim (first_or_later q qs h.0 h.1) [ inl e ↦ inl (subst (λ p. HasFile p f) e h.2) | inr c ↦ inr (h.0, c, h.2) ]
-
-pub among-first : (q : Process) (qs : List Process) (f : ℕ) → HasFile q f → IsAmong (q ∷ qs) f
-among-first q qs f h = (q, Contains-first q qs, h)
-
-pub among-later : (q : Process) (qs : List Process) (f : ℕ) → IsAmong qs f → IsAmong (q ∷ qs) f
-among-later q qs f h = (h.0, Contains-later q qs h.0 h.1, h.2)
-
--- The processes of a world have just what tables hold.
-module _ (w : World) (m : BTreeMap ℕ Process) (same : w.processes ≡ map.from_entries m.entries) where
-  pub tabled-among : (f : ℕ) → InTable w f → IsAmong (tree.values m) f
-  tabled-among f t =
-      let at = table-there w t.0 t.1 f t.2 in
-      (at.0, value-among m t.0 at.0 (ap (λ ps. map.get ps t.0) (sym same) ∙ at.1), (t.1, at.2))
-
-  pub among-tabled : tree.IsOrdered nat_cmp m → (f : ℕ) → IsAmong (tree.values m) f → InTable w f
-  among-tabled rising f h =
-      let at = among-value m rising h.0 h.1 in
-      (at.0, h.2.0, there-table w at.0 h.2.0 h.0 (ap (λ ps. map.get ps at.0) same ∙ at.1) ∙ h.2.1)

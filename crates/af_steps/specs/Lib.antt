@@ -1,6 +1,6 @@
-pub mod Slots
 pub mod Limits
 pub mod Shown
-pub mod Kinds
 pub mod Marking
-pub mod Releasing
+pub mod Stored
+pub mod Agreement
+pub mod Dropping

@@ -1,11 +1,11 @@
 -- A walk over the files from the tables on: what is marked, and what is still to be looked at.
-use Rattle.std.specs.Prelude.{◌≡◌, ◌⊎◌, ◌↔◌, ◌≤◌, ℕ, ◌+◌, Bool, true, false, List, length, filter, not, Some, nat_eq}
+use Rattle.std.specs.Prelude.{◌≡◌, ◌⊎◌, ◌↔◌, ◌≤◌, ℕ, ◌+◌, Bool, true, false, List, length, filter, not, nat_eq}
 use Rattle.std.specs.List.{list_any, count_by, Contains}
 use Rattle.std.specs.List.Sorted.{IsStrictlySortedBy}
 use Rattle.std.specs.Option.{option_map_or}
 use Rattle.std.specs.Ordering.{nat_cmp, eq_by_cmp}
 use Rattle.std.specs.FinMap as map
-use Rattle.af_base.specs.World.{World, Process}
+use Rattle.af_base.specs.World.{World}
 use Rattle.af_base.specs.Places.{InTable, Holds}
 use Rattle.af_base.specs.Reached.{Reached, Garbage, IsGarbageCount, is_socket}
 
@@ -25,10 +25,6 @@ is_marked m f = list_any (eq_by_cmp nat_cmp f) m.marked
 -- No file at all.
 abbrev pub NoFile : ℕ → Type 0
 NoFile f = ⊥
-
--- A number of the process stands for f (open(2)).
-abbrev pub HasFile : Process → ℕ → Type 0
-HasFile q f = (n : ℕ) × (map.get q.table n ≡ Some f)
 
 -- From `old` to `now` each file of which P holds is marked, but for those of which Left holds, and no other is; what is new has still to be looked at.
 pub record Marked (P Left : ℕ → Type 0) (old now : Marks) : Type 0 where

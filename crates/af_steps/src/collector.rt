@@ -2,19 +2,16 @@
 //! empties their queues, and lets go what no place holds then.
 ghost use Rattle.std.specs.Prelude.{◌≡◌, IfOk, OnOk};
 ghost use Rattle.std.specs.List.{count_by};
-ghost use Rattle.std.specs.Option.{option_and_then};
-ghost use Rattle.std.specs.FinMap as map;
 ghost use Rattle.af_base.specs.Pass.{PassesWhole};
 ghost use Rattle.af_base.specs.Places.{InTable, Holds};
-ghost use Rattle.af_base.specs.Whole.{IsWhole};
-ghost use Rattle.af_steps.specs.Kinds.{kind_of};
+ghost use Rattle.af_steps.specs.Agreement.{IsAtRest};
 ghost use Rattle.af_steps.specs.Marking.{AreGarbage, AreReached, Marked, NoFile, is_socket_at, unmarked};
 
 use crate::engine::Engine;
 use crate::marks::Marks;
 use crate::store::Store;
 use af_base::errno::Errno;
-use af_base::events::{Reply, SockType};
+use af_base::events::Reply;
 use af_base::limits::MAX_PASS;
 use af_base::names::Ino;
 use std::alloc::{AllocError, Global};
@@ -30,7 +27,7 @@ impl Engine {
             return Reply::Refused(Errno::ENOMEM);
         };
         let reclaimed = self.store.sockets_among(&garbage);
-        self.store.purge(alloc, &garbage);
+        self.store.purge(&garbage);
         self.last_pass = (self.last_pass + 1).min(MAX_PASS);
         Reply::Done {
             pass: self.last_pass,
@@ -42,8 +39,8 @@ impl Engine {
 impl Store {
     /// The live files that no chain of places leads to from a table, rising.
     fn garbage(&self, alloc: Global) -> Result<Vec<Ino>, AllocError>
-        requires { IsWhole self.now }
-        ensures { IfOk result (λ inos. AreGarbage self.now inos.items) }
+        requires { IsAtRest self.now }
+        ensures { IfOk result (λ inos. AreGarbage self.now.world inos.items) }
     {
         let marks = self.reached(alloc)?;
         self.unmarked(alloc, &marks)
@@ -51,37 +48,42 @@ impl Store {
 
     /// The live files without a mark, rising.
     fn unmarked(&self, alloc: Global, marks: &Marks) -> Result<Vec<Ino>, AllocError>
-        ensures { IfOk result (λ inos. inos.items ≡ unmarked marks.now self.now) }
+        ensures { IfOk result (λ inos. inos.items ≡ unmarked marks.now self.now.world) }
     {
         let mut unmarked = Vec::new(alloc);
-        for ino in self.files.keys() {
-            if marks.is_marked(*ino) {
+        let mut last = Ino(0);
+        while let Some(ino) = self.files.next_after(last) {
+            last = ino;
+            if marks.is_marked(ino) {
                 continue;
             }
-            unmarked.push(*ino)?;
+            unmarked.push(ino)?;
         }
         Ok(unmarked)
     }
 
     /// How many of these files are sockets.
     fn sockets_among(&self, inos: &[Ino]) -> u64
-        ensures { result ≡ count_by (is_socket_at self.now) inos.now }
+        ensures { result ≡ count_by (is_socket_at self.now.world) inos.now }
     {
-        inos.iter().filter(|ino| self.kind(**ino).is_some()).count() as u64
+        inos.iter().filter(|ino| self.is_socket(**ino)).count() as u64
     }
 
-    /// The type of a socket. A plain file and a stranger have none.
-    fn kind(&self, ino: Ino) -> Option<SockType>
-        ensures { result ≡ option_and_then kind_of (map.get self.now.files ino) }
+    /// Whether the file is a socket.
+    fn is_socket(&self, ino: Ino) -> bool
+        ensures { result ≡ is_socket_at self.now.world ino }
     {
-        self.file(ino)?.kind()
+        match self.files.get(ino) {
+            Some(file) => file.socket().is_some(),
+            None => false,
+        }
     }
 
     /// The files that a chain of places leads to from a table. It looks at each of them once, and
     /// goes down a chain of any length without recursion.
     fn reached(&self, alloc: Global) -> Result<Marks, AllocError>
-        requires { IsWhole self.now }
-        ensures { IfOk result (AreReached self.now) }
+        requires { IsAtRest self.now }
+        ensures { IfOk result (AreReached self.now.world) }
     {
         let mut marks = Marks::new(alloc);
         self.mark_tabled(&mut marks)?;
@@ -91,23 +93,35 @@ impl Store {
         Ok(marks)
     }
 
-    /// Marks all that tables hold.
+    /// Marks all that tables hold: the live files that a number stands for.
     fn mark_tabled(&self, marks: &mut Marks) -> Result<(), AllocError>
-        ensures { OnOk result (Marked (InTable self.now) NoFile marks.old marks.new) }
+        requires { IsAtRest self.now }
+        ensures { OnOk result (Marked (InTable self.now.world) NoFile marks.old marks.new) }
     {
-        for process in self.processes.values() {
-            process.mark(marks)?;
+        let mut last = Ino(0);
+        while let Some(ino) = self.files.next_after(last) {
+            last = ino;
+            if self.ledger.tabled(ino) == 0 {
+                continue;
+            }
+            marks.mark(ino)?;
         }
         Ok(())
     }
 
     /// Marks all that the file holds.
     fn mark_held(&self, ino: Ino, marks: &mut Marks) -> Result<(), AllocError>
-        ensures { OnOk result (Marked (Holds self.now ino) NoFile marks.old marks.new) }
+        ensures { OnOk result (Marked (Holds self.now.world ino) NoFile marks.old marks.new) }
     {
-        let Some(file) = self.file(ino) else {
+        let Some(file) = self.files.get(ino) else {
             return Ok(());
         };
-        file.mark(marks)
+        let Some(socket) = file.socket() else {
+            return Ok(());
+        };
+        for message in socket.queue() {
+            marks.mark_all(message.attached())?;
+        }
+        Ok(())
     }
 }

@@ -26,15 +26,15 @@ impl Model for Engine {
     ghost use Rattle.std.specs.Prelude.{◌≤◌};
     ghost use Rattle.af_base.specs.Pass.{Machine, Idle};
     ghost use Rattle.af_base.specs.declared.limits.TheConstants.{MAX_PASS};
-    ghost use Rattle.af_base.specs.Whole.{IsSound};
+    ghost use Rattle.af_steps.specs.Agreement.{IsAtRest};
 
     ghost Value = { Machine };
 
     ghost coded = { Prim.hlevel (codes, map.code) };
 
-    ghost view = { λ e. record { world = e.store; pass = Idle; last_pass = e.last_pass } };
+    ghost view = { λ e. record { world = e.store.world; pass = Idle; last_pass = e.last_pass } };
 
-    ghost invariant = { λ e. IsSound e.store × (e.last_pass ≤ MAX_PASS) };
+    ghost invariant = { λ e. IsAtRest e.store × (e.last_pass ≤ MAX_PASS) };
 }
 
 /// A run ended early, since room for one more reply was refused.
@@ -70,7 +70,7 @@ impl Engine {
                 uid,
                 nofile,
                 privileged,
-            } => self.store.start(alloc, *uid, *nofile, *privileged),
+            } => self.store.start(*uid, *nofile, *privileged),
             Event::Proc(pid, step) => self.store.step(alloc, *pid, step),
             Event::Pass => self.pass(),
         }
@@ -103,23 +103,23 @@ impl Engine {
 }
 
 impl Store {
-    ghost use Rattle.af_base.specs.Whole.{IsSound};
     ghost use Rattle.af_base.specs.Steps.{ProcessStep};
+    ghost use Rattle.af_steps.specs.Agreement.{IsAtRest};
 
     /// A step of a process.
     fn step(&mut self, alloc: Global, pid: Pid, step: &events::Step) -> Reply
-        requires { IsSound self.old }
-        ensures step { ProcessStep self.old pid step.now result self.new }
-        ensures sound { IsSound self.new }
+        requires { IsAtRest self.old }
+        ensures step { ProcessStep self.old.world pid step.now result self.new.world }
+        ensures rest { IsAtRest self.new }
     {
         match step {
             events::Step::Open => self.open(pid),
             events::Step::Dup(from) => self.dup(pid, *from),
-            events::Step::Dup2(from, to) => self.dup2(alloc, pid, *from, *to),
-            events::Step::Close(fd) => self.close(alloc, pid, *fd),
-            events::Step::Fork => self.fork(alloc, pid),
-            events::Step::Exit => self.exit(alloc, pid),
-            events::Step::Pair(kind) => self.pair(alloc, pid, *kind),
+            events::Step::Dup2(from, to) => self.dup2(pid, *from, *to),
+            events::Step::Close(fd) => self.close(pid, *fd),
+            events::Step::Fork => self.fork(pid),
+            events::Step::Exit => self.exit(pid),
+            events::Step::Pair(kind) => self.pair(pid, *kind),
             events::Step::Send { on, bytes, attach } => self.send(
                 alloc,
                 pid,

@@ -1,23 +1,19 @@
 //! The engine: one event after another, each with its reply.
 //!
-//! This is the plainest body that serves: everything stands in ordered maps and plain lists, and
-//! every count is a walk over them.
+//! Tables, descriptions and counts stand in crates of their own; here are the events, the place
+//! changes that keep counts and world together, and the collector.
 #![tactic(auto)]
 
 mod collector;
-mod desc;
 mod engine;
 mod listings;
 mod marks;
 mod messages;
 mod places;
-mod process;
-mod socket;
 mod sockets;
 mod store;
 mod tables;
 mod views;
-mod walks;
 
 pub use engine::{Engine, RunStopped};
 pub use views::FileInfo;

@@ -1,74 +1,60 @@
 //! Steps that send and receive.
-ghost use Rattle.std.specs.Prelude.{◌≡◌, ◌≤◌, Some, None, IfOk, IfErr, length, filter_map, is_none, nat_lt, ◌&&◌, take, option_map, slice_get};
-ghost use Rattle.std.specs.List.{list_any, All};
-ghost use Rattle.af_base.specs.Table.{lowest_free};
-ghost use Rattle.af_steps.specs.Limits.{IsBelowLimit};
+ghost use Rattle.std.specs.Prelude.{◌≡◌, ◌≤◌, Some, None, IfOk, IfErr, length, filter_map, is_none, nat_lt, take, option_map, slice_get};
+ghost use Rattle.std.specs.List.{list_any};
 ghost use Rattle.af_base.specs.Places.{table_at, queue_at};
-ghost use Rattle.af_base.specs.Refusals.{refusal, is_over_limit, peer_of, socket_at, socket_on, process_at};
-ghost use Rattle.af_base.specs.Whole.{IsSound};
+ghost use Rattle.af_base.specs.Refusals.{refusal, peer_of, socket_at, socket_on, process_at};
 ghost use Rattle.af_base.specs.Steps.{ProcessStep};
+ghost use Rattle.af_steps.specs.Agreement.{IsAtRest};
 
-use crate::process::Process;
-use crate::socket::Message;
 use crate::store::Store;
 use af_base::errno::Errno;
 use af_base::events::{Reply, State, Step};
 use af_base::items::Items;
-use af_base::limits::{MAX_BYTES, MAX_INFLIGHT, MAX_MESSAGES, SCM_MAX_FD};
+use af_base::limits::{MAX_BYTES, MAX_MESSAGES, SCM_MAX_FD};
 use af_base::names::{Fd, Ino, Pid, Uid};
+use af_desc::Message;
 use std::alloc::{AllocError, Global};
 
 impl Store {
-    /// Whether the user of the process has more in flight than the limit of the process allows.
-    fn is_over_limit(&self, process: &Process) -> bool
-        ensures { result ≡ is_over_limit self.now process.now }
-    {
-        !process.is_privileged() && self.charged(process.user()) > u64::from(process.limit())
-    }
-
-    /// Whether files are to be sent while the user of the process is over its limit.
-    fn is_barred(&self, process: &Process, attach: &[Fd]) -> bool
-        ensures { result ≡ (nat_lt 0 (length attach.now) && is_over_limit self.now process.now) }
-    {
-        !attach.is_empty() && self.is_over_limit(process)
-    }
-
     /// Whom a socket can talk to. A plain file and a stranger talk to nobody.
-    #[tactic(auto, using(af_base::proofs::Trees::changes))]
     fn state(&self, ino: Ino) -> Option<State>
-        ensures { result ≡ option_map (λ s. s.state) (socket_at self.now ino) }
+        ensures { result ≡ option_map (λ s. s.state) (socket_at self.now.world ino) }
     {
-        self.file(ino)?.state()
+        let socket = self.files.get(ino)?.socket()?;
+        Some(socket.state())
     }
 
     /// How many messages a socket has to receive.
-    #[tactic(auto, using(af_base::proofs::Trees::changes))]
     fn messages(&self, ino: Ino) -> usize
-        ensures { result ≡ length (queue_at self.now ino) }
+        ensures { result ≡ length (queue_at self.now.world ino) }
     {
-        match self.file(ino) {
-            Some(file) => file.messages(),
+        let Some(file) = self.files.get(ino) else {
+            return 0;
+        };
+        match file.socket() {
+            Some(socket) => socket.messages(),
             None => 0,
         }
     }
 
     /// Whether one of these numbers of the process is free.
     fn any_free(&self, pid: Pid, fds: &[Fd]) -> bool
-        ensures { result ≡ list_any (λ n. is_none (table_at self.now pid n)) fds.now }
+        ensures { result ≡ list_any (λ n. is_none (table_at self.now.world pid n)) fds.now }
     {
-        fds.iter().any(|fd| self.table_at(pid, *fd).is_none())
+        fds.iter().any(|fd| self.procs.lookup(pid, *fd).is_none())
     }
 
     /// The peer that a send goes to, or why it is refused.
     fn receiver(&self, pid: Pid, on: Fd, bytes: &[u8], attach: &[Fd]) -> Result<Ino, Errno>
-        ensures ok { IfOk result (λ peer. refusal self.now pid (Step.Send on bytes.now attach.now) ≡ None) }
-        ensures peer { IfOk result (λ peer. peer ≡ peer_of (socket_on self.now pid on).state) }
-        ensures err { IfErr result (λ e. refusal self.now pid (Step.Send on bytes.now attach.now) ≡ Some e) }
+        requires { IsAtRest self.now }
+        ensures ok { IfOk result (λ peer. refusal self.now.world pid (Step.Send on bytes.now attach.now) ≡ None) }
+        ensures peer { IfOk result (λ peer. peer ≡ peer_of (socket_on self.now.world pid on).state) }
+        ensures err { IfErr result (λ e. refusal self.now.world pid (Step.Send on bytes.now attach.now) ≡ Some e) }
     {
-        let Some(process) = self.process(pid) else {
+        let Some(who) = self.procs.who(pid) else {
             return Err(Errno::ESRCH);
         };
-        let Some(ino) = process.lookup(on) else {
+        let Some(ino) = self.procs.lookup(pid, on) else {
             return Err(Errno::EBADF);
         };
         let Some(state) = self.state(ino) else {
@@ -89,36 +75,31 @@ impl Store {
             State::HungUp => return Err(Errno::EPIPE),
             State::Connected(peer) => peer,
         };
-        if self.is_barred(process, attach) {
-            return Err(Errno::ETOOMANYREFS);
-        }
-        if self.total() + attach.len() as u64 > MAX_INFLIGHT {
-            return Err(Errno::ENOBUFS);
-        }
+        self.ledger
+            .may_send(who.user, who.limit, who.privileged, attach.len())?;
         if self.messages(peer) >= MAX_MESSAGES {
             return Err(Errno::EAGAIN);
         }
         Ok(peer)
     }
 
-    /// The user who is charged for what the process sends; 0 for a process that is not there.
-    #[tactic(auto, using(af_base::proofs::Trees::changes))]
-    fn sender(&self, pid: Pid) -> Uid
-        ensures { result ≡ (process_at self.now pid).user }
+    /// The user of a process; 0 for a process that is not there.
+    fn user(&self, pid: Pid) -> Uid
+        ensures { result ≡ (process_at self.now.world pid).user }
     {
-        match self.process(pid) {
-            Some(process) => process.user(),
+        match self.procs.who(pid) {
+            Some(who) => who.user,
             None => Uid(0),
         }
     }
 
     /// What these numbers of the process stand for; those that are free are left out.
     fn files_at(&self, alloc: Global, pid: Pid, fds: &[Fd]) -> Result<Vec<Ino>, AllocError>
-        ensures value { IfOk result (λ inos. inos.items ≡ filter_map (table_at self.now pid) fds.now) }
+        ensures value { IfOk result (λ inos. inos.items ≡ filter_map (table_at self.now.world pid) fds.now) }
         ensures bound { IfOk result (λ inos. length inos.items ≤ length fds.now) }
     {
         fds.iter()
-            .filter_map(|fd| self.table_at(pid, *fd))
+            .filter_map(|fd| self.procs.lookup(pid, *fd))
             .collect(alloc)
     }
 
@@ -131,18 +112,18 @@ impl Store {
         attach: &[Fd],
     ) -> Result<Message, AllocError>
         requires { length attach.now ≤ SCM_MAX_FD }
-        ensures { IfOk result (λ m. m ≡ record { bytes = bytes.now; attached = filter_map (table_at self.now pid) attach.now; user = (process_at self.now pid).user }) }
+        ensures { IfOk result (λ m. m ≡ record { bytes = bytes.now; attached = filter_map (table_at self.now.world pid) attach.now; user = (process_at self.now.world pid).user }) }
     {
         let bytes = bytes.to_vec(alloc)?;
         let attached = self.files_at(alloc, pid, attach)?;
-        Ok(Message::new(bytes, attached, self.sender(pid)))
+        Ok(Message::new(bytes, attached, self.user(pid)))
     }
 
     /// A process sends bytes, and with them what these numbers stand for (sendmsg(2)).
     pub fn send(&mut self, alloc: Global, pid: Pid, on: Fd, bytes: &[u8], attach: &[Fd]) -> Reply
-        requires { IsSound self.old }
-        ensures step { ProcessStep self.old pid (Step.Send on bytes.now attach.now) result self.new }
-        ensures sound { IsSound self.new }
+        requires { IsAtRest self.old }
+        ensures step { ProcessStep self.old.world pid (Step.Send on bytes.now attach.now) result self.new.world }
+        ensures rest { IsAtRest self.new }
     {
         let peer = match self.receiver(pid, on, bytes, attach) {
             Ok(peer) => peer,
@@ -154,19 +135,20 @@ impl Store {
         if self.put_message(peer, message).is_err() {
             return Reply::Refused(Errno::ENOMEM);
         }
+        self.hold_sent(pid, attach, self.user(pid));
         Reply::Sent(bytes.len() as u32)
     }
 
     /// The socket that a receive takes from, or why it is refused.
     fn taker(&self, pid: Pid, on: Fd, max_bytes: u32, max_fds: u32) -> Result<Ino, Errno>
-        ensures ok { IfOk result (λ ino. refusal self.now pid (Step.Recv on max_bytes max_fds) ≡ None) }
-        ensures ino { IfOk result (λ ino. table_at self.now pid on ≡ Some ino) }
-        ensures err { IfErr result (λ e. refusal self.now pid (Step.Recv on max_bytes max_fds) ≡ Some e) }
+        ensures ok { IfOk result (λ ino. refusal self.now.world pid (Step.Recv on max_bytes max_fds) ≡ None) }
+        ensures ino { IfOk result (λ ino. table_at self.now.world pid on ≡ Some ino) }
+        ensures err { IfErr result (λ e. refusal self.now.world pid (Step.Recv on max_bytes max_fds) ≡ Some e) }
     {
-        let Some(process) = self.process(pid) else {
+        if self.procs.who(pid).is_none() {
             return Err(Errno::ESRCH);
-        };
-        let Some(ino) = process.lookup(on) else {
+        }
+        let Some(ino) = self.procs.lookup(pid, on) else {
             return Err(Errno::EBADF);
         };
         let Some(state) = self.state(ino) else {
@@ -189,32 +171,19 @@ impl Store {
     }
 
     /// How many files travel with the first message that a socket has to receive.
-    #[tactic(auto, using(af_base::proofs::Trees::changes))]
     fn first_attached(&self, ino: Ino) -> Option<usize>
-        ensures { result ≡ option_map (λ m. length m.attached) (slice_get (queue_at self.now ino) 0) }
+        ensures { result ≡ option_map (λ m. length m.attached) (slice_get (queue_at self.now.world ino) 0) }
     {
-        let message = self.file(ino)?.first()?;
+        let message = self.files.get(ino)?.socket()?.first()?;
         Some(message.attached().len())
-    }
-
-    /// The lowest free numbers of a process: so many, or all where there are fewer.
-    #[tactic(auto, using(af_base::proofs::Trees::changes))]
-    fn lowest_free(&self, alloc: Global, pid: Pid, count: usize) -> Result<Vec<Fd>, AllocError>
-        ensures value { IfOk result (λ fds. fds.items ≡ lowest_free count (process_at self.now pid)) }
-        ensures limits { IfOk result (λ fds. All (IsBelowLimit self.now pid) fds.items) }
-    {
-        let Some(process) = self.process(pid) else {
-            return Ok(Vec::new(alloc));
-        };
-        process.lowest_free(alloc, count)
     }
 
     /// A process receives at most so many bytes and so many descriptors (recvmsg(2)). What it has no
     /// room for is closed.
     pub fn recv(&mut self, alloc: Global, pid: Pid, on: Fd, max_bytes: u32, max_fds: u32) -> Reply
-        requires { IsSound self.old }
-        ensures step { ProcessStep self.old pid (Step.Recv on max_bytes max_fds) result self.new }
-        ensures sound { IsSound self.new }
+        requires { IsAtRest self.old }
+        ensures step { ProcessStep self.old.world pid (Step.Recv on max_bytes max_fds) result self.new.world }
+        ensures rest { IsAtRest self.new }
     {
         let ino = match self.taker(pid, on, max_bytes, max_fds) {
             Ok(ino) => ino,
@@ -223,11 +192,15 @@ impl Store {
         let Some(attached) = self.first_attached(ino) else {
             return Reply::End;
         };
-        let Ok(fds) = self.lowest_free(alloc, pid, attached.min(max_fds as usize)) else {
+        let count = attached.min(max_fds as usize);
+        let Ok(fds) = self.procs.lowest_free(alloc, pid, count) else {
             return Reply::Refused(Errno::ENOMEM);
         };
+        if self.room_for(pid, fds.len()).is_err() {
+            return Reply::Refused(Errno::ENOMEM);
+        }
         let message = self.take_message(ino, pid, &fds);
-        self.release(alloc, &message.attached()[fds.len()..]);
+        self.release();
         got(message, fds, max_bytes)
     }
 }

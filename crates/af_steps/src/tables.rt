@@ -1,28 +1,28 @@
 //! Steps that start and end processes, and those that change only tables.
-ghost use Rattle.af_base.specs.Whole.{IsSound};
 ghost use Rattle.af_base.specs.Steps.{ProcessStep, SpawnStep};
+ghost use Rattle.af_steps.specs.Agreement.{IsAtRest};
 
 use crate::store::Store;
 use af_base::errno::Errno;
 use af_base::events::{Reply, Step};
-use af_base::limits::{MAX_FILES, MAX_INO, MAX_NOFILE, MAX_PID, MAX_PROCESSES};
+use af_base::limits::MAX_NOFILE;
 use af_base::names::{Fd, Pid, Uid};
-use std::alloc::{AllocError, Global};
+use std::alloc::AllocError;
 
 impl Store {
     /// A process starts, as after fork(2) and setuid(2), with an empty table.
-    pub fn start(&mut self, alloc: Global, uid: Uid, nofile: u32, privileged: bool) -> Reply
-        requires { IsSound self.old }
-        ensures step { SpawnStep self.old uid nofile privileged result self.new }
-        ensures sound { IsSound self.new }
+    pub fn start(&mut self, uid: Uid, nofile: u32, privileged: bool) -> Reply
+        requires { IsAtRest self.old }
+        ensures step { SpawnStep self.old.world uid nofile privileged result self.new.world }
+        ensures rest { IsAtRest self.new }
     {
         if nofile > MAX_NOFILE {
             return Reply::Refused(Errno::ERANGE);
         }
-        if self.process_count() >= MAX_PROCESSES || self.next_pid() > MAX_PID {
+        if self.is_crowded() {
             return Reply::Refused(Errno::EAGAIN);
         }
-        match self.spawn(alloc, uid, nofile, privileged) {
+        match self.spawn(uid, nofile, privileged) {
             Ok(pid) => Reply::Pid(pid),
             Err(AllocError) => Reply::Refused(Errno::ENOMEM),
         }
@@ -30,20 +30,20 @@ impl Store {
 
     /// A process opens a plain file (open(2)).
     pub fn open(&mut self, pid: Pid) -> Reply
-        requires { IsSound self.old }
-        ensures step { ProcessStep self.old pid Step.Open result self.new }
-        ensures sound { IsSound self.new }
+        requires { IsAtRest self.old }
+        ensures step { ProcessStep self.old.world pid Step.Open result self.new.world }
+        ensures rest { IsAtRest self.new }
     {
-        let Some(process) = self.process(pid) else {
+        if self.procs.who(pid).is_none() {
             return Reply::Refused(Errno::ESRCH);
-        };
-        let Some(fd) = process.lowest() else {
+        }
+        let Some(fd) = self.procs.lowest(pid) else {
             return Reply::Refused(Errno::EMFILE);
         };
-        if self.file_count() + 1 > MAX_FILES || self.next_ino() > MAX_INO {
+        if self.files.is_full(1) {
             return Reply::Refused(Errno::ENFILE);
         }
-        let Ok(ino) = self.add_plain() else {
+        let Ok(ino) = self.make_plain(pid) else {
             return Reply::Refused(Errno::ENOMEM);
         };
         self.table_in(pid, fd, ino);
@@ -52,95 +52,99 @@ impl Store {
 
     /// A process has a description at its lowest free number too (dup(2)).
     pub fn dup(&mut self, pid: Pid, from: Fd) -> Reply
-        requires { IsSound self.old }
-        ensures step { ProcessStep self.old pid (Step.Dup from) result self.new }
-        ensures sound { IsSound self.new }
+        requires { IsAtRest self.old }
+        ensures step { ProcessStep self.old.world pid (Step.Dup from) result self.new.world }
+        ensures rest { IsAtRest self.new }
     {
-        let Some(process) = self.process(pid) else {
+        if self.procs.who(pid).is_none() {
             return Reply::Refused(Errno::ESRCH);
-        };
-        let Some(ino) = process.lookup(from) else {
+        }
+        let Some(ino) = self.procs.lookup(pid, from) else {
             return Reply::Refused(Errno::EBADF);
         };
-        let Some(fd) = process.lowest() else {
+        let Some(fd) = self.procs.lowest(pid) else {
             return Reply::Refused(Errno::EMFILE);
         };
+        if self.room_for(pid, 1).is_err() {
+            return Reply::Refused(Errno::ENOMEM);
+        }
         self.table_in(pid, fd, ino);
         Reply::Fd(fd)
     }
 
     /// A process has a description at another number too, in place of what that stood for (dup2(2)).
-    pub fn dup2(&mut self, alloc: Global, pid: Pid, from: Fd, to: Fd) -> Reply
-        requires { IsSound self.old }
-        ensures step { ProcessStep self.old pid (Step.Dup2 from to) result self.new }
-        ensures sound { IsSound self.new }
+    pub fn dup2(&mut self, pid: Pid, from: Fd, to: Fd) -> Reply
+        requires { IsAtRest self.old }
+        ensures step { ProcessStep self.old.world pid (Step.Dup2 from to) result self.new.world }
+        ensures rest { IsAtRest self.new }
     {
-        let Some(process) = self.process(pid) else {
+        let Some(who) = self.procs.who(pid) else {
             return Reply::Refused(Errno::ESRCH);
         };
-        let Some(ino) = process.lookup(from) else {
+        let Some(ino) = self.procs.lookup(pid, from) else {
             return Reply::Refused(Errno::EBADF);
         };
         if to == from {
             return Reply::Fd(to);
         }
-        if to.0 >= process.limit() {
+        if to.0 >= who.limit {
             return Reply::Refused(Errno::EBADF);
         }
-        let replaced = process.lookup(to);
-        self.table_in(pid, to, ino);
-        let Some(gone) = replaced else {
-            return Reply::Fd(to);
-        };
-        self.release(alloc, &[gone]);
+        if self.room_for(pid, 1).is_err() {
+            return Reply::Refused(Errno::ENOMEM);
+        }
+        self.replace(pid, to, ino);
+        self.release();
         Reply::Fd(to)
     }
 
     /// A process closes a number (close(2)). It takes no memory.
-    pub fn close(&mut self, alloc: Global, pid: Pid, fd: Fd) -> Reply
-        requires { IsSound self.old }
-        ensures step { ProcessStep self.old pid (Step.Close fd) result self.new }
-        ensures sound { IsSound self.new }
+    pub fn close(&mut self, pid: Pid, fd: Fd) -> Reply
+        requires { IsAtRest self.old }
+        ensures step { ProcessStep self.old.world pid (Step.Close fd) result self.new.world }
+        ensures rest { IsAtRest self.new }
     {
-        let Some(process) = self.process(pid) else {
+        if self.procs.who(pid).is_none() {
             return Reply::Refused(Errno::ESRCH);
-        };
-        let Some(ino) = process.lookup(fd) else {
+        }
+        if self.procs.lookup(pid, fd).is_none() {
             return Reply::Refused(Errno::EBADF);
-        };
+        }
         self.table_out(pid, fd);
-        self.release(alloc, &[ino]);
+        self.release();
         Reply::Ok
     }
 
     /// A process makes a child with a copy of its table (fork(2)).
-    pub fn fork(&mut self, alloc: Global, pid: Pid) -> Reply
-        requires { IsSound self.old }
-        ensures step { ProcessStep self.old pid Step.Fork result self.new }
-        ensures sound { IsSound self.new }
+    pub fn fork(&mut self, pid: Pid) -> Reply
+        requires { IsAtRest self.old }
+        ensures step { ProcessStep self.old.world pid Step.Fork result self.new.world }
+        ensures rest { IsAtRest self.new }
     {
-        if self.process(pid).is_none() {
+        if self.procs.who(pid).is_none() {
             return Reply::Refused(Errno::ESRCH);
         }
-        if self.process_count() >= MAX_PROCESSES || self.next_pid() > MAX_PID {
+        if self.is_crowded() {
             return Reply::Refused(Errno::EAGAIN);
         }
-        match self.copy(alloc, pid) {
+        match self.copy(pid) {
             Ok(child) => Reply::Pid(child),
             Err(AllocError) => Reply::Refused(Errno::ENOMEM),
         }
     }
 
     /// A process ends, and all its numbers are closed (_exit(2)). It takes no memory.
-    pub fn exit(&mut self, alloc: Global, pid: Pid) -> Reply
-        requires { IsSound self.old }
-        ensures step { ProcessStep self.old pid Step.Exit result self.new }
-        ensures sound { IsSound self.new }
+    pub fn exit(&mut self, pid: Pid) -> Reply
+        requires { IsAtRest self.old }
+        ensures step { ProcessStep self.old.world pid Step.Exit result self.new.world }
+        ensures rest { IsAtRest self.new }
     {
-        let Some(process) = self.take_process(pid) else {
+        if self.procs.who(pid).is_none() {
             return Reply::Refused(Errno::ESRCH);
-        };
-        self.release_slots(alloc, process.slots());
+        }
+        self.empty_table(pid);
+        self.remove_process(pid);
+        self.release();
         Reply::Ok
     }
 }

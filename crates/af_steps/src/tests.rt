@@ -1,10 +1,9 @@
 //! What no clause says: that memory is enough where there is some, and that the definitions say
-//! what was meant. The replies and numbers are those of worked scripts.
+//! what was meant. Here is each public call on its way, and what a script cannot show; the worked
+//! scripts, with each refusal, are tests of `scm_run`.
 mod bench;
-mod chains;
 mod growths;
 mod listings;
-mod passes;
-mod refusals;
-mod replies;
-mod scripts;
+mod many;
+mod runs;
+mod views;

@@ -27,35 +27,35 @@ impl Engine {
     pub fn refs(&self, ino: Ino) -> u64
         ensures { result ≡ refs self.now.world ino }
     {
-        self.store.refs(ino)
+        self.store.ledger.refs(ino)
     }
 
     /// How many queue places hold the file: how often it is in flight. A stranger's is 0.
     pub fn inflight(&self, ino: Ino) -> u64
         ensures { result ≡ inflight self.now.world ino }
     {
-        self.store.inflight(ino)
+        self.store.ledger.inflight(ino)
     }
 
     /// How many queue places are charged to the user. A stranger's are 0.
     pub fn charged(&self, user: Uid) -> u64
         ensures { result ≡ charged self.now.world user }
     {
-        self.store.charged(user)
+        self.store.ledger.charged(user)
     }
 
     /// How many queue places there are.
     pub fn total(&self) -> u64
         ensures { result ≡ total self.now.world }
     {
-        self.store.total()
+        self.store.ledger.total()
     }
 
     /// How many files are live.
     pub fn live(&self) -> usize
         ensures { result ≡ map.len self.now.world.files }
     {
-        self.store.file_count()
+        self.store.files.live()
     }
 
     /// The least live file above that number.
@@ -65,28 +65,28 @@ impl Engine {
         ensures least { IfSome result (λ n. (q : ℕ) → ino < q → q < n → is_live self.now.world q ≡ false) }
         ensures none { IfNone result ((q : ℕ) → ino < q → is_live self.now.world q ≡ false) }
     {
-        self.store.next_after(ino)
+        self.store.files.next_after(ino)
     }
 
     /// The pid that the next process gets.
     pub fn next_pid(&self) -> Pid
         ensures { result ≡ self.now.world.next_pid }
     {
-        Pid(self.store.next_pid())
+        self.store.procs.next_pid()
     }
 
     /// The i-th user, from 0, in the order of their first process.
     pub fn user_at(&self, i: usize) -> Option<Uid>
         ensures { result ≡ slice_get self.now.world.users i }
     {
-        self.store.users().get(i).copied()
+        self.store.ledger.user_at(i)
     }
 
     /// What the file is; nothing for a stranger.
     pub fn file(&self, ino: Ino) -> Option<FileInfo>
         ensures { result ≡ shown_of (map.get self.now.world.files ino) }
     {
-        let Some(socket) = self.store.file(ino)?.socket() else {
+        let Some(socket) = self.store.files.get(ino)?.socket() else {
             return Some(FileInfo::Plain);
         };
         Some(FileInfo::Socket {

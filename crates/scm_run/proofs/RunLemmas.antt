@@ -1,8 +1,8 @@
 -- What a run has done, line by line, and how it stops.
-use Rattle.std.proofs.Common.{◌≡◌, ℕ, ◌+◌, ◌-◌, ◌<◌, ◌==◌, List, [], ◌∷◌, ◌++◌, false, length, take, Option, Some, None, refl, sym, ap, ◌∙◌, subst, append_assoc, append-nil, arith, length-append, Result, Ok, Err, IfErr}
+use Rattle.std.proofs.Common.{◌≡◌, ℕ, ◌+◌, ◌-◌, ◌<◌, ◌==◌, List, [], ◌∷◌, ◌++◌, false, length, take, Option, Some, None, refl, sym, ap, ◌∙◌, subst, append_assoc, append-nil, arith, length-append, Result, Ok, Err, IfErr, IfOk}
 use Rattle.std.specs.Prelude.{map, slice_get}
 use Rattle.std.specs.Str.Lines.{lines, strip_carriage_return}
-use Rattle.std.specs.Io.KnownBytes.{Appends, Consumes, IsAtEnd}
+use Rattle.std.specs.Io.KnownBytes.{Appends, Consumes, IsAtEnd, Keeps}
 use Rattle.std.proofs.KnownBytes.{Appends-trans, Appends-nil}
 use Rattle.std.proofs.lemmas.List.Elements.{All-nil}
 use Rattle.std.proofs.lemmas.List.{take_at, take_all, map-append, length-map}
@@ -10,7 +10,7 @@ use Rattle.scm_watched.specs.Watched.{AppendsFront}
 use Rattle.scm_lines.specs.Lines.{line_of}
 use Rattle.af_base.specs.Pass.{Machine}
 use Rattle.af_base.specs.Run.{fresh}
-use Rattle.scm_run.specs.Script.{FaultAt, LineText, RanFirst, RanToUnreadable, RunText, StopsBy, Tells, Wrote, WroteFirst, is_read_fault, RanAsRead}
+use Rattle.scm_run.specs.Script.{FaultAt, LineText, RanFirst, RanToEnd, RanToUnreadable, RunText, StopsBy, Tells, Wrote, WroteFirst, is_read_fault, RanAsRead}
 use Rattle.scm_run.specs.Line.{LineDone, LineCut, LineStops}
 use Rattle.scm_run.specs.Progress.{FaultIn, Progress, Ran, TooLong, may_fit}
 use Rattle.scm_run.specs.declared.fault.RunFault.{RunFault}
@@ -303,3 +303,15 @@ stops_as_read told left before after taken state consumed ran = record {
   cut = ran.cut;
   all = record { text = ran.text; machine = state.machine; runs = ran.runs; wrote = ran.wrote };
 }
+
+-- A reader that keeps its bytes has given none.
+pub keeps_none_taken : (old new : Option (List ℕ)) → Keeps old new → Consumes old new []
+keeps_none_taken None new k = k
+keeps_none_taken (Some xs) None k = k
+keeps_none_taken (Some xs) (Some ys) k = sym k
+
+-- The input ended, and what was left of it was run: all of it was.
+pub done_at_end : (told left before mid after : Option (List ℕ)) (bytes : List ℕ) (old : Progress) (r : Result ℕ RunFault) → Consumes told left bytes → IsAtEnd left → Ran bytes before mid old
+    → IfOk r (λ n. (taken : List ℕ) (first : Option (List ℕ)) → Ran taken first mid old → Wrote (lines taken) n first after) → IfOk r (RanToEnd told left before after)
+done_at_end told left before mid after bytes old (Ok n) p q ran h = record { input = bytes; tells = told_all told left bytes p q; ended = q; all = h bytes before ran }
+done_at_end told left before mid after bytes old (Err f) p q ran h = tt

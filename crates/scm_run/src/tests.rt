@@ -1,5 +1,9 @@
 //! Whole runs over memory, streams that fail, and the engine beside the recount.
 mod audits;
+mod lines;
+mod many;
+mod plays;
+mod refusals;
 mod rows;
 mod runs;
 mod streams;

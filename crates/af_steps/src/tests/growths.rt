@@ -2,7 +2,7 @@
 use super::bench::{Bench, close, got, pair, recv, send, spawn, step};
 use af_base::errno::Errno;
 use af_base::events::{Event, Reply, Step};
-use af_base::names::{Fd, Ino, Pid};
+use af_base::names::{Fd, Ino, Pid, Uid};
 use std::alloc::{AllocError, Global};
 use std::process::Abort;
 
@@ -11,8 +11,8 @@ fn script(alloc: Global) -> Result<Vec<(Event, Reply)>, AllocError> {
     let lines = vec![in alloc;
         (spawn(16), Reply::Pid(Pid(1))),
         (pair(1), Reply::Fds(Fd(0), Fd(1))),
-        (send(alloc, 1, 1, b"hi", &[0])?, Reply::Sent(2)),
-        (recv(1, 0, 10, 8), got(alloc, b"hi", &[2], false, false)?),
+        (send(alloc, 1, b"hi", &[0])?, Reply::Sent(2)),
+        (recv(0, 8), got(alloc, b"hi", &[2], false)?),
         (step(1, Step::Open), Reply::Fd(Fd(3))),
         (step(1, Step::Dup(Fd(3))), Reply::Fd(Fd(4))),
         (step(1, Step::Dup2(Fd(3), Fd(5))), Reply::Fd(Fd(5))),
@@ -25,13 +25,12 @@ fn script(alloc: Global) -> Result<Vec<(Event, Reply)>, AllocError> {
 
 /// All that the views show of the files and processes of the script.
 fn shown(bench: &Bench) -> [(u64, u64); 4] {
-    let (charged, total, live) = bench.totals();
-    let pid = u64::from(bench.engine.next_pid().0);
+    let engine = &bench.engine;
     [
-        bench.held(1),
-        bench.held(2),
-        (charged, total),
-        (live as u64, pid),
+        (engine.refs(Ino(1)), engine.inflight(Ino(1))),
+        (engine.refs(Ino(2)), engine.inflight(Ino(2))),
+        (engine.charged(Uid(1000)), engine.total()),
+        (engine.live() as u64, u64::from(engine.next_pid().0)),
     ]
 }
 

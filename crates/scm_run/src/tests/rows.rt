@@ -1,26 +1,6 @@
 //! Worked rows over memory: scripts whose output was worked out by hand.
-use crate::fault::RunFault;
-use crate::run::run_script;
-use scm_watched::watched::Watched;
-use std::alloc::AllocGlobal;
-use std::process::Abort;
+use super::plays::plays;
 use std::test::Fail;
-
-/// The lines of a script have these texts, in order; a report may have several lines, or none.
-fn plays<T: Abort + AllocGlobal>(rt: &T, rows: &[(&str, &str)]) -> Result<(), Fail> {
-    let mut script = String::new(rt.alloc());
-    let mut texts = String::new(rt.alloc());
-    for (line, text) in rows {
-        writeln!(script, "{line}")?;
-        writeln!(texts, "{text}")?;
-    }
-    let mut input = Watched::new(script.as_bytes());
-    let mut output = Watched::new(Vec::new(rt.alloc()));
-    let done = run_script(rt.alloc(), &mut input, &mut output);
-    assert!(rt; done.is_ok());
-    assert_eq!(rt; output.inner().as_slice(), texts.as_bytes());
-    Ok(())
-}
 
 #[test]
 fn the_smallest_cycle(rt: HostRuntime) -> Result<(), Fail> {
@@ -157,6 +137,29 @@ fn three_sockets_in_two_cycles(rt: HostRuntime) -> Result<(), Fail> {
     plays(&rt, rows.as_slice())
 }
 
+/// The same graph with a plain file in Y's queue: four files go, three of them sockets.
+#[test]
+fn three_sockets_and_a_plain_file(rt: HostRuntime) -> Result<(), Fail> {
+    let rows = [
+        ("spawn 1000 16", "pid 1"),
+        ("1 pair seqpacket", "fds 0 1"),
+        ("1 pair seqpacket", "fds 2 3"),
+        ("1 pair seqpacket", "fds 4 5"),
+        ("1 open", "fd 6"),
+        ("1 send 3 a 0", "sent 1"),
+        ("1 send 5 b 2", "sent 1"),
+        ("1 send 3 c 4 6", "sent 1"),
+        ("1 send 1 d 2", "sent 1"),
+        ("1 exit", "ok"),
+        ("totals", "user 1000 inflight 5"),
+        ("check", "check ok live 4 garbage 4"),
+        ("pass", "pass 1 reclaimed 3"),
+        ("check", "check ok live 0 garbage 0"),
+        ("totals", "user 1000 inflight 0"),
+    ];
+    plays(&rt, rows.as_slice())
+}
+
 #[test]
 fn two_ends_in_each_others_queues(rt: HostRuntime) -> Result<(), Fail> {
     let rows = [
@@ -187,6 +190,26 @@ fn fork_and_exit(rt: HostRuntime) -> Result<(), Fail> {
         ("2 close 1", "ok"),
         ("pass", "pass 1 reclaimed 1"),
         ("2 send 0 x", "EPIPE"),
+    ];
+    plays(&rt, rows.as_slice())
+}
+
+/// Who forked shares the socket; it is garbage only when both are gone.
+#[test]
+fn a_child_keeps_what_its_parent_had(rt: HostRuntime) -> Result<(), Fail> {
+    let rows = [
+        ("spawn 1000 16", "pid 1"),
+        ("1 pair seqpacket", "fds 0 1"),
+        ("1 send 1 a 0", "sent 1"),
+        ("1 fork", "pid 2"),
+        ("1 close 0", "ok"),
+        ("1 exit", "ok"),
+        ("pass", "pass 1 reclaimed 0"),
+        ("check", "check ok live 2 garbage 0"),
+        ("2 close 0", "ok"),
+        ("totals", "user 1000 inflight 1"),
+        ("pass", "pass 2 reclaimed 1"),
+        ("check", "check ok live 1 garbage 0"),
     ];
     plays(&rt, rows.as_slice())
 }
@@ -224,73 +247,4 @@ fn users_in_the_order_of_their_first_process(rt: HostRuntime) -> Result<(), Fail
         ("totals", "user 7 inflight 2\nuser 5 inflight 0"),
     ];
     plays(&rt, rows.as_slice())
-}
-
-#[test]
-fn reports_of_nothing(rt: HostRuntime) -> Result<(), Fail> {
-    let mut input = Watched::new(b"totals\ncheck\n\tpass \r\n".as_slice());
-    let mut output = Watched::new(Vec::new(rt.alloc()));
-    let done = run_script(rt.alloc(), &mut input, &mut output);
-    assert_eq!(rt; done, Ok(1));
-    assert_eq!(rt;
-        output.inner().as_slice(),
-        b"check ok live 0 garbage 0\npass 1 reclaimed 0\n".as_slice()
-    );
-    Ok(())
-}
-
-#[test]
-fn cannot_read_these_lines(rt: HostRuntime) -> Result<(), Fail> {
-    for line in [
-        b"spawn 01 4\n".as_slice(),
-        b"spawn 4294967296 4\n".as_slice(),
-        b"spawn 1 4 root\n".as_slice(),
-        b"spawn 1\n".as_slice(),
-        b"1 pair dgram\n".as_slice(),
-        b"1 send 0\n".as_slice(),
-        b"1 send 0 a%2\n".as_slice(),
-        b"1 send 0 a%2G\n".as_slice(),
-        b"1 send 0 *65538\n".as_slice(),
-        b"1 send 0 a 0*0\n".as_slice(),
-        b"1 send 0 a 0*1024 0\n".as_slice(),
-        b"1 close 0 0\n".as_slice(),
-        b"pass\r\r\n".as_slice(),
-    ] {
-        let mut input = Watched::new(line);
-        let mut output = Watched::new(Vec::new(rt.alloc()));
-        let done = run_script(rt.alloc(), &mut input, &mut output);
-        assert_eq!(rt; done, Err(RunFault::Unreadable(1)), "{line:?}");
-        assert_eq!(rt; output.inner().as_slice(), b"".as_slice());
-    }
-    Ok(())
-}
-
-#[test]
-fn reads_these_lines(rt: HostRuntime) -> Result<(), Fail> {
-    for (line, reply) in [
-        (b"spawn 4294967295 0".as_slice(), b"pid 1\n".as_slice()),
-        (b"\tspawn 1 4 \r\n".as_slice(), b"pid 1\n".as_slice()),
-        (b"1 send 0 a 0*1024".as_slice(), b"ESRCH\n".as_slice()),
-        (b"#\xff\n1 close 0\n".as_slice(), b"ESRCH\n".as_slice()),
-    ] {
-        let mut input = Watched::new(line);
-        let mut output = Watched::new(Vec::new(rt.alloc()));
-        let done = run_script(rt.alloc(), &mut input, &mut output);
-        assert_eq!(rt; done, Ok(1), "{line:?}");
-        assert_eq!(rt; output.inner().as_slice(), reply);
-    }
-    Ok(())
-}
-
-#[test]
-fn the_version_cannot_be_read_yet(rt: HostRuntime) -> Result<(), Fail> {
-    let mut input = Watched::new(b"pass\nversion 2\n".as_slice());
-    let mut output = Watched::new(Vec::new(rt.alloc()));
-    let done = run_script(rt.alloc(), &mut input, &mut output);
-    assert_eq!(rt; done, Err(RunFault::Unreadable(2)));
-    assert_eq!(rt;
-        output.inner().as_slice(),
-        b"pass 1 reclaimed 0\n".as_slice()
-    );
-    Ok(())
 }

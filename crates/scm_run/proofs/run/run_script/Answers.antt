@@ -3,7 +3,7 @@ use Rattle.std.specs.Io.KnownBytes.{Consumes, IsAtEnd}
 use Rattle.std.proofs.KnownBytes.{Consumes-trans}
 use Rattle.af_base.specs.Run.{fresh}
 use Rattle.scm_run.specs.declared.fault.RunFault.TheVariants.{Memory}
-use Rattle.scm_run.proofs.RunLemmas.{told_any, nothing_ran, ran_nothing, stops_in, stops_as_read, stops_at_end, stops_late}
+use Rattle.scm_run.proofs.RunLemmas.{done_at_end, keeps_none_taken, told_any, nothing_ran, ran_nothing, stops_in, stops_as_read, stops_at_end, stops_late}
 use Rattle.scm_run.proofs.run.run_script.Goals as goal
 
 pub returns-in_err-run-clause-stopped : goal.returns-in_err-run-clause-stopped
@@ -16,6 +16,17 @@ pub loop-init : goal.loop-init
 loop-init g c =
     let begun : c.in_ok-run.run' ≡ record { machine = fresh; pending = []; events = 0; done = 0 } = search rules in
     (search rules, search rules, ([], search rules, rw begun (ran_nothing _)))
+
+pub returns-then-count-eq0-clause-done : goal.returns-then-count-eq0-clause-done
+returns-then-count-eq0-clause-done g c =
+    let (taken, consumed, ran) = c.loop.invariant.2 in
+    let bytes = take c.in-Ok.count c.read.new.buf in
+    let none : c.in-Ok.count ≡ 0 = search rules in
+    let reads : Consumes (g.R.Read.remaining c.loop.reader.inner) (g.R.Read.remaining c.read.new.self.inner) bytes = search rules in
+    let still : Consumes (g.R.Read.remaining c.loop.reader.inner) (g.R.Read.remaining c.read.new.self.inner) [] = subst (λ (k : ℕ). Consumes (g.R.Read.remaining c.loop.reader.inner) (g.R.Read.remaining c.read.new.self.inner) (take k c.read.new.buf)) none reads in
+    let ended : IsAtEnd (g.R.Read.remaining c.read.new.self.inner) = search rules in
+    let all : Consumes (g.R.Read.remaining c.args.reader.now.inner) (g.R.Read.remaining c.read.new.self.inner) taken = subst (Consumes _ _) (append-nil taken) (Consumes-trans _ _ _ taken [] consumed still) in
+    done_at_end _ _ _ _ _ taken c.loop.run c.finish.result all ended ran c.finish.ensures.ok
 
 pub returns-then-count-eq0-clause-stopped : goal.returns-then-count-eq0-clause-stopped
 returns-then-count-eq0-clause-stopped g c =
@@ -61,6 +72,6 @@ returns-clause-stopped g c =
 pub returns-in_default-clause-stopped : goal.returns-in_default-clause-stopped
 returns-in_default-clause-stopped g c =
     let (taken, consumed, ran) = c.loop.invariant.2 in
-    let kept : Consumes (g.R.Read.remaining c.loop.reader.inner) (g.R.Read.remaining c.read.new.self.inner) [] = search rules in
+    let kept : Consumes (g.R.Read.remaining c.loop.reader.inner) (g.R.Read.remaining c.read.new.self.inner) [] = keeps_none_taken _ _ c.in_default.ensures.bytes in
     let all : Consumes (g.R.Read.remaining c.args.reader.now.inner) (g.R.Read.remaining c.read.new.self.inner) taken = subst (Consumes _ _) (append-nil taken) (Consumes-trans _ _ _ taken [] consumed kept) in
     stops_as_read _ _ _ _ taken c.loop.run all ran

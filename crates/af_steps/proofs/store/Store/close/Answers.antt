@@ -1,20 +1,21 @@
-use Rattle.std.proofs.Common.{◌≡◌, [], ◌∷◌, sym, subst, arith}
-use Rattle.std.specs.Prelude.{Some}
-use Rattle.af_base.specs.Places.{table_at}
-use Rattle.af_base.specs.Release.{Covered}
-use Rattle.af_base.specs.Whole.{IsWhole, IsWithin}
-use Rattle.af_base.proofs.Covers.{covers-uninstall}
-use Rattle.af_base.proofs.Whole.{whole-uninstall}
-use Rattle.af_base.proofs.Within.{within-uninstall}
+use Rattle.std.proofs.Common.{◌≡◌, true, arith}
+use Rattle.std.specs.Prelude.{None}
+use Rattle.af_base.specs.declared.events.Reply.TheVariants as reply
+use Rattle.af_base.specs.declared.events.Step.TheVariants as step
+use Rattle.af_base.specs.Changes.{uninstall}
+use Rattle.af_base.specs.Refusals.{refusal}
+use Rattle.af_base.specs.Unheld.{Settles}
+use Rattle.af_base.proofs.Stepping.{accepted}
+use Rattle.af_steps.proofs.Resting.{rest-steady-all, shed-settles}
 use Rattle.af_steps.proofs.store.Store.close.Goals as goal
 
-pub release-requires-clause-whole : goal.release-requires-clause-whole
-release-requires-clause-whole c = subst IsWhole (sym c.table_out.ensures) (whole-uninstall c.args.self.now c.args.pid c.args.fd c.requires.whole)
+pub table_out-requires : goal.table_out-requires
+table_out-requires c = rest-steady-all c.args.self.now c.requires
 
-pub release-requires-clause-within : goal.release-requires-clause-within
-release-requires-clause-within c = subst IsWithin (sym c.table_out.ensures) (within-uninstall c.args.self.now c.args.pid c.args.fd c.requires.within)
-
-pub release-requires-clause-covered : goal.release-requires-clause-covered
-release-requires-clause-covered c =
-    let there : table_at c.args.self.now c.args.pid c.args.fd ≡ Some c.in-Some-lookup.ino = grind arith in
-    subst (λ w. Covered w (c.in-Some-lookup.ino ∷ [])) (sym c.table_out.ensures) (covers-uninstall c.args.self.now c.args.pid c.args.fd c.in-Some-lookup.ino c.requires.settled there)
+pub returns-clause-step : goal.returns-clause-step
+returns-clause-step c =
+    let w = c.args.self.now.world in
+    let fits : refusal w c.args.pid (step.Close c.args.fd) ≡ None = grind arith in
+    let gone = uninstall w c.args.pid c.args.fd in
+    let settles : Settles gone c.release.new.self.world = shed-settles gone c.table_out.new.self.world c.release.new.self.world c.table_out.ensures.sheds c.release.ensures.settles in
+    accepted (refusal w c.args.pid (step.Close c.args.fd)) true reply.Ok gone w c.release.new.self.world fits settles

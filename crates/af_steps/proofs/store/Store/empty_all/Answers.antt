@@ -1,24 +1,38 @@
-use Rattle.std.proofs.Common.{arith, ◌≡◌, ◌+◌, ◌++◌, ◌∷◌, [], take, take_all, sym, ap, ◌∙◌, subst}
+use Rattle.std.proofs.Common.{rules, ◌≡◌, ◌+◌, ◌++◌, ◌∷◌, [], take, take_all, sym, ap, subst, ◌∙◌, nat_eq, arith}
+use Rattle.std.specs.List.{list_any}
 use Rattle.std.proofs.lemmas.List.{take_more}
-use Rattle.af_base.proofs.Within.{messages-most}
-use Rattle.af_steps.specs.Releasing.{Empties}
-use Rattle.af_steps.proofs.Emptying.{empties-more, empties-none}
+use Rattle.af_base.specs.World.{World}
+use Rattle.af_base.specs.Changes.{with_socket}
+use Rattle.af_base.specs.Pass.{emptied}
+use Rattle.af_steps.specs.Agreement.{IsSteady}
+use Rattle.af_steps.specs.Stored.{Stored}
+use Rattle.af_steps.specs.contracts.store.Store.{the_view}
+use Rattle.af_steps.proofs.Emptying.{bare, emptied-more, emptied-nothing}
+use Rattle.af_steps.proofs.Shedding.{steady-at-rest}
+use Rattle.af_steps.proofs.Steady.{steady-emptied}
 use Rattle.af_steps.proofs.store.Store.empty_all.Goals as goal
 
 pub loop-ino-init : goal.loop-ino-init
-loop-ino-init c = empties-none c.args.self.now c.args.pending.now c.requires.none
-
-pub empty-requires : goal.empty-requires
-empty-requires c = omega (arith, messages-most c.args.self.now c.requires.sound.within, c.loop-ino.invariant.messages)
+loop-ino-init c = record {
+  steady = subst (λ (s : Stored). IsSteady s.world s.pending s.kept) (sym c.self.view_is) (steady-at-rest c.args.self.now c.requires);
+  world = ap (λ (s : Stored). s.world) c.self.view_is ∙ emptied-nothing c.args.self.now.world;
+}
 
 pub loop-ino-preserved : goal.loop-ino-preserved
 loop-ino-preserved c =
+    let s = the_view c.loop-ino.self-inside in
+    let e = c.empty.ensures in
+    let f = c.ino-item.result in
     let inos = c.args.inos.now in
     let i = c.loop-ino.ino-index in
-    let next : take (i + 1) inos ≡ take i inos ++ c.ino-item.result ∷ [] = take_more inos i c.ino-item.result c.loop-ino-test.true ∙ ap (λ x. take i inos ++ x ∷ []) (sym c.ino-item.is) in
-    let e = c.empty.ensures in
-    subst (λ done. Empties c.args.self.now c.empty.new.self done c.empty.new.pending) (sym next)
-    (empties-more c.args.self.now c.loop-ino.self c.empty.new.self (take i inos) c.ino-item.result c.loop-ino.pending c.empty.new.pending c.loop-ino.invariant e.emptied e.pending e.held)
+    let new : World = record s.world { files = c.empty.new.self.files; next_ino = c.empty.new.self.next } in
+    let stored : new ≡ with_socket s.world f bare = grind arith in
+    let next : take (i + 1) inos ≡ take i inos ++ f ∷ [] = take_more inos i f c.loop-ino-test.true ∙ ap (λ x. take i inos ++ x ∷ []) (sym c.ino-item.is) in
+    let h = steady-emptied s.world f s.pending s.kept c.loop-ino.invariant.steady e.held in
+    record {
+      steady = subst (λ w. IsSteady w c.empty.new.into s.kept) (sym stored) (subst (λ ps. IsSteady (with_socket s.world f bare) ps s.kept) (sym e.into) h);
+      world = emptied-more c.args.self.now.world s.world new (take i inos) f c.loop-ino.invariant.world stored ∙ ap (λ done. emptied (λ g. list_any (nat_eq g) done) c.args.self.now.world) (sym next);
+    }
 
-pub returns : goal.returns
-returns c = subst (λ done. Empties c.args.self.now c.loop-ino.self done c.loop-ino.pending) (take_all c.loop-ino.ino-index c.args.inos.now c.loop-ino-test.false) c.loop-ino.invariant
+pub returns-clause-world : goal.returns-clause-world
+returns-clause-world c = c.loop-ino.invariant.world ∙ ap (λ done. emptied (λ g. list_any (nat_eq g) done) c.args.self.now.world) (take_all c.loop-ino.ino-index c.args.inos.now c.loop-ino-test.false)

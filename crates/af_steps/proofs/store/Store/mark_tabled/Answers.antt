@@ -1,36 +1,43 @@
-use Rattle.std.proofs.Common.{rules, ◌≡◌, sym, subst}
-use Rattle.std.specs.List.{Contains}
+use Rattle.std.proofs.Common.{◌≡◌, ℕ, ◌<◌, false, ap, ◌∙◌, subst, arith}
 use Rattle.std.specs.FinMap as map
-use Rattle.std.specs.BTreeMap as tree
-use Rattle.af_base.proofs.Elements.{Contains-none}
-use Rattle.af_steps.specs.Marking.{HasFile}
-use Rattle.af_steps.proofs.Marking.{marked-none, marked-join, marked-left}
-use Rattle.af_steps.proofs.Walking.{IsAmong, among-first, among-later, among-next, among-tabled, tabled-among}
+use Rattle.af_base.specs.World.{File, Map}
+use Rattle.af_base.specs.Counts.{tabled}
+use Rattle.af_ledger.specs.Kept.{count_of}
+use Rattle.af_steps.proofs.Rising.{fewer_above}
+use Rattle.af_steps.proofs.Tabled.{tabled-end, tabled-next, tabled-passed}
 use Rattle.af_steps.proofs.store.Store.mark_tabled.Goals as goal
 
-pub loop-process-init : goal.loop-process-init
-loop-process-init c =
-    let w = c.args.self.now in
-    let processes = c.self.inside.processes in
-    let same : w.processes ≡ map.from_entries processes.entries = search rules in
-    let all : c.into_iter-process-iterator.result ≡ tree.values processes = search rules in
-    record {
-      marks = marked-none _ _ c.args.marks.now (λ f t. subst (λ qs. IsAmong qs f) (sym all) (tabled-among w processes same f t));
-      within = λ f h. among-tabled w processes same c.values-process-items.ensures.ordered f (subst (λ qs. IsAmong qs f) all h);
-    }
+-- No file stands between the two numbers.
+abbrev AreNone : ℕ → ℕ → Map File → Type 0
+AreNone last n m = (q : ℕ) → last < q → q < n → map.contains_key m q ≡ false
 
-pub loop-process-preserved : goal.loop-process-preserved
-loop-process-preserved c =
-    let q = c.in-Some.process.now in
-    let rest = c.next.new.self in
-    let next = c.in-Some.ensures.steps in
-    let invariant = c.loop-process.invariant in
-    record {
-      marks = marked-join _ (HasFile q) (IsAmong c.loop-process.process-iterator) (IsAmong rest) c.args.marks.now c.loop-process.marks c.mark.new.marks invariant.marks c.in_ok-mark.ensures
-          (λ f h. invariant.within f (subst (λ qs. IsAmong qs f) (sym next) (among-first q rest f h)))
-          (λ f h. among-next q rest f (subst (λ qs. IsAmong qs f) next h));
-      within = λ f h. invariant.within f (subst (λ qs. IsAmong qs f) (sym next) (among-later q rest f h));
-    }
+pub loop-ino-smaller : goal.loop-ino-smaller
+loop-ino-smaller c =
+    let next = c.in-Some.ensures in
+    fewer_above c.self.inside.files.files c.args.self.now.world.files (ap (λ s. s.world.files) c.self.view_is) c.loop-ino.last c.in-Some.ino next.above next.live next.least
+
+pub loop-ino-smaller-then-tabled-eq0 : goal.loop-ino-smaller-then-tabled-eq0
+loop-ino-smaller-then-tabled-eq0 c =
+    let next = c.in-Some.ensures in
+    fewer_above c.self.inside.files.files c.args.self.now.world.files (ap (λ s. s.world.files) c.self.view_is) c.loop-ino.last c.in-Some.ino next.above next.live next.least
+
+pub loop-ino-preserved-then-tabled-eq0 : goal.loop-ino-preserved-then-tabled-eq0
+loop-ino-preserved-then-tabled-eq0 c =
+    let w = c.args.self.now.world in
+    let files = ap (λ s. s.world.files) c.self.view_is in
+    let counted : c.tabled.result ≡ tabled w c.in-Some.ino = c.tabled.ensures ∙ ap (λ s. (count_of s.kept c.in-Some.ino).tabled) c.self.view_is ∙ c.requires.agrees.tabled c.in-Some.ino in
+    tabled-passed w c.requires.sound.whole c.loop-ino.last c.in-Some.ino (subst (AreNone c.loop-ino.last c.in-Some.ino) files c.in-Some.ensures.least) c.args.marks.now c.loop-ino.marks (omega (arith, counted, c.if-tabled-eq0.true)) c.loop-ino.invariant
+
+pub loop-ino-preserved : goal.loop-ino-preserved
+loop-ino-preserved c =
+    let w = c.args.self.now.world in
+    let files = ap (λ s. s.world.files) c.self.view_is in
+    let counted : c.tabled.result ≡ tabled w c.in-Some.ino = c.tabled.ensures ∙ ap (λ s. (count_of s.kept c.in-Some.ino).tabled) c.self.view_is ∙ c.requires.agrees.tabled c.in-Some.ino in
+    tabled-next w c.requires.sound.whole c.loop-ino.last c.in-Some.ino (subst (AreNone c.loop-ino.last c.in-Some.ino) files c.in-Some.ensures.least) c.args.marks.now c.loop-ino.marks c.mark.new.self (omega (arith, counted, c.if-tabled-eq0.false)) c.loop-ino.invariant c.in_ok-mark.ensures
 
 pub returns : goal.returns
-returns c = marked-left _ _ _ _ _ c.loop-process.invariant.marks (λ f h. Contains-none h.0 (subst (λ qs. Contains qs h.0) c.in-None.ensures.steps.0 h.1))
+returns c =
+    let files = ap (λ s. s.world.files) c.self.view_is in
+    let none = subst (λ (m : Map File). (q : ℕ) → c.loop-ino.last < q → map.contains_key m q ≡ false) files c.in_default.ensures.none in
+    let begins = subst (λ (m : Map File). map.contains_key m 0 ≡ false) files c.in_default.ensures.begins in
+    tabled-end c.args.self.now.world c.requires.sound.whole c.loop-ino.last none begins c.args.marks.now c.loop-ino.marks c.loop-ino.invariant

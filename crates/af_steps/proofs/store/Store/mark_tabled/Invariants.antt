@@ -1,11 +1,13 @@
-use Rattle.std.proofs.Common.{ℕ}
+use Rattle.std.proofs.Common.{length}
+use Rattle.std.specs.FinMap as map
 use Rattle.af_base.specs.Places.{InTable}
 use Rattle.af_steps.specs.Marking.{Marked}
-use Rattle.af_steps.proofs.Walking.{IsAmong}
+use Rattle.af_steps.proofs.Rising.{above}
+use Rattle.af_steps.proofs.Tabled.{IsAhead}
 use Rattle.af_steps.proofs.store.Store.mark_tabled.Given as goal
 
-abbrev pub invariant-loop-process : goal.invariant-loop-process
-invariant-loop-process l = record {
-  marks : Marked (InTable l.self) (IsAmong l.process-iterator) l.fn.marks l.marks;
-  within : (f : ℕ) → IsAmong l.process-iterator f → InTable l.self f;
-}
+abbrev pub invariant-loop-ino : goal.invariant-loop-ino
+invariant-loop-ino l = Marked (InTable l.self.world) (IsAhead l.self.world l.last) l.fn.marks l.marks
+
+abbrev pub decreases-loop-ino : goal.decreases-loop-ino
+decreases-loop-ino l = length (above l.last (map.entries l.self.world.files))

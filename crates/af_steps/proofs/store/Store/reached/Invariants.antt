@@ -3,7 +3,7 @@ use Rattle.af_steps.proofs.Walking.{left_to_do}
 use Rattle.af_steps.proofs.store.Store.reached.Given as goal
 
 abbrev pub invariant-loop-ino : goal.invariant-loop-ino
-invariant-loop-ino l = IsWalk l.self l.marks
+invariant-loop-ino l = IsWalk l.self.world l.marks
 
 abbrev pub decreases-loop-ino : goal.decreases-loop-ino
-decreases-loop-ino l = left_to_do l.self l.marks
+decreases-loop-ino l = left_to_do l.self.world l.marks

@@ -1,20 +1,33 @@
-use Rattle.std.proofs.Common.{arith, ◌++◌, length, sym, ap, subst}
-use Rattle.std.proofs.lemmas.List.{append-nil}
-use Rattle.af_base.specs.Places.{carried}
-use Rattle.af_base.specs.Release.{Covered}
-use Rattle.af_base.proofs.Within.{messages-most}
+use Rattle.std.proofs.Common.{rules, ◌≡◌, ◌∷◌, [], length, sym, ap, subst, ◌∙◌, arith}
+use Rattle.af_base.specs.World.{World}
+use Rattle.af_base.specs.Unheld.{Settles}
+use Rattle.af_base.proofs.Settling.{settles_none}
+use Rattle.af_steps.specs.Agreement.{IsSteady}
+use Rattle.af_steps.specs.Stored.{Stored}
+use Rattle.af_steps.specs.contracts.store.Store.{the_view}
+use Rattle.af_steps.proofs.Steady.{rest-steady}
 use Rattle.af_steps.proofs.store.Store.release.Goals as goal
 
-pub drop_unheld-requires-clause-few : goal.drop_unheld-requires-clause-few
-drop_unheld-requires-clause-few c = omega (arith, messages-most c.args.self.now c.requires.within, ap length c.new-pending.ensures)
+pub loop-message-preserved : goal.loop-message-preserved
+loop-message-preserved c =
+    let before : (end : World) → Settles (the_view c.self.inside).world end → Settles c.args.self.now.world end = subst (λ (s : Stored). (end : World) → Settles s.world end → Settles c.args.self.now.world end) (sym c.self.view_is) c.loop-message.invariant.1 in
+    (c.drop_carried.ensures.steady, λ end s. before end (c.drop_carried.ensures.settles end s))
 
-pub drain-requires-clause-few : goal.drain-requires-clause-few
-drain-requires-clause-few c = omega (arith, messages-most c.args.self.now c.requires.within, ap length c.new-pending.ensures, c.drop_unheld.ensures.messages)
+-- nothing is pending
+none : (c : goal.In_default) → c.pop_front.new.self ≡ []
+none c = sym c.in_default.ensures.items ∙ c.in_default.ensures.cases.0
 
-pub drain-requires-clause-covered : goal.drain-requires-clause-covered
-drain-requires-clause-covered c =
-    let owed = subst (Covered c.args.self.now) (sym (append-nil c.args.inos.now)) c.requires.covered in
-    c.drop_unheld.ensures.covered (subst (λ ps. Covered c.args.self.now (c.args.inos.now ++ carried ps)) (sym c.new-pending.ensures) owed)
+-- all is steady
+steady : (c : goal.In_default) → IsSteady (the_view c.self.inside).world [] c.self.inside.ledger
+steady c =
+    let h : IsSteady (the_view c.self.inside).world c.self.inside.pending c.self.inside.ledger = subst (λ (s : Stored). IsSteady s.world s.pending s.kept) (sym c.self.view_is) c.loop-message.invariant.0 in
+    subst (λ ps. IsSteady (the_view c.self.inside).world ps c.self.inside.ledger) c.in_default.ensures.cases.0 h
 
 pub returns-clause-settles : goal.returns-clause-settles
-returns-clause-settles c = c.drop_unheld.ensures.settles c.drain.new.self c.drain.ensures.settles
+returns-clause-settles c =
+    let w = (the_view c.self.inside).world in
+    let before : (end : World) → Settles w end → Settles c.args.self.now.world end = subst (λ (s : Stored). (end : World) → Settles s.world end → Settles c.args.self.now.world end) (sym c.self.view_is) c.loop-message.invariant.1 in
+    before w (settles_none w (rest-steady w c.self.inside.ledger (steady c)).settled)
+
+pub returns-clause-rest : goal.returns-clause-rest
+returns-clause-rest c = record { sound = rest-steady (the_view c.self.inside).world c.self.inside.ledger (steady c); agrees = (steady c).agrees; none = none c }

@@ -1,7 +1,12 @@
-use Rattle.std.proofs.Common.{◌≡◌}
-use Rattle.std.specs.List.{zip, All}
+use Rattle.std.proofs.Common.{◌≡◌, ◌<◌, ◌∷◌, ℕ}
+use Rattle.std.specs.Prelude.{Some}
+use Rattle.std.specs.List.{zip, All, Contains}
+use Rattle.std.specs.FinMap as map
 use Rattle.af_base.specs.Changes.{install_all}
-use Rattle.af_steps.specs.Limits.{IsBelowLimit}
+use Rattle.af_base.specs.Refusals.{process_at}
+use Rattle.af_base.proofs.Free.{AreFree}
+use Rattle.af_steps.specs.Agreement.{IsSteady}
+use Rattle.af_steps.specs.Stored.{row_at}
 use Rattle.af_steps.proofs.store.Store.table_in_all.Given as goal
 
 abbrev pub invariant-loop-fd : goal.invariant-loop-fd
@@ -9,6 +14,11 @@ invariant-loop-fd l =
     let fds = l.fd-iterator.a.rest.now in
     let inos = l.fd-iterator.b.rest.now in
     record {
-      installed : install_all l.self l.pid (zip fds inos) ≡ install_all l.fn.self l.pid (zip l.fds l.inos);
-      limits : All (IsBelowLimit l.self l.pid) fds;
+      installed : install_all l.self.world l.pid (zip fds inos) ≡ install_all l.fn.self.world l.pid (zip l.fds l.message.attached);
+      steady : IsSteady l.self.world (l.message ∷ l.self.pending) l.self.kept;
+      there : map.get l.self.world.processes l.pid ≡ Some (process_at l.self.world l.pid);
+      free : AreFree (process_at l.self.world l.pid) fds;
+      row : All (λ n. n < row_at l.self l.pid) fds;
+      attached : (f : ℕ) → Contains inos f → Contains l.message.attached f;
+      pending : l.self.pending ≡ l.fn.self.pending;
     }

@@ -1,0 +1,55 @@
+//! Measures how many events the engine does in a second, over named workloads.
+//!
+//! `af_bench all` prints a line for each workload. With no argument nothing is measured, and
+//! nothing is printed.
+#![tactic(auto)]
+
+mod workload;
+
+use crate::workload::Workload;
+use std::env;
+use std::io::Write;
+use std::process::ExitCode;
+use std::time::Instant;
+
+/// What is measured: each for so many rounds.
+const PLAN: [(Workload, u32); 8] = [
+    (Workload::OpenClose { live: 0 }, 500_000),
+    (Workload::OpenClose { live: 1_000 }, 500_000),
+    (Workload::OpenClose { live: 10_000 }, 500_000),
+    (Workload::OpenClose { live: 60_000 }, 500_000),
+    (Workload::OpenCloseAbove { open: 1_000 }, 500_000),
+    (Workload::Dup2, 1_000_000),
+    (Workload::ForkExit, 20_000),
+    (Workload::PingPong, 300_000),
+];
+
+fn main(rt: HostRuntime) -> ExitCode {
+    let Ok(words) = env::args(&rt) else {
+        return ExitCode::from(2);
+    };
+    if words.count() < 2 {
+        return ExitCode::from(0);
+    }
+    for (workload, rounds) in &PLAN {
+        if measure(&rt, workload, *rounds).is_none() {
+            let _ = eprintln!(rt; "af_bench: {workload} could not be measured");
+            return ExitCode::from(1);
+        }
+    }
+    ExitCode::from(0)
+}
+
+/// Does so many rounds of a workload, and prints the events done in a second. Nothing, where memory,
+/// the clock or standard output fails, or an answer is not the one wanted.
+fn measure(rt: &HostRuntime, workload: &Workload, rounds: u32) -> Option<()> {
+    let mut round = workload.prepare(rt.alloc())?;
+    let start = Instant::now(rt).ok()?;
+    for _ in 0..rounds {
+        round.go()?;
+    }
+    let micros = start.elapsed(rt).ok()?.as_micros().max(1);
+    let events = u128::from(rounds) * u128::from(workload.events());
+    let rate = events * 1_000_000 / micros;
+    writeln!(rt.stdout(), "{workload}: {rate} events in a second").ok()
+}

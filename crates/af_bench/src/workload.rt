@@ -1,0 +1,149 @@
+//! The workloads.
+use af_base::events::{Event, Reply, SockType, Step};
+use af_base::items::Items;
+use af_base::names::{Fd, Pid, Uid};
+use af_steps::Engine;
+use std::alloc::Global;
+use std::fmt::{Display, Error, Formatter, Write};
+
+/// A kind of events that is done over and over.
+#[derive(Clone, Copy, Debug)]
+pub enum Workload {
+    /// A process opens a plain file and closes it, while so many others are live.
+    OpenClose { live: u32 },
+    /// The same in a table where so many numbers are open.
+    OpenCloseAbove { open: u32 },
+    /// A number is put in place of another.
+    Dup2,
+    /// A process with 64 open numbers forks, and the child ends.
+    ForkExit,
+    /// A descriptor is sent, received and closed.
+    PingPong,
+}
+
+impl Display for Workload {
+    fn fmt<W: Write>(&self, f: &mut Formatter<W>) -> Result<(), Error> {
+        match self {
+            Workload::OpenClose { live } => write!(f, "openclose at {live} live files"),
+            Workload::OpenCloseAbove { open } => write!(f, "openclose above {open} open numbers"),
+            Workload::Dup2 => write!(f, "dup2"),
+            Workload::ForkExit => write!(f, "forkexit with 64 numbers open"),
+            Workload::PingPong => write!(f, "pingpong"),
+        }
+    }
+}
+
+impl Workload {
+    /// How many events a round has.
+    pub fn events(&self) -> u8 {
+        match self {
+            Workload::OpenClose { .. } | Workload::OpenCloseAbove { .. } | Workload::ForkExit => 2,
+            Workload::Dup2 => 1,
+            Workload::PingPong => 3,
+        }
+    }
+
+    /// An engine that is ready for it, and the events of a round. Nothing, where memory is refused.
+    pub fn prepare(&self, alloc: Global) -> Option<Round> {
+        let mut engine = Engine::new(alloc).ok()?;
+        engine.step(&SPAWN);
+        let events = match self {
+            Workload::OpenClose { live } => {
+                open_elsewhere(&mut engine, *live);
+                vec![in alloc; OPEN, close(0)].ok()?
+            }
+            Workload::OpenCloseAbove { open } => {
+                open_numbers(&mut engine, *open);
+                vec![in alloc; OPEN, close(*open)].ok()?
+            }
+            Workload::Dup2 => {
+                engine.step(&OPEN);
+                vec![in alloc; Event::Proc(FIRST, Step::Dup2(Fd(0), Fd(1)))].ok()?
+            }
+            Workload::ForkExit => {
+                open_numbers(&mut engine, 64);
+                vec![in alloc; Event::Proc(FIRST, Step::Fork)].ok()?
+            }
+            Workload::PingPong => {
+                engine.step(&Event::Proc(FIRST, Step::Pair(SockType::Seqpacket)));
+                engine.step(&OPEN);
+                vec![in alloc; send(alloc)?, RECEIVE, close(3)].ok()?
+            }
+        };
+        Some(Round { engine, events })
+    }
+}
+
+/// The process whose events are measured.
+const FIRST: Pid = Pid(1);
+
+const SPAWN: Event = Event::Spawn {
+    uid: Uid(1000),
+    nofile: 1_024,
+    privileged: false,
+};
+
+const OPEN: Event = Event::Proc(FIRST, Step::Open);
+
+const RECEIVE: Event = Event::Proc(
+    FIRST,
+    Step::Recv {
+        on: Fd(1),
+        max_bytes: 1,
+        max_fds: 1,
+    },
+);
+
+fn close(fd: u32) -> Event {
+    Event::Proc(FIRST, Step::Close(Fd(fd)))
+}
+
+/// One byte, and what number 2 stands for.
+fn send(alloc: Global) -> Option<Event> {
+    let step = Step::Send {
+        on: Fd(0),
+        bytes: Items::of([b'a'].to_vec(alloc).ok()?),
+        attach: Items::of([Fd(2)].to_vec(alloc).ok()?),
+    };
+    Some(Event::Proc(FIRST, step))
+}
+
+/// So many files, at the lowest numbers of the first process.
+fn open_numbers(engine: &mut Engine, count: u32) {
+    for _ in 0..count {
+        engine.step(&OPEN);
+    }
+}
+
+/// So many files more, held by other processes.
+fn open_elsewhere(engine: &mut Engine, files: u32) {
+    for k in 0..files {
+        if k % 1_000 == 0 {
+            engine.step(&SPAWN);
+        }
+        engine.step(&Event::Proc(Pid(2 + k / 1_000), Step::Open));
+    }
+}
+
+/// The events of a workload, over and over.
+#[derive(Drop)]
+pub struct Round {
+    engine: Engine,
+    events: Vec<Event>,
+}
+
+impl Round {
+    /// Does the events once; a child that was forked ends at once. Nothing, where one is refused.
+    pub fn go(&mut self) -> Option<()> {
+        for event in &self.events {
+            match self.engine.step(event) {
+                Reply::Refused(_) => return None,
+                Reply::Pid(child) => {
+                    self.engine.step(&Event::Proc(child, Step::Exit));
+                }
+                _ => {}
+            }
+        }
+        Some(())
+    }
+}

@@ -1,0 +1,10 @@
+use Rattle.std.proofs.Common.{rules, refl}
+use Rattle.af_desc.proofs.Over.{none_over-written}
+use Rattle.af_desc.proofs.Keys.{written_in_place}
+use Rattle.af_desc.proofs.files.Files.hang_up.Goals as goal
+
+pub invariant_of-self-2 : goal.invariant_of-self-2
+invariant_of-self-2 c = (
+  written_in_place c.self.inside.keys c.self.inside.slab c.args.ino c.in-Some.key.now c.self.inside.next c.in-Some-get_mut.entry.now _ c.self.invariant.0 (search rules) (search rules) refl,
+  none_over-written c.self.inside.keys c.self.inside.slab c.in-Some.key.now c.in-Some-get_mut.entry.now _ (search rules) c.self.invariant.1,
+)

@@ -1,0 +1,136 @@
+//! An open file description.
+ghost use Rattle.std.specs.Prelude.{◌≡◌, ◌∷◌, ◌++◌, [], ◌+◌, ◌<◌, ◌^◌, IfSome, IfNone, OnOk, OnErr, length, drop, option_copied};
+ghost use Rattle.af_base.specs.World as world;
+ghost use Rattle.af_base.specs.Places.{queue_of, carried, contents};
+ghost use Rattle.af_base.specs.Changes.{file_with};
+ghost use Rattle.af_base.specs.Refusals.{socket_of};
+ghost use Rattle.af_base.specs.Steps.{connected_socket};
+ghost use Rattle.af_base.specs.declared.events.State.TheVariants as state;
+ghost use Rattle.af_desc.specs.Filed.{idle_socket};
+
+use crate::message::Message;
+use crate::socket::Socket;
+use af_base::events::SockType;
+use af_base::limits::MAX_MESSAGES;
+use af_base::names::Ino;
+use std::alloc::{AllocError, Global};
+use std::collections::LinkedList;
+use std::marker::Model;
+
+/// An open file description: a plain file, of which nothing is known, or a socket.
+#[derive(Drop)]
+pub struct Desc {
+    kind: Kind,
+}
+
+/// What it is. A contract sees no enum as a value of its own, so it stands in a struct.
+#[derive(Drop)]
+enum Kind {
+    Plain,
+    Socket(Socket),
+}
+
+impl Model for Desc {
+    ghost use Rattle.af_base.specs.World as world;
+
+    ghost Value = { world.File };
+
+    ghost use Rattle.af_desc.specs.Kinds.{file_of};
+
+    ghost view = { λ a. file_of a.kind };
+}
+
+impl Desc {
+    /// A plain file.
+    pub(crate) fn plain() -> Desc
+        ensures { result ≡ world.Plain }
+    {
+        Desc { kind: Kind::Plain }
+    }
+
+    /// A new socket that was never connected. It takes no memory.
+    pub(crate) fn idle(alloc: Global, kind: SockType) -> Desc
+        ensures { result ≡ world.AsSocket (idle_socket kind) }
+    {
+        Desc {
+            kind: Kind::Socket(Socket::idle(alloc, kind)),
+        }
+    }
+
+    /// A new socket that is connected to that one. It takes no memory.
+    pub(crate) fn connected(alloc: Global, kind: SockType, peer: Ino) -> Desc
+        ensures { result ≡ world.AsSocket (connected_socket kind peer) }
+    {
+        Desc {
+            kind: Kind::Socket(Socket::connected(alloc, kind, peer)),
+        }
+    }
+
+    /// The socket that it is.
+    pub fn socket(&self) -> Option<&Socket>
+        ensures { option_copied result ≡ socket_of self.now }
+    {
+        match &self.kind {
+            Kind::Plain => None,
+            Kind::Socket(socket) => Some(socket),
+        }
+    }
+
+    /// The socket that it was.
+    pub fn into_socket(self) -> Option<Socket>
+        ensures { result ≡ socket_of self }
+    {
+        let Desc { kind } = self;
+        let Kind::Socket(socket) = kind else {
+            return None;
+        };
+        Some(socket)
+    }
+
+    /// The peer is gone from now on. A plain file has none.
+    pub(crate) fn hang_up(&mut self)
+        ensures { self.new ≡ file_with (λ s. record s { state = state.HungUp }) self.old }
+    {
+        if let Kind::Socket(socket) = &mut self.kind {
+            socket.hang_up();
+        }
+    }
+
+    /// One message more, last in the queue; a plain file has none, and the message goes. On an
+    /// error nothing has changed.
+    pub(crate) fn push(&mut self, message: Message) -> Result<(), AllocError>
+        requires { length (queue_of self.old) < MAX_MESSAGES }
+        ensures ok { OnOk result (self.new ≡ file_with (λ s. record s { queue = s.queue ++ message ∷ [] }) self.old) }
+        ensures err { OnErr result (self.new ≡ self.old) }
+    {
+        match &mut self.kind {
+            Kind::Plain => Ok(()),
+            Kind::Socket(socket) => socket.push(message),
+        }
+    }
+
+    /// The first message taken off the queue. It takes no memory.
+    pub(crate) fn pop(&mut self) -> Option<Message>
+        ensures some { IfSome result (λ m. queue_of self.old ≡ m ∷ drop 1 (queue_of self.old)) }
+        ensures none { IfNone result (queue_of self.old ≡ []) }
+        ensures rest { self.new ≡ file_with (λ s. record s { queue = drop 1 s.queue }) self.old }
+    {
+        match &mut self.kind {
+            Kind::Plain => None,
+            Kind::Socket(socket) => socket.pop(),
+        }
+    }
+
+    /// All that it has to receive goes last into `into`; a plain file has nothing. It takes no
+    /// memory.
+    pub(crate) fn empty(&mut self, into: &mut LinkedList<Message>)
+        requires { length into.old + MAX_MESSAGES < 2 ^ 63 }
+        ensures emptied { self.new ≡ file_with (λ s. record s { queue = []; backlog = [] }) self.old }
+        ensures into { into.new ≡ into.old ++ queue_of self.old }
+        ensures held { contents self.old ≡ carried (queue_of self.old) }
+    {
+        if let Kind::Socket(socket) = &mut self.kind {
+            socket.empty(into);
+        }
+    }
+}

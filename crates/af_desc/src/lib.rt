@@ -1,0 +1,16 @@
+//! Open file descriptions: plain files and sockets with their queues, under inode numbers that are
+//! never used again.
+#![tactic(auto)]
+
+mod desc;
+mod files;
+mod message;
+mod socket;
+
+pub use desc::Desc;
+pub use files::Files;
+pub use message::Message;
+pub use socket::Socket;
+
+#[cfg(test)]
+mod tests;

@@ -1,0 +1,104 @@
+//! What no clause says: that ample memory is enough, and that a second trial is after a refusal.
+use crate::{Files, Message};
+use af_base::events::{SockType, State};
+use af_base::names::{Ino, Uid};
+use std::alloc::{AllocError, Global};
+use std::collections::LinkedList;
+use std::test::Fail;
+
+fn message(alloc: Global, attached: Ino) -> Result<Message, AllocError> {
+    let bytes = b"hi".to_vec(alloc)?;
+    let attached = vec![in alloc; attached]?;
+    Ok(Message::new(bytes, attached, Uid(1000)))
+}
+
+#[test]
+fn files_come_and_go(rt: HostRuntime) -> Result<(), Fail> {
+    let mut files = Files::new(rt.alloc());
+    assert!(rt; !files.is_full(1));
+    let plain = files.make_plain()?;
+    assert!(rt; files.remove(plain).is_some());
+    assert!(rt; !files.is_full(1));
+    let idle = files.make_sock(SockType::Seqpacket)?;
+    assert!(rt; idle != plain && files.get(plain).is_none());
+    assert!(rt; !files.is_full(2));
+    let (first, _) = files.make_two(SockType::Seqpacket)?;
+    assert_eq!(rt; files.next_after(idle), Some(first));
+    assert_eq!(rt; files.live(), 3);
+    assert_eq!(rt; files.next_ino(), 5);
+    Ok(())
+}
+
+#[test]
+#[tactic(auto, using(crate::proofs::Queues::room_in_second))]
+fn a_message_comes_and_goes(rt: HostRuntime) -> Result<(), Fail> {
+    let alloc = rt.alloc();
+    let mut files = Files::new(alloc);
+    assert!(rt; !files.is_full(2));
+    let (first, second) = files.make_two(SockType::Seqpacket)?;
+    files.push(second, message(alloc, first)?)?;
+    files.hang_up(second);
+    let file = files.get(second).ok_or("no file")?;
+    let socket = file.socket().ok_or("no socket")?;
+    assert_eq!(rt; socket.kind(), SockType::Seqpacket);
+    assert_eq!(rt; socket.state(), State::HungUp);
+    assert_eq!(rt; socket.messages(), 1);
+    assert_eq!(rt; socket.queue().len(), 1);
+    let waiting = socket.first().ok_or("no message")?;
+    assert_eq!(rt; waiting.attached(), [first].as_slice());
+    let message = files.pop(second).ok_or("no message")?;
+    assert_eq!(rt; message.user(), Uid(1000));
+    assert_eq!(rt; message.len(), 2);
+    assert_eq!(rt; message.into_bytes(1).as_slice(), b"h".as_slice());
+    let file = files.remove(second).ok_or("no file")?;
+    let socket = file.into_socket().ok_or("no socket")?;
+    assert!(rt; socket.into_messages().is_empty());
+    Ok(())
+}
+
+#[test]
+#[tactic(auto, using(crate::proofs::Queues::room_in_second))]
+fn a_queue_is_emptied(rt: HostRuntime) -> Result<(), Fail> {
+    let alloc = rt.alloc();
+    let mut files = Files::new(alloc);
+    assert!(rt; !files.is_full(2));
+    let (first, second) = files.make_two(SockType::Seqpacket)?;
+    files.push(second, message(alloc, first)?)?;
+    let mut pending = LinkedList::new(alloc);
+    files.empty(second, &mut pending);
+    assert_eq!(rt; pending.len(), 1);
+    assert!(rt; files.pop(second).is_none());
+    Ok(())
+}
+
+/// One allocation refused, the Nth, by `rt try --test --fail-alloc N`.
+#[test]
+fn one_file_refused(rt: HostRuntime) {
+    let mut files = Files::new(rt.alloc());
+    assert!(rt; !files.is_full(2));
+    if files.make_two(SockType::Seqpacket).is_err() {
+        assert_eq!(rt; files.live(), 0);
+        assert_eq!(rt; files.next_ino(), 1);
+        assert!(rt; !files.is_full(2));
+        assert!(rt; files.make_two(SockType::Seqpacket).is_ok());
+    }
+    assert_eq!(rt; files.live(), 2);
+    assert_eq!(rt; files.next_ino(), 3);
+}
+
+/// The same of a message.
+#[test]
+#[tactic(auto, using(crate::proofs::Queues::room_in_second))]
+fn one_message_refused(rt: HostRuntime) -> Result<(), Fail> {
+    let alloc = rt.alloc();
+    let mut files = Files::new(alloc);
+    assert!(rt; !files.is_full(2));
+    let (first, second) = files.make_two(SockType::Seqpacket)?;
+    let message = message(alloc, first)?;
+    if files.push(second, message).is_err() {
+        assert!(rt; files.pop(second).is_none());
+        return Ok(());
+    }
+    assert!(rt; files.pop(second).is_some());
+    Ok(())
+}

@@ -1,0 +1,215 @@
+-- What a place more and a place less do to each number: the laws that a crate above cites.
+use Rattle.std.proofs.Common.{◌≡◌, ℕ, ◌+◌, ◌<◌, Bool, true, false, cond, List, ◌++◌, ◌∷◌, [], ◌-◌, refl, sym, ap, ◌∙◌, subst, arith, rules}
+use Rattle.std.specs.Prelude.{Option, Some, None, nat_eq, unwrap_or, is_some, IsSome, IsTrue, if◌then◌else◌}
+use Rattle.std.specs.Cmp.{nat_cmp_total, unsigned_tied, nat_eq_equiv}
+use Rattle.std.specs.FinMap as map
+use Rattle.std.specs.FinMap.{get-insert, get-remove}
+use Rattle.std.specs.Map.{lookup, set_value, keys_of}
+use Rattle.std.specs.List.{list_any}
+use Rattle.std.specs.Option.{option_map_or}
+use Rattle.std.proofs.lemmas.Bool.{eqb-true, eq-eqb, false≢true}
+use Rattle.std.proofs.lemmas.Map.{lookup-set_value, keys-set_value}
+use Rattle.std.proofs.lemmas.Map.Made.{is_some-lookup}
+use Rattle.std.proofs.lemmas.List.{map-append}
+use Rattle.af_base.specs.World.{Map}
+use Rattle.af_base.specs.Counts.{one}
+use Rattle.af_ledger.specs.Counted.{uncounted, places_in, more, fewer, IsCounted}
+use Rattle.af_ledger.specs.Kept.{Kept, count_of, refs_of, charge_of, recharged, is_user, with_user, held, dropped, counted_less}
+use Rattle.af_ledger.specs.declared.count.Count.{Count}
+use Rattle.af_ledger.specs.declared.place.Place.{Place}
+use Rattle.af_ledger.specs.declared.place.Place.TheVariants.{Table, Queue}
+
+-- What a map has, or no place.
+abbrev found : Map Count → ℕ → Count
+found m f = unwrap_or (map.get m f) uncounted
+
+looked : (m : Map Count) (f g : ℕ) (c : Count) → found (map.insert m f c) g ≡ cond (nat_eq g f) c (found m g)
+looked m f g c = ap (λ o. unwrap_or o uncounted) (get-insert nat_cmp_total m f c g ∙ ap (λ b. cond b (Some c) (map.get m g)) (unsigned_tied g f)) ∙ by (nat_eq g f) where
+  by : (b : Bool) → unwrap_or (cond b (Some c) (map.get m g)) uncounted ≡ cond b c (found m g)
+  by true = refl
+  by false = refl
+
+gone : (m : Map Count) (f g : ℕ) → found (map.remove m f) g ≡ cond (nat_eq g f) uncounted (found m g)
+gone m f g = ap (λ o. unwrap_or o uncounted) (get-remove nat_cmp_total m f g ∙ ap (λ b. cond b None (map.get m g)) (unsigned_tied g f)) ∙ by (nat_eq g f) where
+  by : (b : Bool) → unwrap_or (cond b None (map.get m g)) uncounted ≡ cond b uncounted (found m g)
+  by true = refl
+  by false = refl
+
+-- A number F of f that rises by one, and of the others stays.
+rises : (F : Count → ℕ) (m : Map Count) (f g : ℕ) (c : Count) → F c ≡ F (found m f) + 1 → F (found (map.insert m f c) g) ≡ F (found m g) + one g f
+rises F m f g c h = ap F (looked m f g c) ∙ by (nat_eq g f) refl where
+  by : (b : Bool) → nat_eq g f ≡ b → F (cond b c (found m g)) ≡ F (found m g) + cond b 1 0
+  by true e = h ∙ ap (λ x. F (found m x) + 1) (sym (eqb-true g f e))
+  by false e = omega arith
+
+-- One that stays for all.
+stays : (F : Count → ℕ) (m : Map Count) (f g : ℕ) (c : Count) → F c ≡ F (found m f) → F (found (map.insert m f c) g) ≡ F (found m g)
+stays F m f g c h = ap F (looked m f g c) ∙ by (nat_eq g f) refl where
+  by : (b : Bool) → nat_eq g f ≡ b → F (cond b c (found m g)) ≡ F (found m g)
+  by true e = h ∙ ap (λ x. F (found m x)) (sym (eqb-true g f e))
+  by false e = refl
+
+-- One that falls by one, whether f is forgotten or not.
+falls : (F : Count → ℕ) (p : Place) (f g : ℕ) (k : Kept) → F (fewer p (count_of k f)) + 1 ≡ F (count_of k f) → (refs_of k f ≡ 1 → F uncounted + 1 ≡ F (count_of k f)) → F (found (counted_less p f k) g) + one g f ≡ F (count_of k g)
+falls F p f g k h last = by (nat_eq (refs_of k f) 1) refl where
+  here : (b : Bool) (c : Count) → F c + 1 ≡ F (count_of k f) → nat_eq g f ≡ b → F (cond b c (count_of k g)) + cond b 1 0 ≡ F (count_of k g)
+  here true c e s = e ∙ ap (λ x. F (count_of k x)) (sym (eqb-true g f s))
+  here false c e s = omega arith
+
+  by : (b : Bool) → nat_eq (refs_of k f) 1 ≡ b → F (found (cond b (map.remove k.counts f) (map.insert k.counts f (fewer p (count_of k f)))) g) + one g f ≡ F (count_of k g)
+  by true e = ap (λ x. F x + one g f) (gone k.counts f g) ∙ here (nat_eq g f) uncounted (last (eqb-true _ 1 e)) refl
+  by false e = ap (λ x. F x + one g f) (looked k.counts f g (fewer p (count_of k f))) ∙ here (nat_eq g f) (fewer p (count_of k f)) h refl
+
+-- One that stays for all, whether f is forgotten or not.
+remains : (F : Count → ℕ) (p : Place) (f g : ℕ) (k : Kept) → F (fewer p (count_of k f)) ≡ F (count_of k f) → (refs_of k f ≡ 1 → F uncounted ≡ F (count_of k f)) → F (found (counted_less p f k) g) ≡ F (count_of k g)
+remains F p f g k h last = by (nat_eq (refs_of k f) 1) refl where
+  here : (b : Bool) (c : Count) → F c ≡ F (count_of k f) → nat_eq g f ≡ b → F (cond b c (count_of k g)) ≡ F (count_of k g)
+  here true c e s = e ∙ ap (λ x. F (count_of k x)) (sym (eqb-true g f s))
+  here false c e s = refl
+
+  by : (b : Bool) → nat_eq (refs_of k f) 1 ≡ b → F (found (cond b (map.remove k.counts f) (map.insert k.counts f (fewer p (count_of k f)))) g) ≡ F (count_of k g)
+  by true e = ap F (gone k.counts f g) ∙ here (nat_eq g f) uncounted (last (eqb-true _ 1 e)) refl
+  by false e = ap F (looked k.counts f g (fewer p (count_of k f))) ∙ here (nat_eq g f) (fewer p (count_of k f)) h refl
+
+-- A place more of f is a reference more to f, and to no other file.
+pub refs-held : (p : Place) (f g : ℕ) (k : Kept) → refs_of (held p f k) g ≡ refs_of k g + one g f
+refs-held Table f g k = rises places_in k.counts f g (more Table (count_of k f)) (omega arith)
+refs-held (Queue u) f g k = rises places_in k.counts f g (more (Queue u) (count_of k f)) (omega arith)
+
+-- A number of a table more.
+pub tabled-tabled : (f g : ℕ) (k : Kept) → (count_of (held Table f k) g).tabled ≡ (count_of k g).tabled + one g f
+tabled-tabled f g k = rises (λ c. c.tabled) k.counts f g (more Table (count_of k f)) refl
+
+-- A number of a table more is no place in a queue.
+pub inflight-tabled : (f g : ℕ) (k : Kept) → (count_of (held Table f k) g).inflight ≡ (count_of k g).inflight
+inflight-tabled f g k = stays (λ c. c.inflight) k.counts f g (more Table (count_of k f)) refl
+
+-- A place in a queue more is no number of a table.
+pub tabled-queued : (u f g : ℕ) (k : Kept) → (count_of (held (Queue u) f k) g).tabled ≡ (count_of k g).tabled
+tabled-queued u f g k = stays (λ c. c.tabled) k.counts f g (more (Queue u) (count_of k f)) refl
+
+-- A place in a queue more.
+pub inflight-queued : (u f g : ℕ) (k : Kept) → (count_of (held (Queue u) f k) g).inflight ≡ (count_of k g).inflight + one g f
+inflight-queued u f g k = rises (λ c. c.inflight) k.counts f g (more (Queue u) (count_of k f)) refl
+
+-- The places that are left.
+left : (p : Place) (f g : ℕ) (k : Kept) → IsCounted p (count_of k f) → places_in (found (counted_less p f k) g) + one g f ≡ refs_of k g
+left p f g k some = falls places_in p f g k (by p some) (λ e. sym e) where
+  by : (p : Place) → IsCounted p (count_of k f) → places_in (fewer p (count_of k f)) + 1 ≡ refs_of k f
+  by Table h = omega arith
+  by (Queue u) h = omega arith
+
+-- A place less of f is a reference less to f, and to no other file.
+pub refs-dropped : (p : Place) (f g : ℕ) (k : Kept) → IsCounted p (count_of k f) → refs_of (dropped p f k) g + one g f ≡ refs_of k g
+refs-dropped Table f g k some = left Table f g k some
+refs-dropped (Queue u) f g k some = left (Queue u) f g k some
+
+-- Whether the place that goes is the last is seen before and after.
+pub last_left : (p : Place) (f : ℕ) (k new : Kept) → IsCounted p (count_of k f) → new.counts ≡ counted_less p f k → nat_eq (refs_of k f) 1 ≡ nat_eq (refs_of new f) 0
+last_left p f k new some e =
+    let here = sym (left p f f k some) ∙ ap (λ b. places_in (found (counted_less p f k) f) + cond b 1 0) (eq-eqb f f refl) in
+    same _ _ (here ∙ ap (λ m. places_in (found m f) + 1) (sym e)) where
+      same : (n m : ℕ) → n ≡ m + 1 → nat_eq n 1 ≡ nat_eq m 0
+      same n m e = grind arith
+
+-- A number of a table less.
+pub tabled-untabled : (f g : ℕ) (k : Kept) → 0 < (count_of k f).tabled → (count_of (dropped Table f k) g).tabled + one g f ≡ (count_of k g).tabled
+tabled-untabled f g k some = falls (λ c. c.tabled) Table f g k (omega arith) (λ e. omega arith)
+
+-- A number of a table less is no place in a queue.
+pub inflight-untabled : (f g : ℕ) (k : Kept) → 0 < (count_of k f).tabled → (count_of (dropped Table f k) g).inflight ≡ (count_of k g).inflight
+inflight-untabled f g k some = remains (λ c. c.inflight) Table f g k refl (λ e. omega arith)
+
+-- A place in a queue less is no number of a table.
+pub tabled-unqueued : (u f g : ℕ) (k : Kept) → 0 < (count_of k f).inflight → (count_of (dropped (Queue u) f k) g).tabled ≡ (count_of k g).tabled
+tabled-unqueued u f g k some = remains (λ c. c.tabled) (Queue u) f g k refl (λ e. omega arith)
+
+-- A place in a queue less.
+pub inflight-unqueued : (u f g : ℕ) (k : Kept) → 0 < (count_of k f).inflight → (count_of (dropped (Queue u) f k) g).inflight + one g f ≡ (count_of k g).inflight
+inflight-unqueued u f g k some = falls (λ c. c.inflight) (Queue u) f g k (omega arith) (λ e. omega arith)
+
+-- What a user is charged in this list.
+abbrev charge_in : List (ℕ × ℕ) → ℕ → ℕ
+charge_in us u = unwrap_or (lookup (nat_eq u) us) 0
+
+charge_set : (us : List (ℕ × ℕ)) (u v n m : ℕ) → lookup (nat_eq u) us ≡ Some n → charge_in (set_value (nat_eq u) us m) v ≡ cond (nat_eq u v) m (charge_in us v)
+charge_set us u v n m e =
+    ap (λ o. unwrap_or o 0) (lookup-set_value nat_eq_equiv (nat_eq u) (λ x y same. ap (λ z. nat_eq z y) (eqb-true u x same)) v m us (subst IsSome (sym e) (search rules))) ∙ by (nat_eq u v) where
+      by : (b : Bool) → unwrap_or (cond b (Some m) (lookup (nat_eq v) us)) 0 ≡ cond b m (charge_in us v)
+      by true = refl
+      by false = refl
+
+-- A place in a queue more is a unit more to its user, and to no other.
+pub charge-queued : (u f v : ℕ) (k : Kept) → IsTrue (is_user u k.users) → charge_of (held (Queue u) f k) v ≡ charge_of k v + one v u
+charge-queued u f v k there = by (lookup (nat_eq u) k.users) refl where
+  by : (o : Option ℕ) → lookup (nat_eq u) k.users ≡ o → charge_in (option_map_or (λ n. set_value (nat_eq u) k.users (n + 1)) o k.users) v ≡ charge_of k v + one v u
+  by None e = absurd (false≢true (subst IsTrue (sym (is_some-lookup (nat_eq u) k.users) ∙ ap is_some e) there))
+  by (Some n) e = charge_set k.users u v n (n + 1) e ∙ ap (λ b. cond b (n + 1) (charge_of k v)) (nat_eq_equiv.symm u v) ∙ at (nat_eq v u) refl where
+    at : (b : Bool) → nat_eq v u ≡ b → cond b (n + 1) (charge_of k v) ≡ charge_of k v + cond b 1 0
+    at true s = ap (λ o. unwrap_or o 0 + 1) (sym e ∙ ap (λ x. lookup (nat_eq x) k.users) (sym (eqb-true v u s)))
+    at false s = omega arith
+
+-- A place in a queue less is a unit less to its user, and to no other.
+pub charge-unqueued : (u f v : ℕ) (k : Kept) → 0 < charge_of k u → charge_of (dropped (Queue u) f k) v + one v u ≡ charge_of k v
+charge-unqueued u f v k some = by (lookup (nat_eq u) k.users) refl where
+  by : (o : Option ℕ) → lookup (nat_eq u) k.users ≡ o → charge_in (option_map_or (λ n. set_value (nat_eq u) k.users (n - 1)) o k.users) v + one v u ≡ charge_of k v
+  by None e = let none : charge_of k u ≡ 0 = ap (λ o. unwrap_or o 0) e in absurd (omega arith)
+  by (Some n) e =
+      let is : charge_of k u ≡ n = ap (λ o. unwrap_or o 0) e in
+      ap (λ c. c + one v u) (charge_set k.users u v n (n - 1) e ∙ ap (λ b. cond b (n - 1) (charge_of k v)) (nat_eq_equiv.symm u v)) ∙ at is (nat_eq v u) refl where
+        at : charge_of k u ≡ n → (b : Bool) → nat_eq v u ≡ b → cond b (n - 1) (charge_of k v) + cond b 1 0 ≡ charge_of k v
+        at is true s = let same : charge_of k v ≡ charge_of k u = ap (charge_of k) (eqb-true v u s) in omega arith
+        at is false s = omega arith
+
+-- A number of a table charges nobody.
+pub charge-tabled : (f v : ℕ) (k : Kept) → (charge_of (held Table f k) v ≡ charge_of k v) × (charge_of (dropped Table f k) v ≡ charge_of k v)
+charge-tabled f v k = (refl, refl)
+
+-- All that is charged goes by places in queues.
+pub total-queued : (u f : ℕ) (k : Kept) → (held (Queue u) f k).total ≡ k.total + 1
+total-queued u f k = refl
+
+pub total-unqueued : (u f : ℕ) (k : Kept) → 0 < k.total → (dropped (Queue u) f k).total + 1 ≡ k.total
+total-unqueued u f k some = omega arith
+
+pub total-tabled : (f : ℕ) (k : Kept) → ((held Table f k).total ≡ k.total) × ((dropped Table f k).total ≡ k.total)
+total-tabled f k = (refl, refl)
+
+keys-recharged : (g : ℕ → ℕ) (u : ℕ) (us : List (ℕ × ℕ)) → keys_of (recharged g u us) ≡ keys_of us
+keys-recharged g u us = by (lookup (nat_eq u) us) where
+  by : (o : Option ℕ) → keys_of (option_map_or (λ n. set_value (nat_eq u) us (g n)) o us) ≡ keys_of us
+  by None = refl
+  by (Some n) = keys-set_value (nat_eq u) us (g n)
+
+-- The users stay, and their order.
+pub users-held : (p : Place) (f : ℕ) (k : Kept) → keys_of (held p f k).users ≡ keys_of k.users
+users-held Table f k = refl
+users-held (Queue u) f k = keys-recharged (λ n. n + 1) u k.users
+
+pub users-dropped : (p : Place) (f : ℕ) (k : Kept) → keys_of (dropped p f k).users ≡ keys_of k.users
+users-dropped Table f k = refl
+users-dropped (Queue u) f k = keys-recharged (λ n. n - 1) u k.users
+
+-- A user more goes last, if it is new.
+pub users-added : (u : ℕ) (us : List (ℕ × ℕ)) → keys_of (with_user u us) ≡ (if list_any (nat_eq u) (keys_of us) then keys_of us else keys_of us ++ u ∷ [])
+users-added u us = by (is_user u us) where
+  by : (b : Bool) → keys_of (cond b us (us ++ (u, 0) ∷ [])) ≡ cond b (keys_of us) (keys_of us ++ u ∷ [])
+  by true = refl
+  by false = map-append (λ e. e.0) us ((u, 0) ∷ [])
+
+charge_last : (us : List (ℕ × ℕ)) (u v : ℕ) → charge_in (us ++ (u, 0) ∷ []) v ≡ charge_in us v
+charge_last [] u v = by (nat_eq v u) where
+  by : (b : Bool) → unwrap_or {T = ℕ} (cond b (Some 0) None) 0 ≡ 0
+  by true = refl
+  by false = refl
+charge_last (e ∷ us) u v = by (nat_eq v e.0) (charge_last us u v) where
+  by : (b : Bool) → charge_in (us ++ (u, 0) ∷ []) v ≡ charge_in us v → unwrap_or (cond b (Some e.1) (lookup (nat_eq v) (us ++ (u, 0) ∷ []))) 0 ≡ unwrap_or (cond b (Some e.1) (lookup (nat_eq v) us)) 0
+  by true h = refl
+  by false h = h
+
+-- And is charged nothing yet; the others are charged as before.
+pub charge-added : (u v : ℕ) (k : Kept) → charge_of (record k { users = with_user u k.users }) v ≡ charge_of k v
+charge-added u v k = by (is_user u k.users) where
+  by : (b : Bool) → charge_in (cond b k.users (k.users ++ (u, 0) ∷ [])) v ≡ charge_of k v
+  by true = refl
+  by false = charge_last k.users u v

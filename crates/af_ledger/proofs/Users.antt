@@ -1,0 +1,45 @@
+-- What changes of the hash map of the users do to their list.
+use Rattle.std.proofs.Common.{◌≡◌, ℕ, ◌+◌, ◌-◌, ◌<◌, Bool, true, false, List, [], ◌∷◌, ◌++◌, sym, ap, ◌∙◌, subst, cond}
+use Rattle.std.specs.Prelude.{Some, None, nat_eq, unwrap_or, is_some}
+use Rattle.std.specs.Map.{lookup, set_value}
+use Rattle.std.specs.Option.{option_map_or}
+use Rattle.indexmap.specs.IndexMap.{IndexMap, get, insert_entry}
+use Rattle.indexmap.proofs.CallerLemmas.{insert_entry-new}
+use Rattle.std.proofs.lemmas.Map.Made.{is_some-lookup}
+use Rattle.af_ledger.specs.Kept.{recharged, is_user, with_user}
+
+-- A charge that was looked up is low where the user's is.
+pub found_below : (us : List (ℕ × ℕ)) (u n b : ℕ) → Some n ≡ lookup (nat_eq u) us → unwrap_or (lookup (nat_eq u) us) 0 < b → n < b
+found_below us u n b e h = subst (λ o. unwrap_or o 0 < b) (sym e) h
+
+-- And high where the user's is.
+pub found_above : (us : List (ℕ × ℕ)) (u n b : ℕ) → Some n ≡ lookup (nat_eq u) us → b < unwrap_or (lookup (nat_eq u) us) 0 → b < n
+found_above us u n b e h = subst (λ o. b < unwrap_or o 0) (sym e) h
+
+-- A charge that was looked up is raised.
+pub raised : (us new : List (ℕ × ℕ)) (u n : ℕ) → Some n ≡ lookup (nat_eq u) us → new ≡ set_value (nat_eq u) us (n + 1) → new ≡ recharged (λ n. n + 1) u us
+raised us new u n e h = h ∙ ap (λ o. option_map_or (λ n. set_value (nat_eq u) us (n + 1)) o us) e
+
+-- Or lowered.
+pub lowered : (us new : List (ℕ × ℕ)) (u n : ℕ) → Some n ≡ lookup (nat_eq u) us → new ≡ set_value (nat_eq u) us (n - 1) → new ≡ recharged (λ n. n - 1) u us
+lowered us new u n e h = h ∙ ap (λ o. option_map_or (λ n. set_value (nat_eq u) us (n - 1)) o us) e
+
+-- A stranger's charge is not changed.
+pub stays : (g : ℕ → ℕ) (us : List (ℕ × ℕ)) (u : ℕ) → lookup (nat_eq u) us ≡ None → us ≡ recharged g u us
+stays g us u e = ap (λ o. option_map_or (λ n. set_value (nat_eq u) us (g n)) o us) (sym e)
+
+-- Who is looked up is a user.
+pub user_found : (us : List (ℕ × ℕ)) (u : ℕ) (b : Bool) → is_some (lookup (nat_eq u) us) ≡ b → is_user u us ≡ b
+user_found us u b e = sym (is_some-lookup (nat_eq u) us) ∙ e
+
+-- A user that is there stays.
+pub user_kept : (us : List (ℕ × ℕ)) (u : ℕ) → is_some (lookup (nat_eq u) us) ≡ true → us ≡ with_user u us
+user_kept us u e = ap (λ b. cond b us (us ++ (u, 0) ∷ [])) (sym (user_found us u true e))
+
+-- A new user goes last.
+pub user_added : {S : Type 0} (m : IndexMap ℕ ℕ S) (new : List (ℕ × ℕ)) (u : ℕ) → get nat_eq m u ≡ None → new ≡ insert_entry nat_eq m.entries u 0 → new ≡ with_user u m.entries
+user_added m new u none e =
+    e ∙ insert_entry-new nat_eq m u 0 none ∙ ap (λ b. cond b m.entries (m.entries ++ (u, 0) ∷ [])) (sym (user_found m.entries u false (ap is_some none)))
+
+-- What changes of the hash map do to the list.
+pub ruleset user_changes = (found_below, found_above, raised, lowered, stays, user_kept, user_added)

@@ -1,0 +1,82 @@
+-- What a ledger keeps, and how a place more or less changes it.
+use Rattle.std.specs.Prelude.{ℕ, ◌+◌, ◌-◌, ◌<◌, ◌^◌, Bool, IsTrue, List, [], ◌∷◌, ◌++◌, nat_eq, unwrap_or, if◌then◌else◌}
+use Rattle.std.specs.FinMap as map
+use Rattle.std.specs.List.{list_any}
+use Rattle.std.specs.Map.{lookup, keys_of, set_value}
+use Rattle.std.specs.Option.{option_map_or}
+use Rattle.af_base.specs.World.{Map}
+use Rattle.af_ledger.specs.Counted.{uncounted, places_in, more, fewer, IsCountable, IsCounted}
+use Rattle.af_ledger.specs.declared.count.Count.{Count}
+use Rattle.af_ledger.specs.declared.place.Place.{Place}
+use Rattle.af_ledger.specs.declared.place.Place.TheVariants.{Table, Queue}
+
+-- The numbers of each file that a place holds, each user with what it is charged, in the order in which they came, what is charged to all together, and for how many further files there is room.
+pub record Kept : Type 0 where
+  pub counts : Map Count
+  pub users : List (ℕ × ℕ)
+  pub total : ℕ
+  pub room : ℕ
+
+-- The numbers of a file; all are 0 for a stranger.
+abbrev pub count_of : Kept → ℕ → Count
+count_of k f = unwrap_or (map.get k.counts f) uncounted
+
+-- How many places hold a file.
+abbrev pub refs_of : Kept → ℕ → ℕ
+refs_of k f = places_in (count_of k f)
+
+-- What a user is charged; 0 for a stranger.
+abbrev pub charge_of : Kept → ℕ → ℕ
+charge_of k u = unwrap_or (lookup (nat_eq u) k.users) 0
+
+-- The users with another charge of u, if u is there.
+abbrev pub recharged : (ℕ → ℕ) → ℕ → List (ℕ × ℕ) → List (ℕ × ℕ)
+recharged g u us = option_map_or (λ n. set_value (nat_eq u) us (g n)) (lookup (nat_eq u) us) us
+
+-- Whether the user is there.
+abbrev pub is_user : ℕ → List (ℕ × ℕ) → Bool
+is_user u us = list_any (nat_eq u) (keys_of us)
+
+-- The users and u, last if it is new, and then with no charge.
+abbrev pub with_user : ℕ → List (ℕ × ℕ) → List (ℕ × ℕ)
+with_user u us = if is_user u us then us else us ++ (u, 0) ∷ []
+
+-- One unit of charge more.
+abbrev pub charged_more : Place → Kept → Kept
+charged_more Table k = k
+charged_more (Queue u) k = record k { users = recharged (λ n. n + 1) u k.users; total = k.total + 1 }
+
+-- One unit of charge less.
+abbrev pub charged_less : Place → Kept → Kept
+charged_less Table k = k
+charged_less (Queue u) k = record k { users = recharged (λ n. n - 1) u k.users; total = k.total - 1 }
+
+-- One place more holds f.
+abbrev pub held : Place → ℕ → Kept → Kept
+held p f k = charged_more p (record k { counts = map.insert k.counts f (more p (count_of k f)) })
+
+-- The counts after one place less holds f: after the last f is forgotten.
+abbrev pub counted_less : Place → ℕ → Kept → Map Count
+counted_less p f k = if nat_eq (refs_of k f) 1 then map.remove k.counts f else map.insert k.counts f (fewer p (count_of k f))
+
+-- One place less holds f.
+abbrev pub dropped : Place → ℕ → Kept → Kept
+dropped p f k = charged_less p (record k { counts = counted_less p f k })
+
+-- Who is charged is a user, and the charges are low enough for one unit more.
+abbrev pub IsChargeable : Place → Kept → Type 0
+IsChargeable Table k = Unit {0}
+IsChargeable (Queue u) k = IsTrue (is_user u k.users) × (charge_of k u < 2 ^ 63) × (k.total < 2 ^ 63)
+
+-- The unit is charged.
+abbrev pub IsCharged : Place → Kept → Type 0
+IsCharged Table k = Unit {0}
+IsCharged (Queue u) k = (0 < charge_of k u) × (0 < k.total)
+
+-- A place more of f can be counted and charged.
+abbrev pub CanHold : Place → ℕ → Kept → Type 0
+CanHold p f k = IsCountable p (count_of k f) × IsChargeable p k
+
+-- A place of f is counted and charged.
+abbrev pub CanDrop : Place → ℕ → Kept → Type 0
+CanDrop p f k = IsCounted p (count_of k f) × IsCharged p k

@@ -1,0 +1,54 @@
+//! What is kept of one file.
+ghost use Rattle.std.specs.Prelude.{◌≡◌, ◌+◌};
+ghost use Rattle.af_ledger.specs.Counted.{uncounted, more, fewer, places_in, IsCountable, IsCounted};
+
+use crate::place::Place;
+
+/// How many places hold a file: one number for each kind of place. Each kind has far fewer than
+/// 2^31 places at once, so that the numbers are short.
+#[derive(Clone, Copy, Debug, PartialEq, Eq)]
+pub struct Count {
+    pub tabled: u32,
+    pub inflight: u32,
+}
+
+impl Count {
+    /// No place.
+    pub(crate) fn none() -> Count
+        ensures { result ≡ uncounted }
+    {
+        Count {
+            tabled: 0,
+            inflight: 0,
+        }
+    }
+
+    /// All places.
+    pub(crate) fn places(self) -> u64
+        ensures { result ≡ places_in self }
+    {
+        u64::from(self.tabled) + u64::from(self.inflight)
+    }
+
+    /// One place more.
+    pub(crate) fn add(&mut self, place: &Place)
+        requires { IsCountable place.now self.old }
+        ensures { self.new ≡ more place.now self.old }
+    {
+        match place {
+            Place::Table => self.tabled += 1,
+            Place::Queue(_) => self.inflight += 1,
+        }
+    }
+
+    /// One place less.
+    pub(crate) fn sub(&mut self, place: &Place)
+        requires { IsCounted place.now self.old }
+        ensures { self.new ≡ fewer place.now self.old }
+    {
+        match place {
+            Place::Table => self.tabled -= 1,
+            Place::Queue(_) => self.inflight -= 1,
+        }
+    }
+}

@@ -1,0 +1,55 @@
+//! What no clause says: that ample memory is enough, and that a second trial is after a refusal.
+use crate::{Ledger, Place};
+use af_base::errno::Errno;
+use af_base::names::{Ino, Uid};
+use std::test::Fail;
+
+#[test]
+fn a_file_comes_and_goes(rt: HostRuntime) -> Result<(), Fail> {
+    let mut ledger = Ledger::new(rt.alloc());
+    let (user, file) = (Uid(1000), Ino(1));
+    ledger.add_user(user)?;
+    ledger.reserve(1)?;
+    ledger.hold(Place::Queue(user), file);
+    assert_eq!(rt; ledger.tabled(file), 0);
+    ledger.hold(Place::Table, file);
+    assert_eq!(rt; ledger.refs(file), 2);
+    assert_eq!(rt; ledger.tabled(file), 1);
+    assert!(rt; !ledger.drop_one(Place::Table, file));
+    assert_eq!(rt; ledger.inflight(file), 1);
+    assert_eq!(rt; ledger.charged(user), 1);
+    assert_eq!(rt; ledger.total(), 1);
+    assert!(rt; ledger.drop_one(Place::Queue(user), file));
+    assert_eq!(rt; ledger.refs(file), 0);
+    Ok(())
+}
+
+#[test]
+fn a_user_may_send(rt: HostRuntime) -> Result<(), Fail> {
+    let mut ledger = Ledger::new(rt.alloc());
+    let (first, second) = (Uid(1000), Uid(7));
+    ledger.add_user(first)?;
+    ledger.add_user(second)?;
+    ledger.add_user(first)?;
+    assert_eq!(rt; ledger.user_at(1), Some(second));
+    assert_eq!(rt; ledger.user_at(2), None);
+    assert!(rt; ledger.may_send(first, 0, false, 1_048_576).is_ok());
+    assert!(rt; ledger.may_send(first, 0, true, 1_048_577) == Err(Errno::ENOBUFS));
+    Ok(())
+}
+
+/// One allocation refused, the Nth, by `rt try --test --fail-alloc N`.
+#[test]
+fn one_refused(rt: HostRuntime) {
+    let mut ledger = Ledger::new(rt.alloc());
+    let user = Uid(1000);
+    if ledger.add_user(user).is_err() {
+        assert!(rt; ledger.user_at(0).is_none());
+        assert!(rt; ledger.add_user(user).is_ok());
+    }
+    if ledger.reserve(1).is_err() {
+        assert!(rt; ledger.reserve(1).is_ok());
+    }
+    assert_eq!(rt; ledger.user_at(0), Some(user));
+    assert_eq!(rt; ledger.user_at(1), None);
+}

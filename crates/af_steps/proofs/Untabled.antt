@@ -1,0 +1,86 @@
+-- Tables with a number less.
+use Rattle.std.proofs.Common.{◌≡◌, ◌<◌, ◌≤◌, ℕ, ◌+◌, Bool, true, false, ◌⊎◌, inl, inr, refl, sym, ap, ◌∙◌, subst, cond, nat_eq, arith}
+use Rattle.std.specs.Prelude.{Option, Some, None, option_map}
+use Rattle.std.specs.Option.{option_map_or}
+use Rattle.std.specs.Ordering.{nat_cmp, eq_by_cmp}
+use Rattle.std.specs.Cmp.{nat_cmp_total, unsigned_tied}
+use Rattle.std.specs.FinMap as map
+use Rattle.std.proofs.lemmas.Bool.{cases_lt}
+use Rattle.std.specs.FinMap.{nat_cmp-IsAntisymmetric}
+use Rattle.af_base.specs.World.{Map, Process, World}
+use Rattle.af_base.specs.Places.{table_at}
+use Rattle.af_base.specs.Changes.{change_at, remove_process, uninstall}
+use Rattle.af_base.specs.Unheld.{without}
+use Rattle.af_base.proofs.Lookups.{itself, none_some, not_same, remove-here, remove-other, same_or_not, told_apart}
+use Rattle.af_base.proofs.Moved.{there-table}
+use Rattle.af_base.proofs.Stepping.{get-change_at}
+use Rattle.af_base.proofs.Trees.{insert_same}
+use Rattle.af_steps.specs.Dropping.{Sheds}
+
+-- What is not there need not be removed.
+remove-none : {X : Type 0} (m : Map X) (k : ℕ) → map.get m k ≡ None → map.remove m k ≡ m
+remove-none m k none = map.same_map nat_cmp_total nat_cmp-IsAntisymmetric _ _ (λ q. elim (same_or_not q k) [
+  | inl e ↦ ap (map.get (map.remove m k)) e ∙ remove-here m k ∙ sym (ap (map.get m) e ∙ none)
+  | inr a ↦ remove-other m k q a
+])
+
+-- A free number need not be given up.
+pub uninstall-free : (w : World) (p n : ℕ) → table_at w p n ≡ None → uninstall w p n ≡ w
+uninstall-free w p n free = by (map.get w.processes p) refl where
+  changed : Option Process → World
+  changed o = record w { processes = option_map_or (λ q. map.insert w.processes p (record q { table = map.remove q.table n })) o w.processes }
+
+  by : (o : Option Process) → map.get w.processes p ≡ o → uninstall w p n ≡ w
+  by None e = ap changed e
+  by (Some q) e =
+      let table = remove-none q.table n (sym (there-table w p n q e) ∙ free) in
+      ap changed e ∙ ap (λ t. record w { processes = map.insert w.processes p (record q { table = t }) }) table ∙ ap (λ m. record w { processes = m }) (insert_same w.processes p q e)
+
+-- What the numbers of a process stand for, after one was given up.
+pub table-uninstall : (w : World) (p n m : ℕ) → table_at (uninstall w p n) p m ≡ cond (nat_eq m n) None (table_at w p m)
+table-uninstall w p n m =
+    ap (λ (o : Option Process). option_map_or (λ q. map.get q.table m) o None) (get-change_at less w.processes p p)
+    ∙ ap (λ (b : Bool). option_map_or (λ (q : Process). map.get q.table m) (option_map {T = Process} {U = Process} (λ q. cond b (less q) q) (map.get w.processes p)) None) (unsigned_tied p p ∙ itself p)
+    ∙ by (map.get w.processes p) where
+      less : Process → Process
+      less q = record q { table = map.remove q.table n }
+
+      by : (o : Option Process) → option_map_or (λ (q : Process). map.get q.table m) (option_map {T = Process} {U = Process} (λ q. less q) o) None ≡ cond (nat_eq m n) None (option_map_or (λ (q : Process). map.get q.table m) o None)
+      by None = nothing (nat_eq m n) where
+        nothing : (b : Bool) → ◌≡◌ {A = Option ℕ} None (cond b None None)
+        nothing true = refl
+        nothing false = refl
+      by (Some q) = map.get-remove nat_cmp_total q.table n m ∙ ap (λ b. cond b None (map.get q.table m)) (unsigned_tied m n)
+
+-- Files that went change no table.
+pub sheds-table : (old new : World) → Sheds old new → (p n : ℕ) → table_at new p n ≡ table_at old p n
+sheds-table old new h p n = elim h [
+  | inl same ↦ ap (λ w. table_at w p n) same
+  | inr gone ↦ ap (λ w. table_at w p n) gone.3
+]
+
+-- Without the process the number does not matter.
+pub removed-uninstall : (w : World) (p n : ℕ) → remove_process (uninstall w p n) p ≡ remove_process w p
+removed-uninstall w p n = ap (λ m. record w { processes = m }) (map.same_map nat_cmp_total nat_cmp-IsAntisymmetric _ _ (λ r. elim (same_or_not r p) [
+  | inl e ↦ ap (map.get (map.remove changed p)) e ∙ remove-here changed p ∙ sym (ap (map.get (map.remove w.processes p)) e ∙ remove-here w.processes p)
+  | inr a ↦ remove-other changed p r a ∙ get-change_at g w.processes p r ∙ ap (λ b. option_map (λ q. cond b (g q) q) (map.get w.processes r)) (unsigned_tied r p ∙ a) ∙ kept (map.get w.processes r) ∙ sym (remove-other w.processes p r a)
+])) where
+  g : Process → Process
+  g q = record q { table = map.remove q.table n }
+
+  changed : Map Process
+  changed = change_at g w.processes p
+
+  kept : (o : Option Process) → option_map (λ q. q) o ≡ o
+  kept None = refl
+  kept (Some q) = refl
+
+-- Below the next number none is left, where none was below this one, none between, and this one was given up.
+pub none-below : (w : World) (p from n : ℕ) → ((q : ℕ) → q < from → table_at w p q ≡ None) → ((q : ℕ) → from ≤ q → q < n → table_at w p q ≡ None) → (q : ℕ) → q < n + 1 → table_at (uninstall w p n) p q ≡ None
+none-below w p from n below between q low = table-uninstall w p n q ∙ by (nat_eq q n) refl where
+  by : (b : Bool) → nat_eq q n ≡ b → cond b None (table_at w p q) ≡ None
+  by true e = refl
+  by false e = elim (cases_lt q from) [
+    | inl under ↦ below q under
+    | inr past ↦ between q past (elim (cases_lt q n) [ inl under ↦ under | inr over ↦ absurd (not_same q n e (omega (arith, low, over))) ])
+  ]

@@ -1,0 +1,12 @@
+use Rattle.std.proofs.Common.{◌+◌, length}
+use Rattle.af_base.specs.World.{World}
+use Rattle.af_base.specs.Release.{messages_in}
+use Rattle.af_base.specs.Unheld.{Settles}
+use Rattle.af_steps.specs.Agreement.{IsSteady}
+use Rattle.af_steps.proofs.store.Store.release.Given as goal
+
+abbrev pub invariant-loop-message : goal.invariant-loop-message
+invariant-loop-message l = IsSteady l.self.world l.self.pending l.self.kept × ((end : World) → Settles l.self.world end → Settles l.fn.self.world end)
+
+abbrev pub decreases-loop-message : goal.decreases-loop-message
+decreases-loop-message l = messages_in l.self.world + length l.self.pending

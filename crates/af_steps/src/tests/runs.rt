@@ -1,0 +1,27 @@
+//! A run: one reply for each event.
+use super::bench::{close, pair, spawn};
+use crate::Engine;
+use af_base::errno::Errno;
+use af_base::events::{Event, Reply};
+use af_base::names::{Fd, Pid};
+use std::test::Fail;
+
+#[test]
+fn one_reply_for_each_event(rt: HostRuntime) -> Result<(), Fail> {
+    let alloc = rt.alloc();
+    let mut engine = Engine::new(alloc)?;
+    let events = vec![in alloc; spawn(16), pair(1), close(1, 0), close(1, 0), Event::Pass]?;
+    let replies = engine.run(&events).map_err(|_| "stopped")?;
+    let wanted = vec![in alloc;
+        Reply::Pid(Pid(1)),
+        Reply::Fds(Fd(0), Fd(1)),
+        Reply::Ok,
+        Reply::Refused(Errno::EBADF),
+        Reply::Done {
+            pass: 1,
+            reclaimed: 0
+        },
+    ]?;
+    assert!(rt; replies == wanted);
+    Ok(())
+}

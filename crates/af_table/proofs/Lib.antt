@@ -1,0 +1,7 @@
+pub mod Words
+pub mod Tables
+pub mod Left
+pub mod Parts
+pub mod Spawned
+pub mod Pids
+pub mod Numbers

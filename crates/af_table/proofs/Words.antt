@@ -1,0 +1,136 @@
+-- What setting, clearing and finding a bit does to bits in words of 64.
+use Rattle.std.proofs.Common.{◌≡◌, ◌≢◌, ℕ, ◌+◌, ◌-◌, ◌*◌, ◌/◌, ◌%◌, ◌^◌, ◌<◌, ◌≤◌, zero, suc, min, Bool, true, false, cond, List, length, refl, sym, ap, subst, ◌∙◌, arith, bit_and, bit_or, w64}
+use Rattle.std.specs.Prelude.{Option, Some, None, IfSome, nat_eq, nat_lt, not, slice_index, slice_index_or, slice_set}
+use Rattle.std.specs.Int.{bit_at, trailing_zeros}
+use Rattle.std.proofs.lemmas.Bool.{eqb-true, eqb-false, ltb-true, ltb-false}
+use Rattle.std.proofs.lemmas.List.{get_or-set_same, get_or-set_other}
+use Rattle.std.proofs.lemmas.Grind.{get_or-set_at}
+use Rattle.std.proofs.lemmas.Nat.{and_le_l}
+use Rattle.std.proofs.lemmas.Nat.Bits.{bit_at-zero, bit_at-lt, bit_at_and, bit_at_not, bit_at_set_same, bit_at_set_other, bit_at_clear_same, bit_at_clear_other, bit_at-trailing_zeros, bit_at_mask_inside, bit_at_mask_below, ones_shl}
+use Rattle.af_table.specs.Bits.{is_set, is_taken, IsPlace, HasNoPlace}
+
+same_number : (q n : ℕ) → q / 64 ≡ n / 64 → q % 64 ≡ n % 64 → q ≡ n
+same_number q n e f = omega arith
+
+-- where two bits are the same, either both are set or none is
+same_bit : (a b : ℕ) → a ≡ b → nat_eq a 1 ≡ nat_eq b 1
+same_bit a b e = ap (λ x. nat_eq x 1) e
+
+module _ (ws : List ℕ) (n q x : ℕ) (long : n / 64 < length ws) where
+  -- a word is changed so that its bit n % 64 is b, and its others stay
+  changed_bit : (b : Bool) → is_set x (n % 64) ≡ b → ((i : ℕ) → i < 64 → i ≢ n % 64 → is_set x i ≡ is_set (slice_index ws (n / 64)) i) → is_taken (slice_set ws (n / 64) x) q ≡ cond (nat_eq q n) b (is_taken ws q)
+  changed_bit b here there = by (nat_eq q n) refl where
+    other : (r : Bool) → nat_eq (q / 64) (n / 64) ≡ r → (q ≡ n → ⊥) → is_taken (slice_set ws (n / 64) x) q ≡ is_taken ws q
+    other true e apart =
+        let word = eqb-true _ _ e in
+        ap (λ w. is_set w (q % 64)) (get_or-set_at ws (n / 64) (q / 64) x 0 word long)
+        ∙ there (q % 64) (omega arith) (λ r. apart (same_number q n word r)) ∙ ap (λ i. is_set (slice_index ws i) (q % 64)) (sym word)
+    other false e apart = ap (λ w. is_set w (q % 64)) (get_or-set_other ws (n / 64) (q / 64) x 0 (eqb-false _ _ e))
+
+    by : (r : Bool) → nat_eq q n ≡ r → is_taken (slice_set ws (n / 64) x) q ≡ cond r b (is_taken ws q)
+    by true e = ap (λ k. is_taken (slice_set ws (n / 64) x) k) (eqb-true q n e) ∙ ap (λ w. is_set w (n % 64)) (get_or-set_same ws (n / 64) x 0 long) ∙ here
+    by false e = other _ refl (eqb-false q n e)
+
+pub set_bit : (ws : List ℕ) (n q : ℕ) → n < 1024 → length ws ≡ 16 → is_taken (slice_set ws (n / 64) (bit_or (slice_index_or ws (n / 64) 0) (1 * 2 ^ (n % 64) % 18446744073709551616))) q ≡ cond (nat_eq q n) true (is_taken ws q)
+set_bit ws n q h l =
+    let low : n % 64 < 64 = omega arith in
+    changed_bit ws n q _ (omega arith) true (same_bit _ 1 (bit_at_set_same w64 (slice_index ws (n / 64)) (n % 64) low)) (λ i _ apart. same_bit _ _ (bit_at_set_other w64 (slice_index ws (n / 64)) (n % 64) low i apart))
+
+pub clear_bit : (ws : List ℕ) (n q : ℕ) → n < 1024 → length ws ≡ 16 → is_taken (slice_set ws (n / 64) (bit_and (slice_index_or ws (n / 64) 0) (18446744073709551615 - 1 * 2 ^ (n % 64) % 18446744073709551616))) q ≡ cond (nat_eq q n) false (is_taken ws q)
+clear_bit ws n q h l =
+    let low : n % 64 < 64 = omega arith in
+    changed_bit ws n q _ (omega arith) false (same_bit _ 0 (bit_at_clear_same w64 (slice_index ws (n / 64)) (n % 64) low)) (λ i small apart. same_bit _ _ (bit_at_clear_other w64 (slice_index ws (n / 64)) (n % 64) low i small apart))
+
+-- the word with its bits below k cleared
+abbrev pub high_of : ℕ → ℕ → ℕ
+high_of word k = bit_and word (18446744073709551615 * 2 ^ k % 18446744073709551616)
+
+high_bit : (word k i : ℕ) → k < 64 → bit_at (high_of word k) i ≡ min (bit_at word i) (bit_at (2 ^ 64 - 2 ^ k) i)
+high_bit word k i h = ap (λ m. bit_at (bit_and word m) i) (ones_shl 64 k (omega arith)) ∙ bit_at_and word (2 ^ 64 - 2 ^ k) i
+
+min_one : (b : ℕ) → b < 2 → min b 1 ≡ b
+min_one b h = omega arith
+
+min_zero : (b : ℕ) → min b 0 ≡ 0
+min_zero b = omega arith
+
+high_from : (word k i : ℕ) → k < 64 → k ≤ i → i < 64 → bit_at (high_of word k) i ≡ bit_at word i
+high_from word k i h le lt = high_bit word k i h ∙ ap (min (bit_at word i)) (bit_at_mask_inside k 64 i le lt) ∙ min_one (bit_at word i) (bit_at-lt word i)
+
+high_below : (word k i : ℕ) → k < 64 → i < k → bit_at (high_of word k) i ≡ 0
+high_below word k i h lt = high_bit word k i h ∙ ap (min (bit_at word i)) (bit_at_mask_below k 64 i lt) ∙ min_zero (bit_at word i)
+
+-- the lowest bit that is set there
+pub place_found : (word k : ℕ) → k < 64 → word < 2 ^ 64 → high_of word k ≢ 0 → IsPlace word k true (trailing_zeros w64 (high_of word k))
+place_found word k h fits some =
+    let b = bit_at-trailing_zeros w64 (high_of word k) (positive (high_of word k) some) (omega (arith, and_le_l word (18446744073709551615 * 2 ^ k % 18446744073709551616))) in
+    let above : k ≤ trailing_zeros w64 (high_of word k) = reached (trailing_zeros w64 (high_of word k)) (nat_lt (trailing_zeros w64 (high_of word k)) k) refl b.1 in
+    record {
+      found = same_bit _ 1 (sym (high_from word k (trailing_zeros w64 (high_of word k)) h above b.0) ∙ b.1);
+      low = b.0;
+      reached = above;
+      least = λ q le lt. same_bit _ 0 (sym (high_from word k q h le (let small = b.0 in omega arith)) ∙ b.2 q lt);
+    } where
+      positive : (n : ℕ) → n ≢ 0 → 0 < n
+      positive zero apart = absurd (apart refl)
+      positive (suc n) apart = omega arith
+
+      reached : (t : ℕ) (r : Bool) → nat_lt t k ≡ r → bit_at (high_of word k) t ≡ 1 → k ≤ t
+      reached t true e set = let no = sym set ∙ high_below word k t h (omega (arith, ltb-true t k e)) in absurd (omega arith)
+      reached t false e set = omega (arith, ltb-false t k e)
+
+pub place_none : (word k : ℕ) → k < 64 → high_of word k ≡ 0 → HasNoPlace word k true
+place_none word k h none = λ q le lt. same_bit (bit_at word q) 0 (sym (high_from word k q h le lt) ∙ ap (λ w. bit_at w q) none ∙ bit_at-zero q)
+
+turned : (b : ℕ) → b < 2 → nat_eq (1 - b) 1 ≡ not (nat_eq b 1)
+turned zero h = refl
+turned (suc zero) h = refl
+turned (suc (suc b)) h = absurd (omega arith)
+
+-- the complement of a word
+pub set_of_not : (word q : ℕ) → word < 2 ^ 64 → q < 64 → is_set (18446744073709551615 - word) q ≡ not (is_set word q)
+set_of_not word q fits h = same_bit _ _ (bit_at_not w64 word q fits h) ∙ turned (bit_at word q) (bit_at-lt word q)
+
+twice : (b : Bool) → not (not b) ≡ b
+twice true = refl
+twice false = refl
+
+-- a place whose bit is set in the complement has a clear one in the word
+place_of_not : (word k n : ℕ) → word < 2 ^ 64 → IsPlace (18446744073709551615 - word) k true n → IsPlace word k false n
+place_of_not word k n fits h = record {
+  found = sym (twice (is_set word n)) ∙ ap not (sym (set_of_not word n fits h.low) ∙ h.found);
+  low = h.low;
+  reached = h.reached;
+  least = λ q le lt. sym (twice (is_set word q)) ∙ ap not (sym (set_of_not word q fits (let low = h.low in omega arith)) ∙ h.least q le lt);
+}
+
+pub places_of_not : (word k : ℕ) (b : Bool) (o : Option ℕ) → b ≡ false → word < 2 ^ 64 → IfSome o (λ n. IsPlace (18446744073709551615 - word) k true n) → IfSome o (λ n. IsPlace word k b n)
+places_of_not word k b None e fits h = h
+places_of_not word k b (Some n) e fits h = subst (λ r. IsPlace word k r n) (sym e) (place_of_not word k n fits h)
+
+pub no_place_of_not : (word k : ℕ) → word < 2 ^ 64 → HasNoPlace (18446744073709551615 - word) k true → HasNoPlace word k false
+no_place_of_not word k fits h = λ q le lt. sym (twice (is_set word q)) ∙ ap not (sym (set_of_not word q fits lt) ∙ h q le lt)
+
+pub ruleset places = (place_found, place_none, places_of_not, no_place_of_not)
+
+-- a number in word i
+pub at_word : (ws : List ℕ) (i n : ℕ) → n < 64 → is_taken ws (64 * i + n) ≡ is_set (slice_index ws i) n
+at_word ws i n h = ap (λ j. is_set (slice_index ws j) ((64 * i + n) % 64)) (quotient i n h) ∙ ap (is_set (slice_index ws i)) (rest i n h) where
+  quotient : (i n : ℕ) → n < 64 → (64 * i + n) / 64 ≡ i
+  quotient i n h = omega arith
+
+  rest : (i n : ℕ) → n < 64 → (64 * i + n) % 64 ≡ n
+  rest i n h = omega arith
+
+-- what is so of the numbers below word i, and of those of word i below n, is so of the numbers below 64 * i + n
+pub more_words : (ws : List ℕ) (from i n : ℕ) (b : Bool) → n ≤ 64 → ((q : ℕ) → from ≤ q → q < 64 * i → is_taken ws q ≡ b) → ((q : ℕ) → from - 64 * i ≤ q → q < n → is_set (slice_index ws i) q ≡ b)
+    → (q : ℕ) → from ≤ q → q < 64 * i + n → is_taken ws q ≡ b
+more_words ws from i n b h below here q le lt = by (nat_lt q (64 * i)) refl where
+  back : (i q : ℕ) → 64 * i ≤ q → 64 * i + (q - 64 * i) ≡ q
+  back i q h = omega arith
+
+  by : (r : Bool) → nat_lt q (64 * i) ≡ r → is_taken ws q ≡ b
+  by true e = below q le (omega (arith, ltb-true q (64 * i) e))
+  by false e =
+      let above : 64 * i ≤ q = omega (arith, ltb-false q (64 * i) e) in
+      ap (is_taken ws) (sym (back i q above)) ∙ at_word ws i (q - 64 * i) (omega arith) ∙ here (q - 64 * i) (omega arith) (omega arith)

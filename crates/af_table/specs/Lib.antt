@@ -1,0 +1,4 @@
+pub mod Bits
+pub mod Slots
+pub mod Free
+pub mod Procs

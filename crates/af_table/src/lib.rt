@@ -1,0 +1,12 @@
+//! The processes, and what each of their numbers stands for.
+#![tactic(auto)]
+
+mod bits;
+mod listed;
+mod process;
+mod procs;
+
+pub use procs::{Procs, Who};
+
+#[cfg(test)]
+mod tests;

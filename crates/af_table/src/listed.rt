@@ -1,0 +1,60 @@
+//! Plain lists of the processes and of their open numbers: what a recount goes over.
+ghost use Rattle.std.specs.Prelude.{◌≡◌, ◌≤◌, IfOk, length};
+ghost use Rattle.std.specs.List.Sorted.{IsStrictlyIncreasing};
+ghost use Rattle.std.specs.FinMap as map;
+ghost use Rattle.af_base.specs.Bare.{bare_process};
+ghost use Rattle.af_base.specs.Listing.{process_of, IsRisingTable};
+ghost use Rattle.af_table.specs.Procs.{process_at};
+
+use crate::process::Process;
+use crate::procs::Procs;
+use af_base::limits::MAX_NOFILE;
+use af_base::listing::{ListedNumber, ListedTable};
+use af_base::names::{Fd, Pid};
+use std::alloc::{AllocError, Global};
+
+impl Process {
+    /// Its open numbers as a plain list, under this pid.
+    pub(crate) fn listed(&self, alloc: Global, pid: Pid) -> Result<ListedTable, AllocError>
+        ensures pid { IfOk result (λ t. t.pid ≡ pid) }
+        ensures shown { IfOk result (λ t. process_of t ≡ bare_process self.now.process) }
+        ensures rising { IfOk result IsRisingTable }
+        ensures few { IfOk result (λ t. length t.numbers.items ≤ MAX_NOFILE) }
+    {
+        let mut numbers = Vec::new(alloc);
+        for (number, slot) in self.slots.iter().enumerate() {
+            if let Some(ino) = *slot {
+                let fd = Fd(number as u32);
+                numbers.push(ListedNumber { fd, ino })?;
+            }
+        }
+        Ok(ListedTable { pid, numbers })
+    }
+}
+
+impl Procs {
+    /// The pids of all processes, rising. The list is all that it takes memory for.
+    pub fn pids(&self, alloc: Global) -> Result<Vec<Pid>, AllocError>
+        ensures all { IfOk result (λ pids. pids.items ≡ map.keys self.now.processes) }
+        ensures rising { IfOk result (λ pids. IsStrictlyIncreasing pids.items) }
+    {
+        let mut pids: Vec<Pid> = self.processes.keys().copied().collect(alloc)?;
+        pids.sort_unstable();
+        Ok(pids)
+    }
+
+    /// The open numbers of the process with what they stand for, as a plain list; a stranger has
+    /// none. The list is all that it takes memory for.
+    pub fn listed(&self, alloc: Global, pid: Pid) -> Result<ListedTable, AllocError>
+        ensures pid { IfOk result (λ t. t.pid ≡ pid) }
+        ensures shown { IfOk result (λ t. process_of t ≡ bare_process (process_at self.now pid)) }
+        ensures rising { IfOk result IsRisingTable }
+        ensures few { IfOk result (λ t. length t.numbers.items ≤ MAX_NOFILE) }
+    {
+        let Some(process) = self.find(pid) else {
+            let numbers = Vec::new(alloc);
+            return Ok(ListedTable { pid, numbers });
+        };
+        process.listed(alloc, pid)
+    }
+}

@@ -1,0 +1,219 @@
+//! A process with its table.
+ghost use Rattle.std.specs.Prelude.{◌≡◌, ℕ, ◌+◌, ◌≤◌, ◌<◌, [], ◌∷◌, length, slice_get, IfSome, IfNone, IfOk, OnOk, OnErr, IsOk};
+ghost use Rattle.std.specs.FinMap as map;
+ghost use Rattle.af_base.specs.Table.{free_numbers, lowest_free};
+ghost use Rattle.af_table.specs.Free.{free_from};
+ghost use Rattle.af_table.specs.Procs.{installed, taken_out, emptied};
+
+use crate::bits::Bits;
+use af_base::limits::MAX_NOFILE;
+use af_base::names::{Fd, Ino, Uid};
+use std::alloc::{AllocError, Global};
+use std::marker::Model;
+
+/// A process: slot n of its table says what number n stands for, and bit n whether it is open.
+/// The slots grow by `make_room` alone, so a number is taken into use without memory.
+#[derive(Drop)]
+pub struct Process {
+    user: Uid,
+    limit: u32,
+    privileged: bool,
+    pub(crate) slots: Vec<Option<Ino>>,
+    taken: Bits,
+}
+
+impl Model for Process {
+    ghost use Rattle.std.specs.Prelude.{◌≤◌, vec_len};
+    ghost use Rattle.std.specs.FinMap as map;
+    ghost use Rattle.std.specs.Coded.{codes};
+    ghost use Rattle.af_base.specs.declared.limits.TheConstants.{MAX_NOFILE};
+    ghost use Rattle.af_table.specs.Slots.{Held, table_of, AreTaken};
+
+    ghost Value = { Held };
+
+    ghost coded = { Prim.hlevel (codes, map.code) };
+
+    ghost view = { λ a. record { process = record { user = a.user; limit = a.limit; privileged = a.privileged; table = table_of a.slots.items }; row = vec_len a.slots } };
+
+    ghost invariant = { λ a. (vec_len a.slots ≤ 1024) × (a.limit ≤ MAX_NOFILE) × AreTaken a.taken.words a.slots.items };
+}
+
+impl Process {
+    /// A process with an empty table, and no room in it.
+    #[tactic(auto, using(crate::proofs::Tables::table_changes))]
+    pub fn new(alloc: Global, user: Uid, limit: u32, privileged: bool) -> Process
+        requires { limit ≤ MAX_NOFILE }
+        ensures { result ≡ record { process = record { user = user; limit = limit; privileged = privileged; table = map.empty }; row = 0 } }
+    {
+        Process {
+            user,
+            limit,
+            privileged,
+            slots: Vec::new(alloc),
+            taken: Bits::new(),
+        }
+    }
+
+    /// A process of the same user, with the same limit and privilege. Its table is empty, and has
+    /// as much room.
+    #[tactic(auto, using(crate::proofs::Tables::table_changes))]
+    pub fn child(&self, alloc: Global) -> Result<Process, AllocError>
+        ensures child { IfOk result (λ p. p ≡ record { process = emptied self.now.process; row = self.now.row }) }
+        ensures room { (n f : ℕ) → map.get self.now.process.table n ≡ Some f → n < self.now.row }
+    {
+        let slots = vec![in alloc; None; self.slots.len()]?;
+        Ok(Process {
+            user: self.user,
+            limit: self.limit,
+            privileged: self.privileged,
+            slots,
+            taken: Bits::new(),
+        })
+    }
+
+    /// Its user.
+    pub fn user(&self) -> Uid
+        ensures { result ≡ self.now.process.user }
+    {
+        self.user
+    }
+
+    /// Its limit on descriptors.
+    pub fn limit(&self) -> u32
+        ensures value { result ≡ self.now.process.limit }
+        ensures bound { result ≤ MAX_NOFILE }
+    {
+        self.limit
+    }
+
+    /// Whether it may have any number of descriptors in flight.
+    pub fn is_privileged(&self) -> bool
+        ensures { result ≡ self.now.process.privileged }
+    {
+        self.privileged
+    }
+
+    /// What the number stands for.
+    #[tactic(auto, using(crate::proofs::Tables::table_changes))]
+    pub fn lookup(&self, fd: Fd) -> Option<Ino>
+        ensures { result ≡ map.get self.now.process.table fd }
+    {
+        self.slots.get(fd.0 as usize).copied().flatten()
+    }
+
+    /// Room for each number below the limit.
+    #[tactic(auto, using(crate::proofs::Tables::table_changes))]
+    pub fn make_room(&mut self) -> Result<(), AllocError>
+        ensures process { self.new.process ≡ self.old.process }
+        ensures ok { OnOk result (self.old.process.limit ≤ self.new.row) }
+        ensures rows { self.old.row ≤ self.new.row }
+        ensures err { OnErr result (self.new ≡ self.old) }
+        ensures succeeds { self.old.process.limit ≤ self.old.row → IsOk result }
+    {
+        let limit = self.limit as usize;
+        if self.slots.len() >= limit {
+            return Ok(());
+        }
+        self.slots.resize(limit, None)
+    }
+
+    /// The number, for which there is room, stands for the file from now on.
+    #[tactic(auto, using(crate::proofs::Tables::table_changes))]
+    pub fn install(&mut self, fd: Fd, ino: Ino)
+        requires { fd < self.old.row }
+        ensures { self.new ≡ record self.old { process = installed fd ino self.old.process } }
+    {
+        self.slots[fd.0 as usize] = Some(ino);
+        self.taken.set(fd.0);
+    }
+
+    /// The number is free from now on. It answers what the number stood for.
+    #[tactic(auto, using(crate::proofs::Tables::table_changes))]
+    pub fn take_out(&mut self, fd: Fd) -> Option<Ino>
+        ensures value { result ≡ map.get self.old.process.table fd }
+        ensures taken { self.new ≡ record self.old { process = taken_out fd self.old.process } }
+    {
+        let slot = fd.0 as usize;
+        if slot >= self.slots.len() {
+            return None;
+        }
+        let was = self.slots[slot];
+        self.slots[slot] = None;
+        self.taken.clear(fd.0);
+        was
+    }
+
+    /// The least free number from this one on: the head of those that are left.
+    #[tactic(auto, using(crate::proofs::Left::free_changes))]
+    pub fn next_free(&self, from: u32) -> Option<Fd>
+        ensures some { IfSome result (λ n. free_from from self.now.process ≡ n ∷ free_from (n + 1) self.now.process) }
+        ensures none { IfNone result (free_from from self.now.process ≡ []) }
+        ensures low { IfSome result (λ n. n < MAX_NOFILE) }
+    {
+        let Some(n) = self.taken.next(from, false) else {
+            return None;
+        };
+        if n >= self.limit {
+            return None;
+        }
+        Some(Fd(n))
+    }
+
+    /// The lowest free number.
+    #[tactic(auto, using(crate::proofs::Left::free_lists))]
+    pub fn lowest(&self) -> Option<Fd>
+        ensures { result ≡ slice_get (free_numbers self.now.process) 0 }
+    {
+        self.next_free(0)
+    }
+
+    /// The two lowest free numbers, rising.
+    #[tactic(auto, using(crate::proofs::Left::free_lists))]
+    pub fn lowest_two(&self) -> Option<(Fd, Fd)>
+        ensures two { IfSome result (λ t. lowest_free 2 self.now.process ≡ t.0 ∷ t.1 ∷ []) }
+        ensures none { IfNone result (length (free_numbers self.now.process) < 2) }
+    {
+        let Some(first) = self.next_free(0) else {
+            return None;
+        };
+        let Some(second) = self.next_free(first.0 + 1) else {
+            return None;
+        };
+        Some((first, second))
+    }
+
+    /// The lowest free numbers, rising: so many, or all where there are fewer.
+    #[tactic(auto, using(crate::proofs::Left::free_lists))]
+    pub fn lowest_free(&self, alloc: Global, count: usize) -> Result<Vec<Fd>, AllocError>
+        ensures { IfOk result (λ fds. fds.items ≡ lowest_free count self.now.process) }
+    {
+        let mut fds = Vec::new(alloc);
+        let mut from = 0;
+        for _ in 0..count {
+            let Some(fd) = self.next_free(from) else {
+                return Ok(fds);
+            };
+            fds.push(fd)?;
+            from = fd.0 + 1;
+        }
+        Ok(fds)
+    }
+
+    /// The least open number from this one on, with what it stands for.
+    #[tactic(auto, using(crate::proofs::Tables::table_changes))]
+    pub fn next_open(&self, from: Fd) -> Option<(Fd, Ino)>
+        ensures open { IfSome result (λ e. map.get self.now.process.table e.0 ≡ Some e.1) }
+        ensures low { IfSome result (λ e. e.0 < MAX_NOFILE) }
+        ensures reached { IfSome result (λ e. from ≤ e.0) }
+        ensures least { IfSome result (λ e. (q : ℕ) → from ≤ q → q < e.0 → map.get self.now.process.table q ≡ None) }
+        ensures none { IfNone result ((q : ℕ) → from ≤ q → map.get self.now.process.table q ≡ None) }
+    {
+        let Some(n) = self.taken.next(from.0, true) else {
+            return None;
+        };
+        let Some(ino) = self.lookup(Fd(n)) else {
+            return None;
+        };
+        Some((Fd(n), ino))
+    }
+}

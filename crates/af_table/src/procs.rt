@@ -1,0 +1,296 @@
+//! The processes by number.
+ghost use Rattle.std.specs.Prelude.{◌≡◌, ℕ, ◌+◌, ◌≤◌, ◌<◌, [], ◌∷◌, length, slice_get, IsTrue, IfSome, IfNone, IfOk, OnOk, OnErr, OnSome, IsOk};
+ghost use Rattle.std.specs.FinMap as map;
+ghost use Rattle.af_base.specs.Changes.{change_at};
+ghost use Rattle.af_base.specs.Table.{free_numbers, lowest_free};
+ghost use Rattle.af_table.specs.Procs.{process_at, table_at, row_at, started, installed, taken_out, emptied};
+
+use crate::process::Process;
+use af_base::limits::{MAX_NOFILE, MAX_PID};
+use af_base::names::{Fd, Ino, Pid, Uid};
+use indexmap::IndexMap;
+use std::alloc::{AllocError, Global};
+use std::marker::Model;
+
+/// Whose a process is, its limit on descriptors, and whether it is privileged.
+#[derive(Clone, Copy, Debug, PartialEq, Eq)]
+pub struct Who {
+    pub user: Uid,
+    pub limit: u32,
+    pub privileged: bool,
+}
+
+/// The processes with their tables.
+#[derive(Drop)]
+pub struct Procs {
+    pub(crate) processes: IndexMap<Pid, Process>,
+    next_pid: u32,
+    alloc: Global,
+}
+
+impl Model for Procs {
+    ghost use Rattle.std.specs.FinMap as map;
+    ghost use Rattle.std.specs.HashMap.{spare};
+    ghost use Rattle.std.specs.Coded.{codes};
+    ghost use Rattle.af_table.specs.Procs as procs;
+    ghost use Rattle.af_table.specs.Procs.{processes_of, rows_of};
+
+    ghost Value = { procs.Procs };
+
+    ghost coded = { Prim.hlevel (codes, map.code) };
+
+    ghost view = { λ a. record { processes = processes_of a.processes.entries; rows = rows_of a.processes.entries; next_pid = a.next_pid; room = spare a.processes } };
+}
+
+impl Procs {
+    /// No process; pids begin at 1. It takes no memory.
+    #[tactic(auto, using(crate::proofs::Parts::part_changes))]
+    pub fn new(alloc: Global) -> Procs
+        ensures processes { result.processes ≡ map.empty }
+        ensures rows { result.rows ≡ map.empty }
+        ensures next { result.next_pid ≡ 1 }
+    {
+        Procs {
+            processes: IndexMap::new(alloc),
+            next_pid: 1,
+            alloc,
+        }
+    }
+
+    /// How many processes there are.
+    #[tactic(auto, using(crate::proofs::Parts::part_len))]
+    pub fn count(&self) -> usize
+        ensures { result ≡ map.len self.now.processes }
+    {
+        self.processes.len()
+    }
+
+    /// The pid that the next process gets.
+    pub fn next_pid(&self) -> Pid
+        ensures { result ≡ self.now.next_pid }
+    {
+        Pid(self.next_pid)
+    }
+
+    /// The process of that number.
+    #[tactic(auto, using(crate::proofs::Parts::part_changes))]
+    pub(crate) fn find(&self, pid: Pid) -> Option<&Process>
+        ensures there { IfSome result (λ p. map.get self.now.processes pid ≡ Some p.now.process) }
+        ensures row { IfSome result (λ p. map.get self.now.rows pid ≡ Some p.now.row) }
+        ensures none { IfNone result (map.get self.now.processes pid ≡ None) }
+    {
+        self.processes.get(&pid)
+    }
+
+    /// Whose the process is, its limit, and whether it is privileged; nothing of a stranger.
+    pub fn who(&self, pid: Pid) -> Option<Who>
+        ensures there { OnSome result (IsTrue (map.contains_key self.now.processes pid)) }
+        ensures user { IfSome result (λ w. w.user ≡ (process_at self.now pid).user) }
+        ensures limit { IfSome result (λ w. w.limit ≡ (process_at self.now pid).limit) }
+        ensures privileged { IfSome result (λ w. w.privileged ≡ (process_at self.now pid).privileged) }
+        ensures bound { IfSome result (λ w. w.limit ≤ MAX_NOFILE) }
+        ensures none { IfNone result (map.get self.now.processes pid ≡ None) }
+    {
+        let Some(process) = self.find(pid) else {
+            return None;
+        };
+        Some(Who {
+            user: process.user(),
+            limit: process.limit(),
+            privileged: process.is_privileged(),
+        })
+    }
+
+    /// What the number of the process stands for: nothing where it is free, or there is no such
+    /// process.
+    pub fn lookup(&self, pid: Pid, fd: Fd) -> Option<Ino>
+        ensures { result ≡ table_at self.now pid fd }
+    {
+        let Some(process) = self.find(pid) else {
+            return None;
+        };
+        process.lookup(fd)
+    }
+
+    /// The lowest free number of the process, if one below its limit is free (open(2)).
+    pub fn lowest(&self, pid: Pid) -> Option<Fd>
+        ensures { result ≡ slice_get (free_numbers (process_at self.now pid)) 0 }
+    {
+        let Some(process) = self.find(pid) else {
+            return None;
+        };
+        process.lowest()
+    }
+
+    /// The two lowest free numbers of the process, rising; nothing where it has not two.
+    pub fn lowest_two(&self, pid: Pid) -> Option<(Fd, Fd)>
+        ensures two { IfSome result (λ t. lowest_free 2 (process_at self.now pid) ≡ t.0 ∷ t.1 ∷ []) }
+        ensures none { IfNone result (length (free_numbers (process_at self.now pid)) < 2) }
+    {
+        let Some(process) = self.find(pid) else {
+            return None;
+        };
+        process.lowest_two()
+    }
+
+    /// The lowest free numbers of the process, rising: so many, or all where there are fewer. The
+    /// list is all that it takes memory for.
+    pub fn lowest_free(&self, alloc: Global, pid: Pid, count: usize) -> Result<Vec<Fd>, AllocError>
+        ensures { IfOk result (λ fds. fds.items ≡ lowest_free count (process_at self.now pid)) }
+    {
+        let Some(process) = self.find(pid) else {
+            return Ok(Vec::new(alloc));
+        };
+        process.lowest_free(alloc, count)
+    }
+
+    /// The least open number of the process from this one on, with what it stands for, if there is
+    /// one. To walk over all, go on behind each.
+    pub fn next_open(&self, pid: Pid, from: Fd) -> Option<(Fd, Ino)>
+        ensures open { IfSome result (λ e. table_at self.now pid e.0 ≡ Some e.1) }
+        ensures low { IfSome result (λ e. e.0 < MAX_NOFILE) }
+        ensures reached { IfSome result (λ e. from ≤ e.0) }
+        ensures least { IfSome result (λ e. (q : ℕ) → from ≤ q → q < e.0 → table_at self.now pid q ≡ None) }
+        ensures none { IfNone result ((q : ℕ) → from ≤ q → table_at self.now pid q ≡ None) }
+    {
+        let Some(process) = self.find(pid) else {
+            return None;
+        };
+        process.next_open(from)
+    }
+
+    /// Room for one process more, so that `spawn` needs no memory. Nothing else changes, also on an
+    /// error.
+    #[tactic(auto, using(crate::proofs::Parts::part_changes))]
+    pub fn room_to_spawn(&mut self) -> Result<(), AllocError>
+        ensures processes { self.new.processes ≡ self.old.processes }
+        ensures rows { self.new.rows ≡ self.old.rows }
+        ensures next { self.new.next_pid ≡ self.old.next_pid }
+        ensures ok { OnOk result (0 < self.new.room) }
+        ensures room { self.old.room ≤ self.new.room }
+        ensures succeeds { 0 < self.old.room → IsOk result }
+    {
+        self.processes.reserve(1)
+    }
+
+    /// The process gets the next pid. There is room for it.
+    #[tactic(auto, using(crate::proofs::Parts::part_changes))]
+    fn add(&mut self, process: Process) -> Pid
+        requires room { 0 < self.old.room }
+        requires next { self.old.next_pid ≤ MAX_PID }
+        ensures pid { result ≡ self.old.next_pid }
+        ensures next { self.new.next_pid ≡ self.old.next_pid + 1 }
+        ensures processes { self.new.processes ≡ map.insert self.old.processes self.old.next_pid process.process }
+        ensures rows { self.new.rows ≡ map.insert self.old.rows self.old.next_pid process.row }
+        ensures room { self.old.room ≤ self.new.room + 1 }
+    {
+        let pid = self.next_pid();
+        self.next_pid += 1;
+        self.processes.insert(pid, process).unwrap();
+        pid
+    }
+
+    /// One process more, for which there is room. Its table is empty, with no room in it: numbers
+    /// need `room_for` first. It takes no memory.
+    pub fn spawn(&mut self, user: Uid, limit: u32, privileged: bool) -> Pid
+        requires room { 0 < self.old.room }
+        requires limit { limit ≤ MAX_NOFILE }
+        requires next { self.old.next_pid ≤ MAX_PID }
+        ensures pid { result ≡ self.old.next_pid }
+        ensures next { self.new.next_pid ≡ self.old.next_pid + 1 }
+        ensures processes { self.new.processes ≡ map.insert self.old.processes self.old.next_pid (started user limit privileged) }
+        ensures rows { self.new.rows ≡ map.insert self.old.rows self.old.next_pid 0 }
+        ensures room { self.old.room ≤ self.new.room + 1 }
+    {
+        let process = Process::new(self.alloc, user, limit, privileged);
+        self.add(process)
+    }
+
+    /// A process more, for a fork: of the same user, with the same limit and privilege. Its table
+    /// is empty, with as much room as that of its parent, so that each number of the parent can be
+    /// installed in it. On an error nothing has changed, but that there may be room for more
+    /// processes.
+    pub fn copy_for_fork(&mut self, pid: Pid) -> Result<Pid, AllocError>
+        requires there { IsTrue (map.contains_key self.old.processes pid) }
+        requires next { self.old.next_pid ≤ MAX_PID }
+        ensures pid { IfOk result (λ child. child ≡ self.old.next_pid) }
+        ensures next { OnOk result (self.new.next_pid ≡ self.old.next_pid + 1) }
+        ensures processes { OnOk result (self.new.processes ≡ map.insert self.old.processes self.old.next_pid (emptied (process_at self.old pid))) }
+        ensures rows { OnOk result (self.new.rows ≡ map.insert self.old.rows self.old.next_pid (row_at self.old pid)) }
+        ensures room { OnOk result ((n f : ℕ) → table_at self.old pid n ≡ Some f → n < row_at self.new self.old.next_pid) }
+        ensures err { OnErr result (self.new ≡ record self.old { room = self.new.room }) }
+        ensures kept { OnErr result (self.old.room ≤ self.new.room) }
+    {
+        self.room_to_spawn()?;
+        let child = self.find(pid).unwrap().child(self.alloc)?;
+        Ok(self.add(child))
+    }
+
+    /// Room to install at every number of the process below its limit, where so many, and not none,
+    /// are to come. No process changes, and on an error nothing does.
+    #[tactic(auto, using(crate::proofs::Parts::room_changes))]
+    pub fn room_for(&mut self, pid: Pid, count: usize) -> Result<(), AllocError>
+        ensures processes { self.new.processes ≡ self.old.processes }
+        ensures next { self.new.next_pid ≡ self.old.next_pid }
+        ensures room { self.new.room ≡ self.old.room }
+        ensures ok { OnOk result (0 < count → (process_at self.old pid).limit ≤ row_at self.new pid) }
+        ensures rows { (q : ℕ) → row_at self.old q ≤ row_at self.new q }
+        ensures err { OnErr result (self.new.rows ≡ self.old.rows) }
+        ensures none { count ≡ 0 → IsOk result }
+        ensures unchanged { count ≡ 0 → self.new.rows ≡ self.old.rows }
+        ensures ready { (process_at self.old pid).limit ≤ row_at self.old pid → IsOk result }
+    {
+        if count == 0 {
+            return Ok(());
+        }
+        let Some(process) = self.processes.get_mut(&pid) else {
+            return Ok(());
+        };
+        process.make_room()
+    }
+
+    /// The number of the process, for which there is room, stands for the file from now on,
+    /// whatever it stood for. It takes no memory.
+    #[tactic(auto, using(crate::proofs::Parts::part_changes))]
+    pub fn install(&mut self, pid: Pid, fd: Fd, ino: Ino)
+        requires { fd < row_at self.old pid }
+        ensures processes { self.new.processes ≡ change_at (installed fd ino) self.old.processes pid }
+        ensures rows { self.new.rows ≡ self.old.rows }
+        ensures next { self.new.next_pid ≡ self.old.next_pid }
+        ensures room { self.new.room ≡ self.old.room }
+    {
+        let Some(process) = self.processes.get_mut(&pid) else {
+            return;
+        };
+        process.install(fd, ino);
+    }
+
+    /// The number of the process is free from now on. It answers what the number stood for, which
+    /// is nothing where it was free already. It takes no memory.
+    #[tactic(auto, using(crate::proofs::Parts::part_changes))]
+    pub fn take_out(&mut self, pid: Pid, fd: Fd) -> Option<Ino>
+        ensures value { result ≡ table_at self.old pid fd }
+        ensures processes { self.new.processes ≡ change_at (taken_out fd) self.old.processes pid }
+        ensures rows { self.new.rows ≡ self.old.rows }
+        ensures next { self.new.next_pid ≡ self.old.next_pid }
+        ensures room { self.new.room ≡ self.old.room }
+    {
+        let Some(process) = self.processes.get_mut(&pid) else {
+            return None;
+        };
+        process.take_out(fd)
+    }
+
+    /// The process is gone, and its pid is never given again. Its table is empty: no number of a
+    /// process goes but by `take_out`, and `next_open` tells which are left. It takes no memory.
+    #[tactic(auto, using(crate::proofs::Parts::part_changes))]
+    pub fn remove(&mut self, pid: Pid)
+        requires { (n : ℕ) → table_at self.old pid n ≡ None }
+        ensures processes { self.new.processes ≡ map.remove self.old.processes pid }
+        ensures rows { self.new.rows ≡ map.remove self.old.rows pid }
+        ensures next { self.new.next_pid ≡ self.old.next_pid }
+        ensures room { self.old.room ≤ self.new.room }
+    {
+        self.processes.swap_remove(&pid);
+    }
+}

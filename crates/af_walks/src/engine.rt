@@ -1,0 +1,167 @@
+//! What there is, and what goes after each event.
+
+use af_base::errno::Errno;
+use af_base::events::{Event, Reply, State};
+use af_base::limits::MAX_PASS;
+use af_base::names::{Fd, Ino, Pid, Uid};
+use std::alloc::{AllocError, Global};
+use std::collections::{BTreeMap, BTreeSet, VecDeque};
+
+/// A process, and what its open numbers stand for.
+#[derive(Drop)]
+pub struct Process {
+    pub user: Uid,
+    pub limit: u32,
+    pub privileged: bool,
+    pub table: BTreeMap<Fd, Ino>,
+}
+
+/// A message: its bytes, the files that travel with it, and who is charged for them.
+#[derive(Drop)]
+pub struct Message {
+    pub bytes: Vec<u8>,
+    pub attached: Vec<Ino>,
+    pub user: Uid,
+}
+
+/// An open file description: a socket with its state, or a plain file, which has none.
+#[derive(Drop)]
+pub struct File {
+    pub state: Option<State>,
+    /// What the socket has to receive, the oldest first.
+    pub queue: VecDeque<Message>,
+}
+
+impl File {
+    /// Whom the socket is connected to.
+    fn peer(&self) -> Option<Ino> {
+        match self.state {
+            Some(State::Connected(peer)) => Some(peer),
+            _ => None,
+        }
+    }
+}
+
+/// A machine that does one event after another.
+#[derive(Drop)]
+pub struct Engine {
+    pub(crate) alloc: Global,
+    pub(crate) processes: BTreeMap<Pid, Process>,
+    pub(crate) files: BTreeMap<Ino, File>,
+    pub(crate) next_pid: u32,
+    pub(crate) next_ino: u64,
+    /// The number of the last pass, 0 before the first.
+    pub(crate) last_pass: u64,
+}
+
+impl Engine {
+    /// An engine to which nothing has happened.
+    pub fn new(alloc: Global) -> Engine {
+        Engine {
+            alloc,
+            processes: BTreeMap::new(alloc),
+            files: BTreeMap::new(alloc),
+            next_pid: 1,
+            next_ino: 1,
+            last_pass: 0,
+        }
+    }
+
+    /// Does one event.
+    pub fn step(&mut self, event: &Event) -> Reply {
+        let answer = match event {
+            Event::Spawn {
+                uid,
+                nofile,
+                privileged,
+            } => self.spawn(*uid, *nofile, *privileged),
+            Event::Proc(pid, step) => self.step_of(*pid, step),
+            Event::Pass => self.pass(),
+        };
+        match answer {
+            Ok(reply) => {
+                self.settle();
+                reply
+            }
+            Err(errno) => Reply::Refused(errno),
+        }
+    }
+
+    /// Files that no place holds go, one by one, until there is none.
+    fn settle(&mut self) {
+        for _ in 0..self.files.len() {
+            let Some(ino) = self.unheld() else {
+                return;
+            };
+            self.drop_file(ino);
+        }
+    }
+
+    /// A file that no place holds.
+    fn unheld(&self) -> Option<Ino> {
+        self.files.keys().copied().find(|ino| self.refs(*ino) == 0)
+    }
+
+    /// A file goes with its queue, and its peer hangs up.
+    fn drop_file(&mut self, ino: Ino) {
+        let Some(file) = self.files.remove(&ino) else {
+            return;
+        };
+        if let Some(peer) = file.peer() {
+            self.hang_up(peer);
+        }
+    }
+
+    /// The peer of the socket is gone.
+    fn hang_up(&mut self, ino: Ino) {
+        if let Some(file) = self.files.get_mut(&ino) {
+            file.state = Some(State::HungUp);
+        }
+    }
+
+    /// A whole pass of the collector: the queues of all files that are not reached are emptied.
+    fn pass(&mut self) -> Result<Reply, Errno> {
+        let reached = self.reached().map_err(|_| Errno::ENOMEM)?;
+        let mut reclaimed: u64 = 0;
+        for (ino, file) in self.files.iter_mut() {
+            if reached.contains(ino) {
+                continue;
+            }
+            if file.state.is_some() {
+                reclaimed = reclaimed.saturating_add(1);
+            }
+            file.queue.clear();
+        }
+        self.last_pass = self.last_pass.saturating_add(1).min(MAX_PASS);
+        Ok(Reply::Done {
+            pass: self.last_pass,
+            reclaimed,
+        })
+    }
+
+    /// The files that a chain of queues leads to from a table.
+    fn reached(&self) -> Result<BTreeSet<Ino>, AllocError> {
+        let mut reached = BTreeSet::new(self.alloc);
+        let mut waiting = Vec::new(self.alloc);
+        for process in self.processes.values() {
+            for ino in process.table.values() {
+                waiting.push(*ino)?;
+            }
+        }
+        for _ in 0..usize::MAX {
+            let Some(ino) = waiting.pop() else {
+                break;
+            };
+            if !reached.insert(ino)? {
+                continue;
+            }
+            let Some(file) = self.files.get(&ino) else {
+                continue;
+            };
+            for message in &file.queue {
+                waiting.extend_from_slice(&message.attached)?;
+            }
+        }
+        Ok(reached)
+    }
+}

@@ -1,0 +1,163 @@
+//! A seeded source of events, most of which find what they name.
+use af_base::events::{Event, Reply, SockType, Step};
+use af_base::items::Items;
+use af_base::names::{Fd, Pid, Uid};
+use rand::rngs::SmallRng;
+use rand::seq::IndexedRandom;
+use rand::{RngExt, SeedableRng};
+use std::alloc::{AllocError, Global};
+
+/// What may be drawn. The more often it stands in a list, the more often it comes.
+#[derive(Clone, Copy, Drop)]
+pub enum Kind {
+    Spawn,
+    Open,
+    Dup,
+    Dup2,
+    Close,
+    Fork,
+    Exit,
+    Pair,
+    Send,
+    Recv,
+    Pass,
+}
+
+/// What events are drawn.
+#[derive(Clone, Copy, Drop)]
+pub struct Mix {
+    pub kinds: &'static [Kind],
+    /// The users are 0 to this one.
+    pub last_user: u32,
+    /// The limits on descriptors that processes get.
+    pub limits: &'static [u32],
+    /// The largest number of a descriptor that is named.
+    pub last_fd: u32,
+    /// So many processes at most live at once.
+    pub most_processes: usize,
+}
+
+/// A source of events.
+#[derive(Drop)]
+pub struct Source {
+    alloc: Global,
+    rng: SmallRng,
+    mix: Mix,
+    /// The processes that live.
+    pids: Vec<Pid>,
+}
+
+impl Source {
+    pub fn new(alloc: Global, seed: u64, mix: Mix) -> Source {
+        Source {
+            alloc,
+            rng: SmallRng::seed_from_u64(seed),
+            mix,
+            pids: Vec::new(alloc),
+        }
+    }
+
+    /// The next event. Where no process lives one starts, and where too many do one ends.
+    pub fn event(&mut self) -> Result<Event, AllocError> {
+        let drawn = self.mix.kinds.choose(&mut self.rng).copied();
+        let kind = if self.pids.is_empty() {
+            Kind::Spawn
+        } else if self.pids.len() > self.mix.most_processes {
+            Kind::Exit
+        } else {
+            drawn.unwrap_or(Kind::Pass)
+        };
+        let step = match kind {
+            Kind::Spawn => return Ok(self.spawn()),
+            Kind::Pass => return Ok(Event::Pass),
+            Kind::Open => Step::Open,
+            Kind::Dup => Step::Dup(self.fd()),
+            Kind::Dup2 => Step::Dup2(self.fd(), self.fd()),
+            Kind::Close => Step::Close(self.fd()),
+            Kind::Fork => Step::Fork,
+            Kind::Exit => Step::Exit,
+            Kind::Pair => Step::Pair(SockType::Seqpacket),
+            Kind::Send => self.send()?,
+            Kind::Recv => self.recv(),
+        };
+        Ok(Event::Proc(self.pid(), step))
+    }
+
+    /// Which processes live after this event.
+    pub fn note(&mut self, event: &Event, reply: &Reply) -> Result<(), AllocError> {
+        if let Reply::Pid(pid) = reply {
+            self.pids.push(*pid)?;
+        }
+        if let Event::Proc(pid, Step::Exit) = event {
+            self.pids.retain(|live| *live != *pid);
+        }
+        Ok(())
+    }
+
+    /// Whether a thing comes that is to come once in so many times.
+    fn is_rare(&mut self, times: u32) -> bool {
+        self.rng.random_range(..=times) == 0
+    }
+
+    /// A process that lives, and rarely one that does not.
+    fn pid(&mut self) -> Pid {
+        if self.is_rare(100) {
+            return Pid(0);
+        }
+        self.pids.choose(&mut self.rng).copied().unwrap_or(Pid(0))
+    }
+
+    fn fd(&mut self) -> Fd {
+        Fd(self.rng.random_range(..=self.mix.last_fd))
+    }
+
+    fn spawn(&mut self) -> Event {
+        let limit = self.mix.limits.choose(&mut self.rng).copied();
+        Event::Spawn {
+            uid: Uid(self.rng.random_range(..=self.mix.last_user)),
+            nofile: limit.unwrap_or(0),
+            privileged: self.is_rare(8),
+        }
+    }
+
+    /// Up to three bytes and three descriptors, and rarely about as many as a message may have.
+    fn send(&mut self) -> Result<Step, AllocError> {
+        let on = self.fd();
+        let length: usize = if self.is_rare(50) {
+            self.rng.random_range(65_535usize..=65_537)
+        } else {
+            self.rng.random_range(..=3usize)
+        };
+        let count: usize = if self.is_rare(200) {
+            self.rng.random_range(252usize..=254)
+        } else {
+            self.rng.random_range(..=3usize)
+        };
+        let same = self.fd();
+        let mut attach = Vec::new(self.alloc);
+        for _ in 0..count {
+            let fd = if count > 3 { same } else { self.fd() };
+            attach.push(fd)?;
+        }
+        let bytes = vec![in self.alloc; self.rng.random::<u8>(); length]?;
+        Ok(Step::Send {
+            on,
+            bytes: Items::of(bytes),
+            attach: Items::of(attach),
+        })
+    }
+
+    /// Up to four bytes and four descriptors, and rarely as many bytes as there may be, or one more.
+    fn recv(&mut self) -> Step {
+        let max_bytes = if self.is_rare(50) {
+            self.rng.random_range(65_536u32..=65_537)
+        } else {
+            self.rng.random_range(..=4u32)
+        };
+        Step::Recv {
+            on: self.fd(),
+            max_bytes,
+            max_fds: self.rng.random_range(..=4u32),
+        }
+    }
+}

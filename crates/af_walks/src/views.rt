@@ -1,0 +1,81 @@
+//! What can be seen: each count is a walk over all tables and queues.
+
+use crate::engine::Engine;
+use af_base::names::{Ino, Pid, Uid};
+use std::ops::Bound;
+
+impl Engine {
+    /// How many numbers of all tables stand for the file.
+    fn tabled(&self, ino: Ino) -> u64 {
+        let mut count: u64 = 0;
+        for process in self.processes.values() {
+            for held in process.table.values() {
+                if *held == ino {
+                    count = count.saturating_add(1);
+                }
+            }
+        }
+        count
+    }
+
+    /// How many places of all queues hold the file.
+    pub fn inflight(&self, ino: Ino) -> u64 {
+        let mut count: u64 = 0;
+        for file in self.files.values() {
+            for message in &file.queue {
+                for held in &message.attached {
+                    if *held == ino {
+                        count = count.saturating_add(1);
+                    }
+                }
+            }
+        }
+        count
+    }
+
+    /// How many places hold the file.
+    pub fn refs(&self, ino: Ino) -> u64 {
+        self.tabled(ino).saturating_add(self.inflight(ino))
+    }
+
+    /// How many places of all queues are charged to the user.
+    pub fn charged(&self, user: Uid) -> u64 {
+        let mut count: u64 = 0;
+        for file in self.files.values() {
+            for message in &file.queue {
+                if message.user == user {
+                    count = count.saturating_add(message.attached.len() as u64);
+                }
+            }
+        }
+        count
+    }
+
+    /// How many places all queues have.
+    pub fn total(&self) -> u64 {
+        let mut count: u64 = 0;
+        for file in self.files.values() {
+            for message in &file.queue {
+                count = count.saturating_add(message.attached.len() as u64);
+            }
+        }
+        count
+    }
+
+    /// How many files are live.
+    pub fn live(&self) -> usize {
+        self.files.len()
+    }
+
+    /// The least live file above that number.
+    pub fn next_after(&self, ino: Ino) -> Option<Ino> {
+        let mut above = self.files.range((Bound::Excluded(ino), Bound::Unbounded));
+        let (next, _) = above.next()?;
+        Some(*next)
+    }
+
+    /// The pid that the next process gets.
+    pub fn next_pid(&self) -> Pid {
+        Pid(self.next_pid)
+    }
+}

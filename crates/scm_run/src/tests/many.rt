@@ -1,0 +1,140 @@
+//! Scripts of many lines: limits, and a long chain.
+use super::plays::prints;
+use std::alloc::Global;
+use std::test::Fail;
+
+/// A script, and the text that it must print.
+#[derive(Drop)]
+struct Play {
+    script: String,
+    texts: String,
+}
+
+impl Play {
+    fn new(alloc: Global) -> Play {
+        Play {
+            script: String::new(alloc),
+            texts: String::new(alloc),
+        }
+    }
+
+    /// The line, and the text that it must have.
+    fn line(&mut self, line: &str, text: &str) -> Result<(), Fail> {
+        writeln!(self.script, "{line}")?;
+        writeln!(self.texts, "{text}")?;
+        Ok(())
+    }
+
+    /// So many processes with this limit.
+    fn spawns(&mut self, count: u32, nofile: u32) -> Result<(), Fail> {
+        for pid in 1..=count {
+            writeln!(self.script, "spawn 1000 {nofile}")?;
+            writeln!(self.texts, "pid {pid}")?;
+        }
+        Ok(())
+    }
+
+    /// A process with so many pairs at its lowest numbers, which may send as much as it likes.
+    fn pairs(&mut self, count: u32) -> Result<(), Fail> {
+        writeln!(self.script, "spawn 1000 {} priv", 2 * u64::from(count))?;
+        writeln!(self.texts, "pid 1")?;
+        for k in 0..u64::from(count) {
+            writeln!(self.script, "1 pair seqpacket")?;
+            writeln!(self.texts, "fds {} {}", 2 * k, 2 * k + 1)?;
+        }
+        Ok(())
+    }
+}
+
+#[test]
+fn processes_run_out(rt: HostRuntime) -> Result<(), Fail> {
+    let mut play = Play::new(rt.alloc());
+    play.spawns(1_024, 0)?;
+    play.line("spawn 1000 0", "EAGAIN")?;
+    play.line("spawn 1000 1025", "ERANGE")?;
+    play.line("1 fork", "EAGAIN")?;
+    play.line("1 exit", "ok")?;
+    play.line("2 fork", "pid 1025")?;
+    prints(&rt, play.script.as_bytes(), play.texts.as_bytes());
+    Ok(())
+}
+
+/// 64 numbers each for 1,023 processes, and 63 for another.
+#[test]
+fn a_pair_finds_one_file_free(rt: HostRuntime) -> Result<(), Fail> {
+    let mut play = Play::new(rt.alloc());
+    play.spawns(1_024, 66)?;
+    for pid in 1..=1_024 {
+        for fd in 0..64 {
+            writeln!(play.script, "{pid} open")?;
+            writeln!(play.texts, "fd {fd}")?;
+        }
+    }
+    play.line("1 pair seqpacket", "ENFILE")?;
+    play.line("1 close 0", "ok")?;
+    play.line("1 pair seqpacket", "ENFILE")?;
+    play.line("1 open", "fd 0")?;
+    play.line("1 open", "ENFILE")?;
+    prints(&rt, play.script.as_bytes(), play.texts.as_bytes());
+    Ok(())
+}
+
+#[test]
+fn a_full_queue(rt: HostRuntime) -> Result<(), Fail> {
+    let mut play = Play::new(rt.alloc());
+    play.pairs(1)?;
+    for _ in 0..64 {
+        play.line("1 send 0 m", "sent 1")?;
+    }
+    play.line("1 send 0 m", "EAGAIN")?;
+    play.line("1 recv 1 1 0", "got m")?;
+    play.line("1 send 0 m", "sent 1")?;
+    prints(&rt, play.script.as_bytes(), play.texts.as_bytes());
+    Ok(())
+}
+
+/// 64 queues full of messages with 253 descriptors each, and one with 48 of them and 144 more
+/// descriptors: 1,048,576 descriptors in flight.
+#[test]
+fn much_is_in_flight(rt: HostRuntime) -> Result<(), Fail> {
+    let mut play = Play::new(rt.alloc());
+    play.pairs(65)?;
+    for k in 0..4_144 {
+        writeln!(play.script, "1 send {} m 0*253", k / 64 * 2)?;
+        writeln!(play.texts, "sent 1")?;
+    }
+    play.line("1 send 128 m 0*144", "sent 1")?;
+    play.line("totals", "user 1000 inflight 1048576")?;
+    play.line("1 send 128 m 0", "ENOBUFS")?;
+    play.line("1 send 0 m 0", "ENOBUFS")?;
+    play.line("1 send 128 m", "sent 1")?;
+    play.line("1 exit", "ok")?;
+    play.line("check", "check ok live 0 garbage 0")?;
+    play.line("totals", "user 1000 inflight 0")?;
+    prints(&rt, play.script.as_bytes(), play.texts.as_bytes());
+    Ok(())
+}
+
+/// Each round puts both ends of the last pair into the queue of the next, so that one close drops
+/// a thousand queues. No bound is proved for the stack.
+#[test]
+fn a_long_chain(rt: HostRuntime) -> Result<(), Fail> {
+    let mut play = Play::new(rt.alloc());
+    play.line("spawn 1000 4 priv", "pid 1")?;
+    play.line("1 pair seqpacket", "fds 0 1")?;
+    let (mut old, mut new) = ((0, 1), (2, 3));
+    for _ in 0..1_000 {
+        writeln!(play.script, "1 pair seqpacket")?;
+        writeln!(play.script, "1 send {} a {} {}", new.1, old.0, old.1)?;
+        writeln!(play.script, "1 close {}\n1 close {}", old.0, old.1)?;
+        writeln!(play.texts, "fds {} {}\nsent 1\nok\nok", new.0, new.1)?;
+        (old, new) = (new, old);
+    }
+    play.line("check", "check ok live 2002 garbage 0")?;
+    writeln!(play.script, "1 close {}", old.0)?;
+    writeln!(play.texts, "ok")?;
+    play.line("check", "check ok live 1 garbage 0")?;
+    play.line("totals", "user 1000 inflight 0")?;
+    prints(&rt, play.script.as_bytes(), play.texts.as_bytes());
+    Ok(())
+}
