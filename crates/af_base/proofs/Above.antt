@@ -1,6 +1,6 @@
 -- The least key above a number, as the range of a `BTreeMap` from there on tells it.
 use Rattle.std.proofs.Common.{rules, ◌≡◌, ℕ, ◌<◌, false, List, [], refl, sym, ap, subst, ◌∙◌, arith}
-use Rattle.std.specs.Prelude.{Option, Some, None, is_some, IsTrue, IsSome, IfSome, slice_get}
+use Rattle.std.specs.Prelude.{Option, Some, None, is_some, IsTrue, IfSome, slice_get}
 use Rattle.std.specs.Ordering.{nat_cmp}
 use Rattle.std.specs.Cmp.{ranked, nat_cmp_is}
 use Rattle.std.proofs.lemmas.Map.Keys.{le_from_not_gt}
@@ -10,6 +10,7 @@ use Rattle.std.specs.BTreeMap.{BTreeMap}
 use Rattle.std.specs.BTreeMap.Range.{IsRangeOf, IsEntryInRange, IsLeBy}
 use Rattle.std.specs.declared.ops.Bound.TheVariants.{Excluded, Unbounded}
 use Rattle.std.specs.declared.cmp.Ordering.TheVariants.{Less}
+use Rattle.af_base.proofs.Lookups.{some_is}
 use Rattle.af_base.proofs.Trees.{nat_looked}
 
 nat_less : (x y : ℕ) → nat_cmp x y ≡ Less → x < y
@@ -20,9 +21,6 @@ less_nat x y h = sym (nat_cmp_is x y Less h)
 
 is_there : {A : Type 0} (o : Option A) (a : A) → o ≡ Some a → IsTrue (is_some o)
 is_there o a e = subst (λ o. IsTrue (is_some o)) (sym e) (search rules)
-
-some_is : {A : Type 0} (o : Option A) (a : A) → o ≡ Some a → IsSome o
-some_is o a e = subst IsSome (sym e) (search rules)
 
 module _ {X : Type 0} (m : BTreeMap ℕ X) (r : List (ℕ × X)) (f : ℕ) (in_range : IsRangeOf nat_cmp (Excluded f) Unbounded m r) where
   absent : (q : ℕ) → tree.get nat_cmp m q ≡ None → map.contains_key (map.from_entries {R = nat_cmp} m.entries) q ≡ false

@@ -11,7 +11,7 @@ use Rattle.af_base.specs.Unheld.{IsSettled}
 use Rattle.af_base.specs.Changes.{add_process, add_user}
 use Rattle.af_base.specs.Steps.{spawned}
 use Rattle.af_base.specs.Whole.{IsWhole}
-use Rattle.af_base.proofs.Covers.{settled-counted, settled-held}
+use Rattle.af_base.proofs.Placed.{settled-counted, settled-held}
 use Rattle.af_base.proofs.Lookups.{insert-here, insert-other, none_some, same_or_not, some_same}
 use Rattle.af_base.proofs.Moved.{table-there, there-table}
 use Rattle.af_base.proofs.Sums.{total-insert}

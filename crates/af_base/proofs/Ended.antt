@@ -1,17 +1,13 @@
 -- A process that is gone, and its table with it.
-use Rattle.std.proofs.Common.{◌≡◌, ◌<◌, ℕ, ◌+◌, List, true, inl, inr, refl, sym, ap, ◌∙◌, arith}
+use Rattle.std.proofs.Common.{◌≡◌, ◌<◌, ℕ, ◌+◌, true, inl, inr, refl, sym, ap, ◌∙◌, arith}
 use Rattle.std.specs.Prelude.{Option, Some, None, is_some}
-use Rattle.std.specs.List.{Contains}
 use Rattle.std.specs.FinMap as map
 use Rattle.std.proofs.lemmas.Bool.{false≢true}
 use Rattle.af_base.specs.World.{Process, World}
 use Rattle.af_base.specs.Places.{InTable}
 use Rattle.af_base.specs.Counts.{one, refs, total_of}
-use Rattle.af_base.specs.Unheld.{IsSettled}
 use Rattle.af_base.specs.Changes.{remove_process}
-use Rattle.af_base.specs.Release.{Covered}
 use Rattle.af_base.specs.Whole.{IsWhole, IsWithin}
-use Rattle.af_base.proofs.Covers.{settled-held}
 use Rattle.af_base.proofs.Lookups.{none_some, remove-here, remove-other, same_or_not}
 use Rattle.af_base.proofs.Moved.{table-there, there-table}
 use Rattle.af_base.proofs.Sums.{total-remove}
@@ -62,11 +58,3 @@ module _ (w : World) (p : ℕ) where
 -- The places of its table go with it.
 pub refs-remove_process : (w : World) (p f : ℕ) (q : Process) → map.get w.processes p ≡ Some q → refs (remove_process w p) f + total_of (λ g. one f g) q.table ≡ refs w f
 refs-remove_process w p f q at = omega (arith, total-remove (λ r. total_of (λ g. one f g) r.table) w.processes p q at)
-
--- What its table held is left to look at.
-pub covers-remove_process : (w : World) (p : ℕ) (q : Process) (fs : List ℕ) → IsSettled w → map.get w.processes p ≡ Some q → ((f : ℕ) → 0 < total_of (λ g. one f g) q.table → Contains fs f) → Covered (remove_process w p) fs
-covers-remove_process w p q fs s at all = record {
-  has = λ f l z.
-      let held = settled-held w f s l in
-      all f (omega (arith, held, z, refs-remove_process w p f q at));
-}

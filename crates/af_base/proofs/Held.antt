@@ -16,7 +16,7 @@ use Rattle.af_base.specs.Places.{Holds, InTable, contents}
 use Rattle.af_base.specs.Counts.{count_in, one, refs, tabled, total_of}
 use Rattle.af_base.proofs.Sums.{total-remove, first, second}
 
-count-cons : (f x : ℕ) (xs : List ℕ) → count_in f (x ∷ xs) ≡ one f x + count_in f xs
+pub count-cons : (f x : ℕ) (xs : List ℕ) → count_in f (x ∷ xs) ≡ one f x + count_in f xs
 count-cons f x xs = sum_by-cons _ x xs
 
 one-same : (f x : ℕ) → f ≡ x → one f x ≡ 1

@@ -14,7 +14,7 @@ pub mod Totals
 pub mod Dropped
 pub mod Moved
 pub mod Free
-pub mod Covers
+pub mod Placed
 pub mod Whole
 pub mod Settled
 pub mod Born

@@ -1,6 +1,6 @@
 -- What a map has at a number, before and after a change.
-use Rattle.std.proofs.Common.{◌≡◌, ℕ, true, false, ◌⊎◌, inl, inr, refl, sym, ap, ◌∙◌, cond, nat_eq}
-use Rattle.std.specs.Prelude.{Option, Some, None, IsTrue, is_some, option_map}
+use Rattle.std.proofs.Common.{rules, ◌≡◌, ℕ, true, false, ◌⊎◌, inl, inr, refl, sym, ap, subst, ◌∙◌, cond, nat_eq}
+use Rattle.std.specs.Prelude.{Option, Some, None, IsTrue, IsSome, is_some, option_map}
 use Rattle.std.specs.Option.{option_map_or}
 use Rattle.std.specs.Ordering.{nat_cmp, eq_by_cmp}
 use Rattle.std.specs.Cmp.{nat_cmp_total, unsigned_tied}
@@ -17,6 +17,10 @@ none_some x e = false≢true (ap (λ o. option_map_or (λ _. true) o false) e)
 -- Two values that are there are one where they are the same option.
 pub some_same : {X : Type 0} (x y : X) → Some x ≡ Some y → x ≡ y
 some_same x y e = ap (λ o. option_map_or (λ z. z) o x) e
+
+-- Where a value is, there is something.
+pub some_is : {X : Type 0} (o : Option X) (x : X) → o ≡ Some x → IsSome o
+some_is o x e = subst IsSome (sym e) (search rules)
 
 -- What is there is a value.
 pub there : {X : Type 0} (o : Option X) → IsTrue (is_some o) → (x : X) × (o ≡ Some x)
@@ -82,17 +86,6 @@ module _ {X : Type 0} (g : X → X) (m : Map X) (k q : ℕ) where
         | inr a ↦ inr (sym (some_same _ y d) ∙ off_key x a)
       ],
     )
-
-  -- What stood in a map stands there after k was changed, or what comes of it does.
-  pub changed-then : (x : X) → map.get m q ≡ Some x → (y : X) × (map.get (change_at g m k) q ≡ Some y) × (((q ≡ k) × (y ≡ g x)) ⊎ (y ≡ x))
-  changed-then x e = (
-    changed x,
-    get-change_at g m k q ∙ ap (option_map changed) e,
-    elim (same_or_not q k) [
-      | inl s ↦ inl (s, at_key x s)
-      | inr a ↦ inr (off_key x a)
-    ],
-  )
 
   -- Whether something stands there stays.
   pub changed-live : is_some (map.get (change_at g m k) q) ≡ is_some (map.get m q)

@@ -15,7 +15,7 @@ use Rattle.af_base.specs.Changes.{add_file, install}
 use Rattle.af_base.specs.Refusals.{is_full, socket_of}
 use Rattle.af_base.specs.Whole.{IsWhole, IsWithin, state_at, state_of}
 use Rattle.af_base.proofs.Born.{fresh_file}
-use Rattle.af_base.proofs.Covers.{settled-counted, settled-held}
+use Rattle.af_base.proofs.Placed.{settled-counted, settled-held}
 use Rattle.af_base.proofs.Lookups.{insert-here, insert-other, none_some, same_or_not, some_same, told_apart}
 use Rattle.af_base.proofs.Pairs.{refs-add_file}
 use Rattle.af_base.proofs.Places.{refs-install}

@@ -15,7 +15,7 @@ use Rattle.af_base.specs.Changes.{add_file, install}
 use Rattle.af_base.specs.Steps.{connected_socket}
 use Rattle.af_base.specs.Whole.{AreMutual, IsWhole, state_at, state_of}
 use Rattle.af_base.proofs.Born.{fresh_file}
-use Rattle.af_base.proofs.Covers.{settled-counted, settled-held}
+use Rattle.af_base.proofs.Placed.{settled-counted, settled-held}
 use Rattle.af_base.proofs.Lookups.{insert-here, insert-other, same_or_not, told_apart}
 use Rattle.af_base.proofs.Moved.{there-install}
 use Rattle.af_base.proofs.Places.{refs-install}

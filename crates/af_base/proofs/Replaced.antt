@@ -1,19 +1,11 @@
 -- A number that stands for another file than before.
-use Rattle.std.proofs.Common.{◌≡◌, ℕ, ◌+◌, [], ◌∷◌, sym, ap, subst, arith}
+use Rattle.std.proofs.Common.{◌≡◌, ℕ, ◌+◌, ap, arith}
 use Rattle.std.specs.Prelude.{Some}
 use Rattle.std.specs.Option.{option_map_or}
-use Rattle.std.specs.List.{Contains}
 use Rattle.std.specs.FinMap as map
 use Rattle.af_base.specs.World.{Process, World}
-use Rattle.af_base.specs.Places.{table_at}
 use Rattle.af_base.specs.Counts.{one, refs, total_of}
-use Rattle.af_base.specs.Unheld.{IsSettled}
 use Rattle.af_base.specs.Changes.{install}
-use Rattle.af_base.specs.Release.{Covered}
-use Rattle.af_base.proofs.Covers.{settled-held}
-use Rattle.af_base.proofs.Elements.{Contains-first}
-use Rattle.af_base.proofs.Held.{one-positive}
-use Rattle.af_base.proofs.Moved.{table-there}
 use Rattle.af_base.proofs.Sums.{total-change_at, total-insert}
 
 -- One place less of the old file, and one more of the new one.
@@ -22,14 +14,3 @@ refs-replace w p n g h f q at is =
     let table = total-insert (one f) q.table n g in
     let before = ap (λ o. total_of (one f) (map.insert q.table n g) + option_map_or (one f) o 0) is in
     omega (arith, table, before, total-change_at (λ r. total_of (one f) r.table) (λ r. record r { table = map.insert r.table n g }) w.processes p q at)
-
--- The file that it stood for is left to look at.
-pub covers-replace : (w : World) (p n g h : ℕ) → IsSettled w → table_at w p n ≡ Some h → Covered (install w p n g) (h ∷ [])
-covers-replace w p n g h s is =
-    let at = table-there w p n h is in
-    record {
-      has = λ f l z.
-          let held = settled-held w f s l in
-          let same : f ≡ h = one-positive f h (omega (arith, held, z, refs-replace w p n g h f at.0 at.1 at.2)) in
-          subst (λ x. Contains (h ∷ []) x) (sym same) (Contains-first h []);
-    }

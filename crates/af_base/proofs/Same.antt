@@ -19,7 +19,7 @@ use Rattle.af_base.specs.contracts.events.StepPartialEq.TheImpl as step_eq
 use Rattle.af_base.specs.contracts.events.EventPartialEq.TheImpl as event_eq
 use Rattle.af_base.specs.contracts.events.ReplyPartialEq.TheImpl as reply_eq
 
-both : (a b : Bool) → (a && b) ≡ true → (a ≡ true) × (b ≡ true)
+pub both : (a b : Bool) → (a && b) ≡ true → (a ≡ true) × (b ≡ true)
 both true b e = (refl, e)
 both false b e = absurd (false≢true e)
 

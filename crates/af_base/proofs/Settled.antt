@@ -7,7 +7,7 @@ use Rattle.af_base.specs.World.{AsSocket, File, Message, Plain, Process, World}
 use Rattle.af_base.specs.Places.{table_at}
 use Rattle.af_base.specs.Unheld.{IsSettled}
 use Rattle.af_base.specs.Changes.{file_with, install, push_message}
-use Rattle.af_base.proofs.Covers.{settled-counted, settled-held}
+use Rattle.af_base.proofs.Placed.{settled-counted, settled-held}
 use Rattle.af_base.proofs.Moved.{live-changed, there-table}
 use Rattle.af_base.proofs.Places.{refs-install, refs-push}
 use Rattle.af_base.proofs.Trees.{insert_same}

@@ -11,11 +11,10 @@ use Rattle.af_base.specs.declared.errno.Errno.{Errno}
 use Rattle.af_base.specs.declared.events.Reply.{Reply}
 use Rattle.af_base.specs.World.{AsSocket, File, Map, Plain, Socket, World, is_live}
 use Rattle.af_base.specs.Places.{contents, held_by}
-use Rattle.af_base.specs.Unheld.{Goes, IsSettled, Settles, Unheld}
+use Rattle.af_base.specs.Unheld.{Goes, Settles, Unheld}
 use Rattle.af_base.specs.Steps.{Outcome}
 use Rattle.af_base.specs.Changes.{change_at, file_with, with_socket}
 use Rattle.std.proofs.lemmas.Bool.{false≢true}
-use Rattle.af_base.proofs.Settling.{settles_none}
 
 -- where no refusal fits, the answer is given and the world settles
 pub accepted : (o : Option Errno) (frugal : Bool) (answer : Reply) (effect old new : World) → o ≡ None → Settles effect new → Outcome o frugal answer effect old answer new
@@ -60,7 +59,3 @@ module _ (w : World) (s : ℕ) (g : Socket → Socket) (same : (x : Socket) → 
 
   unheld_before : (f : ℕ) → Unheld (with_socket w s g) f → Unheld w f
   unheld_before _ (Goes f l t hs) = Goes f (sym (live-with_socket f) ∙ l) t (λ q h. unheld_before q (hs q (subst (λ xs. Contains xs f) (sym (held-with_socket q)) h)))
-
-  -- leaves the world settled
-  pub settled-with_socket : IsSettled w → Settles (with_socket w s g) (with_socket w s g)
-  settled-with_socket h = settles_none (with_socket w s g) (λ f u. h f (unheld_before f u))

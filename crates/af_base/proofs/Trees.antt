@@ -54,15 +54,6 @@ nat_changed f m n k x v was e h =
 pub nat_unchanged : {X : Type 0} (f : X → X) (m : BTreeMap ℕ X) (k : ℕ) → tree.get nat_cmp m k ≡ None → from_entries {R = nat_cmp} m.entries ≡ change_at f (from_entries m.entries) k
 nat_unchanged f m k was = ap (λ o. option_map_or (λ y. insert (from_entries m.entries) k (f y)) o (from_entries m.entries)) (sym (nat_looked m k ∙ was))
 
--- what was written through `get_mut` is what stood there
-pub nat_put_back : {X : Type 0} (m n : BTreeMap ℕ X) (k : ℕ) (x v : X) → Some x ≡ tree.get nat_cmp m k → v ≡ x → tree.Updates nat_cmp m n k (Some v) → from_entries {R = nat_cmp} n.entries ≡ from_entries m.entries
-nat_put_back m n k x v was e h = same_map nat_cmp_total nat_cmp-IsAntisymmetric _ _ (λ q.
-    nat_looked n q ∙ h.0 q ∙ put_back q (nat_cmp k q) refl ∙ sym (nat_looked m q)) where
-      put_back : (q : ℕ) (o : Ordering) → nat_cmp k q ≡ o → cond (is_eq o) (Some v) (tree.get nat_cmp m q) ≡ tree.get nat_cmp m q
-      put_back q Equal p = ap Some e ∙ was ∙ ap (tree.get nat_cmp m) (nat_cmp-IsAntisymmetric _ _ p)
-      put_back q Less p = refl
-      put_back q Greater p = refl
-
 -- to put in what stands there changes nothing
 pub insert_same : {X : Type 0} (m : FinMap nat_cmp X) (k : ℕ) (v : X) → get m k ≡ Some v → insert m k v ≡ m
 insert_same m k v is = same_map nat_cmp_total nat_cmp-IsAntisymmetric _ _ (λ q. get-insert nat_cmp_total m k v q ∙ put_back q (nat_cmp q k) refl) where
@@ -73,13 +64,3 @@ insert_same m k v is = same_map nat_cmp_total nat_cmp-IsAntisymmetric _ _ (λ q.
 
 -- what changes of a tree do to its map
 pub ruleset changes = (nat_looked, nat_inserted, nat_removed, nat_changed, nat_unchanged, insert_same)
-
--- a new key put in and taken out again
-pub nat_taken_back : {X : Type 0} (old with_it same new : BTreeMap ℕ X) (k : ℕ) (v : X)
-    → tree.get nat_cmp old k ≡ None → tree.Updates nat_cmp old with_it k (Some v) → same.entries ≡ with_it.entries → tree.Updates nat_cmp same new k None → from_entries {R = nat_cmp} new.entries ≡ from_entries old.entries
-nat_taken_back old with_it same new k v was put e taken = same_map nat_cmp_total nat_cmp-IsAntisymmetric _ _ (λ q.
-    nat_looked new q ∙ taken.0 q ∙ ap (λ es. cond (is_at (nat_cmp k) q) None (lookup (is_at (nat_cmp q)) es)) e ∙ ap (cond (is_at (nat_cmp k) q) None) (put.0 q) ∙ back q (nat_cmp k q) refl ∙ sym (nat_looked old q)) where
-      back : (q : ℕ) (o : Ordering) → nat_cmp k q ≡ o → cond (is_eq o) None (cond (is_eq o) (Some v) (tree.get nat_cmp old q)) ≡ tree.get nat_cmp old q
-      back q Equal p = sym was ∙ ap (tree.get nat_cmp old) (nat_cmp-IsAntisymmetric _ _ p)
-      back q Less p = refl
-      back q Greater p = refl

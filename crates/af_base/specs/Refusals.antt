@@ -11,7 +11,7 @@ use Rattle.af_base.specs.declared.errno.Errno.TheVariants.{EBADF, ENOTSOCK, EINV
 use Rattle.af_base.specs.declared.events.Step.{Step}
 use Rattle.af_base.specs.declared.events.Step.TheVariants as step
 use Rattle.af_base.specs.declared.limits.TheConstants.{MAX_PROCESSES, MAX_NOFILE, MAX_FILES, MAX_MESSAGES, MAX_BYTES, SCM_MAX_FD, MAX_INFLIGHT, MAX_PID, MAX_INO}
-use Rattle.af_base.specs.World.{World, Process, Socket, File, Plain, AsSocket}
+use Rattle.af_base.specs.World.{World, Map, Process, Socket, File, Plain, AsSocket}
 use Rattle.af_base.specs.Places.{table_at, queue_at}
 use Rattle.af_base.specs.Counts.{charged, total}
 use Rattle.af_base.specs.Table.{free_numbers}
@@ -74,9 +74,13 @@ is_between low high n = nat_le low n && nat_le n high
 abbrev pub is_short : Process → ℕ → Bool
 is_short q k = nat_lt (length (free_numbers q)) k
 
--- Whether k files more are too many, or have no inode numbers left (open(2), ENFILE).
+-- Whether k files more beside these are too many, or have no inode numbers left where the next one is n (open(2), ENFILE).
+abbrev pub is_full_of : Map File → ℕ → ℕ → Bool
+is_full_of files n k = nat_lt MAX_FILES (map.len files + k) || nat_lt (MAX_INO + 1) (n + k)
+
+-- The same of a world (open(2), ENFILE).
 abbrev pub is_full : World → ℕ → Bool
-is_full w k = nat_lt MAX_FILES (map.len w.files + k) || nat_lt (MAX_INO + 1) (w.next_ino + k)
+is_full w k = is_full_of w.files w.next_ino k
 
 -- Whether there can be no further process (fork(2), EAGAIN).
 abbrev pub is_crowded : World → Bool

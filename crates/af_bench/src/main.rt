@@ -1,7 +1,7 @@
 //! Measures how many events the engine does in a second, over named workloads.
 //!
 //! `af_bench all` prints a line for each workload. With no argument nothing is measured, and
-//! nothing is printed.
+//! nothing is printed. Anything else is answered with a line of usage and the status 2.
 #![tactic(auto)]
 
 mod workload;
@@ -25,11 +25,15 @@ const PLAN: [(Workload, u32); 8] = [
 ];
 
 fn main(rt: HostRuntime) -> ExitCode {
-    let Ok(words) = env::args(&rt) else {
-        return ExitCode::from(2);
+    let Ok(mut words) = env::args(&rt) else {
+        return usage(&rt);
     };
-    if words.count() < 2 {
+    words.next();
+    let Some(word) = words.next() else {
         return ExitCode::from(0);
+    };
+    if word.as_str() != "all" || words.next().is_some() {
+        return usage(&rt);
     }
     for (workload, rounds) in &PLAN {
         if measure(&rt, workload, *rounds).is_none() {
@@ -40,8 +44,14 @@ fn main(rt: HostRuntime) -> ExitCode {
     ExitCode::from(0)
 }
 
+/// Says how the program is called.
+fn usage(rt: &HostRuntime) -> ExitCode {
+    let _ = eprintln!(rt; "usage: af_bench [all]");
+    ExitCode::from(2)
+}
+
 /// Does so many rounds of a workload, and prints the events done in a second. Nothing, where memory,
-/// the clock or standard output fails, or an answer is not the one wanted.
+/// the clock or standard output fails, or an event is refused.
 fn measure(rt: &HostRuntime, workload: &Workload, rounds: u32) -> Option<()> {
     let mut round = workload.prepare(rt.alloc())?;
     let start = Instant::now(rt).ok()?;

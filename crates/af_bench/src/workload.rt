@@ -43,34 +43,39 @@ impl Workload {
         }
     }
 
-    /// An engine that is ready for it, and the events of a round. Nothing, where memory is refused.
+    /// An engine that is ready for it, and the events of a round. Nothing, where an event is refused
+    /// or memory is.
     pub fn prepare(&self, alloc: Global) -> Option<Round> {
         let mut engine = Engine::new(alloc).ok()?;
-        engine.step(&SPAWN);
-        let events = match self {
-            Workload::OpenClose { live } => {
-                open_elsewhere(&mut engine, *live);
-                vec![in alloc; OPEN, close(0)].ok()?
-            }
-            Workload::OpenCloseAbove { open } => {
-                open_numbers(&mut engine, *open);
-                vec![in alloc; OPEN, close(*open)].ok()?
-            }
-            Workload::Dup2 => {
-                engine.step(&OPEN);
-                vec![in alloc; Event::Proc(FIRST, Step::Dup2(Fd(0), Fd(1)))].ok()?
-            }
-            Workload::ForkExit => {
-                open_numbers(&mut engine, 64);
-                vec![in alloc; Event::Proc(FIRST, Step::Fork)].ok()?
-            }
-            Workload::PingPong => {
-                engine.step(&Event::Proc(FIRST, Step::Pair(SockType::Seqpacket)));
-                engine.step(&OPEN);
-                vec![in alloc; send(alloc)?, RECEIVE, close(3)].ok()?
-            }
-        };
+        self.set_up(&mut engine)?;
+        let events = self.round(alloc)?;
         Some(Round { engine, events })
+    }
+
+    /// What happens before the first round. Nothing, where an event is refused.
+    fn set_up(&self, engine: &mut Engine) -> Option<()> {
+        done(engine, &SPAWN)?;
+        match self {
+            Workload::OpenClose { live } => open_elsewhere(engine, *live),
+            Workload::OpenCloseAbove { open } => open_numbers(engine, *open),
+            Workload::Dup2 => open_numbers(engine, 1),
+            Workload::ForkExit => open_numbers(engine, 64),
+            Workload::PingPong => {
+                done(engine, &PAIR)?;
+                open_numbers(engine, 1)
+            }
+        }
+    }
+
+    /// The events of a round. Nothing, where memory is refused.
+    fn round(&self, alloc: Global) -> Option<Vec<Event>> {
+        match self {
+            Workload::OpenClose { .. } => vec![in alloc; OPEN, close(0)].ok(),
+            Workload::OpenCloseAbove { open } => vec![in alloc; OPEN, close(*open)].ok(),
+            Workload::Dup2 => vec![in alloc; Event::Proc(FIRST, Step::Dup2(Fd(0), Fd(1)))].ok(),
+            Workload::ForkExit => vec![in alloc; Event::Proc(FIRST, Step::Fork)].ok(),
+            Workload::PingPong => vec![in alloc; send(alloc)?, RECEIVE, close(3)].ok(),
+        }
     }
 }
 
@@ -84,6 +89,8 @@ const SPAWN: Event = Event::Spawn {
 };
 
 const OPEN: Event = Event::Proc(FIRST, Step::Open);
+
+const PAIR: Event = Event::Proc(FIRST, Step::Pair(SockType::Seqpacket));
 
 const RECEIVE: Event = Event::Proc(
     FIRST,
@@ -108,21 +115,31 @@ fn send(alloc: Global) -> Option<Event> {
     Some(Event::Proc(FIRST, step))
 }
 
-/// So many files, at the lowest numbers of the first process.
-fn open_numbers(engine: &mut Engine, count: u32) {
-    for _ in 0..count {
-        engine.step(&OPEN);
+/// Does an event. Nothing, where it is refused.
+fn done(engine: &mut Engine, event: &Event) -> Option<Reply> {
+    match engine.step(event) {
+        Reply::Refused(_) => None,
+        reply => Some(reply),
     }
 }
 
-/// So many files more, held by other processes.
-fn open_elsewhere(engine: &mut Engine, files: u32) {
+/// So many files, at the lowest numbers of the first process. Nothing, where one is refused.
+fn open_numbers(engine: &mut Engine, count: u32) -> Option<()> {
+    for _ in 0..count {
+        done(engine, &OPEN)?;
+    }
+    Some(())
+}
+
+/// So many files more, held by other processes. Nothing, where one is refused.
+fn open_elsewhere(engine: &mut Engine, files: u32) -> Option<()> {
     for k in 0..files {
         if k % 1_000 == 0 {
-            engine.step(&SPAWN);
+            done(engine, &SPAWN)?;
         }
-        engine.step(&Event::Proc(Pid(2 + k / 1_000), Step::Open));
+        done(engine, &Event::Proc(Pid(2 + k / 1_000), Step::Open))?;
     }
+    Some(())
 }
 
 /// The events of a workload, over and over.
@@ -136,12 +153,8 @@ impl Round {
     /// Does the events once; a child that was forked ends at once. Nothing, where one is refused.
     pub fn go(&mut self) -> Option<()> {
         for event in &self.events {
-            match self.engine.step(event) {
-                Reply::Refused(_) => return None,
-                Reply::Pid(child) => {
-                    self.engine.step(&Event::Proc(child, Step::Exit));
-                }
-                _ => {}
+            if let Reply::Pid(child) = done(&mut self.engine, event)? {
+                done(&mut self.engine, &Event::Proc(child, Step::Exit))?;
             }
         }
         Some(())

@@ -1,6 +1,6 @@
 -- Look-ups and changes of files under keys.
-use Rattle.std.proofs.Common.{rules, ◌≡◌, ℕ, ◌+◌, ◌-◌, ◌<◌, ◌≤◌, Bool, true, false, cond, List, [], ◌∷◌, length, refl, sym, ap, subst, ◌∙◌, arith}
-use Rattle.std.specs.Prelude.{Option, Some, None, nat_eq, is_some, IsTrue, IsSome, slice_get, slice_index_or}
+use Rattle.std.proofs.Common.{◌≡◌, ℕ, ◌+◌, ◌-◌, ◌<◌, ◌≤◌, Bool, true, false, cond, List, [], ◌∷◌, length, refl, sym, ap, subst, ◌∙◌, arith}
+use Rattle.std.specs.Prelude.{Option, Some, None, nat_eq, is_some, IsTrue, slice_get, slice_index_or}
 use Rattle.std.specs.Option.{option_map, option_map_or}
 use Rattle.std.specs.Ordering.{eq_by_cmp, is_eq, nat_cmp}
 use Rattle.std.specs.Cmp.{nat_cmp_total, unsigned_tied, nat_eq_equiv}
@@ -21,7 +21,7 @@ use Rattle.std.proofs.lemmas.List.{get_or-set_same, get_or-set_other}
 use Rattle.af_base.specs.World.{Map, File, Plain}
 use Rattle.af_base.specs.Places.{queue_of}
 use Rattle.af_base.specs.Changes.{change_at}
-use Rattle.af_base.proofs.Lookups.{none_some, some_same, remove-here}
+use Rattle.af_base.proofs.Lookups.{none_some, some_is, some_same, remove-here}
 use Rattle.af_base.proofs.Trees.{nat_looked}
 use Rattle.af_base.proofs.Above.{nat_first_above, nat_none_above}
 use Rattle.af_desc.specs.declared.files.Entry.{Entry}
@@ -75,9 +75,6 @@ grown_in_place m n s t next es ss h = record {
 } where
   was : (q k : ℕ) → tree.get nat_cmp n q ≡ Some k → tree.get nat_cmp m q ≡ Some k
   was q k at = sym (ap (lookup (is_at (nat_cmp q))) es) ∙ at
-
-some_is : {A : Type 0} (o : Option A) (a : A) → o ≡ Some a → IsSome o
-some_is o a e = subst IsSome (sym e) (search rules)
 
 module _ (m : BTreeMap ℕ ℕ) (s : Slab Entry) (next : ℕ) (h : AreInPlace m s next) where
   -- A number's key is not empty.
@@ -223,12 +220,8 @@ put_back m f x none = same _ _ (λ q. sym (without_file (map.insert m f x) f q) 
   by q true e = sym none ∙ ap (map.get m) (eqb-true f q e)
   by q false e = refl
 
--- What was taken out is gone.
-pub taken_away : (m : Map File) (f : ℕ) → map.get (map.remove m f) f ≡ None
-taken_away m f = remove-here m f
-
 -- Look-ups, makings and removals.
-pub ruleset file_changes = (file_at, no_files, none_in_place, grown, grown_in_place, missing, keyed, made, made_in_place, removed, removed_in_place, not_there, next_lowered, fresh, taken_away, none_over-empty, none_over-grown, none_over-made, none_over-removed)
+pub ruleset file_changes = (file_at, no_files, none_in_place, grown, grown_in_place, missing, keyed, made, made_in_place, removed, removed_in_place, not_there, next_lowered, fresh, remove-here, none_over-empty, none_over-grown, none_over-made, none_over-removed)
 
 -- A file changed where it stands.
 module _ (m : BTreeMap ℕ ℕ) (s : Slab Entry) (f key next : ℕ) (x y : Entry) (h : AreInPlace m s next) (was : tree.get nat_cmp m f ≡ Some key) (at : slab.get s key ≡ Some x) where

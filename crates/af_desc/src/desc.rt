@@ -66,7 +66,7 @@ impl Desc {
         }
     }
 
-    /// The socket that it is.
+    /// The socket that it is; nothing of a plain file.
     pub fn socket(&self) -> Option<&Socket>
         ensures { option_copied result ≡ socket_of self.now }
     {
@@ -76,7 +76,7 @@ impl Desc {
         }
     }
 
-    /// The socket that it was.
+    /// The socket that it was; nothing of a plain file.
     pub fn into_socket(self) -> Option<Socket>
         ensures { result ≡ socket_of self }
     {

@@ -73,10 +73,10 @@ impl Files {
     }
 
     /// The number that the next file gets.
-    pub fn next_ino(&self) -> u64
+    pub fn next_ino(&self) -> Ino
         ensures { result ≡ self.now.next }
     {
-        self.next
+        Ino(self.next)
     }
 
     /// Whether so many files more are too many, or have no numbers left (ENFILE, open(2)).
@@ -92,12 +92,8 @@ impl Files {
     pub fn get(&self, ino: Ino) -> Option<&Desc>
         ensures { option_copied result ≡ map.get self.now.files ino }
     {
-        let Some(key) = self.keys.get(&ino) else {
-            return None;
-        };
-        let Some(entry) = self.slab.get(*key) else {
-            return None;
-        };
+        let key = self.keys.get(&ino)?;
+        let entry = self.slab.get(*key)?;
         Some(&entry.desc)
     }
 
@@ -147,9 +143,10 @@ impl Files {
         self.next -= 1;
     }
 
-    /// A plain file more, under the next number. On an error nothing has changed.
+    /// A plain file more, under the next number, where `is_full(1)` is false. On an error nothing has
+    /// changed.
     pub fn make_plain(&mut self) -> Result<Ino, AllocError>
-        requires { is_full self.old 1 ≡ false }
+        requires room { is_full self.old 1 ≡ false }
         ensures ino { IfOk result (λ ino. ino ≡ self.old.next) }
         ensures files { OnOk result (self.new.files ≡ map.insert self.old.files self.old.next world.Plain) }
         ensures next { OnOk result (self.new.next ≡ self.old.next + 1) }
@@ -158,9 +155,10 @@ impl Files {
         self.make(Desc::plain())
     }
 
-    /// A socket more that was never connected, under the next number. On an error nothing has changed.
+    /// A socket more that was never connected, under the next number, where `is_full(1)` is false. On
+    /// an error nothing has changed. No event makes one yet.
     pub fn make_sock(&mut self, kind: SockType) -> Result<Ino, AllocError>
-        requires { is_full self.old 1 ≡ false }
+        requires room { is_full self.old 1 ≡ false }
         ensures ino { IfOk result (λ ino. ino ≡ self.old.next) }
         ensures files { OnOk result (self.new.files ≡ map.insert self.old.files self.old.next (world.AsSocket (idle_socket kind))) }
         ensures next { OnOk result (self.new.next ≡ self.old.next + 1) }
@@ -169,11 +167,11 @@ impl Files {
         self.make(Desc::idle(self.alloc, kind))
     }
 
-    /// Two sockets more, connected to each other (socketpair(2)), under the next two numbers: both or,
-    /// on an error, none.
+    /// Two sockets more, connected to each other (socketpair(2)), under the next two numbers, where
+    /// `is_full(2)` is false: both or, on an error, none.
     #[tactic(auto, using(crate::proofs::Keys::put_back))]
     pub fn make_two(&mut self, kind: SockType) -> Result<(Ino, Ino), AllocError>
-        requires { is_full self.old 2 ≡ false }
+        requires room { is_full self.old 2 ≡ false }
         ensures first { IfOk result (λ inos. inos.0 ≡ self.old.next) }
         ensures second { IfOk result (λ inos. inos.1 ≡ self.old.next + 1) }
         ensures files { OnOk result (self.new.files ≡ with_pair kind self.old.next self.old.files) }
@@ -244,20 +242,16 @@ impl Files {
         ensures files { self.new.files ≡ popped self.old.files ino }
         ensures next { self.new.next ≡ self.old.next }
     {
-        let Some(key) = self.keys.get(&ino) else {
-            return None;
-        };
-        let Some(entry) = self.slab.get_mut(*key) else {
-            return None;
-        };
+        let key = self.keys.get(&ino)?;
+        let entry = self.slab.get_mut(*key)?;
         entry.desc.pop()
     }
 
-    /// All that the socket has to receive goes last into `into`. A plain file or a stranger has
-    /// nothing. It takes no memory.
+    /// All that the socket has to receive goes last into `into`, which has room in its count for a
+    /// full queue more. A plain file or a stranger has nothing. It takes no memory.
     #[tactic(auto, using(crate::proofs::Keys::file_writes))]
     pub fn empty(&mut self, ino: Ino, into: &mut LinkedList<Message>)
-        requires { length into.old + MAX_MESSAGES < 2 ^ 63 }
+        requires fits { length into.old + MAX_MESSAGES < 2 ^ 63 }
         ensures files { self.new.files ≡ emptied self.old.files ino }
         ensures next { self.new.next ≡ self.old.next }
         ensures into { into.new ≡ into.old ++ queue_in self.old.files ino }

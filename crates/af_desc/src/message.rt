@@ -26,9 +26,9 @@ impl Model for Message {
 }
 
 impl Message {
-    /// A message of these parts. It takes no memory.
+    /// A message of these parts, at most 253 files among them. It takes no memory.
     pub fn new(bytes: Vec<u8>, attached: Vec<Ino>, user: Uid) -> Message
-        requires { length attached.items ≤ SCM_MAX_FD }
+        requires few { length attached.items ≤ SCM_MAX_FD }
         ensures { result ≡ record { bytes = bytes.items; attached = attached.items; user = user } }
     {
         Message {
@@ -46,7 +46,7 @@ impl Message {
         self.attached.as_slice()
     }
 
-    /// Who is charged for them.
+    /// The user who is charged for the files that travel with it.
     pub fn user(&self) -> Uid
         ensures { result ≡ self.now.user }
     {

@@ -110,10 +110,7 @@ impl Socket {
         ensures ok { OnOk result (self.new ≡ record self.old { queue = self.old.queue ++ message ∷ [] }) }
         ensures err { OnErr result (self.new ≡ self.old) }
     {
-        if self.queue.push_back(message).is_err() {
-            return Err(AllocError);
-        }
-        Ok(())
+        self.queue.push_back(message).map_err(|_| AllocError)
     }
 
     /// The first message taken off the queue. It takes no memory.

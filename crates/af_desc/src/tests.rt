@@ -25,7 +25,7 @@ fn files_come_and_go(rt: HostRuntime) -> Result<(), Fail> {
     let (first, _) = files.make_two(SockType::Seqpacket)?;
     assert_eq!(rt; files.next_after(idle), Some(first));
     assert_eq!(rt; files.live(), 3);
-    assert_eq!(rt; files.next_ino(), 5);
+    assert_eq!(rt; files.next_ino(), Ino(5));
     Ok(())
 }
 
@@ -78,12 +78,12 @@ fn one_file_refused(rt: HostRuntime) {
     assert!(rt; !files.is_full(2));
     if files.make_two(SockType::Seqpacket).is_err() {
         assert_eq!(rt; files.live(), 0);
-        assert_eq!(rt; files.next_ino(), 1);
+        assert_eq!(rt; files.next_ino(), Ino(1));
         assert!(rt; !files.is_full(2));
         assert!(rt; files.make_two(SockType::Seqpacket).is_ok());
     }
     assert_eq!(rt; files.live(), 2);
-    assert_eq!(rt; files.next_ino(), 3);
+    assert_eq!(rt; files.next_ino(), Ino(3));
 }
 
 /// The same of a message.

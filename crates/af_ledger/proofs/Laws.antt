@@ -161,19 +161,12 @@ charge-unqueued u f v k some = by (lookup (nat_eq u) k.users) refl where
         at is true s = let same : charge_of k v ≡ charge_of k u = ap (charge_of k) (eqb-true v u s) in omega arith
         at is false s = omega arith
 
--- A number of a table charges nobody.
-pub charge-tabled : (f v : ℕ) (k : Kept) → (charge_of (held Table f k) v ≡ charge_of k v) × (charge_of (dropped Table f k) v ≡ charge_of k v)
-charge-tabled f v k = (refl, refl)
-
 -- All that is charged goes by places in queues.
 pub total-queued : (u f : ℕ) (k : Kept) → (held (Queue u) f k).total ≡ k.total + 1
 total-queued u f k = refl
 
 pub total-unqueued : (u f : ℕ) (k : Kept) → 0 < k.total → (dropped (Queue u) f k).total + 1 ≡ k.total
 total-unqueued u f k some = omega arith
-
-pub total-tabled : (f : ℕ) (k : Kept) → ((held Table f k).total ≡ k.total) × ((dropped Table f k).total ≡ k.total)
-total-tabled f k = (refl, refl)
 
 keys-recharged : (g : ℕ → ℕ) (u : ℕ) (us : List (ℕ × ℕ)) → keys_of (recharged g u us) ≡ keys_of us
 keys-recharged g u us = by (lookup (nat_eq u) us) where

@@ -10,73 +10,73 @@ use Rattle.af_ledger.specs.declared.count.Count.{Count}
 use Rattle.af_ledger.specs.declared.place.Place.{Place}
 use Rattle.af_ledger.specs.declared.place.Place.TheVariants.{Table, Queue}
 
--- The numbers of each file that a place holds, each user with what it is charged, in the order in which they came, what is charged to all together, and for how many further files there is room.
+-- The numbers of each file that a place holds, each user with what it is charged, in the order in which they came, what is charged to all together, and for how many further files there is room (this project's own).
 pub record Kept : Type 0 where
   pub counts : Map Count
   pub users : List (ℕ × ℕ)
   pub total : ℕ
   pub room : ℕ
 
--- The numbers of a file; all are 0 for a stranger.
+-- The numbers of a file; all are 0 for a stranger (this project's own).
 abbrev pub count_of : Kept → ℕ → Count
 count_of k f = unwrap_or (map.get k.counts f) uncounted
 
--- How many places hold a file.
+-- How many places hold a file (close(2): the description goes with its last reference).
 abbrev pub refs_of : Kept → ℕ → ℕ
 refs_of k f = places_in (count_of k f)
 
--- What a user is charged; 0 for a stranger.
+-- What a user is charged; 0 for a stranger (unix(7), ETOOMANYREFS; whom it counts is this project's own).
 abbrev pub charge_of : Kept → ℕ → ℕ
 charge_of k u = unwrap_or (lookup (nat_eq u) k.users) 0
 
--- The users with another charge of u, if u is there.
+-- The users with another charge of u, if u is there (this project's own).
 abbrev pub recharged : (ℕ → ℕ) → ℕ → List (ℕ × ℕ) → List (ℕ × ℕ)
 recharged g u us = option_map_or (λ n. set_value (nat_eq u) us (g n)) (lookup (nat_eq u) us) us
 
--- Whether the user is there.
+-- Whether the user is there (this project's own).
 abbrev pub is_user : ℕ → List (ℕ × ℕ) → Bool
 is_user u us = list_any (nat_eq u) (keys_of us)
 
--- The users and u, last if it is new, and then with no charge.
+-- The users and u, last if it is new, and then with no charge (this project's own).
 abbrev pub with_user : ℕ → List (ℕ × ℕ) → List (ℕ × ℕ)
 with_user u us = if is_user u us then us else us ++ (u, 0) ∷ []
 
--- One unit of charge more.
+-- One unit of charge more (unix(7), ETOOMANYREFS: sent, and not yet received).
 abbrev pub charged_more : Place → Kept → Kept
 charged_more Table k = k
 charged_more (Queue u) k = record k { users = recharged (λ n. n + 1) u k.users; total = k.total + 1 }
 
--- One unit of charge less.
+-- One unit of charge less (unix(7), ETOOMANYREFS).
 abbrev pub charged_less : Place → Kept → Kept
 charged_less Table k = k
 charged_less (Queue u) k = record k { users = recharged (λ n. n - 1) u k.users; total = k.total - 1 }
 
--- One place more holds f.
+-- One place more holds f (this project's own).
 abbrev pub held : Place → ℕ → Kept → Kept
 held p f k = charged_more p (record k { counts = map.insert k.counts f (more p (count_of k f)) })
 
--- The counts after one place less holds f: after the last f is forgotten.
+-- The counts after one place less holds f: after the last f is forgotten (this project's own).
 abbrev pub counted_less : Place → ℕ → Kept → Map Count
 counted_less p f k = if nat_eq (refs_of k f) 1 then map.remove k.counts f else map.insert k.counts f (fewer p (count_of k f))
 
--- One place less holds f.
+-- One place less holds f (this project's own).
 abbrev pub dropped : Place → ℕ → Kept → Kept
 dropped p f k = charged_less p (record k { counts = counted_less p f k })
 
--- Who is charged is a user, and the charges are low enough for one unit more.
+-- Who is charged is a user, and the charges are low enough for one unit more (this project's own).
 abbrev pub IsChargeable : Place → Kept → Type 0
 IsChargeable Table k = Unit {0}
 IsChargeable (Queue u) k = IsTrue (is_user u k.users) × (charge_of k u < 2 ^ 63) × (k.total < 2 ^ 63)
 
--- The unit is charged.
+-- The unit is charged (this project's own).
 abbrev pub IsCharged : Place → Kept → Type 0
 IsCharged Table k = Unit {0}
 IsCharged (Queue u) k = (0 < charge_of k u) × (0 < k.total)
 
--- A place more of f can be counted and charged.
+-- A place more of f can be counted and charged (this project's own).
 abbrev pub CanHold : Place → ℕ → Kept → Type 0
 CanHold p f k = IsCountable p (count_of k f) × IsChargeable p k
 
--- A place of f is counted and charged.
+-- A place of f is counted and charged (this project's own).
 abbrev pub CanDrop : Place → ℕ → Kept → Type 0
 CanDrop p f k = IsCounted p (count_of k f) × IsCharged p k

@@ -13,6 +13,6 @@ send_row charge total limit privileged files =
     ∷ (nat_lt MAX_INFLIGHT (total + files), ENOBUFS)
     ∷ []
 
--- Why user u may not send so many files, by a process of this limit and privilege, if there is a reason.
+-- Why user u may not send so many files, by a process of this limit and privilege, if there is a reason (unix(7), ETOOMANYREFS; that ENOBUFS comes next is this project's own).
 abbrev pub send_refusal : Kept → ℕ → ℕ → Bool → ℕ → Option Errno
 send_refusal k u limit privileged files = first_fit (send_row (charge_of k u) k.total limit privileged files)

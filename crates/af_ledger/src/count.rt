@@ -8,7 +8,9 @@ use crate::place::Place;
 /// 2^31 places at once, so that the numbers are short.
 #[derive(Clone, Copy, Debug, PartialEq, Eq)]
 pub struct Count {
+    /// Numbers of tables that stand for it.
     pub tabled: u32,
+    /// Places in queues that hold it.
     pub inflight: u32,
 }
 

@@ -238,10 +238,11 @@ impl Ledger {
         }
     }
 
-    /// One place less holds a file; one in a queue is no longer charged to its user. It answers
-    /// whether that was the last place: then the file is forgotten. It takes no memory.
+    /// One place less holds a file; one in a queue is no longer charged to its user. There is such a
+    /// place: it was counted and charged. It answers whether that was the last place: then the file
+    /// is forgotten. It takes no memory.
     pub fn drop_one(&mut self, place: Place, ino: Ino) -> bool
-        requires { CanDrop place ino self.old }
+        requires counted { CanDrop place ino self.old }
         ensures dropped { self.new ≡ record (dropped place ino self.old) { room = self.new.room } }
         ensures room { self.old.room ≤ self.new.room }
         ensures last { result ≡ nat_eq (refs_of self.new ino) 0 }

@@ -1,6 +1,7 @@
 //! What no clause says: that ample memory is enough, and that a second trial is after a refusal.
 use crate::{Ledger, Place};
 use af_base::errno::Errno;
+use af_base::limits::MAX_INFLIGHT;
 use af_base::names::{Ino, Uid};
 use std::test::Fail;
 
@@ -11,6 +12,8 @@ fn a_file_comes_and_goes(rt: HostRuntime) -> Result<(), Fail> {
     ledger.add_user(user)?;
     ledger.reserve(1)?;
     ledger.hold(Place::Queue(user), file);
+    assert!(rt; ledger.may_send(user, 0, false, 1) == Err(Errno::ETOOMANYREFS));
+    assert!(rt; ledger.may_send(user, 0, true, 1).is_ok());
     assert_eq!(rt; ledger.tabled(file), 0);
     ledger.hold(Place::Table, file);
     assert_eq!(rt; ledger.refs(file), 2);
@@ -33,8 +36,9 @@ fn a_user_may_send(rt: HostRuntime) -> Result<(), Fail> {
     ledger.add_user(first)?;
     assert_eq!(rt; ledger.user_at(1), Some(second));
     assert_eq!(rt; ledger.user_at(2), None);
-    assert!(rt; ledger.may_send(first, 0, false, 1_048_576).is_ok());
-    assert!(rt; ledger.may_send(first, 0, true, 1_048_577) == Err(Errno::ENOBUFS));
+    let most = MAX_INFLIGHT as usize;
+    assert!(rt; ledger.may_send(first, 0, false, most).is_ok());
+    assert!(rt; ledger.may_send(first, 0, true, most + 1) == Err(Errno::ENOBUFS));
     Ok(())
 }
 

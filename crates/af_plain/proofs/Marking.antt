@@ -93,18 +93,6 @@ marks-both a b c xs ys h k = record {
       omega (arith, first, then);
 }
 
--- A file was found again.
-pub marks-old : (a b : Marking) (x : ℕ) → tree.contains nat_cmp a.marked x ≡ true → ((q : ℕ) → tree.contains nat_cmp b.marked q ≡ tree.contains nat_cmp a.marked q) → b.ahead.items ≡ a.ahead.items → Marks a b (x ∷ [])
-marks-old a b x was same ahead = record {
-  marked = λ f e. same f ∙ ap (tree.contains nat_cmp a.marked) (only_one x f e) ∙ was;
-  kept = λ f e. same f ∙ e;
-  only = λ f e. inl (sym (same f) ∙ e);
-  fresh = λ f e. inl (sym (same f) ∙ e);
-  stays = λ f e. subst (λ xs. Contains xs f) (sym ahead) e;
-  ahead = λ f e. inl (subst (λ xs. Contains xs f) ahead e);
-  less = λ all inside. let left_same : left b.marked all ≡ left a.marked all = (λ i. count_by (λ y. not (same y i)) all) in omega (arith, left_same, ap length ahead);
-}
-
 -- A file was found that is new.
 pub marks-new : (a b : Marking) (x : ℕ) → tree.contains nat_cmp a.marked x ≡ false → tree.Updates nat_cmp a.marked b.marked x true → b.ahead.items ≡ a.ahead.items ++ x ∷ [] → Marks a b (x ∷ [])
 marks-new a b x was updates ahead = record {

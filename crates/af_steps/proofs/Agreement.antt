@@ -7,16 +7,15 @@ use Rattle.std.proofs.lemmas.List.Sums.{sum_by-append, sum_by-cons}
 use Rattle.af_base.specs.World.{AsSocket, File, Map, Message, Process, Socket, World}
 use Rattle.af_base.specs.Places.{carried, contents, held_by, queue_at, queue_of, table_at}
 use Rattle.af_base.specs.Counts.{charge, count_in, one, total_of}
-use Rattle.af_base.specs.Changes.{add_file, add_process, add_user, install, push_message, remove_process, uninstall, with_queue, with_socket, with_table}
+use Rattle.af_base.specs.Changes.{add_process, add_user, install, push_message, remove_process, uninstall, with_queue, with_socket, with_table}
 use Rattle.af_base.specs.Steps.{spawned}
 use Rattle.af_base.specs.Unheld.{without}
 use Rattle.af_base.specs.Whole.{IsWhole}
-use Rattle.af_base.proofs.Born.{fresh_file, fresh_process, refs-add_process, total-empty}
+use Rattle.af_base.proofs.Born.{fresh_process, refs-add_process, total-empty}
 use Rattle.af_base.proofs.Dropped.{refs-without, same_queue, total-without}
-use Rattle.af_base.proofs.Held.{tabled-InTable}
+use Rattle.af_base.proofs.Held.{count-cons, tabled-InTable}
 use Rattle.af_base.proofs.Lookups.{changed-was, insert-here, insert-other, itself, none_some, remove-here, remove-other, same_or_not, some_same}
 use Rattle.af_base.proofs.Moved.{table-there, there-table}
-use Rattle.af_base.proofs.Pairs.{refs-add_file}
 use Rattle.af_base.proofs.Places.{count-append, inflight-push, refs-install, refs-pop, refs-push, refs-uninstall}
 use Rattle.af_base.proofs.Replaced.{refs-replace}
 use Rattle.af_base.proofs.Totals.{total-most}
@@ -26,7 +25,7 @@ use Rattle.af_ledger.specs.declared.place.Place.TheVariants.{Queue, Table}
 use Rattle.af_ledger.proofs.Laws.{charge-added, charge-unqueued, inflight-tabled, inflight-unqueued, inflight-untabled, refs-dropped, refs-held, tabled-tabled, tabled-unqueued, tabled-untabled, total-unqueued, users-dropped}
 use Rattle.af_steps.specs.Agreement.{Agrees, carrying, held_all}
 use Rattle.af_steps.proofs.HeldAll.{charge-held_all, inflight-held_all, refs-held_all, same-user, tabled-held_all, total-held_all, user-added, user-stays, users-held_all}
-use Rattle.af_steps.proofs.Recounts.{charge-longer, charge-nothing, charged-pop, charged-push, count-carried, count-cons, inflight-pop, queue-emptied, refs-emptied, tabled-install, tabled-replace, tabled-uninstall, total-new, total-weightless}
+use Rattle.af_steps.proofs.Recounts.{charge-longer, charge-nothing, charged-pop, charged-push, count-carried, empty_socket, inflight-pop, queue-emptied, refs-emptied, tabled-install, tabled-replace, tabled-uninstall, total-new, total-weightless}
 
 -- Each process has a user that is kept.
 abbrev AreKnown : World → List (ℕ × ℕ) → Type 0
@@ -163,7 +162,7 @@ agrees-without w f x ps k is queue a = record {
   gone G = total-without (λ y. G (queue_of y)) (λ h y. ap G (same_queue h y)) w f x is
 
 -- A file that is emptied leaves the messages of its queue, whose places are still to be dropped.
-pub agrees-emptied : (w : World) (s : ℕ) (ps : List Message) (k : Kept) → held_by w s ≡ carried (queue_at w s) → Agrees w ps k → Agrees (with_socket w s (λ y. record y { queue = []; backlog = [] })) (ps ++ queue_at w s) k
+pub agrees-emptied : (w : World) (s : ℕ) (ps : List Message) (k : Kept) → held_by w s ≡ carried (queue_at w s) → Agrees w ps k → Agrees (with_socket w s empty_socket) (ps ++ queue_at w s) k
 agrees-emptied w s ps k queue a = record {
   refs = λ g. omega (arith, refs-emptied w s g, ap (count_in g) queue, count-carried g ps (queue_at w s), a.refs g);
   tabled = a.tabled;
@@ -172,22 +171,6 @@ agrees-emptied w s ps k queue a = record {
   total = omega (arith, queue-emptied (sum_by (λ n. length n.attached)) w s refl, sum_by-append (λ n. length n.attached) ps (queue_at w s), a.total);
   known = a.known;
 }
-
--- A new file that holds nothing has no place, and adds none.
-pub agrees-add_file : (w : World) (x : File) (ps : List Message) (k : Kept) → IsWhole w → contents x ≡ [] → queue_of x ≡ [] → Agrees w ps k → Agrees (add_file w x) ps k
-agrees-add_file w x ps k whole empty silent a = record {
-  refs = λ g. let none : count_in g (contents x) ≡ 0 = ap (count_in g) empty in omega (arith, none, refs-add_file w x g new, a.refs g);
-  tabled = a.tabled;
-  inflight = λ g. omega (arith, added (λ q. count_in g (carried q)) refl, a.inflight g);
-  charged = λ u. omega (arith, added (sum_by (charge u)) refl, a.charged u);
-  total = omega (arith, added (sum_by (λ n. length n.attached)) refl, a.total);
-  known = a.known;
-} where
-  new : map.get w.files w.next_ino ≡ None
-  new = fresh_file w w.next_ino whole (omega arith)
-
-  added : (G : List Message → ℕ) → G [] ≡ 0 → total_of (λ y. G (queue_of y)) (add_file w x).files ≡ total_of (λ y. G (queue_of y)) w.files
-  added G none = let nothing : G (queue_of x) ≡ 0 = ap G silent ∙ none in omega (arith, nothing, total-new (λ y. G (queue_of y)) w.files w.next_ino x new)
 
 -- A new process with an empty table and a user that is kept adds no place.
 pub agrees-add_process : (w : World) (q : Process) (ps : List Message) (k : Kept) → IsWhole w → q.table ≡ map.empty → IsTrue (is_user q.user k.users) → Agrees w ps k → Agrees (add_process w q) ps k
@@ -251,6 +234,3 @@ agrees-remove_process w p ps k empty a = record {
 
   same : (g : ℕ) → total_of (λ q. total_of (one g) q.table) (map.remove w.processes p) ≡ total_of (λ q. total_of (one g) q.table) w.processes
   same g = total-weightless (λ q. total_of (one g) q.table) w.processes p (light g)
-
--- The numbers kept stay the recounts.
-pub ruleset agreements = (agrees-room, agrees-install, agrees-replace, agrees-uninstall, agrees-push, agrees-pop, agrees-unqueue, agrees-done, agrees-without, agrees-emptied, agrees-add_file, agrees-add_process, agrees-spawned, agrees-remove_process)

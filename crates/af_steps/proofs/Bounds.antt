@@ -10,7 +10,7 @@ use Rattle.af_base.specs.World.{Map, Message, Process, World}
 use Rattle.af_base.specs.Places.{carried, queue_of, table_at}
 use Rattle.af_base.specs.Counts.{charge, charged, count_in, inflight, one, tabled, total, total_of}
 use Rattle.af_base.specs.Whole.{IsWithin}
-use Rattle.af_base.proofs.Held.{tabled-InTable}
+use Rattle.af_base.proofs.Held.{count-cons, tabled-InTable}
 use Rattle.af_base.proofs.Lookups.{none_some, not_same, remove-here, remove-other, same_or_not, itself}
 use Rattle.af_base.proofs.Places.{count-append}
 use Rattle.af_base.proofs.Sums.{total-remove}
@@ -21,7 +21,7 @@ use Rattle.af_ledger.proofs.Laws.{charge-queued, inflight-queued, total-queued, 
 use Rattle.af_steps.specs.Agreement.{Agrees, carrying, held_all}
 
 -- A number is another at most once.
-one-most : (f g : ℕ) → one f g ≤ 1
+pub one-most : (f g : ℕ) → one f g ≤ 1
 one-most f g = by (nat_eq f g) where
   by : (b : Bool) → cond b 1 0 ≤ 1
   by true = omega arith
@@ -30,10 +30,6 @@ one-most f g = by (nat_eq f g) where
 -- A number is itself once.
 one-itself : (f : ℕ) → one f f ≡ 1
 one-itself f = ap {B = ℕ} (λ b. cond b 1 0) (itself f)
-
--- A list has a number as often as its first is it, and as its rest has it.
-count-cons : (f x : ℕ) (xs : List ℕ) → count_in f (x ∷ xs) ≡ one f x + count_in f xs
-count-cons f x xs = sum_by-cons _ x xs
 
 -- A list has a number at most as often as it is long.
 count-length : (f : ℕ) (xs : List ℕ) → count_in f xs ≤ length xs
@@ -87,9 +83,9 @@ pub can-hold-table : (w : World) (f : ℕ) (ps : List Message) (k : Kept) → Is
 can-hold-table w f ps k within agrees = (countable-table w f ps k within agrees, tt)
 
 -- A queue has a file in at most as many places as it has places.
-count-carried : (f : ℕ) (q : List Message) → count_in f (carried q) ≤ sum_by (λ m. length m.attached) q
-count-carried f [] = omega arith
-count-carried f (m ∷ q) = omega (arith, count-append f m.attached (carried q), count-length f m.attached, count-carried f q, sum_by-cons (λ m. length m.attached) m q)
+carried-most : (f : ℕ) (q : List Message) → count_in f (carried q) ≤ sum_by (λ m. length m.attached) q
+carried-most f [] = omega arith
+carried-most f (m ∷ q) = omega (arith, count-append f m.attached (carried q), count-length f m.attached, carried-most f q, sum_by-cons (λ m. length m.attached) m q)
 
 -- A queue charges a user for at most as many places as it has.
 charge-most : (u : ℕ) (q : List Message) → sum_by (charge u) q ≤ sum_by (λ m. length m.attached) q
@@ -101,7 +97,7 @@ charge-most u (m ∷ q) = omega (arith, by (nat_eq u m.user), charge-most u q, s
 
 -- A file is in flight at most as often as there are queue places.
 inflight-total : (w : World) (f : ℕ) → inflight w f ≤ total w
-inflight-total w f = total-below (λ x. count_in f (carried (queue_of x))) (λ x. sum_by (λ m. length m.attached) (queue_of x)) w.files w.files (λ i x is. (x, is, count-carried f (queue_of x)))
+inflight-total w f = total-below (λ x. count_in f (carried (queue_of x))) (λ x. sum_by (λ m. length m.attached) (queue_of x)) w.files w.files (λ i x is. (x, is, carried-most f (queue_of x)))
 
 -- A user is charged for at most as many queue places as there are.
 charged-total : (w : World) (u : ℕ) → charged w u ≤ total w

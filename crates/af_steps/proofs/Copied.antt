@@ -1,5 +1,5 @@
 -- A table copied, number by number.
-use Rattle.std.proofs.Common.{◌≡◌, ◌<◌, ◌≤◌, ℕ, ◌+◌, List, inl, inr, refl, sym, ap, ◌∙◌, subst, cond, nat_eq, arith}
+use Rattle.std.proofs.Common.{◌≡◌, ◌<◌, ◌≤◌, ℕ, ◌+◌, List, inl, inr, sym, ap, ◌∙◌, subst, arith}
 use Rattle.std.specs.Prelude.{Some, None, false, IsTrue, is_some, unwrap_or}
 use Rattle.std.specs.Option.{option_map_or}
 use Rattle.std.specs.Ordering.{nat_cmp}
@@ -22,7 +22,7 @@ use Rattle.af_ledger.specs.Kept.{Kept, held, is_user}
 use Rattle.af_steps.specs.Agreement.{IsSteady}
 use Rattle.af_steps.specs.Stored.{Stored}
 use Rattle.af_steps.proofs.Agreement.{agrees-add_process}
-use Rattle.af_steps.proofs.Shedding.{steady-same}
+use Rattle.af_steps.proofs.Shedding.{steady-up-to-room}
 use Rattle.af_steps.proofs.Steady.{steady-installed}
 
 -- A value put twice is put once.
@@ -110,7 +110,7 @@ copying-step w0 child q from inside s new p n f same h c apart at opened past be
     let low = (h.within.processes p q there).numbers n (ap is_some stands) in
     let live = h.whole.tables_live f (p, n, ap (λ (v : Stored). table_at v.world p n) (sym same) ∙ opened) in
     let more = steady-installed s.world child n f (part w0 child q from s.world c) s.pending s.kept h (copying-child w0 child q from s.world c) (c.above n past) low live in (
-      steady-same (install s.world child n f) new.world s.pending new.pending (held Table f s.kept) new.kept more world pending kept,
+      steady-up-to-room (install s.world child n f) new.world s.pending new.pending (held Table f s.kept) new.kept more world pending kept,
       subst (Copying w0 child q (n + 1)) (sym world) (copying-more w0 child q from s.world c n f past (λ m over under. sym (shows m) ∙ between m over under) stands),
     )
 

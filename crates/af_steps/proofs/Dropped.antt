@@ -1,25 +1,17 @@
 -- A file goes: what the code does to the map of files is what the world without it is.
-use Rattle.std.proofs.Common.{◌≡◌, ℕ, refl, sym, ap, ◌∙◌, nat_eq, []}
+use Rattle.std.proofs.Common.{◌≡◌, ℕ, refl, sym, ap, ◌∙◌, nat_eq}
 use Rattle.std.specs.Prelude.{Some, None}
 use Rattle.std.specs.Option.{option_map_or}
 use Rattle.std.specs.FinMap as map
 use Rattle.af_base.specs.declared.events.State.{State}
 use Rattle.af_base.specs.declared.events.State.TheVariants as state
 use Rattle.af_base.specs.World.{World, File, Socket, Plain, AsSocket}
-use Rattle.af_base.specs.Places.{queue_of, queue_at, contents, held_by}
 use Rattle.af_base.specs.Changes.{with_socket}
 use Rattle.af_base.specs.Refusals.{socket_of}
 use Rattle.af_base.specs.Unheld.{without}
 use Rattle.af_base.specs.Whole.{AreMutual, state_at, state_of}
 use Rattle.af_base.proofs.Lookups.{some_same}
 use Rattle.af_base.proofs.Dropping.{without_one, drop_with}
-
--- whether the file is connected
-abbrev IsConnected : State → Type 0
-IsConnected state.Idle = ⊥
-IsConnected (state.Listening b) = ⊥
-IsConnected (state.Connected p) = Unit {0}
-IsConnected state.HungUp = ⊥
 
 module _ (w : World) (f : ℕ) (peers : AreMutual w) where
   pub gone_connected : (p : ℕ) → state_at w f ≡ state.Connected p → with_socket (record w { files = map.remove w.files f }) p (λ s. record s { state = state.HungUp }) ≡ without (nat_eq f) w
@@ -38,17 +30,8 @@ module _ (w : World) (f : ℕ) (peers : AreMutual w) where
     idle : {p : ℕ} → state.Idle ≡ state.Connected p → ⊥
     idle e = cc
 
-pub no_queue : (w : World) (f : ℕ) → map.get w.files f ≡ None → queue_at w f ≡ []
-no_queue w f e = ap (λ o. option_map_or queue_of o []) e
-
-pub queue_is : (w : World) (f : ℕ) (x : File) → map.get w.files f ≡ Some x → queue_at w f ≡ queue_of x
-queue_is w f x e = ap (λ o. option_map_or queue_of o []) e
-
 pub state_is : (w : World) (f : ℕ) (x : File) → map.get w.files f ≡ Some x → state_at w f ≡ state_of x
 state_is w f x e = ap (λ o. option_map_or state_of o state.Idle) e
-
-pub held_is : (w : World) (f : ℕ) (x : File) → map.get w.files f ≡ Some x → held_by w f ≡ contents x
-held_is w f x e = ap (λ o. option_map_or contents o []) e
 
 -- what is no socket is connected to nobody
 pub plain_alone : (x : File) → socket_of x ≡ None → (p : ℕ) → state_of x ≡ state.Connected p → ⊥

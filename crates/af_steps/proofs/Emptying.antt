@@ -1,7 +1,6 @@
 -- Queues are emptied one after the other, and what they had is pending.
-use Rattle.std.proofs.Common.{◌≡◌, ℕ, ◌+◌, Bool, true, false, ◌||◌, cond, List, [], ◌∷◌, ◌++◌, length, refl, sym, ap, ◌∙◌, subst, nat_eq, arith, length-append}
+use Rattle.std.proofs.Common.{◌≡◌, ℕ, Bool, true, false, ◌||◌, cond, List, [], ◌∷◌, ◌++◌, refl, sym, ap, ◌∙◌, nat_eq}
 use Rattle.std.specs.Prelude.{Option, Some, None, option_map, if◌then◌else◌}
-use Rattle.std.specs.Option.{option_map_or}
 use Rattle.std.specs.List.{list_any}
 use Rattle.std.specs.Ordering.{nat_cmp, eq_by_cmp}
 use Rattle.std.specs.Cmp.{both_ways, nat_cmp_total, unsigned_tied}
@@ -9,32 +8,21 @@ use Rattle.std.specs.FinMap as map
 use Rattle.std.specs.FinMap.{nat_cmp-IsAntisymmetric}
 use Rattle.std.proofs.lemmas.Bool.{eq-eqb, eqb-true}
 use Rattle.std.proofs.lemmas.List.Folds.{list_any-append}
-use Rattle.af_base.specs.World.{AsSocket, File, IsLive, Message, Plain, Socket, World, is_live}
-use Rattle.af_base.specs.Places.{carried, contents, held_by, queue_at, queue_of}
-use Rattle.af_base.specs.Counts.{count_in, refs}
-use Rattle.af_base.specs.Unheld.{IsSettled}
+use Rattle.af_base.specs.World.{AsSocket, File, Plain, World}
 use Rattle.af_base.specs.Changes.{change_at, file_with, with_socket}
 use Rattle.af_base.specs.Pass.{emptied, empty_file}
-use Rattle.af_base.specs.Release.{Covered, messages_in}
-use Rattle.af_base.proofs.Covers.{settled-held}
-use Rattle.af_base.proofs.Held.{Contains-count}
-use Rattle.af_base.proofs.Places.{count-append}
-use Rattle.af_base.proofs.Purging.{emptied-emptied, get-emptied, live-emptied}
+use Rattle.af_base.proofs.Purging.{emptied-emptied, get-emptied}
 use Rattle.af_base.proofs.Stepping.{get-change_at}
-use Rattle.af_base.proofs.Sums.{total-change_at}
+use Rattle.af_steps.proofs.Recounts.{empty_socket}
 
 -- It does not matter which of two numbers comes first.
 turned : (a b : ℕ) → nat_eq a b ≡ nat_eq b a
 turned a b = both_ways (nat_eq a b) (nat_eq b a) (λ e. eq-eqb b a (sym (eqb-true a b e))) (λ e. eq-eqb a b (sym (eqb-true b a e)))
 
--- A socket with nothing in it.
-abbrev pub bare : Socket → Socket
-bare x = record x { queue = []; backlog = [] }
-
 -- A file is emptied as a socket is.
-bare_file : (x : File) → empty_file x ≡ file_with bare x
-bare_file Plain = refl
-bare_file (AsSocket s) = refl
+emptied_file : (x : File) → empty_file x ≡ file_with empty_socket x
+emptied_file Plain = refl
+emptied_file (AsSocket s) = refl
 
 -- No file is emptied.
 emptied_none : (w : World) → emptied (λ f. false) w ≡ w
@@ -42,10 +30,6 @@ emptied_none w = ap (λ fs. record w { files = fs }) (map.same_map nat_cmp_total
   each : (o : Option File) → option_map (λ x. if false then empty_file x else x) o ≡ o
   each None = refl
   each (Some x) = refl
-
--- The world with a change at one number.
-abbrev changed : World → ℕ → World
-changed w s = record w { files = change_at empty_file w.files s }
 
 -- One file emptied is a change at its number.
 emptied_change : (w : World) (s : ℕ) → emptied (nat_eq s) w ≡ record w { files = change_at empty_file w.files s }
@@ -63,19 +47,15 @@ emptied_change w s = ap (λ fs. record w { files = fs }) (map.same_map nat_cmp_t
       each q (Some x) = ap Some (same (nat_eq s q) x ∙ ap (λ b. cond b (empty_file x) x) (tied q))
 
 -- It is a change of a socket.
-emptied_socket : (w : World) (s : ℕ) → emptied (nat_eq s) w ≡ with_socket w s bare
-emptied_socket w s = emptied_change w s ∙ (λ i. record w { files = change_at (λ x. bare_file x i) w.files s })
-
--- Where there is no file, there is nothing to empty.
-emptied_nowhere : (w : World) (s : ℕ) → map.get w.files s ≡ None → emptied (nat_eq s) w ≡ w
-emptied_nowhere w s e = emptied_change w s ∙ ap (λ o. record w { files = option_map_or (λ y. map.insert w.files s (empty_file y)) o w.files }) e
+emptied_socket : (w : World) (s : ℕ) → emptied (nat_eq s) w ≡ with_socket w s empty_socket
+emptied_socket w s = emptied_change w s ∙ (λ i. record w { files = change_at (λ x. emptied_file x i) w.files s })
 
 -- No queue is emptied yet.
 pub emptied-nothing : (w : World) → w ≡ emptied (λ f. list_any (nat_eq f) []) w
 emptied-nothing w = sym (emptied_none w)
 
 -- One queue more is emptied.
-pub emptied-more : (old mid now : World) (done : List ℕ) (s : ℕ) → mid ≡ emptied (λ f. list_any (nat_eq f) done) old → now ≡ with_socket mid s bare → now ≡ emptied (λ f. list_any (nat_eq f) (done ++ s ∷ [])) old
+pub emptied-more : (old mid now : World) (done : List ℕ) (s : ℕ) → mid ≡ emptied (λ f. list_any (nat_eq f) done) old → now ≡ with_socket mid s empty_socket → now ≡ emptied (λ f. list_any (nat_eq f) (done ++ s ∷ [])) old
 emptied-more old mid now done s before stored =
     stored ∙ sym (emptied_socket mid s) ∙ ap (emptied (nat_eq s)) before ∙ emptied-emptied (λ f. list_any (nat_eq f) done) (nat_eq s) old ∙ (λ i. emptied (λ f. told f i) old) where
       or_none : (b : Bool) → b ≡ (b || false)

@@ -1,9 +1,9 @@
 -- A store that has nothing.
-use Rattle.std.proofs.Common.{◌≡◌, ℕ, ◌+◌, [], refl, sym, ap, ◌∙◌, subst, arith}
-use Rattle.std.specs.Prelude.{None, unwrap_or}
+use Rattle.std.proofs.Common.{◌≡◌, ℕ, [], sym, ap, ◌∙◌, arith}
+use Rattle.std.specs.Prelude.{unwrap_or}
 use Rattle.std.specs.Ordering.{nat_cmp}
 use Rattle.std.specs.FinMap as map
-use Rattle.af_base.specs.World.{File, Process, World, empty_world}
+use Rattle.af_base.specs.World.{File, Process, empty_world}
 use Rattle.af_base.specs.Places.{carried, contents, queue_of}
 use Rattle.af_base.specs.Counts.{count_in, charge, one, total_of}
 use Rattle.std.specs.List.{sum_by}
@@ -11,7 +11,6 @@ use Rattle.std.specs.Prelude.{length, nat_eq}
 use Rattle.std.specs.Map.{lookup}
 use Rattle.af_base.proofs.Born.{total-empty}
 use Rattle.af_base.proofs.Lookups.{none_some}
-use Rattle.af_base.proofs.Sound.{fresh_sound}
 use Rattle.af_ledger.specs.Counted.{places_in, uncounted}
 use Rattle.af_ledger.specs.Kept.{Kept, count_of}
 use Rattle.af_steps.specs.Agreement.{Agrees}

@@ -6,12 +6,13 @@ use Rattle.std.specs.Map.{keys_of}
 use Rattle.std.proofs.Math.Bool.{or-true}
 use Rattle.std.proofs.lemmas.List.Folds.{list_any-append}
 use Rattle.af_base.specs.Counts.{count_in}
+use Rattle.af_base.proofs.Held.{count-cons}
 use Rattle.af_base.proofs.Lookups.{itself}
 use Rattle.af_ledger.specs.Kept.{Kept, charge_of, count_of, held, is_user, refs_of, with_user}
 use Rattle.af_ledger.specs.declared.place.Place.TheVariants.{Queue}
 use Rattle.af_ledger.proofs.Laws.{charge-queued, inflight-queued, refs-held, tabled-queued, total-queued, users-added, users-held}
 use Rattle.af_steps.specs.Agreement.{held_all}
-use Rattle.af_steps.proofs.Recounts.{charge-longer, charge-nothing, count-cons}
+use Rattle.af_steps.proofs.Recounts.{charge-longer, charge-nothing}
 
 -- Who is a user is one among the same users.
 pub same-user : (u : ℕ) (us vs : List (ℕ × ℕ)) → keys_of vs ≡ keys_of us → IsTrue (is_user u us) → IsTrue (is_user u vs)

@@ -1,15 +1,13 @@
 -- What is sent, held file by file.
-use Rattle.std.proofs.Common.{◌≡◌, ◌<◌, ◌≤◌, ℕ, ◌+◌, List, [], ◌∷◌, ◌++◌, length, refl, sym, ap, ◌∙◌, subst, take, drop, suc, add-one, drop-cons, take_all, arith}
+use Rattle.std.proofs.Common.{◌≡◌, ◌<◌, ℕ, ◌+◌, List, [], ◌∷◌, ◌++◌, length, refl, sym, ap, ◌∙◌, subst, take, drop}
 use Rattle.std.specs.Prelude.{Option, Some, None, filter_map, slice_index_or}
 use Rattle.std.specs.List.{Contains, cons_option}
 use Rattle.std.proofs.lemmas.List.{append-nil, append_assoc, take-append-drop, take_more}
 use Rattle.std.proofs.lemmas.List.Elements.{Contains-append_right, filter_map-append}
 use Rattle.af_base.proofs.Elements.{Contains-first}
-use Rattle.af_ledger.specs.Kept.{Kept, held, refs_of}
+use Rattle.af_ledger.specs.Kept.{Kept, held}
 use Rattle.af_ledger.specs.declared.place.Place.{Place}
-use Rattle.af_ledger.specs.declared.place.Place.TheVariants.{Queue}
 use Rattle.af_steps.specs.Agreement.{held_all}
-use Rattle.af_steps.proofs.HeldAll.{refs-held_all}
 
 -- One more is held after the others.
 pub held-last : (p : Place) (fs : List ℕ) (f : ℕ) (k : Kept) → held_all p (fs ++ f ∷ []) k ≡ held p f (held_all p fs k)

@@ -1,5 +1,5 @@
 -- The numbers kept stay right where files are made and numbers of a process stand for them.
-use Rattle.std.proofs.Common.{◌≡◌, ◌≤◌, ℕ, ◌+◌, Bool, true, false, ◌⊎◌, inl, inr, List, [], ◌∷◌, length, refl, sym, ap, ◌∙◌, subst, cond, nat_eq, arith}
+use Rattle.std.proofs.Common.{◌≡◌, ◌≤◌, ℕ, ◌+◌, false, ◌⊎◌, inl, inr, List, [], ◌∷◌, length, refl, sym, ap, ◌∙◌, subst, arith}
 use Rattle.std.specs.Prelude.{Some, None, is_some}
 use Rattle.std.specs.List.{sum_by}
 use Rattle.std.specs.FinMap as map
@@ -24,6 +24,7 @@ use Rattle.af_ledger.proofs.Laws.{tabled-tabled}
 use Rattle.af_steps.specs.Agreement.{Agrees}
 use Rattle.af_steps.specs.Stored.{Stored}
 use Rattle.af_steps.proofs.Agreement.{agrees-install, agrees-room}
+use Rattle.af_steps.proofs.Bounds.{one-most}
 use Rattle.af_steps.proofs.Paired.{AreLowest, both-lowest, first-free, second-left}
 use Rattle.af_steps.proofs.Recounts.{total-new}
 use Rattle.af_steps.proofs.Resting.{agrees-same}
@@ -87,13 +88,6 @@ unplaced w f whole none = elim (cases_lt 0 (tabled w f)) [
 
   strange : InTable w f ⊎ ((s : ℕ) × Holds w s f) → ⊥
   strange h = elim h [ inl t ↦ false≢true (sym gone ∙ whole.tables_live f t) | inr s ↦ false≢true (sym gone ∙ whole.queues_live s.0 f s.1) ]
-
--- A number is another at most once.
-one-most : (f g : ℕ) → one f g ≤ 1
-one-most f g = by (nat_eq f g) where
-  by : (b : Bool) → cond b 1 0 ≤ 1
-  by true = omega arith
-  by false = omega arith
 
 -- A place more of a new file can be counted, also after one of another file is.
 pub second-holds : (w : World) (f g : ℕ) (k l m : Kept) → IsWhole w → w.next_ino ≤ g → Agrees w [] k → l ≡ record k { room = l.room } → m ≡ record (held Table f l) { room = m.room } → CanHold Table g m

@@ -1,6 +1,6 @@
 -- What a receive takes, changes and answers, by the message that is first in the queue.
 use Rattle.std.proofs.Common.{◌≡◌, ◌<◌, ◌≤◌, false, not, suc, arith, ℕ, List, [], ◌∷◌, length, take, drop, refl, sym, ap, ◌∙◌, subst}
-use Rattle.std.specs.Prelude.{Option, Some, None, unwrap_or, option_map, min, nat_eq, nat_lt, if◌then◌else◌, slice_get}
+use Rattle.std.specs.Prelude.{Some, None, unwrap_or, option_map, min, nat_eq, nat_lt, if◌then◌else◌, slice_get}
 use Rattle.std.specs.Option.{option_and_then, option_map_or}
 use Rattle.std.specs.List.{All, zip}
 use Rattle.std.specs.FinMap as map
@@ -9,7 +9,7 @@ use Rattle.af_base.specs.declared.events.SockType.TheVariants.{Seqpacket}
 use Rattle.af_base.specs.declared.errno.Errno.TheVariants.{ESRCH}
 use Rattle.af_base.specs.declared.events.Step.TheVariants as step
 use Rattle.af_base.specs.declared.events.Reply.TheVariants as reply
-use Rattle.af_base.specs.World.{World, Process, Socket, File, Plain, AsSocket, Message}
+use Rattle.af_base.specs.World.{World, Process, Socket, AsSocket, Message}
 use Rattle.af_base.specs.Places.{table_at, queue_of, queue_at}
 use Rattle.af_base.specs.Changes.{install_all, with_queue}
 use Rattle.af_base.specs.Table.{lowest_free}
@@ -23,18 +23,7 @@ use Rattle.af_base.proofs.Lookups.{some_same, told_apart}
 use Rattle.af_base.proofs.Settling.{settles_none}
 use Rattle.af_base.proofs.Stepped.{same-with_queue, NoneFits, none-fits, socket-there}
 use Rattle.af_base.proofs.Stepping.{accepted}
-
--- a queue that is not empty is that of a socket
-pub queue-there : (w : World) (f : ℕ) (m : Message) (rest : List Message) → queue_at w f ≡ m ∷ rest → (x : Socket) × (map.get w.files f ≡ Some (AsSocket x)) × (x.queue ≡ m ∷ rest)
-queue-there w f m rest e = by (map.get w.files f) refl where
-  by : (o : Option File) → map.get w.files f ≡ o → (x : Socket) × (map.get w.files f ≡ Some (AsSocket x)) × (x.queue ≡ m ∷ rest)
-  by None is = absurd (nothing (sym (ap (λ o. option_map_or queue_of o []) is) ∙ e)) where
-    nothing : [] ≡ m ∷ rest → ⊥
-    nothing e = cc
-  by (Some Plain) is = absurd (nothing (sym (ap (λ o. option_map_or queue_of o []) is) ∙ e)) where
-    nothing : [] ≡ m ∷ rest → ⊥
-    nothing e = cc
-  by (Some (AsSocket x)) is = (x, is, sym (ap (λ o. option_map_or queue_of o []) is) ∙ e)
+use Rattle.af_steps.proofs.Steady.{queue-socket}
 
 module _ (w : World) (p n bytes fds ino : ℕ) (x : Socket) (at : table_at w p n ≡ Some ino) (is : map.get w.files ino ≡ Some (AsSocket x)) where
   on : socket_on w p n ≡ x
@@ -99,7 +88,7 @@ module _ (w : World) (p n bytes fds ino : ℕ) (sound : IsSound w) (fits : refus
   -- there is something to receive
   module _ (m : Message) (rest : List Message) (ns : List ℕ) (q : queue_at w ino ≡ m ∷ rest) (lowest : ns ≡ lowest_free (min (length m.attached) fds) (process_at w p)) where
     found : (x : Socket) × (map.get w.files ino ≡ Some (AsSocket x)) × (x.queue ≡ m ∷ rest)
-    found = queue-there w ino m rest q
+    found = queue-socket w ino m rest q
 
     recv-step : (new : World) → Settles (install_all (with_queue w ino rest) p (zip ns m.attached)) new
         → ProcessStep w p (step.Recv n bytes fds) (reply.Got (take bytes m.bytes) ns (nat_lt bytes (length m.bytes)) (nat_lt (length ns) (length m.attached))) new

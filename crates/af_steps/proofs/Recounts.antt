@@ -66,10 +66,6 @@ carried-append ps qs = flat_map-append (λ m. m.attached) ps qs
 pub count-carried : (f : ℕ) (ps qs : List Message) → count_in f (carried (ps ++ qs)) ≡ count_in f (carried ps) + count_in f (carried qs)
 count-carried f ps qs = ap (count_in f) (carried-append ps qs) ∙ count-append f (carried ps) (carried qs)
 
--- A list of files is counted from its first on.
-pub count-cons : (f x : ℕ) (xs : List ℕ) → count_in f (x ∷ xs) ≡ one f x + count_in f xs
-count-cons f x xs = sum_by-cons _ x xs
-
 -- A value at a new key adds what it weighs.
 pub total-new : {X : Type 0} (F : X → ℕ) (m : Map X) (k : ℕ) (v : X) → map.get m k ≡ None → total_of F (map.insert m k v) ≡ total_of F m + F v
 total-new F m k v none =
@@ -101,15 +97,15 @@ total-emptied F w s g light = by (map.get w.files s) refl where
       omega (arith, before, light x, total-change_at F (file_with g) w.files s x e)
 
 -- A socket with nothing in it.
-abbrev pub bare : Socket → Socket
-bare x = record x { queue = []; backlog = [] }
+abbrev pub empty_socket : Socket → Socket
+empty_socket x = record x { queue = []; backlog = [] }
 
 -- An emptied queue takes along what its messages weigh.
-pub queue-emptied : (G : List Message → ℕ) (w : World) (s : ℕ) → G [] ≡ 0 → total_of (λ x. G (queue_of x)) (with_socket w s bare).files + G (queue_at w s) ≡ total_of (λ x. G (queue_of x)) w.files
+pub queue-emptied : (G : List Message → ℕ) (w : World) (s : ℕ) → G [] ≡ 0 → total_of (λ x. G (queue_of x)) (with_socket w s empty_socket).files + G (queue_at w s) ≡ total_of (λ x. G (queue_of x)) w.files
 queue-emptied G w s none =
     let there : option_map_or (λ x. G (queue_of x)) (map.get w.files s) 0 ≡ G (queue_at w s) = at (map.get w.files s) in
-    omega (arith, there, total-emptied (λ x. G (queue_of x)) w s bare light) where
-      light : (x : File) → G (queue_of (file_with bare x)) ≡ 0
+    omega (arith, there, total-emptied (λ x. G (queue_of x)) w s empty_socket light) where
+      light : (x : File) → G (queue_of (file_with empty_socket x)) ≡ 0
       light Plain = none
       light (AsSocket y) = none
 
@@ -118,11 +114,11 @@ queue-emptied G w s none =
       at (Some x) = refl
 
 -- A file that is emptied loses the places that it had.
-pub refs-emptied : (w : World) (s f : ℕ) → refs (with_socket w s bare) f + count_in f (held_by w s) ≡ refs w f
+pub refs-emptied : (w : World) (s f : ℕ) → refs (with_socket w s empty_socket) f + count_in f (held_by w s) ≡ refs w f
 refs-emptied w s f =
     let there : option_map_or (λ x. count_in f (contents x)) (map.get w.files s) 0 ≡ count_in f (held_by w s) = at (map.get w.files s) in
-    omega (arith, there, total-emptied (λ x. count_in f (contents x)) w s bare light) where
-      light : (x : File) → count_in f (contents (file_with bare x)) ≡ 0
+    omega (arith, there, total-emptied (λ x. count_in f (contents x)) w s empty_socket light) where
+      light : (x : File) → count_in f (contents (file_with empty_socket x)) ≡ 0
       light Plain = refl
       light (AsSocket y) = refl
 
@@ -139,6 +135,3 @@ charge-longer false f fs = refl
 pub charge-nothing : (b : Bool) → ◌≡◌ {A = ℕ} (cond b 0 0) 0
 charge-nothing true = refl
 charge-nothing false = refl
-
--- Each recount after a change.
-pub ruleset recounts = (tabled-install, tabled-replace, tabled-uninstall, charged-push, inflight-pop, charged-pop, queue-emptied, refs-emptied)

@@ -1,5 +1,5 @@
 -- A store at rest is steady, and what a step leads to.
-use Rattle.std.proofs.Common.{◌≡◌, ◌<◌, ℕ, false, not, inl, inr, List, [], sym, ap, subst, arith}
+use Rattle.std.proofs.Common.{◌≡◌, ◌<◌, ℕ, false, not, List, [], sym, ap, ◌∙◌, subst, arith}
 use Rattle.std.specs.Prelude.{Some, Result, Ok, Err, OnOk, IsTrue}
 use Rattle.std.specs.FinMap as map
 use Rattle.std.specs.Result.{is_err}
@@ -7,22 +7,20 @@ use Rattle.std.proofs.lemmas.Bool.{false≢true}
 use Rattle.af_base.specs.World.{Message, World}
 use Rattle.af_base.specs.Places.{table_at}
 use Rattle.af_base.specs.Refusals.{process_at}
-use Rattle.af_base.specs.Unheld.{Settles}
 use Rattle.af_base.specs.Whole.{IsSound}
-use Rattle.af_base.proofs.Covers.{settled-held}
+use Rattle.af_base.proofs.Placed.{settled-held}
 use Rattle.af_base.proofs.Stepped.{process-there}
 use Rattle.af_ledger.specs.Kept.{CanHold, Kept, refs_of}
 use Rattle.af_ledger.specs.declared.place.Place.TheVariants.{Table}
 use Rattle.af_steps.specs.Agreement.{Agrees, IsAtRest, IsSteady}
-use Rattle.af_steps.specs.Dropping.{Sheds}
 use Rattle.af_steps.specs.Stored.{Stored}
 use Rattle.af_steps.proofs.Bounds.{can-hold-table}
-use Rattle.af_steps.proofs.Steady.{gone-settles, steady-rest}
+use Rattle.af_steps.proofs.Shedding.{steady-up-to-room}
+use Rattle.af_steps.proofs.Steady.{steady-rest}
 
 -- What is said of a world, of messages and of numbers is said of their equals.
 pub steady-same : (v w : World) (ps qs : List Message) (k l : Kept) → v ≡ w → ps ≡ qs → k ≡ l → IsSteady w qs l → IsSteady v ps k
-steady-same v w ps qs k l world messages numbers h =
-    subst (λ x. IsSteady x ps k) (sym world) (subst (λ x. IsSteady w x k) (sym messages) (subst (IsSteady w qs) (sym numbers) h))
+steady-same v w ps qs k l world messages numbers h = steady-up-to-room w v qs ps l k h world messages (numbers ∙ ap {A = Kept} (λ x. record l { room = x.room }) (sym numbers))
 
 -- The same of the numbers alone.
 pub agrees-same : (v w : World) (k l : Kept) → v ≡ w → k ≡ l → Agrees w [] l → Agrees v [] k
@@ -35,13 +33,6 @@ rest-steady-all s h = subst (λ ps. IsSteady s.world ps s.kept) (sym h.none) (st
 -- A store that has what one at rest has is steady.
 pub rest-steady-same : (s t : Stored) → IsAtRest s → t.world ≡ s.world → t.kept ≡ s.kept → t.pending ≡ s.pending → IsSteady t.world t.pending t.kept
 rest-steady-same s t h world kept pending = steady-same t.world s.world t.pending s.pending t.kept s.kept world pending kept (rest-steady-all s h)
-
--- Where a file that nothing held is gone at most, what is left settles to what the whole settles to.
-pub shed-settles : (old new end : World) → Sheds old new → Settles new end → Settles old end
-shed-settles old new end shed s = elim shed [
-  | inl same ↦ subst (λ w. Settles w end) same s
-  | inr gone ↦ gone-settles old gone.0 gone.1 gone.2 end (subst (λ w. Settles w end) gone.3 s)
-]
 
 -- Where there was no error, what is said on that is so.
 pub on-ok : {T E : Type 0} (r : Result T E) (P : Type 0) → is_err r ≡ false → OnOk r P → P

@@ -5,21 +5,21 @@ use Rattle.std.specs.List.{Contains}
 use Rattle.std.specs.Option.{option_map_or}
 use Rattle.std.specs.FinMap as map
 use Rattle.af_base.specs.World.{IsLive, Message, World}
-use Rattle.af_base.specs.Places.{held_by, carried, queue_at, queue_of}
-use Rattle.af_base.specs.Counts.{count_in, refs}
+use Rattle.af_base.specs.Places.{carried, queue_at, queue_of}
 use Rattle.af_base.specs.Release.{messages_in}
 use Rattle.af_base.specs.Changes.{remove_process}
 use Rattle.af_base.specs.Unheld.{Settles, without}
+use Rattle.af_base.proofs.Placed.{settles-without}
 use Rattle.af_base.proofs.Dropped.{messages-without}
 use Rattle.af_base.proofs.Held.{count-Contains}
 use Rattle.af_base.proofs.Lookups.{there}
 use Rattle.af_base.proofs.Places.{count-append}
 use Rattle.af_ledger.specs.Kept.{Kept, dropped, refs_of}
 use Rattle.af_ledger.specs.declared.place.Place.{Place}
-use Rattle.af_steps.specs.Agreement.{IsAtRest, IsSteady, IsSteadyBut, carrying}
+use Rattle.af_steps.specs.Agreement.{IsSteady, IsSteadyBut, carrying}
 use Rattle.af_steps.specs.Dropping.{Drops, Sheds}
 use Rattle.af_steps.specs.Stored.{Stored}
-use Rattle.af_steps.proofs.Steady.{gone-refs, gone-settles, gone-settles-exit, rest-steady, steady-gone, steady-kept, steady-rest, steady-room, steadybut-room}
+use Rattle.af_steps.proofs.Steady.{gone-refs, gone-settles-exit, steady-gone, steady-kept, steady-room, steadybut-room}
 
 -- A file that is gone takes its messages along.
 messages-gone : (w : World) (f : ℕ) → IsLive w f → messages_in (without (nat_eq f) w) + length (queue_at w f) ≡ messages_in w
@@ -31,7 +31,7 @@ messages-gone w f live =
 pub sheds-settles : (old new : World) → Sheds old new → (end : World) → Settles new end → Settles old end
 sheds-settles old new h end s = elim h [
   | inl same ↦ subst (λ w. Settles w end) same s
-  | inr gone ↦ gone-settles old gone.0 gone.1 gone.2 end (subst (λ w. Settles w end) gone.3 s)
+  | inr gone ↦ settles-without old gone.0 gone.1 gone.2 end (subst (λ w. Settles w end) gone.3 s)
 ]
 
 -- The same without a process.
@@ -82,25 +82,15 @@ steady-next w m ps k fs i f low read h =
     let next : drop i fs ≡ f ∷ drop (i + 1) fs = rw add-one (drop-cons fs i f low ∙ ap (λ x. x ∷ drop (suc i) fs) (sym read)) in
     subst (λ l. IsSteady w (carrying l m ∷ ps) k) next h
 
--- The same of a store, whose world, messages and numbers are those, up to the room.
-pub steady-same : (w v : World) (ps qs : List Message) (k l : Kept) → IsSteady w ps k → v ≡ w → qs ≡ ps → l ≡ record k { room = l.room } → IsSteady v qs l
-steady-same w v ps qs k l h world pending kept =
+-- What is said of a world, of messages and of numbers is said of their equals, up to the room.
+pub steady-up-to-room : (w v : World) (ps qs : List Message) (k l : Kept) → IsSteady w ps k → v ≡ w → qs ≡ ps → l ≡ record k { room = l.room } → IsSteady v qs l
+steady-up-to-room w v ps qs k l h world pending kept =
     subst (λ x. IsSteady x qs l) (sym world) (subst (λ x. IsSteady w x l) (sym pending) (subst (IsSteady w ps) (sym kept) (steady-room w ps k l.room h)))
 
 -- The same, but perhaps for a file.
-pub steadybut-same : (f : ℕ) (w v : World) (ps qs : List Message) (k l : Kept) → IsSteadyBut f w ps k → v ≡ w → qs ≡ ps → l ≡ record k { room = l.room } → IsSteadyBut f v qs l
-steadybut-same f w v ps qs k l h world pending kept =
+pub steadybut-up-to-room : (f : ℕ) (w v : World) (ps qs : List Message) (k l : Kept) → IsSteadyBut f w ps k → v ≡ w → qs ≡ ps → l ≡ record k { room = l.room } → IsSteadyBut f v qs l
+steadybut-up-to-room f w v ps qs k l h world pending kept =
     subst (λ x. IsSteadyBut f x qs l) (sym world) (subst (λ x. IsSteadyBut f w x l) (sym pending) (subst (IsSteadyBut f w ps) (sym kept) (steadybut-room f w ps k l.room h)))
-
--- What is steady with nothing pending is at rest.
-pub rest-done : (s : Stored) → IsSteady s.world s.pending s.kept → s.pending ≡ [] → IsAtRest s
-rest-done s h none =
-    let clear : IsSteady s.world [] s.kept = subst (λ ps. IsSteady s.world ps s.kept) none h in
-    record { sound = rest-steady s.world s.kept clear; agrees = clear.agrees; none = none }
-
--- What is at rest is steady.
-pub steady-at-rest : (s : Stored) → IsAtRest s → IsSteady s.world s.pending s.kept
-steady-at-rest s h = subst (λ ps. IsSteady s.world ps s.kept) (sym h.none) (steady-rest s.world s.kept h.sound h.agrees)
 
 -- What a message that is to be dropped carries is live.
 pub live-carried : (w : World) (m : Message) (ps : List Message) (k : Kept) → IsSteady w (m ∷ ps) k → (f : ℕ) → Contains m.attached f → IsLive w f

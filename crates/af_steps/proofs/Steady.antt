@@ -7,11 +7,11 @@ use Rattle.std.specs.FinMap as map
 use Rattle.std.proofs.lemmas.Bool.{cases_lt, eqb-true}
 use Rattle.af_base.specs.World.{AsSocket, File, IsLive, Message, Plain, Process, Socket, World, is_live}
 use Rattle.af_base.specs.Places.{carried, contents, held_by, queue_at, queue_of, table_at}
-use Rattle.af_base.specs.Counts.{one, refs, total_of}
+use Rattle.af_base.specs.Counts.{one, refs}
 use Rattle.af_base.specs.Unheld.{Settles, without}
 use Rattle.af_base.specs.Changes.{file_with, install, remove_process, uninstall, with_queue, with_socket}
 use Rattle.af_base.specs.Whole.{IsSound, IsWhole}
-use Rattle.af_base.proofs.Covers.{settled-counted, settled-held, settles-without}
+use Rattle.af_base.proofs.Placed.{settled-counted, settled-held}
 use Rattle.af_base.proofs.Dropped.{messages-without}
 use Rattle.af_base.proofs.Elements.{Contains-none}
 use Rattle.af_base.proofs.Ended.{tabled-remove, whole-remove_process, within-remove_process}
@@ -28,6 +28,7 @@ use Rattle.af_ledger.proofs.Laws.{refs-dropped, refs-held, tabled-tabled}
 use Rattle.af_steps.specs.Agreement.{Agrees, IsSteady, IsSteadyBut, carrying}
 use Rattle.af_steps.proofs.Agreement.{agrees-done, agrees-emptied, agrees-install, agrees-pop, agrees-remove_process, agrees-replace, agrees-room, agrees-uninstall, agrees-unqueue, agrees-without}
 use Rattle.af_steps.proofs.Bounds.{can-drop-queue, can-drop-table}
+use Rattle.af_steps.proofs.Recounts.{empty_socket, queue-emptied}
 
 -- A file that a place holds is live.
 live-held : (w : World) (f : ℕ) → IsWhole w → 0 < refs w f → IsLive w f
@@ -169,10 +170,6 @@ steady-gone w f ps k h none only =
           omega (arith, few, all, messages-without w f x.0 x.1);
     }
 
--- What is left settles to what the whole settles to, where a live file without a place goes.
-pub gone-settles : (w : World) (f : ℕ) → IsLive w f → refs w f ≡ 0 → (end : World) → Settles (without (nat_eq f) w) end → Settles w end
-gone-settles w f live none end s = settles-without w f live none end s
-
 -- What is left settles to what the whole settles to also without a process, whose places can only be fewer.
 pub gone-settles-exit : (w : World) (p f : ℕ) → IsLive w f → refs w f ≡ 0 → (end : World) → Settles (remove_process (without (nat_eq f) w) p) end → Settles (remove_process w p) end
 gone-settles-exit w p f live none end s =
@@ -180,7 +177,7 @@ gone-settles-exit w p f live none end s =
     settles_first (remove_process w p) f live (λ t. no_place.0 (tabled-remove w p f t)) no_place.1 end s
 
 -- A queue that is not empty is that of a socket.
-queue-socket : (w : World) (s : ℕ) (m : Message) (rest : List Message) → queue_at w s ≡ m ∷ rest → (x : Socket) × (map.get w.files s ≡ Some (AsSocket x)) × (x.queue ≡ m ∷ rest)
+pub queue-socket : (w : World) (s : ℕ) (m : Message) (rest : List Message) → queue_at w s ≡ m ∷ rest → (x : Socket) × (map.get w.files s ≡ Some (AsSocket x)) × (x.queue ≡ m ∷ rest)
 queue-socket w s m rest e = by (map.get w.files s) refl where
   nothing : {A : Type 0} → [] ≡ m ∷ rest → A
   nothing e = absurd (let short : 0 ≡ length (m ∷ rest) = ap length e in omega (arith, short))
@@ -233,37 +230,17 @@ steady-removed w p ps k h free = record {
   few = h.few;
 }
 
--- A socket with nothing in it.
-abbrev bare : Socket → Socket
-bare y = record y { queue = []; backlog = [] }
-
--- With what a file has to receive goes what it adds to a sum over queues, and no more.
-sum-emptied : (F : List Message → ℕ) → F [] ≡ 0 → (w : World) (s : ℕ) → total_of (λ x. F (queue_of x)) (with_socket w s bare).files + F (queue_at w s) ≡ total_of (λ x. F (queue_of x)) w.files
-sum-emptied F none w s = by (map.get w.files s) refl where
-  after : (x : File) → F (queue_of (file_with bare x)) ≡ 0
-  after Plain = none
-  after (AsSocket y) = none
-
-  by : (o : Option File) → map.get w.files s ≡ o → total_of (λ x. F (queue_of x)) (with_socket w s bare).files + F (queue_at w s) ≡ total_of (λ x. F (queue_of x)) w.files
-  by None e =
-      let same : total_of (λ x. F (queue_of x)) (with_socket w s bare).files ≡ total_of (λ x. F (queue_of x)) w.files = ap (λ o. total_of (λ x. F (queue_of x)) (option_map_or (λ x. map.insert w.files s (file_with bare x)) o w.files)) e in
-      let nothing : F (queue_at w s) ≡ 0 = ap (λ o. F (option_map_or queue_of o [])) e ∙ none in
-      omega (arith, same, nothing)
-  by (Some x) e =
-      let here : F (queue_at w s) ≡ F (queue_of x) = ap (λ o. F (option_map_or queue_of o [])) e in
-      omega (arith, here, after x, total-change_at (λ y. F (queue_of y)) (file_with bare) w.files s x e)
-
 -- A socket is emptied, and all is steady with the messages of its queue still to be dropped.
-pub steady-emptied : (w : World) (s : ℕ) (ps : List Message) (k : Kept) → IsSteady w ps k → held_by w s ≡ carried (queue_at w s) → IsSteady (with_socket w s (λ y. record y { queue = []; backlog = [] })) (ps ++ queue_at w s) k
+pub steady-emptied : (w : World) (s : ℕ) (ps : List Message) (k : Kept) → IsSteady w ps k → held_by w s ≡ carried (queue_at w s) → IsSteady (with_socket w s empty_socket) (ps ++ queue_at w s) k
 steady-emptied w s ps k h only = record {
-  whole = whole-changed w s bare (λ x. refl) (λ x f is c. absurd (Contains-none f c)) h.whole;
-  within = within-changed w s bare h.within (λ x is. record { queue = omega arith; backlog = omega arith; messages = λ m c. absurd (Contains-none m c) }) (
+  whole = whole-changed w s empty_socket (λ x. refl) (λ x f is c. absurd (Contains-none f c)) h.whole;
+  within = within-changed w s empty_socket h.within (λ x is. record { queue = omega arith; backlog = omega arith; messages = λ m c. absurd (Contains-none m c) }) (
       let k = h.within in
       let most = k.flying in
-      omega (arith, most, sum-emptied (λ q. sum_by (λ m. length m.attached) q) refl w s)
+      omega (arith, most, queue-emptied (sum_by (λ m. length m.attached)) w s refl)
       );
   agrees = agrees-emptied w s ps k only h.agrees;
-  held = λ g l. h.held g (sym (live-changed w s bare g) ∙ l);
-  live = λ g some. live-changed w s bare g ∙ h.live g some;
-  few = let few = h.few in omega (arith, few, length-append ps (queue_at w s), sum-emptied length refl w s);
+  held = λ g l. h.held g (sym (live-changed w s empty_socket g) ∙ l);
+  live = λ g some. live-changed w s empty_socket g ∙ h.live g some;
+  few = let few = h.few in omega (arith, few, length-append ps (queue_at w s), queue-emptied length w s refl);
 }

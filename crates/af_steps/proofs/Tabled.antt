@@ -1,21 +1,17 @@
 -- A walk over the files by rising number that marks what tables hold.
 use Rattle.std.proofs.Common.{◌≡◌, ℕ, ◌<◌, true, false, ◌⊎◌, inl, inr, sym, ◌∙◌, subst, arith}
-use Rattle.std.proofs.lemmas.Bool.{cases_lt, cases_order, false≢true}
+use Rattle.std.proofs.lemmas.Bool.{cases_order, false≢true}
 use Rattle.af_base.specs.World.{World, is_live}
 use Rattle.af_base.specs.Places.{InTable}
 use Rattle.af_base.specs.Counts.{tabled}
 use Rattle.af_base.specs.Whole.{IsWhole}
 use Rattle.af_base.proofs.Held.{InTable-tabled, tabled-InTable}
 use Rattle.af_steps.specs.Marking.{Marked, Marks, NoFile}
-use Rattle.af_steps.proofs.Marking.{marked-join, marked-left, marked-none}
+use Rattle.af_steps.proofs.Marking.{marked-join, marked-left}
 
 -- A table holds the file, and the walk has still to come to it. No file has the number 0, but that is known only once the walk has looked.
 abbrev pub IsAhead : World → ℕ → ℕ → Type 0
 IsAhead w last f = InTable w f × ((last < f) ⊎ (f ≡ 0))
-
--- Nothing is marked yet: all is ahead.
-pub tabled-begin : (w : World) (m : Marks) → Marked (InTable w) (IsAhead w 0) m m
-tabled-begin w m = marked-none _ _ m (λ f t. (t, elim (cases_lt 0 f) [ inl high ↦ inl high | inr zero ↦ inr (omega (arith, zero)) ]))
 
 module _ (w : World) (whole : IsWhole w) (last n : ℕ) (least : (q : ℕ) → last < q → q < n → is_live w q ≡ false) where
   -- What is ahead is the next file, or ahead of this.

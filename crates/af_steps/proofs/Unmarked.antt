@@ -13,16 +13,13 @@ use Rattle.std.proofs.lemmas.List.Sums.{sum_by-cons}
 use Rattle.af_base.specs.World.{File, World, is_live}
 use Rattle.af_base.specs.Reached.{Garbage, is_socket}
 use Rattle.af_base.proofs.Held.{here, later}
+use Rattle.af_base.proofs.Same.{both}
 use Rattle.af_base.proofs.Sums.{first, second}
 use Rattle.af_steps.specs.Marking.{AreGarbage, AreReached, Marks, is_marked, is_socket_at, unmarked}
 
 and-false : (b : Bool) → (b && false) ≡ false
 and-false true = refl
 and-false false = refl
-
-both : (a b : Bool) → (a && b) ≡ true → (a ≡ true) × (b ≡ true)
-both true b e = (refl, e)
-both false b e = absurd (false≢true e)
 
 -- What is in a filtered list passes the test and is in the list.
 any-filter : (t : ℕ → Bool) (ks : List ℕ) (f : ℕ) → list_any (nat_eq f) (filter t ks) ≡ (t f && list_any (nat_eq f) ks)

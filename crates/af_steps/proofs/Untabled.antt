@@ -1,8 +1,7 @@
 -- Tables with a number less.
-use Rattle.std.proofs.Common.{◌≡◌, ◌<◌, ◌≤◌, ℕ, ◌+◌, Bool, true, false, ◌⊎◌, inl, inr, refl, sym, ap, ◌∙◌, subst, cond, nat_eq, arith}
+use Rattle.std.proofs.Common.{◌≡◌, ◌<◌, ◌≤◌, ℕ, ◌+◌, Bool, true, false, inl, inr, refl, sym, ap, ◌∙◌, cond, nat_eq, arith}
 use Rattle.std.specs.Prelude.{Option, Some, None, option_map}
 use Rattle.std.specs.Option.{option_map_or}
-use Rattle.std.specs.Ordering.{nat_cmp, eq_by_cmp}
 use Rattle.std.specs.Cmp.{nat_cmp_total, unsigned_tied}
 use Rattle.std.specs.FinMap as map
 use Rattle.std.proofs.lemmas.Bool.{cases_lt}
@@ -10,8 +9,7 @@ use Rattle.std.specs.FinMap.{nat_cmp-IsAntisymmetric}
 use Rattle.af_base.specs.World.{Map, Process, World}
 use Rattle.af_base.specs.Places.{table_at}
 use Rattle.af_base.specs.Changes.{change_at, remove_process, uninstall}
-use Rattle.af_base.specs.Unheld.{without}
-use Rattle.af_base.proofs.Lookups.{itself, none_some, not_same, remove-here, remove-other, same_or_not, told_apart}
+use Rattle.af_base.proofs.Lookups.{itself, not_same, remove-here, remove-other, same_or_not}
 use Rattle.af_base.proofs.Moved.{there-table}
 use Rattle.af_base.proofs.Stepping.{get-change_at}
 use Rattle.af_base.proofs.Trees.{insert_same}

@@ -9,24 +9,24 @@ use Rattle.af_base.specs.World.{World}
 use Rattle.af_base.specs.Places.{InTable, Holds}
 use Rattle.af_base.specs.Reached.{Reached, Garbage, IsGarbageCount, is_socket}
 
--- The marked files, rising, and those of them that are still to be looked at.
+-- The marked files, rising, and those of them that are still to be looked at (this project's profile).
 pub record Marks : Type 0 where
   pub marked : List ℕ
   pub waiting : List ℕ
 
--- Whether the file is a socket.
+-- Whether the file is a socket (unix(7)).
 abbrev pub is_socket_at : World → ℕ → Bool
 is_socket_at w f = option_map_or is_socket (map.get w.files f) false
 
--- Whether the file is marked.
+-- Whether the file is marked (this project's profile).
 abbrev pub is_marked : Marks → ℕ → Bool
 is_marked m f = list_any (eq_by_cmp nat_cmp f) m.marked
 
--- No file at all.
+-- No file at all (this project's profile).
 abbrev pub NoFile : ℕ → Type 0
 NoFile f = ⊥
 
--- From `old` to `now` each file of which P holds is marked, but for those of which Left holds, and no other is; what is new has still to be looked at.
+-- Each file of which P holds is marked now, but for those of which Left holds; besides, just those are marked that were. Each new mark waits to be looked at (this project's profile).
 pub record Marked (P Left : ℕ → Type 0) (old now : Marks) : Type 0 where
   pub kept : (f : ℕ) → is_marked old f ≡ true → is_marked now f ≡ true
   pub has : (f : ℕ) → P f → (is_marked now f ≡ true) ⊎ Left f
@@ -46,15 +46,15 @@ pub record IsWalk (w : World) (m : Marks) : Type 0 where
   pub tables : (f : ℕ) → InTable w f → is_marked m f ≡ true
   pub closed : (s f : ℕ) → is_marked m s ≡ true → Holds w s f → Contains m.waiting s ⊎ (is_marked m f ≡ true)
 
--- Exactly the reached files are marked.
+-- Exactly the reached files are marked (net/unix/garbage.c: what a process can still come to).
 pub record AreReached (w : World) (m : Marks) : Type 0 where
   pub each : (f : ℕ) → (is_marked m f ≡ true) ↔ Reached w f
 
--- The live files without a mark, rising.
+-- The live files without a mark, rising (this project's profile).
 abbrev pub unmarked : Marks → World → List ℕ
 unmarked m w = filter (λ f. not (is_marked m f)) (map.keys w.files)
 
--- The list has exactly the garbage, and counts its sockets right: each file of it once.
+-- The list has exactly the garbage, and counts its sockets right: each file of it once (net/unix/garbage.c: the cycles that nobody can receive from).
 pub record AreGarbage (w : World) (fs : List ℕ) : Type 0 where
   pub each : (f : ℕ) → (list_any (nat_eq f) fs ≡ true) ↔ Garbage w f
   pub counted : IsGarbageCount w (count_by (is_socket_at w) fs)

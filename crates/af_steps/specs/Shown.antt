@@ -4,7 +4,7 @@ use Rattle.af_base.specs.World.{File, Plain, AsSocket}
 use Rattle.af_steps.specs.declared.views.FileInfo.{FileInfo}
 use Rattle.af_steps.specs.declared.views.FileInfo.TheVariants as shown
 
--- A socket shows its type, its state and how many messages it has; a stranger nothing.
+-- A plain file shows that it is plain; a socket its type, its state and how many messages it has; a stranger shows nothing (this project's profile).
 abbrev pub shown_of : Option File → Option FileInfo
 shown_of None = None
 shown_of (Some Plain) = Some shown.Plain

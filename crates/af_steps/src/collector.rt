@@ -14,7 +14,7 @@ use af_base::errno::Errno;
 use af_base::events::Reply;
 use af_base::limits::MAX_PASS;
 use af_base::names::Ino;
-use std::alloc::{AllocError, Global};
+use std::alloc::AllocError;
 
 impl Engine {
     /// A whole pass: all garbage goes, with what nothing but garbage held. Its number is one more
@@ -22,8 +22,7 @@ impl Engine {
     pub(crate) fn pass(&mut self) -> Reply
         ensures { PassesWhole self.old.pass self.old result self.new }
     {
-        let alloc = self.alloc;
-        let Ok(garbage) = self.store.garbage(alloc) else {
+        let Ok(garbage) = self.store.garbage() else {
             return Reply::Refused(Errno::ENOMEM);
         };
         let reclaimed = self.store.sockets_among(&garbage);
@@ -38,19 +37,19 @@ impl Engine {
 
 impl Store {
     /// The live files that no chain of places leads to from a table, rising.
-    fn garbage(&self, alloc: Global) -> Result<Vec<Ino>, AllocError>
+    fn garbage(&self) -> Result<Vec<Ino>, AllocError>
         requires { IsAtRest self.now }
         ensures { IfOk result (λ inos. AreGarbage self.now.world inos.items) }
     {
-        let marks = self.reached(alloc)?;
-        self.unmarked(alloc, &marks)
+        let marks = self.reached()?;
+        self.unmarked(&marks)
     }
 
     /// The live files without a mark, rising.
-    fn unmarked(&self, alloc: Global, marks: &Marks) -> Result<Vec<Ino>, AllocError>
+    fn unmarked(&self, marks: &Marks) -> Result<Vec<Ino>, AllocError>
         ensures { IfOk result (λ inos. inos.items ≡ unmarked marks.now self.now.world) }
     {
-        let mut unmarked = Vec::new(alloc);
+        let mut unmarked = Vec::new(self.alloc);
         let mut last = Ino(0);
         while let Some(ino) = self.files.next_after(last) {
             last = ino;
@@ -81,11 +80,11 @@ impl Store {
 
     /// The files that a chain of places leads to from a table. It looks at each of them once, and
     /// goes down a chain of any length without recursion.
-    fn reached(&self, alloc: Global) -> Result<Marks, AllocError>
+    fn reached(&self) -> Result<Marks, AllocError>
         requires { IsAtRest self.now }
         ensures { IfOk result (AreReached self.now.world) }
     {
-        let mut marks = Marks::new(alloc);
+        let mut marks = Marks::new(self.alloc);
         self.mark_tabled(&mut marks)?;
         while let Some(ino) = marks.next() {
             self.mark_held(ino, &mut marks)?;

@@ -1,5 +1,5 @@
 //! The engine: events in, replies out.
-ghost use Rattle.std.specs.Prelude.{◌≡◌, ◌<◌, ℕ, Option, IfOk, IfErr, length, take};
+ghost use Rattle.std.specs.Prelude.{◌≡◌, ◌<◌, IfOk, IfErr, length};
 ghost use Rattle.std.specs.List.{zip};
 ghost use Rattle.af_base.specs.Run.{fresh, Run, Step};
 
@@ -14,7 +14,6 @@ use thiserror::Error;
 /// A machine that does one event after another.
 #[derive(Drop)]
 pub struct Engine {
-    pub(crate) alloc: Global,
     pub(crate) store: Store,
     /// The number of the last pass, 0 before the first.
     pub(crate) last_pass: u64,
@@ -53,25 +52,24 @@ impl Engine {
         ensures { IfOk result (λ e. e ≡ fresh) }
     {
         Ok(Engine {
-            alloc,
             store: Store::new(alloc),
             last_pass: 0,
         })
     }
 
-    /// Does one event. Want of memory is answered by ENOMEM, where no other refusal fits; after any
-    /// refusal the engine is as it was.
+    /// Does one event. It is refused by the first test of its row that fits (`Refusals` in
+    /// `af_base/specs`), and want of memory by ENOMEM, where no other refusal fits; after any refusal
+    /// the engine is as it was.
     pub fn step(&mut self, event: &Event) -> Reply
         ensures { Step self.old event.now result self.new }
     {
-        let alloc = self.alloc;
         match event {
             Event::Spawn {
                 uid,
                 nofile,
                 privileged,
             } => self.store.start(*uid, *nofile, *privileged),
-            Event::Proc(pid, step) => self.store.step(alloc, *pid, step),
+            Event::Proc(pid, step) => self.store.step(*pid, step),
             Event::Pass => self.pass(),
         }
     }
@@ -80,10 +78,10 @@ impl Engine {
     pub fn run(&mut self, events: &[Event]) -> Result<Vec<Reply>, RunStopped>
         ensures whole { IfOk result (λ replies. length replies.items ≡ length events.now) }
         ensures run { IfOk result (λ replies. Run self.old (zip events.now replies.items) self.new) }
-        ensures some { IfErr result (λ stopped. length stopped.done.items < length events.now) }
+        ensures fewer { IfErr result (λ stopped. length stopped.done.items < length events.now) }
         ensures stopped { IfErr result (λ stopped. Run self.old (zip events.now stopped.done.items) self.new) }
     {
-        let mut done = Vec::new(self.alloc);
+        let mut done = Vec::new(self.store.alloc);
         for event in events {
             if done.reserve(1).is_err() {
                 return Err(RunStopped { done });
@@ -98,6 +96,7 @@ impl Engine {
     pub fn is_sound(&self)
         ensures { IsSound self.now.world }
     {
+        // The invariant says it: it is enough to look at a field.
         let _store = &self.store;
     }
 }
@@ -107,7 +106,7 @@ impl Store {
     ghost use Rattle.af_steps.specs.Agreement.{IsAtRest};
 
     /// A step of a process.
-    fn step(&mut self, alloc: Global, pid: Pid, step: &events::Step) -> Reply
+    fn step(&mut self, pid: Pid, step: &events::Step) -> Reply
         requires { IsAtRest self.old }
         ensures step { ProcessStep self.old.world pid step.now result self.new.world }
         ensures rest { IsAtRest self.new }
@@ -121,7 +120,6 @@ impl Store {
             events::Step::Exit => self.exit(pid),
             events::Step::Pair(kind) => self.pair(pid, *kind),
             events::Step::Send { on, bytes, attach } => self.send(
-                alloc,
                 pid,
                 *on,
                 bytes.as_slice(),
@@ -131,7 +129,7 @@ impl Store {
                 on,
                 max_bytes,
                 max_fds,
-            } => self.recv(alloc, pid, *on, *max_bytes, *max_fds),
+            } => self.recv(pid, *on, *max_bytes, *max_fds),
         }
     }
 }

@@ -16,55 +16,55 @@ use af_desc::Socket;
 use std::alloc::{AllocError, Global};
 
 impl Engine {
-    /// Plain lists of the tables, queues and backlogs as they stand: the engine's world without
-    /// all else. The error says that memory was refused.
+    /// Plain lists of the tables, queues and backlogs as they stand, and whom each message is charged
+    /// to; no bytes, states, names or limits. The error says that memory was refused.
     pub fn listing(&self) -> Result<Listing, AllocError>
         ensures { IfOk result (λ l. l ≡ bare self.now.world) }
     {
-        let tables = self.store.listed_tables(self.alloc)?;
-        let files = self.store.listed_files(self.alloc)?;
+        let tables = self.store.listed_tables()?;
+        let files = self.store.listed_files()?;
         Ok(Listing::of(tables, files))
     }
 }
 
 impl Store {
     /// The tables, by rising pid.
-    fn listed_tables(&self, alloc: Global) -> Result<Vec<ListedTable>, AllocError>
+    fn listed_tables(&self) -> Result<Vec<ListedTable>, AllocError>
         requires { IsWithin self.now.world }
         ensures shown { IfOk result (λ tables. processes_of tables.items ≡ (bare self.now.world).processes) }
         ensures ordered { IfOk result (λ tables. AreTables tables.items) }
     {
-        let mut tables = Vec::new(alloc);
-        for pid in &self.procs.pids(alloc)? {
-            tables.push(self.procs.listed(alloc, *pid)?)?;
+        let mut tables = Vec::new(self.alloc);
+        for pid in &self.procs.pids()? {
+            tables.push(self.procs.listed(*pid)?)?;
         }
         Ok(tables)
     }
 
     /// The live files, by rising inode number.
-    fn listed_files(&self, alloc: Global) -> Result<Vec<ListedFile>, AllocError>
+    fn listed_files(&self) -> Result<Vec<ListedFile>, AllocError>
         requires { IsWithin self.now.world }
         ensures shown { IfOk result (λ files. files_of files.items ≡ (bare self.now.world).files) }
         ensures ordered { IfOk result (λ files. AreFiles files.items) }
     {
-        let mut files = Vec::new(alloc);
+        let mut files = Vec::new(self.alloc);
         let mut last = Ino(0);
         while let Some(ino) = self.files.next_after(last) {
             last = ino;
-            files.push(self.listed_file(alloc, ino)?)?;
+            files.push(self.listed_file(ino)?)?;
         }
         Ok(files)
     }
 
     /// A live file, with what it has to receive.
-    fn listed_file(&self, alloc: Global, ino: Ino) -> Result<ListedFile, AllocError>
+    fn listed_file(&self, ino: Ino) -> Result<ListedFile, AllocError>
         requires { world.IsLive self.now.world ino }
         ensures ino { IfOk result (λ x. x.ino ≡ ino) }
         ensures shown { IfOk result (λ x. Some (file_of x) ≡ option_map bare_file (map.get self.now.world.files ino)) }
         ensures few { IfOk result (λ x. length (contents (file_of x)) ≤ MAX_MESSAGES * SCM_MAX_FD) }
     {
         let socket = match self.files.get(ino).unwrap().socket() {
-            Some(socket) => Some(listed_socket(alloc, socket)?),
+            Some(socket) => Some(listed_socket(self.alloc, socket)?),
             None => None,
         };
         Ok(ListedFile { ino, socket })

@@ -1,5 +1,5 @@
 //! Marks: which files a walk has come to, and which of them it has still to look at.
-ghost use Rattle.std.specs.Prelude.{◌≡◌, ◌++◌, ◌∷◌, [], ℕ, IfSome, IfNone, OnOk};
+ghost use Rattle.std.specs.Prelude.{◌≡◌, ◌++◌, ◌∷◌, [], IfSome, IfNone, OnOk};
 ghost use Rattle.std.specs.List.{Contains};
 ghost use Rattle.af_steps.specs.Marking.{is_marked, Marked, NoFile};
 

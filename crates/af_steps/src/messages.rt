@@ -1,5 +1,5 @@
 //! Steps that send and receive.
-ghost use Rattle.std.specs.Prelude.{◌≡◌, ◌≤◌, Some, None, IfOk, IfErr, length, filter_map, is_none, nat_lt, take, option_map, slice_get};
+ghost use Rattle.std.specs.Prelude.{◌≡◌, ◌≤◌, Some, None, IfOk, IfErr, OnOk, length, filter_map, is_none, nat_lt, take, option_map, slice_get};
 ghost use Rattle.std.specs.List.{list_any};
 ghost use Rattle.af_base.specs.Places.{table_at, queue_at};
 ghost use Rattle.af_base.specs.Refusals.{refusal, peer_of, socket_at, socket_on, process_at};
@@ -13,7 +13,7 @@ use af_base::items::Items;
 use af_base::limits::{MAX_BYTES, MAX_MESSAGES, SCM_MAX_FD};
 use af_base::names::{Fd, Ino, Pid, Uid};
 use af_desc::Message;
-use std::alloc::{AllocError, Global};
+use std::alloc::AllocError;
 
 impl Store {
     /// Whom a socket can talk to. A plain file and a stranger talk to nobody.
@@ -45,9 +45,9 @@ impl Store {
     }
 
     /// The peer that a send goes to, or why it is refused.
-    fn receiver(&self, pid: Pid, on: Fd, bytes: &[u8], attach: &[Fd]) -> Result<Ino, Errno>
+    fn send_target(&self, pid: Pid, on: Fd, bytes: &[u8], attach: &[Fd]) -> Result<Ino, Errno>
         requires { IsAtRest self.now }
-        ensures ok { IfOk result (λ peer. refusal self.now.world pid (Step.Send on bytes.now attach.now) ≡ None) }
+        ensures ok { OnOk result (refusal self.now.world pid (Step.Send on bytes.now attach.now) ≡ None) }
         ensures peer { IfOk result (λ peer. peer ≡ peer_of (socket_on self.now.world pid on).state) }
         ensures err { IfErr result (λ e. refusal self.now.world pid (Step.Send on bytes.now attach.now) ≡ Some e) }
     {
@@ -70,8 +70,7 @@ impl Store {
             return Err(Errno::EBADF);
         }
         let peer = match state {
-            State::Idle => return Err(Errno::ENOTCONN),
-            State::Listening(_) => return Err(Errno::ENOTCONN),
+            State::Idle | State::Listening(_) => return Err(Errno::ENOTCONN),
             State::HungUp => return Err(Errno::EPIPE),
             State::Connected(peer) => peer,
         };
@@ -94,54 +93,47 @@ impl Store {
     }
 
     /// What these numbers of the process stand for; those that are free are left out.
-    fn files_at(&self, alloc: Global, pid: Pid, fds: &[Fd]) -> Result<Vec<Ino>, AllocError>
+    fn files_at(&self, pid: Pid, fds: &[Fd]) -> Result<Vec<Ino>, AllocError>
         ensures value { IfOk result (λ inos. inos.items ≡ filter_map (table_at self.now.world pid) fds.now) }
         ensures bound { IfOk result (λ inos. length inos.items ≤ length fds.now) }
     {
         fds.iter()
             .filter_map(|fd| self.procs.lookup(pid, *fd))
-            .collect(alloc)
+            .collect(self.alloc)
     }
 
     /// The message that a send puts into the queue.
-    fn message(
-        &self,
-        alloc: Global,
-        pid: Pid,
-        bytes: &[u8],
-        attach: &[Fd],
-    ) -> Result<Message, AllocError>
+    fn message(&self, pid: Pid, bytes: &[u8], attach: &[Fd]) -> Result<Message, AllocError>
         requires { length attach.now ≤ SCM_MAX_FD }
         ensures { IfOk result (λ m. m ≡ record { bytes = bytes.now; attached = filter_map (table_at self.now.world pid) attach.now; user = (process_at self.now.world pid).user }) }
     {
-        let bytes = bytes.to_vec(alloc)?;
-        let attached = self.files_at(alloc, pid, attach)?;
+        let bytes = bytes.to_vec(self.alloc)?;
+        let attached = self.files_at(pid, attach)?;
         Ok(Message::new(bytes, attached, self.user(pid)))
     }
 
     /// A process sends bytes, and with them what these numbers stand for (sendmsg(2)).
-    pub fn send(&mut self, alloc: Global, pid: Pid, on: Fd, bytes: &[u8], attach: &[Fd]) -> Reply
+    pub fn send(&mut self, pid: Pid, on: Fd, bytes: &[u8], attach: &[Fd]) -> Reply
         requires { IsAtRest self.old }
         ensures step { ProcessStep self.old.world pid (Step.Send on bytes.now attach.now) result self.new.world }
         ensures rest { IsAtRest self.new }
     {
-        let peer = match self.receiver(pid, on, bytes, attach) {
+        let peer = match self.send_target(pid, on, bytes, attach) {
             Ok(peer) => peer,
             Err(error) => return Reply::Refused(error),
         };
-        let Ok(message) = self.message(alloc, pid, bytes, attach) else {
+        let Ok(message) = self.message(pid, bytes, attach) else {
             return Reply::Refused(Errno::ENOMEM);
         };
-        if self.put_message(peer, message).is_err() {
+        if self.put_message(peer, message, pid, attach).is_err() {
             return Reply::Refused(Errno::ENOMEM);
         }
-        self.hold_sent(pid, attach, self.user(pid));
         Reply::Sent(bytes.len() as u32)
     }
 
     /// The socket that a receive takes from, or why it is refused.
-    fn taker(&self, pid: Pid, on: Fd, max_bytes: u32, max_fds: u32) -> Result<Ino, Errno>
-        ensures ok { IfOk result (λ ino. refusal self.now.world pid (Step.Recv on max_bytes max_fds) ≡ None) }
+    fn receive_source(&self, pid: Pid, on: Fd, max_bytes: u32, max_fds: u32) -> Result<Ino, Errno>
+        ensures ok { OnOk result (refusal self.now.world pid (Step.Recv on max_bytes max_fds) ≡ None) }
         ensures ino { IfOk result (λ ino. table_at self.now.world pid on ≡ Some ino) }
         ensures err { IfErr result (λ e. refusal self.now.world pid (Step.Recv on max_bytes max_fds) ≡ Some e) }
     {
@@ -158,8 +150,7 @@ impl Store {
             return Err(Errno::EINVAL);
         }
         match state {
-            State::Idle => Err(Errno::ENOTCONN),
-            State::Listening(_) => Err(Errno::ENOTCONN),
+            State::Idle | State::Listening(_) => Err(Errno::ENOTCONN),
             State::HungUp => Ok(ino),
             State::Connected(_) => {
                 if self.messages(ino) == 0 {
@@ -178,14 +169,15 @@ impl Store {
         Some(message.attached().len())
     }
 
-    /// A process receives at most so many bytes and so many descriptors (recvmsg(2)). What it has no
-    /// room for is closed.
-    pub fn recv(&mut self, alloc: Global, pid: Pid, on: Fd, max_bytes: u32, max_fds: u32) -> Reply
+    /// A process receives at most so many bytes and so many descriptors (recvmsg(2)). Bytes beyond
+    /// `max_bytes` are dropped (recvmsg(2), MSG_TRUNC); descriptors beyond `max_fds` or the free
+    /// numbers are closed (unix(7), SCM_RIGHTS; MSG_CTRUNC).
+    pub fn recv(&mut self, pid: Pid, on: Fd, max_bytes: u32, max_fds: u32) -> Reply
         requires { IsAtRest self.old }
         ensures step { ProcessStep self.old.world pid (Step.Recv on max_bytes max_fds) result self.new.world }
         ensures rest { IsAtRest self.new }
     {
-        let ino = match self.taker(pid, on, max_bytes, max_fds) {
+        let ino = match self.receive_source(pid, on, max_bytes, max_fds) {
             Ok(ino) => ino,
             Err(error) => return Reply::Refused(error),
         };
@@ -193,7 +185,7 @@ impl Store {
             return Reply::End;
         };
         let count = attached.min(max_fds as usize);
-        let Ok(fds) = self.procs.lowest_free(alloc, pid, count) else {
+        let Ok(fds) = self.procs.lowest_free(pid, count) else {
             return Reply::Refused(Errno::ENOMEM);
         };
         if self.room_for(pid, fds.len()).is_err() {

@@ -1,20 +1,21 @@
 //! Place changes: the only calls that add or remove a place that holds a file.
 //!
-//! Each keeps the counts and the world together. A file goes with its last place; what it had to
-//! receive is pending then, and `release` goes down a chain of files of any length without
+//! Each public one keeps the counts and the world together. A file goes with its last place; what it
+//! had to receive is pending then, and `release` goes down a chain of files of any length without
 //! recursion and without memory.
-ghost use Rattle.std.specs.Prelude.{◌≡◌, ◌<◌, ◌≤◌, ◌+◌, ◌++◌, ◌∷◌, [], ℕ, List, None, Some, IsTrue, IfSome, IfNone, IfOk, OnOk, OnErr, length, drop, filter_map, false, nat_eq};
+ghost use Rattle.std.specs.Prelude.{◌≡◌, ◌<◌, ◌≤◌, ◌+◌, ◌++◌, ◌∷◌, [], ℕ, List, None, Some, IsTrue, IfOk, OnOk, OnErr, length, drop, filter_map, is_none, false, nat_eq};
 ghost use Rattle.std.specs.List.{zip, All, Contains, list_any};
 ghost use Rattle.std.specs.FinMap as map;
 ghost use Rattle.af_base.specs.World as world;
 ghost use Rattle.af_base.specs.Places.{table_at, queue_at, held_by, carried};
 ghost use Rattle.af_base.specs.Changes.{install, install_all, uninstall, push_message, with_queue, remove_process, add_process};
 ghost use Rattle.af_base.specs.Pass.{Purges, emptied};
-ghost use Rattle.af_base.specs.Refusals.{process_at, is_crowded};
+ghost use Rattle.af_base.specs.Counts.{total};
+ghost use Rattle.af_base.specs.Refusals.{process_at, socket_at, is_crowded};
 ghost use Rattle.af_base.specs.Table.{lowest_free};
 ghost use Rattle.af_base.specs.Release.{messages_in};
 ghost use Rattle.af_base.specs.Unheld.{Settles, without};
-ghost use Rattle.af_base.specs.Whole.{AreMutual};
+ghost use Rattle.af_base.specs.Whole.{AreMutual, IsMessageWithin};
 ghost use Rattle.af_ledger.specs.Kept.{refs_of, held, CanHold, CanDrop};
 ghost use Rattle.af_steps.specs.Agreement.{IsSteady, IsAtRest, Agrees, held_all};
 ghost use Rattle.af_steps.specs.Dropping.{Drops, Sheds};
@@ -23,7 +24,7 @@ ghost use Rattle.af_steps.specs.Stored.{row_at};
 
 use crate::store::Store;
 use af_base::events::State;
-use af_base::limits::MAX_MESSAGES;
+use af_base::limits::{MAX_INFLIGHT, MAX_MESSAGES};
 use af_base::names::{Fd, Ino, Pid, Uid};
 use af_desc::Message;
 use af_ledger::Place;
@@ -93,6 +94,7 @@ impl Store {
         if let State::Connected(peer) = socket.state() {
             self.files.hang_up(peer);
         }
+        // It cannot fail: it takes no memory, and a list can have far more messages than there are.
         self.pending.append(&mut socket.into_messages()).unwrap();
     }
 
@@ -115,8 +117,8 @@ impl Store {
         ensures settles { Settles self.old.world self.new.world }
         ensures rest { IsAtRest self.new }
     {
-        while let Some(message) = self.pending.pop_front() {
-            self.drop_carried(&message);
+        while let Some(next) = self.pending.pop_front() {
+            self.drop_carried(&next);
         }
     }
 
@@ -145,6 +147,7 @@ impl Store {
         ensures steady { IsSteady self.new.world self.new.pending self.new.kept }
     {
         let replaced = self.procs.lookup(pid, fd);
+        // The new place first: to drop the old one first could let go of this very file.
         self.table_in(pid, fd, ino);
         let Some(gone) = replaced else {
             return;
@@ -176,7 +179,7 @@ impl Store {
         self.procs.remove(pid);
     }
 
-    /// A process more, with a copy of what that one has. On an error nothing has changed.
+    /// A process more, with a copy of what that one has. On an error nothing has changed but room.
     pub fn copy(&mut self, pid: Pid) -> Result<Pid, AllocError>
         requires rest { IsAtRest self.old }
         requires there { IsTrue (map.contains_key self.old.world.processes pid) }
@@ -211,20 +214,38 @@ impl Store {
         }
     }
 
-    /// A message into a queue, last. What it carries is not counted yet. On an error nothing has
-    /// changed.
-    pub fn put_message(&mut self, ino: Ino, message: Message) -> Result<(), AllocError>
-        requires { length (queue_at self.old.world ino) < MAX_MESSAGES }
+    /// A message of a process into the queue of a socket, last. It carries what these numbers of the
+    /// process stand for, and each of these places is counted, and charged to the user. On an error
+    /// nothing has changed.
+    pub fn put_message(
+        &mut self,
+        ino: Ino,
+        message: Message,
+        pid: Pid,
+        fds: &[Fd],
+    ) -> Result<(), AllocError>
+        requires rest { IsAtRest self.old }
+        requires there { IsTrue (map.contains_key self.old.world.processes pid) }
+        requires attached { message.attached ≡ filter_map (table_at self.old.world pid) fds.now }
+        requires user { message.user ≡ (process_at self.old.world pid).user }
+        requires within { IsMessageWithin message }
+        requires flying { total self.old.world + length message.attached ≤ MAX_INFLIGHT }
+        requires socket { is_none (socket_at self.old.world ino) ≡ false }
+        requires queue { length (queue_at self.old.world ino) < MAX_MESSAGES }
         ensures ok { OnOk result (self.new.world ≡ push_message self.old.world ino message) }
-        ensures err { OnErr result (self.new.world ≡ self.old.world) }
-        ensures kept { self.new.kept ≡ self.old.kept }
-        ensures pending { self.new.pending ≡ self.old.pending }
+        ensures err { OnErr result (self.new ≡ self.old) }
+        ensures rest { IsAtRest self.new }
     {
-        self.files.push(ino, message)
+        let user = message.user();
+        // The putting first, since it alone can fail: the counting needs no memory, so that on an
+        // error nothing is counted.
+        self.files.push(ino, message)?;
+        self.hold_sent(pid, fds, user);
+        Ok(())
     }
 
     /// What these numbers of a process stand for is counted as sent by the user. It takes no memory.
-    pub fn hold_sent(&mut self, pid: Pid, fds: &[Fd], user: Uid)
+    fn hold_sent(&mut self, pid: Pid, fds: &[Fd], user: Uid)
         requires known { (f : ℕ) → Contains (filter_map (table_at self.old.world pid) fds.now) f → 0 < refs_of self.old.kept f }
         requires fits { (done : List ℕ) (f : ℕ) (rest : List ℕ) → filter_map (table_at self.old.world pid) fds.now ≡ done ++ f ∷ rest → CanHold (Place.Queue user) f (held_all (Place.Queue user) done self.old.kept) }
         ensures world { self.new.world ≡ self.old.world }
@@ -252,6 +273,8 @@ impl Store {
         ensures steady { IsSteady self.new.world self.new.pending self.new.kept }
     {
         let message = self.files.pop(ino).unwrap();
+        // Into the table before the queue's places are dropped: the message may be all that holds a
+        // file.
         self.table_in_all(pid, fds, &message);
         self.drop_carried(&message);
         message

@@ -1,6 +1,5 @@
 //! All that is there: the processes, the files, and the numbers that are kept of them.
-ghost use Rattle.std.specs.Prelude.{◌≡◌, ◌<◌, ◌≤◌, ℕ, false, IfOk, OnOk, OnErr, ◌+◌, unwrap_or};
-ghost use Rattle.std.specs.FinMap as map;
+ghost use Rattle.std.specs.Prelude.{◌≡◌, ◌<◌, ◌≤◌, false, IfOk, OnOk, OnErr, ◌+◌};
 ghost use Rattle.af_base.specs.World.{AsSocket, Plain, empty_world};
 ghost use Rattle.af_base.specs.Changes.{add_file};
 ghost use Rattle.af_base.specs.Refusals.{is_full, is_crowded, process_at};
@@ -22,6 +21,7 @@ use std::marker::Model;
 /// The processes with their tables, the files, and how many places hold each file.
 #[derive(Drop)]
 pub struct Store {
+    pub(crate) alloc: Global,
     pub(crate) procs: Procs,
     pub(crate) files: Files,
     pub(crate) ledger: Ledger,
@@ -40,7 +40,7 @@ impl Model for Store {
 
     ghost coded = { Prim.hlevel (codes, map.code) };
 
-    ghost view = { λ a. record { world = record { processes = a.procs.processes; files = a.files.files; next_ino = a.files.next; next_pid = a.procs.next_pid; users = keys_of a.ledger.users }; kept = a.ledger; pending = a.pending; rows = a.procs.rows; room = a.procs.room } };
+    ghost view = { λ a. record { world = record { processes = a.procs.processes; files = a.files.files; next_ino = a.files.next; next_pid = a.procs.next_pid; users = keys_of a.ledger.users }; kept = a.ledger; pending = a.pending; rows = a.procs.rows } };
 }
 
 impl Store {
@@ -50,6 +50,7 @@ impl Store {
         ensures rest { IsAtRest result }
     {
         Store {
+            alloc,
             procs: Procs::new(alloc),
             files: Files::new(alloc),
             ledger: Ledger::new(alloc),
@@ -64,7 +65,7 @@ impl Store {
         self.procs.count() >= MAX_PROCESSES || self.procs.next_pid().0 > MAX_PID
     }
 
-    /// A process more, with an empty table. On an error nothing has changed.
+    /// A process more, with an empty table. On an error nothing has changed but room.
     pub fn spawn(&mut self, uid: Uid, limit: u32, privileged: bool) -> Result<Pid, AllocError>
         requires limit { limit ≤ MAX_NOFILE }
         requires pids { self.old.world.next_pid ≤ MAX_PID }

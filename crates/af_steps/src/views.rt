@@ -1,7 +1,7 @@
 //! What can be seen of an engine. No view takes memory.
-ghost use Rattle.std.specs.Prelude.{◌≡◌, ◌<◌, ℕ, false, IsTrue, IfSome, IfNone, Some, None, slice_get, option_map, length};
+ghost use Rattle.std.specs.Prelude.{◌≡◌, ◌<◌, ℕ, false, IfSome, IfNone, slice_get};
 ghost use Rattle.std.specs.FinMap as map;
-ghost use Rattle.af_base.specs.World.{World, is_live, IsLive};
+ghost use Rattle.af_base.specs.World.{is_live, IsLive};
 ghost use Rattle.af_base.specs.Counts.{refs, inflight, charged, total};
 ghost use Rattle.af_steps.specs.Shown.{shown_of};
 
@@ -23,28 +23,31 @@ pub enum FileInfo {
 }
 
 impl Engine {
-    /// How many places hold the file: its reference count. A stranger's is 0.
+    /// How many places hold the file: its reference count, which goes to 0 with the last close(2). A
+    /// stranger's is 0.
     pub fn refs(&self, ino: Ino) -> u64
         ensures { result ≡ refs self.now.world ino }
     {
         self.store.ledger.refs(ino)
     }
 
-    /// How many queue places hold the file: how often it is in flight. A stranger's is 0.
+    /// How often the file is in flight (unix(7), SCM_RIGHTS): how many places in queues hold it,
+    /// repeats included. A stranger's is 0.
     pub fn inflight(&self, ino: Ino) -> u64
         ensures { result ≡ inflight self.now.world ino }
     {
         self.store.ledger.inflight(ino)
     }
 
-    /// How many queue places are charged to the user. A stranger's are 0.
+    /// How many descriptors in flight are charged to the user, repeats included (unix(7),
+    /// ETOOMANYREFS). A stranger's are 0.
     pub fn charged(&self, user: Uid) -> u64
         ensures { result ≡ charged self.now.world user }
     {
         self.store.ledger.charged(user)
     }
 
-    /// How many queue places there are.
+    /// How many descriptors are in flight, repeats included.
     pub fn total(&self) -> u64
         ensures { result ≡ total self.now.world }
     {
@@ -58,7 +61,7 @@ impl Engine {
         self.store.files.live()
     }
 
-    /// The least live file above that number.
+    /// The least live file above that number; nothing where none is above it.
     pub fn next_after(&self, ino: Ino) -> Option<Ino>
         ensures above { IfSome result (λ n. ino < n) }
         ensures live { IfSome result (IsLive self.now.world) }
@@ -75,7 +78,7 @@ impl Engine {
         self.store.procs.next_pid()
     }
 
-    /// The i-th user, from 0, in the order of their first process.
+    /// The i-th user, from 0, in the order of their first process; nothing past the last.
     pub fn user_at(&self, i: usize) -> Option<Uid>
         ensures { result ≡ slice_get self.now.world.users i }
     {

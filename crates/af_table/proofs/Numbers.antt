@@ -1,5 +1,5 @@
 -- The plain list of a table's open numbers, made item by item.
-use Rattle.std.proofs.Common.{◌≡◌, ◌<◌, ◌≤◌, ℕ, ◌+◌, List, [], ◌∷◌, ◌++◌, length, drop, map, get_or, refl, sym, ap, ◌∙◌, subst, arith, append_assoc, append-nil, add-one}
+use Rattle.std.proofs.Common.{◌≡◌, ◌<◌, ◌≤◌, ℕ, ◌+◌, List, [], ◌∷◌, ◌++◌, length, drop, map, refl, sym, ap, ◌∙◌, subst, arith, append-nil}
 use Rattle.std.specs.Prelude.{Option, Some, None}
 use Rattle.std.specs.Ordering.{nat_cmp}
 use Rattle.std.specs.declared.cmp.Ordering.TheVariants.{Less}
@@ -8,8 +8,7 @@ use Rattle.std.specs.List.{AllByRecursion}
 use Rattle.std.specs.List.Sorted.{IsStrictlyIncreasing, IsStrictlySortedBy}
 use Rattle.std.specs.Map.{keys_of}
 use Rattle.std.specs.FinMap as finmap
-use Rattle.std.proofs.Math.Seq.{drop-cons}
-use Rattle.std.proofs.lemmas.List.{drop_all, length-map, map-append}
+use Rattle.std.proofs.lemmas.List.{drop_all, length-map}
 use Rattle.std.proofs.lemmas.Map.Keys.{IsStrictlyIncreasing-from_sorted}
 use Rattle.std.proofs.lemmas.Simd.{map-map}
 use Rattle.af_base.specs.Listing.{keyed}
@@ -24,22 +23,6 @@ abbrev pub taken_from : ℕ → List (Option ℕ) → List (ℕ × ℕ)
 taken_from k [] = []
 taken_from k (None ∷ xs) = taken_from (k + 1) xs
 taken_from k (Some f ∷ xs) = (k, f) ∷ taken_from (k + 1) xs
-
-module _ {A : Type 0} (f : A → ℕ × ℕ) (xs : List A) (slots : List (Option ℕ)) (n : ℕ) (slot : Option ℕ) (all : List (ℕ × ℕ)) (within : n < length slots) (is : slot ≡ get_or slots n slot) (so_far : map f xs ++ taken_from n (drop n slots) ≡ all) where
-  this_slot : map f xs ++ taken_from n (slot ∷ drop (n + 1) slots) ≡ all
-  this_slot = ap (λ s. map f xs ++ taken_from n (s ∷ drop (n + 1) slots)) is ∙ ap (λ m. map f xs ++ taken_from n (get_or slots n slot ∷ drop m slots)) (add-one n) ∙ sym (ap (λ s. map f xs ++ taken_from n s) (drop-cons slots n slot within)) ∙ so_far
-
-  -- A number that is free is passed over.
-  pub slot_free : slot ≡ None → map f xs ++ taken_from (n + 1) (drop (n + 1) slots) ≡ all
-  slot_free free = subst (λ s. map f xs ++ taken_from n (s ∷ drop (n + 1) slots) ≡ all) free this_slot
-
-  -- A number that has a file is listed with it.
-  pub slot_taken : (x : A) (ino : ℕ) → slot ≡ Some ino → f x ≡ (n, ino) → map f (xs ++ x ∷ []) ++ taken_from (n + 1) (drop (n + 1) slots) ≡ all
-  slot_taken x ino taken same =
-      ap (λ ys. ys ++ taken_from (n + 1) (drop (n + 1) slots)) (map-append f xs (x ∷ []))
-      ∙ append_assoc (map f xs) (f x ∷ []) (taken_from (n + 1) (drop (n + 1) slots))
-      ∙ ap (λ y. map f xs ++ y ∷ taken_from (n + 1) (drop (n + 1) slots)) same
-      ∙ subst (λ s. map f xs ++ taken_from n (s ∷ drop (n + 1) slots) ≡ all) taken this_slot
 
 -- They make the table.
 table_taken : (xs : List (Option ℕ)) (k : ℕ) → finmap.from_entries {R = nat_cmp} (taken_from k xs) ≡ table_from k xs

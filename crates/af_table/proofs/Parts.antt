@@ -11,11 +11,16 @@ use Rattle.std.specs.FinMap as map
 use Rattle.std.specs.FinMap.{nat_cmp-IsAntisymmetric, get-empty, get-insert, get-remove, len-insert, len-empty, same_map}
 use Rattle.std.specs.Option.{option_map, option_map_or}
 use Rattle.std.proofs.lemmas.Bool.{eqb-true}
-use Rattle.af_base.specs.World.{Process}
+use Rattle.af_base.specs.World.{Map, Process}
 use Rattle.af_base.specs.Changes.{change_at}
+use Rattle.af_base.specs.Listing.{keyed}
 use Rattle.af_base.proofs.Lookups.{insert-here}
 use Rattle.af_table.specs.Slots.{Held}
-use Rattle.af_table.specs.Procs.{Procs, part_of, processes_of, rows_of, table_at, row_at}
+use Rattle.af_table.specs.Procs.{Procs, processes_of, rows_of, table_at, row_at}
+
+-- One part of each entry, as a map.
+abbrev part_of : {X Y : Type 0} → (X → Y) → List (ℕ × X) → Map Y
+part_of f es = keyed (λ e. e.0) (λ e. f e.1) es
 
 module _ {X Y : Type 0} (f : X → Y) where
   mapped : (b : Bool) (v : X) (o : Option X) → option_map f (cond b (Some v) o) ≡ cond b (Some (f v)) (option_map f o)
@@ -27,7 +32,6 @@ module _ {X Y : Type 0} (f : X → Y) where
   without false o = refl
 
   part_at : (es : List (ℕ × X)) (q : ℕ) → map.get (part_of f es) q ≡ option_map f (lookup (nat_eq q) es)
-  unfolding part_of
   part_at [] q = get-empty nat_cmp q
   part_at (e ∷ es) q =
       get-insert nat_cmp_total (part_of f es) e.0 (f e.1) q ∙ (λ i. cond (unsigned_tied q e.0 i) (Some (f e.1)) (part_at es q i))
@@ -38,7 +42,7 @@ module _ {X Y : Type 0} (f : X → Y) where
   not_among k (e ∷ es) h = ap (λ b. cond b (Some e.1) (lookup (nat_eq k) es)) h.0 ∙ not_among k es h.1
 
   part_of_len : (es : List (ℕ × X)) → IsDistinct nat_eq (keys_of es) → map.len (part_of f es) ≡ length es
-  unfolding part_of IsDistinct
+  unfolding IsDistinct
   part_of_len [] h = len-empty nat_cmp Y
   part_of_len (e ∷ es) h =
       let new : map.contains_key (part_of f es) e.0 ≡ false = ap is_some (part_at es e.0 ∙ ap (option_map f) (not_among e.0 es h.0)) in
@@ -85,56 +89,56 @@ module _ {S : Type 0} where
   -- what stands at each pid
   pub process_at_key : (m : HashMap ℕ Held S) (q : ℕ) → map.get (processes_of m.entries) q ≡ option_map (λ h. h.process) (hash.get nat_eq m q)
   unfolding processes_of
-  process_at_key m q = part_at _ m.entries q
+  process_at_key m q = part_at (λ h. h.process) m.entries q
 
   pub processes_there : (m : HashMap ℕ Held S) (k : ℕ) (h : Held) → Some h ≡ hash.get nat_eq m k → map.get (processes_of m.entries) k ≡ Some h.process
   unfolding processes_of
-  processes_there m k h was = part_at _ m.entries k ∙ ap (option_map _) (sym was)
+  processes_there m k h was = part_at (λ h. h.process) m.entries k ∙ ap (option_map (λ h. h.process)) (sym was)
 
   pub rows_there : (m : HashMap ℕ Held S) (k : ℕ) (h : Held) → Some h ≡ hash.get nat_eq m k → map.get (rows_of m.entries) k ≡ Some h.row
   unfolding rows_of
-  rows_there m k h was = part_at _ m.entries k ∙ ap (option_map _) (sym was)
+  rows_there m k h was = part_at (λ h. h.row) m.entries k ∙ ap (option_map (λ h. h.row)) (sym was)
 
   pub processes_none : (m : HashMap ℕ Held S) (k : ℕ) → hash.get nat_eq m k ≡ None → map.get (processes_of m.entries) k ≡ None
   unfolding processes_of
-  processes_none m k was = part_at _ m.entries k ∙ ap (option_map _) was
+  processes_none m k was = part_at (λ h. h.process) m.entries k ∙ ap (option_map (λ h. h.process)) was
 
   pub rows_none : (m : HashMap ℕ Held S) (k : ℕ) → hash.get nat_eq m k ≡ None → map.get (rows_of m.entries) k ≡ None
   unfolding rows_of
-  rows_none m k was = part_at _ m.entries k ∙ ap (option_map _) was
+  rows_none m k was = part_at (λ h. h.row) m.entries k ∙ ap (option_map (λ h. h.row)) was
 
   pub processes_inserted : (m n : HashMap ℕ Held S) (k : ℕ) (v : Held) → hash.Updates nat_eq m n k (Some v) → processes_of n.entries ≡ map.insert (processes_of m.entries) k v.process
   unfolding processes_of
-  processes_inserted m n k v h = part_inserted _ m n k v h
+  processes_inserted m n k v h = part_inserted (λ h. h.process) m n k v h
 
   pub rows_inserted : (m n : HashMap ℕ Held S) (k : ℕ) (v : Held) → hash.Updates nat_eq m n k (Some v) → rows_of n.entries ≡ map.insert (rows_of m.entries) k v.row
   unfolding rows_of
-  rows_inserted m n k v h = part_inserted _ m n k v h
+  rows_inserted m n k v h = part_inserted (λ h. h.row) m n k v h
 
   pub processes_removed : (m n : HashMap ℕ Held S) (k : ℕ) → hash.Updates nat_eq m n k None → processes_of n.entries ≡ map.remove (processes_of m.entries) k
   unfolding processes_of
-  processes_removed m n k h = part_removed _ m n k h
+  processes_removed m n k h = part_removed (λ h. h.process) m n k h
 
   pub rows_removed : (m n : HashMap ℕ Held S) (k : ℕ) → hash.Updates nat_eq m n k None → rows_of n.entries ≡ map.remove (rows_of m.entries) k
   unfolding rows_of
-  rows_removed m n k h = part_removed _ m n k h
+  rows_removed m n k h = part_removed (λ h. h.row) m n k h
 
   pub processes_changed : (g : Process → Process) (m n : HashMap ℕ Held S) (k : ℕ) (x v : Held) → Some x ≡ hash.get nat_eq m k → v ≡ record x { process = g x.process } → hash.Updates nat_eq m n k (Some v)
       → processes_of n.entries ≡ change_at g (processes_of m.entries) k
   unfolding processes_of
-  processes_changed g m n k x v was e h = part_changed _ g m n k x v was (ap (λ y. y.process) e) h
+  processes_changed g m n k x v was e h = part_changed (λ h. h.process) g m n k x v was (ap (λ y. y.process) e) h
 
   pub rows_kept : (m n : HashMap ℕ Held S) (k : ℕ) (x v : Held) → Some x ≡ hash.get nat_eq m k → v.row ≡ x.row → hash.Updates nat_eq m n k (Some v) → rows_of n.entries ≡ rows_of m.entries
   unfolding rows_of
-  rows_kept m n k x v was e h = part_kept _ m n k x v was e h
+  rows_kept m n k x v was e h = part_kept (λ h. h.row) m n k x v was e h
 
   pub processes_unchanged : (g : Process → Process) (m : HashMap ℕ Held S) (k : ℕ) → hash.get nat_eq m k ≡ None → processes_of m.entries ≡ change_at g (processes_of m.entries) k
   unfolding processes_of
-  processes_unchanged g m k was = part_unchanged _ g m k was
+  processes_unchanged g m k was = part_unchanged (λ h. h.process) g m k was
 
   pub processes_kept : (m n : HashMap ℕ Held S) (k : ℕ) (x v : Held) → Some x ≡ hash.get nat_eq m k → v.process ≡ x.process → hash.Updates nat_eq m n k (Some v) → processes_of n.entries ≡ processes_of m.entries
   unfolding processes_of
-  processes_kept m n k x v was e h = part_kept _ m n k x v was e h
+  processes_kept m n k x v was e h = part_kept (λ h. h.process) m n k x v was e h
 
   -- the row of a process that was made longer
   pub row_made : (m n : HashMap ℕ Held S) (k : ℕ) (v : Held) → hash.Updates nat_eq m n k (Some v) → map.get (rows_of n.entries) k ≡ Some v.row
@@ -144,15 +148,15 @@ module _ {S : Type 0} where
   pub rows_grown : (m n : HashMap ℕ Held S) (k : ℕ) (x v : Held) → Some x ≡ hash.get nat_eq m k → x.row ≤ v.row → hash.Updates nat_eq m n k (Some v)
       → (q : ℕ) → unwrap_or (map.get (rows_of m.entries) q) 0 ≤ unwrap_or (map.get (rows_of n.entries) q) 0
   unfolding rows_of
-  rows_grown m n k x v was le h q = subst (λ o. unwrap_or (map.get (part_of (λ y. y.row) m.entries) q) 0 ≤ unwrap_or o 0) (sym (part_at _ n.entries q ∙ ap (option_map _) (h.0 q))) (by (nat_eq k q) refl) where
+  rows_grown m n k x v was le h q = subst (λ o. unwrap_or (map.get (part_of (λ y. y.row) m.entries) q) 0 ≤ unwrap_or o 0) (sym (part_at (λ h. h.row) n.entries q ∙ ap (option_map (λ h. h.row)) (h.0 q))) (by (nat_eq k q) refl) where
     by : (b : Bool) → nat_eq k q ≡ b → unwrap_or (map.get (part_of (λ y. y.row) m.entries) q) 0 ≤ unwrap_or (option_map (λ y. y.row) (cond b (Some v) (hash.get nat_eq m q))) 0
-    by true same = subst (λ o. unwrap_or o 0 ≤ v.row) (sym (part_at _ m.entries q ∙ ap (option_map _) (ap (hash.get nat_eq m) (sym (eqb-true k q same)) ∙ sym was))) le
+    by true same = subst (λ o. unwrap_or o 0 ≤ v.row) (sym (part_at (λ h. h.row) m.entries q ∙ ap (option_map (λ h. h.row)) (ap (hash.get nat_eq m) (sym (eqb-true k q same)) ∙ sym was))) le
     by false apart = subst (λ o. unwrap_or o 0 ≤ unwrap_or (option_map (λ y. y.row) (hash.get nat_eq m q)) 0) (sym (part_at (λ y. y.row) m.entries q)) (omega arith)
 
   -- as many processes as entries
   pub process_count : (m : HashMap ℕ Held S) → hash.IsUnique nat_eq m → map.len (processes_of m.entries) ≡ hash.hash_map_len m
   unfolding processes_of
-  process_count m h = part_of_len _ m.entries h
+  process_count m h = part_of_len (λ h. h.process) m.entries h
 
 -- each number of x is below the row that was made for the process k
 pub room_of : (s t : Procs) (p k : ℕ) (x : Held) → map.get s.processes p ≡ Some x.process → t.rows ≡ map.insert s.rows k x.row → ((n f : ℕ) → map.get x.process.table n ≡ Some f → n < x.row) → (n f : ℕ) → table_at s p n ≡ Some f → n < row_at t k
@@ -162,11 +166,11 @@ room_of s t p k x there made low n f is =
     subst (λ r. n < r) (sym row) below
 
 pub no_processes : (es : List (ℕ × Held)) → es ≡ [] → processes_of es ≡ map.empty
-unfolding processes_of part_of
+unfolding processes_of
 no_processes es e = ap (part_of (λ h. h.process)) e
 
 pub no_rows : (es : List (ℕ × Held)) → es ≡ [] → rows_of es ≡ map.empty
-unfolding rows_of part_of
+unfolding rows_of
 no_rows es e = ap (part_of (λ h. h.row)) e
 
 pub ruleset part_changes = (processes_there, rows_there, processes_none, rows_none, processes_inserted, rows_inserted, processes_removed, rows_removed, processes_changed, processes_unchanged, no_processes, no_rows)

@@ -1,16 +1,15 @@
 -- A row of slots as a map.
-use Rattle.std.proofs.Common.{◌≡◌, true≢false, ℕ, ◌+◌, ◌<◌, ◌≤◌, Bool, true, false, zero, suc, replicate, take, take_all, add-zero, zero-add, List, [], ◌∷◌, ◌++◌, length, refl, sym, ap, ◌∙◌, arith}
-use Rattle.std.specs.Prelude.{Option, Some, None, is_some, nat_eq, nat_lt, slice_index_or, slice_set}
+use Rattle.std.proofs.Common.{◌≡◌, ℕ, ◌+◌, ◌<◌, ◌≤◌, Bool, true, false, zero, suc, replicate, take, take_all, add-zero, zero-add, List, [], ◌∷◌, ◌++◌, length, refl, sym, ap, ◌∙◌, arith}
+use Rattle.std.specs.Prelude.{Option, Some, None, nat_eq, slice_index_or, slice_set}
 use Rattle.std.specs.Ordering.{nat_cmp}
 use Rattle.std.specs.Cmp.{nat_cmp_total}
 use Rattle.std.specs.FinMap as map
 use Rattle.std.specs.FinMap.{get-empty, same_map, nat_cmp-IsAntisymmetric}
-use Rattle.std.proofs.lemmas.Bool.{eqb-true, eqb-false, ltb-true, ltb-false}
+use Rattle.std.proofs.lemmas.Bool.{eqb-true, eqb-false}
 use Rattle.std.proofs.lemmas.List.{get_or-set_other, get_or_past}
 use Rattle.std.proofs.lemmas.Grind.{get_or-set_at}
 use Rattle.af_base.proofs.Lookups.{told_apart, insert-here, insert-other, remove-here, remove-other}
-use Rattle.af_table.specs.Bits.{is_taken}
-use Rattle.af_table.specs.Slots.{table_from, table_of, AreTaken}
+use Rattle.af_table.specs.Slots.{table_from, table_of}
 
 -- nothing stands below k
 from_below : (xs : List (Option ℕ)) (k q : ℕ) → q < k → map.get (table_from k xs) q ≡ None
@@ -85,23 +84,5 @@ no_files n = same_table _ map.empty (λ q. nothing n q ∙ sym (get-empty nat_cm
 -- nothing stands past the row
 pub none_past : (xs : List (Option ℕ)) (n : ℕ) → length xs ≤ n → None ≡ map.get (table_of xs) n
 none_past xs n h = sym (table_at xs n ∙ get_or_past xs n None h)
-
--- what is open is within the row
-pub within_row : (xs : List (Option ℕ)) (n f : ℕ) → map.get (table_of xs) n ≡ Some f → n < length xs
-within_row xs n f is = by (nat_lt n (length xs)) refl where
-  by : (b : Bool) → nat_lt n (length xs) ≡ b → n < length xs
-  by true e = omega (arith, ltb-true n (length xs) e)
-  by false e = let none = none_past xs n (omega (arith, ltb-false n (length xs) e)) ∙ is in absurd cc
-
--- no number is open from k on, where none is marked
-pub none_from : (words : List ℕ) (xs : List (Option ℕ)) (k : ℕ) → AreTaken words xs → length xs ≤ 1024 → ((q : ℕ) → k ≤ q → q < 1024 → is_taken words q ≡ false) → (q : ℕ) → k ≤ q → map.get (table_of xs) q ≡ None
-none_from words xs k marked fits none q le = table_at xs q ∙ by (nat_lt q 1024) refl where
-  empty : (o : Option ℕ) → is_some o ≡ false → o ≡ None
-  empty None e = refl
-  empty (Some f) e = absurd (true≢false e)
-
-  by : (b : Bool) → nat_lt q 1024 ≡ b → slice_index_or xs q None ≡ None
-  by true e = let lt : q < 1024 = omega (arith, ltb-true q 1024 e) in empty _ (sym (marked q lt) ∙ none q le lt)
-  by false e = get_or_past xs q None (omega (arith, ltb-false q 1024 e))
 
 pub ruleset table_changes = (table_at, installed, taken_out, none_beyond, none_past, resized, no_slots, no_files)

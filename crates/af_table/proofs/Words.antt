@@ -1,5 +1,5 @@
 -- What setting, clearing and finding a bit does to bits in words of 64.
-use Rattle.std.proofs.Common.{◌≡◌, ◌≢◌, ℕ, ◌+◌, ◌-◌, ◌*◌, ◌/◌, ◌%◌, ◌^◌, ◌<◌, ◌≤◌, zero, suc, min, Bool, true, false, cond, List, length, refl, sym, ap, subst, ◌∙◌, arith, bit_and, bit_or, w64}
+use Rattle.std.proofs.Common.{◌≡◌, ◌≢◌, ℕ, ◌-◌, ◌*◌, ◌/◌, ◌%◌, ◌^◌, ◌<◌, ◌≤◌, zero, suc, min, Bool, true, false, cond, List, length, refl, sym, ap, subst, ◌∙◌, arith, bit_and, bit_or, w64}
 use Rattle.std.specs.Prelude.{Option, Some, None, IfSome, nat_eq, nat_lt, not, slice_index, slice_index_or, slice_set}
 use Rattle.std.specs.Int.{bit_at, trailing_zeros}
 use Rattle.std.proofs.lemmas.Bool.{eqb-true, eqb-false, ltb-true, ltb-false}
@@ -7,6 +7,7 @@ use Rattle.std.proofs.lemmas.List.{get_or-set_same, get_or-set_other}
 use Rattle.std.proofs.lemmas.Grind.{get_or-set_at}
 use Rattle.std.proofs.lemmas.Nat.{and_le_l}
 use Rattle.std.proofs.lemmas.Nat.Bits.{bit_at-zero, bit_at-lt, bit_at_and, bit_at_not, bit_at_set_same, bit_at_set_other, bit_at_clear_same, bit_at_clear_other, bit_at-trailing_zeros, bit_at_mask_inside, bit_at_mask_below, ones_shl}
+use Rattle.af_base.specs.declared.limits.TheConstants.{MAX_NOFILE}
 use Rattle.af_table.specs.Bits.{is_set, is_taken, IsPlace, HasNoPlace}
 
 same_number : (q n : ℕ) → q / 64 ≡ n / 64 → q % 64 ≡ n % 64 → q ≡ n
@@ -31,12 +32,12 @@ module _ (ws : List ℕ) (n q x : ℕ) (long : n / 64 < length ws) where
     by true e = ap (λ k. is_taken (slice_set ws (n / 64) x) k) (eqb-true q n e) ∙ ap (λ w. is_set w (n % 64)) (get_or-set_same ws (n / 64) x 0 long) ∙ here
     by false e = other _ refl (eqb-false q n e)
 
-pub set_bit : (ws : List ℕ) (n q : ℕ) → n < 1024 → length ws ≡ 16 → is_taken (slice_set ws (n / 64) (bit_or (slice_index_or ws (n / 64) 0) (1 * 2 ^ (n % 64) % 18446744073709551616))) q ≡ cond (nat_eq q n) true (is_taken ws q)
+pub set_bit : (ws : List ℕ) (n q : ℕ) → n < MAX_NOFILE → length ws ≡ MAX_NOFILE / 64 → is_taken (slice_set ws (n / 64) (bit_or (slice_index_or ws (n / 64) 0) (1 * 2 ^ (n % 64) % 18446744073709551616))) q ≡ cond (nat_eq q n) true (is_taken ws q)
 set_bit ws n q h l =
     let low : n % 64 < 64 = omega arith in
     changed_bit ws n q _ (omega arith) true (same_bit _ 1 (bit_at_set_same w64 (slice_index ws (n / 64)) (n % 64) low)) (λ i _ apart. same_bit _ _ (bit_at_set_other w64 (slice_index ws (n / 64)) (n % 64) low i apart))
 
-pub clear_bit : (ws : List ℕ) (n q : ℕ) → n < 1024 → length ws ≡ 16 → is_taken (slice_set ws (n / 64) (bit_and (slice_index_or ws (n / 64) 0) (18446744073709551615 - 1 * 2 ^ (n % 64) % 18446744073709551616))) q ≡ cond (nat_eq q n) false (is_taken ws q)
+pub clear_bit : (ws : List ℕ) (n q : ℕ) → n < MAX_NOFILE → length ws ≡ MAX_NOFILE / 64 → is_taken (slice_set ws (n / 64) (bit_and (slice_index_or ws (n / 64) 0) (18446744073709551615 - 1 * 2 ^ (n % 64) % 18446744073709551616))) q ≡ cond (nat_eq q n) false (is_taken ws q)
 clear_bit ws n q h l =
     let low : n % 64 < 64 = omega arith in
     changed_bit ws n q _ (omega arith) false (same_bit _ 0 (bit_at_clear_same w64 (slice_index ws (n / 64)) (n % 64) low)) (λ i small apart. same_bit _ _ (bit_at_clear_other w64 (slice_index ws (n / 64)) (n % 64) low i small apart))
@@ -112,25 +113,3 @@ pub no_place_of_not : (word k : ℕ) → word < 2 ^ 64 → HasNoPlace (184467440
 no_place_of_not word k fits h = λ q le lt. sym (twice (is_set word q)) ∙ ap not (sym (set_of_not word q fits lt) ∙ h q le lt)
 
 pub ruleset places = (place_found, place_none, places_of_not, no_place_of_not)
-
--- a number in word i
-pub at_word : (ws : List ℕ) (i n : ℕ) → n < 64 → is_taken ws (64 * i + n) ≡ is_set (slice_index ws i) n
-at_word ws i n h = ap (λ j. is_set (slice_index ws j) ((64 * i + n) % 64)) (quotient i n h) ∙ ap (is_set (slice_index ws i)) (rest i n h) where
-  quotient : (i n : ℕ) → n < 64 → (64 * i + n) / 64 ≡ i
-  quotient i n h = omega arith
-
-  rest : (i n : ℕ) → n < 64 → (64 * i + n) % 64 ≡ n
-  rest i n h = omega arith
-
--- what is so of the numbers below word i, and of those of word i below n, is so of the numbers below 64 * i + n
-pub more_words : (ws : List ℕ) (from i n : ℕ) (b : Bool) → n ≤ 64 → ((q : ℕ) → from ≤ q → q < 64 * i → is_taken ws q ≡ b) → ((q : ℕ) → from - 64 * i ≤ q → q < n → is_set (slice_index ws i) q ≡ b)
-    → (q : ℕ) → from ≤ q → q < 64 * i + n → is_taken ws q ≡ b
-more_words ws from i n b h below here q le lt = by (nat_lt q (64 * i)) refl where
-  back : (i q : ℕ) → 64 * i ≤ q → 64 * i + (q - 64 * i) ≡ q
-  back i q h = omega arith
-
-  by : (r : Bool) → nat_lt q (64 * i) ≡ r → is_taken ws q ≡ b
-  by true e = below q le (omega (arith, ltb-true q (64 * i) e))
-  by false e =
-      let above : 64 * i ≤ q = omega (arith, ltb-false q (64 * i) e) in
-      ap (is_taken ws) (sym (back i q above)) ∙ at_word ws i (q - 64 * i) (omega arith) ∙ here (q - 64 * i) (omega arith) (omega arith)

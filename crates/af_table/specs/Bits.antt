@@ -2,21 +2,21 @@
 use Rattle.std.specs.Prelude.{◌≡◌, ℕ, ◌/◌, ◌%◌, ◌≤◌, ◌<◌, Bool, not, List, slice_index, nat_eq}
 use Rattle.std.specs.Int.{bit_at}
 
--- Whether the bit n of a word is set.
+-- Whether the bit n of a word is set (this project's profile).
 abbrev pub is_set : ℕ → ℕ → Bool
 is_set word n = nat_eq (bit_at word n) 1
 
--- Whether the number n is marked as taken.
+-- Whether the number n is marked as taken (this project's profile).
 abbrev pub is_taken : List ℕ → ℕ → Bool
 is_taken words n = is_set (slice_index words (n / 64)) (n % 64)
 
--- n is the least place of a word from k on whose bit is as wanted.
+-- n is the least place of a word from k on whose bit is as wanted (this project's profile).
 pub record IsPlace (word k : ℕ) (b : Bool) (n : ℕ) : Type 0 where
   pub found : is_set word n ≡ b
   pub low : n < 64
   pub reached : k ≤ n
   pub least : (q : ℕ) → k ≤ q → q < n → is_set word q ≡ not b
 
--- No place of a word from k on has a bit as wanted.
+-- No place of a word from k on has a bit as wanted (this project's profile).
 abbrev pub HasNoPlace : ℕ → ℕ → Bool → Type 0
 HasNoPlace word k b = (q : ℕ) → k ≤ q → q < 64 → is_set word q ≡ not b

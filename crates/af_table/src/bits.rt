@@ -1,49 +1,54 @@
-//! Which of 1,024 numbers are taken.
+//! Which numbers below the largest limit are taken.
 ghost use Rattle.std.specs.Prelude.{◌≡◌, ℕ, ◌≤◌, ◌<◌, IfSome, IfNone, not, true, false, nat_eq, if◌then◌else◌};
 ghost use Rattle.af_table.specs.Bits.{is_taken, IsPlace, HasNoPlace};
 
-/// A bit for each number below 1,024: it is set where the number is taken.
+use af_base::limits::MAX_NOFILE;
+
+/// How many words have a bit for each number.
+const WORDS: usize = (MAX_NOFILE / u64::BITS) as usize;
+
+/// A bit for each number below the largest limit: it is set where the number is taken.
 #[derive(Clone, Copy)]
 pub struct Bits {
-    pub words: [u64; 16],
+    pub words: [u64; WORDS],
 }
 
 impl Bits {
     /// No number is taken.
     pub fn new() -> Bits
-        ensures { (q : ℕ) → q < 1024 → is_taken result.words q ≡ false }
+        ensures { (q : ℕ) → q < MAX_NOFILE → is_taken result.words q ≡ false }
     {
-        Bits { words: [0; 16] }
+        Bits { words: [0; WORDS] }
     }
 
     /// The number is taken from now on.
     pub fn set(&mut self, n: u32)
-        requires { n < 1024 }
-        ensures { (q : ℕ) → q < 1024 → is_taken self.new.words q ≡ (if nat_eq q n then true else is_taken self.old.words q) }
+        requires { n < MAX_NOFILE }
+        ensures { (q : ℕ) → q < MAX_NOFILE → is_taken self.new.words q ≡ (if nat_eq q n then true else is_taken self.old.words q) }
     {
-        self.words[(n / 64) as usize] |= 1u64 << (n % 64);
+        self.words[(n / u64::BITS) as usize] |= 1 << (n % u64::BITS);
     }
 
     /// The number is free from now on.
     pub fn clear(&mut self, n: u32)
-        requires { n < 1024 }
-        ensures { (q : ℕ) → q < 1024 → is_taken self.new.words q ≡ (if nat_eq q n then false else is_taken self.old.words q) }
+        requires { n < MAX_NOFILE }
+        ensures { (q : ℕ) → q < MAX_NOFILE → is_taken self.new.words q ≡ (if nat_eq q n then false else is_taken self.old.words q) }
     {
-        self.words[(n / 64) as usize] &= !(1u64 << (n % 64));
+        self.words[(n / u64::BITS) as usize] &= !(1 << (n % u64::BITS));
     }
 
     /// The least number from this one on that is taken, or that is free. It looks at each word once.
     pub fn next(&self, from: u32, taken: bool) -> Option<u32>
         ensures found { IfSome result (λ n. is_taken self.now.words n ≡ taken) }
-        ensures low { IfSome result (λ n. n < 1024) }
+        ensures low { IfSome result (λ n. n < MAX_NOFILE) }
         ensures reached { IfSome result (λ n. from ≤ n) }
         ensures least { IfSome result (λ n. (q : ℕ) → from ≤ q → q < n → is_taken self.now.words q ≡ not taken) }
-        ensures none { IfNone result ((q : ℕ) → from ≤ q → q < 1024 → is_taken self.now.words q ≡ not taken) }
+        ensures none { IfNone result ((q : ℕ) → from ≤ q → q < MAX_NOFILE → is_taken self.now.words q ≡ not taken) }
     {
-        for i in from / 64..16 {
+        for i in from / u64::BITS..WORDS as u32 {
             let word = self.words[i as usize];
-            if let Some(bit) = place_from(word, from.saturating_sub(64 * i), taken) {
-                return Some(64 * i + bit);
+            if let Some(bit) = place_from(word, from.saturating_sub(u64::BITS * i), taken) {
+                return Some(u64::BITS * i + bit);
             }
         }
         None

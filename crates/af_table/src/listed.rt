@@ -34,27 +34,27 @@ impl Process {
 
 impl Procs {
     /// The pids of all processes, rising. The list is all that it takes memory for.
-    pub fn pids(&self, alloc: Global) -> Result<Vec<Pid>, AllocError>
+    pub fn pids(&self) -> Result<Vec<Pid>, AllocError>
         ensures all { IfOk result (λ pids. pids.items ≡ map.keys self.now.processes) }
         ensures rising { IfOk result (λ pids. IsStrictlyIncreasing pids.items) }
     {
-        let mut pids: Vec<Pid> = self.processes.keys().copied().collect(alloc)?;
+        let mut pids: Vec<Pid> = self.processes.keys().copied().collect(self.alloc)?;
         pids.sort_unstable();
         Ok(pids)
     }
 
     /// The open numbers of the process with what they stand for, as a plain list; a stranger has
     /// none. The list is all that it takes memory for.
-    pub fn listed(&self, alloc: Global, pid: Pid) -> Result<ListedTable, AllocError>
+    pub fn listed(&self, pid: Pid) -> Result<ListedTable, AllocError>
         ensures pid { IfOk result (λ t. t.pid ≡ pid) }
         ensures shown { IfOk result (λ t. process_of t ≡ bare_process (process_at self.now pid)) }
         ensures rising { IfOk result IsRisingTable }
         ensures few { IfOk result (λ t. length t.numbers.items ≤ MAX_NOFILE) }
     {
         let Some(process) = self.find(pid) else {
-            let numbers = Vec::new(alloc);
+            let numbers = Vec::new(self.alloc);
             return Ok(ListedTable { pid, numbers });
         };
-        process.listed(alloc, pid)
+        process.listed(self.alloc, pid)
     }
 }

@@ -35,7 +35,7 @@ impl Model for Process {
 
     ghost view = { λ a. record { process = record { user = a.user; limit = a.limit; privileged = a.privileged; table = table_of a.slots.items }; row = vec_len a.slots } };
 
-    ghost invariant = { λ a. (vec_len a.slots ≤ 1024) × (a.limit ≤ MAX_NOFILE) × AreTaken a.taken.words a.slots.items };
+    ghost invariant = { λ a. (vec_len a.slots ≤ MAX_NOFILE) × (a.limit ≤ MAX_NOFILE) × AreTaken a.taken.words a.slots.items };
 }
 
 impl Process {
@@ -150,9 +150,7 @@ impl Process {
         ensures none { IfNone result (free_from from self.now.process ≡ []) }
         ensures low { IfSome result (λ n. n < MAX_NOFILE) }
     {
-        let Some(n) = self.taken.next(from, false) else {
-            return None;
-        };
+        let n = self.taken.next(from, false)?;
         if n >= self.limit {
             return None;
         }
@@ -173,12 +171,8 @@ impl Process {
         ensures two { IfSome result (λ t. lowest_free 2 self.now.process ≡ t.0 ∷ t.1 ∷ []) }
         ensures none { IfNone result (length (free_numbers self.now.process) < 2) }
     {
-        let Some(first) = self.next_free(0) else {
-            return None;
-        };
-        let Some(second) = self.next_free(first.0 + 1) else {
-            return None;
-        };
+        let first = self.next_free(0)?;
+        let second = self.next_free(first.0 + 1)?;
         Some((first, second))
     }
 
@@ -208,12 +202,8 @@ impl Process {
         ensures least { IfSome result (λ e. (q : ℕ) → from ≤ q → q < e.0 → map.get self.now.process.table q ≡ None) }
         ensures none { IfNone result ((q : ℕ) → from ≤ q → map.get self.now.process.table q ≡ None) }
     {
-        let Some(n) = self.taken.next(from.0, true) else {
-            return None;
-        };
-        let Some(ino) = self.lookup(Fd(n)) else {
-            return None;
-        };
+        let n = self.taken.next(from.0, true)?;
+        let ino = self.lookup(Fd(n))?;
         Some((Fd(n), ino))
     }
 }

@@ -1,4 +1,4 @@
-//! The processes by number.
+//! The processes by pid.
 ghost use Rattle.std.specs.Prelude.{◌≡◌, ℕ, ◌+◌, ◌≤◌, ◌<◌, [], ◌∷◌, length, slice_get, IsTrue, IfSome, IfNone, IfOk, OnOk, OnErr, OnSome, IsOk};
 ghost use Rattle.std.specs.FinMap as map;
 ghost use Rattle.af_base.specs.Changes.{change_at};
@@ -25,7 +25,7 @@ pub struct Who {
 pub struct Procs {
     pub(crate) processes: IndexMap<Pid, Process>,
     next_pid: u32,
-    alloc: Global,
+    pub(crate) alloc: Global,
 }
 
 impl Model for Procs {
@@ -72,7 +72,7 @@ impl Procs {
         Pid(self.next_pid)
     }
 
-    /// The process of that number.
+    /// The process of that pid.
     #[tactic(auto, using(crate::proofs::Parts::part_changes))]
     pub(crate) fn find(&self, pid: Pid) -> Option<&Process>
         ensures there { IfSome result (λ p. map.get self.now.processes pid ≡ Some p.now.process) }
@@ -91,9 +91,7 @@ impl Procs {
         ensures bound { IfSome result (λ w. w.limit ≤ MAX_NOFILE) }
         ensures none { IfNone result (map.get self.now.processes pid ≡ None) }
     {
-        let Some(process) = self.find(pid) else {
-            return None;
-        };
+        let process = self.find(pid)?;
         Some(Who {
             user: process.user(),
             limit: process.limit(),
@@ -106,46 +104,39 @@ impl Procs {
     pub fn lookup(&self, pid: Pid, fd: Fd) -> Option<Ino>
         ensures { result ≡ table_at self.now pid fd }
     {
-        let Some(process) = self.find(pid) else {
-            return None;
-        };
-        process.lookup(fd)
+        self.find(pid)?.lookup(fd)
     }
 
-    /// The lowest free number of the process, if one below its limit is free (open(2)).
+    /// The lowest free number of the process, if one below its limit is free (open(2)); a stranger
+    /// has none.
     pub fn lowest(&self, pid: Pid) -> Option<Fd>
         ensures { result ≡ slice_get (free_numbers (process_at self.now pid)) 0 }
     {
-        let Some(process) = self.find(pid) else {
-            return None;
-        };
-        process.lowest()
+        self.find(pid)?.lowest()
     }
 
-    /// The two lowest free numbers of the process, rising; nothing where it has not two.
+    /// The two lowest free numbers of the process, rising; nothing where it has not two, or of a
+    /// stranger.
     pub fn lowest_two(&self, pid: Pid) -> Option<(Fd, Fd)>
         ensures two { IfSome result (λ t. lowest_free 2 (process_at self.now pid) ≡ t.0 ∷ t.1 ∷ []) }
         ensures none { IfNone result (length (free_numbers (process_at self.now pid)) < 2) }
     {
-        let Some(process) = self.find(pid) else {
-            return None;
-        };
-        process.lowest_two()
+        self.find(pid)?.lowest_two()
     }
 
-    /// The lowest free numbers of the process, rising: so many, or all where there are fewer. The
-    /// list is all that it takes memory for.
-    pub fn lowest_free(&self, alloc: Global, pid: Pid, count: usize) -> Result<Vec<Fd>, AllocError>
+    /// The lowest free numbers of the process, rising: so many, or all where there are fewer; of a
+    /// stranger an empty list. The list is all that it takes memory for.
+    pub fn lowest_free(&self, pid: Pid, count: usize) -> Result<Vec<Fd>, AllocError>
         ensures { IfOk result (λ fds. fds.items ≡ lowest_free count (process_at self.now pid)) }
     {
         let Some(process) = self.find(pid) else {
-            return Ok(Vec::new(alloc));
+            return Ok(Vec::new(self.alloc));
         };
-        process.lowest_free(alloc, count)
+        process.lowest_free(self.alloc, count)
     }
 
     /// The least open number of the process from this one on, with what it stands for, if there is
-    /// one. To walk over all, go on behind each.
+    /// one; a stranger has none. To walk over all, go on behind each.
     pub fn next_open(&self, pid: Pid, from: Fd) -> Option<(Fd, Ino)>
         ensures open { IfSome result (λ e. table_at self.now pid e.0 ≡ Some e.1) }
         ensures low { IfSome result (λ e. e.0 < MAX_NOFILE) }
@@ -153,10 +144,7 @@ impl Procs {
         ensures least { IfSome result (λ e. (q : ℕ) → from ≤ q → q < e.0 → table_at self.now pid q ≡ None) }
         ensures none { IfNone result ((q : ℕ) → from ≤ q → table_at self.now pid q ≡ None) }
     {
-        let Some(process) = self.find(pid) else {
-            return None;
-        };
-        process.next_open(from)
+        self.find(pid)?.next_open(from)
     }
 
     /// Room for one process more, so that `spawn` needs no memory. Nothing else changes, also on an
@@ -227,7 +215,7 @@ impl Procs {
     }
 
     /// Room to install at every number of the process below its limit, where so many, and not none,
-    /// are to come. No process changes, and on an error nothing does.
+    /// are to come; a stranger needs none. No process changes, and on an error nothing does.
     #[tactic(auto, using(crate::proofs::Parts::room_changes))]
     pub fn room_for(&mut self, pid: Pid, count: usize) -> Result<(), AllocError>
         ensures processes { self.new.processes ≡ self.old.processes }
@@ -266,7 +254,7 @@ impl Procs {
     }
 
     /// The number of the process is free from now on. It answers what the number stood for, which
-    /// is nothing where it was free already. It takes no memory.
+    /// is nothing where it was free already, and nothing of a stranger. It takes no memory.
     #[tactic(auto, using(crate::proofs::Parts::part_changes))]
     pub fn take_out(&mut self, pid: Pid, fd: Fd) -> Option<Ino>
         ensures value { result ≡ table_at self.old pid fd }
@@ -275,14 +263,12 @@ impl Procs {
         ensures next { self.new.next_pid ≡ self.old.next_pid }
         ensures room { self.new.room ≡ self.old.room }
     {
-        let Some(process) = self.processes.get_mut(&pid) else {
-            return None;
-        };
-        process.take_out(fd)
+        self.processes.get_mut(&pid)?.take_out(fd)
     }
 
     /// The process is gone, and its pid is never given again. Its table is empty: no number of a
-    /// process goes but by `take_out`, and `next_open` tells which are left. It takes no memory.
+    /// process goes but by `take_out`, and `next_open` tells which are left. For a stranger nothing
+    /// changes. It takes no memory.
     #[tactic(auto, using(crate::proofs::Parts::part_changes))]
     pub fn remove(&mut self, pid: Pid)
         requires { (n : ℕ) → table_at self.old pid n ≡ None }

@@ -148,6 +148,7 @@ impl Engine {
                 waiting.push(*ino)?;
             }
         }
+        // Bounded only so that it returns: a queue is read once, so what waits runs out.
         for _ in 0..usize::MAX {
             let Some(ino) = waiting.pop() else {
                 break;

@@ -67,7 +67,7 @@ struct Met {
     errors: BTreeSet<u8>,
     /// Files that a receive installed.
     installed: u64,
-    /// Receives that closed some files.
+    /// Receives that did not install all that was attached.
     cut: u64,
     /// Sockets that passes reclaimed.
     reclaimed: u64,

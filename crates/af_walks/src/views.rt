@@ -1,6 +1,6 @@
 //! What can be seen: each count is a walk over all tables and queues.
 
-use crate::engine::Engine;
+use crate::engine::{Engine, Message};
 use af_base::names::{Ino, Pid, Uid};
 use std::ops::Bound;
 
@@ -20,17 +20,7 @@ impl Engine {
 
     /// How many places of all queues hold the file.
     pub fn inflight(&self, ino: Ino) -> u64 {
-        let mut count: u64 = 0;
-        for file in self.files.values() {
-            for message in &file.queue {
-                for held in &message.attached {
-                    if *held == ino {
-                        count = count.saturating_add(1);
-                    }
-                }
-            }
-        }
-        count
+        self.sum(|message| message.attached.iter().filter(|held| **held == ino).count())
     }
 
     /// How many places hold the file.
@@ -40,26 +30,31 @@ impl Engine {
 
     /// How many places of all queues are charged to the user.
     pub fn charged(&self, user: Uid) -> u64 {
-        let mut count: u64 = 0;
-        for file in self.files.values() {
-            for message in &file.queue {
-                if message.user == user {
-                    count = count.saturating_add(message.attached.len() as u64);
-                }
+        self.sum(|message| {
+            if message.user == user {
+                message.attached.len()
+            } else {
+                0
             }
-        }
-        count
+        })
     }
 
     /// How many places all queues have.
     pub fn total(&self) -> u64 {
-        let mut count: u64 = 0;
+        self.sum(|message| message.attached.len())
+    }
+
+    /// What the numbers of all messages in all queues add up to.
+    fn sum<F: Fn(&Message) -> usize>(&self, number: F) -> u64
+        requires { F.IsAlwaysCallable number }
+    {
+        let mut sum: u64 = 0;
         for file in self.files.values() {
             for message in &file.queue {
-                count = count.saturating_add(message.attached.len() as u64);
+                sum = sum.saturating_add(number(message) as u64);
             }
         }
-        count
+        sum
     }
 
     /// How many files are live.

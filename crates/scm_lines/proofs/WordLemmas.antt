@@ -23,13 +23,3 @@ words_after-more front b (c ∷ rest) h = rw h (by_end (is_blank c))
         ≡ cond ends ((front ++ b ∷ []) ∷ words_of (c ∷ rest)) (front_of_word (front ++ b ∷ []) (words_of (c ∷ rest)))
     by_end true = refl
     by_end false = front-onto front b (words_of (c ∷ rest))
-
--- the first byte of a word
-pub words_of-first : (b : ℕ) (rest : List ℕ) → is_blank b ≡ false → words_of (b ∷ rest) ≡ words_after (b ∷ []) rest
-words_of-first b [] h = rw h refl
-words_of-first b (c ∷ rest) h = rw h (by_end (is_blank c) (words_of (c ∷ rest)))
-  where
-    by_end : (ends : Bool) (words : List (List ℕ)) → cond ends ((b ∷ []) ∷ words) (onto_word b words) ≡ cond ends ((b ∷ []) ∷ words) (front_of_word (b ∷ []) words)
-    by_end true words = refl
-    by_end false [] = refl
-    by_end false (word ∷ words) = refl

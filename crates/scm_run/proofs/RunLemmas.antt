@@ -158,18 +158,6 @@ ran_too_long taken before mid old b fault.Read h ran other over = absurd h
 ran_too_long taken before mid old b fault.Write h ran other over = absurd h
 ran_too_long taken before mid old b fault.Memory h ran other over = λ more. ran_some taken before mid mid old ran refl (b ∷ []) more
 
--- another byte of the line
-pub ran_push : (taken : List ℕ) (before mid : Option (List ℕ)) (old : Progress) (b : ℕ) → Ran taken before mid old → (b == 10) ≡ false
-    → Ran (taken ++ b ∷ []) before mid (record old { pending = old.pending ++ b ∷ [] })
-ran_push taken before mid old b ran other = record {
-  whole = ran.whole;
-  text = ran.text;
-  cut = cut_push taken ran.whole old.pending b ran.cut other;
-  runs = ran.runs;
-  counted = ran.counted;
-  wrote = ran.wrote;
-}
-
 -- ---- the end of the input
 
 pub finish_empty : (taken : List ℕ) (before mid : Option (List ℕ)) (old : Progress) → Ran taken before mid old → old.pending ≡ [] → Wrote (lines taken) old.events before mid

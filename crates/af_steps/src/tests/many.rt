@@ -1,4 +1,4 @@
-//! Many files, and many rounds.
+//! Many files, and many lives.
 use super::bench::{Bench, spawn, step};
 use af_base::errno::Errno;
 use af_base::events::{Reply, Step};
@@ -23,7 +23,7 @@ fn files_run_out(rt: HostRuntime) -> Result<(), Fail> {
 }
 
 #[test]
-fn numbers_of_files_are_never_used_again(rt: HostRuntime) -> Result<(), Fail> {
+fn many_lives(rt: HostRuntime) -> Result<(), Fail> {
     let mut bench = Bench::new(rt.alloc())?;
     bench.engine.step(&spawn(1));
     for _ in 0..100_000 {

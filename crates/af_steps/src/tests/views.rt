@@ -1,8 +1,8 @@
 //! Each view, before and after events.
 use super::bench::{Bench, spawn_as};
 use crate::{Engine, FileInfo};
-use af_base::events::{Reply, SockType, State};
-use af_base::names::{Fd, Ino, Pid, Uid};
+use af_base::events::{SockType, State};
+use af_base::names::{Ino, Pid, Uid};
 use std::test::Fail;
 
 /// A socket of this state, with so many messages to receive.

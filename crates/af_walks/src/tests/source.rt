@@ -1,4 +1,6 @@
 //! A seeded source of events, most of which find what they name.
+ghost use Rattle.std.specs.Prelude.{◌≤◌};
+
 use af_base::events::{Event, Reply, SockType, Step};
 use af_base::items::Items;
 use af_base::names::{Fd, Pid, Uid};
@@ -33,7 +35,7 @@ pub struct Mix {
     pub limits: &'static [u32],
     /// The largest number of a descriptor that is named.
     pub last_fd: u32,
-    /// So many processes at most live at once.
+    /// Where more live than this, one is to end.
     pub most_processes: usize,
 }
 
@@ -57,7 +59,7 @@ impl Source {
         }
     }
 
-    /// The next event. Where no process lives one starts, and where too many do one ends.
+    /// The next event. Where no process lives one starts, and where too many do one is to end.
     pub fn event(&mut self) -> Result<Event, AllocError> {
         let drawn = self.mix.kinds.choose(&mut self.rng).copied();
         let kind = if self.pids.is_empty() {
@@ -95,8 +97,10 @@ impl Source {
     }
 
     /// Whether a thing comes that is to come once in so many times.
-    fn is_rare(&mut self, times: u32) -> bool {
-        self.rng.random_range(..=times) == 0
+    fn is_rare(&mut self, times: u32) -> bool
+        requires { 1 ≤ times }
+    {
+        self.rng.random_range(1..=times) == 1
     }
 
     /// A process that lives, and rarely one that does not.

@@ -1,4 +1,4 @@
-//! Worked rows over memory: scripts whose output was worked out by hand.
+//! Worked scripts over memory: their output was found by hand.
 use super::plays::plays;
 use std::test::Fail;
 

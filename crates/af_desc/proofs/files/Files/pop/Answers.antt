@@ -5,6 +5,6 @@ use Rattle.af_desc.proofs.files.Files.pop.Goals as goal
 
 pub invariant_of-self-2 : goal.invariant_of-self-2
 invariant_of-self-2 c = (
-  written_in_place c.self.inside.keys c.self.inside.slab c.args.ino c.in-Some.key.now c.self.inside.next c.in-Some-get_mut.entry.now _ c.self.invariant.0 (search rules) (search rules) refl,
-  none_over-written c.self.inside.keys c.self.inside.slab c.in-Some.key.now c.in-Some-get_mut.entry.now _ (search rules) c.self.invariant.1,
+  written_in_place c.self.inside.keys c.self.inside.slab c.args.ino c.in_ok-key.key.now c.self.inside.next c.in_ok-entry.entry.now _ c.self.invariant.0 (search rules) (search rules) refl,
+  none_over-written c.self.inside.keys c.self.inside.slab c.in_ok-key.key.now c.in_ok-entry.entry.now _ (search rules) c.self.invariant.1,
 )

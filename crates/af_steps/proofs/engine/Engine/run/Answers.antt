@@ -2,11 +2,9 @@ use Rattle.std.proofs.Common.{rules}
 use Rattle.af_steps.proofs.Running.{run-more, run-none}
 use Rattle.af_steps.proofs.engine.Engine.run.Goals as goal
 
--- src/engine.rt:77:9
 pub loop-event-init : goal.loop-event-init
 loop-event-init c = (search rules, run-none c.args.self.now c.args.events.now c.new-done.result.items c.new-done.ensures.items)
 
--- src/engine.rt:77:9
 pub loop-event-preserved : goal.loop-event-preserved
 loop-event-preserved c = (
   search rules,

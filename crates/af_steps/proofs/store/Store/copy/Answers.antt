@@ -1,17 +1,16 @@
-use Rattle.std.proofs.Common.{rules, ◌≡◌, ◌<◌, ◌+◌, ℕ, [], false, refl, sym, ap, subst, ◌∙◌, arith}
+use Rattle.std.proofs.Common.{◌≡◌, ◌<◌, ℕ, false, refl, sym, ap, subst, ◌∙◌, arith}
 use Rattle.std.specs.Prelude.{Some, None, IsTrue, unwrap_or}
 use Rattle.std.specs.Option.{option_map_or}
 use Rattle.std.specs.FinMap as map
 use Rattle.af_base.specs.World.{Process, World}
-use Rattle.af_base.specs.Places.{table_at}
 use Rattle.af_base.specs.Changes.{add_process}
 use Rattle.af_base.specs.Refusals.{is_crowded, no_process, process_at}
-use Rattle.af_base.proofs.Lookups.{insert-here, insert-other, there, told_apart}
-use Rattle.af_steps.specs.Agreement.{Agrees, IsAtRest, IsSteady}
+use Rattle.af_base.proofs.Lookups.{insert-here, there}
+use Rattle.af_steps.specs.Agreement.{IsAtRest, IsSteady}
 use Rattle.af_steps.specs.Stored.{Stored}
 use Rattle.af_steps.specs.contracts.store.Store.{the_view}
 use Rattle.af_steps.proofs.Copied.{forked, forked-parent, steady-added}
-use Rattle.af_steps.proofs.Shedding.{steady-at-rest}
+use Rattle.af_steps.proofs.Resting.{rest-steady-all}
 use Rattle.af_steps.proofs.store.Store.copy.Goals as goal
 
 pub copy_table-requires-clause-steady : goal.copy_table-requires-clause-steady
@@ -25,7 +24,7 @@ copy_table-requires-clause-steady c =
     let known = rest.agrees.known c.args.pid q (at.1 ∙ is) in
     let low = (rest.sound.within.processes c.args.pid q (at.1 ∙ is)).limit in
     let room = subst (λ (v : Stored). is_crowded v.world ≡ false) (sym c.self.view_is) c.requires.room in
-    let added = steady-added s.world (record q { table = map.empty }) s.pending s.kept (steady-at-rest s rest) room known refl low in
+    let added = steady-added s.world (record q { table = map.empty }) s.pending s.kept (rest-steady-all s rest) room known refl low in
     let grown : add_process s.world (record q { table = map.empty }) ≡ record s.world { processes = c.copy_for_fork.new.self.processes; next_pid = c.copy_for_fork.new.self.next_pid } = λ i. record s.world { processes = sym e.processes i; next_pid = sym e.next i } in
     subst (λ w. IsSteady w s.pending s.kept) grown added
 

@@ -1,20 +1,10 @@
-use Rattle.std.proofs.Common.{rules, ◌≡◌, ◌<◌, ◌≤◌, ◌+◌, ℕ, refl, sym, ap, subst, ◌∙◌, arith}
-use Rattle.std.specs.Prelude.{Some, None, is_some, unwrap_or}
-use Rattle.std.specs.FinMap as map
-use Rattle.af_base.specs.World.{Map, World}
+use Rattle.std.proofs.Common.{◌+◌, refl, sym, ap, subst, ◌∙◌, arith}
 use Rattle.af_base.specs.Places.{table_at}
-use Rattle.af_base.specs.Changes.{install}
 use Rattle.af_base.specs.Refusals.{process_at}
-use Rattle.af_base.proofs.Moved.{there-table}
-use Rattle.af_ledger.specs.declared.place.Place.TheVariants.{Table}
-use Rattle.af_ledger.specs.Kept.{held}
-use Rattle.af_steps.specs.Agreement.{IsSteady}
-use Rattle.af_steps.specs.Stored.{Stored, row_at}
+use Rattle.af_steps.specs.Stored.{Stored}
 use Rattle.af_steps.specs.contracts.store.Store.{the_view}
 use Rattle.af_steps.proofs.Bounds.{can-hold-table}
 use Rattle.af_steps.proofs.Copied.{Copying, copying-none, copying-done, copying-open, copying-step, copying-was, below-row}
-use Rattle.af_steps.proofs.Shedding.{steady-same}
-use Rattle.af_steps.proofs.Steady.{steady-installed}
 use Rattle.af_steps.proofs.store.Store.copy_table.Goals as goal
 
 pub loop-fd-init : goal.loop-fd-init

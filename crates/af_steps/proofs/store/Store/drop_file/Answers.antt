@@ -1,7 +1,6 @@
-use Rattle.std.proofs.Common.{rules, arith, ◌≡◌, sym, ◌∙◌, ap}
+use Rattle.std.proofs.Common.{arith, ◌≡◌, sym, ◌∙◌, ap}
 use Rattle.std.specs.Prelude.{None, Some}
 use Rattle.std.specs.FinMap as map
-use Rattle.af_base.specs.World.{AsSocket}
 use Rattle.af_base.specs.Whole.{state_of}
 use Rattle.af_steps.proofs.Dropped.{gone_alone, gone_connected, gone_none, plain_alone, socket_is, state_is}
 use Rattle.af_steps.proofs.store.Store.drop_file.Goals as goal

@@ -1,4 +1,4 @@
-use Rattle.std.proofs.Common.{rules, ◌≡◌, ◌≤◌, true, false, refl, sym, ap, subst, ◌∙◌, nat_eq, arith}
+use Rattle.std.proofs.Common.{◌≡◌, true, false, refl, sym, ap, subst, ◌∙◌, nat_eq, arith}
 use Rattle.std.specs.Map.{keys_of}
 use Rattle.std.proofs.lemmas.Bool.{false≢true}
 use Rattle.af_base.specs.World.{World}
@@ -34,7 +34,7 @@ returns-else-drop_one c =
     let w : World = (the_view c.self.inside).world in
     let users = ap (λ k. keys_of k.users) d.dropped ∙ users-dropped c.args.place c.args.ino c.self.inside.ledger in
     let same = ap (λ us. record w { users = us }) users in
-    let P : Stored → Type 0 = λ s. Drops c.args.place c.args.ino s (the_view record { procs = c.self.inside.procs; files = c.self.inside.files; ledger = c.drop_one.new.self; pending = c.self.inside.pending }) in
+    let P : Stored → Type 0 = λ s. Drops c.args.place c.args.ino s (the_view (record c.self.inside { ledger = c.drop_one.new.self })) in
     let told : nat_eq (refs_of c.drop_one.new.self c.args.ino) 0 ≡ false = sym d.last ∙ c.if-drop_one.false in
     subst P c.self.view_is (record {
       kept = d.dropped;

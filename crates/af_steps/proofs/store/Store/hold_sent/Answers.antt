@@ -1,13 +1,11 @@
-use Rattle.std.proofs.Common.{rules, ◌≡◌, ◌<◌, ◌+◌, ◌∷◌, ◌++◌, [], take, drop, sym, ap, subst, ◌∙◌, arith}
-use Rattle.std.specs.Prelude.{None, Some, filter_map}
+use Rattle.std.proofs.Common.{◌+◌, take, drop, sym, ap, subst, ◌∙◌, arith}
+use Rattle.std.specs.Prelude.{filter_map}
 use Rattle.std.specs.Map.{keys_of}
-use Rattle.af_base.specs.World.{World}
 use Rattle.af_base.specs.Places.{table_at}
 use Rattle.af_ledger.specs.Kept.{CanHold, Kept, held, refs_of}
 use Rattle.af_ledger.specs.declared.place.Place.TheVariants.{Queue}
 use Rattle.af_ledger.proofs.Laws.{users-held}
 use Rattle.af_steps.specs.Agreement.{held_all}
-use Rattle.af_steps.specs.Stored.{Stored}
 use Rattle.af_steps.specs.contracts.store.Store.{the_view}
 use Rattle.af_steps.proofs.HeldAll.{refs-held_all}
 use Rattle.af_steps.proofs.HoldSent.{held-last, sent-has, sent-none, sent-some, sent-split}

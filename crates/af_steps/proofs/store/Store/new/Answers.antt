@@ -3,7 +3,7 @@ use Rattle.std.specs.Map.{keys_of}
 use Rattle.af_base.specs.World.{World, empty_world}
 use Rattle.af_base.specs.Whole.{IsSound}
 use Rattle.af_base.proofs.Sound.{fresh_sound}
-use Rattle.af_steps.specs.Agreement.{Agrees, IsAtRest}
+use Rattle.af_steps.specs.Agreement.{Agrees}
 use Rattle.af_steps.proofs.Fresh.{agrees-empty}
 use Rattle.af_steps.proofs.store.Store.new.Goals as goal
 

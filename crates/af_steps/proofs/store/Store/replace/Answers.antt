@@ -1,7 +1,5 @@
-use Rattle.std.proofs.Common.{rules, ◌≡◌, ◌<◌, [], sym, ap, subst, ◌∙◌, refl, arith}
-use Rattle.std.specs.Prelude.{None, Some}
+use Rattle.std.proofs.Common.{◌≡◌, [], sym, ap, subst, ◌∙◌, arith}
 use Rattle.std.specs.FinMap as map
-use Rattle.af_base.specs.World.{Process, World}
 use Rattle.af_base.specs.Places.{table_at}
 use Rattle.af_base.specs.Changes.{install}
 use Rattle.af_base.specs.Unheld.{Settles}
@@ -10,11 +8,10 @@ use Rattle.af_base.proofs.Moved.{there-table}
 use Rattle.af_ledger.specs.declared.place.Place.TheVariants.{Table}
 use Rattle.af_ledger.specs.Kept.{count_of, dropped, held}
 use Rattle.af_ledger.proofs.Laws.{tabled-tabled}
-use Rattle.af_steps.specs.Agreement.{IsSteady, IsSteadyBut}
+use Rattle.af_steps.specs.Agreement.{IsSteadyBut}
 use Rattle.af_steps.specs.Stored.{Stored}
-use Rattle.af_steps.specs.contracts.store.Store.{the_view}
 use Rattle.af_steps.proofs.Bounds.{can-drop-table, can-hold-table}
-use Rattle.af_steps.proofs.Shedding.{dropped-sheds, dropped-steady, sheds-settles, steady-same, steadybut-same}
+use Rattle.af_steps.proofs.Shedding.{dropped-sheds, dropped-steady, sheds-settles, steady-up-to-room, steadybut-up-to-room}
 use Rattle.af_steps.proofs.Steady.{steady-installed, steady-replaced}
 use Rattle.af_steps.proofs.store.Store.replace.Goals as goal
 
@@ -31,7 +28,7 @@ returns-in_default-clause-steady c =
     let stands : c.lookup-replaced.result ≡ table_at s.world c.args.pid c.args.fd = c.lookup-replaced.ensures ∙ ap (λ (v : Stored). table_at v.world c.args.pid c.args.fd) c.self.view_is in
     let free = sym (there-table s.world c.args.pid c.args.fd q.0 q.1) ∙ sym stands ∙ c.in_default.is in
     let more = steady-installed s.world c.args.pid c.args.fd c.args.ino q.0 s.pending s.kept c.requires.steady q.1 free (c.requires.limit q.0 q.1) c.requires.live in
-    steady-same (install s.world c.args.pid c.args.fd c.args.ino) c.table_in.new.self.world s.pending c.table_in.new.self.pending (held Table c.args.ino s.kept) c.table_in.new.self.kept more e.world e.pending e.kept
+    steady-up-to-room (install s.world c.args.pid c.args.fd c.args.ino) c.table_in.new.self.world s.pending c.table_in.new.self.pending (held Table c.args.ino s.kept) c.table_in.new.self.kept more e.world e.pending e.kept
 
 pub drop_place-requires-clause-can : goal.drop_place-requires-clause-can
 drop_place-requires-clause-can c =
@@ -50,7 +47,7 @@ but c =
     let q = there (map.get s.world.processes c.args.pid) c.requires.there in
     let stands : c.lookup-replaced.result ≡ table_at s.world c.args.pid c.args.fd = c.lookup-replaced.ensures ∙ ap (λ (v : Stored). table_at v.world c.args.pid c.args.fd) c.self.view_is in
     let h = steady-replaced s.world c.args.pid c.args.fd c.args.ino g q.0 s.pending s.kept c.requires.steady q.1 (c.requires.limit q.0 q.1) (sym stands ∙ c.in-Some.is) c.requires.live in
-    steadybut-same g (install s.world c.args.pid c.args.fd c.args.ino) c.table_in.new.self.world s.pending c.table_in.new.self.pending (dropped Table g (held Table c.args.ino s.kept)) (dropped Table g c.table_in.new.self.kept) h e.world e.pending
+    steadybut-up-to-room g (install s.world c.args.pid c.args.fd c.args.ino) c.table_in.new.self.world s.pending c.table_in.new.self.pending (dropped Table g (held Table c.args.ino s.kept)) (dropped Table g c.table_in.new.self.kept) h e.world e.pending
     (ap (dropped Table g) e.kept)
 
 pub returns-clause-settles : goal.returns-clause-settles

@@ -1,4 +1,4 @@
-use Rattle.std.proofs.Common.{rules, ◌≡◌, ◌<◌, ◌∷◌, ◌+◌, ℕ, [], length, refl, ap, sym, ◌∙◌, subst, inl, inr, arith}
+use Rattle.std.proofs.Common.{rules, ◌≡◌, ◌<◌, ◌∷◌, ℕ, refl, ap, sym, ◌∙◌, subst, inl, inr}
 use Rattle.std.specs.Prelude.{Some, unwrap_or}
 use Rattle.std.specs.List.{All, Contains, zip}
 use Rattle.std.specs.FinMap as map
@@ -11,12 +11,11 @@ use Rattle.af_base.proofs.Free.{AreFree, first-free, first-low, free-lowest_free
 use Rattle.af_base.proofs.Lookups.{there}
 use Rattle.af_base.proofs.Moved.{there-install}
 use Rattle.af_ledger.specs.declared.place.Place.TheVariants.{Table}
-use Rattle.af_ledger.specs.Kept.{held, refs_of}
-use Rattle.af_steps.specs.Agreement.{IsSteady}
+use Rattle.af_ledger.specs.Kept.{held}
 use Rattle.af_steps.specs.Stored.{row_at}
 use Rattle.af_steps.proofs.Bounds.{can-hold-table}
 use Rattle.af_steps.proofs.Installed.{install_next, end_of_numbers, end_of_files}
-use Rattle.af_steps.proofs.Shedding.{live-carried, steady-same}
+use Rattle.af_steps.proofs.Shedding.{live-carried, steady-up-to-room}
 use Rattle.af_steps.proofs.Steady.{steady-installed}
 use Rattle.af_steps.proofs.store.Store.table_in_all.Goals as goal
 
@@ -69,7 +68,7 @@ loop-fd-preserved c =
     let row = subst (All (λ i. i < row_at s p)) steps.0 k.row in
     record {
       installed = ap (λ (w : World). install_all w p (zip ns fs)) e.world ∙ next ∙ k.installed;
-      steady = steady-same (install s.world p n f) new.world (m ∷ s.pending) (m ∷ new.pending) (held Table f s.kept) new.kept more e.world (ap (λ ps. m ∷ ps) e.pending) e.kept;
+      steady = steady-up-to-room (install s.world p n f) new.world (m ∷ s.pending) (m ∷ new.pending) (held Table f s.kept) new.kept more e.world (ap (λ ps. m ∷ ps) e.pending) e.kept;
       there = at ∙ ap Some (sym is);
       free = subst (λ r. AreFree r ns) (sym is) (rest-free q n ns f free);
       row = subst (λ (r : Map ℕ). All (λ i. i < unwrap_or (map.get r p) 0) ns) (sym e.rows) (All-rest (λ i. i < row_at s p) n ns (n ∷ ns) refl row);

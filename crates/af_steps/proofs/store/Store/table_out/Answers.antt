@@ -1,16 +1,13 @@
-use Rattle.std.proofs.Common.{rules, ◌≡◌, [], sym, ap, subst, ◌∙◌, arith}
-use Rattle.std.specs.Prelude.{Some}
-use Rattle.af_base.specs.World.{World}
-use Rattle.af_base.specs.Places.{table_at}
+use Rattle.std.proofs.Common.{◌≡◌, [], sym, subst, ◌∙◌, arith}
 use Rattle.af_base.specs.Changes.{uninstall}
 use Rattle.af_ledger.specs.declared.place.Place.TheVariants.{Table}
 use Rattle.af_ledger.specs.Kept.{dropped}
 use Rattle.af_steps.specs.Agreement.{IsSteady, IsSteadyBut}
-use Rattle.af_steps.specs.Dropping.{Drops, Sheds}
+use Rattle.af_steps.specs.Dropping.{Sheds}
 use Rattle.af_steps.specs.Stored.{Stored}
 use Rattle.af_steps.specs.contracts.store.Store.{the_view}
 use Rattle.af_steps.proofs.Bounds.{can-drop-table}
-use Rattle.af_steps.proofs.Shedding.{dropped-sheds, dropped-steady, steady-same}
+use Rattle.af_steps.proofs.Shedding.{dropped-sheds, dropped-steady}
 use Rattle.af_steps.proofs.Steady.{steady-untabled}
 use Rattle.af_steps.proofs.Untabled.{uninstall-free}
 use Rattle.af_steps.proofs.store.Store.table_out.Goals as goal
@@ -20,7 +17,7 @@ returns-in_default-clause-steady c =
     let s = the_view c.self.inside in
     let h : IsSteady s.world s.pending s.kept = subst (λ s. IsSteady s.world s.pending s.kept) (sym c.self.view_is) c.requires in
     let free = uninstall-free s.world c.args.pid c.args.fd (sym c.take_out.ensures.value ∙ c.in_default.is) in
-    let same : uninstall s.world c.args.pid c.args.fd ≡ (the_view record { procs = c.take_out.new.self; files = c.self.inside.files; ledger = c.self.inside.ledger; pending = c.self.inside.pending }).world = grind arith in
+    let same : uninstall s.world c.args.pid c.args.fd ≡ (the_view (record c.self.inside { procs = c.take_out.new.self })).world = grind arith in
     subst (λ w. IsSteady w s.pending s.kept) (sym free ∙ same) h
 
 pub drop_place-requires-clause-can : goal.drop_place-requires-clause-can
@@ -31,7 +28,7 @@ drop_place-requires-clause-can c =
 
 -- the store after the number was given up, and before the place is dropped
 abbrev taken : goal.After-drop_place → Stored
-taken c = the_view record { procs = c.take_out.new.self; files = c.self.inside.files; ledger = c.self.inside.ledger; pending = c.self.inside.pending }
+taken c = the_view (record c.self.inside { procs = c.take_out.new.self })
 
 gave_up : (c : goal.After-drop_place) → (taken c).world ≡ uninstall (the_view c.self.inside).world c.args.pid c.args.fd
 gave_up c = grind arith

@@ -1,4 +1,5 @@
 use Rattle.std.proofs.Common.{rules, ◌≡◌, ◌≤◌, length, sym, ◌∙◌, arith, false}
+use Rattle.af_base.specs.declared.limits.TheConstants.{MAX_NOFILE}
 use Rattle.af_table.specs.Slots.{table_of}
 use Rattle.af_table.proofs.Numbers.{numbers-le, numbers-rise, numbers-table}
 use Rattle.af_table.proofs.process.Process.listed.Goals as goal
@@ -17,5 +18,5 @@ pub returns-clause-few : goal.returns-clause-few
 returns-clause-few c =
     let slots = c.deref-slot-items.result.now in
     let most = numbers-le (λ n. n.fd) (λ n. n.ino) c.loop-number.numbers.items slots c.loop-number.number c.loop-number-test.false c.loop-number.invariant in
-    let row : length slots ≤ 1024 = search rules in
+    let row : length slots ≤ MAX_NOFILE = search rules in
     omega (arith, most, row)

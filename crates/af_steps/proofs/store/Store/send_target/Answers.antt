@@ -9,7 +9,7 @@ use Rattle.af_base.specs.Places.{queue_at, table_at}
 use Rattle.af_base.specs.Refusals.{Row, ino_on, is_connected, is_hung_up, peer_of, refusal, socket_at, socket_on}
 use Rattle.af_ledger.specs.Sending.{send_refusal}
 use Rattle.af_steps.proofs.Refused.{late-refusal, may-not-send, may-send}
-use Rattle.af_steps.proofs.store.Store.receiver.Goals as goal
+use Rattle.af_steps.proofs.store.Store.send_target.Goals as goal
 
 pub returns-in_err-may_send-clause-err : goal.returns-in_err-may_send-clause-err
 returns-in_err-may_send-clause-err c =

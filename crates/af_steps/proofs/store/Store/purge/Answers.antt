@@ -1,1 +1,0 @@
-use Rattle.af_steps.proofs.store.Store.purge.Goals as goal
