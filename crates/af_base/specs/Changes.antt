@@ -39,7 +39,7 @@ uninstall w p n = with_table w p (λ t. map.remove t n)
 abbrev pub with_queue : World → ℕ → List Message → World
 with_queue w s q = with_socket w s (λ x. record x { queue = q })
 
--- One message more, last in the queue of s.
+-- One message more, last in the queue of s (unix(7)).
 abbrev pub push_message : World → ℕ → Message → World
 push_message w s m = with_socket w s (λ x. record x { queue = x.queue ++ m ∷ [] })
 
@@ -47,14 +47,14 @@ push_message w s m = with_socket w s (λ x. record x { queue = x.queue ++ m ∷ 
 abbrev pub remove_process : World → ℕ → World
 remove_process w p = record w { processes = map.remove w.processes p }
 
--- The next inode number is this file.
+-- The next inode number is this file (this project's profile).
 abbrev pub add_file : World → File → World
 add_file w x = record w { files = map.insert w.files w.next_ino x; next_ino = w.next_ino + 1 }
 
--- The next pid is this process.
+-- The next pid is this process (this project's profile).
 abbrev pub add_process : World → Process → World
 add_process w q = record w { processes = map.insert w.processes w.next_pid q; next_pid = w.next_pid + 1 }
 
--- A user goes last, if it is new.
+-- A user goes last, if it is new (this project's profile).
 abbrev pub add_user : World → ℕ → World
 add_user w u = if list_any (nat_eq u) w.users then w else record w { users = w.users ++ u ∷ [] }

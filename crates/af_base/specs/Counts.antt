@@ -17,7 +17,7 @@ count_in f xs = count_by (nat_eq f) xs
 abbrev pub one : ℕ → ℕ → ℕ
 one f g = if nat_eq f g then 1 else 0
 
--- How many numbers of all tables stand for f.
+-- How many numbers of all tables stand for f (open(2)).
 abbrev pub tabled : World → ℕ → ℕ
 tabled w f = total_of (λ p. total_of (λ g. one f g) p.table) w.processes
 
@@ -37,6 +37,6 @@ charge u m = if nat_eq u m.user then length m.attached else 0
 abbrev pub charged : World → ℕ → ℕ
 charged w u = total_of (λ x. sum_by (charge u) (queue_of x)) w.files
 
--- All queue places.
+-- All queue places (unix(7), ETOOMANYREFS).
 abbrev pub total : World → ℕ
 total w = total_of (λ x. sum_by (λ m. length m.attached) (queue_of x)) w.files

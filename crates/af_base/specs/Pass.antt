@@ -56,7 +56,7 @@ pub record Slices (begun old : World) (spent b pass : ℕ) (r : Reply) (new : Wo
   pub answered : ((r ≡ reply.Working) × (after ≡ Running begun (spent + b)) × (spent + b ≤ 3 * map.len begun.files))
       ⊎ ((n : ℕ) × IsGarbageCount begun n × (r ≡ reply.Done pass n) × (after ≡ Idle) × ((f : ℕ) → Garbage begun f → ¬ (IsLive new f)))
 
--- A slice is asked for: without a pass it is refused, and so is a budget that is out of range.
+-- A slice is asked for: without a pass it is refused, and so is a budget that is out of range (this project's profile).
 abbrev pub GoesOn : Pass → Machine → ℕ → Reply → Machine → Type 0
 GoesOn Idle old b r new = (r ≡ reply.Refused EIDLE) × (new ≡ old)
 GoesOn (Running begun spent) old b r new =
@@ -64,7 +64,7 @@ GoesOn (Running begun spent) old b r new =
     ((r ≡ reply.Refused EINVAL) × (new ≡ old))
     (Slices begun old.world spent b old.last_pass r new.world new.pass × (new.last_pass ≡ old.last_pass))
 
--- A whole pass over a world: exactly its garbage is purged, and the sockets among it are counted.
+-- A whole pass over a world: exactly its garbage is purged, and the sockets among it are counted (this project's profile).
 pub record Passes (old : World) (pass : ℕ) (r : Reply) (new : World) : Type 0 where
   pub test : ℕ → Bool
   pub is_garbage : (f : ℕ) → (test f ≡ true) ↔ Garbage old f

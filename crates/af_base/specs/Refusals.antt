@@ -99,7 +99,7 @@ abbrev pub first_fit : Row → Option Errno
 first_fit [] = None
 first_fit (r ∷ rs) = if r.0 then Some r.1 else first_fit rs
 
--- Why a process cannot start.
+-- Why a process cannot start (getrlimit(2); fork(2), EAGAIN; this project's profile).
 abbrev pub spawn_row : World → ℕ → Row
 spawn_row w nofile = (nat_lt MAX_NOFILE nofile, ERANGE) ∷ (is_crowded w, EAGAIN) ∷ []
 

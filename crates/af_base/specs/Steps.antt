@@ -38,7 +38,7 @@ got_at w p n max_bytes max_fds = lowest_free (min (length (taken_on w p n max_by
 abbrev pub spawned : World → ℕ → ℕ → Bool → World
 spawned w uid nofile privileged = add_user (add_process w (record { user = uid; limit = nofile; privileged = privileged; table = map.empty })) uid
 
--- The world after the places were changed, which is then settled, where nothing refuses the step.
+-- The world after the places were changed, which is then settled, where nothing refuses the step (open(2), dup(2), dup2(2), close(2), fork(2), _exit(2), socketpair(2), sendmsg(2), recvmsg(2)).
 abbrev pub effect : World → ℕ → Step → World
 effect w p step.Open = install (add_file w Plain) p (free_at w p 0) w.next_ino
 effect w p (step.Dup n) = install w p (free_at w p 0) (ino_on w p n)
@@ -79,7 +79,7 @@ needs_no_memory (step.Close n) = true
 needs_no_memory step.Exit = true
 needs_no_memory s = false
 
--- The outcome of a step: refused by an error and nothing changed; or answered, and the changed world settled; or, where the step may need memory, refused for want of it and nothing changed.
+-- The outcome of a step: refused by an error and nothing changed; or answered, and the changed world settled; or, where the step may need memory, refused for want of it and nothing changed (this project's profile).
 abbrev pub Outcome : Option Errno → Bool → Reply → World → World → Reply → World → Type 0
 Outcome (Some e) frugal answer effect old r new = (r ≡ reply.Refused e) × (new ≡ old)
 Outcome None true answer effect old r new = (r ≡ answer) × Settles effect new

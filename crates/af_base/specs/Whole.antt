@@ -24,7 +24,7 @@ state_at w f = option_map_or state_of (map.get w.files f) state.Idle
 abbrev pub AreMutual : World → Type 0
 AreMutual w = (f p : ℕ) → state_at w f ≡ state.Connected p → state_at w p ≡ state.Connected f
 
--- The world is whole: each place holds a live file, numbers given are below the next ones, and peers are mutual.
+-- The world is whole: each place holds a live file, numbers given are below the next ones, and peers are mutual (this project's profile).
 pub record IsWhole (w : World) : Type 0 where
   pub tables_live : (f : ℕ) → InTable w f → IsLive w f
   pub queues_live : (s f : ℕ) → Holds w s f → IsLive w f
@@ -32,7 +32,7 @@ pub record IsWhole (w : World) : Type 0 where
   pub processes_numbered : (p : ℕ) → IsTrue (map.contains_key w.processes p) → p < w.next_pid
   pub peers : AreMutual w
 
--- A process within its limit, and the limit within its own.
+-- A process within its limit, and the limit within its own (this project's profile).
 pub record IsProcessWithin (q : Process) : Type 0 where
   pub limit : q.limit ≤ MAX_NOFILE
   pub numbers : (n : ℕ) → IsTrue (map.contains_key q.table n) → n < q.limit
@@ -43,7 +43,7 @@ pub record IsMessageWithin (m : Message) : Type 0 where
   pub bytes : length m.bytes ≤ MAX_BYTES
   pub attached : length m.attached ≤ SCM_MAX_FD
 
--- A socket within the limits.
+-- A socket within the limits (this project's profile).
 pub record IsSocketWithin (s : Socket) : Type 0 where
   pub queue : length s.queue ≤ MAX_MESSAGES
   pub backlog : length s.backlog ≤ MAX_BACKLOG

@@ -93,9 +93,9 @@ pub enum Reply {
     },
     /// Nothing is left to receive, and the peer is gone.
     End,
-    /// A pass of the collector began.
+    /// A pass of the collector began; no event begins one yet.
     Started(u64),
-    /// The pass goes on.
+    /// The pass goes on; no event asks for a slice yet.
     Working,
     /// The pass is over, and so many sockets were reclaimed.
     Done {

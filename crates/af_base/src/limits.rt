@@ -24,7 +24,7 @@ pub const MAX_BACKLOG: u32 = 128;
 /// Descriptors in flight, of all users together.
 pub const MAX_INFLIGHT: u64 = 1_048_576;
 
-/// Bytes of a name.
+/// Bytes of a name. Not used yet.
 pub const MAX_NAME: usize = 107;
 
 /// The last pid that is given.
@@ -33,14 +33,14 @@ pub const MAX_PID: u32 = 1_000_000_000;
 /// The last inode number that is given.
 pub const MAX_INO: u64 = 1_099_511_627_775;
 
-/// The pass number that stays.
+/// The largest pass number; later passes have it too.
 pub const MAX_PASS: u64 = 1_000_000_000_000;
 
-/// The budget of a slice.
+/// The largest budget of a slice; none is 0.
 pub const MAX_BUDGET: u32 = 65_536;
 
-/// Entries of a log.
+/// Entries of a log. Not used yet.
 pub const MAX_LOG: usize = 1_048_576;
 
-/// Seats of a layer.
+/// Seats of a layer. Not used yet.
 pub const MAX_SEATS: u32 = 64;

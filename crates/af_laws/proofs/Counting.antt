@@ -1,16 +1,16 @@
 -- Where places are, and what a place more or less adds to the counts.
-use Rattle.std.proofs.Common.{◌≡◌, ◌⊎◌, inl, inr, ◌<◌, ℕ, ◌+◌, List, [], ◌∷◌, ◌++◌, length, refl, sym, ap, ◌∙◌, subst, arith, ◌&&◌}
+use Rattle.std.proofs.Common.{◌≡◌, ◌≢◌, ◌⊎◌, inl, inr, ◌<◌, ℕ, ◌+◌, List, [], ◌∷◌, ◌++◌, length, refl, sym, ap, ◌∙◌, subst, cond, arith, ◌&&◌}
 use Rattle.std.specs.Prelude.{Option, Some, None, ◌↔◌, is_some}
 use Rattle.std.specs.Option.{option_map_or}
 use Rattle.std.specs.List.{Contains, count_by, sum_by}
 use Rattle.std.specs.Cmp.{both_ways}
 use Rattle.std.specs.FinMap as map
-use Rattle.std.proofs.lemmas.Bool.{cases_lt, false≢true}
+use Rattle.std.proofs.lemmas.Bool.{cases_lt, eq-eqb, false≢true}
 use Rattle.std.proofs.lemmas.List.Elements.{Contains-append_cases, Contains-append_left, Contains-append_right}
-use Rattle.af_base.proofs.Lookups.{none_some}
+use Rattle.af_base.proofs.Lookups.{none_some, told_apart}
 use Rattle.af_base.specs.World.{AsSocket, File, Message, Process, Socket, World}
 use Rattle.af_base.specs.Places.{InQueue, backlog_of, carried, contents, queue_of}
-use Rattle.af_base.specs.Counts.{charge, count_in, inflight, one, refs, tabled, total_of}
+use Rattle.af_base.specs.Counts.{charge, charged, count_in, inflight, one, refs, tabled, total_of}
 use Rattle.af_base.specs.Reached.{is_socket}
 use Rattle.af_base.specs.Changes.{file_with, install, push_message, uninstall, with_queue}
 use Rattle.std.proofs.lemmas.List.Sums.{sum_by-append, sum_by-cons}
@@ -138,11 +138,30 @@ module _ (F : Message → ℕ) (w : World) (s : ℕ) (m : Message) (x : Socket) 
         sum_by-cons F m rest,
       )
 
+-- What a message charges to the user that it names, and to another.
+charge-named : (m : Message) → charge m.user m ≡ length m.attached
+charge-named m = ap (λ b. cond b (length m.attached) 0) (eq-eqb m.user m.user refl)
+
+charge-other : (u : ℕ) (m : Message) → u ≢ m.user → charge u m ≡ 0
+charge-other u m apart = ap (λ b. cond b (length m.attached) 0) (told_apart u m.user apart)
+
+-- What a message more charges to a user.
+pub charged-push : (w : World) (s u : ℕ) (m : Message) (x : Socket) → map.get w.files s ≡ Some (AsSocket x) → charged (push_message w s m) u ≡ charged w u + charge u m
+charged-push w s u m x there = queues-push (charge u) w s m x there
+
 pub send_charges : SendCharges
-send_charges w s u m x there = (queues-push (charge u) w s m x there, queues-push (λ n. length n.attached) w s m x there)
+send_charges w s u m x there = (
+  omega (arith, queues-push (charge m.user) w s m x there, charge-named m),
+  λ apart. omega (arith, queues-push (charge u) w s m x there, charge-other u m apart),
+  queues-push (λ n. length n.attached) w s m x there,
+)
 
 pub receive_discharges : ReceiveDischarges
-receive_discharges w s u m rest x there is = (queues-pop (charge u) w s m x there rest is, queues-pop (λ n. length n.attached) w s m x there rest is)
+receive_discharges w s u m rest x there is = (
+  omega (arith, queues-pop (charge m.user) w s m x there rest is, charge-named m),
+  λ apart. omega (arith, queues-pop (charge u) w s m x there rest is, charge-other u m apart),
+  queues-pop (λ n. length n.attached) w s m x there rest is,
+)
 
 pub garbage_counts_once : GarbageCountsOnce
 garbage_counts_once w n m a b =

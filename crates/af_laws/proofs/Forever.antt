@@ -21,7 +21,7 @@ use Rattle.af_base.specs.Run.{Entry, Run, Step as MachineStep}
 use Rattle.af_base.specs.Whole.{IsSound}
 use Rattle.af_laws.proofs.Unreached.{event_leads, numbered_leads}
 use Rattle.af_laws.proofs.Logs.{events_keep_sound}
-use Rattle.af_laws.specs.Reaching.{GarbageIsForEver}
+use Rattle.af_laws.specs.Reaching.{GarbageIsNeverReached}
 
 -- numbers are given in order
 same_next : (w : World) (p : ℕ) (es : List (ℕ × ℕ)) → (install_all w p es).next_ino ≡ w.next_ino
@@ -78,5 +78,5 @@ never old new [] sound run f given out d = out (subst (λ m. Reached m.world f) 
 never old new (e ∷ log) sound run f given out d =
     never run.0 new log (events_keep_sound old run.0 e.0 e.1 sound run.1) run.2 f (omega (arith, given, event_next old run.0 e.0 e.1 run.1)) (λ r. out (numbered_leads old.world run.0.world (event_leads old run.0 e.0 e.1 sound.whole run.1) f given r)) d
 
-pub garbage_is_for_ever : GarbageIsForEver
-garbage_is_for_ever old new log sound run f g = never old new log sound run f (sound.whole.files_numbered f g.0) g.1
+pub garbage_is_never_reached : GarbageIsNeverReached
+garbage_is_never_reached old new log sound run f g = never old new log sound run f (sound.whole.files_numbered f g.0) g.1

@@ -1,6 +1,7 @@
 pub mod Outcomes
 pub mod Single
 pub mod Counting
+pub mod Sender
 pub mod Lowest
 pub mod Takes
 pub mod Purges

@@ -1,9 +1,9 @@
 -- Laws of places and of their counts.
-use Rattle.std.specs.Prelude.{◌≡◌, ◌⊎◌, ◌↔◌, ℕ, ◌+◌, IsTrue, List, ◌∷◌, length, Some, None}
+use Rattle.std.specs.Prelude.{◌≡◌, ◌≢◌, ◌⊎◌, ◌↔◌, ℕ, ◌+◌, IsTrue, List, ◌∷◌, length, Some, None}
 use Rattle.std.specs.FinMap as map
 use Rattle.af_base.specs.World.{World, Process, Message, Socket, AsSocket}
 use Rattle.af_base.specs.Places.{table_at, InTable, InQueue, InBacklog, Holds}
-use Rattle.af_base.specs.Counts.{charge, charged, count_in, inflight, one, refs, tabled, total, total_of}
+use Rattle.af_base.specs.Counts.{charged, count_in, inflight, one, refs, tabled, total, total_of}
 use Rattle.af_base.specs.Reached.{IsGarbageCount}
 use Rattle.af_base.specs.Changes.{install, uninstall, push_message, with_queue, add_process, remove_process}
 use Rattle.af_base.specs.Whole.{IsWhole}
@@ -59,15 +59,15 @@ abbrev pub ReceiveCounts : Type 0
 ReceiveCounts = (w : World) (s f : ℕ) (m : Message) (rest : List Message) (x : Socket) → map.get w.files s ≡ Some (AsSocket x) → x.queue ≡ m ∷ rest
     → (refs (with_queue w s rest) f + count_in f m.attached ≡ refs w f) × (inflight (with_queue w s rest) f + count_in f m.attached ≡ inflight w f)
 
--- A message that is sent is charged to its sender, a place for each file that it carries, and to nobody else (unix(7), ETOOMANYREFS; whom it counts is this project's profile).
+-- A message that is sent is charged to the user that it names, a place for each file that it carries, and to nobody else (unix(7), ETOOMANYREFS; whom it counts is this project's profile).
 abbrev pub SendCharges : Type 0
 SendCharges = (w : World) (s u : ℕ) (m : Message) (x : Socket) → map.get w.files s ≡ Some (AsSocket x)
-    → (charged (push_message w s m) u ≡ charged w u + charge u m) × (total (push_message w s m) ≡ total w + length m.attached)
+    → (charged (push_message w s m) m.user ≡ charged w m.user + length m.attached) × (u ≢ m.user → charged (push_message w s m) u ≡ charged w u) × (total (push_message w s m) ≡ total w + length m.attached)
 
--- A message that is received whole is charged no more, whoever receives it.
+-- A message that is received whole is charged no more to the user that it names, whoever receives it, and nobody else's charge changes.
 abbrev pub ReceiveDischarges : Type 0
 ReceiveDischarges = (w : World) (s u : ℕ) (m : Message) (rest : List Message) (x : Socket) → map.get w.files s ≡ Some (AsSocket x) → x.queue ≡ m ∷ rest
-    → (charged (with_queue w s rest) u + charge u m ≡ charged w u) × (total (with_queue w s rest) + length m.attached ≡ total w)
+    → (charged (with_queue w s rest) m.user + length m.attached ≡ charged w m.user) × (u ≢ m.user → charged (with_queue w s rest) u ≡ charged w u) × (total (with_queue w s rest) + length m.attached ≡ total w)
 
 -- How many sockets are garbage is one number.
 abbrev pub GarbageCountsOnce : Type 0

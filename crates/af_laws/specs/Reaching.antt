@@ -33,11 +33,11 @@ SendKeepsReached = (w : World) (s : ℕ) (m : Message) (f : ℕ) → Reached w f
 abbrev pub ReachedIsHeld : Type 0
 ReachedIsHeld = (w : World) (f : ℕ) → Reached w f → ¬ (Unheld w f)
 
--- Settling leaves what is reached as it was.
+-- The same files are reached before and after settling.
 abbrev pub SettlingKeepsReached : Type 0
 SettlingKeepsReached = (w new : World) → Settles w new → (f : ℕ) → Reached w f ↔ Reached new f
 
--- To purge garbage leaves what is reached as it was.
+-- The same files are reached before and after garbage is purged.
 abbrev pub PurgingKeepsReached : Type 0
 PurgingKeepsReached = (w new : World) (test : ℕ → Bool) → ((f : ℕ) → test f ≡ true → Garbage w f) → Purges test w new → (f : ℕ) → Reached w f ↔ Reached new f
 
@@ -53,6 +53,6 @@ StepReachesNoGarbage = (old new : World) (p : ℕ) (s : Step) (r : Reply) → Is
 abbrev pub GarbageStaysOutOfReach : Type 0
 GarbageStaysOutOfReach = (old new : Machine) (e : Event) (r : Reply) → IsWhole old.world → MachineStep old e r new → (f : ℕ) → Garbage old.world f → ¬ (Reached new.world f)
 
--- And garbage is garbage for ever: no run from there reaches it, whatever goes and whatever is made.
-abbrev pub GarbageIsForEver : Type 0
-GarbageIsForEver = (old new : Machine) (log : List Entry) → IsSound old.world → Run old log new → (f : ℕ) → Garbage old.world f → ¬ (Reached new.world f)
+-- No run reaches what was garbage at its beginning, whatever goes and whatever is made.
+abbrev pub GarbageIsNeverReached : Type 0
+GarbageIsNeverReached = (old new : Machine) (log : List Entry) → IsSound old.world → Run old log new → (f : ℕ) → Garbage old.world f → ¬ (Reached new.world f)

@@ -1,13 +1,16 @@
 -- Laws of single steps of a process.
-use Rattle.std.specs.Prelude.{◌≡◌, ◌≢◌, ℕ, IsTrue, Some, None}
+use Rattle.std.specs.Prelude.{◌≡◌, ◌≢◌, ℕ, ◌+◌, IsTrue, List, length, Some, None, nat_eq, if◌then◌else◌}
 use Rattle.std.specs.FinMap as map
 use Rattle.af_base.specs.declared.events.Reply.{Reply}
 use Rattle.af_base.specs.declared.events.Reply.TheVariants as reply
 use Rattle.af_base.specs.declared.events.Step.TheVariants as step
 use Rattle.af_base.specs.World.{World}
 use Rattle.af_base.specs.Places.{table_at}
+use Rattle.af_base.specs.Counts.{charged}
+use Rattle.af_base.specs.Refusals.{process_at, refusal}
 use Rattle.af_base.specs.Unheld.{IsSettled}
-use Rattle.af_base.specs.Steps.{ProcessStep}
+use Rattle.af_base.specs.Steps.{ProcessStep, effect}
+use Rattle.af_base.specs.Whole.{IsWhole}
 
 -- A child has its parent's user, limit, privilege and table, as they were (fork(2)).
 abbrev pub ForkCopies : Type 0
@@ -29,3 +32,8 @@ CloseNeverFails = (old new : World) (p n f : ℕ) (r : Reply) → table_at old p
 -- A number put in place of itself changes nothing, whatever the answer (dup2(2)).
 abbrev pub Dup2ToItselfChangesNothing : Type 0
 Dup2ToItselfChangesNothing = (old new : World) (p n : ℕ) (r : Reply) → IsSettled old → ProcessStep old p (step.Dup2 n n) r new → new ≡ old
+
+-- A send that nothing refuses is charged to the user of the process that sends, a place for each number that it names, repeats included, and to nobody else (unix(7), ETOOMANYREFS; whom it counts is this project's profile).
+abbrev pub SendIsChargedToItsSender : Type 0
+SendIsChargedToItsSender = (w : World) (p n u : ℕ) (bytes attach : List ℕ) → IsWhole w → refusal w p (step.Send n bytes attach) ≡ None
+    → charged (effect w p (step.Send n bytes attach)) u ≡ charged w u + (if nat_eq u (process_at w p).user then length attach else 0)

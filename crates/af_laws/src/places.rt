@@ -62,12 +62,12 @@ pub fn receive_counts()
     ensures { ReceiveCounts }
 {}
 
-/// A message that is sent is charged to its sender, and to nobody else.
+/// A message that is sent is charged to the user that it names, and to nobody else.
 pub fn send_charges()
     ensures { SendCharges }
 {}
 
-/// A message that is received whole is charged no more.
+/// A message that is received whole is charged no more to the user that it names.
 pub fn receive_discharges()
     ensures { ReceiveDischarges }
 {}

@@ -1,6 +1,6 @@
 //! Laws of reach: what a chain of places that begins in a table leads to.
 ghost use Rattle.af_laws.specs.Reaching.{PlacesKeepReached, InstallKeepsReached, SendKeepsReached, ReachedIsHeld};
-ghost use Rattle.af_laws.specs.Reaching.{SettlingKeepsReached, PurgingKeepsReached, SpawnReachesNoGarbage, StepReachesNoGarbage, GarbageStaysOutOfReach, GarbageIsForEver};
+ghost use Rattle.af_laws.specs.Reaching.{SettlingKeepsReached, PurgingKeepsReached, SpawnReachesNoGarbage, StepReachesNoGarbage, GarbageStaysOutOfReach, GarbageIsNeverReached};
 
 /// What is reached stays reached where no place is lost.
 pub fn places_keep_reached()
@@ -22,12 +22,12 @@ pub fn reached_is_held()
     ensures { ReachedIsHeld }
 {}
 
-/// Settling leaves what is reached as it was.
+/// The same files are reached before and after settling.
 pub fn settling_keeps_reached()
     ensures { SettlingKeepsReached }
 {}
 
-/// To purge garbage leaves what is reached as it was.
+/// The same files are reached before and after garbage is purged.
 pub fn purging_keeps_reached()
     ensures { PurgingKeepsReached }
 {}
@@ -47,7 +47,7 @@ pub fn garbage_stays_out_of_reach()
     ensures { GarbageStaysOutOfReach }
 {}
 
-/// Garbage is garbage for ever: no run from there reaches it.
-pub fn garbage_is_for_ever()
-    ensures { GarbageIsForEver }
+/// No run reaches what was garbage at its beginning, whatever goes and whatever is made.
+pub fn garbage_is_never_reached()
+    ensures { GarbageIsNeverReached }
 {}

@@ -42,7 +42,7 @@ pub fn unplaced_is_unheld()
     ensures { UnplacedIsUnheld }
 {}
 
-/// To take an unheld file away first leaves the outcome of settling as it was.
+/// To take away first a live file that no place holds leaves the outcome of settling as it was.
 pub fn unplaced_goes_first()
     ensures { UnplacedGoesFirst }
 {}

@@ -1,5 +1,5 @@
 //! Laws of single steps of a process.
-ghost use Rattle.af_laws.specs.Stepping.{ForkCopies, ExitTakesOneTable, ExitNeverFails, CloseNeverFails, Dup2ToItselfChangesNothing};
+ghost use Rattle.af_laws.specs.Stepping.{ForkCopies, ExitTakesOneTable, ExitNeverFails, CloseNeverFails, Dup2ToItselfChangesNothing, SendIsChargedToItsSender};
 
 /// A child is what its parent was, and has what its parent's numbers stood for.
 pub fn fork_copies()
@@ -24,4 +24,10 @@ pub fn close_never_fails()
 /// A number put in place of itself changes nothing.
 pub fn dup2_to_itself_changes_nothing()
     ensures { Dup2ToItselfChangesNothing }
+{}
+
+/// A send that nothing refuses is charged to the user of the process that sends, a place for each
+/// number that it names: not to the receiver, and not once for a message or a repeat.
+pub fn send_is_charged_to_its_sender()
+    ensures { SendIsChargedToItsSender }
 {}

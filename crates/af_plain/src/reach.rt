@@ -109,6 +109,7 @@ fn mark_reached(alloc: Global, listing: &Listing) -> Result<BTreeSet<Ino>, Alloc
         marking.look_at(files, ino)?;
     }
     let Marking { marked, .. } = marking;
+    // Read for the clause `ordered` alone: `len` says that the numbers rise.
     let _ = marked.len();
     Ok(marked)
 }
@@ -133,7 +134,8 @@ fn push_unmarked(found: &mut Vec<Ino>, marked: &BTreeSet<Ino>, ino: Ino) -> Resu
     Ok(())
 }
 
-/// The live files, plain ones too, that no such chain leads to; by rising inode number.
+/// The live files, plain ones too, that no chain of places from a table leads to; by rising inode
+/// number.
 pub fn garbage(alloc: Global, listing: &Listing) -> Result<Vec<Ino>, AllocError>
     ensures { IfOk result (λ xs. IsListOf (Garbage listing.now) xs.items) }
 {

@@ -72,8 +72,8 @@ fn the_crossed_pair(rt: HostRuntime) -> Result<(), Fail> {
     assert_eq!(rt; recount_user(&listing, Uid(1000)), 3);
     assert_eq!(rt; recount_user(&listing, Uid(1)), 0);
     assert_eq!(rt; recount_total(&listing), 3);
-    let live = reached(alloc, &listing)?;
-    assert_eq!(rt; live.as_slice(), [Ino(1), Ino(5)].as_slice());
+    let found = reached(alloc, &listing)?;
+    assert_eq!(rt; found.as_slice(), [Ino(1), Ino(5)].as_slice());
     let lost = garbage(alloc, &listing)?;
     assert_eq!(rt; lost.as_slice(), [Ino(2), Ino(3), Ino(4)].as_slice());
     Ok(())

@@ -13,7 +13,7 @@ use af_base::events::{Event, Step};
 use af_base::names::{Fd, Pid, Uid};
 use std::alloc::{AllocError, Global};
 
-/// Whether `priv` is the only word left, or none is.
+/// `true` where `priv` is the only word left, `false` where none is, `None` otherwise.
 fn privilege(bytes: &[u8]) -> Option<bool>
     ensures { result ≡ privilege_of (words_of bytes.now) }
 {
@@ -164,6 +164,6 @@ pub fn form(alloc: Global, word: &[u8], rest: &[u8]) -> Result<Option<Line>, All
         Opening::Pass => is_end(rest).then_some(Line::Event(Event::Pass)),
         Opening::Totals => is_end(rest).then_some(Line::Report(Report::Totals)),
         Opening::Check => is_end(rest).then_some(Line::Report(Report::Check)),
-        Opening::Process(pid) => process(alloc, Pid(pid), rest)?.map(|event| Line::Event(event)),
+        Opening::Process(pid) => process(alloc, pid, rest)?.map(|event| Line::Event(event)),
     })
 }

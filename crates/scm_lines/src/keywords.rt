@@ -4,6 +4,7 @@ ghost use Rattle.scm_lines.specs.Keywords.{keyword_of, opening_of, verb_of, type
 
 use crate::numbers::number;
 use af_base::events::SockType;
+use af_base::names::Pid;
 
 /// What a line begins with.
 #[derive(Clone, Copy, Debug, PartialEq, Eq)]
@@ -16,8 +17,8 @@ pub enum Opening {
     Totals,
     /// `check`
     Check,
-    /// The number of a process.
-    Process(u32),
+    /// A process, by its number.
+    Process(Pid),
 }
 
 /// What a process does, by the word after its number.
@@ -69,7 +70,7 @@ pub fn opening_named(word: &[u8]) -> Option<Opening>
     if let Some(opening) = keyword_named(word) {
         return Some(opening);
     }
-    Some(Opening::Process(number(word)?))
+    Some(Opening::Process(Pid(number(word)?)))
 }
 
 /// What the word after a process's number stands for.

@@ -1,4 +1,4 @@
-//! The script language: the bytes of one line, read as silence or as an event.
+//! The script language: the bytes of one line, read as silence, an event or a report.
 //!
 //! A caller wants [`line::line_of`] and [`line::Line`]. The line is cut into words (`words`), the
 //! first word says which form it has (`keywords`), and each form reads the words that are left

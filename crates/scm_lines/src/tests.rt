@@ -1,5 +1,4 @@
 //! Lines with what each says, from the worked examples of the script language.
-use crate::laws::{what_is_read_is_said, what_is_said_is_read};
 use crate::line::{Line, MAX_LINE, Report, line_of};
 use af_base::events::{Event, SockType, Step};
 use af_base::items::Items;
@@ -143,15 +142,10 @@ fn silent_lines(rt: HostRuntime) -> Result<(), Fail> {
 #[test]
 fn unreadable_lines(rt: HostRuntime) -> Result<(), Fail> {
     for line in UNREADABLE {
-        assert_eq!(rt; line_of(rt.alloc(), line)?, None);
+        let found = line_of(rt.alloc(), line)?;
+        assert_eq!(rt; found, None, "{line:?}");
     }
     let long = vec![in rt.alloc(); b' '; MAX_LINE + 1]?;
     assert_eq!(rt; line_of(rt.alloc(), long.as_slice())?, None);
     Ok(())
-}
-
-#[test]
-fn laws_may_be_called() {
-    what_is_read_is_said();
-    what_is_said_is_read();
 }

@@ -17,7 +17,7 @@ pub enum RunFault {
     /// A write failed, or took no byte of some.
     #[error("writing failed")]
     Write,
-    /// Memory ran out.
+    /// Memory ran out, or a count of lines or reads came to the end of `u64`.
     #[error("no memory")]
     Memory,
 }

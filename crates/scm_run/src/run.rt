@@ -21,9 +21,12 @@ const CHUNK: usize = 8192;
 #[derive(Drop)]
 struct Run {
     engine: Engine,
+    /// The bytes after the last line feed.
     pending: Vec<u8>,
+    /// Room for one line's text, used again.
     text: String,
     events: u64,
+    /// How many lines were done.
     done: u64,
 }
 
@@ -188,10 +191,10 @@ impl Run {
 /// Runs a script from the fresh machine: does each line as soon as its end was read, writes the
 /// line of its reply, and says how many events were done.
 ///
-/// A last line needs no line feed. Memory does not grow with the length of the script: a line that
-/// is too long is refused as soon as that is known. After a fault nothing more is read or written;
-/// a read or write that was interrupted is a failed one. How far beyond a bad line the reader was
-/// read is not said.
+/// Neither stream may have failed before. Lines are cut as by `str::lines`: a last line needs no
+/// line feed. Memory does not grow with the length of the script: a line that is too long is
+/// refused as soon as that is known. After a fault nothing more is read or written; a read or write
+/// that was interrupted is a failed one. How far beyond a bad line the reader was read is not said.
 pub fn run_script<R: Read, W: Write>(
     alloc: Global,
     reader: &mut Watched<R>,

@@ -12,9 +12,11 @@ use thiserror::Error;
 #[error("writing failed")]
 pub struct WriteFailed;
 
-/// Writes all of the bytes, in as many writes as it takes.
+/// Writes all of the bytes, in as many writes as it takes; it does not flush.
 ///
-/// A write that was interrupted is a failed one: there is no second try.
+/// No call on the writer may have failed before. `WriteFailed`: a write answered an error, or took
+/// no byte of some; then a beginning of the bytes was written. Unlike `std::io::Write::write_all`,
+/// it does not try an interrupted write again.
 pub fn write_whole<W: Write>(writer: &mut Watched<W>, bytes: &[u8]) -> Result<(), WriteFailed>
     requires { writer.old.has_failed ≡ false }
     ensures ok { OnOk result (Appends (W.contents writer.old.inner) (W.contents writer.new.inner) bytes.now) }

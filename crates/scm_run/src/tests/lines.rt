@@ -61,8 +61,8 @@ fn reads_these_lines(rt: HostRuntime) -> Result<(), Fail> {
 }
 
 #[test]
-fn the_version_cannot_be_read_yet(rt: HostRuntime) -> Result<(), Fail> {
-    let mut input = Watched::new(b"pass\nversion 2\n".as_slice());
+fn stops_at_an_unknown_first_word(rt: HostRuntime) -> Result<(), Fail> {
+    let mut input = Watched::new(b"pass\nwalk 2\n".as_slice());
     let mut output = Watched::new(Vec::new(rt.alloc()));
     let done = run_script(rt.alloc(), &mut input, &mut output);
     assert_eq!(rt; done, Err(RunFault::Unreadable(2)));

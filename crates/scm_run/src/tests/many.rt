@@ -59,7 +59,8 @@ fn processes_run_out(rt: HostRuntime) -> Result<(), Fail> {
     Ok(())
 }
 
-/// 64 numbers each for 1,023 processes, and 63 for another.
+/// 64 plain files for each of 1,024 processes are all 65,536; after one close, one file is free, too
+/// few for a pair.
 #[test]
 fn a_pair_finds_one_file_free(rt: HostRuntime) -> Result<(), Fail> {
     let mut play = Play::new(rt.alloc());

@@ -5,7 +5,8 @@ use std::alloc::AllocGlobal;
 use std::process::Abort;
 use std::test::Fail;
 
-/// The lines of a script have these texts, in order; a report may have several lines, or none.
+/// The lines of a script have these texts, in order; a report may have several lines; one that has
+/// none cannot stand here.
 pub fn plays<T: Abort + AllocGlobal>(rt: &T, rows: &[(&str, &str)]) -> Result<(), Fail> {
     let mut script = String::new(rt.alloc());
     let mut texts = String::new(rt.alloc());

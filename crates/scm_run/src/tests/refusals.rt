@@ -71,7 +71,8 @@ fn of_a_fork_an_exit_and_a_pair(rt: HostRuntime) -> Result<(), Fail> {
     plays(&rt, rows.as_slice())
 }
 
-/// The numbers 0, 1 and 2 in flight are no more than two numbers may exceed.
+/// Three descriptors are in flight before a send is refused: the limit is 2, and an equal number
+/// passes.
 #[test]
 fn of_a_send(rt: HostRuntime) -> Result<(), Fail> {
     let rows = [

@@ -113,11 +113,11 @@ fn stops_at_a_long_line(rt: HostRuntime) -> Result<(), Fail> {
 #[test]
 fn refuses_a_long_line_at_once(rt: HostRuntime) -> Result<(), Fail> {
     let line = vec![in rt.alloc(); b'x'; MAX_LINE + 1]?;
-    for at_once in [1, MAX_LINE + 1] {
+    for (at_once, calls) in [(1, MAX_LINE + 1), (4_096, MAX_LINE / 4_096 + 1)] {
         let mut input = Watched::new(FailingReader {
             bytes: line.as_slice(),
             at_once,
-            calls: MAX_LINE + 1,
+            calls,
         });
         let mut output = Watched::new(Vec::new(rt.alloc()));
         let done = run_script(rt.alloc(), &mut input, &mut output);
