@@ -41,7 +41,16 @@ pub whole-add_user : (w : World) (u : ℕ) → IsWhole w → IsWhole (add_user w
 whole-add_user w u k = by (list_any (nat_eq u) w.users) where
   by : (b : Bool) → IsWhole (if b then w else record w { users = w.users ++ u ∷ [] })
   by true = k
-  by false = record { tables_live = k.tables_live; queues_live = k.queues_live; files_numbered = k.files_numbered; processes_numbered = k.processes_numbered; peers = k.peers }
+  by false = record {
+    tables_live = k.tables_live;
+    queues_live = k.queues_live;
+    files_numbered = k.files_numbered;
+    processes_numbered = k.processes_numbered;
+    files_begin = k.files_begin;
+    next_ino = k.next_ino;
+    next_pid = k.next_pid;
+    peers = k.peers;
+  }
 
 -- One user more in the list.
 pub settled-add_user : (w : World) (u : ℕ) → IsSettled w → IsSettled (add_user w u)
@@ -65,6 +74,9 @@ whole-add_process w q k live = record {
     | inl same ↦ omega (arith, same)
     | inr apart ↦ let low = k.processes_numbered p (ap is_some (sym (insert-other w.processes w.next_pid q p apart)) ∙ l) in omega (arith, low)
   ];
+  files_begin = k.files_begin;
+  next_ino = k.next_ino;
+  next_pid = omega arith;
   peers = k.peers;
 }
 

@@ -34,6 +34,9 @@ module _ (w : World) (p : ℕ) where
     queues_live = k.queues_live;
     files_numbered = k.files_numbered;
     processes_numbered = λ r l. numbered r (map.get (remove_process w p).processes r) refl l;
+    files_begin = k.files_begin;
+    next_ino = k.next_ino;
+    next_pid = k.next_pid;
     peers = k.peers;
   } where
     numbered : (r : ℕ) (o : Option Process) → map.get (remove_process w p).processes r ≡ o → is_some o ≡ true → r < w.next_pid

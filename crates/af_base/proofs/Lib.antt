@@ -31,3 +31,5 @@ pub mod Purging
 pub mod Purged
 pub mod Listed
 pub mod Bare
+pub mod Rising
+pub mod Making

@@ -62,7 +62,7 @@ module _ (w : World) where
   ]
 
   -- A plain file more.
-  whole-plain : IsWhole w → IsWhole new
+  pub whole-plain : IsWhole w → IsWhole new
   whole-plain k = record {
     tables_live = λ f t. live-plain k f (k.tables_live f t);
     queues_live = λ q f h. live-plain k f (k.queues_live q f (held_before q f h));
@@ -71,11 +71,17 @@ module _ (w : World) where
       | inr e ↦ let low = k.files_numbered f (sym (ap is_some e) ∙ l) in omega (arith, low)
     ];
     processes_numbered = k.processes_numbered;
+    files_begin = λ f l. elim (which f) [
+      | inl e ↦ let next = k.next_ino in omega (arith, e, next)
+      | inr e ↦ k.files_begin f (sym (ap is_some e) ∙ l)
+    ];
+    next_ino = omega arith;
+    next_pid = k.next_pid;
     peers = λ f p e. state-plain k p ∙ k.peers f p (sym (state-plain k f) ∙ e);
   }
 
   -- A plain file more, where there is room for one.
-  within-plain : IsWithin w → is_full w 1 ≡ false → IsWithin new
+  pub within-plain : IsWithin w → is_full w 1 ≡ false → IsWithin new
   within-plain k room =
       let parts = neither _ _ room in
       let few = ltb-false MAX_FILES (map.len w.files + 1) parts.0 in

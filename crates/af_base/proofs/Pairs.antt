@@ -12,7 +12,7 @@ use Rattle.af_base.specs.Places.{Holds, contents}
 use Rattle.af_base.specs.Counts.{count_in, one, refs}
 use Rattle.af_base.specs.Unheld.{IsSettled}
 use Rattle.af_base.specs.Changes.{add_file, install}
-use Rattle.af_base.specs.Steps.{connected_socket}
+use Rattle.af_base.specs.Steps.{connected_socket, with_pair}
 use Rattle.af_base.specs.Whole.{AreMutual, IsWhole, state_at, state_of}
 use Rattle.af_base.proofs.Born.{fresh_file}
 use Rattle.af_base.proofs.Placed.{settled-counted, settled-held}
@@ -22,10 +22,6 @@ use Rattle.af_base.proofs.Places.{refs-install}
 use Rattle.af_base.proofs.Settling.{none_in}
 use Rattle.af_base.proofs.Sums.{total-insert}
 use Rattle.af_base.proofs.Whole.{not_connected, peer_or, whole-install}
-
--- The world with two sockets more, which are connected to each other and have no place yet.
-abbrev pub with_pair : World → SockType → World
-with_pair w kind = add_file (add_file w (AsSocket (connected_socket kind (w.next_ino + 1)))) (AsSocket (connected_socket kind w.next_ino))
 
 -- With a file more come the places that it has.
 pub refs-add_file : (w : World) (x : File) (f : ℕ) → map.get w.files w.next_ino ≡ None → refs (add_file w x) f ≡ refs w f + count_in f (contents x)
@@ -124,6 +120,15 @@ module _ (w : World) (kind : SockType) where
       ]
     ];
     processes_numbered = k.processes_numbered;
+    files_begin = λ f l. elim (which f) [
+      | inl e ↦ let next = k.next_ino in omega (arith, e, next)
+      | inr r ↦ elim r [
+        | inl e ↦ omega (arith, e)
+        | inr e ↦ k.files_begin f (sym (ap is_some e) ∙ l)
+      ]
+    ];
+    next_ino = omega arith;
+    next_pid = k.next_pid;
     peers = mutual-pair k;
   }
 

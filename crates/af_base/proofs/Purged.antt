@@ -43,6 +43,9 @@ module _ (t : ℕ → Bool) (w : World) where
     queues_live = λ s f h. live-emptied t w f ∙ k.queues_live s f (from_emptied t w s f h).1;
     files_numbered = λ f l. k.files_numbered f (sym (live-emptied t w f) ∙ l);
     processes_numbered = k.processes_numbered;
+    files_begin = λ f l. k.files_begin f (sym (live-emptied t w f) ∙ l);
+    next_ino = k.next_ino;
+    next_pid = k.next_pid;
     peers = λ f p e. state_at-emptied p ∙ k.peers f p (sym (state_at-emptied f) ∙ e);
   }
 

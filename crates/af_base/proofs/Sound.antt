@@ -49,6 +49,9 @@ fresh_whole = record {
   queues_live = λ s f h. let at = holds-there empty_world s f h in absurd (none_some at.0 (sym (no_file s) ∙ at.1));
   files_numbered = λ f l. absurd (false≢true (sym (ap is_some (no_file f)) ∙ l));
   processes_numbered = λ p l. absurd (false≢true (sym (ap is_some (no_process p)) ∙ l));
+  files_begin = λ f l. absurd (false≢true (sym (ap is_some (no_file f)) ∙ l));
+  next_ino = omega arith;
+  next_pid = omega arith;
   peers = λ f p e. not_connected state.Idle p refl (sym (ap (λ o. option_map_or state_of o state.Idle) (no_file f)) ∙ e);
 }
 

@@ -77,6 +77,9 @@ whole-gone gone w none k = record {
   queues_live = λ s f h. let from = from_without gone w s f h in kept f (λ e. (none f e).1 s from.0 from.1) (k.queues_live s f from.1);
   files_numbered = λ f l. k.files_numbered f (stays _ _ (sym (live-without gone w f) ∙ l)).1;
   processes_numbered = k.processes_numbered;
+  files_begin = λ f l. k.files_begin f (stays _ _ (sym (live-without gone w f) ∙ l)).1;
+  next_ino = k.next_ino;
+  next_pid = k.next_pid;
   peers = mutual-without gone w k.peers;
 } where
   kept : (f : ℕ) → ¬ (gone f ≡ true) → IsLive w f → IsLive (without gone w) f
@@ -110,6 +113,9 @@ whole-changed w s g same gain k = record {
   queues_live = λ q f h. live-changed w s g f ∙ elim (held-changed w s g q f (λ x is c. gain x f is c) h) [ inl y ↦ k.queues_live q f y | inr y ↦ y ];
   files_numbered = λ f l. k.files_numbered f (sym (live-changed w s g f) ∙ l);
   processes_numbered = k.processes_numbered;
+  files_begin = λ f l. k.files_begin f (sym (live-changed w s g f) ∙ l);
+  next_ino = k.next_ino;
+  next_pid = k.next_pid;
   peers = λ f p e. state_same p ∙ k.peers f p (sym (state_same f) ∙ e);
 } where
   state_same : (q : ℕ) → state_at (with_socket w s g) q ≡ state_at w q
@@ -126,6 +132,9 @@ whole-install w p n f k l = record {
   queues_live = k.queues_live;
   files_numbered = k.files_numbered;
   processes_numbered = processes-numbered w p (λ q. record q { table = map.insert q.table n f }) k;
+  files_begin = k.files_begin;
+  next_ino = k.next_ino;
+  next_pid = k.next_pid;
   peers = k.peers;
 }
 
@@ -136,6 +145,9 @@ whole-uninstall w p n k = record {
   queues_live = k.queues_live;
   files_numbered = k.files_numbered;
   processes_numbered = processes-numbered w p (λ q. record q { table = map.remove q.table n }) k;
+  files_begin = k.files_begin;
+  next_ino = k.next_ino;
+  next_pid = k.next_pid;
   peers = k.peers;
 }
 

@@ -17,14 +17,13 @@ use Rattle.af_base.specs.Unheld.{Settles, file_without, without}
 use Rattle.af_base.specs.Changes.{add_file, add_process, add_user, change_at, file_with, install, install_all, push_message, uninstall, with_queue, with_socket}
 use Rattle.af_base.specs.Refusals.{is_crowded, is_full, socket_of}
 use Rattle.af_base.specs.Release.{messages_in}
-use Rattle.af_base.specs.Steps.{connected_socket, spawned}
+use Rattle.af_base.specs.Steps.{connected_socket, spawned, with_pair}
 use Rattle.af_base.specs.Whole.{IsMessageWithin, IsProcessWithin, IsSocketWithin, IsWithin}
 use Rattle.af_base.proofs.Dropped.{same_queue, without-was}
 use Rattle.af_base.proofs.Elements.{Contains-later, Contains-none}
 use Rattle.af_base.proofs.Free.{AreFree, first-low, rest-free}
 use Rattle.af_base.proofs.Lookups.{changed-was, insert-here, insert-other, none_some, remove-here, remove-other, same_or_not, some_same}
 use Rattle.af_base.proofs.Moved.{there-install}
-use Rattle.af_base.proofs.Pairs.{with_pair}
 use Rattle.af_base.proofs.Sums.{total-change_at, total-insert}
 use Rattle.af_base.proofs.Totals.{total-below, total-count, total-most}
 

@@ -9,39 +9,59 @@ use Rattle.af_base.specs.World.{World, Map, Process, File, Socket, Message, Plai
 abbrev pub change_at : {X : Type 0} → (X → X) → Map X → ℕ → Map X
 change_at f m k = option_map_or (λ x. map.insert m k (f x)) (map.get m k) m
 
+-- Process p changed.
+abbrev pub with_process : World → ℕ → (Process → Process) → World
+with_process w p g = record w { processes = change_at g w.processes p }
+
 -- The table of process p changed.
 abbrev pub with_table : World → ℕ → (Map ℕ → Map ℕ) → World
-with_table w p g = record w { processes = change_at (λ q. record q { table = g q.table }) w.processes p }
+with_table w p g = with_process w p (λ q. record q { table = g q.table })
 
 -- A socket changed; a plain file is left as it is.
 abbrev pub file_with : (Socket → Socket) → File → File
 file_with g Plain = Plain
 file_with g (AsSocket s) = AsSocket (g s)
 
--- The socket s changed.
+-- The socket s of these files changed.
+abbrev pub change_socket_at : (Socket → Socket) → Map File → ℕ → Map File
+change_socket_at g files s = change_at (file_with g) files s
+
+-- The same of a world.
 abbrev pub with_socket : World → ℕ → (Socket → Socket) → World
-with_socket w s g = record w { files = change_at (file_with g) w.files s }
+with_socket w s g = record w { files = change_socket_at g w.files s }
+
+-- A process whose number n stands for f (dup(2)).
+abbrev pub installed : ℕ → ℕ → Process → Process
+installed n f q = record q { table = map.insert q.table n f }
 
 -- The number n of process p stands for f (dup(2)).
 abbrev pub install : World → ℕ → ℕ → ℕ → World
-install w p n f = with_table w p (λ t. map.insert t n f)
+install w p n f = with_process w p (installed n f)
 
 -- These numbers stand for these files, one after the other.
 abbrev pub install_all : World → ℕ → List (ℕ × ℕ) → World
 install_all w p [] = w
 install_all w p (e ∷ es) = install_all (install w p e.0 e.1) p es
 
+-- A process whose number n is free (close(2)).
+abbrev pub taken_out : ℕ → Process → Process
+taken_out n q = record q { table = map.remove q.table n }
+
 -- The number n of process p is free (close(2)).
 abbrev pub uninstall : World → ℕ → ℕ → World
-uninstall w p n = with_table w p (λ t. map.remove t n)
+uninstall w p n = with_process w p (taken_out n)
 
 -- The queue of s is this one.
 abbrev pub with_queue : World → ℕ → List Message → World
 with_queue w s q = with_socket w s (λ x. record x { queue = q })
 
+-- A socket with one message more, last in its queue (unix(7)).
+abbrev pub pushed : Message → Socket → Socket
+pushed m x = record x { queue = x.queue ++ m ∷ [] }
+
 -- One message more, last in the queue of s (unix(7)).
 abbrev pub push_message : World → ℕ → Message → World
-push_message w s m = with_socket w s (λ x. record x { queue = x.queue ++ m ∷ [] })
+push_message w s m = with_socket w s (pushed m)
 
 -- Process p is gone, and its table with it (_exit(2)).
 abbrev pub remove_process : World → ℕ → World

@@ -3,11 +3,15 @@ use Rattle.std.specs.Prelude.{◌≡◌, ℕ, List, [], ◌++◌, Option, Some, 
 use Rattle.std.specs.List.{flat_map, Contains}
 use Rattle.std.specs.Option.{option_map_or}
 use Rattle.std.specs.FinMap as map
-use Rattle.af_base.specs.World.{World, Message, File, Plain, AsSocket}
+use Rattle.af_base.specs.World.{World, Map, Process, Message, File, Plain, AsSocket}
 
--- What the number n stands for in process p (open(2): a descriptor is an index into the process's table).
+-- What the number n stands for in process p of these (open(2): a descriptor is an index into the process's table).
+abbrev pub number_in : Map Process → ℕ → ℕ → Option ℕ
+number_in processes p n = option_map_or (λ q. map.get q.table n) (map.get processes p) None
+
+-- The same of a world.
 abbrev pub table_at : World → ℕ → ℕ → Option ℕ
-table_at w p n = option_map_or (λ q. map.get q.table n) (map.get w.processes p) None
+table_at w p n = number_in w.processes p n
 
 -- The messages that a file has to receive: a plain file has none.
 abbrev pub queue_of : File → List Message
@@ -27,13 +31,21 @@ carried q = flat_map (λ m. m.attached) q
 abbrev pub contents : File → List ℕ
 contents x = carried (queue_of x) ++ backlog_of x
 
--- What the queue of s has.
-abbrev pub queue_at : World → ℕ → List Message
-queue_at w s = option_map_or queue_of (map.get w.files s) []
+-- What the queue of the file s of these has.
+abbrev pub queue_in : Map File → ℕ → List Message
+queue_in files s = option_map_or queue_of (map.get files s) []
 
--- What the queue and the backlog of s hold.
+-- The same of a world.
+abbrev pub queue_at : World → ℕ → List Message
+queue_at w s = queue_in w.files s
+
+-- What the queue and the backlog of the file s of these hold.
+abbrev pub held_in : Map File → ℕ → List ℕ
+held_in files s = option_map_or contents (map.get files s) []
+
+-- The same of a world.
 abbrev pub held_by : World → ℕ → List ℕ
-held_by w s = option_map_or contents (map.get w.files s) []
+held_by w s = held_in w.files s
 
 -- A table holds f (open(2), dup(2)).
 abbrev pub InTable : World → ℕ → Type 0

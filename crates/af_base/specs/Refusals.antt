@@ -24,9 +24,13 @@ no_process = record { user = 0; limit = 0; privileged = false; table = map.empty
 abbrev pub no_socket : Socket
 no_socket = record { kind = Seqpacket; state = state.Idle; name = None; queue = []; backlog = [] }
 
--- The process p.
+-- The process p of these.
+abbrev pub process_in : Map Process → ℕ → Process
+process_in processes p = unwrap_or (map.get processes p) no_process
+
+-- The same of a world.
 abbrev pub process_at : World → ℕ → Process
-process_at w p = unwrap_or (map.get w.processes p) no_process
+process_at w p = process_in w.processes p
 
 -- The socket that a file is.
 abbrev pub socket_of : File → Option Socket
@@ -98,6 +102,13 @@ Row = List (Bool × Errno)
 abbrev pub first_fit : Row → Option Errno
 first_fit [] = None
 first_fit (r ∷ rs) = if r.0 then Some r.1 else first_fit rs
+
+-- The two tests of a send that go by what is in flight: so many files, of a user with this charge, where all users together have that total (unix(7), ETOOMANYREFS; ENOBUFS is this project's profile).
+abbrev pub send_row : ℕ → ℕ → ℕ → Bool → ℕ → Row
+send_row charge total limit privileged files =
+    (nat_lt 0 files && (not privileged && nat_lt limit charge), ETOOMANYREFS)
+    ∷ (nat_lt MAX_INFLIGHT (total + files), ENOBUFS)
+    ∷ []
 
 -- Why a process cannot start (getrlimit(2); fork(2), EAGAIN; this project's profile).
 abbrev pub spawn_row : World → ℕ → Row

@@ -26,6 +26,10 @@ free_at w p k = slice_index (free_numbers (process_at w p)) k
 abbrev pub connected_socket : SockType → ℕ → Socket
 connected_socket kind peer = record no_socket { kind = kind; state = state.Connected peer }
 
+-- The world with two sockets more, connected to each other (socketpair(2)).
+abbrev pub with_pair : World → SockType → World
+with_pair w kind = add_file (add_file w (AsSocket (connected_socket kind (w.next_ino + 1)))) (AsSocket (connected_socket kind w.next_ino))
+
 -- What a receive takes.
 abbrev pub taken_on : World → ℕ → ℕ → ℕ → Taken
 taken_on w p n max_bytes = take_from (socket_on w p n).kind (socket_on w p n).queue max_bytes
@@ -46,10 +50,7 @@ effect w p (step.Dup2 n m) = if nat_eq m n then w else install w p m (ino_on w p
 effect w p (step.Close n) = uninstall w p n
 effect w p step.Fork = add_process w (process_at w p)
 effect w p step.Exit = remove_process w p
-effect w p (step.Pair kind) =
-    let a = w.next_ino in
-    let b = w.next_ino + 1 in
-    install (install (add_file (add_file w (AsSocket (connected_socket kind b))) (AsSocket (connected_socket kind a))) p (free_at w p 0) a) p (free_at w p 1) b
+effect w p (step.Pair kind) = install (install (with_pair w kind) p (free_at w p 0) w.next_ino) p (free_at w p 1) (w.next_ino + 1)
 effect w p (step.Send n bytes attach) =
     push_message w (peer_of (socket_on w p n).state) (record { bytes = bytes; attached = filter_map (table_at w p) attach; user = (process_at w p).user })
 effect w p (step.Recv n max_bytes max_fds) =
@@ -73,8 +74,9 @@ answer w p (step.Recv n max_bytes max_fds) =
     then reply.End
     else reply.Got taken.bytes got taken.trunc (nat_lt (length got) (length taken.attached))
 
--- Whether the step never needs memory (this project's profile).
+-- Whether the step never needs memory: a close, an exit, and a number put in place of itself (dup2(2): nothing is done; this project's profile).
 abbrev pub needs_no_memory : Step → Bool
+needs_no_memory (step.Dup2 n m) = nat_eq m n
 needs_no_memory (step.Close n) = true
 needs_no_memory step.Exit = true
 needs_no_memory s = false

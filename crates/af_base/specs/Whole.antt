@@ -24,12 +24,15 @@ state_at w f = option_map_or state_of (map.get w.files f) state.Idle
 abbrev pub AreMutual : World → Type 0
 AreMutual w = (f p : ℕ) → state_at w f ≡ state.Connected p → state_at w p ≡ state.Connected f
 
--- The world is whole: each place holds a live file, numbers given are below the next ones, and peers are mutual (this project's profile).
+-- The world is whole: each place holds a live file, peers are mutual, and the numbers given are below the next ones; the next ones and the files' numbers begin at 1, so 0 is no file (this project's profile).
 pub record IsWhole (w : World) : Type 0 where
   pub tables_live : (f : ℕ) → InTable w f → IsLive w f
   pub queues_live : (s f : ℕ) → Holds w s f → IsLive w f
   pub files_numbered : (f : ℕ) → IsLive w f → f < w.next_ino
   pub processes_numbered : (p : ℕ) → IsTrue (map.contains_key w.processes p) → p < w.next_pid
+  pub files_begin : (f : ℕ) → IsLive w f → 0 < f
+  pub next_ino : 0 < w.next_ino
+  pub next_pid : 0 < w.next_pid
   pub peers : AreMutual w
 
 -- A process within its limit, and the limit within its own (this project's profile).

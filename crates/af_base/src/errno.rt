@@ -2,6 +2,7 @@
 ghost use Rattle.std.specs.Prelude.{◌≡◌};
 ghost use Rattle.af_base.specs.Errno.{number_of, name_of};
 
+use std::alloc::AllocError;
 use std::error::Error;
 use std::fmt;
 
@@ -84,6 +85,16 @@ impl Errno {
             Errno::EIDLE => "EIDLE",
             Errno::ERANGE => "ERANGE",
         }
+    }
+}
+
+impl From<AllocError> for Errno {
+    ghost use Rattle.af_base.specs.declared.errno.Errno.TheVariants.{ENOMEM};
+
+    ghost from_gives = { λ _ e. e ≡ ENOMEM };
+
+    fn from(_: AllocError) -> Errno {
+        Errno::ENOMEM
     }
 }
 

@@ -13,7 +13,7 @@ use std::process::ExitCode;
 use std::time::Instant;
 
 /// What is measured: each for so many rounds.
-const PLAN: [(Workload, u32); 8] = [
+const PLAN: [(Workload, u32); 10] = [
     (Workload::OpenClose { live: 0 }, 500_000),
     (Workload::OpenClose { live: 1_000 }, 500_000),
     (Workload::OpenClose { live: 10_000 }, 500_000),
@@ -22,6 +22,8 @@ const PLAN: [(Workload, u32); 8] = [
     (Workload::Dup2, 1_000_000),
     (Workload::ForkExit, 20_000),
     (Workload::PingPong, 300_000),
+    (Workload::Chain { sockets: 6_000 }, 1),
+    (Workload::Chain { sockets: 60_000 }, 1),
 ];
 
 fn main(rt: HostRuntime) -> ExitCode {
@@ -50,7 +52,7 @@ fn usage(rt: &HostRuntime) -> ExitCode {
     ExitCode::from(2)
 }
 
-/// Does so many rounds of a workload, and prints the events done in a second. Nothing, where memory,
+/// Does so many rounds of a workload, and prints what was done in a second. Nothing, where memory,
 /// the clock or standard output fails, or an event is refused.
 fn measure(rt: &HostRuntime, workload: &Workload, rounds: u32) -> Option<()> {
     let mut round = workload.prepare(rt.alloc())?;
@@ -61,5 +63,6 @@ fn measure(rt: &HostRuntime, workload: &Workload, rounds: u32) -> Option<()> {
     let micros = start.elapsed(rt).ok()?.as_micros().max(1);
     let events = u128::from(rounds) * u128::from(workload.events());
     let rate = events * 1_000_000 / micros;
-    writeln!(rt.stdout(), "{workload}: {rate} events in a second").ok()
+    let unit = workload.unit();
+    writeln!(rt.stdout(), "{workload}: {rate} {unit} in a second").ok()
 }

@@ -19,6 +19,8 @@ pub enum Workload {
     ForkExit,
     /// A descriptor is sent, received and closed.
     PingPong,
+    /// So many sockets, each in the queue of the next, go by one close of the last.
+    Chain { sockets: u32 },
 }
 
 impl Display for Workload {
@@ -29,17 +31,27 @@ impl Display for Workload {
             Workload::Dup2 => write!(f, "dup2"),
             Workload::ForkExit => write!(f, "forkexit with 64 numbers open"),
             Workload::PingPong => write!(f, "pingpong"),
+            Workload::Chain { sockets } => write!(f, "chain of {sockets} sockets"),
         }
     }
 }
 
 impl Workload {
-    /// How many events a round has.
-    pub fn events(&self) -> u8 {
+    /// How many events a round has; of a chain, how many files go by its one event.
+    pub fn events(&self) -> u32 {
         match self {
             Workload::OpenClose { .. } | Workload::OpenCloseAbove { .. } | Workload::ForkExit => 2,
             Workload::Dup2 => 1,
             Workload::PingPong => 3,
+            Workload::Chain { sockets } => *sockets,
+        }
+    }
+
+    /// What is counted.
+    pub fn unit(&self) -> &'static str {
+        match self {
+            Workload::Chain { .. } => "files gone",
+            _ => "events",
         }
     }
 
@@ -47,13 +59,13 @@ impl Workload {
     /// or memory is.
     pub fn prepare(&self, alloc: Global) -> Option<Round> {
         let mut engine = Engine::new(alloc).ok()?;
-        self.set_up(&mut engine)?;
+        self.set_up(&mut engine, alloc)?;
         let events = self.round(alloc)?;
         Some(Round { engine, events })
     }
 
     /// What happens before the first round. Nothing, where an event is refused.
-    fn set_up(&self, engine: &mut Engine) -> Option<()> {
+    fn set_up(&self, engine: &mut Engine, alloc: Global) -> Option<()> {
         done(engine, &SPAWN)?;
         match self {
             Workload::OpenClose { live } => open_elsewhere(engine, *live),
@@ -64,6 +76,7 @@ impl Workload {
                 done(engine, &PAIR)?;
                 open_numbers(engine, 1)
             }
+            Workload::Chain { sockets } => chain(engine, alloc, *sockets),
         }
     }
 
@@ -74,7 +87,8 @@ impl Workload {
             Workload::OpenCloseAbove { open } => vec![in alloc; OPEN, close(*open)].ok(),
             Workload::Dup2 => vec![in alloc; Event::Proc(FIRST, Step::Dup2(Fd(0), Fd(1)))].ok(),
             Workload::ForkExit => vec![in alloc; Event::Proc(FIRST, Step::Fork)].ok(),
-            Workload::PingPong => vec![in alloc; send(alloc)?, RECEIVE, close(3)].ok(),
+            Workload::PingPong => vec![in alloc; send(alloc, 0, 2)?, RECEIVE, close(3)].ok(),
+            Workload::Chain { sockets } => vec![in alloc; close(end_of(*sockets))].ok(),
         }
     }
 }
@@ -85,7 +99,7 @@ const FIRST: Pid = Pid(1);
 const SPAWN: Event = Event::Spawn {
     uid: Uid(1000),
     nofile: 1_024,
-    privileged: false,
+    privileged: true,
 };
 
 const OPEN: Event = Event::Proc(FIRST, Step::Open);
@@ -105,12 +119,12 @@ fn close(fd: u32) -> Event {
     Event::Proc(FIRST, Step::Close(Fd(fd)))
 }
 
-/// One byte, and what number 2 stands for.
-fn send(alloc: Global) -> Option<Event> {
+/// One byte, and what a number stands for. Nothing, where memory is refused.
+fn send(alloc: Global, on: u32, attached: u32) -> Option<Event> {
     let step = Step::Send {
-        on: Fd(0),
+        on: Fd(on),
         bytes: Items::of([b'a'].to_vec(alloc).ok()?),
-        attach: Items::of([Fd(2)].to_vec(alloc).ok()?),
+        attach: Items::of([Fd(attached)].to_vec(alloc).ok()?),
     };
     Some(Event::Proc(FIRST, step))
 }
@@ -138,6 +152,27 @@ fn open_elsewhere(engine: &mut Engine, files: u32) -> Option<()> {
             done(engine, &SPAWN)?;
         }
         done(engine, &Event::Proc(Pid(2 + k / 1_000), Step::Open))?;
+    }
+    Some(())
+}
+
+/// The number of the only open socket of a chain: each is put into the queue of the next, which has
+/// the other of two numbers.
+fn end_of(sockets: u32) -> u32 {
+    u32::from(sockets % 2 == 0)
+}
+
+/// So many sockets, each but the last only in the queue of the next. Nothing, where an event is
+/// refused or memory is.
+fn chain(engine: &mut Engine, alloc: Global, sockets: u32) -> Option<()> {
+    done(engine, &PAIR)?;
+    done(engine, &close(1))?;
+    for k in 1..sockets {
+        let old = end_of(k);
+        done(engine, &PAIR)?;
+        done(engine, &send(alloc, 2, old)?)?;
+        done(engine, &close(old))?;
+        done(engine, &close(2))?;
     }
     Some(())
 }

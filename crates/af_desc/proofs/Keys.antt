@@ -19,13 +19,11 @@ use Rattle.slab.specs.Slab.{Slab}
 use Rattle.std.proofs.lemmas.Bool.{eqb-true, eqb-false}
 use Rattle.std.proofs.lemmas.List.{get_or-set_same, get_or-set_other}
 use Rattle.af_base.specs.World.{Map, File, Plain}
-use Rattle.af_base.specs.Places.{queue_of}
 use Rattle.af_base.specs.Changes.{change_at}
 use Rattle.af_base.proofs.Lookups.{none_some, some_is, some_same, remove-here}
 use Rattle.af_base.proofs.Trees.{nat_looked}
 use Rattle.af_base.proofs.Above.{nat_first_above, nat_none_above}
 use Rattle.af_desc.specs.declared.files.Entry.{Entry}
-use Rattle.af_desc.specs.Filed.{queue_in}
 use Rattle.af_desc.specs.Keys.{desc_at, files_from, files_of, AreInPlace, BeginAtOne}
 use Rattle.af_desc.proofs.Over.{within, none_over-empty, none_over-grown, none_over-made, none_over-removed, none_over-written}
 
@@ -268,10 +266,6 @@ module _ (m : BTreeMap ℕ ℕ) (s : Slab Entry) (f key next : ℕ) (x y : Entry
 -- No change of a stranger.
 pub not_there_change : (m : BTreeMap ℕ ℕ) (s : Slab Entry) (f : ℕ) (g : File → File) → tree.get nat_cmp m f ≡ None → files_of m s ≡ change_at g (files_of m s) f
 not_there_change m s f g none = ap (λ o. option_map_or (λ d. map.insert (files_of m s) f (g d)) o (files_of m s)) (sym (file_at m s f ∙ ap (option_map (desc_at s)) none))
-
--- A stranger has nothing to receive.
-pub no_queue : (m : BTreeMap ℕ ℕ) (s : Slab Entry) (f : ℕ) → tree.get nat_cmp m f ≡ None → queue_in (files_of m s) f ≡ []
-no_queue m s f none = ap (λ o. option_map_or queue_of o []) (file_at m s f ∙ ap (option_map (desc_at s)) none)
 
 -- Changes of a file.
 pub ruleset file_writes = (file_at, missing, written_change, written_same, written_in_place, not_there_change, none_over-written)

@@ -1,12 +1,11 @@
 //! An open file description.
-ghost use Rattle.std.specs.Prelude.{◌≡◌, ◌∷◌, ◌++◌, [], ◌+◌, ◌<◌, ◌^◌, IfSome, IfNone, OnOk, OnErr, length, drop, option_copied};
+ghost use Rattle.std.specs.Prelude.{◌≡◌, ◌∷◌, [], ◌<◌, IfSome, IfNone, OnOk, OnErr, length, drop, option_copied};
 ghost use Rattle.af_base.specs.World as world;
-ghost use Rattle.af_base.specs.Places.{queue_of, carried, contents};
-ghost use Rattle.af_base.specs.Changes.{file_with};
+ghost use Rattle.af_base.specs.Places.{queue_of, contents};
+ghost use Rattle.af_base.specs.Changes.{file_with, pushed};
 ghost use Rattle.af_base.specs.Refusals.{socket_of};
 ghost use Rattle.af_base.specs.Steps.{connected_socket};
-ghost use Rattle.af_base.specs.declared.events.State.TheVariants as state;
-ghost use Rattle.af_desc.specs.Filed.{idle_socket};
+ghost use Rattle.af_desc.specs.Filed.{idle_socket, hung_up, popped};
 
 use crate::message::Message;
 use crate::socket::Socket;
@@ -14,7 +13,6 @@ use af_base::events::SockType;
 use af_base::limits::MAX_MESSAGES;
 use af_base::names::Ino;
 use std::alloc::{AllocError, Global};
-use std::collections::LinkedList;
 use std::marker::Model;
 
 /// An open file description: a plain file, of which nothing is known, or a socket.
@@ -76,20 +74,9 @@ impl Desc {
         }
     }
 
-    /// The socket that it was; nothing of a plain file.
-    pub fn into_socket(self) -> Option<Socket>
-        ensures { result ≡ socket_of self }
-    {
-        let Desc { kind } = self;
-        let Kind::Socket(socket) = kind else {
-            return None;
-        };
-        Some(socket)
-    }
-
     /// The peer is gone from now on. A plain file has none.
     pub(crate) fn hang_up(&mut self)
-        ensures { self.new ≡ file_with (λ s. record s { state = state.HungUp }) self.old }
+        ensures { self.new ≡ file_with hung_up self.old }
     {
         if let Kind::Socket(socket) = &mut self.kind {
             socket.hang_up();
@@ -100,7 +87,7 @@ impl Desc {
     /// error nothing has changed.
     pub(crate) fn push(&mut self, message: Message) -> Result<(), AllocError>
         requires { length (queue_of self.old) < MAX_MESSAGES }
-        ensures ok { OnOk result (self.new ≡ file_with (λ s. record s { queue = s.queue ++ message ∷ [] }) self.old) }
+        ensures ok { OnOk result (self.new ≡ file_with (pushed message) self.old) }
         ensures err { OnErr result (self.new ≡ self.old) }
     {
         match &mut self.kind {
@@ -113,24 +100,12 @@ impl Desc {
     pub(crate) fn pop(&mut self) -> Option<Message>
         ensures some { IfSome result (λ m. queue_of self.old ≡ m ∷ drop 1 (queue_of self.old)) }
         ensures none { IfNone result (queue_of self.old ≡ []) }
-        ensures rest { self.new ≡ file_with (λ s. record s { queue = drop 1 s.queue }) self.old }
+        ensures bare { IfNone result (contents self.old ≡ []) }
+        ensures rest { self.new ≡ file_with popped self.old }
     {
         match &mut self.kind {
             Kind::Plain => None,
             Kind::Socket(socket) => socket.pop(),
-        }
-    }
-
-    /// All that it has to receive goes last into `into`; a plain file has nothing. It takes no
-    /// memory.
-    pub(crate) fn empty(&mut self, into: &mut LinkedList<Message>)
-        requires { length into.old + MAX_MESSAGES < 2 ^ 63 }
-        ensures emptied { self.new ≡ file_with (λ s. record s { queue = []; backlog = [] }) self.old }
-        ensures into { into.new ≡ into.old ++ queue_of self.old }
-        ensures held { contents self.old ≡ carried (queue_of self.old) }
-    {
-        if let Kind::Socket(socket) = &mut self.kind {
-            socket.empty(into);
         }
     }
 }

@@ -1,10 +1,10 @@
 //! The files, by their numbers.
-ghost use Rattle.std.specs.Prelude.{◌≡◌, ℕ, ◌+◌, ◌<◌, ◌^◌, ◌∷◌, ◌++◌, [], false, None, IsTrue, IfSome, IfNone, IfOk, OnOk, OnErr, option_copied, length, drop};
+ghost use Rattle.std.specs.Prelude.{◌≡◌, ℕ, ◌+◌, ◌<◌, ◌∷◌, [], false, None, IsTrue, IfSome, IfNone, IfOk, OnOk, OnErr, option_copied, length, drop};
 ghost use Rattle.std.specs.FinMap as map;
-ghost use Rattle.std.specs.Option.{option_map_or};
 ghost use Rattle.af_base.specs.World as world;
-ghost use Rattle.af_base.specs.Places.{carried, contents};
-ghost use Rattle.af_desc.specs.Filed.{is_full, is_live, idle_socket, with_pair, queue_in, hung_up, pushed, popped, emptied};
+ghost use Rattle.af_base.specs.Places.{queue_in, held_in};
+ghost use Rattle.af_base.specs.Changes.{change_socket_at, pushed};
+ghost use Rattle.af_desc.specs.Filed.{is_full, is_live, idle_socket, with_pair, hung_up, popped};
 
 use crate::desc::Desc;
 use crate::message::Message;
@@ -13,7 +13,7 @@ use af_base::limits::{MAX_FILES, MAX_INO, MAX_MESSAGES};
 use af_base::names::Ino;
 use slab::Slab;
 use std::alloc::{AllocError, Global};
-use std::collections::{BTreeMap, LinkedList};
+use std::collections::BTreeMap;
 use std::marker::Model;
 use std::ops::Bound;
 
@@ -203,7 +203,7 @@ impl Files {
     /// takes no memory.
     #[tactic(auto, using(crate::proofs::Keys::file_writes))]
     pub fn hang_up(&mut self, ino: Ino)
-        ensures files { self.new.files ≡ hung_up self.old.files ino }
+        ensures files { self.new.files ≡ change_socket_at hung_up self.old.files ino }
         ensures next { self.new.next ≡ self.old.next }
     {
         let Some(key) = self.keys.get(&ino) else {
@@ -221,7 +221,7 @@ impl Files {
     #[tactic(auto, using(crate::proofs::Keys::file_writes))]
     pub fn push(&mut self, ino: Ino, message: Message) -> Result<(), AllocError>
         requires { length (queue_in self.old.files ino) < MAX_MESSAGES }
-        ensures files { OnOk result (self.new.files ≡ pushed message self.old.files ino) }
+        ensures files { OnOk result (self.new.files ≡ change_socket_at (pushed message) self.old.files ino) }
         ensures next { self.new.next ≡ self.old.next }
         ensures err { OnErr result (self.new ≡ self.old) }
     {
@@ -234,35 +234,18 @@ impl Files {
         entry.desc.push(message)
     }
 
-    /// The first message out of the queue of that socket, if there is one. It takes no memory.
+    /// The first message out of the queue of that socket, if there is one: where there is none, the
+    /// file holds nothing at all. It takes no memory.
     #[tactic(auto, using(crate::proofs::Keys::file_writes))]
     pub fn pop(&mut self, ino: Ino) -> Option<Message>
         ensures some { IfSome result (λ m. queue_in self.old.files ino ≡ m ∷ drop 1 (queue_in self.old.files ino)) }
         ensures none { IfNone result (queue_in self.old.files ino ≡ []) }
-        ensures files { self.new.files ≡ popped self.old.files ino }
+        ensures bare { IfNone result (held_in self.old.files ino ≡ []) }
+        ensures files { self.new.files ≡ change_socket_at popped self.old.files ino }
         ensures next { self.new.next ≡ self.old.next }
     {
         let key = self.keys.get(&ino)?;
         let entry = self.slab.get_mut(*key)?;
         entry.desc.pop()
-    }
-
-    /// All that the socket has to receive goes last into `into`, which has room in its count for a
-    /// full queue more. A plain file or a stranger has nothing. It takes no memory.
-    #[tactic(auto, using(crate::proofs::Keys::file_writes))]
-    pub fn empty(&mut self, ino: Ino, into: &mut LinkedList<Message>)
-        requires fits { length into.old + MAX_MESSAGES < 2 ^ 63 }
-        ensures files { self.new.files ≡ emptied self.old.files ino }
-        ensures next { self.new.next ≡ self.old.next }
-        ensures into { into.new ≡ into.old ++ queue_in self.old.files ino }
-        ensures held { option_map_or contents (map.get self.old.files ino) [] ≡ carried (queue_in self.old.files ino) }
-    {
-        let Some(key) = self.keys.get(&ino) else {
-            return;
-        };
-        let Some(entry) = self.slab.get_mut(*key) else {
-            return;
-        };
-        entry.desc.empty(into);
     }
 }

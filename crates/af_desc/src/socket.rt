@@ -1,10 +1,10 @@
 //! A socket, and what it has to receive.
-ghost use Rattle.std.specs.Prelude.{◌≡◌, ◌∷◌, ◌++◌, [], ◌+◌, ◌<◌, ◌≤◌, ◌^◌, OnOk, OnErr, IfSome, IfNone, length, drop};
+ghost use Rattle.std.specs.Prelude.{◌≡◌, ◌∷◌, [], ◌-◌, ◌<◌, ◌≤◌, Some, OnOk, OnErr, IfSome, IfNone, length, drop, slice_get};
 ghost use Rattle.af_base.specs.World as world;
-ghost use Rattle.af_base.specs.Places.{carried, contents};
+ghost use Rattle.af_base.specs.Places.{contents};
+ghost use Rattle.af_base.specs.Changes.{pushed};
 ghost use Rattle.af_base.specs.Steps.{connected_socket};
-ghost use Rattle.af_base.specs.declared.events.State.TheVariants as state;
-ghost use Rattle.af_desc.specs.Filed.{idle_socket};
+ghost use Rattle.af_desc.specs.Filed.{idle_socket, hung_up, popped};
 
 use crate::message::Message;
 use af_base::events::{SockType, State};
@@ -88,6 +88,15 @@ impl Socket {
         self.queue.front()
     }
 
+    /// The message that was put in last.
+    #[tactic(auto, using(crate::proofs::Queues::last_of))]
+    pub fn last(&self) -> Option<&Message>
+        ensures some { IfSome result (λ m. slice_get self.now.queue (length self.now.queue - 1) ≡ Some m.now) }
+        ensures none { IfNone result (self.now.queue ≡ []) }
+    {
+        self.queue.back()
+    }
+
     /// All that it has to receive, in order. No embryo waits, so that is all that it holds.
     pub fn queue(&self) -> &LinkedList<Message>
         ensures value { result.now ≡ self.now.queue }
@@ -99,7 +108,7 @@ impl Socket {
 
     /// The peer is gone from now on.
     pub(crate) fn hang_up(&mut self)
-        ensures { self.new ≡ record self.old { state = state.HungUp } }
+        ensures { self.new ≡ hung_up self.old }
     {
         self.state = State::HungUp;
     }
@@ -107,38 +116,20 @@ impl Socket {
     /// One message more, last in the queue. On an error nothing has changed.
     pub(crate) fn push(&mut self, message: Message) -> Result<(), AllocError>
         requires { length self.old.queue < MAX_MESSAGES }
-        ensures ok { OnOk result (self.new ≡ record self.old { queue = self.old.queue ++ message ∷ [] }) }
+        ensures ok { OnOk result (self.new ≡ pushed message self.old) }
         ensures err { OnErr result (self.new ≡ self.old) }
     {
         self.queue.push_back(message).map_err(|_| AllocError)
     }
 
-    /// The first message taken off the queue. It takes no memory.
+    /// The first message taken off the queue: where there is none, the socket holds nothing at all,
+    /// since no embryo waits in it. It takes no memory.
     pub(crate) fn pop(&mut self) -> Option<Message>
         ensures some { IfSome result (λ m. self.old.queue ≡ m ∷ drop 1 self.old.queue) }
         ensures none { IfNone result (self.old.queue ≡ []) }
-        ensures rest { self.new ≡ record self.old { queue = drop 1 self.old.queue } }
+        ensures bare { IfNone result (contents (world.AsSocket self.old) ≡ []) }
+        ensures rest { self.new ≡ popped self.old }
     {
         self.queue.pop_front()
-    }
-
-    /// All that it has to receive goes last into `into`. It takes no memory.
-    pub(crate) fn empty(&mut self, into: &mut LinkedList<Message>)
-        requires { length into.old + MAX_MESSAGES < 2 ^ 63 }
-        ensures emptied { self.new ≡ record self.old { queue = []; backlog = [] } }
-        ensures into { into.new ≡ into.old ++ self.old.queue }
-        ensures held { contents (world.AsSocket self.old) ≡ carried self.old.queue }
-    {
-        into.append(&mut self.queue).unwrap();
-    }
-
-    /// All that it has to receive, handed on: that is all that it holds. It takes no memory.
-    pub fn into_messages(self) -> LinkedList<Message>
-        ensures value { result ≡ self.queue }
-        ensures held { contents (world.AsSocket self) ≡ carried result }
-        ensures bound { length result ≤ MAX_MESSAGES }
-    {
-        let Socket { queue, .. } = self;
-        queue
     }
 }

@@ -3,7 +3,6 @@ use crate::{Files, Message};
 use af_base::events::{SockType, State};
 use af_base::names::{Ino, Uid};
 use std::alloc::{AllocError, Global};
-use std::collections::LinkedList;
 use std::test::Fail;
 
 fn message(alloc: Global, attached: Ino) -> Result<Message, AllocError> {
@@ -46,28 +45,15 @@ fn a_message_comes_and_goes(rt: HostRuntime) -> Result<(), Fail> {
     assert_eq!(rt; socket.queue().len(), 1);
     let waiting = socket.first().ok_or("no message")?;
     assert_eq!(rt; waiting.attached(), [first].as_slice());
+    let newest = socket.last().ok_or("no message")?;
+    assert_eq!(rt; newest.attached(), [first].as_slice());
     let message = files.pop(second).ok_or("no message")?;
     assert_eq!(rt; message.user(), Uid(1000));
     assert_eq!(rt; message.len(), 2);
     assert_eq!(rt; message.into_bytes(1).as_slice(), b"h".as_slice());
     let file = files.remove(second).ok_or("no file")?;
-    let socket = file.into_socket().ok_or("no socket")?;
-    assert!(rt; socket.into_messages().is_empty());
-    Ok(())
-}
-
-#[test]
-#[tactic(auto, using(crate::proofs::Queues::room_in_second))]
-fn a_queue_is_emptied(rt: HostRuntime) -> Result<(), Fail> {
-    let alloc = rt.alloc();
-    let mut files = Files::new(alloc);
-    assert!(rt; !files.is_full(2));
-    let (first, second) = files.make_two(SockType::Seqpacket)?;
-    files.push(second, message(alloc, first)?)?;
-    let mut pending = LinkedList::new(alloc);
-    files.empty(second, &mut pending);
-    assert_eq!(rt; pending.len(), 1);
-    assert!(rt; files.pop(second).is_none());
+    let socket = file.socket().ok_or("no socket")?;
+    assert!(rt; socket.first().is_none() && socket.last().is_none());
     Ok(())
 }
 

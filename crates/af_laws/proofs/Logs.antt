@@ -3,6 +3,7 @@ use Rattle.std.proofs.Common.{◌≡◌, inl, inr, ℕ, Bool, true, false, List,
 use Rattle.std.specs.Prelude.{Option, Some, None}
 use Rattle.std.specs.Cmp.{both_ways}
 use Rattle.std.proofs.lemmas.Bool.{false≢true}
+use Rattle.std.proofs.lemmas.List.Elements.{All-head, All-tail}
 use Rattle.af_base.specs.declared.errno.Errno.{Errno}
 use Rattle.af_base.specs.declared.errno.Errno.TheVariants.{EBUSY, ENOMEM}
 use Rattle.af_base.specs.declared.events.Event.TheVariants as event
@@ -22,7 +23,7 @@ use Rattle.af_base.proofs.Settling.{settles_once}
 use Rattle.af_base.proofs.Sound.{fresh_sound}
 use Rattle.af_base.proofs.Stepped.{sound-spawn, sound-step}
 use Rattle.af_laws.proofs.Existing.{settles_to_some}
-use Rattle.af_laws.specs.Running.{EventsHaveReplies, EventsKeepSound, FreshIsSound, LogDetermines, RefusedChangesNothing, RepliesDetermine, RunsAreSound, RunsJoin}
+use Rattle.af_laws.specs.Running.{EventsHaveReplies, EventsKeepSound, FreshIsSound, LeavesNoChoice, LogDetermines, RefusedChangesNothing, RepliesDetermine, RunsAreSound, RunsJoin}
 
 -- an outcome there is
 outcome_some : (o : Option Errno) (frugal : Bool) (answer : Reply) (now old : World) → (r : Reply) × (new : World) × Outcome o frugal answer now old r new
@@ -39,13 +40,13 @@ abbrev with_world : Machine → World → Machine
 with_world m w = record m { world = w }
 
 pub events_have_replies : EventsHaveReplies
-events_have_replies old (event.Spawn uid nofile privileged) =
+events_have_replies old (event.Spawn uid nofile privileged) sound =
     let o = outcome_some (spawn_refusal old.world nofile) false (reply.Pid old.world.next_pid) (spawned old.world uid nofile privileged) old.world in
     (o.0, with_world old o.1, (o.2, (refl, refl)))
-events_have_replies old (event.Proc p s) =
+events_have_replies old (event.Proc p s) sound =
     let o = outcome_some (refusal old.world p s) (needs_no_memory s) (answer old.world p s) (effect old.world p s) old.world in
     (o.0, with_world old o.1, (o.2, (refl, refl)))
-events_have_replies old event.Pass = pass_some old.pass old
+events_have_replies old event.Pass sound = pass_some old.pass old
 
 -- whether the reply is a refusal
 is_refused : Reply → Bool
@@ -109,11 +110,11 @@ pass_one (Running begun spent) old a b r x y = x.1 ∙ sym y.1
 
 pub replies_determine : RepliesDetermine
 unfolding is_refused
-replies_determine old a b (event.Spawn uid nofile privileged) r x y =
+replies_determine old a b (event.Spawn uid nofile privileged) r none x y =
     same_machine a b (outcome_one (reply.Pid old.world.next_pid) refl (spawned old.world uid nofile privileged) old.world a.world b.world r (spawn_refusal old.world nofile) false x.0 y.0) (x.1.0 ∙ sym y.1.0) (x.1.1 ∙ sym y.1.1)
-replies_determine old a b (event.Proc p s) r x y =
+replies_determine old a b (event.Proc p s) r none x y =
     same_machine a b (outcome_one (answer old.world p s) (answers old.world p s) (effect old.world p s) old.world a.world b.world r (refusal old.world p s) (needs_no_memory s) x.0 y.0) (x.1.0 ∙ sym y.1.0) (x.1.1 ∙ sym y.1.1)
-replies_determine old a b event.Pass r x y = pass_one old.pass old a b r x y
+replies_determine old a b event.Pass r none x y = pass_one old.pass old a b r x y
 
 outcome_refused : (answer : Reply) → is_refused answer ≡ false → (now old new : World) (error : Errno) (o : Option Errno) (frugal : Bool) → Outcome o frugal answer now old (reply.Refused error) new → new ≡ old
 unfolding is_refused
@@ -137,10 +138,10 @@ refused_changes_nothing old new (event.Proc p s) error h =
 refused_changes_nothing old new event.Pass error h = pass_refused old.pass old new error h
 
 pub log_determines : LogDetermines
-log_determines old a b [] x y = x ∙ sym y
-log_determines old a b (e ∷ log) x y =
-    let same : x.0 ≡ y.0 = replies_determine old x.0 y.0 e.0 e.1 x.1 y.1 in
-    log_determines y.0 a b log (subst (λ m. Run m log a) same x.2) y.2
+log_determines old a b [] none x y = x ∙ sym y
+log_determines old a b (e ∷ log) none x y =
+    let same : x.0 ≡ y.0 = replies_determine old x.0 y.0 e.0 e.1 (All-head (λ (x : Entry). LeavesNoChoice x.0) e log none) x.1 y.1 in
+    log_determines y.0 a b log (All-tail (λ (x : Entry). LeavesNoChoice x.0) e log none) (subst (λ m. Run m log a) same x.2) y.2
 
 run_split : (old new : Machine) (first second : List Entry) → Run old (first ++ second) new → (mid : Machine) × Run old first mid × Run mid second new
 run_split old new [] second run = (old, refl, run)

@@ -1,4 +1,4 @@
--- What a whole pass leaves as it was, and that it leaves no garbage.
+-- What a whole pass leaves as it was, and that it leaves no garbage: neither that of its beginning nor any other.
 use Rattle.std.proofs.Common.{◌≡◌, ℕ, Bool, true, false, not, inl, inr, [], refl, sym, ap, ◌∙◌, subst, cond}
 use Rattle.std.specs.Prelude.{◌↔◌, Option, Some, None, is_some, option_map, if◌then◌else◌}
 use Rattle.std.specs.Option.{option_map_or}
@@ -8,7 +8,7 @@ use Rattle.af_base.specs.declared.errno.Errno.{Errno}
 use Rattle.af_base.specs.declared.errno.Errno.TheVariants.{EBUSY, ENOMEM}
 use Rattle.af_base.specs.declared.events.Reply.{Reply}
 use Rattle.af_base.specs.declared.events.Reply.TheVariants as reply
-use Rattle.af_base.specs.World.{AsSocket, File, Plain, World}
+use Rattle.af_base.specs.World.{AsSocket, File, IsLive, Plain, World}
 use Rattle.af_base.specs.Places.{backlog_of, queue_of}
 use Rattle.af_base.specs.Unheld.{Goes, Unheld, file_without}
 use Rattle.af_base.specs.Reached.{ByTable, BySocket, Garbage, Reached}
@@ -16,7 +16,7 @@ use Rattle.af_base.specs.Pass.{Idle, Machine, Pass, PassesWhole, Purges, Running
 use Rattle.af_base.proofs.Purging.{from_emptied, get-emptied, live-emptied}
 use Rattle.af_base.proofs.Settling.{get-without, live-without, stays}
 use Rattle.af_laws.proofs.Chains.{holder_live, not_emptied, not_gone, purging_keeps_reached, reached_emptied}
-use Rattle.af_laws.specs.Purging.{PassLeavesNoGarbage, PassSparesTheReached, Spares}
+use Rattle.af_laws.specs.Purging.{PassLeavesNoGarbage, PassReleasesItsGarbage, PassSparesTheReached, Spares}
 
 -- a world whose garbage is purged
 module _ (old new : World) (test : ℕ → Bool) (garbage : (f : ℕ) → (test f ≡ true) ↔ Garbage old f) (purged : Purges test old new) where
@@ -60,11 +60,17 @@ module _ (old new : World) (test : ℕ → Bool) (garbage : (f : ℕ) → (test 
       let from = from_emptied test old s f h in
       absurd (false≢true (sym from.0 ∙ (garbage s).1 (holder_live old s f from.1, λ r. g.1 (BySocket s f r from.1)))))
 
+  -- what is live stayed, and was live
+  stayed : (f : ℕ) → IsLive new f → (purged.0 f ≡ false) × IsLive old f
+  stayed f l =
+      let left = stays _ _ (sym (ap (λ w. is_some (map.get w.files f)) purged.2 ∙ live-without purged.0 (emptied test old) f) ∙ l) in
+      (left.0, sym (live-emptied test old f) ∙ left.1)
+
+  released : (f : ℕ) → Garbage old f → ¬ (IsLive new f)
+  released f g l = false≢true (sym (stayed f l).0 ∙ (purged.1 f).1 (goes f g))
+
   none_left : (f : ℕ) → ¬ (Garbage new f)
-  none_left f g =
-      let left = stays _ _ (sym (ap (λ w. is_some (map.get w.files f)) purged.2 ∙ live-without purged.0 (emptied test old) f) ∙ g.0) in
-      let was : Garbage old f = (sym (live-emptied test old f) ∙ left.1, λ r. g.1 ((purging_keeps_reached old new test is_garbage purged f).0 r)) in
-      false≢true (sym left.0 ∙ (purged.1 f).1 (goes f was))
+  none_left f g = released f ((stayed f g.0).1, λ r. g.1 ((purging_keeps_reached old new test is_garbage purged f).0 r)) g.0
 
 -- where nothing changes
 spares_all : (old new : Machine) → new ≡ old → Spares old.world new.world
@@ -89,3 +95,11 @@ leaves_by (Running begun spent) old new pass count h = absurd (done_refused pass
 
 pub pass_leaves_no_garbage : PassLeavesNoGarbage
 pass_leaves_no_garbage old new pass count h = leaves_by old.pass old new pass count h
+
+releases_by : (p : Pass) (old new : Machine) (pass count : ℕ) → PassesWhole p old (reply.Done pass count) new → (f : ℕ) → Garbage old.world f → ¬ (IsLive new.world f)
+releases_by Idle old new pass count (inl h) = released old.world new.world h.0.test h.0.is_garbage h.0.purged
+releases_by Idle old new pass count (inr h) = absurd (done_refused pass count ENOMEM h.0)
+releases_by (Running begun spent) old new pass count h = absurd (done_refused pass count EBUSY h.0)
+
+pub pass_releases_its_garbage : PassReleasesItsGarbage
+pass_releases_its_garbage old new pass count h = releases_by old.pass old new pass count h

@@ -70,8 +70,7 @@ close_never_fails old new p n f r is h = by (map.get old.processes p) is h where
 
 pub dup2_to_itself_changes_nothing : Dup2ToItselfChangesNothing
 dup2_to_itself_changes_nothing old new p n r settled h = by (refusal old p (step.Dup2 n n)) (nat_eq n n) (eq-eqb n n refl) h where
-  by : (o : Option Errno) (same : Bool) → same ≡ true → Outcome o false (reply.Fd n) (cond same old (install old p n (ino_on old p n))) old r new → new ≡ old
+  by : (o : Option Errno) (same : Bool) → same ≡ true → Outcome o same (reply.Fd n) (cond same old (install old p n (ino_on old p n))) old r new → new ≡ old
   by (Some e) same is out = out.1
   by None false is out = absurd (false≢true is)
-  by None true is (inl out) = (settled_stays old new settled).0 out.1
-  by None true is (inr out) = out.1
+  by None true is out = (settled_stays old new settled).0 out.1

@@ -33,3 +33,7 @@ PassSparesTheReached = (old new : Machine) (r : Reply) → Step old event.Pass r
 -- A whole pass that is done leaves no garbage.
 abbrev pub PassLeavesNoGarbage : Type 0
 PassLeavesNoGarbage = (old new : Machine) (pass count : ℕ) → Step old event.Pass (reply.Done pass count) new → (f : ℕ) → ¬ (Garbage new.world f)
+
+-- A whole pass that is done has released all that was garbage at its beginning: none of it is live.
+abbrev pub PassReleasesItsGarbage : Type 0
+PassReleasesItsGarbage = (old new : Machine) (pass count : ℕ) → Step old event.Pass (reply.Done pass count) new → (f : ℕ) → Garbage old.world f → ¬ (IsLive new.world f)

@@ -1,5 +1,5 @@
 //! Laws of purging: queues emptied, and then what goes.
-ghost use Rattle.af_laws.specs.Purging.{PurgesBoth, PurgesInAnyOrder, PassSparesTheReached, PassLeavesNoGarbage};
+ghost use Rattle.af_laws.specs.Purging.{PurgesBoth, PurgesInAnyOrder, PassSparesTheReached, PassLeavesNoGarbage, PassReleasesItsGarbage};
 
 /// To purge some files and then others is to purge all of them at once.
 pub fn purges_both()
@@ -19,4 +19,9 @@ pub fn pass_spares_the_reached()
 /// A whole pass that is done leaves no garbage.
 pub fn pass_leaves_no_garbage()
     ensures { PassLeavesNoGarbage }
+{}
+
+/// A whole pass that is done has released all that was garbage at its beginning.
+pub fn pass_releases_its_garbage()
+    ensures { PassReleasesItsGarbage }
 {}

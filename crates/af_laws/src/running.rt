@@ -2,17 +2,17 @@
 ghost use Rattle.af_laws.specs.Running.{EventsHaveReplies, RepliesDetermine, LogDetermines, RefusedChangesNothing, RunsJoin};
 ghost use Rattle.af_laws.specs.Running.{FreshIsSound, EventsKeepSound, RunsAreSound};
 
-/// From every machine each event has a reply and leads somewhere.
+/// From every machine whose world is sound each event has a reply and leads somewhere.
 pub fn events_have_replies()
     ensures { EventsHaveReplies }
 {}
 
-/// An event with its reply leads to one machine.
+/// An event that leaves nothing to choose leads, with its reply, to one machine.
 pub fn replies_determine()
     ensures { RepliesDetermine }
 {}
 
-/// A log of events with their replies leads to one machine.
+/// A log of such events with their replies leads to one machine.
 pub fn log_determines()
     ensures { LogDetermines }
 {}

@@ -14,7 +14,7 @@ use Rattle.std.proofs.lemmas.List.{map-append}
 use Rattle.af_base.specs.World.{Map}
 use Rattle.af_base.specs.Counts.{one}
 use Rattle.af_ledger.specs.Counted.{uncounted, places_in, more, fewer, IsCounted}
-use Rattle.af_ledger.specs.Kept.{Kept, count_of, refs_of, charge_of, recharged, is_user, with_user, held, dropped, counted_less}
+use Rattle.af_ledger.specs.Kept.{Kept, count_of, has_count, refs_of, charge_of, recharged, is_user, with_user, held, dropped}
 use Rattle.af_ledger.specs.declared.count.Count.{Count}
 use Rattle.af_ledger.specs.declared.place.Place.{Place}
 use Rattle.af_ledger.specs.declared.place.Place.TheVariants.{Table, Queue}
@@ -26,12 +26,6 @@ found m f = unwrap_or (map.get m f) uncounted
 looked : (m : Map Count) (f g : ℕ) (c : Count) → found (map.insert m f c) g ≡ cond (nat_eq g f) c (found m g)
 looked m f g c = ap (λ o. unwrap_or o uncounted) (get-insert nat_cmp_total m f c g ∙ ap (λ b. cond b (Some c) (map.get m g)) (unsigned_tied g f)) ∙ by (nat_eq g f) where
   by : (b : Bool) → unwrap_or (cond b (Some c) (map.get m g)) uncounted ≡ cond b c (found m g)
-  by true = refl
-  by false = refl
-
-gone : (m : Map Count) (f g : ℕ) → found (map.remove m f) g ≡ cond (nat_eq g f) uncounted (found m g)
-gone m f g = ap (λ o. unwrap_or o uncounted) (get-remove nat_cmp_total m f g ∙ ap (λ b. cond b None (map.get m g)) (unsigned_tied g f)) ∙ by (nat_eq g f) where
-  by : (b : Bool) → unwrap_or (cond b None (map.get m g)) uncounted ≡ cond b uncounted (found m g)
   by true = refl
   by false = refl
 
@@ -49,27 +43,12 @@ stays F m f g c h = ap F (looked m f g c) ∙ by (nat_eq g f) refl where
   by true e = h ∙ ap (λ x. F (found m x)) (sym (eqb-true g f e))
   by false e = refl
 
--- One that falls by one, whether f is forgotten or not.
-falls : (F : Count → ℕ) (p : Place) (f g : ℕ) (k : Kept) → F (fewer p (count_of k f)) + 1 ≡ F (count_of k f) → (refs_of k f ≡ 1 → F uncounted + 1 ≡ F (count_of k f)) → F (found (counted_less p f k) g) + one g f ≡ F (count_of k g)
-falls F p f g k h last = by (nat_eq (refs_of k f) 1) refl where
-  here : (b : Bool) (c : Count) → F c + 1 ≡ F (count_of k f) → nat_eq g f ≡ b → F (cond b c (count_of k g)) + cond b 1 0 ≡ F (count_of k g)
-  here true c e s = e ∙ ap (λ x. F (count_of k x)) (sym (eqb-true g f s))
-  here false c e s = omega arith
-
-  by : (b : Bool) → nat_eq (refs_of k f) 1 ≡ b → F (found (cond b (map.remove k.counts f) (map.insert k.counts f (fewer p (count_of k f)))) g) + one g f ≡ F (count_of k g)
-  by true e = ap (λ x. F x + one g f) (gone k.counts f g) ∙ here (nat_eq g f) uncounted (last (eqb-true _ 1 e)) refl
-  by false e = ap (λ x. F x + one g f) (looked k.counts f g (fewer p (count_of k f))) ∙ here (nat_eq g f) (fewer p (count_of k f)) h refl
-
--- One that stays for all, whether f is forgotten or not.
-remains : (F : Count → ℕ) (p : Place) (f g : ℕ) (k : Kept) → F (fewer p (count_of k f)) ≡ F (count_of k f) → (refs_of k f ≡ 1 → F uncounted ≡ F (count_of k f)) → F (found (counted_less p f k) g) ≡ F (count_of k g)
-remains F p f g k h last = by (nat_eq (refs_of k f) 1) refl where
-  here : (b : Bool) (c : Count) → F c ≡ F (count_of k f) → nat_eq g f ≡ b → F (cond b c (count_of k g)) ≡ F (count_of k g)
-  here true c e s = e ∙ ap (λ x. F (count_of k x)) (sym (eqb-true g f s))
-  here false c e s = refl
-
-  by : (b : Bool) → nat_eq (refs_of k f) 1 ≡ b → F (found (cond b (map.remove k.counts f) (map.insert k.counts f (fewer p (count_of k f)))) g) ≡ F (count_of k g)
-  by true e = ap F (gone k.counts f g) ∙ here (nat_eq g f) uncounted (last (eqb-true _ 1 e)) refl
-  by false e = ap F (looked k.counts f g (fewer p (count_of k f))) ∙ here (nat_eq g f) (fewer p (count_of k f)) h refl
+-- One of f that falls by one, and of the others stays.
+falls : (F : Count → ℕ) (m : Map Count) (f g : ℕ) (c : Count) → F c + 1 ≡ F (found m f) → F (found (map.insert m f c) g) + one g f ≡ F (found m g)
+falls F m f g c h = ap (λ x. F x + one g f) (looked m f g c) ∙ by (nat_eq g f) refl where
+  by : (b : Bool) → nat_eq g f ≡ b → F (cond b c (found m g)) + cond b 1 0 ≡ F (found m g)
+  by true e = h ∙ ap (λ x. F (found m x)) (sym (eqb-true g f e))
+  by false e = omega arith
 
 -- A place more of f is a reference more to f, and to no other file.
 pub refs-held : (p : Place) (f g : ℕ) (k : Kept) → refs_of (held p f k) g ≡ refs_of k g + one g f
@@ -93,8 +72,8 @@ pub inflight-queued : (u f g : ℕ) (k : Kept) → (count_of (held (Queue u) f k
 inflight-queued u f g k = rises (λ c. c.inflight) k.counts f g (more (Queue u) (count_of k f)) refl
 
 -- The places that are left.
-left : (p : Place) (f g : ℕ) (k : Kept) → IsCounted p (count_of k f) → places_in (found (counted_less p f k) g) + one g f ≡ refs_of k g
-left p f g k some = falls places_in p f g k (by p some) (λ e. sym e) where
+left : (p : Place) (f g : ℕ) (k : Kept) → IsCounted p (count_of k f) → places_in (found (map.insert k.counts f (fewer p (count_of k f))) g) + one g f ≡ refs_of k g
+left p f g k some = falls places_in k.counts f g (fewer p (count_of k f)) (by p some) where
   by : (p : Place) → IsCounted p (count_of k f) → places_in (fewer p (count_of k f)) + 1 ≡ refs_of k f
   by Table h = omega arith
   by (Queue u) h = omega arith
@@ -105,28 +84,28 @@ refs-dropped Table f g k some = left Table f g k some
 refs-dropped (Queue u) f g k some = left (Queue u) f g k some
 
 -- Whether the place that goes is the last is seen before and after.
-pub last_left : (p : Place) (f : ℕ) (k new : Kept) → IsCounted p (count_of k f) → new.counts ≡ counted_less p f k → nat_eq (refs_of k f) 1 ≡ nat_eq (refs_of new f) 0
+pub last_left : (p : Place) (f : ℕ) (k new : Kept) → IsCounted p (count_of k f) → new.counts ≡ map.insert k.counts f (fewer p (count_of k f)) → nat_eq (refs_of k f) 1 ≡ nat_eq (refs_of new f) 0
 last_left p f k new some e =
-    let here = sym (left p f f k some) ∙ ap (λ b. places_in (found (counted_less p f k) f) + cond b 1 0) (eq-eqb f f refl) in
+    let here = sym (left p f f k some) ∙ ap (λ b. places_in (found (map.insert k.counts f (fewer p (count_of k f))) f) + cond b 1 0) (eq-eqb f f refl) in
     same _ _ (here ∙ ap (λ m. places_in (found m f) + 1) (sym e)) where
       same : (n m : ℕ) → n ≡ m + 1 → nat_eq n 1 ≡ nat_eq m 0
       same n m e = grind arith
 
 -- A number of a table less.
 pub tabled-untabled : (f g : ℕ) (k : Kept) → 0 < (count_of k f).tabled → (count_of (dropped Table f k) g).tabled + one g f ≡ (count_of k g).tabled
-tabled-untabled f g k some = falls (λ c. c.tabled) Table f g k (omega arith) (λ e. omega arith)
+tabled-untabled f g k some = falls (λ c. c.tabled) k.counts f g (fewer Table (count_of k f)) (omega arith)
 
 -- A number of a table less is no place in a queue.
-pub inflight-untabled : (f g : ℕ) (k : Kept) → 0 < (count_of k f).tabled → (count_of (dropped Table f k) g).inflight ≡ (count_of k g).inflight
-inflight-untabled f g k some = remains (λ c. c.inflight) Table f g k refl (λ e. omega arith)
+pub inflight-untabled : (f g : ℕ) (k : Kept) → (count_of (dropped Table f k) g).inflight ≡ (count_of k g).inflight
+inflight-untabled f g k = stays (λ c. c.inflight) k.counts f g (fewer Table (count_of k f)) refl
 
 -- A place in a queue less is no number of a table.
-pub tabled-unqueued : (u f g : ℕ) (k : Kept) → 0 < (count_of k f).inflight → (count_of (dropped (Queue u) f k) g).tabled ≡ (count_of k g).tabled
-tabled-unqueued u f g k some = remains (λ c. c.tabled) (Queue u) f g k refl (λ e. omega arith)
+pub tabled-unqueued : (u f g : ℕ) (k : Kept) → (count_of (dropped (Queue u) f k) g).tabled ≡ (count_of k g).tabled
+tabled-unqueued u f g k = stays (λ c. c.tabled) k.counts f g (fewer (Queue u) (count_of k f)) refl
 
 -- A place in a queue less.
 pub inflight-unqueued : (u f g : ℕ) (k : Kept) → 0 < (count_of k f).inflight → (count_of (dropped (Queue u) f k) g).inflight + one g f ≡ (count_of k g).inflight
-inflight-unqueued u f g k some = falls (λ c. c.inflight) (Queue u) f g k (omega arith) (λ e. omega arith)
+inflight-unqueued u f g k some = falls (λ c. c.inflight) k.counts f g (fewer (Queue u) (count_of k f)) (omega arith)
 
 -- What a user is charged in this list.
 abbrev charge_in : List (ℕ × ℕ) → ℕ → ℕ
@@ -206,3 +185,72 @@ charge-added u v k = by (is_user u k.users) where
   by : (b : Bool) → charge_in (cond b k.users (k.users ++ (u, 0) ∷ [])) v ≡ charge_of k v
   by true = refl
   by false = charge_last k.users u v
+
+-- What was looked up at a key that a map has is there.
+pub looked-there : (k : Kept) (f : ℕ) → IsTrue (has_count k f) → map.get k.counts f ≡ Some (count_of k f)
+looked-there k f = by (map.get k.counts f) where
+  by : (o : Option Count) → is_some o ≡ true → o ≡ Some (unwrap_or o uncounted)
+  by (Some c) h = refl
+  by None h = absurd (false≢true h)
+
+-- The numbers of f are kept where there is one.
+pub counted-there : (k : Kept) (f : ℕ) → 0 < refs_of k f → IsTrue (has_count k f)
+counted-there k f = by (map.get k.counts f) where
+  by : (o : Option Count) → 0 < places_in (unwrap_or o uncounted) → is_some o ≡ true
+  by (Some c) h = refl
+  by None h = absurd (omega arith)
+
+-- A change at f keeps whose numbers are kept, where those of f are.
+has-change : (m : Map Count) (f g : ℕ) (c : Count) → is_some (map.get m f) ≡ true → is_some (map.get (map.insert m f c) g) ≡ is_some (map.get m g)
+has-change m f g c there = ap is_some (get-insert nat_cmp_total m f c g ∙ ap (λ b. cond b (Some c) (map.get m g)) (unsigned_tied g f)) ∙ by (nat_eq g f) refl where
+  by : (b : Bool) → nat_eq g f ≡ b → is_some (cond b (Some c) (map.get m g)) ≡ is_some (map.get m g)
+  by true e = sym (ap (λ x. is_some (map.get m x)) (eqb-true g f e) ∙ there)
+  by false e = refl
+
+-- A place more changes nothing of whose numbers are kept.
+pub has-held : (p : Place) (f g : ℕ) (k : Kept) → IsTrue (has_count k f) → has_count (held p f k) g ≡ has_count k g
+has-held Table f g k there = has-change k.counts f g _ there
+has-held (Queue u) f g k there = has-change k.counts f g _ there
+
+-- Nor does a place less.
+pub has-dropped : (p : Place) (f g : ℕ) (k : Kept) → IsTrue (has_count k f) → has_count (dropped p f k) g ≡ has_count k g
+has-dropped Table f g k there = has-change k.counts f g _ there
+has-dropped (Queue u) f g k there = has-change k.counts f g _ there
+
+-- What a number is when f is entered: none had it before.
+pub count-entered : (k : Kept) (f g room : ℕ) → has_count k f ≡ false → count_of (record k { counts = map.insert k.counts f uncounted; room = room }) g ≡ count_of k g
+count-entered k f g room new = looked k.counts f g uncounted ∙ by (nat_eq g f) refl where
+  stranger : (o : Option Count) → is_some o ≡ false → unwrap_or o uncounted ≡ uncounted
+  stranger None e = refl
+  stranger (Some c) e = absurd (false≢true (sym e))
+
+  by : (b : Bool) → nat_eq g f ≡ b → cond b uncounted (count_of k g) ≡ count_of k g
+  by true e = sym (ap (count_of k) (eqb-true g f e) ∙ stranger (map.get k.counts f) new)
+  by false e = refl
+
+-- Whose numbers are kept when f is entered.
+pub has-entered : (k : Kept) (f g room : ℕ) → has_count (record k { counts = map.insert k.counts f uncounted; room = room }) g ≡ cond (nat_eq g f) true (has_count k g)
+has-entered k f g room = ap is_some (get-insert nat_cmp_total k.counts f uncounted g ∙ ap (λ b. cond b (Some uncounted) (map.get k.counts g)) (unsigned_tied g f)) ∙ by (nat_eq g f) where
+  by : (b : Bool) → is_some (cond b (Some uncounted) (map.get k.counts g)) ≡ cond b true (has_count k g)
+  by true = refl
+  by false = refl
+
+-- What a number is when f, which has no place, is struck out.
+pub count-struck : (k : Kept) (f g room : ℕ) → refs_of k f ≡ 0 → count_of (record k { counts = map.remove k.counts f; room = room }) g ≡ count_of k g
+count-struck k f g room none = ap (λ o. unwrap_or o uncounted) (get-remove nat_cmp_total k.counts f g ∙ ap (λ b. cond b None (map.get k.counts g)) (unsigned_tied g f)) ∙ by (nat_eq g f) refl where
+  bare : (c : Count) → places_in c ≡ 0 → uncounted ≡ c
+  bare c e =
+      let table : 0 ≡ c.tabled = omega (arith, e) in
+      let queue : 0 ≡ c.inflight = omega (arith, e) in
+      λ i. record { tabled = table i; inflight = queue i }
+
+  by : (b : Bool) → nat_eq g f ≡ b → unwrap_or (cond b None (map.get k.counts g)) uncounted ≡ count_of k g
+  by true e = bare (count_of k f) none ∙ sym (ap (count_of k) (eqb-true g f e))
+  by false e = refl
+
+-- Whose numbers are kept when f is struck out.
+pub has-struck : (k : Kept) (f g room : ℕ) → has_count (record k { counts = map.remove k.counts f; room = room }) g ≡ cond (nat_eq g f) false (has_count k g)
+has-struck k f g room = ap is_some (get-remove nat_cmp_total k.counts f g ∙ ap (λ b. cond b None (map.get k.counts g)) (unsigned_tied g f)) ∙ by (nat_eq g f) where
+  by : (b : Bool) → is_some (cond b None (map.get k.counts g)) ≡ cond b false (has_count k g)
+  by true = refl
+  by false = refl

@@ -1,3 +1,4 @@
-pub mod Counts
 pub mod Users
 pub mod Laws
+pub mod Waiting
+pub mod HeldAll

@@ -1,12 +1,17 @@
 -- What changes of the hash map of the users do to their list.
-use Rattle.std.proofs.Common.{◌≡◌, ℕ, ◌+◌, ◌-◌, ◌<◌, Bool, true, false, List, [], ◌∷◌, ◌++◌, sym, ap, ◌∙◌, subst, cond}
-use Rattle.std.specs.Prelude.{Some, None, nat_eq, unwrap_or, is_some}
-use Rattle.std.specs.Map.{lookup, set_value}
+use Rattle.std.proofs.Common.{◌≡◌, ℕ, ◌+◌, ◌-◌, ◌<◌, Bool, true, false, ◌||◌, List, [], ◌∷◌, ◌++◌, refl, sym, ap, ◌∙◌, subst, cond}
+use Rattle.std.specs.Prelude.{Some, None, nat_eq, unwrap_or, is_some, IsTrue}
+use Rattle.std.specs.List.{list_any}
+use Rattle.std.specs.Map.{keys_of, lookup, set_value}
+use Rattle.std.proofs.Math.Bool.{or-true}
+use Rattle.std.proofs.lemmas.List.Folds.{list_any-append}
 use Rattle.std.specs.Option.{option_map_or}
 use Rattle.indexmap.specs.IndexMap.{IndexMap, get, insert_entry}
 use Rattle.indexmap.proofs.CallerLemmas.{insert_entry-new}
 use Rattle.std.proofs.lemmas.Map.Made.{is_some-lookup}
+use Rattle.af_base.proofs.Lookups.{itself}
 use Rattle.af_ledger.specs.Kept.{recharged, is_user, with_user}
+use Rattle.af_ledger.proofs.Laws.{users-added}
 
 -- A charge that was looked up is low where the user's is.
 pub found_below : (us : List (ℕ × ℕ)) (u n b : ℕ) → Some n ≡ lookup (nat_eq u) us → unwrap_or (lookup (nat_eq u) us) 0 < b → n < b
@@ -43,3 +48,17 @@ user_added m new u none e =
 
 -- What changes of the hash map do to the list.
 pub ruleset user_changes = (found_below, found_above, raised, lowered, stays, user_kept, user_added)
+
+-- Who is a user is one where a user is added.
+pub user-stays : (u v : ℕ) (us : List (ℕ × ℕ)) → IsTrue (is_user u us) → IsTrue (is_user u (with_user v us))
+user-stays u v us h = ap (list_any (nat_eq u)) (users-added v us) ∙ by (list_any (nat_eq v) (keys_of us)) where
+  by : (b : Bool) → list_any (nat_eq u) (cond b (keys_of us) (keys_of us ++ v ∷ [])) ≡ true
+  by true = h
+  by false = list_any-append (nat_eq u) (keys_of us) (v ∷ []) ∙ ap (λ b. b || list_any (nat_eq u) (v ∷ [])) h
+
+-- Who is added is a user.
+pub user-added : (u : ℕ) (us : List (ℕ × ℕ)) → IsTrue (is_user u (with_user u us))
+user-added u us = ap (list_any (nat_eq u)) (users-added u us) ∙ by (list_any (nat_eq u) (keys_of us)) refl where
+  by : (b : Bool) → list_any (nat_eq u) (keys_of us) ≡ b → list_any (nat_eq u) (cond b (keys_of us) (keys_of us ++ u ∷ [])) ≡ true
+  by true e = e
+  by false e = list_any-append (nat_eq u) (keys_of us) (u ∷ []) ∙ ap (λ b. list_any (nat_eq u) (keys_of us) || (b || false)) (itself u) ∙ or-true (list_any (nat_eq u) (keys_of us))

@@ -1,16 +1,17 @@
 -- What a ledger keeps, and how a place more or less changes it.
-use Rattle.std.specs.Prelude.{ℕ, ◌+◌, ◌-◌, ◌<◌, ◌^◌, Bool, IsTrue, List, [], ◌∷◌, ◌++◌, nat_eq, unwrap_or, if◌then◌else◌}
+use Rattle.std.specs.Prelude.{ℕ, ◌+◌, ◌-◌, ◌<◌, ◌≤◌, ◌^◌, Bool, false, IsTrue, List, [], ◌∷◌, ◌++◌, length, nat_eq, unwrap_or, if◌then◌else◌}
 use Rattle.std.specs.FinMap as map
-use Rattle.std.specs.List.{list_any}
+use Rattle.std.specs.List.{Contains, list_any}
 use Rattle.std.specs.Map.{lookup, keys_of, set_value}
 use Rattle.std.specs.Option.{option_map_or}
 use Rattle.af_base.specs.World.{Map}
+use Rattle.af_base.specs.Counts.{count_in}
 use Rattle.af_ledger.specs.Counted.{uncounted, places_in, more, fewer, IsCountable, IsCounted}
 use Rattle.af_ledger.specs.declared.count.Count.{Count}
 use Rattle.af_ledger.specs.declared.place.Place.{Place}
 use Rattle.af_ledger.specs.declared.place.Place.TheVariants.{Table, Queue}
 
--- The numbers of each file that a place holds, each user with what it is charged, in the order in which they came, what is charged to all together, and for how many further files there is room (this project's own).
+-- The numbers of each file that was entered and not struck out since, each user with what it is charged, in the order in which they came, what is charged to all together, and for how many further files there is room (this project's own).
 pub record Kept : Type 0 where
   pub counts : Map Count
   pub users : List (ℕ × ℕ)
@@ -20,6 +21,14 @@ pub record Kept : Type 0 where
 -- The numbers of a file; all are 0 for a stranger (this project's own).
 abbrev pub count_of : Kept → ℕ → Count
 count_of k f = unwrap_or (map.get k.counts f) uncounted
+
+-- Whether the numbers of f are kept (this project's own).
+abbrev pub has_count : Kept → ℕ → Bool
+has_count k f = map.contains_key k.counts f
+
+-- Whether f waits: its numbers are kept, and no place holds it (close(2): the description goes with its last reference).
+abbrev pub is_waiting : Map Count → ℕ → Bool
+is_waiting m f = option_map_or (λ c. nat_eq (places_in c) 0) (map.get m f) false
 
 -- How many places hold a file (close(2): the description goes with its last reference).
 abbrev pub refs_of : Kept → ℕ → ℕ
@@ -55,13 +64,9 @@ charged_less (Queue u) k = record k { users = recharged (λ n. n - 1) u k.users;
 abbrev pub held : Place → ℕ → Kept → Kept
 held p f k = charged_more p (record k { counts = map.insert k.counts f (more p (count_of k f)) })
 
--- The counts after one place less holds f: after the last f is forgotten (this project's own).
-abbrev pub counted_less : Place → ℕ → Kept → Map Count
-counted_less p f k = if nat_eq (refs_of k f) 1 then map.remove k.counts f else map.insert k.counts f (fewer p (count_of k f))
-
 -- One place less holds f (this project's own).
 abbrev pub dropped : Place → ℕ → Kept → Kept
-dropped p f k = charged_less p (record k { counts = counted_less p f k })
+dropped p f k = charged_less p (record k { counts = map.insert k.counts f (fewer p (count_of k f)) })
 
 -- Who is charged is a user, and the charges are low enough for one unit more (this project's own).
 abbrev pub IsChargeable : Place → Kept → Type 0
@@ -76,6 +81,30 @@ IsCharged (Queue u) k = (0 < charge_of k u) × (0 < k.total)
 -- A place more of f can be counted and charged (this project's own).
 abbrev pub CanHold : Place → ℕ → Kept → Type 0
 CanHold p f k = IsCountable p (count_of k f) × IsChargeable p k
+
+-- A place in a queue more of each of these files can be counted, and charged to user u (this project's own).
+pub record CanHoldAll (u : ℕ) (fs : List ℕ) (k : Kept) : Type 0 where
+  pub known : (f : ℕ) → Contains fs f → IsTrue (has_count k f)
+  pub countable : (f : ℕ) → (count_of k f).inflight + length fs < 2 ^ 31
+  pub user : IsTrue (is_user u k.users)
+  pub charge : charge_of k u + length fs < 2 ^ 63
+  pub total : k.total + length fs < 2 ^ 63
+
+-- One place more holds each of these files (this project's own).
+abbrev pub held_all : Place → List ℕ → Kept → Kept
+held_all p [] k = k
+held_all p (f ∷ fs) k = held_all p fs (held p f k)
+
+-- A place in a queue of each of these files is counted, and charged to user u (this project's own).
+pub record CanDropAll (u : ℕ) (fs : List ℕ) (k : Kept) : Type 0 where
+  pub counted : (f : ℕ) → count_in f fs ≤ (count_of k f).inflight
+  pub charge : length fs ≤ charge_of k u
+  pub total : length fs ≤ k.total
+
+-- One place less holds each of these files (this project's own).
+abbrev pub dropped_all : Place → List ℕ → Kept → Kept
+dropped_all p [] k = k
+dropped_all p (f ∷ fs) k = dropped_all p fs (dropped p f k)
 
 -- A place of f is counted and charged (this project's own).
 abbrev pub CanDrop : Place → ℕ → Kept → Type 0

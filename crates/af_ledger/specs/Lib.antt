@@ -2,3 +2,4 @@
 pub mod Counted
 pub mod Kept
 pub mod Sending
+pub mod Waiting

@@ -1,10 +1,14 @@
 //! The ledger.
-ghost use Rattle.std.specs.Prelude.{◌≡◌, ℕ, ◌+◌, ◌-◌, ◌≤◌, ◌<◌, ◌^◌, [], Some, None, IsTrue, IsOk, IfErr, OnOk, OnErr, nat_eq, slice_get};
+ghost use Rattle.std.specs.Prelude.{◌≡◌, ℕ, ◌+◌, ◌-◌, ◌≤◌, ◌<◌, ◌^◌, [], Some, None, true, false, not, ◌&&◌, IsTrue, IsOk, IfErr, IfSome, IfNone, OnOk, OnErr, length, nat_eq, slice_get, vec_capacity};
 ghost use Rattle.std.specs.FinMap as map;
 ghost use Rattle.std.specs.Map.{keys_of};
-ghost use Rattle.af_ledger.specs.Counted.{more, IsCountable, IsCounted};
-ghost use Rattle.af_ledger.specs.Kept.{Kept, count_of, refs_of, charge_of, is_user, with_user, charged_more, charged_less, counted_less, held, dropped, IsChargeable, IsCharged, CanHold, CanDrop};
+ghost use Rattle.af_ledger.specs.Counted.{fewer, more, places_in, uncounted, IsCountable, IsCounted};
+ghost use Rattle.af_ledger.specs.Kept.{Kept, count_of, refs_of, charge_of, is_user, with_user, has_count, is_waiting, held_all, dropped_all, CanHoldAll, CanDropAll, charged_more, charged_less, held, dropped, IsChargeable, IsCharged, CanHold, CanDrop};
 ghost use Rattle.af_ledger.specs.Sending.{send_refusal};
+ghost use Rattle.af_ledger.specs.Waiting.{count_in_entries, is_known};
+ghost use Rattle.std.specs.HashMap.{spare};
+ghost use Rattle.std.specs.List.{IsDistinct, list_any};
+ghost use Rattle.std.specs.Ordering.{nat_cmp};
 
 use crate::count::Count;
 use crate::place::Place;
@@ -15,26 +19,32 @@ use indexmap::IndexMap;
 use std::alloc::{AllocError, Global};
 use std::marker::Model;
 
-/// The numbers of each file that a place holds, and the users in the order in which they came, each
-/// with what it is charged. A user is never removed.
+/// The numbers of each file, from its entry until it is struck out, and the users in the order in
+/// which they came, each with what it is charged. A user is never removed.
 #[derive(Drop)]
 pub struct Ledger {
     counts: IndexMap<Ino, Count>,
+    /// The files that no place holds.
+    waiting: Vec<Ino>,
     users: IndexMap<Uid, u64>,
     total: u64,
 }
 
 impl Model for Ledger {
+    ghost use Rattle.std.specs.Prelude.{vec_capacity};
     ghost use Rattle.std.specs.FinMap as map;
     ghost use Rattle.std.specs.HashMap.{spare};
     ghost use Rattle.std.specs.Coded.{codes};
     ghost use Rattle.af_ledger.specs.Kept.{Kept};
+    ghost use Rattle.af_ledger.specs.Waiting.{AreWaiting, room_left};
 
     ghost Value = { Kept };
 
     ghost coded = { Prim.hlevel (codes, map.code) };
 
-    ghost view = { λ a. record { counts = map.from_entries a.counts.entries; users = a.users.entries; total = a.total; room = spare a.counts } };
+    ghost view = { λ a. record { counts = map.from_entries a.counts.entries; users = a.users.entries; total = a.total; room = room_left (map.from_entries a.counts.entries) (spare a.counts) (vec_capacity a.waiting) } };
+
+    ghost invariant = { λ a. AreWaiting (map.from_entries a.counts.entries) a.waiting.items (vec_capacity a.waiting) };
 }
 
 impl Ledger {
@@ -46,6 +56,7 @@ impl Ledger {
     {
         Ledger {
             counts: IndexMap::new(alloc),
+            waiting: Vec::new(alloc),
             users: IndexMap::new(alloc),
             total: 0,
         }
@@ -100,6 +111,13 @@ impl Ledger {
         self.total
     }
 
+    /// How many users there are.
+    pub fn users(&self) -> usize
+        ensures { result ≡ length (keys_of self.now.users) }
+    {
+        self.users.len()
+    }
+
     /// The i-th user, counted from 0 in the order in which they came, if there are so many.
     pub fn user_at(&self, i: usize) -> Option<Uid>
         ensures { result ≡ slice_get (keys_of self.now.users) i }
@@ -131,7 +149,7 @@ impl Ledger {
         Ok(())
     }
 
-    /// Room for so many further files: then `hold` needs no memory for them. Nothing else changes,
+    /// Room for so many further files: then `enter` needs no memory for them. Nothing else changes,
     /// also on an error.
     pub fn reserve(&mut self, files: usize) -> Result<(), AllocError>
         ensures same { self.new ≡ record self.old { room = self.new.room } }
@@ -139,7 +157,12 @@ impl Ledger {
         ensures room { self.old.room ≤ self.new.room }
         ensures succeeds { files ≤ self.old.room → IsOk result }
     {
-        self.counts.reserve(files)
+        self.counts.reserve(files)?;
+        let wanted = self.counts.len().saturating_add(files);
+        if wanted <= self.waiting.capacity() {
+            return Ok(());
+        }
+        self.waiting.reserve(wanted - self.waiting.len())
     }
 
     /// A user, last if it is new, and then charged nothing. A user that is there needs no memory.
@@ -157,44 +180,57 @@ impl Ledger {
         Ok(())
     }
 
-    /// One place more in the counts of a file.
+    /// A file more, of which no place is counted yet: it waits. There is room for it.
     #[tactic(auto, using(af_base::proofs::Hashed::hash_changes))]
-    fn raise(&mut self, place: &Place, ino: Ino)
-        requires room { self.old.room ≡ 0 → 0 < refs_of self.old ino }
-        requires countable { IsCountable place.now (count_of self.old ino) }
-        ensures counts { self.new.counts ≡ map.insert self.old.counts ino (more place.now (count_of self.old ino)) }
-        ensures users { self.new.users ≡ self.old.users }
-        ensures total { self.new.total ≡ self.old.total }
+    pub fn enter(&mut self, ino: Ino)
+        requires room { 0 < self.old.room }
+        requires new { has_count self.old ino ≡ false }
+        ensures entered { self.new ≡ record self.old { counts = map.insert self.old.counts ino uncounted; room = self.new.room } }
         ensures room { self.old.room ≤ self.new.room + 1 }
-        ensures known { 0 < refs_of self.old ino → self.old.room ≤ self.new.room }
     {
-        if let Some(count) = self.counts.get_mut(&ino) {
-            count.add(place);
-            return;
-        }
-        let mut count = Count::none();
-        count.add(place);
-        self.counts.insert(ino, count).unwrap();
+        self.counts.insert(ino, Count::none()).unwrap();
+        self.waiting.push_reserved(ino);
     }
 
-    /// One place less in the counts of a file. Whether it was the last.
-    #[tactic(auto, using(af_base::proofs::Hashed::hash_changes))]
-    fn lower(&mut self, place: &Place, ino: Ino) -> bool
-        requires { IsCounted place.now (count_of self.old ino) }
-        ensures counts { self.new.counts ≡ counted_less place.now ino self.old }
-        ensures users { self.new.users ≡ self.old.users }
-        ensures total { self.new.total ≡ self.old.total }
-        ensures room { self.old.room ≤ self.new.room }
-        ensures last { result ≡ nat_eq (refs_of self.old ino) 1 }
+    /// A file that waits, if there is one.
+    pub fn next_waiting(&self) -> Option<Ino>
+        ensures some { IfSome result (λ f. is_waiting self.now.counts f ≡ true) }
+        ensures none { IfNone result ((f : ℕ) → is_waiting self.now.counts f ≡ false) }
     {
-        if self.refs(ino) == 1 {
-            self.counts.swap_remove(&ino);
-            return true;
+        self.waiting.last().copied()
+    }
+
+    /// The numbers of a file are kept no more, and it does not wait. It takes no memory.
+    #[tactic(auto, using(af_base::proofs::Hashed::hash_changes))]
+    pub fn strike_out(&mut self, ino: Ino)
+        ensures struck_out { self.new ≡ record self.old { counts = map.remove self.old.counts ino; room = self.new.room } }
+        ensures room { self.old.room ≤ self.new.room }
+    {
+        self.counts.swap_remove(&ino);
+        take_off(&mut self.waiting, ino);
+    }
+
+    /// One place more in the counts of a file. If it waited, it does so no more.
+    fn raise(&mut self, place: &Place, ino: Ino)
+        requires known { IsTrue (has_count self.old ino) }
+        requires countable { IsCountable place.now (count_of self.old ino) }
+        ensures { self.new ≡ record self.old { counts = map.insert self.old.counts ino (more place.now (count_of self.old ino)) } }
+    {
+        let first = add_place(&mut self.counts, place, ino);
+        if first {
+            take_off(&mut self.waiting, ino);
         }
-        if let Some(count) = self.counts.get_mut(&ino) {
-            count.sub(place);
+    }
+
+    /// One place less in the counts of a file. If that was the last, it waits.
+    fn lower(&mut self, place: &Place, ino: Ino)
+        requires { IsCounted place.now (count_of self.old ino) }
+        ensures { self.new ≡ record self.old { counts = map.insert self.old.counts ino (fewer place.now (count_of self.old ino)) } }
+    {
+        let last = sub_place(&mut self.counts, place, ino);
+        if last {
+            self.waiting.push_reserved(ino);
         }
-        false
     }
 
     /// One unit of charge more.
@@ -223,14 +259,12 @@ impl Ledger {
         *charge -= 1;
     }
 
-    /// One place more holds a file; a place in a queue is charged to its user, who was added before.
-    /// It takes no memory: a file that no place held takes up room for one, and the others none.
+    /// One place more holds a file, whose numbers are kept; a place in a queue is charged to its
+    /// user, who was added before. It takes no memory.
     pub fn hold(&mut self, place: Place, ino: Ino)
-        requires room { self.old.room ≡ 0 → 0 < refs_of self.old ino }
+        requires known { IsTrue (has_count self.old ino) }
         requires fits { CanHold place ino self.old }
-        ensures held { self.new ≡ record (held place ino self.old) { room = self.new.room } }
-        ensures room { self.old.room ≤ self.new.room + 1 }
-        ensures known { 0 < refs_of self.old ino → self.old.room ≤ self.new.room }
+        ensures { self.new ≡ held place ino self.old }
     {
         self.raise(&place, ino);
         if let Place::Queue(uid) = place {
@@ -239,18 +273,81 @@ impl Ledger {
     }
 
     /// One place less holds a file; one in a queue is no longer charged to its user. There is such a
-    /// place: it was counted and charged. It answers whether that was the last place: then the file
-    /// is forgotten. It takes no memory.
-    pub fn drop_one(&mut self, place: Place, ino: Ino) -> bool
-        requires counted { CanDrop place ino self.old }
-        ensures dropped { self.new ≡ record (dropped place ino self.old) { room = self.new.room } }
-        ensures room { self.old.room ≤ self.new.room }
-        ensures last { result ≡ nat_eq (refs_of self.new ino) 0 }
+    /// place: it was counted and charged. After the last, the file waits. It takes no memory.
+    pub fn drop_one(&mut self, place: Place, ino: Ino)
+        requires { CanDrop place ino self.old }
+        ensures { self.new ≡ dropped place ino self.old }
     {
-        let last = self.lower(&place, ino);
+        self.lower(&place, ino);
         if let Place::Queue(uid) = place {
             self.free(uid);
         }
-        last
     }
+
+    /// One place more in a queue holds each of these files, charged to the user. It takes no memory.
+    pub fn hold_all(&mut self, user: Uid, inos: &[Ino])
+        requires { CanHoldAll user inos.now self.old }
+        ensures { self.new ≡ held_all (Place.Queue user) inos.now self.old }
+    {
+        for ino in inos {
+            self.hold(Place::Queue(user), *ino);
+        }
+    }
+
+    /// One place less in a queue holds each of these files, which were charged to the user. It takes
+    /// no memory.
+    pub fn drop_all(&mut self, user: Uid, inos: &[Ino])
+        requires { CanDropAll user inos.now self.old }
+        ensures { self.new ≡ dropped_all (Place.Queue user) inos.now self.old }
+    {
+        for ino in inos {
+            self.drop_one(Place::Queue(user), *ino);
+        }
+    }
+}
+
+/// One place more of a file, whose numbers are kept. Whether it had none.
+#[tactic(auto, using(af_base::proofs::Hashed::hash_changes))]
+fn add_place(counts: &mut IndexMap<Ino, Count>, place: &Place, ino: Ino) -> bool
+    requires known { IsTrue (is_known counts.old.entries ino) }
+    requires countable { IsCountable place.now (count_in_entries counts.old.entries ino) }
+    ensures counts { map.from_entries {R = nat_cmp} counts.new.entries ≡ map.insert (map.from_entries counts.old.entries) ino (more place.now (count_in_entries counts.old.entries ino)) }
+    ensures spare { spare counts.new ≡ spare counts.old }
+    ensures first { result ≡ nat_eq (places_in (count_in_entries counts.old.entries ino)) 0 }
+{
+    let count = counts.get_mut(&ino).unwrap();
+    let first = count.places() == 0;
+    count.add(place);
+    first
+}
+
+/// One place less of a file, which has one. Whether it was the last.
+#[tactic(auto, using(af_base::proofs::Hashed::hash_changes))]
+fn sub_place(counts: &mut IndexMap<Ino, Count>, place: &Place, ino: Ino) -> bool
+    requires { IsCounted place.now (count_in_entries counts.old.entries ino) }
+    ensures counts { map.from_entries {R = nat_cmp} counts.new.entries ≡ map.insert (map.from_entries counts.old.entries) ino (fewer place.now (count_in_entries counts.old.entries ino)) }
+    ensures spare { spare counts.new ≡ spare counts.old }
+    ensures last { result ≡ nat_eq (places_in (count_in_entries counts.old.entries ino)) 1 }
+{
+    let count = counts.get_mut(&ino).unwrap();
+    let last = count.places() == 1;
+    count.sub(place);
+    last
+}
+
+/// The file is in the list no more.
+fn take_off(waiting: &mut Vec<Ino>, ino: Ino)
+    requires { IsDistinct nat_eq waiting.old.items }
+    ensures each { (f : ℕ) → list_any (nat_eq f) waiting.new.items ≡ (not (nat_eq f ino) && list_any (nat_eq f) waiting.old.items) }
+    ensures once { IsDistinct nat_eq waiting.new.items }
+    ensures capacity { vec_capacity waiting.new ≡ vec_capacity waiting.old }
+{
+    // Most who wait no more were the last who came.
+    if let Some(last) = waiting.last()
+        && *last == ino
+    {
+        waiting.pop();
+        return;
+    }
+    waiting.retain(|other| *other != ino);
 }

@@ -11,19 +11,26 @@ fn a_file_comes_and_goes(rt: HostRuntime) -> Result<(), Fail> {
     let (user, file) = (Uid(1000), Ino(1));
     ledger.add_user(user)?;
     ledger.reserve(1)?;
+    ledger.enter(file);
+    assert_eq!(rt; ledger.next_waiting(), Some(file));
     ledger.hold(Place::Queue(user), file);
+    assert_eq!(rt; ledger.next_waiting(), None);
     assert!(rt; ledger.may_send(user, 0, false, 1) == Err(Errno::ETOOMANYREFS));
     assert!(rt; ledger.may_send(user, 0, true, 1).is_ok());
     assert_eq!(rt; ledger.tabled(file), 0);
     ledger.hold(Place::Table, file);
     assert_eq!(rt; ledger.refs(file), 2);
     assert_eq!(rt; ledger.tabled(file), 1);
-    assert!(rt; !ledger.drop_one(Place::Table, file));
+    ledger.drop_one(Place::Table, file);
+    assert_eq!(rt; ledger.next_waiting(), None);
     assert_eq!(rt; ledger.inflight(file), 1);
     assert_eq!(rt; ledger.charged(user), 1);
     assert_eq!(rt; ledger.total(), 1);
-    assert!(rt; ledger.drop_one(Place::Queue(user), file));
+    ledger.drop_one(Place::Queue(user), file);
     assert_eq!(rt; ledger.refs(file), 0);
+    assert_eq!(rt; ledger.next_waiting(), Some(file));
+    ledger.strike_out(file);
+    assert_eq!(rt; ledger.next_waiting(), None);
     Ok(())
 }
 

@@ -1,29 +1,22 @@
 -- A table copied, number by number.
-use Rattle.std.proofs.Common.{◌≡◌, ◌<◌, ◌≤◌, ℕ, ◌+◌, List, inl, inr, sym, ap, ◌∙◌, subst, arith}
-use Rattle.std.specs.Prelude.{Some, None, false, IsTrue, is_some, unwrap_or}
+use Rattle.std.proofs.Common.{◌≡◌, ◌<◌, ◌≤◌, ℕ, ◌+◌, inl, inr, sym, ap, ◌∙◌, subst, arith}
+use Rattle.std.specs.Prelude.{Some, None, IsTrue, is_some, unwrap_or}
 use Rattle.std.specs.Option.{option_map_or}
-use Rattle.std.specs.Ordering.{nat_cmp}
 use Rattle.std.specs.Cmp.{nat_cmp_total}
+use Rattle.std.specs.Ordering.{nat_cmp}
 use Rattle.std.specs.FinMap as map
 use Rattle.std.specs.FinMap.{nat_cmp-IsAntisymmetric}
-use Rattle.std.proofs.lemmas.Bool.{cases_lt, false≢true}
-use Rattle.af_base.specs.World.{Map, Message, Process, World}
-use Rattle.af_base.specs.Places.{table_at}
+use Rattle.std.proofs.lemmas.Bool.{cases_lt}
+use Rattle.af_base.specs.World.{IsLive, Map, Process, World}
+use Rattle.af_base.specs.Places.{number_in, table_at}
 use Rattle.af_base.specs.Changes.{add_process, install}
-use Rattle.af_base.specs.Refusals.{is_crowded, no_process, process_at}
-use Rattle.af_base.specs.declared.limits.TheConstants.{MAX_NOFILE}
-use Rattle.af_base.proofs.Born.{whole-add_process}
-use Rattle.af_base.proofs.Lookups.{insert-here, insert-other, none_some, not_same, same_or_not, told_apart}
+use Rattle.af_base.specs.Whole.{IsSound}
+use Rattle.af_base.specs.Refusals.{no_process, process_at}
+use Rattle.af_base.proofs.Lookups.{insert-here, insert-other, not_same, same_or_not, some_same, told_apart}
 use Rattle.af_base.proofs.Moved.{there-table}
 use Rattle.af_base.proofs.Trees.{insert_same}
-use Rattle.af_base.proofs.Within.{within-add_process}
-use Rattle.af_ledger.specs.declared.place.Place.TheVariants.{Table}
-use Rattle.af_ledger.specs.Kept.{Kept, held, is_user}
-use Rattle.af_steps.specs.Agreement.{IsSteady}
-use Rattle.af_steps.specs.Stored.{Stored}
-use Rattle.af_steps.proofs.Agreement.{agrees-add_process}
-use Rattle.af_steps.proofs.Shedding.{steady-up-to-room}
-use Rattle.af_steps.proofs.Steady.{steady-installed}
+use Rattle.af_collect.specs.Limits.{IsBelowLimit}
+use Rattle.af_table.specs.Procs.{row_in}
 
 -- A value put twice is put once.
 pub insert_twice : {X : Type 0} (m : Map X) (k : ℕ) (x y : X) → map.insert (map.insert m k x) k y ≡ map.insert m k y
@@ -89,57 +82,82 @@ module _ (w0 : World) (child : ℕ) (q : Process) (from : ℕ) (w : World) (c : 
 pub copying-open : (w0 : World) (child : ℕ) (q : Process) (from : ℕ) (w : World) → Copying w0 child q from w → (p : ℕ) → ¬ (child ≡ p) → map.get w0.processes p ≡ Some q → (n : ℕ) → table_at w p n ≡ map.get q.table n
 copying-open w0 child q from w c p apart at n = there-table w p n q (copying-other w0 child q from w c p apart ∙ at)
 
--- A number that is open now, as a store shows it, was open at first.
-pub copying-was : (w0 : World) (child : ℕ) (q : Process) (from : ℕ) (inside now : Stored) (p n f : ℕ) → inside ≡ now → Copying w0 child q from now.world → ¬ (child ≡ p) → map.get w0.processes p ≡ Some q → table_at inside.world p n ≡ Some f → table_at w0 p n ≡ Some f
-copying-was w0 child q from inside now p n f same c apart at is =
-    there-table w0 p n q at ∙ sym (copying-open w0 child q from now.world c p apart at n) ∙ ap (λ (s : Stored). table_at s.world p n) (sym same) ∙ is
+-- A number of the process that is copied, which the processes of the world show.
+module _ (w0 : World) (child : ℕ) (q : Process) (from : ℕ) (w : World) (c : Copying w0 child q from w) (p : ℕ) (apart : ¬ (child ≡ p)) (at : map.get w0.processes p ≡ Some q) (shown : Map Process) (same : shown ≡ w.processes) where
+  -- What it stands for, in the table of the process.
+  pub shown-is : (n : ℕ) → number_in shown p n ≡ map.get q.table n
+  shown-is n = ap (λ m. number_in m p n) same ∙ copying-open w0 child q from w c p apart at n
+
+  -- Nothing is left to copy.
+  pub shown-done : ((m : ℕ) → from ≤ m → number_in shown p m ≡ None) → w ≡ record w0 { processes = map.insert w0.processes child q }
+  shown-done none = copying-done w0 child q from w c (λ m over. sym (shown-is m) ∙ none m over)
+
+  module _ (n f : ℕ) (stands : number_in shown p n ≡ Some f) (past : from ≤ n) where
+    -- It stood for that at first.
+    pub shown-was : table_at w0 p n ≡ Some f
+    shown-was = there-table w0 p n q at ∙ sym (shown-is n) ∙ stands
+
+    -- The child is there, has the number free, and has it below its limit.
+    pub child-there : IsTrue (map.contains_key w.processes child)
+    child-there = ap is_some (copying-child w0 child q from w c)
+
+    pub child-free : table_at w child n ≡ None
+    child-free = there-table w child n (part w0 child q from w c) (copying-child w0 child q from w c) ∙ c.above n past
+
+    pub child-limit : n < q.limit → IsBelowLimit w child n
+    child-limit low r is = subst (λ (x : Process). n < x.limit) (some_same (part w0 child q from w c) r (sym (copying-child w0 child q from w c) ∙ is)) low
+
+    -- What is live at first is live.
+    pub copied-live : IsLive w0 f → IsLive w f
+    copied-live live = ap (λ (v : World). map.contains_key v.files f) c.world ∙ live
+
+    -- One number more is copied.
+    pub shown-more : ((m : ℕ) → from ≤ m → m < n → number_in shown p m ≡ None) → (new : World) → new ≡ install w child n f → Copying w0 child q (n + 1) new
+    shown-more between new is = subst (Copying w0 child q (n + 1)) (sym is) (copying-more w0 child q from w c n f past (λ m over under. sym (shown-is m) ∙ between m over under) (sym (shown-is n) ∙ stands))
 
 -- What is below a row is below the same row.
-pub below-row : (new old : Map ℕ) (p n : ℕ) → new ≡ old → n < unwrap_or (map.get old p) 0 → n < unwrap_or (map.get new p) 0
-below-row new old p n same low = subst (λ r. n < unwrap_or (map.get r p) 0) (sym same) low
-
--- One number more is copied, and all stays steady.
-pub copying-step : (w0 : World) (child : ℕ) (q : Process) (from : ℕ) (inside s new : Stored) (p n f : ℕ) → inside ≡ s → IsSteady s.world s.pending s.kept → Copying w0 child q from s.world → ¬ (child ≡ p) → map.get w0.processes p ≡ Some q
-    → table_at inside.world p n ≡ Some f → from ≤ n → ((m : ℕ) → from ≤ m → m < n → table_at inside.world p m ≡ None)
-    → new.world ≡ install s.world child n f → new.kept ≡ record (held Table f s.kept) { room = new.kept.room } → new.pending ≡ s.pending
-    → IsSteady new.world new.pending new.kept × Copying w0 child q (n + 1) new.world
-copying-step w0 child q from inside s new p n f same h c apart at opened past between world kept pending =
-    let shows : (m : ℕ) → table_at inside.world p m ≡ map.get q.table m = λ m. ap (λ (v : Stored). table_at v.world p m) same ∙ copying-open w0 child q from s.world c p apart at m in
-    let stands : map.get q.table n ≡ Some f = sym (shows n) ∙ opened in
-    let there = copying-other w0 child q from s.world c p apart ∙ at in
-    let low = (h.within.processes p q there).numbers n (ap is_some stands) in
-    let live = h.whole.tables_live f (p, n, ap (λ (v : Stored). table_at v.world p n) (sym same) ∙ opened) in
-    let more = steady-installed s.world child n f (part w0 child q from s.world c) s.pending s.kept h (copying-child w0 child q from s.world c) (c.above n past) low live in (
-      steady-up-to-room (install s.world child n f) new.world s.pending new.pending (held Table f s.kept) new.kept more world pending kept,
-      subst (Copying w0 child q (n + 1)) (sym world) (copying-more w0 child q from s.world c n f past (λ m over under. sym (shows m) ∙ between m over under) stands),
-    )
+pub below-row : (new old : Map ℕ) (p n : ℕ) → new ≡ old → n < row_in old p → n < row_in new p
+below-row new old p n same low = subst (λ r. n < row_in r p) (sym same) low
 
 -- A process that is added changes no other.
 pub forked-parent : (w : World) (e : Process) (p : ℕ) → ¬ (w.next_pid ≡ p) → map.get (add_process w e).processes p ≡ map.get w.processes p
 forked-parent w e p apart = insert-other w.processes w.next_pid e p (told_apart p w.next_pid (λ s. apart (sym s)))
 
--- A process more with an empty table, whose user is kept.
-pub steady-added : (w : World) (q : Process) (ps : List Message) (k : Kept) → IsSteady w ps k → is_crowded w ≡ false → IsTrue (is_user q.user k.users) → q.table ≡ map.empty → q.limit ≤ MAX_NOFILE → IsSteady (add_process w q) ps k
-steady-added w q ps k h room user empty low = record {
-  whole = whole-add_process w q h.whole (λ n f is. absurd (none_some f (sym (nothing n) ∙ is)));
-  within = within-add_process w q h.within room (record { limit = low; numbers = λ n l. absurd (false≢true (sym (ap is_some (nothing n)) ∙ l)) });
-  agrees = agrees-add_process w q ps k h.whole empty user h.agrees;
-  held = h.held;
-  live = h.live;
-  few = h.few;
-} where
-  nothing : (n : ℕ) → map.get q.table n ≡ None
-  nothing n = ap (λ t. map.get t n) empty ∙ map.get-empty nat_cmp n
-
--- The world with a copy of a process is that with an empty one, whose table is then filled.
-pub filled : (w : World) (e q : Process) → record (add_process w e) { processes = map.insert (add_process w e).processes w.next_pid q } ≡ add_process w q
-filled w e q = ap (λ m. record w { processes = m; next_pid = w.next_pid + 1 }) (insert_twice w.processes w.next_pid e q)
+-- The next pid is none of those that are there.
+pub next-apart : (w : World) (p : ℕ) (q : Process) → map.get w.processes p ≡ Some q → IsSound w → ¬ (w.next_pid ≡ p)
+next-apart w p q at sound same = let low = sound.whole.processes_numbered p (ap is_some at) in omega (arith, low, same)
 
 -- A child whose table was empty at first, and is filled with what its parent has.
-pub forked : (w grown new : World) (child p : ℕ) → ¬ (w.next_pid ≡ p) → grown ≡ add_process w (record (process_at w p) { table = map.empty }) → child ≡ w.next_pid
-    → new ≡ record grown { processes = map.insert grown.processes child (process_at grown p) } → new ≡ add_process w (process_at w p)
-forked w grown new child p apart is number after =
-    let q = process_at w p in
-    let e : Process = record q { table = map.empty } in
-    let same : process_at grown p ≡ q = ap (λ (v : World). unwrap_or (map.get v.processes p) no_process) is ∙ ap (λ o. unwrap_or o no_process) (forked-parent w e p apart) in
-    after ∙ (λ i. record (is i) { processes = map.insert (is i).processes (number i) (same i) }) ∙ filled w e q
+module _ (w grown : World) (p : ℕ) (q : Process) (at : map.get w.processes p ≡ Some q) (child : ℕ) (apart : ¬ (w.next_pid ≡ p)) (is : grown ≡ add_process w (record (process_at w p) { table = map.empty })) (number : child ≡ w.next_pid) where
+  is_process : process_at w p ≡ q
+  is_process = ap {B = Process} (λ o. unwrap_or o no_process) at
+
+  pub parent-at : map.get grown.processes p ≡ Some q
+  parent-at = ap (λ (v : World). map.get v.processes p) is ∙ forked-parent w (record (process_at w p) { table = map.empty }) p apart ∙ at
+
+  pub parent-is : process_at grown p ≡ q
+  parent-is = ap {B = Process} (λ o. unwrap_or o no_process) parent-at
+
+  pub parent-there : map.get grown.processes p ≡ Some (process_at grown p)
+  parent-there = parent-at ∙ ap Some (sym parent-is)
+
+  pub child-apart : ¬ (child ≡ p)
+  child-apart same = apart (sym number ∙ same)
+
+  pub child-at : map.get grown.processes child ≡ Some (record (process_at grown p) { table = map.empty })
+  child-at =
+      (λ i. map.get (is i).processes (number i)) ∙ insert-here w.processes w.next_pid (record (process_at w p) { table = map.empty })
+      ∙ ap (λ (r : Process). Some (record r { table = map.empty })) (is_process ∙ sym parent-is)
+
+  pub grown-table : (n : ℕ) → table_at grown p n ≡ table_at w p n
+  grown-table n = there-table grown p n q parent-at ∙ sym (there-table w p n q at)
+
+  pub grown-live : (f : ℕ) → IsLive w f → IsLive grown f
+  grown-live f live = ap (λ (v : World). map.contains_key v.files f) is ∙ live
+
+  pub forked : (new : World) → new ≡ record grown { processes = map.insert grown.processes child (process_at grown p) } → new ≡ add_process w (process_at w p)
+  forked new after =
+      let e : Process = record (process_at w p) { table = map.empty } in
+      after ∙ (λ i. record (is i) { processes = map.insert (is i).processes (number i) (parent-is i) })
+      ∙ ap (λ m. record w { processes = m; next_pid = w.next_pid + 1 }) (insert_twice w.processes w.next_pid e q)
+      ∙ ap (add_process w) (sym is_process)

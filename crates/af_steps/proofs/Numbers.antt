@@ -1,41 +1,75 @@
 -- Steps that take the lowest free number, or one in place of another, into use.
 use Rattle.std.proofs.Common.{◌≡◌, ◌<◌, ◌≤◌, ℕ, true, false, ◌&&◌, [], ◌∷◌, length, refl, sym, ap, ◌∙◌, subst, nat_eq, arith}
-use Rattle.std.specs.Prelude.{Some, None, not, is_some, is_none, unwrap_or, nat_le, slice_get, slice_index, get_or, if◌then◌else◌}
+use Rattle.std.specs.Prelude.{Some, None, IsTrue, not, is_some, is_none, unwrap_or, nat_le, slice_get, slice_index, get_or, if◌then◌else◌}
 use Rattle.std.specs.FinMap as map
 use Rattle.std.proofs.lemmas.Bool.{le-ltb, lt-leb}
 use Rattle.std.proofs.lemmas.Grind.{get_or_default_zero}
 use Rattle.std.proofs.lemmas.Option.{get_or_from_slice_get, slice_get_within}
-use Rattle.af_base.specs.declared.errno.Errno.TheVariants.{EBADF, EMFILE, ENFILE, ESRCH}
+use Rattle.af_base.specs.declared.errno.Errno.TheVariants.{EBADF, EMFILE, ENFILE, ENOMEM, ESRCH}
 use Rattle.af_base.specs.declared.events.Reply.TheVariants as reply
 use Rattle.af_base.specs.declared.events.Step.TheVariants as step
 use Rattle.af_base.specs.World.{Plain, Process, World}
-use Rattle.af_base.specs.Places.{table_at}
-use Rattle.af_base.specs.Changes.{add_file, install}
+use Rattle.af_base.specs.Places.{number_in, table_at}
+use Rattle.af_base.specs.Changes.{add_file, install, uninstall}
 use Rattle.af_base.specs.Refusals.{ino_on, is_beyond, is_full, is_short, no_process, process_at, refusal, step_row}
-use Rattle.af_base.specs.Steps.{ProcessStep, answer, effect, free_at}
+use Rattle.af_base.specs.Steps.{ProcessStep, effect, free_at}
 use Rattle.af_base.specs.Table.{free_numbers}
-use Rattle.af_base.specs.Unheld.{IsSettled, Settles}
+use Rattle.af_base.specs.Unheld.{Settles}
 use Rattle.af_base.specs.Whole.{IsSound}
 use Rattle.af_base.proofs.Free.{AreFree, free-free_numbers}
+use Rattle.af_base.proofs.Lookups.{some_same}
 use Rattle.af_base.proofs.Moved.{there-table}
-use Rattle.af_base.proofs.Opened.{settled-opened}
-use Rattle.af_base.proofs.Settled.{settled-install}
 use Rattle.af_base.proofs.Settling.{settles_none}
-use Rattle.af_base.proofs.Stepping.{accepted}
+use Rattle.af_collect.specs.Limits.{IsBelowLimit}
+use Rattle.af_steps.proofs.Outcomes.{done, starved}
 use Rattle.af_steps.proofs.Paired.{passes}
 
 module _ (w : World) (p : ℕ) (q : Process) (at : map.get w.processes p ≡ Some q) where
   -- The number of the process stands for it.
-  is_process : process_at w p ≡ q
+  pub is_process : process_at w p ≡ q
   is_process = ap (λ o. unwrap_or o no_process) at
 
   -- It is there.
-  there : not (map.contains_key w.processes p) ≡ false
+  pub there : not (map.contains_key w.processes p) ≡ false
   there = ap (λ o. not (is_some o)) at
 
   -- What a number stands for, in its table.
-  on_table : (n : ℕ) → table_at w p n ≡ map.get q.table n
+  pub on_table : (n : ℕ) → table_at w p n ≡ map.get q.table n
   on_table n = there-table w p n q at
+
+  -- A world with the same processes.
+  module _ (v : World) (same : v.processes ≡ w.processes) where
+    -- The process is there too.
+    pub same-there : IsTrue (map.contains_key v.processes p)
+    same-there = ap (λ m. is_some (map.get m p)) same ∙ ap is_some at
+
+    -- What is below its limit here is below it there.
+    pub same-limit : (n : ℕ) → n < q.limit → IsBelowLimit v p n
+    same-limit n low r is = subst (λ (x : Process). n < x.limit) (some_same q r (sym at ∙ ap (λ m. map.get m p) (sym same) ∙ is)) low
+
+    -- What is free here is free there.
+    pub same-free : (n : ℕ) → map.get q.table n ≡ None → table_at v p n ≡ None
+    same-free n free = ap (λ m. number_in m p n) same ∙ on_table n ∙ free
+
+    -- What is open here is open there.
+    pub same-open : (n f : ℕ) → map.get q.table n ≡ Some f → table_at v p n ≡ Some f
+    same-open n f stands = ap (λ m. number_in m p n) same ∙ on_table n ∙ stands
+
+  -- Room for each number below the limit.
+  pub room-below : (n room : ℕ) → n < q.limit → (process_at w p).limit ≤ room → n < room
+  room-below n room low most = let same = ap (λ (x : Process). x.limit) is_process in omega (arith, low, most, same)
+
+  -- ---- close
+
+  -- Nothing refuses a close of an open number.
+  pub close-fits : (n f : ℕ) → map.get q.table n ≡ Some f → refusal w p (step.Close n) ≡ None
+  close-fits n f stands =
+      passes (not (map.contains_key w.processes p)) ESRCH (step_row w p (step.Close n)) there
+      (passes (is_none (table_at w p n)) EBADF [] (ap is_none (on_table n ∙ stands)) refl)
+
+  -- The number is free, and that is where the step leads.
+  pub close-done : (n f : ℕ) (new : World) → map.get q.table n ≡ Some f → Settles (uninstall w p n) new → ProcessStep w p (step.Close n) reply.Ok new
+  close-done n f new stands settles = done w p (step.Close n) (uninstall w p n) new reply.Ok (close-fits n f stands) refl refl settles
 
   module _ (n : ℕ) (least : slice_get (free_numbers q) 0 ≡ Some n) where
     -- The free numbers of the process.
@@ -68,55 +102,63 @@ module _ (w : World) (p : ℕ) (q : Process) (at : map.get w.processes p ≡ Som
 
     -- ---- open
 
-    -- The world with the file, at its number.
-    abbrev opened : World
-    opened = install (add_file w Plain) p n w.next_ino
+    -- Nothing refuses it where a file more has room.
+    pub open-fits : is_full w 1 ≡ false → refusal w p step.Open ≡ None
+    open-fits room =
+        passes (not (map.contains_key w.processes p)) ESRCH (step_row w p step.Open) there
+        (passes (is_short (process_at w p) 1) EMFILE ((is_full w 1, ENFILE) ∷ []) not-short (passes (is_full w 1) ENFILE [] room refl))
 
-    -- That is where the step leads.
-    pub step-opened : (added new : World) (f : ℕ) → IsSound w → is_full w 1 ≡ false → added ≡ add_file w Plain → f ≡ w.next_ino → new ≡ install added p n f → ProcessStep w p step.Open (reply.Fd n) new
-    step-opened added new f sound room is ino after =
-        let fits : refusal w p step.Open ≡ None = passes (not (map.contains_key w.processes p)) ESRCH (step_row w p step.Open) there
-        (passes (is_short (process_at w p) 1) EMFILE ((is_full w 1, ENFILE) ∷ []) not-short (passes (is_full w 1) ENFILE [] room refl)) in
-        let whole : new ≡ opened = after ∙ (λ i. install (is i) p n (ino i)) in
-        let reached : effect w p step.Open ≡ new = ap (λ m. install (add_file w Plain) p m w.next_ino) is-free_at ∙ sym whole in
-        let still = subst IsSettled (sym whole) (settled-opened w p n q sound.settled sound.whole at not-open) in
-        subst (λ m. ProcessStep w p step.Open (reply.Fd m) new) is-free_at
-        (accepted (refusal w p step.Open) false (answer w p step.Open) (effect w p step.Open) w new fits (subst (λ v. Settles v new) (sym reached) (settles_none new still)))
+    -- The file at its number is where the step leads.
+    pub open-done : (added placed new : World) (f : ℕ) → is_full w 1 ≡ false → added ≡ add_file w Plain → f ≡ w.next_ino → placed ≡ install added p n f → Settles placed new → ProcessStep w p step.Open (reply.Fd n) new
+    open-done added placed new f room is ino after settles =
+        done w p step.Open placed new (reply.Fd n) (open-fits room) (ap reply.Fd is-free_at)
+        ((λ i. install (sym is i) p (is-free_at i) (sym ino i)) ∙ sym after) settles
 
     -- ---- dup
 
-    -- A description at one number more is where the step leads.
-    pub step-copied : (from f : ℕ) (new : World) → IsSound w → table_at w p from ≡ Some f → new ≡ install w p n f → ProcessStep w p (step.Dup from) (reply.Fd n) new
-    step-copied from f new sound stands after =
-        let there_too : is_none (table_at w p from) ≡ false = ap is_none stands in
-        let fits : refusal w p (step.Dup from) ≡ None = passes (not (map.contains_key w.processes p)) ESRCH (step_row w p (step.Dup from)) there
-        (passes (is_none (table_at w p from)) EBADF ((is_short (process_at w p) 1, EMFILE) ∷ []) there_too (passes (is_short (process_at w p) 1) EMFILE [] not-short refl)) in
-        let ino : ino_on w p from ≡ f = ap (λ o. unwrap_or o 0) stands in
-        let reached : effect w p (step.Dup from) ≡ new = (λ i. install w p (is-free_at i) (ino i)) ∙ sym after in
-        let still = subst IsSettled (sym after) (settled-install w p n f sound.settled (on_table n ∙ not-open)) in
-        subst (λ m. ProcessStep w p (step.Dup from) (reply.Fd m) new) is-free_at
-        (accepted (refusal w p (step.Dup from)) false (answer w p (step.Dup from)) (effect w p (step.Dup from)) w new fits (subst (λ v. Settles v new) (sym reached) (settles_none new still)))
+    -- Nothing refuses a description at one number more.
+    pub dup-fits : (from f : ℕ) → map.get q.table from ≡ Some f → refusal w p (step.Dup from) ≡ None
+    dup-fits from f stands =
+        passes (not (map.contains_key w.processes p)) ESRCH (step_row w p (step.Dup from)) there
+        (passes (is_none (table_at w p from)) EBADF ((is_short (process_at w p) 1, EMFILE) ∷ []) (ap is_none (on_table from ∙ stands)) (passes (is_short (process_at w p) 1) EMFILE [] not-short refl))
+
+    -- That is where the step leads.
+    pub dup-done : (from f : ℕ) (before placed new : World) → map.get q.table from ≡ Some f → before ≡ w → placed ≡ install before p n f → Settles placed new → ProcessStep w p (step.Dup from) (reply.Fd n) new
+    dup-done from f before placed new stands is after settles =
+        let ino : ino_on w p from ≡ f = ap (λ o. unwrap_or o 0) (on_table from ∙ stands) in
+        done w p (step.Dup from) placed new (reply.Fd n) (dup-fits from f stands) (ap reply.Fd is-free_at)
+        ((λ i. install (sym is i) p (is-free_at i) (ino i)) ∙ sym after) settles
 
   -- ---- dup2
 
-  -- Nothing refuses a number in place of another.
-  fits-moved : (from to f : ℕ) → table_at w p from ≡ Some f → is_beyond w p from to ≡ false → refusal w p (step.Dup2 from to) ≡ None
-  fits-moved from to f is within =
-      passes (not (map.contains_key w.processes p)) ESRCH (step_row w p (step.Dup2 from to)) there
-      (passes (is_none (table_at w p from)) EBADF ((is_beyond w p from to, EBADF) ∷ []) (ap is_none is) (passes (is_beyond w p from to) EBADF [] within refl))
+  module _ (from to f : ℕ) (stands : map.get q.table from ≡ Some f) where
+    -- Nothing refuses a number in place of another.
+    fits-moved : is_beyond w p from to ≡ false → refusal w p (step.Dup2 from to) ≡ None
+    fits-moved within =
+        passes (not (map.contains_key w.processes p)) ESRCH (step_row w p (step.Dup2 from to)) there
+        (passes (is_none (table_at w p from)) EBADF ((is_beyond w p from to, EBADF) ∷ []) (ap is_none (on_table from ∙ stands)) (passes (is_beyond w p from to) EBADF [] within refl))
 
-  -- A number in place of itself changes nothing.
-  pub step-same : (from to f : ℕ) → IsSound w → table_at w p from ≡ Some f → nat_eq to from ≡ true → ProcessStep w p (step.Dup2 from to) (reply.Fd to) w
-  step-same from to f sound is same =
-      let within : is_beyond w p from to ≡ false = ap (λ b. not b && nat_le (process_at w p).limit to) same in
-      let reached : effect w p (step.Dup2 from to) ≡ w = ap (λ b. if b then w else install w p to (ino_on w p from)) same in
-      accepted (refusal w p (step.Dup2 from to)) false (reply.Fd to) (effect w p (step.Dup2 from to)) w w (fits-moved from to f is within) (subst (λ v. Settles v w) (sym reached) (settles_none w sound.settled))
+    -- A number in place of itself changes nothing.
+    pub same-done : IsSound w → nat_eq to from ≡ true → ProcessStep w p (step.Dup2 from to) (reply.Fd to) w
+    same-done sound same =
+        let within : is_beyond w p from to ≡ false = ap (λ b. not b && nat_le (process_at w p).limit to) same in
+        let leads : effect w p (step.Dup2 from to) ≡ w = ap (λ b. if b then w else install w p to (ino_on w p from)) same in
+        done w p (step.Dup2 from to) w w (reply.Fd to) (fits-moved within) refl leads (settles_none w sound.settled)
 
-  -- A number in place of what another stood for: what that settles to is where the step leads.
-  pub step-moved : (from to f : ℕ) (mid new : World) → table_at w p from ≡ Some f → nat_eq to from ≡ false → to < q.limit → mid ≡ install w p to f → Settles mid new → ProcessStep w p (step.Dup2 from to) (reply.Fd to) new
-  step-moved from to f mid new is other low after settles =
-      let under : nat_le (process_at w p).limit to ≡ false = ap (λ r. nat_le r.limit to) is_process ∙ lt-leb q.limit to low in
-      let within : is_beyond w p from to ≡ false = (λ i. not (other i) && under i) in
-      let ino : ino_on w p from ≡ f = ap (λ o. unwrap_or o 0) is in
-      let reached : effect w p (step.Dup2 from to) ≡ mid = ap (λ b. if b then w else install w p to (ino_on w p from)) other ∙ ap (install w p to) ino ∙ sym after in
-      accepted (refusal w p (step.Dup2 from to)) false (reply.Fd to) (effect w p (step.Dup2 from to)) w new (fits-moved from to f is within) (subst (λ v. Settles v new) (sym reached) settles)
+    -- A number below the limit that is another.
+    module _ (other : nat_eq to from ≡ false) (low : to < q.limit) where
+      beyond : is_beyond w p from to ≡ false
+      beyond =
+          let under : nat_le (process_at w p).limit to ≡ false = ap (λ (r : Process). nat_le r.limit to) is_process ∙ lt-leb q.limit to low in
+          λ i. not (other i) && under i
+
+      -- Memory may be refused.
+      pub moved-starved : (new : World) → new ≡ w → ProcessStep w p (step.Dup2 from to) (reply.Refused ENOMEM) new
+      moved-starved new same = starved w p (step.Dup2 from to) new (fits-moved beyond) other same
+
+      -- In place of what it stood for: that is where the step leads.
+      pub moved-done : (before placed new : World) → before ≡ w → placed ≡ install before p to f → Settles placed new → ProcessStep w p (step.Dup2 from to) (reply.Fd to) new
+      moved-done before placed new is after settles =
+          let ino : ino_on w p from ≡ f = ap (λ o. unwrap_or o 0) (on_table from ∙ stands) in
+          let leads : effect w p (step.Dup2 from to) ≡ placed = ap (λ b. if b then w else install w p to (ino_on w p from)) other ∙ (λ i. install (sym is i) p to (ino i)) ∙ sym after in
+          done w p (step.Dup2 from to) placed new (reply.Fd to) (fits-moved beyond) refl leads settles

@@ -1,5 +1,5 @@
 -- Two sockets more, at the two lowest free numbers of a process.
-use Rattle.std.proofs.Common.{◌≡◌, ◌<◌, ◌≤◌, ℕ, ◌+◌, Bool, false, List, [], ◌∷◌, length, refl, sym, ap, ◌∙◌, subst, arith}
+use Rattle.std.proofs.Common.{◌≡◌, ◌<◌, ◌≤◌, ℕ, ◌+◌, Bool, false, List, [], ◌∷◌, length, refl, sym, ap, ◌∙◌, arith}
 use Rattle.std.specs.Prelude.{Some, None, not, is_some, unwrap_or, slice_index, slice_index_or, if◌then◌else◌}
 use Rattle.std.specs.FinMap as map
 use Rattle.std.proofs.lemmas.Bool.{le-ltb}
@@ -13,15 +13,12 @@ use Rattle.af_base.specs.declared.events.Step.TheVariants as step
 use Rattle.af_base.specs.World.{Process, World}
 use Rattle.af_base.specs.Changes.{install}
 use Rattle.af_base.specs.Refusals.{Row, first_fit, is_full, is_short, no_process, process_at, refusal, step_row}
-use Rattle.af_base.specs.Steps.{ProcessStep, answer, effect, free_at}
+use Rattle.af_base.specs.Steps.{ProcessStep, effect, free_at, with_pair}
 use Rattle.af_base.specs.Table.{free_numbers, lowest_free}
-use Rattle.af_base.specs.Unheld.{IsSettled, Settles}
-use Rattle.af_base.specs.Whole.{IsSound}
+use Rattle.af_base.specs.Unheld.{Settles}
 use Rattle.af_base.proofs.Free.{AreFree, free-free_numbers}
 use Rattle.af_base.proofs.Lookups.{insert-other, told_apart}
-use Rattle.af_base.proofs.Pairs.{settled-pair, with_pair}
-use Rattle.af_base.proofs.Settling.{settles_none}
-use Rattle.af_base.proofs.Stepping.{accepted}
+use Rattle.af_steps.proofs.Outcomes.{done}
 
 -- These two are the lowest free numbers of the process.
 pub record AreLowest (q : Process) (n m : ℕ) : Type 0 where
@@ -74,11 +71,11 @@ module _ (w : World) (p : ℕ) (kind : SockType) (q : Process) (n m : ℕ) (at :
   first-free = ap (map.get q.table) two.first ∙ free.free 0 0 (omega (arith, two.enough))
 
   -- So is the second.
-  second-free : map.get q.table m ≡ None
+  pub second-free : map.get q.table m ≡ None
   second-free = ap (map.get q.table) two.second ∙ free.free 1 0 (omega (arith, two.enough))
 
   -- They differ.
-  apart : ¬ (m ≡ n)
+  pub apart : ¬ (m ≡ n)
   apart same = let rising = free.rising 0 1 0 (omega arith) (omega (arith, two.enough)) in omega (arith, two.first, two.second, same, rising)
 
   -- The second is free still, after the first was taken into use.
@@ -86,33 +83,19 @@ module _ (w : World) (p : ℕ) (kind : SockType) (q : Process) (n m : ℕ) (at :
   second-left f = insert-other q.table n f m (told_apart m n apart) ∙ second-free
 
   -- Nothing refuses the step.
-  pair-fits : is_full w 2 ≡ false → refusal w p (step.Pair kind) ≡ None
+  pub pair-fits : is_full w 2 ≡ false → refusal w p (step.Pair kind) ≡ None
   pair-fits room =
       let there : not (map.contains_key w.processes p) ≡ false = ap (λ o. not (is_some o)) at in
       let enough : is_short (process_at w p) 2 ≡ false = ap (λ r. is_short r 2) is_process ∙ le-ltb (length (free_numbers q)) 2 two.enough in
       passes (not (map.contains_key w.processes p)) ESRCH (step_row w p (step.Pair kind)) there
       (passes (is_short (process_at w p) 2) EMFILE ((is_full w 2, ENFILE) ∷ []) enough (passes (is_full w 2) ENFILE [] room refl))
 
-  -- The world with both sockets, each with its number.
-  abbrev paired : World
-  paired = install (install (with_pair w kind) p n w.next_ino) p m (w.next_ino + 1)
-
-  -- Nothing is to go from there.
-  settled : IsSound w → IsSettled paired
-  settled sound = settled-pair w kind p n m q sound.settled sound.whole at first-free second-free (λ same. apart (sym same))
-
-  -- That is where the step leads.
-  step-paired : IsSound w → is_full w 2 ≡ false → ProcessStep w p (step.Pair kind) (reply.Fds n m) paired
-  step-paired sound room =
-      let first : free_at w p 0 ≡ n = ap (λ r. slice_index (free_numbers r) 0) is_process ∙ sym two.first in
-      let second : free_at w p 1 ≡ m = ap (λ r. slice_index (free_numbers r) 1) is_process ∙ sym two.second in
-      let reached : effect w p (step.Pair kind) ≡ paired = λ i. install (install (with_pair w kind) p (first i) w.next_ino) p (second i) (w.next_ino + 1) in
-      let settles = subst (λ v. Settles v paired) (sym reached) (settles_none paired (settled sound)) in
-      subst (λ r. ProcessStep w p (step.Pair kind) r paired) (λ i. reply.Fds (first i) (second i))
-      (accepted (refusal w p (step.Pair kind)) false (answer w p (step.Pair kind)) (effect w p (step.Pair kind)) w paired (pair-fits room) settles)
-
-  -- One change after another leads there.
-  pub step-done : (added one new : World) (f g : ℕ) → IsSound w → is_full w 2 ≡ false → added ≡ with_pair w kind → f ≡ w.next_ino → g ≡ w.next_ino + 1 → one ≡ install added p n f → new ≡ install one p m g → ProcessStep w p (step.Pair kind) (reply.Fds n m) new
-  step-done added one new f g sound room is first second after last =
-      let both : new ≡ paired = last ∙ ap (λ v. install v p m g) after ∙ (λ i. install (install (is i) p n (first i)) p m (second i)) in
-      subst (ProcessStep w p (step.Pair kind) (reply.Fds n m)) (sym both) (step-paired sound room)
+  -- Both sockets, each with its number: that is where the step leads.
+  pub pair-done : (added one placed new : World) (f g : ℕ) → is_full w 2 ≡ false → added ≡ with_pair w kind → f ≡ w.next_ino → g ≡ w.next_ino + 1 → one ≡ install added p n f → placed ≡ install one p m g → Settles placed new
+      → ProcessStep w p (step.Pair kind) (reply.Fds n m) new
+  pair-done added one placed new f g room is first second after last settles =
+      let lower : free_at w p 0 ≡ n = ap (λ r. slice_index (free_numbers r) 0) is_process ∙ sym two.first in
+      let higher : free_at w p 1 ≡ m = ap (λ r. slice_index (free_numbers r) 1) is_process ∙ sym two.second in
+      let here : placed ≡ install (install (with_pair w kind) p n w.next_ino) p m (w.next_ino + 1) = last ∙ (λ i. install (after i) p m (second i)) ∙ (λ i. install (install (is i) p n (first i)) p m (w.next_ino + 1)) in
+      let leads : effect w p (step.Pair kind) ≡ placed = (λ i. install (install (with_pair w kind) p (lower i) w.next_ino) p (higher i) (w.next_ino + 1)) ∙ sym here in
+      done w p (step.Pair kind) placed new (reply.Fds n m) (pair-fits room) (λ i. reply.Fds (lower i) (higher i)) leads settles

@@ -1,21 +1,24 @@
--- The tests of a send that go by kept numbers are those of its row.
-use Rattle.std.proofs.Common.{◌≡◌, ℕ, ◌+◌, Bool, true, false, List, [], ◌∷◌, ◌++◌, length, nat_eq, sym, ap, ◌∙◌, arith}
-use Rattle.std.specs.Prelude.{Option, Some, None, is_none, not, ◌&&◌, ◌||◌, nat_le, nat_lt, if◌then◌else◌}
+-- A send's row by its parts: what was looked up, and the tests of each part in turn.
+use Rattle.std.proofs.Common.{◌≡◌, ℕ, ◌+◌, Bool, true, false, List, [], ◌∷◌, ◌++◌, length, nat_eq, refl, sym, ap, ◌∙◌}
+use Rattle.std.specs.Prelude.{Some, None, is_none, is_some, not, unwrap_or, ◌&&◌, ◌||◌, nat_le, nat_lt, if◌then◌else◌}
 use Rattle.std.specs.FinMap as map
 use Rattle.std.specs.List.{list_any}
+use Rattle.std.specs.Option.{option_and_then}
 use Rattle.af_base.specs.declared.errno.Errno.{Errno}
-use Rattle.af_base.specs.declared.errno.Errno.TheVariants.{EAGAIN, EBADF, EINVAL, EMSGSIZE, ENOBUFS, ENOTCONN, ENOTSOCK, EPIPE, ESRCH, ETOOMANYREFS}
+use Rattle.af_base.specs.declared.errno.Errno.TheVariants.{EAGAIN, EBADF, EINVAL, EMSGSIZE, ENOBUFS, ENOMEM, ENOTCONN, ENOTSOCK, EPIPE, ESRCH, ETOOMANYREFS}
+use Rattle.af_base.specs.declared.events.Reply.TheVariants as reply
 use Rattle.af_base.specs.declared.events.Step.TheVariants as step
 use Rattle.af_base.specs.declared.limits.TheConstants.{MAX_BYTES, MAX_INFLIGHT, MAX_MESSAGES, SCM_MAX_FD}
 use Rattle.af_base.specs.Places.{queue_at, table_at}
-use Rattle.af_base.specs.World.{World}
+use Rattle.af_base.specs.World.{Process, Socket, World}
 use Rattle.af_base.specs.Counts.{charged, total}
-use Rattle.af_base.specs.Refusals.{Row, first_fit, ino_on, is_connected, is_hung_up, is_over_limit, peer_of, process_at, refusal, socket_at, socket_on}
+use Rattle.af_base.specs.Refusals.{Row, first_fit, ino_on, is_connected, is_hung_up, is_over_limit, no_process, no_socket, peer_of, process_at, refusal, socket_at, socket_on}
+use Rattle.af_base.specs.Steps.{ProcessStep}
 use Rattle.af_base.proofs.Lookups.{none_some}
-use Rattle.af_base.proofs.Stepped.{NoneFits, none-fits}
-use Rattle.af_ledger.specs.Kept.{Kept, charge_of}
-use Rattle.af_ledger.specs.Sending.{send_refusal}
-use Rattle.af_steps.specs.Agreement.{Agrees}
+use Rattle.af_base.proofs.Moved.{there-table}
+use Rattle.af_base.specs.Refusals.{send_row}
+use Rattle.af_steps.specs.Rows.{parts_row, peer_row}
+use Rattle.af_steps.proofs.Outcomes.{refused, starved}
 
 -- The first of two rows with an error decides.
 goes-on : (rows more : Row) (e : Errno) → first_fit rows ≡ Some e → first_fit (rows ++ more) ≡ Some e
@@ -25,33 +28,74 @@ goes-on (r ∷ rs) more e is = by r.0 is (λ k. goes-on rs more e k) where
   by true is go = is
   by false is go = go is
 
--- The two tests.
-abbrev tests : World → ℕ → ℕ → Row
-tests w p n = (nat_lt 0 n && is_over_limit w (process_at w p), ETOOMANYREFS) ∷ (nat_lt MAX_INFLIGHT (total w + n), ENOBUFS) ∷ []
+-- Where no test of the first row fits, the second decides.
+passes-on : (rows more : Row) → first_fit rows ≡ None → first_fit (rows ++ more) ≡ first_fit more
+passes-on [] more is = refl
+passes-on (r ∷ rs) more is = by r.0 is (λ k. passes-on rs more k) where
+  by : (b : Bool) → (if b then Some r.1 else first_fit rs) ≡ None → (first_fit rs ≡ None → first_fit (rs ++ more) ≡ first_fit more) → (if b then Some r.1 else first_fit (rs ++ more)) ≡ first_fit more
+  by true is go = absurd (none_some r.1 (sym is))
+  by false is go = go is
 
-module _ (w : World) (p n : ℕ) (k : Kept) (u limit : ℕ) (privileged : Bool) (a : Agrees w [] k)
-    (user : u ≡ (process_at w p).user) (low : limit ≡ (process_at w p).limit) (free : privileged ≡ (process_at w p).privileged) where
-  -- They are the same by the kept numbers.
-  same-tests : send_refusal k u limit privileged n ≡ first_fit (tests w p n)
-  same-tests =
-      let charge : charge_of k u ≡ charged w (process_at w p).user = omega (arith, a.charged u) ∙ ap (charged w) user in
-      let all : k.total ≡ total w = omega (arith, a.total) in
-      λ i. first_fit ((nat_lt 0 n && (not (free i) && nat_lt (low i) (charge i)), ETOOMANYREFS) ∷ (nat_lt MAX_INFLIGHT (all i + n), ENOBUFS) ∷ [])
+-- A process that is there, and its number that stands for a socket.
+module _ (w : World) (p on : ℕ) (q : Process) (at : map.get w.processes p ≡ Some q) (ino : ℕ) (is : map.get q.table on ≡ Some ino) (x : Socket) (found : socket_at w ino ≡ Some x) where
+  pub tabled : table_at w p on ≡ Some ino
+  tabled = there-table w p on q at ∙ is
 
-  -- Where they let it pass, neither fits.
-  pub may-send : send_refusal k u limit privileged n ≡ None → NoneFits (tests w p n)
-  may-send is = none-fits (tests w p n) (sym same-tests ∙ is)
+  pub socket-is : socket_on w p on ≡ x
+  socket-is = ap (λ o. unwrap_or (option_and_then (socket_at w) o) no_socket) tabled ∙ ap (λ o. unwrap_or o no_socket) found
 
-  -- Where one fits, it decides.
-  pub may-not-send : (more : Row) (e : Errno) → send_refusal k u limit privileged n ≡ Some e → first_fit (tests w p n ++ more) ≡ Some e
-  may-not-send more e is = goes-on (tests w p n) more e (sym same-tests ∙ is)
+  is_process : process_at w p ≡ q
+  is_process = ap {B = Process} (λ o. unwrap_or o no_process) at
 
--- What a send is refused by where no test before the two fits.
-pub late-refusal : (w : World) (p on : ℕ) (bytes attach : List ℕ) (o : Option Errno)
-    → not (map.contains_key w.processes p) ≡ false → is_none (table_at w p on) ≡ false → is_none (socket_at w (ino_on w p on)) ≡ false
-    → (nat_eq (length bytes) 0 || nat_lt SCM_MAX_FD (length attach)) ≡ false → nat_lt MAX_BYTES (length bytes) ≡ false → list_any (λ m. is_none (table_at w p m)) attach ≡ false
-    → not (is_connected (socket_on w p on).state) ≡ false → is_hung_up (socket_on w p on).state ≡ false
-    → first_fit (tests w p (length attach) ++ (nat_le MAX_MESSAGES (length (queue_at w (peer_of (socket_on w p on).state))), EAGAIN) ∷ []) ≡ o → refusal w p (step.Send on bytes attach) ≡ o
-late-refusal w p on bytes attach o there tabled socket enough short taken connected alive last =
-    (λ i. first_fit ((there i, ESRCH) ∷ (tabled i, EBADF) ∷ (socket i, ENOTSOCK) ∷ (enough i, EINVAL) ∷ (short i, EMSGSIZE) ∷ (taken i, EBADF) ∷ (connected i, ENOTCONN) ∷ (alive i, EPIPE)
-    ∷ (tests w p (length attach) ++ (nat_le MAX_MESSAGES (length (queue_at w (peer_of (socket_on w p on).state))), EAGAIN) ∷ []))) ∙ last
+  module _ (bytes attach : List ℕ) where
+    -- The last test, and the two before it by the numbers that are kept.
+    abbrev full : Row
+    full = (nat_le MAX_MESSAGES (length (queue_at w (peer_of x.state))), EAGAIN) ∷ []
+
+    abbrev pub charges : Row
+    charges = send_row (charged w q.user) (total w) q.limit q.privileged (length attach)
+
+    -- The whole row.
+    parts : refusal w p (step.Send on bytes attach) ≡ first_fit (parts_row q bytes attach ++ (peer_row x.state ++ (charges ++ full)))
+    parts =
+        let there : not (map.contains_key w.processes p) ≡ false = ap (λ o. not (is_some o)) at in
+        let stands : is_none (table_at w p on) ≡ false = ap is_none tabled in
+        let socket : is_none (socket_at w (ino_on w p on)) ≡ false = ap (λ o. is_none (socket_at w (unwrap_or o 0))) tabled ∙ ap is_none found in
+        λ i. first_fit ((there i, ESRCH) ∷ (stands i, EBADF) ∷ (socket i, ENOTSOCK)
+        ∷ (nat_eq (length bytes) 0 || nat_lt SCM_MAX_FD (length attach), EINVAL) ∷ (nat_lt MAX_BYTES (length bytes), EMSGSIZE)
+        ∷ (list_any (λ n. is_none (there-table w p n q at i)) attach, EBADF)
+        ∷ (not (is_connected (socket-is i).state), ENOTCONN) ∷ (is_hung_up (socket-is i).state, EPIPE)
+        ∷ (nat_lt 0 (length attach) && is_over_limit w (is_process i), ETOOMANYREFS) ∷ (nat_lt MAX_INFLIGHT (total w + length attach), ENOBUFS)
+        ∷ (nat_le MAX_MESSAGES (length (queue_at w (peer_of (socket-is i).state))), EAGAIN) ∷ [])
+
+    module _ (given : first_fit (parts_row q bytes attach) ≡ None) where
+      after-parts : refusal w p (step.Send on bytes attach) ≡ first_fit (peer_row x.state ++ (charges ++ full))
+      after-parts = parts ∙ passes-on (parts_row q bytes attach) (peer_row x.state ++ (charges ++ full)) given
+
+      -- It can talk to nobody.
+      pub refused-peer : (e : Errno) → first_fit (peer_row x.state) ≡ Some e → ProcessStep w p (step.Send on bytes attach) (reply.Refused e) w
+      refused-peer e fits = refused w p (step.Send on bytes attach) e (after-parts ∙ goes-on (peer_row x.state) (charges ++ full) e fits)
+
+      module _ (alive : first_fit (peer_row x.state) ≡ None) where
+        after-peer : refusal w p (step.Send on bytes attach) ≡ first_fit (charges ++ full)
+        after-peer = after-parts ∙ passes-on (peer_row x.state) (charges ++ full) alive
+
+        -- Too much is in flight.
+        pub refused-charge : (e : Errno) → first_fit charges ≡ Some e → ProcessStep w p (step.Send on bytes attach) (reply.Refused e) w
+        refused-charge e fits = refused w p (step.Send on bytes attach) e (after-peer ∙ goes-on charges full e fits)
+
+        module _ (paid : first_fit charges ≡ None) (f : ℕ) (to : f ≡ peer_of x.state) where
+          after-charge : refusal w p (step.Send on bytes attach) ≡ first_fit ((nat_le MAX_MESSAGES (length (queue_at w f)), EAGAIN) ∷ [])
+          after-charge = after-peer ∙ passes-on charges full paid ∙ ap (λ g. first_fit ((nat_le MAX_MESSAGES (length (queue_at w g)), EAGAIN) ∷ [])) (sym to)
+
+          -- The queue is full.
+          pub refused-full : nat_le MAX_MESSAGES (length (queue_at w f)) ≡ true → ProcessStep w p (step.Send on bytes attach) (reply.Refused EAGAIN) w
+          refused-full most = refused w p (step.Send on bytes attach) EAGAIN (after-charge ∙ ap (λ b. first_fit ((b, EAGAIN) ∷ [])) most)
+
+          -- Nothing refuses it.
+          pub send-fits : nat_le MAX_MESSAGES (length (queue_at w f)) ≡ false → refusal w p (step.Send on bytes attach) ≡ None
+          send-fits room = after-charge ∙ ap (λ b. first_fit ((b, EAGAIN) ∷ [])) room
+
+          -- Memory was refused.
+          pub send-starved : nat_le MAX_MESSAGES (length (queue_at w f)) ≡ false → (new : World) → new ≡ w → ProcessStep w p (step.Send on bytes attach) (reply.Refused ENOMEM) new
+          send-starved room new same = starved w p (step.Send on bytes attach) new (send-fits room) refl same

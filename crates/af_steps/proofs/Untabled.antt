@@ -1,4 +1,4 @@
--- Tables with a number less.
+-- Tables with a number less, or another in place of it.
 use Rattle.std.proofs.Common.{◌≡◌, ◌<◌, ◌≤◌, ℕ, ◌+◌, Bool, true, false, inl, inr, refl, sym, ap, ◌∙◌, cond, nat_eq, arith}
 use Rattle.std.specs.Prelude.{Option, Some, None, option_map}
 use Rattle.std.specs.Option.{option_map_or}
@@ -8,12 +8,12 @@ use Rattle.std.proofs.lemmas.Bool.{cases_lt}
 use Rattle.std.specs.FinMap.{nat_cmp-IsAntisymmetric}
 use Rattle.af_base.specs.World.{Map, Process, World}
 use Rattle.af_base.specs.Places.{table_at}
-use Rattle.af_base.specs.Changes.{change_at, remove_process, uninstall}
-use Rattle.af_base.proofs.Lookups.{itself, not_same, remove-here, remove-other, same_or_not}
+use Rattle.af_base.specs.Changes.{change_at, install, remove_process, uninstall}
+use Rattle.af_base.proofs.Lookups.{insert-here, insert-other, itself, not_same, remove-here, remove-other, same_or_not}
 use Rattle.af_base.proofs.Moved.{there-table}
 use Rattle.af_base.proofs.Stepping.{get-change_at}
 use Rattle.af_base.proofs.Trees.{insert_same}
-use Rattle.af_steps.specs.Dropping.{Sheds}
+use Rattle.af_steps.proofs.Copied.{insert_twice}
 
 -- What is not there need not be removed.
 remove-none : {X : Type 0} (m : Map X) (k : ℕ) → map.get m k ≡ None → map.remove m k ≡ m
@@ -50,13 +50,6 @@ table-uninstall w p n m =
         nothing false = refl
       by (Some q) = map.get-remove nat_cmp_total q.table n m ∙ ap (λ b. cond b None (map.get q.table m)) (unsigned_tied m n)
 
--- Files that went change no table.
-pub sheds-table : (old new : World) → Sheds old new → (p n : ℕ) → table_at new p n ≡ table_at old p n
-sheds-table old new h p n = elim h [
-  | inl same ↦ ap (λ w. table_at w p n) same
-  | inr gone ↦ ap (λ w. table_at w p n) gone.3
-]
-
 -- Without the process the number does not matter.
 pub removed-uninstall : (w : World) (p n : ℕ) → remove_process (uninstall w p n) p ≡ remove_process w p
 removed-uninstall w p n = ap (λ m. record w { processes = m }) (map.same_map nat_cmp_total nat_cmp-IsAntisymmetric _ _ (λ r. elim (same_or_not r p) [
@@ -82,3 +75,36 @@ none-below w p from n below between q low = table-uninstall w p n q ∙ by (nat_
     | inl under ↦ below q under
     | inr past ↦ between q past (elim (cases_lt q n) [ inl under ↦ under | inr over ↦ absurd (not_same q n e (omega (arith, low, over))) ])
   ]
+
+-- A value put where one was removed is put once.
+insert-removed : {X : Type 0} (m : Map X) (k : ℕ) (x : X) → map.insert (map.remove m k) k x ≡ map.insert m k x
+insert-removed m k x = map.same_map nat_cmp_total nat_cmp-IsAntisymmetric _ _ (λ q. elim (same_or_not q k) [
+  | inl e ↦ ap (map.get (map.insert (map.remove m k) k x)) e ∙ insert-here (map.remove m k) k x ∙ sym (ap (map.get (map.insert m k x)) e ∙ insert-here m k x)
+  | inr a ↦ insert-other (map.remove m k) k x q a ∙ remove-other m k q a ∙ sym (insert-other m k x q a)
+])
+
+module _ (w : World) (p n : ℕ) (q : Process) (at : map.get w.processes p ≡ Some q) where
+  -- The process, after its number was given up.
+  abbrev pub less : Process
+  less = record q { table = map.remove q.table n }
+
+  changed-is : (uninstall w p n).processes ≡ map.insert w.processes p less
+  changed-is = ap (λ (o : Option Process). option_map_or (λ (x : Process). map.insert w.processes p (record x { table = map.remove x.table n })) o w.processes) at
+
+  pub less-at : map.get (uninstall w p n).processes p ≡ Some less
+  less-at = ap (λ m. map.get m p) changed-is ∙ insert-here w.processes p less
+
+  -- The number is free then.
+  pub less-free : map.get less.table n ≡ None
+  less-free = remove-here q.table n
+
+  -- In place of what it stood for is what it would stand for at once.
+  pub install-uninstalled : (f : ℕ) → install (uninstall w p n) p n f ≡ install w p n f
+  install-uninstalled f =
+      let more : Process = record less { table = map.insert less.table n f } in
+      let whole : Process = record q { table = map.insert q.table n f } in
+      ap (λ (o : Option Process). record (uninstall w p n) { processes = option_map_or (λ (x : Process). map.insert (uninstall w p n).processes p (record x { table = map.insert x.table n f })) o (uninstall w p n).processes }) less-at
+      ∙ ap (λ (m : Map Process). record w { processes = map.insert m p more }) changed-is
+      ∙ ap (λ (m : Map Process). record w { processes = m }) (insert_twice w.processes p less more)
+      ∙ ap (λ (t : Map ℕ). record w { processes = map.insert w.processes p (record q { table = t }) }) (insert-removed q.table n f)
+      ∙ sym (ap (λ (o : Option Process). record w { processes = option_map_or (λ (x : Process). map.insert w.processes p (record x { table = map.insert x.table n f })) o w.processes }) at)

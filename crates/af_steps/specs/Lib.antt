@@ -1,6 +1,3 @@
-pub mod Limits
 pub mod Shown
-pub mod Marking
-pub mod Stored
-pub mod Agreement
-pub mod Dropping
+pub mod Outcome
+pub mod Rows

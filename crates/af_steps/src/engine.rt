@@ -2,11 +2,13 @@
 ghost use Rattle.std.specs.Prelude.{◌≡◌, ◌<◌, IfOk, IfErr, length};
 ghost use Rattle.std.specs.List.{zip};
 ghost use Rattle.af_base.specs.Run.{fresh, Run, Step};
+ghost use Rattle.af_steps.specs.Outcome.{Answers, reply_of};
 
-use crate::store::Store;
+use af_base::errno::Errno;
 use af_base::events;
 use af_base::events::{Event, Reply};
 use af_base::names::Pid;
+use af_collect::Store;
 use std::alloc::{AllocError, Global};
 use std::marker::Model;
 use thiserror::Error;
@@ -14,6 +16,7 @@ use thiserror::Error;
 /// A machine that does one event after another.
 #[derive(Drop)]
 pub struct Engine {
+    pub(crate) alloc: Global,
     pub(crate) store: Store,
     /// The number of the last pass, 0 before the first.
     pub(crate) last_pass: u64,
@@ -24,8 +27,8 @@ impl Model for Engine {
     ghost use Rattle.std.specs.Coded.{codes};
     ghost use Rattle.std.specs.Prelude.{◌≤◌};
     ghost use Rattle.af_base.specs.Pass.{Machine, Idle};
+    ghost use Rattle.af_base.specs.Whole.{IsSound};
     ghost use Rattle.af_base.specs.declared.limits.TheConstants.{MAX_PASS};
-    ghost use Rattle.af_steps.specs.Agreement.{IsAtRest};
 
     ghost Value = { Machine };
 
@@ -33,7 +36,7 @@ impl Model for Engine {
 
     ghost view = { λ e. record { world = e.store.world; pass = Idle; last_pass = e.last_pass } };
 
-    ghost invariant = { λ e. IsAtRest e.store × (e.last_pass ≤ MAX_PASS) };
+    ghost invariant = { λ e. IsSound e.store.world × (e.last_pass ≤ MAX_PASS) };
 }
 
 /// A run ended early, since room for one more reply was refused.
@@ -52,6 +55,7 @@ impl Engine {
         ensures { IfOk result (λ e. e ≡ fresh) }
     {
         Ok(Engine {
+            alloc,
             store: Store::new(alloc),
             last_pass: 0,
         })
@@ -63,53 +67,20 @@ impl Engine {
     pub fn step(&mut self, event: &Event) -> Reply
         ensures { Step self.old event.now result self.new }
     {
-        match event {
+        reply_of(match event {
             Event::Spawn {
                 uid,
                 nofile,
                 privileged,
-            } => self.store.start(*uid, *nofile, *privileged),
-            Event::Proc(pid, step) => self.store.step(*pid, step),
+            } => self.start(*uid, *nofile, *privileged),
+            Event::Proc(pid, step) => self.step_of(*pid, step),
             Event::Pass => self.pass(),
-        }
+        })
     }
-
-    /// Does these events in order. The error holds the replies of those that were done.
-    pub fn run(&mut self, events: &[Event]) -> Result<Vec<Reply>, RunStopped>
-        ensures whole { IfOk result (λ replies. length replies.items ≡ length events.now) }
-        ensures run { IfOk result (λ replies. Run self.old (zip events.now replies.items) self.new) }
-        ensures fewer { IfErr result (λ stopped. length stopped.done.items < length events.now) }
-        ensures stopped { IfErr result (λ stopped. Run self.old (zip events.now stopped.done.items) self.new) }
-    {
-        let mut done = Vec::new(self.store.alloc);
-        for event in events {
-            if done.reserve(1).is_err() {
-                return Err(RunStopped { done });
-            }
-            let reply = self.step(event);
-            done.push_reserved(reply);
-        }
-        Ok(done)
-    }
-
-    /// What an engine shows is whole, within all limits, and settled, whatever happened before.
-    pub fn is_sound(&self)
-        ensures { IsSound self.now.world }
-    {
-        // The invariant says it: it is enough to look at a field.
-        let _store = &self.store;
-    }
-}
-
-impl Store {
-    ghost use Rattle.af_base.specs.Steps.{ProcessStep};
-    ghost use Rattle.af_steps.specs.Agreement.{IsAtRest};
 
     /// A step of a process.
-    fn step(&mut self, pid: Pid, step: &events::Step) -> Reply
-        requires { IsAtRest self.old }
-        ensures step { ProcessStep self.old.world pid step.now result self.new.world }
-        ensures rest { IsAtRest self.new }
+    fn step_of(&mut self, pid: Pid, step: &events::Step) -> Result<Reply, Errno>
+        ensures { Answers self.old pid step.now result self.new }
     {
         match step {
             events::Step::Open => self.open(pid),
@@ -131,5 +102,41 @@ impl Store {
                 max_fds,
             } => self.recv(pid, *on, *max_bytes, *max_fds),
         }
+    }
+
+    /// Does these events in order. The error holds the replies of those that were done.
+    pub fn run(&mut self, events: &[Event]) -> Result<Vec<Reply>, RunStopped>
+        ensures whole { IfOk result (λ replies. length replies.items ≡ length events.now) }
+        ensures run { IfOk result (λ replies. Run self.old (zip events.now replies.items) self.new) }
+        ensures fewer { IfErr result (λ stopped. length stopped.done.items < length events.now) }
+        ensures stopped { IfErr result (λ stopped. Run self.old (zip events.now stopped.done.items) self.new) }
+    {
+        let mut done = Vec::new(self.alloc);
+        for event in events {
+            if done.reserve(1).is_err() {
+                return Err(RunStopped { done });
+            }
+            let reply = self.step(event);
+            done.push_reserved(reply);
+        }
+        Ok(done)
+    }
+
+    /// What an engine shows is whole, within all limits, and settled, whatever happened before.
+    pub fn is_sound(&self)
+        ensures { IsSound self.now.world }
+    {
+        // The invariant says it: it is enough to look at a field.
+        let _store = &self.store;
+    }
+}
+
+/// The reply: the answer, or the error as a refusal.
+fn reply_of(outcome: Result<Reply, Errno>) -> Reply
+    ensures { result ≡ reply_of outcome }
+{
+    match outcome {
+        Ok(reply) => reply,
+        Err(error) => Reply::Refused(error),
     }
 }

@@ -1,17 +1,13 @@
 //! The engine: one event after another, each with its reply.
 //!
-//! Tables, descriptions and counts stand in crates of their own; here are the events, the place
-//! changes that keep counts and world together, and the collector.
+//! What is there stands in a store (`af_collect`), whose place changes keep all counts; here are the
+//! events. Each looks up, is refused in order, makes room, changes places, releases, and answers.
 #![tactic(auto)]
 
-mod collector;
 mod engine;
-mod listings;
-mod marks;
 mod messages;
-mod places;
+mod passes;
 mod sockets;
-mod store;
 mod tables;
 mod views;
 

@@ -1,33 +1,26 @@
 //! Steps that make sockets.
-ghost use Rattle.af_base.specs.Steps.{ProcessStep};
-ghost use Rattle.af_steps.specs.Agreement.{IsAtRest};
+ghost use Rattle.af_steps.specs.Outcome.{Answers};
 
-use crate::store::Store;
+use crate::engine::Engine;
 use af_base::errno::Errno;
 use af_base::events::{Reply, SockType, Step};
 use af_base::names::Pid;
 
-impl Store {
+impl Engine {
     /// A process makes two sockets that are connected to each other (socketpair(2)).
-    pub fn pair(&mut self, pid: Pid, kind: SockType) -> Reply
-        requires { IsAtRest self.old }
-        ensures step { ProcessStep self.old.world pid (Step.Pair kind) result self.new.world }
-        ensures rest { IsAtRest self.new }
+    pub(crate) fn pair(&mut self, pid: Pid, kind: SockType) -> Result<Reply, Errno>
+        ensures { Answers self.old pid (Step.Pair kind) result self.new }
     {
-        if self.procs.who(pid).is_none() {
-            return Reply::Refused(Errno::ESRCH);
+        let process = self.store.procs().find(pid).ok_or(Errno::ESRCH)?;
+        let (lower, higher) = process.lowest_two().ok_or(Errno::EMFILE)?;
+        if self.store.files().is_full(2) {
+            return Err(Errno::ENFILE);
         }
-        let Some((lower, higher)) = self.procs.lowest_two(pid) else {
-            return Reply::Refused(Errno::EMFILE);
-        };
-        if self.files.is_full(2) {
-            return Reply::Refused(Errno::ENFILE);
-        }
-        let Ok((first, second)) = self.make_two(pid, kind) else {
-            return Reply::Refused(Errno::ENOMEM);
-        };
-        self.table_in(pid, lower, first);
-        self.table_in(pid, higher, second);
-        Reply::Fds(lower, higher)
+        self.store.room_for(pid, 2)?;
+        let (first, second) = self.store.make_two(kind)?;
+        self.store.table_in(pid, lower, first);
+        self.store.table_in(pid, higher, second);
+        self.store.release();
+        Ok(Reply::Fds(lower, higher))
     }
 }

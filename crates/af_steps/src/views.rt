@@ -1,13 +1,16 @@
-//! What can be seen of an engine. No view takes memory.
-ghost use Rattle.std.specs.Prelude.{◌≡◌, ◌<◌, ℕ, false, IfSome, IfNone, slice_get};
+//! What can be seen of an engine. No view takes memory, but for the plain lists.
+ghost use Rattle.std.specs.Prelude.{◌≡◌, ◌<◌, ℕ, false, IfOk, IfSome, IfNone, length, slice_get};
 ghost use Rattle.std.specs.FinMap as map;
 ghost use Rattle.af_base.specs.World.{is_live, IsLive};
+ghost use Rattle.af_base.specs.Bare.{bare};
 ghost use Rattle.af_base.specs.Counts.{refs, inflight, charged, total};
 ghost use Rattle.af_steps.specs.Shown.{shown_of};
 
 use crate::engine::Engine;
 use af_base::events::{SockType, State};
+use af_base::listing::Listing;
 use af_base::names::{Ino, Pid, Uid};
+use std::alloc::AllocError;
 
 /// What a file is.
 #[derive(Clone, Copy, Debug, PartialEq, Eq)]
@@ -28,7 +31,7 @@ impl Engine {
     pub fn refs(&self, ino: Ino) -> u64
         ensures { result ≡ refs self.now.world ino }
     {
-        self.store.ledger.refs(ino)
+        self.store.refs(ino)
     }
 
     /// How often the file is in flight (unix(7), SCM_RIGHTS): how many places in queues hold it,
@@ -36,7 +39,7 @@ impl Engine {
     pub fn inflight(&self, ino: Ino) -> u64
         ensures { result ≡ inflight self.now.world ino }
     {
-        self.store.ledger.inflight(ino)
+        self.store.inflight(ino)
     }
 
     /// How many descriptors in flight are charged to the user, repeats included (unix(7),
@@ -44,21 +47,21 @@ impl Engine {
     pub fn charged(&self, user: Uid) -> u64
         ensures { result ≡ charged self.now.world user }
     {
-        self.store.ledger.charged(user)
+        self.store.charged(user)
     }
 
     /// How many descriptors are in flight, repeats included.
     pub fn total(&self) -> u64
         ensures { result ≡ total self.now.world }
     {
-        self.store.ledger.total()
+        self.store.total()
     }
 
     /// How many files are live.
     pub fn live(&self) -> usize
         ensures { result ≡ map.len self.now.world.files }
     {
-        self.store.files.live()
+        self.store.files().live()
     }
 
     /// The least live file above that number; nothing where none is above it.
@@ -68,28 +71,35 @@ impl Engine {
         ensures least { IfSome result (λ n. (q : ℕ) → ino < q → q < n → is_live self.now.world q ≡ false) }
         ensures none { IfNone result ((q : ℕ) → ino < q → is_live self.now.world q ≡ false) }
     {
-        self.store.files.next_after(ino)
+        self.store.files().next_after(ino)
     }
 
     /// The pid that the next process gets.
     pub fn next_pid(&self) -> Pid
         ensures { result ≡ self.now.world.next_pid }
     {
-        self.store.procs.next_pid()
+        self.store.procs().next_pid()
     }
 
     /// The i-th user, from 0, in the order of their first process; nothing past the last.
     pub fn user_at(&self, i: usize) -> Option<Uid>
         ensures { result ≡ slice_get self.now.world.users i }
     {
-        self.store.ledger.user_at(i)
+        self.store.user_at(i)
+    }
+
+    /// How many users there are: a user stays when its last process is gone.
+    pub fn users(&self) -> usize
+        ensures { result ≡ length self.now.world.users }
+    {
+        self.store.users()
     }
 
     /// What the file is; nothing for a stranger.
     pub fn file(&self, ino: Ino) -> Option<FileInfo>
         ensures { result ≡ shown_of (map.get self.now.world.files ino) }
     {
-        let Some(socket) = self.store.files.get(ino)?.socket() else {
+        let Some(socket) = self.store.files().get(ino)?.socket() else {
             return Some(FileInfo::Plain);
         };
         Some(FileInfo::Socket {
@@ -97,5 +107,13 @@ impl Engine {
             state: socket.state(),
             messages: socket.messages(),
         })
+    }
+
+    /// Plain lists of the tables, queues and backlogs as they stand, and whom each message is charged
+    /// to; no bytes, states, names or limits. The error says that memory was refused.
+    pub fn listing(&self) -> Result<Listing, AllocError>
+        ensures { IfOk result (λ l. l ≡ bare self.now.world) }
+    {
+        self.store.listing()
     }
 }

@@ -16,7 +16,7 @@ unfoldable pub table_of : List (Option ℕ) → Map ℕ
 table_of xs = table_from 0 xs
 
 -- A process, and below which number it has room to install (this project's profile).
-pub record Held : Type 0 where
+pub record Roomed : Type 0 where
   pub process : Process
   pub row : ℕ
 

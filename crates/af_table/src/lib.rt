@@ -6,6 +6,7 @@ mod listed;
 mod process;
 mod procs;
 
+pub use process::Process;
 pub use procs::{Procs, Who};
 
 #[cfg(test)]

@@ -4,7 +4,7 @@ ghost use Rattle.std.specs.List.Sorted.{IsStrictlyIncreasing};
 ghost use Rattle.std.specs.FinMap as map;
 ghost use Rattle.af_base.specs.Bare.{bare_process};
 ghost use Rattle.af_base.specs.Listing.{process_of, IsRisingTable};
-ghost use Rattle.af_table.specs.Procs.{process_at};
+ghost use Rattle.af_base.specs.Refusals.{process_in};
 
 use crate::process::Process;
 use crate::procs::Procs;
@@ -47,7 +47,7 @@ impl Procs {
     /// none. The list is all that it takes memory for.
     pub fn listed(&self, pid: Pid) -> Result<ListedTable, AllocError>
         ensures pid { IfOk result (λ t. t.pid ≡ pid) }
-        ensures shown { IfOk result (λ t. process_of t ≡ bare_process (process_at self.now pid)) }
+        ensures shown { IfOk result (λ t. process_of t ≡ bare_process (process_in self.now.processes pid)) }
         ensures rising { IfOk result IsRisingTable }
         ensures few { IfOk result (λ t. length t.numbers.items ≤ MAX_NOFILE) }
     {

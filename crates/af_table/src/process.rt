@@ -1,9 +1,10 @@
 //! A process with its table.
 ghost use Rattle.std.specs.Prelude.{◌≡◌, ℕ, ◌+◌, ◌≤◌, ◌<◌, [], ◌∷◌, length, slice_get, IfSome, IfNone, IfOk, OnOk, OnErr, IsOk};
 ghost use Rattle.std.specs.FinMap as map;
+ghost use Rattle.af_base.specs.Changes.{installed, taken_out};
 ghost use Rattle.af_base.specs.Table.{free_numbers, lowest_free};
 ghost use Rattle.af_table.specs.Free.{free_from};
-ghost use Rattle.af_table.specs.Procs.{installed, taken_out, emptied};
+ghost use Rattle.af_table.specs.Procs.{with_empty_table};
 
 use crate::bits::Bits;
 use af_base::limits::MAX_NOFILE;
@@ -27,9 +28,9 @@ impl Model for Process {
     ghost use Rattle.std.specs.FinMap as map;
     ghost use Rattle.std.specs.Coded.{codes};
     ghost use Rattle.af_base.specs.declared.limits.TheConstants.{MAX_NOFILE};
-    ghost use Rattle.af_table.specs.Slots.{Held, table_of, AreTaken};
+    ghost use Rattle.af_table.specs.Slots.{Roomed, table_of, AreTaken};
 
-    ghost Value = { Held };
+    ghost Value = { Roomed };
 
     ghost coded = { Prim.hlevel (codes, map.code) };
 
@@ -41,7 +42,7 @@ impl Model for Process {
 impl Process {
     /// A process with an empty table, and no room in it.
     #[tactic(auto, using(crate::proofs::Tables::table_changes))]
-    pub fn new(alloc: Global, user: Uid, limit: u32, privileged: bool) -> Process
+    pub(crate) fn new(alloc: Global, user: Uid, limit: u32, privileged: bool) -> Process
         requires { limit ≤ MAX_NOFILE }
         ensures { result ≡ record { process = record { user = user; limit = limit; privileged = privileged; table = map.empty }; row = 0 } }
     {
@@ -57,8 +58,8 @@ impl Process {
     /// A process of the same user, with the same limit and privilege. Its table is empty, and has
     /// as much room.
     #[tactic(auto, using(crate::proofs::Tables::table_changes))]
-    pub fn child(&self, alloc: Global) -> Result<Process, AllocError>
-        ensures child { IfOk result (λ p. p ≡ record { process = emptied self.now.process; row = self.now.row }) }
+    pub(crate) fn child(&self, alloc: Global) -> Result<Process, AllocError>
+        ensures child { IfOk result (λ p. p ≡ record { process = with_empty_table self.now.process; row = self.now.row }) }
         ensures room { (n f : ℕ) → map.get self.now.process.table n ≡ Some f → n < self.now.row }
     {
         let slots = vec![in alloc; None; self.slots.len()]?;
@@ -93,7 +94,7 @@ impl Process {
         self.privileged
     }
 
-    /// What the number stands for.
+    /// What the number stands for; nothing where it is free.
     #[tactic(auto, using(crate::proofs::Tables::table_changes))]
     pub fn lookup(&self, fd: Fd) -> Option<Ino>
         ensures { result ≡ map.get self.now.process.table fd }
@@ -101,14 +102,15 @@ impl Process {
         self.slots.get(fd.0 as usize).copied().flatten()
     }
 
-    /// Room for each number below the limit.
+    /// Room for each number below the limit, and for none beyond that had none.
     #[tactic(auto, using(crate::proofs::Tables::table_changes))]
-    pub fn make_room(&mut self) -> Result<(), AllocError>
+    pub(crate) fn make_room(&mut self) -> Result<(), AllocError>
         ensures process { self.new.process ≡ self.old.process }
         ensures ok { OnOk result (self.old.process.limit ≤ self.new.row) }
         ensures rows { self.old.row ≤ self.new.row }
         ensures err { OnErr result (self.new ≡ self.old) }
         ensures succeeds { self.old.process.limit ≤ self.old.row → IsOk result }
+        ensures most { self.old.row < self.new.row → self.new.row ≤ self.old.process.limit }
     {
         let limit = self.limit as usize;
         if self.slots.len() >= limit {
@@ -119,7 +121,7 @@ impl Process {
 
     /// The number, for which there is room, stands for the file from now on.
     #[tactic(auto, using(crate::proofs::Tables::table_changes))]
-    pub fn install(&mut self, fd: Fd, ino: Ino)
+    pub(crate) fn install(&mut self, fd: Fd, ino: Ino)
         requires { fd < self.old.row }
         ensures { self.new ≡ record self.old { process = installed fd ino self.old.process } }
     {
@@ -129,7 +131,7 @@ impl Process {
 
     /// The number is free from now on. It answers what the number stood for.
     #[tactic(auto, using(crate::proofs::Tables::table_changes))]
-    pub fn take_out(&mut self, fd: Fd) -> Option<Ino>
+    pub(crate) fn take_out(&mut self, fd: Fd) -> Option<Ino>
         ensures value { result ≡ map.get self.old.process.table fd }
         ensures taken { self.new ≡ record self.old { process = taken_out fd self.old.process } }
     {
@@ -145,7 +147,7 @@ impl Process {
 
     /// The least free number from this one on: the head of those that are left.
     #[tactic(auto, using(crate::proofs::Left::free_changes))]
-    pub fn next_free(&self, from: u32) -> Option<Fd>
+    pub(crate) fn next_free(&self, from: u32) -> Option<Fd>
         ensures some { IfSome result (λ n. free_from from self.now.process ≡ n ∷ free_from (n + 1) self.now.process) }
         ensures none { IfNone result (free_from from self.now.process ≡ []) }
         ensures low { IfSome result (λ n. n < MAX_NOFILE) }
@@ -157,7 +159,7 @@ impl Process {
         Some(Fd(n))
     }
 
-    /// The lowest free number.
+    /// The lowest free number, if one below its limit is free (open(2)).
     #[tactic(auto, using(crate::proofs::Left::free_lists))]
     pub fn lowest(&self) -> Option<Fd>
         ensures { result ≡ slice_get (free_numbers self.now.process) 0 }
@@ -165,7 +167,7 @@ impl Process {
         self.next_free(0)
     }
 
-    /// The two lowest free numbers, rising.
+    /// The two lowest free numbers, rising; nothing where it has not two.
     #[tactic(auto, using(crate::proofs::Left::free_lists))]
     pub fn lowest_two(&self) -> Option<(Fd, Fd)>
         ensures two { IfSome result (λ t. lowest_free 2 self.now.process ≡ t.0 ∷ t.1 ∷ []) }
@@ -176,10 +178,12 @@ impl Process {
         Some((first, second))
     }
 
-    /// The lowest free numbers, rising: so many, or all where there are fewer.
+    /// The lowest free numbers, rising: so many, or all where there are fewer. The list is all that
+    /// it takes memory for, and an empty list takes none.
     #[tactic(auto, using(crate::proofs::Left::free_lists))]
     pub fn lowest_free(&self, alloc: Global, count: usize) -> Result<Vec<Fd>, AllocError>
-        ensures { IfOk result (λ fds. fds.items ≡ lowest_free count self.now.process) }
+        ensures value { IfOk result (λ fds. fds.items ≡ lowest_free count self.now.process) }
+        ensures none { length (lowest_free count self.now.process) ≡ 0 → IsOk result }
     {
         let mut fds = Vec::new(alloc);
         let mut from = 0;
@@ -193,7 +197,8 @@ impl Process {
         Ok(fds)
     }
 
-    /// The least open number from this one on, with what it stands for.
+    /// The least open number from this one on, with what it stands for, if there is one. To walk over
+    /// all, go on behind each.
     #[tactic(auto, using(crate::proofs::Tables::table_changes))]
     pub fn next_open(&self, from: Fd) -> Option<(Fd, Ino)>
         ensures open { IfSome result (λ e. map.get self.now.process.table e.0 ≡ Some e.1) }

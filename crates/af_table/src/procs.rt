@@ -1,9 +1,11 @@
 //! The processes by pid.
 ghost use Rattle.std.specs.Prelude.{◌≡◌, ℕ, ◌+◌, ◌≤◌, ◌<◌, [], ◌∷◌, length, slice_get, IsTrue, IfSome, IfNone, IfOk, OnOk, OnErr, OnSome, IsOk};
 ghost use Rattle.std.specs.FinMap as map;
-ghost use Rattle.af_base.specs.Changes.{change_at};
+ghost use Rattle.af_base.specs.Changes.{change_at, installed, taken_out};
+ghost use Rattle.af_base.specs.Places.{number_in};
+ghost use Rattle.af_base.specs.Refusals.{process_in};
 ghost use Rattle.af_base.specs.Table.{free_numbers, lowest_free};
-ghost use Rattle.af_table.specs.Procs.{process_at, table_at, row_at, started, installed, taken_out, emptied};
+ghost use Rattle.af_table.specs.Procs.{row_in, started, with_empty_table};
 
 use crate::process::Process;
 use af_base::limits::{MAX_NOFILE, MAX_PID};
@@ -72,9 +74,9 @@ impl Procs {
         Pid(self.next_pid)
     }
 
-    /// The process of that pid.
+    /// The process of that pid; nothing of a stranger.
     #[tactic(auto, using(crate::proofs::Parts::part_changes))]
-    pub(crate) fn find(&self, pid: Pid) -> Option<&Process>
+    pub fn find(&self, pid: Pid) -> Option<&Process>
         ensures there { IfSome result (λ p. map.get self.now.processes pid ≡ Some p.now.process) }
         ensures row { IfSome result (λ p. map.get self.now.rows pid ≡ Some p.now.row) }
         ensures none { IfNone result (map.get self.now.processes pid ≡ None) }
@@ -85,9 +87,9 @@ impl Procs {
     /// Whose the process is, its limit, and whether it is privileged; nothing of a stranger.
     pub fn who(&self, pid: Pid) -> Option<Who>
         ensures there { OnSome result (IsTrue (map.contains_key self.now.processes pid)) }
-        ensures user { IfSome result (λ w. w.user ≡ (process_at self.now pid).user) }
-        ensures limit { IfSome result (λ w. w.limit ≡ (process_at self.now pid).limit) }
-        ensures privileged { IfSome result (λ w. w.privileged ≡ (process_at self.now pid).privileged) }
+        ensures user { IfSome result (λ w. w.user ≡ (process_in self.now.processes pid).user) }
+        ensures limit { IfSome result (λ w. w.limit ≡ (process_in self.now.processes pid).limit) }
+        ensures privileged { IfSome result (λ w. w.privileged ≡ (process_in self.now.processes pid).privileged) }
         ensures bound { IfSome result (λ w. w.limit ≤ MAX_NOFILE) }
         ensures none { IfNone result (map.get self.now.processes pid ≡ None) }
     {
@@ -102,7 +104,7 @@ impl Procs {
     /// What the number of the process stands for: nothing where it is free, or there is no such
     /// process.
     pub fn lookup(&self, pid: Pid, fd: Fd) -> Option<Ino>
-        ensures { result ≡ table_at self.now pid fd }
+        ensures { result ≡ number_in self.now.processes pid fd }
     {
         self.find(pid)?.lookup(fd)
     }
@@ -110,7 +112,7 @@ impl Procs {
     /// The lowest free number of the process, if one below its limit is free (open(2)); a stranger
     /// has none.
     pub fn lowest(&self, pid: Pid) -> Option<Fd>
-        ensures { result ≡ slice_get (free_numbers (process_at self.now pid)) 0 }
+        ensures { result ≡ slice_get (free_numbers (process_in self.now.processes pid)) 0 }
     {
         self.find(pid)?.lowest()
     }
@@ -118,16 +120,17 @@ impl Procs {
     /// The two lowest free numbers of the process, rising; nothing where it has not two, or of a
     /// stranger.
     pub fn lowest_two(&self, pid: Pid) -> Option<(Fd, Fd)>
-        ensures two { IfSome result (λ t. lowest_free 2 (process_at self.now pid) ≡ t.0 ∷ t.1 ∷ []) }
-        ensures none { IfNone result (length (free_numbers (process_at self.now pid)) < 2) }
+        ensures two { IfSome result (λ t. lowest_free 2 (process_in self.now.processes pid) ≡ t.0 ∷ t.1 ∷ []) }
+        ensures none { IfNone result (length (free_numbers (process_in self.now.processes pid)) < 2) }
     {
         self.find(pid)?.lowest_two()
     }
 
     /// The lowest free numbers of the process, rising: so many, or all where there are fewer; of a
-    /// stranger an empty list. The list is all that it takes memory for.
+    /// stranger an empty list. The list is all that it takes memory for, and an empty list takes none.
     pub fn lowest_free(&self, pid: Pid, count: usize) -> Result<Vec<Fd>, AllocError>
-        ensures { IfOk result (λ fds. fds.items ≡ lowest_free count (process_at self.now pid)) }
+        ensures value { IfOk result (λ fds. fds.items ≡ lowest_free count (process_in self.now.processes pid)) }
+        ensures none { length (lowest_free count (process_in self.now.processes pid)) ≡ 0 → IsOk result }
     {
         let Some(process) = self.find(pid) else {
             return Ok(Vec::new(self.alloc));
@@ -138,11 +141,11 @@ impl Procs {
     /// The least open number of the process from this one on, with what it stands for, if there is
     /// one; a stranger has none. To walk over all, go on behind each.
     pub fn next_open(&self, pid: Pid, from: Fd) -> Option<(Fd, Ino)>
-        ensures open { IfSome result (λ e. table_at self.now pid e.0 ≡ Some e.1) }
+        ensures open { IfSome result (λ e. number_in self.now.processes pid e.0 ≡ Some e.1) }
         ensures low { IfSome result (λ e. e.0 < MAX_NOFILE) }
         ensures reached { IfSome result (λ e. from ≤ e.0) }
-        ensures least { IfSome result (λ e. (q : ℕ) → from ≤ q → q < e.0 → table_at self.now pid q ≡ None) }
-        ensures none { IfNone result ((q : ℕ) → from ≤ q → table_at self.now pid q ≡ None) }
+        ensures least { IfSome result (λ e. (q : ℕ) → from ≤ q → q < e.0 → number_in self.now.processes pid q ≡ None) }
+        ensures none { IfNone result ((q : ℕ) → from ≤ q → number_in self.now.processes pid q ≡ None) }
     {
         self.find(pid)?.next_open(from)
     }
@@ -203,9 +206,9 @@ impl Procs {
         requires next { self.old.next_pid ≤ MAX_PID }
         ensures pid { IfOk result (λ child. child ≡ self.old.next_pid) }
         ensures next { OnOk result (self.new.next_pid ≡ self.old.next_pid + 1) }
-        ensures processes { OnOk result (self.new.processes ≡ map.insert self.old.processes self.old.next_pid (emptied (process_at self.old pid))) }
-        ensures rows { OnOk result (self.new.rows ≡ map.insert self.old.rows self.old.next_pid (row_at self.old pid)) }
-        ensures room { OnOk result ((n f : ℕ) → table_at self.old pid n ≡ Some f → n < row_at self.new self.old.next_pid) }
+        ensures processes { OnOk result (self.new.processes ≡ map.insert self.old.processes self.old.next_pid (with_empty_table (process_in self.old.processes pid))) }
+        ensures rows { OnOk result (self.new.rows ≡ map.insert self.old.rows self.old.next_pid (row_in self.old.rows pid)) }
+        ensures room { OnOk result ((n f : ℕ) → number_in self.old.processes pid n ≡ Some f → n < row_in self.new.rows self.old.next_pid) }
         ensures err { OnErr result (self.new ≡ record self.old { room = self.new.room }) }
         ensures kept { OnErr result (self.old.room ≤ self.new.room) }
     {
@@ -221,12 +224,12 @@ impl Procs {
         ensures processes { self.new.processes ≡ self.old.processes }
         ensures next { self.new.next_pid ≡ self.old.next_pid }
         ensures room { self.new.room ≡ self.old.room }
-        ensures ok { OnOk result (0 < count → (process_at self.old pid).limit ≤ row_at self.new pid) }
-        ensures rows { (q : ℕ) → row_at self.old q ≤ row_at self.new q }
+        ensures ok { OnOk result (0 < count → (process_in self.old.processes pid).limit ≤ row_in self.new.rows pid) }
+        ensures rows { (q : ℕ) → row_in self.old.rows q ≤ row_in self.new.rows q }
         ensures err { OnErr result (self.new.rows ≡ self.old.rows) }
         ensures none { count ≡ 0 → IsOk result }
         ensures unchanged { count ≡ 0 → self.new.rows ≡ self.old.rows }
-        ensures ready { (process_at self.old pid).limit ≤ row_at self.old pid → IsOk result }
+        ensures ready { (process_in self.old.processes pid).limit ≤ row_in self.old.rows pid → IsOk result }
     {
         if count == 0 {
             return Ok(());
@@ -241,7 +244,7 @@ impl Procs {
     /// whatever it stood for. It takes no memory.
     #[tactic(auto, using(crate::proofs::Parts::part_changes))]
     pub fn install(&mut self, pid: Pid, fd: Fd, ino: Ino)
-        requires { fd < row_at self.old pid }
+        requires { fd < row_in self.old.rows pid }
         ensures processes { self.new.processes ≡ change_at (installed fd ino) self.old.processes pid }
         ensures rows { self.new.rows ≡ self.old.rows }
         ensures next { self.new.next_pid ≡ self.old.next_pid }
@@ -257,7 +260,7 @@ impl Procs {
     /// is nothing where it was free already, and nothing of a stranger. It takes no memory.
     #[tactic(auto, using(crate::proofs::Parts::part_changes))]
     pub fn take_out(&mut self, pid: Pid, fd: Fd) -> Option<Ino>
-        ensures value { result ≡ table_at self.old pid fd }
+        ensures value { result ≡ number_in self.old.processes pid fd }
         ensures processes { self.new.processes ≡ change_at (taken_out fd) self.old.processes pid }
         ensures rows { self.new.rows ≡ self.old.rows }
         ensures next { self.new.next_pid ≡ self.old.next_pid }
@@ -271,7 +274,7 @@ impl Procs {
     /// changes. It takes no memory.
     #[tactic(auto, using(crate::proofs::Parts::part_changes))]
     pub fn remove(&mut self, pid: Pid)
-        requires { (n : ℕ) → table_at self.old pid n ≡ None }
+        requires { (n : ℕ) → number_in self.old.processes pid n ≡ None }
         ensures processes { self.new.processes ≡ map.remove self.old.processes pid }
         ensures rows { self.new.rows ≡ map.remove self.old.rows pid }
         ensures next { self.new.next_pid ≡ self.old.next_pid }

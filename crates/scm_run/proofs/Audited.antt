@@ -1,5 +1,5 @@
 -- What a recount of the bare world says of the whole one.
-use Rattle.std.proofs.Common.{◌≡◌, ℕ, List, sym, ◌∙◌}
+use Rattle.std.proofs.Common.{ℕ, List, sym, ◌∙◌}
 use Rattle.af_base.specs.World.{World}
 use Rattle.af_base.specs.Bare.{bare}
 use Rattle.af_base.specs.Reached.{Garbage}

@@ -3,3 +3,4 @@ pub mod LinesLemmas
 pub mod RunLemmas
 pub mod UserLines
 pub mod Audited
+pub mod ShortReplies

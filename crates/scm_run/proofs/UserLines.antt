@@ -1,6 +1,6 @@
 -- The lines of the users that are left.
-use Rattle.std.proofs.Common.{◌≡◌, ℕ, zero, suc, ◌+◌, List, [], ◌∷◌, ◌++◌, drop, length, refl, sym, ap, ◌∙◌, append_assoc, append-nil, arith}
-use Rattle.std.specs.Prelude.{Option, Some, None, slice_get}
+use Rattle.std.proofs.Common.{◌≡◌, ◌≤◌, ℕ, zero, suc, ◌+◌, List, [], ◌∷◌, ◌++◌, drop, length, refl, sym, ap, ◌∙◌, append_assoc, append-nil, arith}
+use Rattle.std.specs.Prelude.{Some, slice_get}
 use Rattle.std.specs.List.{flat_map}
 use Rattle.std.proofs.lemmas.Option.{slice_get_within}
 use Rattle.af_base.specs.World.{World}
@@ -14,11 +14,11 @@ drop_at (y ∷ xs) zero x e = let same : y ≡ x = cc in ap (λ z. z ∷ xs) sam
 drop_at (y ∷ xs) (suc i) x e = drop_at xs i x e
 
 -- The list from its end on is empty.
-drop_past : {X : Type 0} (xs : List X) (i : ℕ) → slice_get xs i ≡ None → drop i xs ≡ []
-drop_past [] zero e = refl
-drop_past [] (suc i) e = refl
-drop_past (y ∷ xs) zero e = cc
-drop_past (y ∷ xs) (suc i) e = drop_past xs i e
+drop_past : {X : Type 0} (xs : List X) (i : ℕ) → length xs ≤ i → drop i xs ≡ []
+drop_past [] zero past = refl
+drop_past [] (suc i) past = refl
+drop_past (y ∷ xs) zero past = absurd (omega (arith, past))
+drop_past (y ∷ xs) (suc i) past = drop_past xs i (omega (arith, past))
 
 -- The line of a user of a world.
 abbrev pub line : World → ℕ → List ℕ
@@ -36,5 +36,19 @@ line_more w text more whole i u at is so =
     ∙ so
 
 -- No user is left.
-pub lines_done : (w : World) (text whole : List ℕ) (i : ℕ) → slice_get w.users i ≡ None → text ++ flat_map (line w) (drop i w.users) ≡ whole → text ≡ whole
-lines_done w text whole i none so = sym (append-nil text) ∙ ap (λ us. text ++ flat_map (line w) us) (sym (drop_past w.users i none)) ∙ so
+pub lines_done : (w : World) (text whole : List ℕ) (i : ℕ) → length w.users ≤ i → text ++ flat_map (line w) (drop i w.users) ≡ whole → text ≡ whole
+lines_done w text whole i past so = sym (append-nil text) ∙ ap (λ us. text ++ flat_map (line w) us) (sym (drop_past w.users i past)) ∙ so
+
+-- One user more is kept.
+pub user_more : (us ks ls : List ℕ) (i u : ℕ) → slice_get us i ≡ Some u → ls ≡ ks ++ u ∷ [] → ks ++ drop i us ≡ us → ls ++ drop (i + 1) us ≡ us
+user_more us ks ls i u at is so =
+    let next : i + 1 ≡ suc i = omega arith in
+    ap (λ k. ls ++ drop k us) next
+    ∙ ap (λ t. t ++ drop (suc i) us) is
+    ∙ append_assoc ks (u ∷ []) (drop (suc i) us)
+    ∙ ap (λ r. ks ++ r) (sym (drop_at us i u at))
+    ∙ so
+
+-- All users are kept.
+pub users_done : (us ks : List ℕ) (i : ℕ) → length us ≤ i → ks ++ drop i us ≡ us → ks ≡ us
+users_done us ks i past so = sym (append-nil ks) ∙ ap (λ r. ks ++ r) (sym (drop_past us i past)) ∙ so

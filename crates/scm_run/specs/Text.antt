@@ -1,10 +1,11 @@
 -- The text of replies.
-use Rattle.std.specs.Prelude.{ℕ, ◌+◌, ◌/◌, ◌%◌, ◌==◌, ◌&&◌, ◌||◌, nat_le, nat_lt, length, List, [], ◌∷◌, ◌++◌, Bool, if◌then◌else◌, codes}
+use Rattle.std.specs.Prelude.{ℕ, ◌+◌, ◌/◌, ◌%◌, ◌==◌, ◌&&◌, ◌||◌, ◌≤◌, nat_le, nat_lt, length, List, [], ◌∷◌, ◌++◌, Bool, if◌then◌else◌, codes}
 use Rattle.std.specs.List.{flat_map}
 use Rattle.std.specs.Fmt.{decimal}
 use Rattle.af_base.specs.Errno.{name_of}
 use Rattle.af_base.specs.declared.events.Reply.{Reply}
 use Rattle.af_base.specs.declared.events.Reply.TheVariants as reply
+use Rattle.af_base.specs.declared.limits.TheConstants.{MAX_BYTES, SCM_MAX_FD}
 
 -- A letter, a digit, `_`, `-` or `.` is printed as itself. This project's profile.
 abbrev pub is_plain : ℕ → Bool
@@ -30,6 +31,10 @@ fds_text fds = if length fds == 0 then [] else codes " fds" ++ flat_map spaced f
 abbrev pub flag_text : Bool → List ℕ → List ℕ
 flag_text flag word = if flag then word else []
 
+-- What a receive took: the bytes, the numbers, and the two flags. This project's profile.
+abbrev pub got_text : List ℕ → List ℕ → Bool → Bool → List ℕ
+got_text bytes fds trunc ctrunc = codes "got " ++ flat_map escaped bytes ++ fds_text fds ++ flag_text trunc (codes " trunc") ++ flag_text ctrunc (codes " ctrunc")
+
 -- A reply without the end of its line. This project's profile.
 abbrev pub reply_text : Reply → List ℕ
 reply_text (reply.Pid pid) = codes "pid " ++ decimal pid
@@ -37,8 +42,7 @@ reply_text (reply.Fd fd) = codes "fd " ++ decimal fd
 reply_text (reply.Fds first second) = codes "fds " ++ decimal first ++ spaced second
 reply_text reply.Ok = codes "ok"
 reply_text (reply.Sent count) = codes "sent " ++ decimal count
-reply_text (reply.Got bytes fds trunc ctrunc) =
-    codes "got " ++ flat_map escaped bytes ++ fds_text fds ++ flag_text trunc (codes " trunc") ++ flag_text ctrunc (codes " ctrunc")
+reply_text (reply.Got bytes fds trunc ctrunc) = got_text bytes fds trunc ctrunc
 reply_text reply.End = codes "end"
 reply_text (reply.Started pass) = codes "started " ++ decimal pass
 reply_text reply.Working = codes "working"
@@ -48,3 +52,8 @@ reply_text (reply.Refused error) = name_of error
 -- The line of a reply ends in a line feed.
 unfoldable pub reply_line : Reply → List ℕ
 reply_line answer = reply_text answer ++ 10 ∷ []
+
+-- The reply is no longer than a step can make it: so many bytes and numbers of a receive at most. This project's profile.
+abbrev pub IsShort : Reply → Type 0
+IsShort (reply.Got bytes fds trunc ctrunc) = (length bytes ≤ MAX_BYTES) × (length fds ≤ SCM_MAX_FD)
+IsShort other = Unit {0}

@@ -2,9 +2,11 @@
 //!
 //! A caller wants [`run::run_script`] and [`fault::RunFault`]. Each line is read by `scm_lines`,
 //! done by an engine of `af_steps` (`line`), and its text is made whole before it is written: of a
-//! reply (`text`) or of a report (`report`).
+//! reply (`text`) or of a report (`report`). A check is printed only where the kept numbers were
+//! compared with a recount (`agreed`).
 #![tactic(auto)]
 
+mod agreed;
 pub mod fault;
 mod line;
 mod report;

@@ -1,5 +1,5 @@
 //! One line of a script: read, done, and its text written.
-ghost use Rattle.std.specs.Prelude.{◌≡◌, ◌≤◌, ◌⊎◌, [], IfOk, IfErr, OnOk, string_bytes, false};
+ghost use Rattle.std.specs.Prelude.{◌≡◌, ◌≤◌, ◌⊎◌, [], IfOk, IfErr, OnOk, OnErr, string_bytes, false};
 ghost use Rattle.af_base.specs.declared.errno.Errno.TheVariants.{ENOMEM};
 ghost use Rattle.af_base.specs.declared.events.Reply.TheVariants as reply;
 ghost use Rattle.scm_run.specs.Report.{IsReportText};
@@ -39,7 +39,8 @@ fn answer_report(
 
 /// Does what a line says, makes its text, and says how many events that were.
 ///
-/// Room for the text of a reply is had before the step, so that a step that was done has its text.
+/// Room for the text of any reply is had before the step, so a step that was done has its text: on
+/// an error none was.
 fn answer(
     alloc: Global,
     engine: &mut Engine,
@@ -48,12 +49,15 @@ fn answer(
 ) -> Result<u64, AllocError>
     ensures does { IfOk result (λ events. Does engine.old says events (string_bytes text.new) engine.new) }
     ensures few { IfOk result (λ events. events ≤ 1) }
+    ensures same { OnErr result (engine.new ≡ engine.old) }
 {
     text.clear();
     text.reserve(MAX_REPLY_LINE)?;
     match says {
         Line::Silence => Ok(0),
         Line::Event(event) => {
+            // What a sound world answers is short.
+            engine.is_sound();
             let reply = engine.step(&event);
             push_reply(text, &reply)?;
             Ok(1)

@@ -1,5 +1,6 @@
 //! The text of reports.
 ghost use Rattle.std.specs.Prelude.{◌≡◌, ◌++◌, List, [], ℕ, IfOk, OnOk, length, string_bytes};
+ghost use Rattle.std.specs.Prelude as list;
 ghost use Rattle.std.specs.List.{All};
 ghost use Rattle.std.specs.FinMap as map;
 ghost use Rattle.af_base.specs.Reached.{Garbage};
@@ -7,8 +8,9 @@ ghost use Rattle.af_plain.specs.Agreement.{AreRecounts, IsFileRecount, IsUserRec
 ghost use Rattle.af_plain.specs.Marking.{IsListOf};
 ghost use Rattle.scm_run.specs.Report.{IsCheckText, IsReportText, check_line, totals_text, user_line};
 
+use crate::agreed::Agreed;
 use af_base::names::{Ino, Uid};
-use af_plain::{Kept, KeptFile, KeptUser, agrees, garbage};
+use af_plain::{Kept, KeptFile, KeptUser, garbage};
 use af_steps::Engine;
 use scm_lines::line::Report;
 use std::alloc::{AllocError, Global};
@@ -24,26 +26,23 @@ fn push_user(text: &mut String, user: Uid, charged: u64) -> Result<(), AllocErro
 fn push_totals(text: &mut String, engine: &Engine) -> Result<(), AllocError>
     ensures { OnOk result (string_bytes text.new ≡ string_bytes text.old ++ totals_text engine.now.world) }
 {
-    // The count stands for "for ever": no list of users is that long.
-    for i in 0..usize::MAX {
-        let Some(user) = engine.user_at(i) else {
-            return Ok(());
-        };
+    for i in 0..engine.users() {
+        let user = engine.user_at(i).unwrap();
         push_user(text, user, engine.charged(user))?;
     }
-    Err(AllocError)
+    Ok(())
 }
 
-/// The numbers that the engine keeps of each live file.
+/// The numbers that the engine keeps of each live file, by rising inode number.
 fn kept_files(alloc: Global, engine: &Engine) -> Result<Vec<KeptFile>, AllocError>
-    ensures { IfOk result (λ files. All (IsFileRecount engine.now.world) files.items) }
+    ensures recounts { IfOk result (λ files. All (IsFileRecount engine.now.world) files.items) }
+    ensures all { IfOk result (λ files. list.map (λ k. k.ino) files.items ≡ map.keys engine.now.world.files) }
 {
+    // No file has the number 0: that is what a sound world says of it.
+    engine.is_sound();
     let mut files = Vec::new(alloc);
     let mut last = Ino(0);
-    for _ in 0..engine.live() {
-        let Some(ino) = engine.next_after(last) else {
-            return Ok(files);
-        };
+    while let Some(ino) = engine.next_after(last) {
         files.push(KeptFile {
             ino,
             refs: engine.refs(ino),
@@ -54,26 +53,27 @@ fn kept_files(alloc: Global, engine: &Engine) -> Result<Vec<KeptFile>, AllocErro
     Ok(files)
 }
 
-/// The number that the engine keeps of each user.
+/// The number that the engine keeps of each user, in the order of their first process.
 fn kept_users(alloc: Global, engine: &Engine) -> Result<Vec<KeptUser>, AllocError>
-    ensures { IfOk result (λ users. All (IsUserRecount engine.now.world) users.items) }
+    ensures recounts { IfOk result (λ users. All (IsUserRecount engine.now.world) users.items) }
+    ensures all { IfOk result (λ users. list.map (λ k. k.user) users.items ≡ engine.now.world.users) }
 {
     let mut users = Vec::new(alloc);
-    for i in 0..usize::MAX {
-        let Some(user) = engine.user_at(i) else {
-            return Ok(users);
-        };
+    for i in 0..engine.users() {
+        let user = engine.user_at(i).unwrap();
         users.push(KeptUser {
             user,
             charged: engine.charged(user),
         })?;
     }
-    Err(AllocError)
+    Ok(users)
 }
 
 /// All numbers that the engine keeps.
 fn kept(alloc: Global, engine: &Engine) -> Result<Kept, AllocError>
-    ensures { IfOk result (AreRecounts engine.now.world) }
+    ensures recounts { IfOk result (AreRecounts engine.now.world) }
+    ensures files { IfOk result (λ k. list.map (λ f. f.ino) k.files.items ≡ map.keys engine.now.world.files) }
+    ensures users { IfOk result (λ k. list.map (λ u. u.user) k.users.items ≡ engine.now.world.users) }
 {
     Ok(Kept {
         files: kept_files(alloc, engine)?,
@@ -82,10 +82,11 @@ fn kept(alloc: Global, engine: &Engine) -> Result<Kept, AllocError>
     })
 }
 
-/// Appends the line of a check.
-fn push_counts(text: &mut String, live: u64, lost: u64) -> Result<(), AllocError>
-    ensures { OnOk result (string_bytes text.new ≡ string_bytes text.old ++ check_line live lost) }
+/// Appends the line of a check of numbers that agree, whose files are the live ones.
+fn push_counts(text: &mut String, agreed: &Agreed, lost: usize) -> Result<(), AllocError>
+    ensures { OnOk result (string_bytes text.new ≡ string_bytes text.old ++ check_line agreed.now lost) }
 {
+    let live = agreed.files();
     writeln!(text, "check ok live {live} garbage {lost}")
 }
 
@@ -96,11 +97,11 @@ fn push_check(alloc: Global, text: &mut String, engine: &Engine) -> Result<(), A
 {
     let listing = engine.listing()?;
     let kept = kept(alloc, engine)?;
-    if !agrees(&listing, &kept) {
+    let Some(agreed) = Agreed::of(&listing, &kept) else {
         return text.push_str("check failed\n");
-    }
+    };
     let lost = garbage(alloc, &listing)?;
-    push_counts(text, engine.live() as u64, lost.len() as u64)?;
+    push_counts(text, &agreed, lost.len())?;
     Ok(())
 }
 

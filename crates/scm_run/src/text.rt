@@ -1,16 +1,17 @@
 //! The text of replies.
-ghost use Rattle.std.specs.Prelude.{◌≡◌, ◌<◌, ◌++◌, OnOk, string_bytes};
+ghost use Rattle.std.specs.Prelude.{◌≡◌, ◌<◌, ◌≤◌, ◌+◌, ◌*◌, ◌++◌, OnOk, OnErr, decimal, length, string_bytes, string_capacity, string_len};
 ghost use Rattle.std.specs.List.{flat_map};
-ghost use Rattle.scm_run.specs.Text.{is_plain, hex_digit, escaped, spaced, fds_text, reply_line};
+ghost use Rattle.scm_run.specs.Text.{IsShort, is_plain, hex_digit, escaped, spaced, fds_text, flag_text, got_text, reply_line, reply_text};
 
 use af_base::events::Reply;
 use af_base::limits::{MAX_BYTES, SCM_MAX_FD};
 use af_base::names::Fd;
+use itoa::Buffer;
 use std::alloc::AllocError;
 
 /// Room for the line of any reply: three characters for each byte that a receive takes, a space and
-/// ten digits for each descriptor, and the words.
-pub const MAX_REPLY_LINE: usize = 3 * MAX_BYTES + 11 * SCM_MAX_FD + 64;
+/// twenty digits for each descriptor, and the words.
+pub const MAX_REPLY_LINE: usize = 3 * MAX_BYTES + 21 * SCM_MAX_FD + 64;
 
 /// Whether a byte is printed as itself.
 fn is_plain(byte: u8) -> bool
@@ -32,9 +33,15 @@ fn hex_digit(value: u8) -> u8
     }
 }
 
+// What appends to a text fails only where there was no room for as many bytes as it may take, and
+// then some beginning may stand in the text; room is never lost.
+
 /// Appends a byte as itself, or % and its two hexadecimal digits.
 fn push_escaped(text: &mut String, byte: u8) -> Result<(), AllocError>
-    ensures { OnOk result (string_bytes text.new ≡ string_bytes text.old ++ escaped byte) }
+    ensures bytes { OnOk result (string_bytes text.new ≡ string_bytes text.old ++ escaped byte) }
+    ensures most { OnOk result (string_len text.new ≤ string_len text.old + 3) }
+    ensures room { string_capacity text.old ≤ string_capacity text.new }
+    ensures full { OnErr result (string_capacity text.old < string_len text.old + 3) }
 {
     if is_plain(byte) {
         return text.push(char::from(byte));
@@ -46,7 +53,10 @@ fn push_escaped(text: &mut String, byte: u8) -> Result<(), AllocError>
 
 /// Appends bytes, each as itself or by its digits.
 fn push_bytes(text: &mut String, bytes: &[u8]) -> Result<(), AllocError>
-    ensures { OnOk result (string_bytes text.new ≡ string_bytes text.old ++ flat_map escaped bytes.now) }
+    ensures bytes { OnOk result (string_bytes text.new ≡ string_bytes text.old ++ flat_map escaped bytes.now) }
+    ensures most { OnOk result (string_len text.new ≤ string_len text.old + 3 * length bytes.now) }
+    ensures room { string_capacity text.old ≤ string_capacity text.new }
+    ensures full { OnErr result (string_capacity text.old < string_len text.old + 3 * length bytes.now) }
 {
     for byte in bytes {
         push_escaped(text, *byte)?;
@@ -54,9 +64,37 @@ fn push_bytes(text: &mut String, bytes: &[u8]) -> Result<(), AllocError>
     Ok(())
 }
 
+/// Appends a word, and a number behind it.
+fn push_named(text: &mut String, word: &str, number: u64) -> Result<(), AllocError>
+    ensures bytes { OnOk result (string_bytes text.new ≡ string_bytes text.old ++ word.now ++ decimal number) }
+    ensures most { OnOk result (string_len text.new ≤ string_len text.old + (length word.now + 20)) }
+    ensures room { string_capacity text.old ≤ string_capacity text.new }
+    ensures full { OnErr result (string_capacity text.old < string_len text.old + (length word.now + 20)) }
+{
+    text.push_str(word)?;
+    let mut buffer = Buffer::new();
+    text.push_str(buffer.format(number))
+}
+
+/// Appends numbers, each behind a space.
+fn push_numbers(text: &mut String, fds: &[Fd]) -> Result<(), AllocError>
+    ensures bytes { OnOk result (string_bytes text.new ≡ string_bytes text.old ++ flat_map spaced fds.now) }
+    ensures most { OnOk result (string_len text.new ≤ string_len text.old + 21 * length fds.now) }
+    ensures room { string_capacity text.old ≤ string_capacity text.new }
+    ensures full { OnErr result (string_capacity text.old < string_len text.old + 21 * length fds.now) }
+{
+    for fd in fds {
+        push_named(text, " ", u64::from(fd.0))?;
+    }
+    Ok(())
+}
+
 /// Appends ` fds` and the numbers, where there is one.
 fn push_fds(text: &mut String, fds: &[Fd]) -> Result<(), AllocError>
-    ensures { OnOk result (string_bytes text.new ≡ string_bytes text.old ++ fds_text fds.now) }
+    ensures bytes { OnOk result (string_bytes text.new ≡ string_bytes text.old ++ fds_text fds.now) }
+    ensures most { OnOk result (string_len text.new ≤ string_len text.old + (4 + 21 * length fds.now)) }
+    ensures room { string_capacity text.old ≤ string_capacity text.new }
+    ensures full { OnErr result (string_capacity text.old < string_len text.old + (4 + 21 * length fds.now)) }
 {
     if fds.is_empty() {
         return Ok(());
@@ -65,50 +103,81 @@ fn push_fds(text: &mut String, fds: &[Fd]) -> Result<(), AllocError>
     push_numbers(text, fds)
 }
 
-/// Appends numbers, each behind a space.
-fn push_numbers(text: &mut String, fds: &[Fd]) -> Result<(), AllocError>
-    ensures { OnOk result (string_bytes text.new ≡ string_bytes text.old ++ flat_map spaced fds.now) }
+/// Appends a word, where it is to stand.
+fn push_flag(text: &mut String, flag: bool, word: &str) -> Result<(), AllocError>
+    ensures bytes { OnOk result (string_bytes text.new ≡ string_bytes text.old ++ flag_text flag word.now) }
+    ensures most { OnOk result (string_len text.new ≤ string_len text.old + length word.now) }
+    ensures room { string_capacity text.old ≤ string_capacity text.new }
+    ensures full { OnErr result (string_capacity text.old < string_len text.old + length word.now) }
 {
-    for fd in fds {
-        write!(text, " {fd}")?;
+    if !flag {
+        return Ok(());
     }
-    Ok(())
+    text.push_str(word)
 }
 
-/// Appends the line of a reply, with its line feed.
-///
-/// Where memory runs out, some beginning of the line may stand in the text.
-#[tactic(auto, unfolding(crate::specs::Text::reply_line))]
-pub fn push_reply(text: &mut String, reply: &Reply) -> Result<(), AllocError>
-    ensures { OnOk result (string_bytes text.new ≡ string_bytes text.old ++ reply_line reply.now) }
+/// Appends what a receive took.
+fn push_got(
+    text: &mut String,
+    bytes: &[u8],
+    fds: &[Fd],
+    trunc: bool,
+    ctrunc: bool,
+) -> Result<(), AllocError>
+    ensures bytes { OnOk result (string_bytes text.new ≡ string_bytes text.old ++ got_text bytes.now fds.now trunc ctrunc) }
+    ensures most { OnOk result (string_len text.new ≤ string_len text.old + (3 * length bytes.now + 21 * length fds.now + 21)) }
+    ensures room { string_capacity text.old ≤ string_capacity text.new }
+    ensures full { OnErr result (string_capacity text.old < string_len text.old + (3 * length bytes.now + 21 * length fds.now + 21)) }
+{
+    text.push_str("got ")?;
+    push_bytes(text, bytes)?;
+    push_fds(text, fds)?;
+    push_flag(text, trunc, " trunc")?;
+    push_flag(text, ctrunc, " ctrunc")
+}
+
+/// Appends a reply, without the end of its line.
+fn push_text(text: &mut String, reply: &Reply) -> Result<(), AllocError>
+    ensures bytes { OnOk result (string_bytes text.new ≡ string_bytes text.old ++ reply_text reply.now) }
+    ensures most { OnOk result (IsShort reply.now → string_len text.new < string_len text.old + MAX_REPLY_LINE) }
+    ensures room { string_capacity text.old ≤ string_capacity text.new }
+    ensures full { OnErr result (IsShort reply.now → string_capacity text.old < string_len text.old + MAX_REPLY_LINE) }
 {
     match reply {
-        Reply::Pid(pid) => writeln!(text, "pid {pid}"),
-        Reply::Fd(fd) => writeln!(text, "fd {fd}"),
-        Reply::Fds(first, second) => writeln!(text, "fds {first} {second}"),
-        Reply::Ok => writeln!(text, "ok"),
-        Reply::Sent(count) => writeln!(text, "sent {count}"),
+        Reply::Pid(pid) => push_named(text, "pid ", u64::from(pid.0)),
+        Reply::Fd(fd) => push_named(text, "fd ", u64::from(fd.0)),
+        Reply::Fds(first, second) => {
+            push_named(text, "fds ", u64::from(first.0))?;
+            push_named(text, " ", u64::from(second.0))
+        }
+        Reply::Ok => text.push_str("ok"),
+        Reply::Sent(count) => push_named(text, "sent ", u64::from(*count)),
         Reply::Got {
             bytes,
             fds,
             trunc,
             ctrunc,
-        } => {
-            text.push_str("got ")?;
-            push_bytes(text, bytes.as_slice())?;
-            push_fds(text, fds.as_slice())?;
-            if *trunc {
-                text.push_str(" trunc")?;
-            }
-            if *ctrunc {
-                text.push_str(" ctrunc")?;
-            }
-            text.push('\n')
+        } => push_got(text, bytes.as_slice(), fds.as_slice(), *trunc, *ctrunc),
+        Reply::End => text.push_str("end"),
+        Reply::Started(pass) => push_named(text, "started ", *pass),
+        Reply::Working => text.push_str("working"),
+        Reply::Done { pass, reclaimed } => {
+            push_named(text, "pass ", *pass)?;
+            push_named(text, " reclaimed ", *reclaimed)
         }
-        Reply::End => writeln!(text, "end"),
-        Reply::Started(pass) => writeln!(text, "started {pass}"),
-        Reply::Working => writeln!(text, "working"),
-        Reply::Done { pass, reclaimed } => writeln!(text, "pass {pass} reclaimed {reclaimed}"),
-        Reply::Refused(error) => writeln!(text, "{error}"),
+        Reply::Refused(error) => text.push_str(error.name()),
     }
+}
+
+/// Appends the line of a reply, with its line feed.
+///
+/// Where memory runs out, some beginning of the line may stand in the text. It does not where there
+/// was room for a line of `MAX_REPLY_LINE` bytes, and the reply is one that a step may give.
+#[tactic(auto, unfolding(crate::specs::Text::reply_line))]
+pub fn push_reply(text: &mut String, reply: &Reply) -> Result<(), AllocError>
+    ensures bytes { OnOk result (string_bytes text.new ≡ string_bytes text.old ++ reply_line reply.now) }
+    ensures full { OnErr result (IsShort reply.now → string_capacity text.old < string_len text.old + MAX_REPLY_LINE) }
+{
+    push_text(text, reply)?;
+    text.push('\n')
 }

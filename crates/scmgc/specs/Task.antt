@@ -1,7 +1,7 @@
 -- What a command line asks for.
-use Rattle.std.specs.Prelude.{List, Option, Some, None, Bool, true, codes, if◌then◌else◌}
+use Rattle.std.specs.Prelude.{◌==◌, List, length, Option, Some, None, Bool, true, codes, if◌then◌else◌}
 use Rattle.std.specs.Str.{bytes_eq}
-use Rattle.clap.specs.Words.{App, Row, Text, new_app, subcommand_of, takes, with_subcommand}
+use Rattle.clap.specs.Words.{App, Row, Text, fault_of, new_app, subcommand_of, with_subcommand}
 use Rattle.scmgc.specs.declared.task.Task.{Task}
 use Rattle.scmgc.specs.declared.task.Task.TheVariants.{Run}
 
@@ -24,9 +24,9 @@ abbrev pub task_named : Option (Text × List Row) → Option Task
 task_named None = None
 task_named (Some found) = if bytes_eq found.0 (codes "run") then Some Run else None
 
--- The words of a command line fit the whole command.
+-- The words of a command line fit the whole command: no fault is found in them. A call for help or for the version is one.
 unfoldable pub fits : List Text → Bool
-fits words = takes whole_app words
+fits words = length (fault_of whole_app words) == 0
 
 -- The task that the words of a command line name.
 unfoldable pub task_in : List Text → Option Task

@@ -48,7 +48,8 @@ fn refuse<E: Write>(errors: &mut E, error: &clap::Error) -> u8
 }
 
 /// Does all that the program does with these words and streams, and answers its exit status: 0,
-/// or 1 for a failed run, or 2 for a line or a command line that cannot be read.
+/// or 1 for a failed run or where there is no memory to read the command line, or 2 for a line or a
+/// command line that cannot be read.
 ///
 /// The first word is the program's name. A fault is one line on the error stream.
 pub fn program<S: AsStr, R: Read, W: Write, E: Write>(
@@ -70,7 +71,10 @@ pub fn program<S: AsStr, R: Read, W: Write, E: Write>(
         → ((result ≡ 1) × (input.new ≡ input.old) × (output.new ≡ output.old))
         ⊎ RanScript (R.remaining input.old.inner) (R.remaining input.new.inner) (W.contents output.old.inner) (W.contents output.new.inner) input.new.has_failed output.new.has_failed result }
 
-    // Where they name no task, nothing is read or written but the complaint.
+    // Where they do not fit the command, or name no task, nothing is read or written but the
+    // complaint: the status is 2, or 1 where there is no memory to read them.
+    ensures unfit { fits (map S.text words.now) ≡ false
+        → (1 ≤ result) × (input.new ≡ input.old) × (output.new ≡ output.old) }
     ensures refused { task_in (map S.text words.now) ≡ None
         → (1 ≤ result) × (input.new ≡ input.old) × (output.new ≡ output.old) }
     ensures few { result ≤ 2 }

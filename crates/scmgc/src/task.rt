@@ -62,6 +62,7 @@ fn chosen_task(matches: &ArgMatches<'_>) -> Option<Task>
 #[tactic(auto, unfolding(crate::specs::Task::fits, crate::specs::Task::task_in))]
 pub fn task_of<'a, S: AsStr>(alloc: Global, words: &'a [S]) -> Result<Task, Error>
     ensures ok { IfOk result (λ task. task_in (map S.text words.entry.now) ≡ Some task) }
+    ensures fit { IfOk result (λ _. fits (map S.text words.entry.now) ≡ true) }
 
     // Where the words fit the command and name a task, only want of memory is an error.
     ensures err { IfErr result (λ error. fits (map S.text words.entry.now) ≡ true → is_some (task_in (map S.text words.entry.now)) ≡ true

@@ -1,8 +1,8 @@
 //! A run: one reply for each event.
-use super::bench::{close, pair, send, spawn};
+use super::bench::{close, pair, send, spawn, step};
 use crate::Engine;
 use af_base::errno::Errno;
-use af_base::events::{Event, Reply};
+use af_base::events::{Event, Reply, Step};
 use af_base::names::{Fd, Pid};
 use std::test::Fail;
 
@@ -34,5 +34,21 @@ fn one_reply_for_each_event(rt: HostRuntime) -> Result<(), Fail> {
         },
     ]?;
     assert!(rt; replies == wanted);
+    Ok(())
+}
+
+/// Room for replies is made again and again: where memory is ample, all events are done.
+#[test]
+fn a_long_list(rt: HostRuntime) -> Result<(), Fail> {
+    let alloc = rt.alloc();
+    let mut engine = Engine::new(alloc)?;
+    let mut events = vec![in alloc; spawn(1)]?;
+    for _ in 0..50_000 {
+        events.push(step(1, Step::Open))?;
+        events.push(close(1, 0))?;
+    }
+    let replies = engine.run(&events).map_err(|_| "stopped")?;
+    assert_eq!(rt; replies.len(), 100_001);
+    assert!(rt; replies.last() == Some(&Reply::Ok));
     Ok(())
 }

@@ -2,7 +2,33 @@
 use crate::program::program;
 use scm_watched::watched::Watched;
 use std::alloc::{AllocError, Global};
+use std::io;
+use std::io::{ErrorKind, Read, Write};
 use std::test::Fail;
+
+/// A reader whose every call fails.
+#[derive(Drop)]
+struct FailingReader;
+
+impl Read for FailingReader {
+    fn read(&mut self, _buf: &mut [u8]) -> io::Result<usize> {
+        Err(io::Error::from(ErrorKind::BrokenPipe))
+    }
+}
+
+/// A writer that takes nothing.
+#[derive(Drop)]
+struct FullWriter;
+
+impl Write for FullWriter {
+    fn write(&mut self, _buf: &[u8]) -> io::Result<usize> {
+        Ok(0)
+    }
+
+    fn flush(&mut self) -> io::Result<()> {
+        Ok(())
+    }
+}
 
 /// What the program answered and wrote.
 #[derive(Drop)]
@@ -87,6 +113,31 @@ fn reads_a_script_cut_anywhere(rt: HostRuntime) -> Result<(), Fail> {
         assert_eq!(rt; all.output.as_slice(), output.as_bytes());
         assert_eq!(rt; all.errors.as_slice(), errors.as_bytes());
     }
+    Ok(())
+}
+
+#[test]
+fn a_failed_read_has_status_1(rt: HostRuntime) -> Result<(), Fail> {
+    let mut input = Watched::new(FailingReader);
+    let mut output = Watched::new(Vec::new(rt.alloc()));
+    let mut errors = Vec::new(rt.alloc());
+    let words = ["scmgc", "run"].as_slice();
+    let status = program(rt.alloc(), words, &mut input, &mut output, &mut errors);
+    assert_eq!(rt; status, 1);
+    assert_eq!(rt; output.inner().as_slice(), b"".as_slice());
+    assert_eq!(rt; errors.as_slice(), b"scmgc: reading failed\n".as_slice());
+    Ok(())
+}
+
+#[test]
+fn a_failed_write_has_status_1(rt: HostRuntime) -> Result<(), Fail> {
+    let mut input = Watched::new(SCRIPT);
+    let mut output = Watched::new(FullWriter);
+    let mut errors = Vec::new(rt.alloc());
+    let words = ["scmgc", "run"].as_slice();
+    let status = program(rt.alloc(), words, &mut input, &mut output, &mut errors);
+    assert_eq!(rt; status, 1);
+    assert_eq!(rt; errors.as_slice(), b"scmgc: writing failed\n".as_slice());
     Ok(())
 }
 

@@ -6,12 +6,12 @@ use Rattle.af_table.proofs.tests.numbers_come_and_go.Goals as goal
 
 pub install-requires : goal.install-requires
 install-requires g c =
-    let limit = limit_of_new c.room_to_spawn.new.self.processes c.spawn-pid.new.self c.room_to_spawn.new.self.next_pid c.spawn-pid.result _ c.spawn-pid.ensures.processes c.spawn-pid.ensures.pid in
+    let limit = limit_of_new c.room_to_spawn.new.self.processes c.spawn-pid.new.self.processes c.room_to_spawn.new.self.next_pid c.spawn-pid.result _ c.spawn-pid.ensures.processes c.spawn-pid.ensures.pid in
     let room = c.in_ok-room_for.ensures.ok (omega arith) in
     omega (arith, limit, room)
 
 pub install-requires-2 : goal.install-requires-2
 install-requires-2 g c =
-    let limit = limit_of_new c.room_to_spawn.new.self.processes c.spawn-pid.new.self c.room_to_spawn.new.self.next_pid c.spawn-pid.result _ c.spawn-pid.ensures.processes c.spawn-pid.ensures.pid in
+    let limit = limit_of_new c.room_to_spawn.new.self.processes c.spawn-pid.new.self.processes c.room_to_spawn.new.self.next_pid c.spawn-pid.result _ c.spawn-pid.ensures.processes c.spawn-pid.ensures.pid in
     let room = c.in_ok-room_for.ensures.ok (omega arith) in
     subst (λ m. 2 < unwrap_or (map.get m c.spawn-pid.result) 0) (sym c.install.ensures.rows) (omega (arith, limit, room))

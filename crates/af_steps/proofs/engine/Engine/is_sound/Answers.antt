@@ -3,4 +3,4 @@ use Rattle.af_base.specs.Whole.{IsSound}
 use Rattle.af_steps.proofs.engine.Engine.is_sound.Goals as goal
 
 pub returns : goal.returns
-returns c = subst (λ m. IsSound m.world) c.self.view_is c.self.invariant.0.sound
+returns c = subst (λ m. IsSound m.world) c.self.view_is c.self.invariant.0

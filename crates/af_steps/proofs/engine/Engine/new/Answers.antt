@@ -1,5 +1,7 @@
-use Rattle.std.proofs.Common.{arith}
+use Rattle.std.proofs.Common.{sym, subst, arith}
+use Rattle.af_base.specs.Whole.{IsSound}
+use Rattle.af_base.proofs.Sound.{fresh_sound}
 use Rattle.af_steps.proofs.engine.Engine.new.Goals as goal
 
 pub invariant_of-result : goal.invariant_of-result
-invariant_of-result c = (c.new.ensures.rest, omega arith)
+invariant_of-result c = (subst IsSound (sym c.new.ensures) fresh_sound, omega arith)

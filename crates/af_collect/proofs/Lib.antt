@@ -1,0 +1,15 @@
+pub mod Recounts
+pub mod Bounds
+pub mod Agreement
+pub mod Exact
+pub mod Shedding
+pub mod Dropped
+pub mod Popped
+pub mod Emptying
+pub mod Marking
+pub mod Walking
+pub mod Tabled
+pub mod Unmarked
+pub mod Listed
+pub mod Putting
+pub mod Filling

@@ -1,0 +1,21 @@
+use Rattle.std.proofs.Common.{◌≡◌, ◌≤◌, ◌+◌, ◌*◌, ◌++◌, length, map}
+use Rattle.std.specs.FinMap as finmap
+use Rattle.std.specs.List.{sum_by}
+use Rattle.af_base.specs.Bare.{bare_file}
+use Rattle.af_base.specs.Listing.{file_of}
+use Rattle.af_base.specs.Places.{contents}
+use Rattle.af_base.specs.declared.limits.TheConstants.{MAX_FILES, MAX_MESSAGES, SCM_MAX_FD}
+use Rattle.af_collect.proofs.Listed.{entry, changed}
+use Rattle.af_base.proofs.Rising.{above}
+use Rattle.af_collect.proofs.store.Store.listed_files.Given as goal
+
+abbrev pub invariant-loop-ino : goal.invariant-loop-ino
+invariant-loop-ino l = record {
+  so_far :
+      map (entry (λ x. x.ino) file_of) l.files.items ++ map (changed bare_file) (above l.last (finmap.entries l.self.world.files))
+      ≡ map (changed bare_file) (above 0 (finmap.entries l.self.world.files));
+  few : sum_by (λ x. length (contents (file_of x))) l.files.items + MAX_MESSAGES * SCM_MAX_FD * length (above l.last (finmap.entries l.self.world.files)) ≤ MAX_FILES * (MAX_MESSAGES * SCM_MAX_FD);
+}
+
+abbrev pub decreases-loop-ino : goal.decreases-loop-ino
+decreases-loop-ino l = length (above l.last (finmap.entries l.self.world.files))

@@ -1,0 +1,11 @@
+use Rattle.std.proofs.Common.{ℕ}
+use Rattle.std.specs.List.{Contains}
+use Rattle.af_base.specs.Places.{Holds, carried}
+use Rattle.af_collect.specs.Marking.{Marked}
+use Rattle.af_collect.proofs.store.Store.mark_held.Given as goal
+
+abbrev pub invariant-loop-message : goal.invariant-loop-message
+invariant-loop-message l = record {
+  marks : Marked (Holds l.self.world l.fn.ino) (Contains (carried l.message-iterator)) l.fn.marks l.marks;
+  within : (f : ℕ) → Contains (carried l.message-iterator) f → Holds l.self.world l.fn.ino f;
+}

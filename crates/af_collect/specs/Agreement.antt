@@ -1,0 +1,23 @@
+-- When the numbers that are kept are the recounts.
+use Rattle.std.specs.Prelude.{◌≡◌, ℕ, IsTrue, Some}
+use Rattle.std.specs.FinMap as map
+use Rattle.af_base.specs.World.{World, Process, is_live}
+use Rattle.af_base.specs.Counts.{refs, tabled, inflight, charged, total}
+use Rattle.af_base.specs.Whole.{IsWhole, IsWithin}
+use Rattle.af_ledger.specs.Kept.{Kept, count_of, refs_of, charge_of, has_count, is_user}
+
+-- Each number kept is the recount of the world, and each process has a user who is kept (this project's profile).
+pub record Agrees (w : World) (k : Kept) : Type 0 where
+  pub refs : (f : ℕ) → refs_of k f ≡ refs w f
+  pub tabled : (f : ℕ) → (count_of k f).tabled ≡ tabled w f
+  pub inflight : (f : ℕ) → (count_of k f).inflight ≡ inflight w f
+  pub charged : (u : ℕ) → charge_of k u ≡ charged w u
+  pub total : k.total ≡ total w
+  pub known : (p : ℕ) (q : Process) → map.get w.processes p ≡ Some q → IsTrue (is_user q.user k.users)
+
+-- What is true of a store at every moment: its world is whole and within the limits, each number that it keeps is the recount, and it keeps the numbers of just the live files (this project's profile).
+pub record IsExact (w : World) (k : Kept) : Type 0 where
+  pub whole : IsWhole w
+  pub within : IsWithin w
+  pub agrees : Agrees w k
+  pub counted : (f : ℕ) → has_count k f ≡ is_live w f

@@ -1,0 +1,26 @@
+-- What a store shows.
+use Rattle.std.specs.Prelude.{ℕ, List, [], ◌∷◌}
+use Rattle.std.specs.Map.{keys_of}
+use Rattle.af_base.specs.World.{World, Map, Process}
+use Rattle.af_desc.specs.Filed.{Filed}
+use Rattle.af_ledger.specs.Kept.{Kept}
+use Rattle.af_base.specs.Changes.{change_at, installed}
+use Rattle.af_table.specs.Procs.{Procs, row_in}
+
+-- The world, and below which number each table has room (this project's profile).
+pub record Stored : Type 0 where
+  pub world : World
+  pub rows : Map ℕ
+
+-- Below which number process p has room: below none, where there is no such process (this project's profile).
+abbrev pub row_at : Stored → ℕ → ℕ
+row_at s p = row_in s.rows p
+
+-- The world that processes, files and a ledger make up (this project's profile).
+abbrev pub world_of : Procs → Filed → Kept → World
+world_of procs filed kept = record { processes = procs.processes; files = filed.files; next_ino = filed.next; next_pid = procs.next_pid; users = keys_of kept.users }
+
+-- The processes where these numbers of p stand for these files, one after the other (cmsg(3), SCM_RIGHTS).
+abbrev pub filled : Map Process → ℕ → List (ℕ × ℕ) → Map Process
+filled m p [] = m
+filled m p (e ∷ es) = filled (change_at (installed e.0 e.1) m p) p es

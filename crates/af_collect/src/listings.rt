@@ -1,0 +1,84 @@
+//! Plain lists of all that holds a file, for a recount that shares no walk with the engine.
+ghost use Rattle.std.specs.Prelude.{◌≡◌, ◌≤◌, ◌*◌, Some, IfOk, length, option_map};
+ghost use Rattle.std.specs.FinMap as map;
+ghost use Rattle.af_base.specs.World as world;
+ghost use Rattle.af_base.specs.Places.{contents};
+ghost use Rattle.af_base.specs.Bare.{bare, bare_file, bare_socket};
+ghost use Rattle.af_base.specs.Listing.{processes_of, files_of, file_of, socket_of, AreTables, AreFiles};
+
+use crate::store::Store;
+use af_base::limits::{MAX_MESSAGES, SCM_MAX_FD};
+use af_base::listing::{ListedFile, ListedMessage, ListedSocket, ListedTable, Listing};
+use af_base::names::Ino;
+use af_desc::Socket;
+use std::alloc::{AllocError, Global};
+
+impl Store {
+    /// Plain lists of the tables, queues and backlogs as they stand, and whom each message is charged
+    /// to; no bytes, states, names or limits. The error says that memory was refused.
+    pub fn listing(&self) -> Result<Listing, AllocError>
+        ensures { IfOk result (λ l. l ≡ bare self.now.world) }
+    {
+        let tables = self.listed_tables()?;
+        let files = self.listed_files()?;
+        Ok(Listing::of(tables, files))
+    }
+
+    /// The tables, by rising pid.
+    fn listed_tables(&self) -> Result<Vec<ListedTable>, AllocError>
+        ensures shown { IfOk result (λ tables. processes_of tables.items ≡ (bare self.now.world).processes) }
+        ensures ordered { IfOk result (λ tables. AreTables tables.items) }
+    {
+        let mut tables = Vec::new(self.alloc);
+        for pid in &self.procs.pids()? {
+            tables.push(self.procs.listed(*pid)?)?;
+        }
+        Ok(tables)
+    }
+
+    /// The live files, by rising inode number.
+    fn listed_files(&self) -> Result<Vec<ListedFile>, AllocError>
+        ensures shown { IfOk result (λ files. files_of files.items ≡ (bare self.now.world).files) }
+        ensures ordered { IfOk result (λ files. AreFiles files.items) }
+    {
+        let mut files = Vec::new(self.alloc);
+        let mut last = Ino(0);
+        while let Some(ino) = self.files.next_after(last) {
+            last = ino;
+            files.push(self.listed_file(ino)?)?;
+        }
+        Ok(files)
+    }
+
+    /// A live file, with what it has to receive.
+    fn listed_file(&self, ino: Ino) -> Result<ListedFile, AllocError>
+        requires { world.IsLive self.now.world ino }
+        ensures ino { IfOk result (λ x. x.ino ≡ ino) }
+        ensures shown { IfOk result (λ x. Some (file_of x) ≡ option_map bare_file (map.get self.now.world.files ino)) }
+        ensures few { IfOk result (λ x. length (contents (file_of x)) ≤ MAX_MESSAGES * SCM_MAX_FD) }
+    {
+        let socket = match self.files.get(ino).unwrap().socket() {
+            Some(socket) => Some(listed_socket(self.alloc, socket)?),
+            None => None,
+        };
+        Ok(ListedFile { ino, socket })
+    }
+}
+
+/// What a socket has to receive, as plain lists; no embryos wait yet.
+fn listed_socket(alloc: Global, socket: &Socket) -> Result<ListedSocket, AllocError>
+    ensures shown { IfOk result (λ s. socket_of s ≡ bare_socket socket.now) }
+    ensures few { IfOk result (λ s. length (contents (world.AsSocket (socket_of s))) ≤ MAX_MESSAGES * SCM_MAX_FD) }
+{
+    let mut queue = Vec::new(alloc);
+    for message in socket.queue() {
+        queue.push(ListedMessage {
+            attached: message.attached().to_vec(alloc)?,
+            user: message.user(),
+        })?;
+    }
+    Ok(ListedSocket {
+        queue,
+        backlog: Vec::new(alloc),
+    })
+}

@@ -1,0 +1,212 @@
+-- The numbers kept where several files gain or lose a place in a queue at once.
+use Rattle.std.proofs.Common.{◌≡◌, ◌<◌, ◌≤◌, ℕ, ◌+◌, Bool, true, false, List, [], ◌∷◌, ◌++◌, length, length-append, suc, add-one, drop-cons, refl, sym, ap, ◌∙◌, subst, cond, nat_eq, arith, take, drop}
+use Rattle.std.specs.Prelude.{IsTrue, slice_index_or}
+use Rattle.std.specs.List.{Contains, list_any}
+use Rattle.std.specs.Map.{keys_of}
+use Rattle.std.proofs.lemmas.List.{take-append-drop, take_more}
+use Rattle.std.proofs.lemmas.List.Elements.{Contains-append_left, Contains-append_right}
+use Rattle.af_base.specs.Counts.{count_in, one}
+use Rattle.af_base.proofs.Elements.{Contains-first, Contains-later}
+use Rattle.af_base.proofs.Held.{count-cons}
+use Rattle.af_base.proofs.Lookups.{itself}
+use Rattle.af_ledger.specs.Kept.{CanDrop, CanDropAll, CanHold, CanHoldAll, Kept, charge_of, count_of, dropped, dropped_all, has_count, held, held_all, is_user, refs_of}
+use Rattle.af_ledger.specs.declared.place.Place.{Place}
+use Rattle.af_ledger.specs.declared.place.Place.TheVariants.{Queue}
+use Rattle.af_ledger.proofs.Laws.{charge-queued, charge-unqueued, counted-there, has-dropped, has-held, inflight-queued, inflight-unqueued, refs-dropped, refs-held, tabled-queued, tabled-unqueued, total-queued, total-unqueued, users-dropped, users-held}
+
+-- Who is a user is one among the same users.
+pub same-user : (u : ℕ) (us vs : List (ℕ × ℕ)) → keys_of vs ≡ keys_of us → IsTrue (is_user u us) → IsTrue (is_user u vs)
+same-user u us vs e h = subst (λ ks. IsTrue (list_any (nat_eq u) ks)) (sym e) h
+
+-- One file more in a list is a unit more to its user.
+charge-longer : (b : Bool) (f : ℕ) (fs : List ℕ) → cond b (length (f ∷ fs)) 0 ≡ cond b 1 0 + cond b (length fs) 0
+charge-longer true f fs = omega arith
+charge-longer false f fs = refl
+
+-- No file charges nobody.
+charge-nothing : (b : Bool) → ◌≡◌ {A = ℕ} (cond b 0 0) 0
+charge-nothing true = refl
+charge-nothing false = refl
+
+-- A number is another at most once.
+one-most : (f g : ℕ) → one f g ≤ 1
+one-most f g = by (nat_eq f g) where
+  by : (b : Bool) → cond b 1 0 ≤ 1
+  by true = omega arith
+  by false = omega arith
+
+-- A number is itself once.
+one-itself : (f : ℕ) → one f f ≡ 1
+one-itself f = ap {B = ℕ} (λ b. cond b 1 0) (itself f)
+
+-- A list has a number at most as often as it is long.
+pub count-length : (f : ℕ) (xs : List ℕ) → count_in f xs ≤ length xs
+count-length f [] = omega arith
+count-length f (x ∷ xs) = omega (arith, count-cons f x xs, one-most f x, count-length f xs)
+
+-- Each file of a list has its places more, of whatever kind.
+pub places-held_all : (p : Place) (g : ℕ) (fs : List ℕ) (k : Kept) → refs_of (held_all p fs k) g ≡ refs_of k g + count_in g fs
+places-held_all p g [] k = omega arith
+places-held_all p g (f ∷ fs) k = omega (arith, places-held_all p g fs (held p f k), refs-held p f g k, count-cons g f fs)
+
+-- One more is held after the others.
+pub held-last : (p : Place) (fs : List ℕ) (f : ℕ) (k : Kept) → held_all p (fs ++ f ∷ []) k ≡ held p f (held_all p fs k)
+held-last p [] f k = refl
+held-last p (g ∷ fs) f k = held-last p fs f (held p g k)
+
+-- One more is dropped after the others.
+pub dropped-last : (p : Place) (fs : List ℕ) (f : ℕ) (k : Kept) → dropped_all p (fs ++ f ∷ []) k ≡ dropped p f (dropped_all p fs k)
+dropped-last p [] f k = refl
+dropped-last p (g ∷ fs) f k = dropped-last p fs f (dropped p g k)
+
+module _ (u : ℕ) where
+  -- Each file of a list has its places in queues more.
+  pub refs-held_all : (g : ℕ) (fs : List ℕ) (k : Kept) → refs_of (held_all (Queue u) fs k) g ≡ refs_of k g + count_in g fs
+  refs-held_all g [] k = omega arith
+  refs-held_all g (f ∷ fs) k = omega (arith, refs-held_all g fs (held (Queue u) f k), refs-held (Queue u) f g k, count-cons g f fs)
+
+  -- None has a number of a table more.
+  pub tabled-held_all : (g : ℕ) (fs : List ℕ) (k : Kept) → (count_of (held_all (Queue u) fs k) g).tabled ≡ (count_of k g).tabled
+  tabled-held_all g [] k = refl
+  tabled-held_all g (f ∷ fs) k = tabled-held_all g fs (held (Queue u) f k) ∙ tabled-queued u f g k
+
+  -- Each has as many places more in flight.
+  pub inflight-held_all : (g : ℕ) (fs : List ℕ) (k : Kept) → (count_of (held_all (Queue u) fs k) g).inflight ≡ (count_of k g).inflight + count_in g fs
+  inflight-held_all g [] k = omega arith
+  inflight-held_all g (f ∷ fs) k = omega (arith, inflight-held_all g fs (held (Queue u) f k), inflight-queued u f g k, count-cons g f fs)
+
+  -- The users stay.
+  pub users-held_all : (fs : List ℕ) (k : Kept) → keys_of (held_all (Queue u) fs k).users ≡ keys_of k.users
+  users-held_all [] k = refl
+  users-held_all (f ∷ fs) k = users-held_all fs (held (Queue u) f k) ∙ users-held (Queue u) f k
+
+  -- The user is charged a unit for each, and nobody else is.
+  pub charge-held_all : (v : ℕ) (fs : List ℕ) (k : Kept) → IsTrue (is_user u k.users) → charge_of (held_all (Queue u) fs k) v ≡ charge_of k v + cond (nat_eq v u) (length fs) 0
+  charge-held_all v [] k there = omega (arith, charge-nothing (nat_eq v u))
+  charge-held_all v (f ∷ fs) k there =
+      let after = same-user u k.users (held (Queue u) f k).users (users-held (Queue u) f k) there in
+      omega (arith, charge-held_all v fs (held (Queue u) f k) after, charge-queued u f v k there, charge-longer (nat_eq v u) f fs)
+
+  -- All together are charged a unit for each.
+  pub total-held_all : (fs : List ℕ) (k : Kept) → (held_all (Queue u) fs k).total ≡ k.total + length fs
+  total-held_all [] k = omega arith
+  total-held_all (f ∷ fs) k = omega (arith, total-held_all fs (held (Queue u) f k), total-queued u f k)
+
+  -- The same files have numbers.
+  pub has-held_all : (g : ℕ) (fs : List ℕ) (k : Kept) → ((f : ℕ) → Contains fs f → IsTrue (has_count k f)) → has_count (held_all (Queue u) fs k) g ≡ has_count k g
+  has-held_all g [] k known = refl
+  has-held_all g (f ∷ fs) k known =
+      let first = known f (Contains-first f fs) in
+      has-held_all g fs (held (Queue u) f k) (λ h c. has-held (Queue u) f h k first ∙ known h (Contains-later f fs h c)) ∙ has-held (Queue u) f g k first
+
+  -- The next of several files can be held when those before are.
+  pub can-hold-next : (done rest : List ℕ) (f : ℕ) (k : Kept) → CanHoldAll u (done ++ f ∷ rest) k → length done < length (done ++ f ∷ rest) → ((g : ℕ) → Contains done g → IsTrue (has_count k g)) → CanHold (Queue u) f (held_all (Queue u) done k)
+  can-hold-next done rest f k h short known =
+      let places = h.countable f in
+      let charges = h.charge in
+      let all = h.total in (
+        omega (arith, short, places, inflight-held_all f done k, count-length f done),
+        (
+          same-user u k.users (held_all (Queue u) done k).users (users-held_all done k) h.user,
+          omega (arith, short, charges, charge-held_all u done k h.user, ap {B = ℕ} (λ b. cond b (length done) 0) (itself u)),
+          omega (arith, short, all, total-held_all done k),
+        ),
+      )
+
+  -- What can be dropped when the first of several was.
+  can-drop-rest : (f : ℕ) (fs : List ℕ) (k : Kept) → CanDropAll u (f ∷ fs) k → (0 < (count_of k f).inflight) × (0 < charge_of k u) × (0 < k.total) × CanDropAll u fs (dropped (Queue u) f k)
+  can-drop-rest f fs k h =
+      let counted = h.counted f in
+      let charge = h.charge in
+      let total = h.total in
+      let some : 0 < (count_of k f).inflight = omega (arith, counted, count-cons f f fs, one-itself f) in
+      let charged : 0 < charge_of k u = omega (arith, charge) in
+      let all : 0 < k.total = omega (arith, total) in (
+        some,
+        charged,
+        all,
+        record {
+          counted = λ g. let each = h.counted g in omega (arith, each, count-cons g f fs, inflight-unqueued u f g k some);
+          charge = omega (arith, charge, charge-unqueued u f u k charged, one-itself u);
+          total = omega (arith, total, total-unqueued u f k all);
+        },
+      )
+
+  -- Each file of a list has its places in queues less.
+  pub refs-dropped_all : (g : ℕ) (fs : List ℕ) (k : Kept) → CanDropAll u fs k → refs_of (dropped_all (Queue u) fs k) g + count_in g fs ≡ refs_of k g
+  refs-dropped_all g [] k h = omega arith
+  refs-dropped_all g (f ∷ fs) k h =
+      let rest = can-drop-rest f fs k h in
+      omega (arith, refs-dropped_all g fs (dropped (Queue u) f k) rest.3, refs-dropped (Queue u) f g k rest.0, count-cons g f fs)
+
+  -- None has a number of a table less.
+  pub tabled-dropped_all : (g : ℕ) (fs : List ℕ) (k : Kept) → (count_of (dropped_all (Queue u) fs k) g).tabled ≡ (count_of k g).tabled
+  tabled-dropped_all g [] k = refl
+  tabled-dropped_all g (f ∷ fs) k = tabled-dropped_all g fs (dropped (Queue u) f k) ∙ tabled-unqueued u f g k
+
+  -- Each has as many places less in flight.
+  pub inflight-dropped_all : (g : ℕ) (fs : List ℕ) (k : Kept) → CanDropAll u fs k → (count_of (dropped_all (Queue u) fs k) g).inflight + count_in g fs ≡ (count_of k g).inflight
+  inflight-dropped_all g [] k h = omega arith
+  inflight-dropped_all g (f ∷ fs) k h =
+      let rest = can-drop-rest f fs k h in
+      omega (arith, inflight-dropped_all g fs (dropped (Queue u) f k) rest.3, inflight-unqueued u f g k rest.0, count-cons g f fs)
+
+  -- The users stay.
+  pub users-dropped_all : (fs : List ℕ) (k : Kept) → keys_of (dropped_all (Queue u) fs k).users ≡ keys_of k.users
+  users-dropped_all [] k = refl
+  users-dropped_all (f ∷ fs) k = users-dropped_all fs (dropped (Queue u) f k) ∙ users-dropped (Queue u) f k
+
+  -- The user is charged a unit less for each, and nobody else is.
+  pub charge-dropped_all : (v : ℕ) (fs : List ℕ) (k : Kept) → CanDropAll u fs k → charge_of (dropped_all (Queue u) fs k) v + cond (nat_eq v u) (length fs) 0 ≡ charge_of k v
+  charge-dropped_all v [] k h = omega (arith, charge-nothing (nat_eq v u))
+  charge-dropped_all v (f ∷ fs) k h =
+      let rest = can-drop-rest f fs k h in
+      omega (arith, charge-dropped_all v fs (dropped (Queue u) f k) rest.3, charge-unqueued u f v k rest.1, charge-longer (nat_eq v u) f fs)
+
+  -- All together are charged a unit less for each.
+  pub total-dropped_all : (fs : List ℕ) (k : Kept) → CanDropAll u fs k → (dropped_all (Queue u) fs k).total + length fs ≡ k.total
+  total-dropped_all [] k h = omega arith
+  total-dropped_all (f ∷ fs) k h =
+      let rest = can-drop-rest f fs k h in
+      omega (arith, total-dropped_all fs (dropped (Queue u) f k) rest.3, total-unqueued u f k rest.2)
+
+  -- The same files have numbers.
+  pub has-dropped_all : (g : ℕ) (fs : List ℕ) (k : Kept) → CanDropAll u fs k → has_count (dropped_all (Queue u) fs k) g ≡ has_count k g
+  has-dropped_all g [] k h = refl
+  has-dropped_all g (f ∷ fs) k h =
+      let rest = can-drop-rest f fs k h in
+      let some = rest.0 in
+      has-dropped_all g fs (dropped (Queue u) f k) rest.3 ∙ has-dropped (Queue u) f g k (counted-there k f (omega (arith, some)))
+
+  -- The next of several files can be dropped when those before are.
+  pub can-drop-next : (done rest : List ℕ) (f : ℕ) (k : Kept) → CanDropAll u (done ++ f ∷ rest) k → CanDrop (Queue u) f (dropped_all (Queue u) done k)
+  can-drop-next [] rest f k h = let first = can-drop-rest f rest k h in (first.0, (first.1, first.2))
+  can-drop-next (g ∷ done) rest f k h = can-drop-next done rest f (dropped (Queue u) g k) (can-drop-rest g (done ++ f ∷ rest) k h).3
+
+-- A list split at one of its places.
+at-place : (xs : List ℕ) (i x : ℕ) → i < length xs → x ≡ slice_index_or xs i x → xs ≡ take i xs ++ x ∷ drop (i + 1) xs
+at-place xs i x low read =
+    let rest : drop i xs ≡ x ∷ drop (i + 1) xs = rw add-one (drop-cons xs i x low ∙ ap (λ y. y ∷ drop (suc i) xs) (sym read)) in
+    sym (take-append-drop i xs) ∙ ap (λ ys. take i xs ++ ys) rest
+
+-- One more is held than the first i.
+pub held-more : (p : Place) (xs : List ℕ) (i x : ℕ) (k : Kept) → i < length xs → x ≡ slice_index_or xs i x → held_all p (take (i + 1) xs) k ≡ held p x (held_all p (take i xs) k)
+held-more p xs i x k low read = ap (λ ys. held_all p ys k) (take_more xs i x low ∙ ap (λ y. take i xs ++ y ∷ []) (sym read)) ∙ held-last p (take i xs) x k
+
+-- One more is dropped than the first i.
+pub dropped-more : (p : Place) (xs : List ℕ) (i x : ℕ) (k : Kept) → i < length xs → x ≡ slice_index_or xs i x → dropped_all p (take (i + 1) xs) k ≡ dropped p x (dropped_all p (take i xs) k)
+dropped-more p xs i x k low read = ap (λ ys. dropped_all p ys k) (take_more xs i x low ∙ ap (λ y. take i xs ++ y ∷ []) (sym read)) ∙ dropped-last p (take i xs) x k
+
+-- The next is known and can be held when the first i are.
+pub hold-next : (u : ℕ) (xs : List ℕ) (i x : ℕ) (k : Kept) → CanHoldAll u xs k → i < length xs → x ≡ slice_index_or xs i x → IsTrue (has_count (held_all (Queue u) (take i xs) k) x) × CanHold (Queue u) x (held_all (Queue u) (take i xs) k)
+hold-next u xs i x k h low read =
+    let whole = at-place xs i x low read in
+    let all : CanHoldAll u (take i xs ++ x ∷ drop (i + 1) xs) k = subst (λ ys. CanHoldAll u ys k) whole h in
+    let before : (g : ℕ) → Contains (take i xs) g → IsTrue (has_count k g) = λ g c. h.known g (subst (λ ys. Contains ys g) (sym whole) (Contains-append_left (take i xs) (x ∷ drop (i + 1) xs) g c)) in (
+      has-held_all u x (take i xs) k before ∙ h.known x (subst (λ ys. Contains ys x) (sym whole) (Contains-append_right (take i xs) (x ∷ drop (i + 1) xs) x (Contains-first x (drop (i + 1) xs)))),
+      can-hold-next u (take i xs) (drop (i + 1) xs) x k all (omega (arith, length-append (take i xs) (x ∷ drop (i + 1) xs))) before,
+    )
+
+-- The next can be dropped when the first i are.
+pub drop-next : (u : ℕ) (xs : List ℕ) (i x : ℕ) (k : Kept) → CanDropAll u xs k → i < length xs → x ≡ slice_index_or xs i x → CanDrop (Queue u) x (dropped_all (Queue u) (take i xs) k)
+drop-next u xs i x k h low read = can-drop-next u (take i xs) (drop (i + 1) xs) x k (subst (λ ys. CanDropAll u ys k) (at-place xs i x low read) h)
