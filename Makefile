@@ -1,7 +1,7 @@
 # make          build the program
 # make run      run the example script
 # make test     the gate: every proof from nothing, the wrong bodies, the tests
-# make bench    events in a second, over named workloads
+# make bench    nanoseconds for each event, over named workloads
 # make install  put the program below PREFIX
 
 PROGRAM := crates/scmgc/out/scmgc

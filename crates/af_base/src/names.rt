@@ -1,4 +1,6 @@
 //! Numbers with a type of their own. A clause sees each as its number.
+ghost use Rattle.std.specs.Prelude.{◌≡◌};
+
 use std::fmt;
 use std::marker::Model;
 
@@ -25,6 +27,53 @@ impl fmt::Display for Ino {
     fn fmt<W: fmt::Write>(&self, f: &mut fmt::Formatter<W>) -> fmt::Result {
         let number = self.0;
         write!(f, "{number}")
+    }
+}
+
+/// A file, and where it stood when this was made. A clause sees the number alone: the key is only a
+/// hint, and who goes by it looks whether that very number stands there.
+#[derive(Debug, Drop)]
+pub struct FileRef {
+    ino: Ino,
+    key: usize,
+}
+
+impl Model for FileRef {
+    ghost use Rattle.std.specs.Prelude.{ℕ};
+
+    ghost Value = { ℕ };
+
+    ghost view = { λ a. a.ino };
+}
+
+impl FileRef {
+    /// The file of this number, which stands under this key.
+    pub fn new(ino: Ino, key: usize) -> FileRef
+        ensures { result ≡ ino }
+    {
+        FileRef { ino, key }
+    }
+
+    /// Its number.
+    pub fn ino(&self) -> Ino
+        ensures { result ≡ self.now }
+    {
+        self.ino
+    }
+
+    /// The key under which it stood. No contract rests on it.
+    pub fn key(&self) -> usize {
+        self.key
+    }
+
+    /// The same once more.
+    pub fn again(&self) -> FileRef
+        ensures { result ≡ self.now }
+    {
+        FileRef {
+            ino: self.ino,
+            key: self.key,
+        }
     }
 }
 

@@ -1,7 +1,8 @@
-//! Measures how many events the engine does in a second, over named workloads.
+//! Measures what an event of the engine costs, over named workloads.
 //!
-//! `af_bench all` prints a line for each workload. With no argument nothing is measured, and
-//! nothing is printed. Anything else is answered with a line of usage and the status 2.
+//! `af_bench all` prints a line for each workload: the least and the median of many short runs, in
+//! nanoseconds for each event. With no argument nothing is measured, and nothing is printed. Anything
+//! else is answered with a line of usage and the status 2.
 #![tactic(auto)]
 
 mod workload;
@@ -12,18 +13,19 @@ use std::io::Write;
 use std::process::ExitCode;
 use std::time::Instant;
 
-/// What is measured: each for so many rounds.
-const PLAN: [(Workload, u32); 10] = [
-    (Workload::OpenClose { live: 0 }, 500_000),
-    (Workload::OpenClose { live: 1_000 }, 500_000),
-    (Workload::OpenClose { live: 10_000 }, 500_000),
-    (Workload::OpenClose { live: 60_000 }, 500_000),
-    (Workload::OpenCloseAbove { open: 1_000 }, 500_000),
-    (Workload::Dup2, 1_000_000),
-    (Workload::ForkExit, 20_000),
-    (Workload::PingPong, 300_000),
-    (Workload::Chain { sockets: 6_000 }, 1),
-    (Workload::Chain { sockets: 60_000 }, 1),
+/// What is measured: so many short runs, each of so many rounds.
+const PLAN: [(Workload, u32, u32); 11] = [
+    (Workload::OpenClose { live: 0 }, 301, 2_000),
+    (Workload::OpenClose { live: 1_000 }, 301, 2_000),
+    (Workload::OpenClose { live: 10_000 }, 301, 2_000),
+    (Workload::OpenClose { live: 60_000 }, 301, 2_000),
+    (Workload::OpenAny { live: 60_000 }, 301, 2_000),
+    (Workload::Dup2, 301, 4_000),
+    (Workload::ForkExit, 301, 100),
+    (Workload::PingPong, 301, 1_000),
+    (Workload::DeepQueue, 301, 10),
+    (Workload::Cycle, 301, 10),
+    (Workload::Chain { sockets: 60_000 }, 5, 1),
 ];
 
 fn main(rt: HostRuntime) -> ExitCode {
@@ -37,8 +39,8 @@ fn main(rt: HostRuntime) -> ExitCode {
     if word.as_str() != "all" || words.next().is_some() {
         return usage(&rt);
     }
-    for (workload, rounds) in &PLAN {
-        if measure(&rt, workload, *rounds).is_none() {
+    for (workload, runs, rounds) in &PLAN {
+        if measure(&rt, workload, *runs, *rounds).is_none() {
             let _ = eprintln!(rt; "af_bench: {workload} could not be measured");
             return ExitCode::from(1);
         }
@@ -52,17 +54,37 @@ fn usage(rt: &HostRuntime) -> ExitCode {
     ExitCode::from(2)
 }
 
-/// Does so many rounds of a workload, and prints what was done in a second. Nothing, where memory,
-/// the clock or standard output fails, or an event is refused.
-fn measure(rt: &HostRuntime, workload: &Workload, rounds: u32) -> Option<()> {
+/// Does so many runs of a workload, and prints the least and the median of what an event took.
+/// Nothing, where memory, the clock or standard output fails, or an event is refused.
+fn measure(rt: &HostRuntime, workload: &Workload, runs: u32, rounds: u32) -> Option<()> {
+    let mut times: Vec<u128> = Vec::new(rt.alloc());
     let mut round = workload.prepare(rt.alloc())?;
-    let start = Instant::now(rt).ok()?;
-    for _ in 0..rounds {
-        round.go()?;
+    for run in 0..runs {
+        if run > 0 && workload.is_done_once() {
+            round = workload.prepare(rt.alloc())?;
+        }
+        let start = Instant::now(rt).ok()?;
+        for _ in 0..rounds {
+            round.go()?;
+        }
+        times.push(start.elapsed(rt).ok()?.as_nanos()).ok()?;
     }
-    let micros = start.elapsed(rt).ok()?.as_micros().max(1);
+    times.sort_unstable();
     let events = u128::from(rounds) * u128::from(workload.events());
-    let rate = events * 1_000_000 / micros;
-    let unit = workload.unit();
-    writeln!(rt.stdout(), "{workload}: {rate} {unit} in a second").ok()
+    let least = tenths(*times.first()?, events);
+    let median = tenths(*times.get(times.len() / 2)?, events);
+    writeln!(
+        rt.stdout(),
+        "{workload}: least {}.{} ns, median {}.{} ns",
+        least / 10,
+        least % 10,
+        median / 10,
+        median % 10
+    )
+    .ok()
+}
+
+/// The nanoseconds for each of so many events, in tenths.
+fn tenths(nanos: u128, events: u128) -> u128 {
+    nanos.saturating_mul(10) / events.max(1)
 }

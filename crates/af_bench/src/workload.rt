@@ -11,14 +11,19 @@ use std::fmt::{Display, Error, Formatter, Write};
 pub enum Workload {
     /// A process opens a plain file and closes it, while so many others are live.
     OpenClose { live: u32 },
-    /// The same in a table where so many numbers are open.
-    OpenCloseAbove { open: u32 },
+    /// A process closes one of so many live files, and opens another: each of them in turn, in
+    /// leaps.
+    OpenAny { live: u32 },
     /// A number is put in place of another.
     Dup2,
     /// A process with 64 open numbers forks, and the child ends.
     ForkExit,
     /// A descriptor is sent, received and closed.
     PingPong,
+    /// 64 messages of four descriptors each go into a queue, and then come out and are closed.
+    DeepQueue,
+    /// 64 pairs of sockets, each in its own queue, and a pass that collects them.
+    Cycle,
     /// So many sockets, each in the queue of the next, go by one close of the last.
     Chain { sockets: u32 },
 }
@@ -26,12 +31,15 @@ pub enum Workload {
 impl Display for Workload {
     fn fmt<W: Write>(&self, f: &mut Formatter<W>) -> Result<(), Error> {
         match self {
-            Workload::OpenClose { live } => write!(f, "openclose at {live} live files"),
-            Workload::OpenCloseAbove { open } => write!(f, "openclose above {open} open numbers"),
+            Workload::OpenClose { live: 0 } => write!(f, "openclose"),
+            Workload::OpenClose { live } => write!(f, "live {live} last"),
+            Workload::OpenAny { live } => write!(f, "live {live} any"),
             Workload::Dup2 => write!(f, "dup2"),
-            Workload::ForkExit => write!(f, "forkexit with 64 numbers open"),
+            Workload::ForkExit => write!(f, "forkexit"),
             Workload::PingPong => write!(f, "pingpong"),
-            Workload::Chain { sockets } => write!(f, "chain of {sockets} sockets"),
+            Workload::DeepQueue => write!(f, "deepqueue"),
+            Workload::Cycle => write!(f, "cycle"),
+            Workload::Chain { sockets } => write!(f, "chain{sockets}"),
         }
     }
 }
@@ -40,18 +48,20 @@ impl Workload {
     /// How many events a round has; of a chain, how many files go by its one event.
     pub fn events(&self) -> u32 {
         match self {
-            Workload::OpenClose { .. } | Workload::OpenCloseAbove { .. } | Workload::ForkExit => 2,
+            Workload::OpenClose { .. } | Workload::OpenAny { .. } | Workload::ForkExit => 2,
             Workload::Dup2 => 1,
             Workload::PingPong => 3,
+            Workload::DeepQueue => 64 + 64 * 5,
+            Workload::Cycle => 64 * 5 + 1,
             Workload::Chain { sockets } => *sockets,
         }
     }
 
-    /// What is counted.
-    pub fn unit(&self) -> &'static str {
+    /// Whether there is nothing left to do after one round.
+    pub fn is_done_once(&self) -> bool {
         match self {
-            Workload::Chain { .. } => "files gone",
-            _ => "events",
+            Workload::Chain { .. } => true,
+            _ => false,
         }
     }
 
@@ -61,21 +71,35 @@ impl Workload {
         let mut engine = Engine::new(alloc).ok()?;
         self.set_up(&mut engine, alloc)?;
         let events = self.round(alloc)?;
-        Some(Round { engine, events })
+        let leap = match self {
+            Workload::OpenAny { live } => Some(Leap::over(*live)),
+            _ => None,
+        };
+        Some(Round {
+            engine,
+            events,
+            leap,
+        })
     }
 
     /// What happens before the first round. Nothing, where an event is refused.
     fn set_up(&self, engine: &mut Engine, alloc: Global) -> Option<()> {
         done(engine, &SPAWN)?;
         match self {
-            Workload::OpenClose { live } => open_elsewhere(engine, *live),
-            Workload::OpenCloseAbove { open } => open_numbers(engine, *open),
+            Workload::OpenClose { live } | Workload::OpenAny { live } => {
+                open_elsewhere(engine, *live)
+            }
             Workload::Dup2 => open_numbers(engine, 1),
             Workload::ForkExit => open_numbers(engine, 64),
             Workload::PingPong => {
                 done(engine, &PAIR)?;
                 open_numbers(engine, 1)
             }
+            Workload::DeepQueue => {
+                done(engine, &PAIR)?;
+                open_numbers(engine, 4)
+            }
+            Workload::Cycle => Some(()),
             Workload::Chain { sockets } => chain(engine, alloc, *sockets),
         }
     }
@@ -84,13 +108,49 @@ impl Workload {
     fn round(&self, alloc: Global) -> Option<Vec<Event>> {
         match self {
             Workload::OpenClose { .. } => vec![in alloc; OPEN, close(0)].ok(),
-            Workload::OpenCloseAbove { open } => vec![in alloc; OPEN, close(*open)].ok(),
+            Workload::OpenAny { .. } => Some(Vec::new(alloc)),
             Workload::Dup2 => vec![in alloc; Event::Proc(FIRST, Step::Dup2(Fd(0), Fd(1)))].ok(),
             Workload::ForkExit => vec![in alloc; Event::Proc(FIRST, Step::Fork)].ok(),
-            Workload::PingPong => vec![in alloc; send(alloc, 0, 2)?, RECEIVE, close(3)].ok(),
+            Workload::PingPong => {
+                vec![in alloc; send(alloc, 0, &[Fd(2)])?, receive(1), close(3)].ok()
+            }
+            Workload::DeepQueue => deep_queue(alloc),
+            Workload::Cycle => cycle(alloc),
             Workload::Chain { sockets } => vec![in alloc; close(end_of(*sockets))].ok(),
         }
     }
+}
+
+/// 64 messages of four descriptors in, and out, each descriptor closed. Nothing, where memory is
+/// refused.
+fn deep_queue(alloc: Global) -> Option<Vec<Event>> {
+    let mut events = Vec::new(alloc);
+    for _ in 0..64 {
+        events
+            .push(send(alloc, 0, &[Fd(2), Fd(3), Fd(4), Fd(5)])?)
+            .ok()?;
+    }
+    for _ in 0..64 {
+        events.push(receive(1)).ok()?;
+        for fd in 6..10 {
+            events.push(close(fd)).ok()?;
+        }
+    }
+    Some(events)
+}
+
+/// 64 pairs, each socket in its own queue and closed, and a pass. Nothing, where memory is refused.
+fn cycle(alloc: Global) -> Option<Vec<Event>> {
+    let mut events = Vec::new(alloc);
+    for _ in 0..64 {
+        events.push(PAIR).ok()?;
+        events.push(send(alloc, 0, &[Fd(0)])?).ok()?;
+        events.push(send(alloc, 1, &[Fd(1)])?).ok()?;
+        events.push(close(0)).ok()?;
+        events.push(close(1)).ok()?;
+    }
+    events.push(Event::Pass).ok()?;
+    Some(events)
 }
 
 /// The process whose events are measured.
@@ -106,25 +166,26 @@ const OPEN: Event = Event::Proc(FIRST, Step::Open);
 
 const PAIR: Event = Event::Proc(FIRST, Step::Pair(SockType::Seqpacket));
 
-const RECEIVE: Event = Event::Proc(
-    FIRST,
-    Step::Recv {
-        on: Fd(1),
-        max_bytes: 1,
-        max_fds: 1,
-    },
-);
+/// Up to 16 bytes and four descriptors.
+fn receive(on: u32) -> Event {
+    let step = Step::Recv {
+        on: Fd(on),
+        max_bytes: 16,
+        max_fds: 4,
+    };
+    Event::Proc(FIRST, step)
+}
 
 fn close(fd: u32) -> Event {
     Event::Proc(FIRST, Step::Close(Fd(fd)))
 }
 
-/// One byte, and what a number stands for. Nothing, where memory is refused.
-fn send(alloc: Global, on: u32, attached: u32) -> Option<Event> {
+/// One byte, and what these numbers stand for. Nothing, where memory is refused.
+fn send(alloc: Global, on: u32, attached: &[Fd]) -> Option<Event> {
     let step = Step::Send {
         on: Fd(on),
         bytes: Items::of([b'a'].to_vec(alloc).ok()?),
-        attach: Items::of([Fd(attached)].to_vec(alloc).ok()?),
+        attach: Items::of(attached.to_vec(alloc).ok()?),
     };
     Some(Event::Proc(FIRST, step))
 }
@@ -170,11 +231,30 @@ fn chain(engine: &mut Engine, alloc: Global, sockets: u32) -> Option<()> {
     for k in 1..sockets {
         let old = end_of(k);
         done(engine, &PAIR)?;
-        done(engine, &send(alloc, 2, old)?)?;
+        done(engine, &send(alloc, 2, &[Fd(old)])?)?;
         done(engine, &close(old))?;
         done(engine, &close(2))?;
     }
     Some(())
+}
+
+/// Which of the live files is next, in leaps over them all.
+#[derive(Clone, Copy, Debug)]
+struct Leap {
+    files: u32,
+    at: u32,
+}
+
+impl Leap {
+    fn over(files: u32) -> Leap {
+        Leap { files, at: 0 }
+    }
+
+    /// The next file: its process and its number there.
+    fn next(&mut self) -> (Pid, Fd) {
+        self.at = self.at.wrapping_add(7_919) % self.files.max(1);
+        (Pid(2 + self.at / 1_000), Fd(self.at % 1_000))
+    }
 }
 
 /// The events of a workload, over and over.
@@ -182,11 +262,17 @@ fn chain(engine: &mut Engine, alloc: Global, sockets: u32) -> Option<()> {
 pub struct Round {
     engine: Engine,
     events: Vec<Event>,
+    leap: Option<Leap>,
 }
 
 impl Round {
     /// Does the events once; a child that was forked ends at once. Nothing, where one is refused.
     pub fn go(&mut self) -> Option<()> {
+        if let Some(leap) = &mut self.leap {
+            let (pid, fd) = leap.next();
+            done(&mut self.engine, &Event::Proc(pid, Step::Close(fd)))?;
+            done(&mut self.engine, &Event::Proc(pid, Step::Open))?;
+        }
         for event in &self.events {
             if let Reply::Pid(child) = done(&mut self.engine, event)? {
                 done(&mut self.engine, &Event::Proc(child, Step::Exit))?;

@@ -135,7 +135,7 @@ agrees-new_file w x k new empty silent a = record {
   added G none = let nothing : G (queue_of x) ≡ 0 = ap G silent ∙ none in omega (arith, nothing, total-new (λ y. G (queue_of y)) w.files w.next_ino x new)
 
 -- A file is entered, of which no place is counted yet.
-pub agrees-entered : (w : World) (f : ℕ) (k : Kept) (room : ℕ) → has_count k f ≡ false → Agrees w k → Agrees w (record k { counts = map.insert k.counts f uncounted; room = room })
+pub agrees-entered : (w : World) (f : ℕ) (k : Kept) (room : ℕ) → has_count k f ≡ false → Agrees w k → Agrees w (record k { counts = map.insert k.counts f uncounted; last = f; room = room })
 agrees-entered w f k room new a = record {
   refs = λ g. ap places_in (count-entered k f g room new) ∙ a.refs g;
   tabled = λ g. ap (λ c. c.tabled) (count-entered k f g room new) ∙ a.tabled g;

@@ -18,11 +18,11 @@ use Rattle.af_base.specs.Refusals.{is_crowded, is_full}
 use Rattle.af_base.specs.Steps.{connected_socket, spawned, with_pair}
 use Rattle.af_base.specs.Unheld.{without}
 use Rattle.af_base.specs.Whole.{IsMessageWithin, IsSound}
-use Rattle.af_base.proofs.Born.{fresh_file, whole-add_process, whole-spawned}
+use Rattle.af_base.proofs.Born.{fresh_file, whole-spawned}
 use Rattle.af_base.proofs.Elements.{Contains-first, Contains-later}
 use Rattle.af_base.proofs.Ended.{whole-remove_process, within-remove_process}
 use Rattle.af_base.proofs.Free.{AreFree, first-free, first-low, rest-free}
-use Rattle.af_base.proofs.Lookups.{insert-other, itself, none_some, not_same, told_apart}
+use Rattle.af_base.proofs.Lookups.{insert-other, itself, not_same, told_apart}
 use Rattle.af_base.proofs.Moved.{live-changed, there-install}
 use Rattle.af_base.proofs.Opened.{whole-plain, within-plain}
 use Rattle.af_base.proofs.Pairs.{whole-pair}
@@ -30,16 +30,17 @@ use Rattle.af_base.proofs.Placed.{settled-counted}
 use Rattle.af_base.proofs.Settling.{live-without}
 use Rattle.af_base.proofs.Sound.{fresh_sound}
 use Rattle.af_base.proofs.Whole.{whole-install, whole-pop, whole-push, whole-uninstall, whole-unheld}
-use Rattle.af_base.proofs.Within.{within-add_process, within-install, within-pair, within-pop, within-push, within-spawned, within-uninstall, within-without}
+use Rattle.af_base.proofs.Within.{within-install, within-pair, within-pop, within-push, within-spawned, within-uninstall, within-without}
 use Rattle.af_ledger.specs.Counted.{places_in, uncounted}
-use Rattle.af_ledger.specs.Kept.{Kept, dropped, dropped_all, has_count, held, held_all, is_user, is_waiting, with_user}
+use Rattle.af_ledger.specs.Kept.{Kept, charged_less, charged_more, dropped, dropped_all, has_count, held, held_all, is_user, is_waiting, with_user}
 use Rattle.af_ledger.specs.declared.count.Count.{Count}
+use Rattle.af_ledger.specs.declared.place.Place.{Place}
 use Rattle.af_ledger.specs.declared.place.Place.TheVariants.{Queue, Table}
 use Rattle.af_ledger.proofs.HeldAll.{has-dropped_all, has-held_all}
 use Rattle.af_ledger.proofs.Laws.{has-dropped, has-entered, has-held, has-struck, users-held}
 use Rattle.af_collect.specs.Agreement.{IsExact}
 use Rattle.af_collect.specs.Stored.{filled}
-use Rattle.af_collect.proofs.Agreement.{agrees-add_process, agrees-empty, agrees-entered, agrees-gone, agrees-install, agrees-new_file, agrees-pop, agrees-push, agrees-remove_process, agrees-spawned, agrees-struck, agrees-uninstall}
+use Rattle.af_collect.proofs.Agreement.{agrees-empty, agrees-entered, agrees-gone, agrees-install, agrees-new_file, agrees-pop, agrees-push, agrees-remove_process, agrees-spawned, agrees-struck, agrees-uninstall}
 use Rattle.af_collect.proofs.Bounds.{can-drop-all}
 
 -- Two worlds with the same parts are one.
@@ -59,6 +60,7 @@ exact-room w k room h =
       within = h.within;
       agrees = record { refs = a.refs; tabled = a.tabled; inflight = a.inflight; charged = a.charged; total = a.total; known = a.known };
       counted = h.counted;
+      entered = h.entered;
     }
 
 -- The world with a process more, whose table is empty.
@@ -72,24 +74,15 @@ exact-spawned w uid nofile privileged k room low h = record {
   within = within-spawned w uid nofile privileged h.within room low;
   agrees = agrees-spawned w uid nofile privileged k h.whole h.agrees;
   counted = λ f. h.counted f ∙ by f (list_any (nat_eq uid) w.users);
+  entered = above (list_any (nat_eq uid) w.users);
 } where
+  above : (b : Bool) → k.last < (if b then started w uid nofile privileged else record (started w uid nofile privileged) { users = w.users ++ uid ∷ [] }).next_ino
+  above true = h.entered
+  above false = h.entered
+
   by : (f : ℕ) (b : Bool) → is_live w f ≡ is_live (if b then started w uid nofile privileged else record (started w uid nofile privileged) { users = w.users ++ uid ∷ [] }) f
   by f true = refl
   by f false = refl
-
--- A child with an empty table.
-pub exact-child : (w : World) (p : ℕ) (q : Process) (k : Kept) → is_crowded w ≡ false → finmap.get w.processes p ≡ Some q → IsExact w k → IsExact (add_process w (record q { table = finmap.empty })) k
-exact-child w p q k room at h =
-    let none : (n f : ℕ) → finmap.get {X = ℕ} {R = nat_cmp} finmap.empty n ≡ Some f → ⊥ = λ n f is. none_some f (sym (finmap.get-empty nat_cmp n) ∙ is) in
-    record {
-      whole = whole-add_process w (record q { table = finmap.empty }) h.whole (λ n f is. absurd (none n f is));
-      within = within-add_process w (record q { table = finmap.empty }) h.within room (record {
-        limit = (h.within.processes p q at).limit;
-        numbers = λ n l. absurd (false≢true (sym (ap is_some (finmap.get-empty nat_cmp n)) ∙ l));
-      });
-      agrees = agrees-add_process w (record q { table = finmap.empty }) k h.whole refl (h.agrees.known p q at) h.agrees;
-      counted = h.counted;
-    }
 
 -- A process that goes with an empty table.
 pub exact-removed : (w : World) (p : ℕ) (k : Kept) → ((n : ℕ) → table_at w p n ≡ None) → IsExact w k → IsExact (remove_process w p) k
@@ -98,6 +91,7 @@ exact-removed w p k empty h = record {
   within = within-remove_process w p h.within;
   agrees = agrees-remove_process w p k empty h.agrees;
   counted = h.counted;
+  entered = h.entered;
 }
 
 -- A free number taken into use for a live file.
@@ -107,6 +101,7 @@ exact-install w p n f q k at free low live h = record {
   within = within-install w p n f q h.within at low;
   agrees = agrees-install w p n f q k at free h.agrees;
   counted = λ g. has-held Table f g k (h.counted f ∙ live) ∙ h.counted g;
+  entered = h.entered;
 }
 
 -- A number given up.
@@ -116,7 +111,25 @@ exact-uninstall w p n f k is h = record {
   within = within-uninstall w p n h.within;
   agrees = agrees-uninstall w p n f k is h.agrees;
   counted = λ g. has-dropped Table f g k (h.counted f ∙ h.whole.tables_live f (p, n, is)) ∙ h.counted g;
+  entered = h.entered;
 }
+
+-- Places that come and go leave the last number.
+last-charged_more : (p : Place) (k : Kept) → (charged_more p k).last ≡ k.last
+last-charged_more Table k = refl
+last-charged_more (Queue u) k = refl
+
+last-charged_less : (p : Place) (k : Kept) → (charged_less p k).last ≡ k.last
+last-charged_less Table k = refl
+last-charged_less (Queue u) k = refl
+
+last-held_all : (p : Place) (fs : List ℕ) (k : Kept) → (held_all p fs k).last ≡ k.last
+last-held_all p [] k = refl
+last-held_all p (f ∷ fs) k = last-held_all p fs (held p f k) ∙ last-charged_more p _
+
+last-dropped_all : (p : Place) (fs : List ℕ) (k : Kept) → (dropped_all p fs k).last ≡ k.last
+last-dropped_all p [] k = refl
+last-dropped_all p (f ∷ fs) k = last-dropped_all p fs (dropped p f k) ∙ last-charged_less p _
 
 -- A message put into a queue.
 pub exact-push : (w : World) (s : ℕ) (m : Message) (x : Socket) (k : Kept) → finmap.get w.files s ≡ Some (AsSocket x) → IsTrue (is_user m.user k.users) → ((f : ℕ) → Contains m.attached f → IsLive w f) → IsMessageWithin m → length x.queue < MAX_MESSAGES
@@ -126,6 +139,7 @@ exact-push w s m x k at user live fits room flying h = record {
   within = within-push w s m x h.within at fits room flying;
   agrees = agrees-push w s m x k at user h.agrees;
   counted = λ g. has-held_all m.user g m.attached k (λ f c. h.counted f ∙ live f c) ∙ h.counted g ∙ sym (live-changed w s (pushed m) g);
+  entered = subst (λ n. n < w.next_ino) (sym (last-held_all (Queue m.user) m.attached k)) h.entered;
 }
 
 -- The first message of a queue goes.
@@ -137,6 +151,7 @@ exact-pop w s m rest x k at is h =
       within = within-pop w s x m rest h.within at is;
       agrees = agrees-pop w s m rest x k at is can h.agrees;
       counted = λ g. has-dropped_all m.user g m.attached k can ∙ h.counted g ∙ sym (live-changed w s (λ y. record y { queue = rest }) g);
+      entered = subst (λ n. n < w.next_ino) (sym (last-dropped_all (Queue m.user) m.attached k)) h.entered;
     }
 
 -- A file that nothing holds, and that holds nothing, goes.
@@ -146,6 +161,7 @@ exact-gone w f x k room is bare silent none h = record {
   within = within-without w f h.within;
   agrees = agrees-struck (without (nat_eq f) w) f k room (h.agrees.refs f ∙ none) (agrees-gone w f x k is bare silent h.agrees);
   counted = λ g. has-struck k f g room ∙ by g (nat_eq g f) refl ∙ sym (live-without (nat_eq f) w g);
+  entered = h.entered;
 } where
   by : (g : ℕ) (b : Bool) → nat_eq g f ≡ b → cond b false (has_count k g) ≡ cond (not (nat_eq f g)) (is_live w g) false
   by g true e = sym (ap (λ c. cond (not c) (is_live w g) false) (ap (nat_eq f) (eqb-true g f e) ∙ itself f))
@@ -163,7 +179,7 @@ pub next-new : (w : World) (k : Kept) (f : ℕ) → IsExact w k → w.next_ino �
 next-new w k f h low = h.counted f ∙ ap is_some (fresh_file w f h.whole low)
 
 -- A plain file more, which waits.
-pub exact-plain : (w : World) (k : Kept) (room : ℕ) → is_full w 1 ≡ false → IsExact w k → IsExact (add_file w Plain) (record k { counts = finmap.insert k.counts w.next_ino uncounted; room = room })
+pub exact-plain : (w : World) (k : Kept) (room : ℕ) → is_full w 1 ≡ false → IsExact w k → IsExact (add_file w Plain) (record k { counts = finmap.insert k.counts w.next_ino uncounted; last = w.next_ino; room = room })
 exact-plain w k room fits h =
     let new = fresh_file w w.next_ino h.whole (omega arith) in
     record {
@@ -171,16 +187,17 @@ exact-plain w k room fits h =
       within = within-plain w h.within fits;
       agrees = agrees-entered (add_file w Plain) w.next_ino k room (next-new w k w.next_ino h (omega arith)) (agrees-new_file w Plain k new refl refl h.agrees);
       counted = λ g. has-entered k w.next_ino g room ∙ ap (cond (nat_eq g w.next_ino) true) (h.counted g) ∙ sym (live-added w Plain g);
+      entered = omega arith;
     }
 
--- The first of two files with the next numbers is new to the ledger when the second was entered.
-pub first-stranger : (w : World) (k : Kept) (room : ℕ) → IsExact w k → has_count (record k { counts = finmap.insert k.counts (w.next_ino + 1) uncounted; room = room }) w.next_ino ≡ false
-first-stranger w k room h =
-    has-entered k (w.next_ino + 1) w.next_ino room ∙ ap (λ c. cond c true (has_count k w.next_ino)) (told_apart w.next_ino (w.next_ino + 1) (λ e. omega (arith, e))) ∙ next-new w k w.next_ino h (omega arith)
+-- The second of two files with the next numbers is new to the ledger when the first was entered.
+second-stranger : (w : World) (k : Kept) (room : ℕ) → IsExact w k → has_count (record k { counts = finmap.insert k.counts w.next_ino uncounted; last = w.next_ino; room = room }) (w.next_ino + 1) ≡ false
+second-stranger w k room h =
+    has-entered k w.next_ino (w.next_ino + 1) room ∙ ap (λ c. cond c true (has_count k (w.next_ino + 1))) (told_apart (w.next_ino + 1) w.next_ino (λ e. omega (arith, e))) ∙ next-new w k (w.next_ino + 1) h (omega arith)
 
 -- Two sockets more, connected to each other, which wait.
 pub exact-pair : (w : World) (kind : SockType) (k : Kept) (room left : ℕ) → is_full w 2 ≡ false → IsExact w k
-    → IsExact (with_pair w kind) (record k { counts = finmap.insert (finmap.insert k.counts (w.next_ino + 1) uncounted) w.next_ino uncounted; room = left })
+    → IsExact (with_pair w kind) (record k { counts = finmap.insert (finmap.insert k.counts w.next_ino uncounted) (w.next_ino + 1) uncounted; last = w.next_ino + 1; room = left })
 exact-pair w kind k room left fits h =
     let a = w.next_ino in
     let b = w.next_ino + 1 in
@@ -188,20 +205,16 @@ exact-pair w kind k room left fits h =
     let second = AsSocket (connected_socket kind a) in
     let new : finmap.get w.files a ≡ None = fresh_file w a h.whole (omega arith) in
     let other : finmap.get (add_file w first).files b ≡ None = insert-other w.files a first b (told_apart b a (λ e. omega (arith, e))) ∙ fresh_file w b h.whole (omega arith) in
-    let one : Kept = record k { counts = finmap.insert k.counts b uncounted; room = room } in
+    let one : Kept = record k { counts = finmap.insert k.counts a uncounted; last = a; room = room } in
     let both = agrees-new_file (add_file w first) second k other refl refl (agrees-new_file w first k new refl refl h.agrees) in
     record {
       whole = whole-pair w kind h.whole;
       within = within-pair w kind h.within fits;
-      agrees = agrees-entered (with_pair w kind) a one left (first-stranger w k room h) (agrees-entered (with_pair w kind) b k room (next-new w k b h (omega arith)) both);
-      counted = λ g. has-entered one a g left ∙ ap (cond (nat_eq g a) true) (has-entered k b g room ∙ ap (cond (nat_eq g b) true) (h.counted g)) ∙ turned (nat_eq g a) (nat_eq g b) (is_live w g)
+      agrees = agrees-entered (with_pair w kind) b one left (second-stranger w k room h) (agrees-entered (with_pair w kind) a k room (next-new w k a h (omega arith)) both);
+      counted = λ g. has-entered one b g left ∙ ap (cond (nat_eq g b) true) (has-entered k a g room ∙ ap (cond (nat_eq g a) true) (h.counted g))
           ∙ sym (live-added (add_file w first) second g ∙ ap (cond (nat_eq g b) true) (live-added w first g));
-    } where
-      turned : (a b c : Bool) → cond a true (cond b true c) ≡ cond b true (cond a true c)
-      turned true true c = refl
-      turned true false c = refl
-      turned false true c = refl
-      turned false false c = refl
+      entered = omega arith;
+    }
 
 -- Free numbers taken into use for live files, one after the other.
 pub exact-install_all : (w : World) (p : ℕ) (q : Process) (ns fs : List ℕ) (k : Kept) → finmap.get w.processes p ≡ Some q → AreFree q ns → ((f : ℕ) → Contains fs f → IsLive w f) → IsExact w k
@@ -232,12 +245,13 @@ pub exact-sound : (w : World) (k : Kept) → IsExact w k → ((f : ℕ) → IsLi
 exact-sound w k h some = record { whole = h.whole; within = h.within; settled = settled-counted w some }
 
 -- A store that has nothing.
-pub exact-empty : (k : Kept) → k.counts ≡ finmap.empty → k.users ≡ [] → k.total ≡ 0 → IsExact empty_world k
-exact-empty k counts users total = record {
+pub exact-empty : (k : Kept) → k.counts ≡ finmap.empty → k.users ≡ [] → k.total ≡ 0 → k.last ≡ 0 → IsExact empty_world k
+exact-empty k counts users total last = record {
   whole = fresh_sound.whole;
   within = fresh_sound.within;
   agrees = agrees-empty k counts users total;
   counted = λ f. ap (λ (m : Map Count). is_some (finmap.get m f)) counts ∙ ap is_some (finmap.get-empty nat_cmp f) ∙ sym (ap is_some (finmap.get-empty nat_cmp f));
+  entered = subst (λ n. n < 1) (sym last) (omega arith);
 }
 
 -- A user more, as the list of users has it.

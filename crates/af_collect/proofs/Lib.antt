@@ -13,3 +13,4 @@ pub mod Unmarked
 pub mod Listed
 pub mod Putting
 pub mod Filling
+pub mod Joined

@@ -1,9 +1,10 @@
 -- When the numbers that are kept are the recounts.
-use Rattle.std.specs.Prelude.{◌≡◌, ℕ, IsTrue, Some}
+use Rattle.std.specs.Prelude.{◌≡◌, ◌<◌, ℕ, IsTrue, Some, false}
 use Rattle.std.specs.FinMap as map
-use Rattle.af_base.specs.World.{World, Process, is_live}
+use Rattle.af_base.specs.World.{World, Process, is_live, IsLive}
 use Rattle.af_base.specs.Counts.{refs, tabled, inflight, charged, total}
-use Rattle.af_base.specs.Whole.{IsWhole, IsWithin}
+use Rattle.af_base.specs.Whole.{IsWhole, IsWithin, IsProcessWithin}
+use Rattle.af_base.specs.Refusals.{is_crowded}
 use Rattle.af_ledger.specs.Kept.{Kept, count_of, refs_of, charge_of, has_count, is_user}
 
 -- Each number kept is the recount of the world, and each process has a user who is kept (this project's profile).
@@ -15,9 +16,18 @@ pub record Agrees (w : World) (k : Kept) : Type 0 where
   pub total : k.total ≡ total w
   pub known : (p : ℕ) (q : Process) → map.get w.processes p ≡ Some q → IsTrue (is_user q.user k.users)
 
--- What is true of a store at every moment: its world is whole and within the limits, each number that it keeps is the recount, and it keeps the numbers of just the live files (this project's profile).
+-- What is true of a store at every moment: its world is whole and within the limits, each number that it keeps is the recount, it keeps the numbers of just the live files, and the next file has a number above all that it ever kept (this project's profile).
 pub record IsExact (w : World) (k : Kept) : Type 0 where
   pub whole : IsWhole w
   pub within : IsWithin w
   pub agrees : Agrees w k
   pub counted : (f : ℕ) → has_count k f ≡ is_live w f
+  pub entered : k.last < w.next_ino
+
+-- A process can join the world: all is exact so far, there is room for it, it is within its limits, each of its numbers stands for a live file, and its user is kept (fork(2); this project's profile).
+pub record Joins (w : World) (q : Process) (k : Kept) : Type 0 where
+  pub exact : IsExact w k
+  pub room : is_crowded w ≡ false
+  pub within : IsProcessWithin q
+  pub live : (n f : ℕ) → map.get q.table n ≡ Some f → IsLive w f
+  pub known : IsTrue (is_user q.user k.users)

@@ -11,7 +11,7 @@ ghost use Rattle.af_collect.specs.Marking.{AreGarbage, AreReached, Marked, NoFil
 
 use crate::marks::Marks;
 use crate::store::Store;
-use af_base::names::Ino;
+use af_base::names::{FileRef, Ino};
 use std::alloc::AllocError;
 
 impl Store {
@@ -31,58 +31,58 @@ impl Store {
     }
 
     /// The queues of these files are emptied, one after the other.
-    fn empty_all(&mut self, inos: &[Ino])
-        ensures { self.new ≡ record self.old { world = emptied (λ f. list_any (nat_eq f) inos.now) self.old.world } }
+    fn empty_all(&mut self, files: &[FileRef])
+        ensures { self.new ≡ record self.old { world = emptied (λ f. list_any (nat_eq f) files.now) self.old.world } }
     {
-        for ino in inos {
-            self.empty(*ino);
+        for file in files {
+            self.empty(file);
         }
     }
 
     /// All places that a file holds are dropped.
-    fn empty(&mut self, ino: Ino)
-        ensures { self.new ≡ record self.old { world = emptied (nat_eq ino) self.old.world } }
+    fn empty(&mut self, file: &FileRef)
+        ensures { self.new ≡ record self.old { world = emptied (nat_eq file.now) self.old.world } }
     {
-        while self.drop_first(ino) {}
+        while self.drop_first(file) {}
     }
 
     /// The live files that no chain of places leads to from a table, rising.
-    fn garbage(&self) -> Result<Vec<Ino>, AllocError>
-        ensures { IfOk result (λ inos. AreGarbage self.now.world inos.items) }
+    fn garbage(&self) -> Result<Vec<FileRef>, AllocError>
+        ensures { IfOk result (λ files. AreGarbage self.now.world files.items) }
     {
         let marks = self.reached()?;
         self.unmarked(&marks)
     }
 
     /// The live files without a mark, rising.
-    fn unmarked(&self, marks: &Marks) -> Result<Vec<Ino>, AllocError>
-        ensures { IfOk result (λ inos. inos.items ≡ unmarked marks.now self.now.world) }
+    fn unmarked(&self, marks: &Marks) -> Result<Vec<FileRef>, AllocError>
+        ensures { IfOk result (λ files. files.items ≡ unmarked marks.now self.now.world) }
     {
         let mut unmarked = Vec::new(self.alloc);
         let mut last = Ino(0);
-        while let Some(ino) = self.files.next_after(last) {
-            last = ino;
-            if marks.is_marked(ino) {
+        while let Some(file) = self.files.next_after(last) {
+            last = file.ino();
+            if marks.is_marked(last) {
                 continue;
             }
-            unmarked.push(ino)?;
+            unmarked.push(file)?;
         }
         Ok(unmarked)
     }
 
     /// How many of these files are sockets.
-    fn sockets_among(&self, inos: &[Ino]) -> u64
-        ensures { result ≡ count_by (is_socket_at self.now.world) inos.now }
+    fn sockets_among(&self, files: &[FileRef]) -> u64
+        ensures { result ≡ count_by (is_socket_at self.now.world) files.now }
     {
-        inos.iter().filter(|ino| self.is_socket(**ino)).count() as u64
+        files.iter().filter(|file| self.is_socket(file)).count() as u64
     }
 
     /// Whether the file is a socket.
-    fn is_socket(&self, ino: Ino) -> bool
-        ensures { result ≡ is_socket_at self.now.world ino }
+    fn is_socket(&self, file: &FileRef) -> bool
+        ensures { result ≡ is_socket_at self.now.world file.now }
     {
-        match self.files.get(ino) {
-            Some(file) => file.socket().is_some(),
+        match self.files.get(file) {
+            Some(desc) => desc.socket().is_some(),
             None => false,
         }
     }
@@ -94,8 +94,8 @@ impl Store {
     {
         let mut marks = Marks::new(self.alloc);
         self.mark_tabled(&mut marks)?;
-        while let Some(ino) = marks.next() {
-            self.mark_held(ino, &mut marks)?;
+        while let Some(file) = marks.next() {
+            self.mark_held(&file, &mut marks)?;
         }
         Ok(marks)
     }
@@ -105,24 +105,24 @@ impl Store {
         ensures { OnOk result (Marked (InTable self.now.world) NoFile marks.old marks.new) }
     {
         let mut last = Ino(0);
-        while let Some(ino) = self.files.next_after(last) {
-            last = ino;
-            if self.ledger.tabled(ino) == 0 {
+        while let Some(file) = self.files.next_after(last) {
+            last = file.ino();
+            if self.ledger.tabled(&file) == 0 {
                 continue;
             }
-            marks.mark(ino)?;
+            marks.mark(&file)?;
         }
         Ok(())
     }
 
     /// Marks all that the file holds.
-    fn mark_held(&self, ino: Ino, marks: &mut Marks) -> Result<(), AllocError>
-        ensures { OnOk result (Marked (Holds self.now.world ino) NoFile marks.old marks.new) }
+    fn mark_held(&self, file: &FileRef, marks: &mut Marks) -> Result<(), AllocError>
+        ensures { OnOk result (Marked (Holds self.now.world file.now) NoFile marks.old marks.new) }
     {
-        let Some(file) = self.files.get(ino) else {
+        let Some(desc) = self.files.get(file) else {
             return Ok(());
         };
-        let Some(socket) = file.socket() else {
+        let Some(socket) = desc.socket() else {
             return Ok(());
         };
         for message in socket.queue() {

@@ -1,12 +1,13 @@
 //! The store: processes, files and the numbers that are kept of them, always in step.
 //!
-//! The calls of `places`, `release` and `collect` are the only ones that add or remove a place that
-//! holds a file.
+//! Places that hold files come and go by the calls of `places`, by whole processes (`copy_for_fork`
+//! and `remove_process`), and by `release` and `collect`, and by no other.
 #![tactic(auto)]
 
 mod collector;
 mod listings;
 mod marks;
+mod numbers;
 mod places;
 mod release;
 mod store;

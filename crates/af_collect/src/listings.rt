@@ -9,7 +9,7 @@ ghost use Rattle.af_base.specs.Listing.{processes_of, files_of, file_of, socket_
 use crate::store::Store;
 use af_base::limits::{MAX_MESSAGES, SCM_MAX_FD};
 use af_base::listing::{ListedFile, ListedMessage, ListedSocket, ListedTable, Listing};
-use af_base::names::Ino;
+use af_base::names::{FileRef, Ino};
 use af_desc::Socket;
 use std::alloc::{AllocError, Global};
 
@@ -43,25 +43,28 @@ impl Store {
     {
         let mut files = Vec::new(self.alloc);
         let mut last = Ino(0);
-        while let Some(ino) = self.files.next_after(last) {
-            last = ino;
-            files.push(self.listed_file(ino)?)?;
+        while let Some(file) = self.files.next_after(last) {
+            last = file.ino();
+            files.push(self.listed_file(&file)?)?;
         }
         Ok(files)
     }
 
     /// A live file, with what it has to receive.
-    fn listed_file(&self, ino: Ino) -> Result<ListedFile, AllocError>
-        requires { world.IsLive self.now.world ino }
-        ensures ino { IfOk result (λ x. x.ino ≡ ino) }
-        ensures shown { IfOk result (λ x. Some (file_of x) ≡ option_map bare_file (map.get self.now.world.files ino)) }
+    fn listed_file(&self, file: &FileRef) -> Result<ListedFile, AllocError>
+        requires { world.IsLive self.now.world file.now }
+        ensures ino { IfOk result (λ x. x.ino ≡ file.now) }
+        ensures shown { IfOk result (λ x. Some (file_of x) ≡ option_map bare_file (map.get self.now.world.files file.now)) }
         ensures few { IfOk result (λ x. length (contents (file_of x)) ≤ MAX_MESSAGES * SCM_MAX_FD) }
     {
-        let socket = match self.files.get(ino).unwrap().socket() {
+        let socket = match self.files.get(file).unwrap().socket() {
             Some(socket) => Some(listed_socket(self.alloc, socket)?),
             None => None,
         };
-        Ok(ListedFile { ino, socket })
+        Ok(ListedFile {
+            ino: file.ino(),
+            socket,
+        })
     }
 }
 
@@ -73,7 +76,7 @@ fn listed_socket(alloc: Global, socket: &Socket) -> Result<ListedSocket, AllocEr
     let mut queue = Vec::new(alloc);
     for message in socket.queue() {
         queue.push(ListedMessage {
-            attached: message.attached().to_vec(alloc)?,
+            attached: numbers_of(alloc, message.attached())?,
             user: message.user(),
         })?;
     }
@@ -81,4 +84,11 @@ fn listed_socket(alloc: Global, socket: &Socket) -> Result<ListedSocket, AllocEr
         queue,
         backlog: Vec::new(alloc),
     })
+}
+
+/// The numbers of these files.
+fn numbers_of(alloc: Global, files: &[FileRef]) -> Result<Vec<Ino>, AllocError>
+    ensures { IfOk result (λ inos. inos.items ≡ files.now) }
+{
+    files.iter().map(|file| file.ino()).collect(alloc)
 }

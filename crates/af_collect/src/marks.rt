@@ -3,7 +3,7 @@ ghost use Rattle.std.specs.Prelude.{◌≡◌, ◌++◌, ◌∷◌, [], IfSome, 
 ghost use Rattle.std.specs.List.{Contains};
 ghost use Rattle.af_collect.specs.Marking.{is_marked, Marked, NoFile};
 
-use af_base::names::Ino;
+use af_base::names::{FileRef, Ino};
 use std::alloc::{AllocError, Global};
 use std::collections::BTreeSet;
 use std::marker::Model;
@@ -12,7 +12,7 @@ use std::marker::Model;
 #[derive(Drop)]
 pub struct Marks {
     marked: BTreeSet<Ino>,
-    waiting: Vec<Ino>,
+    waiting: Vec<FileRef>,
 }
 
 impl Model for Marks {
@@ -42,28 +42,28 @@ impl Marks {
     }
 
     /// Marks a file. If that is new, the file has to be looked at.
-    pub fn mark(&mut self, ino: Ino) -> Result<(), AllocError>
-        ensures { OnOk result (Marked (λ f. f ≡ ino) NoFile self.old self.new) }
+    pub fn mark(&mut self, file: &FileRef) -> Result<(), AllocError>
+        ensures { OnOk result (Marked (λ f. f ≡ file.now) NoFile self.old self.new) }
     {
-        if !self.marked.insert(ino)? {
+        if !self.marked.insert(file.ino())? {
             return Ok(());
         }
-        self.waiting.push(ino)?;
+        self.waiting.push(file.again())?;
         Ok(())
     }
 
     /// Marks these files.
-    pub fn mark_all(&mut self, inos: &[Ino]) -> Result<(), AllocError>
-        ensures { OnOk result (Marked (Contains inos.now) NoFile self.old self.new) }
+    pub fn mark_all(&mut self, files: &[FileRef]) -> Result<(), AllocError>
+        ensures { OnOk result (Marked (Contains files.now) NoFile self.old self.new) }
     {
-        for ino in inos {
-            self.mark(*ino)?;
+        for file in files {
+            self.mark(file)?;
         }
         Ok(())
     }
 
     /// One of the files that are still to be looked at, which counts as looked at from now on.
-    pub fn next(&mut self) -> Option<Ino>
+    pub fn next(&mut self) -> Option<FileRef>
         ensures some { IfSome result (λ f. self.old.waiting ≡ self.new.waiting ++ f ∷ []) }
         ensures none { IfNone result (self.old.waiting ≡ []) }
         ensures marked { self.new.marked ≡ self.old.marked }

@@ -1,6 +1,6 @@
-//! Place changes: with `release` and `collect`, the only calls that add or remove a place that holds
-//! a file. Each is one change of the world, and keeps the numbers in step with it. A file that lost
-//! its last place waits, with all that it holds, until `release` comes to it.
+//! Place changes of single numbers and messages. Each is one change of the world, and keeps the numbers
+//! in step with it. A file that lost its last place waits, with all that it holds, until `release`
+//! comes to it.
 ghost use Rattle.std.specs.Prelude.{◌≡◌, ◌<◌, ◌≤◌, ◌+◌, ◌∷◌, ◌^◌, [], ℕ, None, IsTrue, OnOk, OnErr, length, map, drop, false, is_none};
 ghost use Rattle.std.specs.List.{zip, All, Contains};
 ghost use Rattle.std.specs.FinMap as finmap;
@@ -18,7 +18,7 @@ ghost use Rattle.af_table.specs.Procs.{row_in};
 
 use crate::store::Store;
 use af_base::limits::{MAX_INFLIGHT, MAX_MESSAGES};
-use af_base::names::{Fd, Ino, Pid};
+use af_base::names::{Fd, FileRef, Pid};
 use af_desc::Message;
 use af_ledger::{Ledger, Place};
 use af_table::Procs;
@@ -26,33 +26,33 @@ use std::alloc::AllocError;
 
 /// Files into the table of a process, at these numbers one after the other, as long as there are
 /// both: each number has room, and the numbers of each file are kept.
-fn table_in_all(procs: &mut Procs, ledger: &mut Ledger, pid: Pid, fds: &[Fd], inos: &[Ino])
+fn table_in_all(procs: &mut Procs, ledger: &mut Ledger, pid: Pid, fds: &[Fd], files: &[FileRef])
     requires row { All (λ n. n < row_in procs.old.rows pid) fds.now }
-    requires known { (f : ℕ) → Contains inos.now f → IsTrue (has_count ledger.old f) }
-    requires fits { (f : ℕ) → (count_of ledger.old f).tabled + length inos.now < 2 ^ 31 }
-    ensures processes { procs.new.processes ≡ filled procs.old.processes pid (zip fds.now inos.now) }
+    requires known { (f : ℕ) → Contains files.now f → IsTrue (has_count ledger.old f) }
+    requires fits { (f : ℕ) → (count_of ledger.old f).tabled + length files.now < 2 ^ 31 }
+    ensures processes { procs.new.processes ≡ filled procs.old.processes pid (zip fds.now files.now) }
     ensures rows { procs.new.rows ≡ procs.old.rows }
     ensures next { procs.new.next_pid ≡ procs.old.next_pid }
-    ensures kept { ledger.new ≡ held_all Place.Table (map (λ e. e.1) (zip fds.now inos.now)) ledger.old }
+    ensures kept { ledger.new ≡ held_all Place.Table (map (λ e. e.1) (zip fds.now files.now)) ledger.old }
 {
-    for (fd, ino) in fds.iter().zip(inos) {
-        ledger.hold(Place::Table, *ino);
-        procs.install(pid, *fd, *ino);
+    for (fd, file) in fds.iter().zip(files) {
+        ledger.hold(Place::Table, file);
+        procs.install(pid, *fd, file.again());
     }
 }
 
 impl Store {
     /// A live file into a table, at a free number for which there is room. It takes no memory.
-    pub fn table_in(&mut self, pid: Pid, fd: Fd, ino: Ino)
+    pub fn table_in(&mut self, pid: Pid, fd: Fd, file: FileRef)
         requires there { IsTrue (finmap.contains_key self.old.world.processes pid) }
         requires row { fd < row_at self.old pid }
         requires limit { IsBelowLimit self.old.world pid fd }
         requires free { table_at self.old.world pid fd ≡ None }
-        requires live { world.IsLive self.old.world ino }
-        ensures { self.new ≡ record self.old { world = install self.old.world pid fd ino } }
+        requires live { world.IsLive self.old.world file }
+        ensures { self.new ≡ record self.old { world = install self.old.world pid fd file } }
     {
-        self.ledger.hold(Place::Table, ino);
-        self.procs.install(pid, fd, ino);
+        self.ledger.hold(Place::Table, &file);
+        self.procs.install(pid, fd, file);
     }
 
     /// An open number of a process is free from now on. It takes no memory.
@@ -60,27 +60,27 @@ impl Store {
         requires { is_none (table_at self.old.world pid fd) ≡ false }
         ensures { self.new ≡ record self.old { world = uninstall self.old.world pid fd } }
     {
-        let ino = self.procs.take_out(pid, fd).unwrap();
-        self.ledger.drop_one(Place::Table, ino);
+        let file = self.procs.take_out(pid, fd).unwrap();
+        self.ledger.drop_one(Place::Table, &file);
     }
 
     /// A message into the queue of a socket, last. It carries live files, and each of these places is
     /// charged to its user, who is the user of a process. On an error nothing has changed.
-    pub fn put_msg(&mut self, ino: Ino, message: Message) -> Result<(), AllocError>
+    pub fn put_msg(&mut self, socket: &FileRef, message: Message) -> Result<(), AllocError>
         requires live { (f : ℕ) → Contains message.attached f → world.IsLive self.old.world f }
         requires user { IsOfProcess self.old.world message.user }
         requires within { IsMessageWithin message }
         requires flying { total self.old.world + length message.attached ≤ MAX_INFLIGHT }
-        requires socket { is_none (socket_at self.old.world ino) ≡ false }
-        requires queue { length (queue_at self.old.world ino) < MAX_MESSAGES }
-        ensures ok { OnOk result (self.new ≡ record self.old { world = push_message self.old.world ino message }) }
+        requires socket { is_none (socket_at self.old.world socket.now) ≡ false }
+        requires queue { length (queue_at self.old.world socket.now) < MAX_MESSAGES }
+        ensures ok { OnOk result (self.new ≡ record self.old { world = push_message self.old.world socket.now message }) }
         ensures err { OnErr result (self.new ≡ self.old) }
     {
         // The putting first, since it alone can fail.
-        self.files.push(ino, message)?;
+        self.files.push(socket, message)?;
         let sent = self
             .files
-            .get(ino)
+            .get(socket)
             .unwrap()
             .socket()
             .unwrap()
@@ -92,15 +92,15 @@ impl Store {
 
     /// The first message out of a queue: its first files into a table, at these numbers, which are
     /// the lowest free ones, and its places in the queue dropped. It takes no memory.
-    pub fn take_msg(&mut self, ino: Ino, pid: Pid, fds: &[Fd]) -> Message
-        requires some { 0 < length (queue_at self.old.world ino) }
+    pub fn take_msg(&mut self, socket: &FileRef, pid: Pid, fds: &[Fd]) -> Message
+        requires some { 0 < length (queue_at self.old.world socket.now) }
         requires there { IsTrue (finmap.contains_key self.old.world.processes pid) }
         requires free { (k : ℕ) × (fds.now ≡ lowest_free k (process_at self.old.world pid)) }
         requires row { All (λ n. n < row_at self.old pid) fds.now }
-        ensures first { queue_at self.old.world ino ≡ result ∷ drop 1 (queue_at self.old.world ino) }
-        ensures taken { self.new ≡ record self.old { world = install_all (with_queue self.old.world ino (drop 1 (queue_at self.old.world ino))) pid (zip fds.now result.attached) } }
+        ensures first { queue_at self.old.world socket.now ≡ result ∷ drop 1 (queue_at self.old.world socket.now) }
+        ensures taken { self.new ≡ record self.old { world = install_all (with_queue self.old.world socket.now (drop 1 (queue_at self.old.world socket.now))) pid (zip fds.now result.attached) } }
     {
-        let message = self.files.pop(ino).unwrap();
+        let message = self.files.pop(socket).unwrap();
         // Into the table first, so that no file waits in between.
         table_in_all(
             &mut self.procs,
@@ -115,13 +115,13 @@ impl Store {
 
     /// The first message of a queue goes, and its places with it. Whether there was one. It takes no
     /// memory.
-    pub(crate) fn drop_first(&mut self, ino: Ino) -> bool
-        ensures world { self.new ≡ record self.old { world = with_queue self.old.world ino (drop 1 (queue_at self.old.world ino)) } }
-        ensures some { IsTrue result → 0 < length (queue_at self.old.world ino) }
-        ensures none { result ≡ false → held_by self.old.world ino ≡ [] }
-        ensures empty { result ≡ false → queue_at self.old.world ino ≡ [] }
+    pub(crate) fn drop_first(&mut self, file: &FileRef) -> bool
+        ensures world { self.new ≡ record self.old { world = with_queue self.old.world file.now (drop 1 (queue_at self.old.world file.now)) } }
+        ensures some { IsTrue result → 0 < length (queue_at self.old.world file.now) }
+        ensures none { result ≡ false → held_by self.old.world file.now ≡ [] }
+        ensures empty { result ≡ false → queue_at self.old.world file.now ≡ [] }
     {
-        let Some(message) = self.files.pop(ino) else {
+        let Some(message) = self.files.pop(file) else {
             return false;
         };
         self.ledger.drop_all(message.user(), message.attached());

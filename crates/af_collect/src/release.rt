@@ -7,8 +7,7 @@ ghost use Rattle.af_base.specs.Unheld.{Settles, without};
 ghost use Rattle.af_base.specs.Whole.{AreMutual, IsSound};
 
 use crate::store::Store;
-use af_base::events::State;
-use af_base::names::Ino;
+use af_base::names::FileRef;
 use af_desc::Files;
 
 impl Store {
@@ -19,15 +18,15 @@ impl Store {
         ensures sound { IsSound self.new.world }
         ensures rows { self.new.rows ≡ self.old.rows }
     {
-        while let Some(ino) = self.next_waiting() {
-            if !self.drop_first(ino) {
-                self.take_away(ino);
+        while let Some(file) = self.next_waiting() {
+            if !self.drop_first(&file) {
+                self.take_away(&file);
             }
         }
     }
 
     /// A live file that no place holds, if there is one.
-    fn next_waiting(&self) -> Option<Ino>
+    fn next_waiting(&self) -> Option<FileRef>
         ensures live { IfSome result (λ f. IsLive self.now.world f) }
         ensures unheld { IfSome result (λ f. refs self.now.world f ≡ 0) }
         ensures none { IfNone result (IsSound self.now.world) }
@@ -36,30 +35,31 @@ impl Store {
     }
 
     /// A file that no place holds, and that holds nothing itself, goes, and its peer hangs up.
-    fn take_away(&mut self, ino: Ino)
-        requires live { IsLive self.old.world ino }
-        requires unheld { refs self.old.world ino ≡ 0 }
-        requires bare { held_by self.old.world ino ≡ [] }
-        requires silent { queue_at self.old.world ino ≡ [] }
-        ensures { self.new ≡ record self.old { world = without (nat_eq ino) self.old.world } }
+    fn take_away(&mut self, file: &FileRef)
+        requires live { IsLive self.old.world file.now }
+        requires unheld { refs self.old.world file.now ≡ 0 }
+        requires bare { held_by self.old.world file.now ≡ [] }
+        requires silent { queue_at self.old.world file.now ≡ [] }
+        ensures { self.new ≡ record self.old { world = without (nat_eq file.now) self.old.world } }
     {
-        remove(&mut self.files, ino);
-        self.ledger.strike_out(ino);
+        remove(&mut self.files, file);
+        self.ledger.strike_out(file);
     }
 }
 
 /// A file goes, and its peer hangs up.
-fn remove(files: &mut Files, ino: Ino)
-    ensures gone { (w : World) → w.files ≡ files.old.files → AreMutual w → record w { files = files.new.files } ≡ without (nat_eq ino) w }
+fn remove(files: &mut Files, file: &FileRef)
+    ensures gone { (w : World) → w.files ≡ files.old.files → AreMutual w → record w { files = files.new.files } ≡ without (nat_eq file.now) w }
     ensures next { files.new.next ≡ files.old.next }
 {
-    let Some(file) = files.remove(ino) else {
+    let Some(desc) = files.remove(file) else {
         return;
     };
-    let Some(socket) = file.socket() else {
+    let Some(socket) = desc.socket() else {
         return;
     };
-    if let State::Connected(peer) = socket.state() {
-        files.hang_up(peer);
-    }
+    let Some(peer) = socket.peer() else {
+        return;
+    };
+    files.hang_up(&peer);
 }

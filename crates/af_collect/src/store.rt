@@ -7,11 +7,11 @@ ghost use Rattle.af_base.specs.Places.{table_at};
 ghost use Rattle.af_base.specs.Refusals.{is_full, is_crowded, process_at};
 ghost use Rattle.af_base.specs.Steps.{spawned, with_pair};
 ghost use Rattle.af_collect.specs.Stored.{row_at};
-ghost use Rattle.af_table.specs.Procs.{with_empty_table};
 
+use crate::numbers::{drop_numbers, hold_numbers};
 use af_base::events::SockType;
 use af_base::limits::{MAX_NOFILE, MAX_PID, MAX_PROCESSES};
-use af_base::names::{Ino, Pid, Uid};
+use af_base::names::{FileRef, Pid, Uid};
 use af_desc::Files;
 use af_ledger::Ledger;
 use af_table::Procs;
@@ -81,21 +81,21 @@ impl Store {
 
     /// A plain file more, which waits for its first place: without one, `release` takes it away. On
     /// an error nothing has changed.
-    pub fn make_plain(&mut self) -> Result<Ino, AllocError>
+    pub fn make_plain(&mut self) -> Result<FileRef, AllocError>
         requires { is_full self.old.world 1 ≡ false }
         ensures ok { OnOk result (self.new ≡ record self.old { world = add_file self.old.world Plain }) }
         ensures ino { IfOk result (λ ino. ino ≡ self.old.world.next_ino) }
         ensures err { OnErr result (self.new ≡ self.old) }
     {
         self.ledger.reserve(1)?;
-        let ino = self.files.make_plain()?;
-        self.ledger.enter(ino);
-        Ok(ino)
+        let file = self.files.make_plain()?;
+        self.ledger.enter(file.ino());
+        Ok(file)
     }
 
     /// Two sockets more, connected to each other, which wait for their first places. Both or, on an
     /// error, none, and nothing has changed.
-    pub fn make_two(&mut self, kind: SockType) -> Result<(Ino, Ino), AllocError>
+    pub fn make_two(&mut self, kind: SockType) -> Result<(FileRef, FileRef), AllocError>
         requires { is_full self.old.world 2 ≡ false }
         ensures ok { OnOk result (self.new ≡ record self.old { world = with_pair self.old.world kind }) }
         ensures inos { IfOk result (λ both. (both.0 ≡ self.old.world.next_ino) × (both.1 ≡ self.old.world.next_ino + 1)) }
@@ -103,31 +103,33 @@ impl Store {
     {
         self.ledger.reserve(2)?;
         let (first, second) = self.files.make_two(kind)?;
-        // The second first: the one that gets its place first was the last to come.
-        self.ledger.enter(second);
-        self.ledger.enter(first);
+        self.ledger.enter(first.ino());
+        self.ledger.enter(second.ino());
         Ok((first, second))
     }
 
-    /// A process more, for a fork: of the same user, with the same limit and privilege. Its table is
-    /// empty, with room for all numbers of its parent. On an error nothing has changed.
+    /// A process more, by a fork: of the same user, with the same limit and privilege, and the same
+    /// open numbers. On an error nothing has changed.
     pub fn copy_for_fork(&mut self, pid: Pid) -> Result<Pid, AllocError>
         requires there { IsTrue (map.contains_key self.old.world.processes pid) }
         requires room { is_crowded self.old.world ≡ false }
-        ensures ok { OnOk result (self.new.world ≡ add_process self.old.world (with_empty_table (process_at self.old.world pid))) }
+        ensures ok { OnOk result (self.new.world ≡ add_process self.old.world (process_at self.old.world pid)) }
         ensures pid { IfOk result (λ child. child ≡ self.old.world.next_pid) }
-        ensures row { OnOk result ((n f : ℕ) → table_at self.old.world pid n ≡ Some f → n < row_at self.new self.old.world.next_pid) }
         ensures err { OnErr result (self.new ≡ self.old) }
     {
-        self.procs.copy_for_fork(pid)
+        let child = self.procs.copy_for_fork(pid)?;
+        hold_numbers(&mut self.ledger, &child);
+        Ok(self.procs.add(child))
     }
 
-    /// A process whose table is empty goes. It takes no memory.
+    /// A process goes, and all its numbers are free. It takes no memory.
     pub fn remove_process(&mut self, pid: Pid)
-        requires { (n : ℕ) → table_at self.old.world pid n ≡ None }
         ensures { self.new.world ≡ remove_process self.old.world pid }
     {
-        self.procs.remove(pid);
+        let Some(process) = self.procs.remove(pid) else {
+            return;
+        };
+        drop_numbers(&mut self.ledger, &process);
     }
 
     /// Whether there can be no further process.

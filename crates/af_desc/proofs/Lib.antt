@@ -1,3 +1,2 @@
 pub mod Queues
-pub mod Over
-pub mod Keys
+pub mod Begun

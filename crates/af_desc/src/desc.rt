@@ -11,7 +11,7 @@ use crate::message::Message;
 use crate::socket::Socket;
 use af_base::events::SockType;
 use af_base::limits::MAX_MESSAGES;
-use af_base::names::Ino;
+use af_base::names::FileRef;
 use std::alloc::{AllocError, Global};
 use std::marker::Model;
 
@@ -56,8 +56,8 @@ impl Desc {
     }
 
     /// A new socket that is connected to that one. It takes no memory.
-    pub(crate) fn connected(alloc: Global, kind: SockType, peer: Ino) -> Desc
-        ensures { result ≡ world.AsSocket (connected_socket kind peer) }
+    pub(crate) fn connected(alloc: Global, kind: SockType, peer: &FileRef) -> Desc
+        ensures { result ≡ world.AsSocket (connected_socket kind peer.now) }
     {
         Desc {
             kind: Kind::Socket(Socket::connected(alloc, kind, peer)),
@@ -71,6 +71,16 @@ impl Desc {
         match &self.kind {
             Kind::Plain => None,
             Kind::Socket(socket) => Some(socket),
+        }
+    }
+
+    /// Where the peer stands, for a socket that is connected to it. Nothing that a contract sees
+    /// changes.
+    pub(crate) fn point(&mut self, peer: &FileRef)
+        ensures { self.new ≡ self.old }
+    {
+        if let Kind::Socket(socket) = &mut self.kind {
+            socket.point(peer);
         }
     }
 

@@ -2,14 +2,14 @@
 ghost use Rattle.std.specs.Prelude.{◌≡◌, ◌≤◌, length, take};
 
 use af_base::limits::SCM_MAX_FD;
-use af_base::names::{Ino, Uid};
+use af_base::names::{FileRef, Uid};
 use std::marker::Model;
 
 /// A message in a queue: its bytes, the files that travel with it, and who is charged for them.
 #[derive(Drop)]
 pub struct Message {
     bytes: Vec<u8>,
-    attached: Vec<Ino>,
+    attached: Vec<FileRef>,
     user: Uid,
 }
 
@@ -27,7 +27,7 @@ impl Model for Message {
 
 impl Message {
     /// A message of these parts, at most 253 files among them. It takes no memory.
-    pub fn new(bytes: Vec<u8>, attached: Vec<Ino>, user: Uid) -> Message
+    pub fn new(bytes: Vec<u8>, attached: Vec<FileRef>, user: Uid) -> Message
         requires few { length attached.items ≤ SCM_MAX_FD }
         ensures { result ≡ record { bytes = bytes.items; attached = attached.items; user = user } }
     {
@@ -39,7 +39,7 @@ impl Message {
     }
 
     /// The files that travel with it.
-    pub fn attached(&self) -> &[Ino]
+    pub fn attached(&self) -> &[FileRef]
         ensures value { result.now ≡ self.now.attached }
         ensures bound { length result.now ≤ SCM_MAX_FD }
     {

@@ -1,5 +1,5 @@
 //! A socket, and what it has to receive.
-ghost use Rattle.std.specs.Prelude.{◌≡◌, ◌∷◌, [], ◌-◌, ◌<◌, ◌≤◌, Some, OnOk, OnErr, IfSome, IfNone, length, drop, slice_get};
+ghost use Rattle.std.specs.Prelude.{◌≡◌, ℕ, ◌∷◌, [], ◌-◌, ◌<◌, ◌≤◌, Some, OnOk, OnErr, IfSome, IfNone, length, drop, slice_get};
 ghost use Rattle.af_base.specs.World as world;
 ghost use Rattle.af_base.specs.Places.{contents};
 ghost use Rattle.af_base.specs.Changes.{pushed};
@@ -9,7 +9,7 @@ ghost use Rattle.af_desc.specs.Filed.{idle_socket, hung_up, popped};
 use crate::message::Message;
 use af_base::events::{SockType, State};
 use af_base::limits::MAX_MESSAGES;
-use af_base::names::Ino;
+use af_base::names::FileRef;
 use std::alloc::{AllocError, Global};
 use std::collections::LinkedList;
 use std::marker::Model;
@@ -19,6 +19,8 @@ use std::marker::Model;
 pub struct Socket {
     kind: SockType,
     state: State,
+    /// Where the peer stands, if there is one: a hint.
+    peer_key: usize,
     queue: LinkedList<Message>,
 }
 
@@ -42,17 +44,19 @@ impl Socket {
         Socket {
             kind,
             state: State::Idle,
+            peer_key: 0,
             queue: LinkedList::new(alloc),
         }
     }
 
     /// A new socket that is connected to that one. It takes no memory.
-    pub(crate) fn connected(alloc: Global, kind: SockType, peer: Ino) -> Socket
-        ensures { result ≡ connected_socket kind peer }
+    pub(crate) fn connected(alloc: Global, kind: SockType, peer: &FileRef) -> Socket
+        ensures { result ≡ connected_socket kind peer.now }
     {
         Socket {
             kind,
-            state: State::Connected(peer),
+            state: State::Connected(peer.ino()),
+            peer_key: peer.key(),
             queue: LinkedList::new(alloc),
         }
     }
@@ -69,6 +73,17 @@ impl Socket {
         ensures { result ≡ self.now.state }
     {
         self.state
+    }
+
+    /// To whom it is connected; nobody where it was never connected, or the peer is gone.
+    pub fn peer(&self) -> Option<FileRef>
+        ensures some { IfSome result (λ peer. self.now.state ≡ State.Connected peer) }
+        ensures none { IfNone result ((peer : ℕ) → ¬ (self.now.state ≡ State.Connected peer)) }
+    {
+        match self.state {
+            State::Connected(ino) => Some(FileRef::new(ino, self.peer_key)),
+            State::Idle | State::Listening(_) | State::HungUp => None,
+        }
     }
 
     /// How many messages it has to receive.
@@ -104,6 +119,13 @@ impl Socket {
         ensures alone { self.now.backlog ≡ [] }
     {
         &self.queue
+    }
+
+    /// Where the peer stands. Nothing that a contract sees changes.
+    pub(crate) fn point(&mut self, peer: &FileRef)
+        ensures { self.new ≡ self.old }
+    {
+        self.peer_key = peer.key();
     }
 
     /// The peer is gone from now on.

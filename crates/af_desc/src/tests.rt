@@ -1,13 +1,13 @@
 //! What no clause says: that ample memory is enough, and that a second trial is after a refusal.
 use crate::{Files, Message};
 use af_base::events::{SockType, State};
-use af_base::names::{Ino, Uid};
+use af_base::names::{FileRef, Ino, Uid};
 use std::alloc::{AllocError, Global};
 use std::test::Fail;
 
-fn message(alloc: Global, attached: Ino) -> Result<Message, AllocError> {
+fn message(alloc: Global, attached: &FileRef) -> Result<Message, AllocError> {
     let bytes = b"hi".to_vec(alloc)?;
-    let attached = vec![in alloc; attached]?;
+    let attached = vec![in alloc; attached.again()]?;
     Ok(Message::new(bytes, attached, Uid(1000)))
 }
 
@@ -16,13 +16,14 @@ fn files_come_and_go(rt: HostRuntime) -> Result<(), Fail> {
     let mut files = Files::new(rt.alloc());
     assert!(rt; !files.is_full(1));
     let plain = files.make_plain()?;
-    assert!(rt; files.remove(plain).is_some());
+    assert!(rt; files.remove(&plain).is_some());
     assert!(rt; !files.is_full(1));
     let idle = files.make_sock(SockType::Seqpacket)?;
-    assert!(rt; idle != plain && files.get(plain).is_none());
+    assert!(rt; idle.ino() != plain.ino() && files.get(&plain).is_none());
     assert!(rt; !files.is_full(2));
     let (first, _) = files.make_two(SockType::Seqpacket)?;
-    assert_eq!(rt; files.next_after(idle), Some(first));
+    let next = files.next_after(idle.ino()).ok_or("no file")?;
+    assert_eq!(rt; next.ino(), first.ino());
     assert_eq!(rt; files.live(), 3);
     assert_eq!(rt; files.next_ino(), Ino(5));
     Ok(())
@@ -35,23 +36,24 @@ fn a_message_comes_and_goes(rt: HostRuntime) -> Result<(), Fail> {
     let mut files = Files::new(alloc);
     assert!(rt; !files.is_full(2));
     let (first, second) = files.make_two(SockType::Seqpacket)?;
-    files.push(second, message(alloc, first)?)?;
-    files.hang_up(second);
-    let file = files.get(second).ok_or("no file")?;
+    files.push(&second, message(alloc, &first)?)?;
+    files.hang_up(&second);
+    let file = files.get(&second).ok_or("no file")?;
     let socket = file.socket().ok_or("no socket")?;
     assert_eq!(rt; socket.kind(), SockType::Seqpacket);
     assert_eq!(rt; socket.state(), State::HungUp);
     assert_eq!(rt; socket.messages(), 1);
     assert_eq!(rt; socket.queue().len(), 1);
     let waiting = socket.first().ok_or("no message")?;
-    assert_eq!(rt; waiting.attached(), [first].as_slice());
+    assert_eq!(rt; waiting.attached().len(), 1);
     let newest = socket.last().ok_or("no message")?;
-    assert_eq!(rt; newest.attached(), [first].as_slice());
-    let message = files.pop(second).ok_or("no message")?;
+    let attached = newest.attached().first().ok_or("no file")?;
+    assert_eq!(rt; attached.ino(), first.ino());
+    let message = files.pop(&second).ok_or("no message")?;
     assert_eq!(rt; message.user(), Uid(1000));
     assert_eq!(rt; message.len(), 2);
     assert_eq!(rt; message.into_bytes(1).as_slice(), b"h".as_slice());
-    let file = files.remove(second).ok_or("no file")?;
+    let file = files.remove(&second).ok_or("no file")?;
     let socket = file.socket().ok_or("no socket")?;
     assert!(rt; socket.first().is_none() && socket.last().is_none());
     Ok(())
@@ -80,11 +82,11 @@ fn one_message_refused(rt: HostRuntime) -> Result<(), Fail> {
     let mut files = Files::new(alloc);
     assert!(rt; !files.is_full(2));
     let (first, second) = files.make_two(SockType::Seqpacket)?;
-    let message = message(alloc, first)?;
-    if files.push(second, message).is_err() {
-        assert!(rt; files.pop(second).is_none());
+    let message = message(alloc, &first)?;
+    if files.push(&second, message).is_err() {
+        assert!(rt; files.pop(&second).is_none());
         return Ok(());
     }
-    assert!(rt; files.pop(second).is_some());
+    assert!(rt; files.pop(&second).is_some());
     Ok(())
 }

@@ -1,15 +1,20 @@
 -- The numbers kept where several files gain or lose a place in a queue at once.
-use Rattle.std.proofs.Common.{◌≡◌, ◌<◌, ◌≤◌, ℕ, ◌+◌, Bool, true, false, List, [], ◌∷◌, ◌++◌, length, length-append, suc, add-one, drop-cons, refl, sym, ap, ◌∙◌, subst, cond, nat_eq, arith, take, drop}
-use Rattle.std.specs.Prelude.{IsTrue, slice_index_or}
+use Rattle.std.proofs.Common.{◌≡◌, ◌<◌, ◌≤◌, ℕ, ◌+◌, ◌-◌, Bool, true, false, List, [], ◌∷◌, ◌++◌, length, length-append, suc, add-one, drop-cons, refl, sym, ap, ◌∙◌, subst, cond, nat_eq, arith, take, drop}
+use Rattle.std.specs.Prelude.{IsTrue, None, Option, Some, slice_index_or}
+use Rattle.std.specs.Cmp.{nat_eq_equiv}
 use Rattle.std.specs.List.{Contains, list_any}
-use Rattle.std.specs.Map.{keys_of}
+use Rattle.std.specs.Map.{keys_of, lookup, set_value}
+use Rattle.std.specs.Option.{option_map_or}
+use Rattle.std.proofs.lemmas.Bool.{eqb-true}
 use Rattle.std.proofs.lemmas.List.{take-append-drop, take_more}
+use Rattle.std.proofs.lemmas.Map.{lookup-set_value}
+use Rattle.std.proofs.lemmas.Map.Steps.{set_value_same}
 use Rattle.std.proofs.lemmas.List.Elements.{Contains-append_left, Contains-append_right}
 use Rattle.af_base.specs.Counts.{count_in, one}
 use Rattle.af_base.proofs.Elements.{Contains-first, Contains-later}
 use Rattle.af_base.proofs.Held.{count-cons}
-use Rattle.af_base.proofs.Lookups.{itself}
-use Rattle.af_ledger.specs.Kept.{CanDrop, CanDropAll, CanHold, CanHoldAll, Kept, charge_of, count_of, dropped, dropped_all, has_count, held, held_all, is_user, refs_of}
+use Rattle.af_base.proofs.Lookups.{itself, some_is}
+use Rattle.af_ledger.specs.Kept.{CanDrop, CanDropAll, CanHold, CanHoldAll, Kept, charge_of, charged_by, count_of, dropped, dropped_all, freed_by, has_count, held, held_all, is_user, recharged, refs_of}
 use Rattle.af_ledger.specs.declared.place.Place.{Place}
 use Rattle.af_ledger.specs.declared.place.Place.TheVariants.{Queue}
 use Rattle.af_ledger.proofs.Laws.{charge-queued, charge-unqueued, counted-there, has-dropped, has-held, inflight-queued, inflight-unqueued, refs-dropped, refs-held, tabled-queued, tabled-unqueued, total-queued, total-unqueued, users-dropped, users-held}
@@ -183,8 +188,61 @@ module _ (u : ℕ) where
   can-drop-next [] rest f k h = let first = can-drop-rest f rest k h in (first.0, (first.1, first.2))
   can-drop-next (g ∷ done) rest f k h = can-drop-next done rest f (dropped (Queue u) g k) (can-drop-rest g (done ++ f ∷ rest) k h).3
 
+module _ (u : ℕ) where
+  -- A value that is set twice is set once.
+  set-twice : (es : List (ℕ × ℕ)) (v w : ℕ) → set_value (nat_eq u) (set_value (nat_eq u) es v) w ≡ set_value (nat_eq u) es w
+  set-twice [] v w = refl
+  set-twice (e ∷ es) v w = at (nat_eq u e.0) refl (set-twice es v w) where
+    at : (b : Bool) → nat_eq u e.0 ≡ b → set_value (nat_eq u) (set_value (nat_eq u) es v) w ≡ set_value (nat_eq u) es w → set_value (nat_eq u) (cond b ((e.0, v) ∷ es) (e ∷ set_value (nat_eq u) es v)) w ≡ cond b ((e.0, w) ∷ es) (e ∷ set_value (nat_eq u) es w)
+    at true same rest = ap (λ b. cond b ((e.0, w) ∷ es) ((e.0, v) ∷ set_value (nat_eq u) es w)) same
+    at false apart rest = ap (λ b. cond b ((e.0, w) ∷ set_value (nat_eq u) es v) (e ∷ set_value (nat_eq u) (set_value (nat_eq u) es v) w)) apart ∙ ap (λ xs. e ∷ xs) rest
+
+  -- What was set is found.
+  set-found : (es : List (ℕ × ℕ)) (n v : ℕ) → lookup (nat_eq u) es ≡ Some n → lookup (nat_eq u) (set_value (nat_eq u) es v) ≡ Some v
+  set-found es n v e = lookup-set_value nat_eq_equiv (nat_eq u) (λ x y same. ap (λ z. nat_eq z y) (eqb-true u x same)) u v es (some_is _ n e) ∙ ap (λ b. cond b (Some v) (lookup (nat_eq u) es)) (itself u)
+
+  -- Charging once and once more is charging by both.
+  recharged-twice : (g h : ℕ → ℕ) (us : List (ℕ × ℕ)) → recharged h u (recharged g u us) ≡ recharged (λ n. h (g n)) u us
+  recharged-twice g h us = by (lookup (nat_eq u) us) refl where
+    by : (o : Option ℕ) → lookup (nat_eq u) us ≡ o → recharged h u (option_map_or (λ n. set_value (nat_eq u) us (g n)) o us) ≡ option_map_or (λ n. set_value (nat_eq u) us (h (g n))) o us
+    by None e = ap (λ o. option_map_or (λ n. set_value (nat_eq u) us (h n)) o us) e
+    by (Some n) e = ap (λ o. option_map_or (λ m. set_value (nat_eq u) (set_value (nat_eq u) us (g n)) (h m)) o (set_value (nat_eq u) us (g n))) (set-found us n (g n) e) ∙ set-twice us (g n) (h (g n))
+
+  -- By nothing changes nothing.
+  recharged-same : (g : ℕ → ℕ) (us : List (ℕ × ℕ)) → ((n : ℕ) → g n ≡ n) → recharged g u us ≡ us
+  recharged-same g us same = by (lookup (nat_eq u) us) refl where
+    by : (o : Option ℕ) → lookup (nat_eq u) us ≡ o → option_map_or (λ n. set_value (nat_eq u) us (g n)) o us ≡ us
+    by None e = refl
+    by (Some n) e = ap (set_value (nat_eq u) us) (same n) ∙ set_value_same (nat_eq u) us n e
+
+  -- By the same, the same.
+  recharged-by : (g h : ℕ → ℕ) (us : List (ℕ × ℕ)) → ((n : ℕ) → g n ≡ h n) → recharged g u us ≡ recharged h u us
+  recharged-by g h us same = λ i. recharged (λ n. same n i) u us
+
+  -- Holding each of several files charges the user by their number, and leaves the rest but for the counts.
+  pub charged-held_all : (fs : List ℕ) (k : Kept) → record (charged_by (length fs) u k) { counts = (held_all (Queue u) fs k).counts } ≡ held_all (Queue u) fs k
+  charged-held_all [] k =
+      let total : k.total + 0 ≡ k.total = omega arith in
+      λ i. record k { users = recharged-same (λ n. n + 0) k.users (λ n. omega arith) i; total = total i }
+  charged-held_all (f ∷ fs) k =
+      let users : recharged (λ n. n + length (f ∷ fs)) u k.users ≡ recharged (λ n. n + length fs) u (held (Queue u) f k).users =
+      recharged-by (λ n. n + length (f ∷ fs)) (λ n. n + 1 + length fs) k.users (λ n. omega arith) ∙ sym (recharged-twice (λ n. n + 1) (λ n. n + length fs) k.users) in
+      let total : k.total + length (f ∷ fs) ≡ (held (Queue u) f k).total + length fs = omega arith in
+      (λ i. record k { counts = (held_all (Queue u) (f ∷ fs) k).counts; users = users i; total = total i }) ∙ charged-held_all fs (held (Queue u) f k)
+
+  -- And dropping each frees as many.
+  pub freed-dropped_all : (fs : List ℕ) (k : Kept) → record (freed_by (length fs) u k) { counts = (dropped_all (Queue u) fs k).counts } ≡ dropped_all (Queue u) fs k
+  freed-dropped_all [] k =
+      let total : k.total - 0 ≡ k.total = omega arith in
+      λ i. record k { users = recharged-same (λ n. n - 0) k.users (λ n. omega arith) i; total = total i }
+  freed-dropped_all (f ∷ fs) k =
+      let users : recharged (λ n. n - length (f ∷ fs)) u k.users ≡ recharged (λ n. n - length fs) u (dropped (Queue u) f k).users =
+      recharged-by (λ n. n - length (f ∷ fs)) (λ n. n - 1 - length fs) k.users (λ n. omega arith) ∙ sym (recharged-twice (λ n. n - 1) (λ n. n - length fs) k.users) in
+      let total : k.total - length (f ∷ fs) ≡ (dropped (Queue u) f k).total - length fs = omega arith in
+      (λ i. record k { counts = (dropped_all (Queue u) (f ∷ fs) k).counts; users = users i; total = total i }) ∙ freed-dropped_all fs (dropped (Queue u) f k)
+
 -- A list split at one of its places.
-at-place : (xs : List ℕ) (i x : ℕ) → i < length xs → x ≡ slice_index_or xs i x → xs ≡ take i xs ++ x ∷ drop (i + 1) xs
+pub at-place : (xs : List ℕ) (i x : ℕ) → i < length xs → x ≡ slice_index_or xs i x → xs ≡ take i xs ++ x ∷ drop (i + 1) xs
 at-place xs i x low read =
     let rest : drop i xs ≡ x ∷ drop (i + 1) xs = rw add-one (drop-cons xs i x low ∙ ap (λ y. y ∷ drop (suc i) xs) (sym read)) in
     sym (take-append-drop i xs) ∙ ap (λ ys. take i xs ++ ys) rest

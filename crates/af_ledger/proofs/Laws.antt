@@ -14,40 +14,36 @@ use Rattle.std.proofs.lemmas.List.{map-append}
 use Rattle.af_base.specs.World.{Map}
 use Rattle.af_base.specs.Counts.{one}
 use Rattle.af_ledger.specs.Counted.{uncounted, places_in, more, fewer, IsCounted}
-use Rattle.af_ledger.specs.Kept.{Kept, count_of, has_count, refs_of, charge_of, recharged, is_user, with_user, held, dropped}
+use Rattle.af_ledger.specs.Kept.{Kept, count_in_map, count_of, has_count, refs_of, charge_of, recharged, is_user, with_user, held, dropped}
 use Rattle.af_ledger.specs.declared.count.Count.{Count}
 use Rattle.af_ledger.specs.declared.place.Place.{Place}
 use Rattle.af_ledger.specs.declared.place.Place.TheVariants.{Table, Queue}
 
--- What a map has, or no place.
-abbrev found : Map Count → ℕ → Count
-found m f = unwrap_or (map.get m f) uncounted
-
-looked : (m : Map Count) (f g : ℕ) (c : Count) → found (map.insert m f c) g ≡ cond (nat_eq g f) c (found m g)
+looked : (m : Map Count) (f g : ℕ) (c : Count) → count_in_map (map.insert m f c) g ≡ cond (nat_eq g f) c (count_in_map m g)
 looked m f g c = ap (λ o. unwrap_or o uncounted) (get-insert nat_cmp_total m f c g ∙ ap (λ b. cond b (Some c) (map.get m g)) (unsigned_tied g f)) ∙ by (nat_eq g f) where
-  by : (b : Bool) → unwrap_or (cond b (Some c) (map.get m g)) uncounted ≡ cond b c (found m g)
+  by : (b : Bool) → unwrap_or (cond b (Some c) (map.get m g)) uncounted ≡ cond b c (count_in_map m g)
   by true = refl
   by false = refl
 
 -- A number F of f that rises by one, and of the others stays.
-rises : (F : Count → ℕ) (m : Map Count) (f g : ℕ) (c : Count) → F c ≡ F (found m f) + 1 → F (found (map.insert m f c) g) ≡ F (found m g) + one g f
+rises : (F : Count → ℕ) (m : Map Count) (f g : ℕ) (c : Count) → F c ≡ F (count_in_map m f) + 1 → F (count_in_map (map.insert m f c) g) ≡ F (count_in_map m g) + one g f
 rises F m f g c h = ap F (looked m f g c) ∙ by (nat_eq g f) refl where
-  by : (b : Bool) → nat_eq g f ≡ b → F (cond b c (found m g)) ≡ F (found m g) + cond b 1 0
-  by true e = h ∙ ap (λ x. F (found m x) + 1) (sym (eqb-true g f e))
+  by : (b : Bool) → nat_eq g f ≡ b → F (cond b c (count_in_map m g)) ≡ F (count_in_map m g) + cond b 1 0
+  by true e = h ∙ ap (λ x. F (count_in_map m x) + 1) (sym (eqb-true g f e))
   by false e = omega arith
 
 -- One that stays for all.
-stays : (F : Count → ℕ) (m : Map Count) (f g : ℕ) (c : Count) → F c ≡ F (found m f) → F (found (map.insert m f c) g) ≡ F (found m g)
+stays : (F : Count → ℕ) (m : Map Count) (f g : ℕ) (c : Count) → F c ≡ F (count_in_map m f) → F (count_in_map (map.insert m f c) g) ≡ F (count_in_map m g)
 stays F m f g c h = ap F (looked m f g c) ∙ by (nat_eq g f) refl where
-  by : (b : Bool) → nat_eq g f ≡ b → F (cond b c (found m g)) ≡ F (found m g)
-  by true e = h ∙ ap (λ x. F (found m x)) (sym (eqb-true g f e))
+  by : (b : Bool) → nat_eq g f ≡ b → F (cond b c (count_in_map m g)) ≡ F (count_in_map m g)
+  by true e = h ∙ ap (λ x. F (count_in_map m x)) (sym (eqb-true g f e))
   by false e = refl
 
 -- One of f that falls by one, and of the others stays.
-falls : (F : Count → ℕ) (m : Map Count) (f g : ℕ) (c : Count) → F c + 1 ≡ F (found m f) → F (found (map.insert m f c) g) + one g f ≡ F (found m g)
+falls : (F : Count → ℕ) (m : Map Count) (f g : ℕ) (c : Count) → F c + 1 ≡ F (count_in_map m f) → F (count_in_map (map.insert m f c) g) + one g f ≡ F (count_in_map m g)
 falls F m f g c h = ap (λ x. F x + one g f) (looked m f g c) ∙ by (nat_eq g f) refl where
-  by : (b : Bool) → nat_eq g f ≡ b → F (cond b c (found m g)) + cond b 1 0 ≡ F (found m g)
-  by true e = h ∙ ap (λ x. F (found m x)) (sym (eqb-true g f e))
+  by : (b : Bool) → nat_eq g f ≡ b → F (cond b c (count_in_map m g)) + cond b 1 0 ≡ F (count_in_map m g)
+  by true e = h ∙ ap (λ x. F (count_in_map m x)) (sym (eqb-true g f e))
   by false e = omega arith
 
 -- A place more of f is a reference more to f, and to no other file.
@@ -72,7 +68,7 @@ pub inflight-queued : (u f g : ℕ) (k : Kept) → (count_of (held (Queue u) f k
 inflight-queued u f g k = rises (λ c. c.inflight) k.counts f g (more (Queue u) (count_of k f)) refl
 
 -- The places that are left.
-left : (p : Place) (f g : ℕ) (k : Kept) → IsCounted p (count_of k f) → places_in (found (map.insert k.counts f (fewer p (count_of k f))) g) + one g f ≡ refs_of k g
+left : (p : Place) (f g : ℕ) (k : Kept) → IsCounted p (count_of k f) → places_in (count_in_map (map.insert k.counts f (fewer p (count_of k f))) g) + one g f ≡ refs_of k g
 left p f g k some = falls places_in k.counts f g (fewer p (count_of k f)) (by p some) where
   by : (p : Place) → IsCounted p (count_of k f) → places_in (fewer p (count_of k f)) + 1 ≡ refs_of k f
   by Table h = omega arith
@@ -86,8 +82,8 @@ refs-dropped (Queue u) f g k some = left (Queue u) f g k some
 -- Whether the place that goes is the last is seen before and after.
 pub last_left : (p : Place) (f : ℕ) (k new : Kept) → IsCounted p (count_of k f) → new.counts ≡ map.insert k.counts f (fewer p (count_of k f)) → nat_eq (refs_of k f) 1 ≡ nat_eq (refs_of new f) 0
 last_left p f k new some e =
-    let here = sym (left p f f k some) ∙ ap (λ b. places_in (found (map.insert k.counts f (fewer p (count_of k f))) f) + cond b 1 0) (eq-eqb f f refl) in
-    same _ _ (here ∙ ap (λ m. places_in (found m f) + 1) (sym e)) where
+    let here = sym (left p f f k some) ∙ ap (λ b. places_in (count_in_map (map.insert k.counts f (fewer p (count_of k f))) f) + cond b 1 0) (eq-eqb f f refl) in
+    same _ _ (here ∙ ap (λ m. places_in (count_in_map m f) + 1) (sym e)) where
       same : (n m : ℕ) → n ≡ m + 1 → nat_eq n 1 ≡ nat_eq m 0
       same n m e = grind arith
 
@@ -218,7 +214,7 @@ has-dropped Table f g k there = has-change k.counts f g _ there
 has-dropped (Queue u) f g k there = has-change k.counts f g _ there
 
 -- What a number is when f is entered: none had it before.
-pub count-entered : (k : Kept) (f g room : ℕ) → has_count k f ≡ false → count_of (record k { counts = map.insert k.counts f uncounted; room = room }) g ≡ count_of k g
+pub count-entered : (k : Kept) (f g room : ℕ) → has_count k f ≡ false → count_of (record k { counts = map.insert k.counts f uncounted; last = f; room = room }) g ≡ count_of k g
 count-entered k f g room new = looked k.counts f g uncounted ∙ by (nat_eq g f) refl where
   stranger : (o : Option Count) → is_some o ≡ false → unwrap_or o uncounted ≡ uncounted
   stranger None e = refl
@@ -229,7 +225,7 @@ count-entered k f g room new = looked k.counts f g uncounted ∙ by (nat_eq g f)
   by false e = refl
 
 -- Whose numbers are kept when f is entered.
-pub has-entered : (k : Kept) (f g room : ℕ) → has_count (record k { counts = map.insert k.counts f uncounted; room = room }) g ≡ cond (nat_eq g f) true (has_count k g)
+pub has-entered : (k : Kept) (f g room : ℕ) → has_count (record k { counts = map.insert k.counts f uncounted; last = f; room = room }) g ≡ cond (nat_eq g f) true (has_count k g)
 has-entered k f g room = ap is_some (get-insert nat_cmp_total k.counts f uncounted g ∙ ap (λ b. cond b (Some uncounted) (map.get k.counts g)) (unsigned_tied g f)) ∙ by (nat_eq g f) where
   by : (b : Bool) → is_some (cond b (Some uncounted) (map.get k.counts g)) ≡ cond b true (has_count k g)
   by true = refl

@@ -1,5 +1,5 @@
 -- What changes of the hash map of the users do to their list.
-use Rattle.std.proofs.Common.{◌≡◌, ℕ, ◌+◌, ◌-◌, ◌<◌, Bool, true, false, ◌||◌, List, [], ◌∷◌, ◌++◌, refl, sym, ap, ◌∙◌, subst, cond}
+use Rattle.std.proofs.Common.{◌≡◌, ℕ, ◌+◌, ◌-◌, ◌≤◌, Bool, true, false, ◌||◌, List, [], ◌∷◌, ◌++◌, refl, sym, ap, ◌∙◌, subst, cond}
 use Rattle.std.specs.Prelude.{Some, None, nat_eq, unwrap_or, is_some, IsTrue}
 use Rattle.std.specs.List.{list_any}
 use Rattle.std.specs.Map.{keys_of, lookup, set_value}
@@ -14,20 +14,20 @@ use Rattle.af_ledger.specs.Kept.{recharged, is_user, with_user}
 use Rattle.af_ledger.proofs.Laws.{users-added}
 
 -- A charge that was looked up is low where the user's is.
-pub found_below : (us : List (ℕ × ℕ)) (u n b : ℕ) → Some n ≡ lookup (nat_eq u) us → unwrap_or (lookup (nat_eq u) us) 0 < b → n < b
-found_below us u n b e h = subst (λ o. unwrap_or o 0 < b) (sym e) h
+pub found_below : (us : List (ℕ × ℕ)) (u n units b : ℕ) → Some n ≡ lookup (nat_eq u) us → unwrap_or (lookup (nat_eq u) us) 0 + units ≤ b → n + units ≤ b
+found_below us u n units b e h = subst (λ o. unwrap_or o 0 + units ≤ b) (sym e) h
 
 -- And high where the user's is.
-pub found_above : (us : List (ℕ × ℕ)) (u n b : ℕ) → Some n ≡ lookup (nat_eq u) us → b < unwrap_or (lookup (nat_eq u) us) 0 → b < n
-found_above us u n b e h = subst (λ o. b < unwrap_or o 0) (sym e) h
+pub found_above : (us : List (ℕ × ℕ)) (u n units : ℕ) → Some n ≡ lookup (nat_eq u) us → units ≤ unwrap_or (lookup (nat_eq u) us) 0 → units ≤ n
+found_above us u n units e h = subst (λ o. units ≤ unwrap_or o 0) (sym e) h
 
 -- A charge that was looked up is raised.
-pub raised : (us new : List (ℕ × ℕ)) (u n : ℕ) → Some n ≡ lookup (nat_eq u) us → new ≡ set_value (nat_eq u) us (n + 1) → new ≡ recharged (λ n. n + 1) u us
-raised us new u n e h = h ∙ ap (λ o. option_map_or (λ n. set_value (nat_eq u) us (n + 1)) o us) e
+pub raised : (us new : List (ℕ × ℕ)) (u n units : ℕ) → Some n ≡ lookup (nat_eq u) us → new ≡ set_value (nat_eq u) us (n + units) → new ≡ recharged (λ n. n + units) u us
+raised us new u n units e h = h ∙ ap (λ o. option_map_or (λ n. set_value (nat_eq u) us (n + units)) o us) e
 
 -- Or lowered.
-pub lowered : (us new : List (ℕ × ℕ)) (u n : ℕ) → Some n ≡ lookup (nat_eq u) us → new ≡ set_value (nat_eq u) us (n - 1) → new ≡ recharged (λ n. n - 1) u us
-lowered us new u n e h = h ∙ ap (λ o. option_map_or (λ n. set_value (nat_eq u) us (n - 1)) o us) e
+pub lowered : (us new : List (ℕ × ℕ)) (u n units : ℕ) → Some n ≡ lookup (nat_eq u) us → new ≡ set_value (nat_eq u) us (n - units) → new ≡ recharged (λ n. n - units) u us
+lowered us new u n units e h = h ∙ ap (λ o. option_map_or (λ n. set_value (nat_eq u) us (n - units)) o us) e
 
 -- A stranger's charge is not changed.
 pub stays : (g : ℕ → ℕ) (us : List (ℕ × ℕ)) (u : ℕ) → lookup (nat_eq u) us ≡ None → us ≡ recharged g u us

@@ -1,27 +1,32 @@
 -- The list of the files that wait, as numbers come and go.
-use Rattle.std.proofs.Common.{◌≡◌, ◌<◌, ◌≤◌, ℕ, ◌+◌, ◌-◌, Bool, true, false, ◌&&◌, ◌||◌, not, List, [], ◌∷◌, ◌++◌, length, refl, sym, ap, ◌∙◌, subst, cond, nat_eq, arith, length-append}
-use Rattle.std.specs.Prelude.{Option, Some, None, IsSome, is_some, min, unwrap_or, Result, Ok, Err, OnOk, filter, slice_get, slice_index_or}
+use Rattle.std.proofs.Common.{◌≡◌, ◌<◌, ◌≤◌, ℕ, ◌+◌, Bool, true, false, ◌&&◌, ◌||◌, not, List, [], ◌∷◌, ◌++◌, length, suc, refl, sym, ap, ◌∙◌, subst, cond, nat_eq, arith, length-append, take, drop}
+use Rattle.std.specs.Prelude.{Option, Some, None, IsSome, is_some, min, unwrap_or, slice_get, slice_index_or}
 use Rattle.std.specs.Cmp.{nat_cmp_total, nat_eq_equiv, unsigned_tied}
 use Rattle.std.specs.FinMap as map
 use Rattle.std.specs.FinMap.{get-insert, get-remove}
 use Rattle.std.specs.List.{AllByRecursion, IsDistinct, list_any}
 use Rattle.std.specs.Map.{lookup}
-use Rattle.std.specs.Option.{option_map_or, option_to_list}
+use Rattle.std.specs.Option.{option_map, option_map_or}
 use Rattle.std.specs.Ordering.{nat_cmp}
 use Rattle.std.proofs.lemmas.Bool.{eq-eqb, eqb-true, false≢true}
 use Rattle.std.proofs.lemmas.List.Folds.{list_any-append}
 use Rattle.std.proofs.lemmas.Map.Steps.{length-le_from_keys}
 use Rattle.std.proofs.lemmas.Option.{get_or_from_slice_get, slice_get_within}
-use Rattle.std.proofs.lemmas.Map.Views.{any-filter_same}
+use Rattle.slab.specs.Slab as slab
+use Rattle.slab.specs.Slab.{Slab}
 use Rattle.af_base.specs.World.{Map}
 use Rattle.af_base.proofs.Hashed.{find_is}
 use Rattle.af_base.proofs.Lookups.{not_same, told_apart}
+use Rattle.af_order.specs.declared.entry.Entry.{Entry}
+use Rattle.af_order.specs.Keyed.{AreInPlace, value_at, values_of}
+use Rattle.af_order.proofs.Keyed.{looked, write_values}
 use Rattle.af_ledger.specs.Counted.{IsCounted, fewer, more, places_in, uncounted}
-use Rattle.af_ledger.specs.Kept.{Kept, is_waiting}
-use Rattle.af_ledger.specs.Waiting.{AreWaiting, room_left}
+use Rattle.af_ledger.specs.Kept.{count_in_map, is_waiting}
+use Rattle.af_ledger.specs.Waiting.{AreWaiting}
 use Rattle.af_ledger.specs.declared.count.Count.{Count}
 use Rattle.af_ledger.specs.declared.place.Place.{Place}
 use Rattle.af_ledger.specs.declared.place.Place.TheVariants.{Queue, Table}
+use Rattle.af_ledger.proofs.HeldAll.{at-place}
 
 -- What is no key of the list differs from each.
 none-each : (k : ℕ) (xs : List ℕ) → list_any (nat_eq k) xs ≡ false → AllByRecursion (λ y. nat_eq k y ≡ false) xs
@@ -42,58 +47,55 @@ distinct-push (x ∷ xs) k h none =
       more [] h e = (e, tt)
       more (y ∷ ys) h e = (h.0, more ys h.1 e)
 
--- Without its last a distinct list is distinct, and the last was none of the others.
-distinct-init : (xs : List ℕ) (k : ℕ) → IsDistinct nat_eq (xs ++ k ∷ []) → IsDistinct nat_eq xs × (list_any (nat_eq k) xs ≡ false)
+-- Without one of its numbers a distinct list is distinct, and that was none of the others.
+distinct-without : (ys zs : List ℕ) (k : ℕ) → IsDistinct nat_eq (ys ++ k ∷ zs) → IsDistinct nat_eq (ys ++ zs) × (list_any (nat_eq k) (ys ++ zs) ≡ false)
 unfolding IsDistinct
-distinct-init [] k h = (tt, refl)
-distinct-init (x ∷ xs) k h =
-    let rest = distinct-init xs k h.1 in
-    let first = fewer xs h.0 in
-    ((first.0, rest.0), ap (λ b. b || list_any (nat_eq k) xs) (nat_eq_equiv.symm k x ∙ first.1) ∙ rest.1) where
-      fewer : (ys : List ℕ) → AllByRecursion (λ y. nat_eq x y ≡ false) (ys ++ k ∷ []) → AllByRecursion (λ y. nat_eq x y ≡ false) ys × (nat_eq x k ≡ false)
-      fewer [] h = (tt, h.0)
+distinct-without [] zs k h = (h.1, none zs h.0) where
+  none : (zs : List ℕ) → AllByRecursion (λ y. nat_eq k y ≡ false) zs → list_any (nat_eq k) zs ≡ false
+  none [] h = refl
+  none (z ∷ zs) h = ap (λ b. b || list_any (nat_eq k) zs) h.0 ∙ none zs h.1
+distinct-without (x ∷ ys) zs k h =
+    let rest = distinct-without ys zs k h.1 in
+    let first = fewer ys h.0 in
+    ((first.0, rest.0), ap (λ b. b || list_any (nat_eq k) (ys ++ zs)) (nat_eq_equiv.symm k x ∙ first.1) ∙ rest.1) where
+      fewer : (ys : List ℕ) → AllByRecursion (λ y. nat_eq x y ≡ false) (ys ++ k ∷ zs) → AllByRecursion (λ y. nat_eq x y ≡ false) (ys ++ zs) × (nat_eq x k ≡ false)
+      fewer [] h = (h.1, h.0)
       fewer (y ∷ ys) h = let rest = fewer ys h.1 in ((h.0, rest.0), rest.1)
 
--- What passes a test of a distinct list is distinct.
-distinct-filter : (p : ℕ → Bool) (xs : List ℕ) → IsDistinct nat_eq xs → IsDistinct nat_eq (filter p xs)
-unfolding IsDistinct
-distinct-filter p [] h = tt
-distinct-filter p (x ∷ xs) h = by (p x) (distinct-filter p xs h.1) (kept xs h.0) where
-  kept : (ys : List ℕ) → AllByRecursion (λ y. nat_eq x y ≡ false) ys → AllByRecursion (λ y. nat_eq x y ≡ false) (filter p ys)
-  kept [] h = tt
-  kept (y ∷ ys) h = one (p y) (kept ys h.1) where
-    one : (b : Bool) → AllByRecursion (λ z. nat_eq x z ≡ false) (filter p ys) → AllByRecursion (λ z. nat_eq x z ≡ false) (cond b (y ∷ filter p ys) (filter p ys))
-    one true rest = (h.0, rest)
-    one false rest = rest
+-- Whether a number is in the list, by what stands around another.
+around : (ys zs : List ℕ) (k f : ℕ) → list_any (nat_eq f) (ys ++ k ∷ zs) ≡ (nat_eq f k || list_any (nat_eq f) (ys ++ zs))
+around [] zs k f = refl
+around (y ∷ ys) zs k f = ap (λ b. nat_eq f y || b) (around ys zs k f) ∙ by (nat_eq f y) (nat_eq f k) where
+  by : (b c : Bool) → (b || (c || list_any (nat_eq f) (ys ++ zs))) ≡ (c || (b || list_any (nat_eq f) (ys ++ zs)))
+  by true true = refl
+  by true false = refl
+  by false c = refl
 
-  by : (b : Bool) → IsDistinct nat_eq (filter p xs) → AllByRecursion (λ y. nat_eq x y ≡ false) (filter p xs) → IsDistinct nat_eq (cond b (x ∷ filter p xs) (filter p xs))
-  by true rest first = (first, rest)
-  by false rest first = rest
+-- A list without the number at one of its places.
+pub off-removed : (xs gs : List ℕ) (i k : ℕ) → IsDistinct nat_eq xs → slice_get xs i ≡ Some k → gs ≡ take i xs ++ drop (i + 1) xs
+    → ((f : ℕ) → list_any (nat_eq f) gs ≡ (not (nat_eq f k) && list_any (nat_eq f) xs)) × IsDistinct nat_eq gs
+off-removed xs gs i k once at left =
+    let whole = at-place xs i k (slice_get_within xs i k at) (sym (get_or_from_slice_get xs i k k at)) in
+    let apart = distinct-without (take i xs) (drop (i + 1) xs) k (subst (IsDistinct nat_eq) whole once) in
+    (λ f. ap (list_any (nat_eq f)) left ∙ by f apart.1 (nat_eq f k) refl ∙ ap (λ b. not (nat_eq f k) && b) (sym (ap (list_any (nat_eq f)) whole ∙ around (take i xs) (drop (i + 1) xs) k f)), subst (IsDistinct nat_eq) (sym left) apart.0) where
+      others : ℕ → Bool
+      others f = list_any (nat_eq f) (take i xs ++ drop (i + 1) xs)
 
--- A list without one number.
-pub off-filtered : (xs ys : List ℕ) (k : ℕ) → IsDistinct nat_eq xs → ys ≡ filter (λ x. not (nat_eq x k)) xs
-    → ((f : ℕ) → list_any (nat_eq f) ys ≡ (not (nat_eq f k) && list_any (nat_eq f) xs)) × IsDistinct nat_eq ys
-off-filtered xs ys k once e = (
-  λ f. ap (list_any (nat_eq f)) e ∙ any-filter_same (nat_eq f) (λ x. not (nat_eq x k)) (not (nat_eq f k)) (λ x same. ap (λ z. not (nat_eq z k)) (sym (eqb-true f x same))) xs,
-  subst (IsDistinct nat_eq) (sym e) (distinct-filter (λ x. not (nat_eq x k)) xs once),
-)
+      by : (f : ℕ) → others k ≡ false → (b : Bool) → nat_eq f k ≡ b → others f ≡ (not b && (b || others f))
+      by f none true same = ap others (eqb-true f k same) ∙ none
+      by f none false apart = refl
 
--- A list without its last number.
-pub off-popped : (xs ys : List ℕ) (k : ℕ) → IsDistinct nat_eq xs → xs ≡ ys ++ k ∷ []
-    → ((f : ℕ) → list_any (nat_eq f) ys ≡ (not (nat_eq f k) && list_any (nat_eq f) xs)) × IsDistinct nat_eq ys
-off-popped xs ys k once e =
-    let init = distinct-init ys k (subst (IsDistinct nat_eq) e once) in
-    (λ f. by f init.1 (nat_eq f k) refl, init.0) where
-      all : (f : ℕ) → list_any (nat_eq f) xs ≡ (list_any (nat_eq f) ys || (nat_eq f k || false))
-      all f = ap (list_any (nat_eq f)) e ∙ list_any-append (nat_eq f) ys (k ∷ [])
+-- What stands at no place is not in the list.
+at-none : (xs : List ℕ) (k : ℕ) → ((i : ℕ) → i < length xs → nat_eq (slice_index_or xs i 0) k ≡ false) → list_any (nat_eq k) xs ≡ false
+at-none [] k h = refl
+at-none (x ∷ xs) k h = ap (λ b. b || list_any (nat_eq k) xs) (nat_eq_equiv.symm k x ∙ h 0 (omega arith)) ∙ at-none xs k (λ i low. h (suc i) (omega (arith, low)))
 
-      or_none : (b : Bool) → b ≡ (b || false)
-      or_none true = refl
-      or_none false = refl
-
-      by : (f : ℕ) → list_any (nat_eq k) ys ≡ false → (b : Bool) → nat_eq f k ≡ b → list_any (nat_eq f) ys ≡ (not b && list_any (nat_eq f) xs)
-      by f none true same = ap (λ z. list_any (nat_eq z) ys) (eqb-true f k same) ∙ none
-      by f none false apart = or_none (list_any (nat_eq f) ys) ∙ sym (all f ∙ ap (λ b. list_any (nat_eq f) ys || (b || false)) apart)
+-- A list without a number that stands at none of its places is as it was.
+pub off-nothing : (xs : List ℕ) (k f : ℕ) → ((i : ℕ) → i < length xs → nat_eq (slice_index_or xs i 0) k ≡ false) → list_any (nat_eq f) xs ≡ (not (nat_eq f k) && list_any (nat_eq f) xs)
+off-nothing xs k f none = by (nat_eq f k) refl where
+  by : (b : Bool) → nat_eq f k ≡ b → list_any (nat_eq f) xs ≡ (not b && list_any (nat_eq f) xs)
+  by true same = ap (λ z. list_any (nat_eq z) xs) (eqb-true f k same) ∙ at-none xs k none
+  by false apart = refl
 
 -- Who waits after a number was put in.
 waiting-inserted : (m : Map Count) (k f : ℕ) (c : Count) → is_waiting (map.insert m k c) f ≡ cond (nat_eq f k) (nat_eq (places_in c) 0) (is_waiting m f)
@@ -117,18 +119,18 @@ waiting-there m f h = subst IsSome (map.get-entries m f ∙ find_is (map.entries
   by (Some c) e = refl
 
 -- No more files wait than have numbers.
-pub few-wait : (m : Map Count) (fs : List ℕ) → ((f : ℕ) → list_any (nat_eq f) fs ≡ true → is_waiting m f ≡ true) → IsDistinct nat_eq fs → length fs ≤ map.len m
+few-wait : (m : Map Count) (fs : List ℕ) → ((f : ℕ) → list_any (nat_eq f) fs ≡ true → is_waiting m f ≡ true) → IsDistinct nat_eq fs → length fs ≤ map.len m
 few-wait m fs each once =
     let most = length-le_from_keys nat_eq_equiv fs (map.entries m) once (λ f h. waiting-there m f (each f h)) in
     omega (arith, most, map.len-entries m)
 
 -- A file that has no place now, and did not wait, waits; there is room for it.
-pub waiting-pushed : (m : Map Count) (fs : List ℕ) (room k : ℕ) (c : Count) → AreWaiting m fs room → is_waiting m k ≡ false → nat_eq (places_in c) 0 ≡ true → map.len (map.insert m k c) ≤ room
-    → AreWaiting (map.insert m k c) (fs ++ k ∷ []) room × (length fs < room)
-waiting-pushed m fs room k c h before after few =
+waiting-pushed : (m n : Map Count) (fs : List ℕ) (files left capacity k : ℕ) (c : Count) → n ≡ map.insert m k c → map.len n ≡ left → left ≤ capacity → AreWaiting m fs files capacity → is_waiting m k ≡ false → nat_eq (places_in c) 0 ≡ true
+    → AreWaiting n (fs ++ k ∷ []) left capacity × (length fs < capacity)
+waiting-pushed m n fs files left capacity k c is many few h before after =
     let again = distinct-push fs k h.once (h.each k ∙ before) in
-    let most = few-wait (map.insert m k c) (fs ++ k ∷ []) (λ f e. sym (each f) ∙ e) again in
-    (record { each = each; once = again; room = few }, omega (arith, most, few, length-append fs (k ∷ []))) where
+    let most = few-wait n (fs ++ k ∷ []) (λ f e. sym (each f) ∙ e) again in
+    (record { each = each; once = again; room = few }, omega (arith, most, many, few, length-append fs (k ∷ []))) where
       or_none : (b : Bool) → (b || false) ≡ b
       or_none true = refl
       or_none false = refl
@@ -137,58 +139,22 @@ waiting-pushed m fs room k c h before after few =
       by f true same = ap (λ z. z || true) (ap (is_waiting m) (eqb-true f k same) ∙ before) ∙ sym after
       by f false apart = or_none (is_waiting m f)
 
-      each : (f : ℕ) → list_any (nat_eq f) (fs ++ k ∷ []) ≡ is_waiting (map.insert m k c) f
-      each f = list_any-append (nat_eq f) fs (k ∷ []) ∙ ap (λ b. b || (nat_eq f k || false)) (h.each f) ∙ ap (λ b. is_waiting m f || b) (or_none (nat_eq f k)) ∙ by f (nat_eq f k) refl ∙ sym (waiting-inserted m k f c)
-
--- A file that has a place now waits no more.
-pub waiting-off : (m : Map Count) (fs gs : List ℕ) (room k : ℕ) (c : Count) → AreWaiting m fs room → nat_eq (places_in c) 0 ≡ false → map.len (map.insert m k c) ≤ room
-    → ((f : ℕ) → list_any (nat_eq f) gs ≡ (not (nat_eq f k) && list_any (nat_eq f) fs)) → IsDistinct nat_eq gs → AreWaiting (map.insert m k c) gs room
-waiting-off m fs gs room k c h after few off once = record {
-  each = λ f. off f ∙ ap (λ b. not (nat_eq f k) && b) (h.each f) ∙ by f (nat_eq f k) ∙ sym (waiting-inserted m k f c);
-  once = once;
-  room = few;
-} where
-  by : (f : ℕ) (b : Bool) → (not b && is_waiting m f) ≡ cond b (nat_eq (places_in c) 0) (is_waiting m f)
-  by f true = sym after
-  by f false = refl
-
--- A file that has a place now, and did not wait, does not wait.
-pub waiting-kept : (m : Map Count) (fs : List ℕ) (room k : ℕ) (c : Count) → AreWaiting m fs room → is_waiting m k ≡ false → nat_eq (places_in c) 0 ≡ false → map.len (map.insert m k c) ≤ room → AreWaiting (map.insert m k c) fs room
-waiting-kept m fs room k c h before after few = record {
-  each = λ f. h.each f ∙ by f (nat_eq f k) refl ∙ sym (waiting-inserted m k f c);
-  once = h.once;
-  room = few;
-} where
-  by : (f : ℕ) (b : Bool) → nat_eq f k ≡ b → is_waiting m f ≡ cond b (nat_eq (places_in c) 0) (is_waiting m f)
-  by f true same = ap (is_waiting m) (eqb-true f k same) ∙ before ∙ sym after
-  by f false apart = refl
+      each : (f : ℕ) → list_any (nat_eq f) (fs ++ k ∷ []) ≡ is_waiting n f
+      each f =
+          list_any-append (nat_eq f) fs (k ∷ []) ∙ ap (λ b. b || (nat_eq f k || false)) (h.each f) ∙ ap (λ b. is_waiting m f || b) (or_none (nat_eq f k)) ∙ by f (nat_eq f k) refl
+          ∙ sym (ap (λ n. is_waiting n f) is ∙ waiting-inserted m k f c)
 
 -- A file whose numbers are kept no more does not wait.
-pub waiting-struck : (m : Map Count) (fs gs : List ℕ) (room k : ℕ) → AreWaiting m fs room → map.len (map.remove m k) ≤ room → ((f : ℕ) → list_any (nat_eq f) gs ≡ (not (nat_eq f k) && list_any (nat_eq f) fs)) → IsDistinct nat_eq gs
-    → AreWaiting (map.remove m k) gs room
-waiting-struck m fs gs room k h few off once = record {
-  each = λ f. off f ∙ ap (λ b. not (nat_eq f k) && b) (h.each f) ∙ sym (waiting-removed m k f);
+pub waiting-struck : (m n : Map Count) (fs gs : List ℕ) (files left capacity k : ℕ) → n ≡ map.remove m k → AreWaiting m fs files capacity → left ≤ files → ((f : ℕ) → list_any (nat_eq f) gs ≡ (not (nat_eq f k) && list_any (nat_eq f) fs)) → IsDistinct nat_eq gs
+    → AreWaiting n gs left capacity
+waiting-struck m n fs gs files left capacity k is h fewer off once = record {
+  each = λ f. off f ∙ ap (λ b. not (nat_eq f k) && b) (h.each f) ∙ sym (ap (λ n. is_waiting n f) is ∙ waiting-removed m k f);
   once = once;
-  room = few;
+  room = let few = h.room in omega (arith, few, fewer);
 }
 
--- A change at a key that is there makes room for no more and no fewer.
-pub same-len : (m : Map Count) (k : ℕ) (c : Count) → is_some (map.get m k) ≡ true → map.len (map.insert m k c) ≡ map.len m
-same-len m k c there = map.len-insert nat_cmp_total m k c ∙ ap (λ b. cond b (map.len m) (map.len m + 1)) there
-
--- A key taken out leaves as many, or one fewer.
-pub fewer-len : (m : Map Count) (k : ℕ) → map.len (map.remove m k) ≤ map.len m
-fewer-len m k = subst (λ n. n ≤ map.len m) (sym (map.len-remove nat_cmp_total m k)) (by (map.contains_key m k)) where
-  by : (b : Bool) → cond b (map.len m - 1) (map.len m) ≤ map.len m
-  by true = omega arith
-  by false = omega arith
-
--- The room does not change with the numbers of a file that has some.
-pub same-room : (m : Map Count) (k : ℕ) (c : Count) (spare capacity : ℕ) → is_some (map.get m k) ≡ true → room_left (map.insert m k c) spare capacity ≡ room_left m spare capacity
-same-room m k c spare capacity there = ap (λ n. min spare (capacity - n)) (same-len m k c there)
-
 -- Who has a place does not wait.
-pub not-waiting : (m : Map Count) (k : ℕ) → nat_eq (places_in (unwrap_or (map.get m k) uncounted)) 0 ≡ false → is_waiting m k ≡ false
+pub not-waiting : (m : Map Count) (k : ℕ) → nat_eq (places_in (count_in_map m k)) 0 ≡ false → is_waiting m k ≡ false
 not-waiting m k = by (map.get m k) where
   by : (o : Option Count) → nat_eq (places_in (unwrap_or o uncounted)) 0 ≡ false → option_map_or (λ c. nat_eq (places_in c) 0) o false ≡ false
   by (Some c) e = e
@@ -201,10 +167,6 @@ stranger-waits m k = by (map.get m k) where
   by (Some c) e = absurd (false≢true (sym e))
   by None e = refl
 
--- The numbers of a file that has some.
-abbrev numbers : Map Count → ℕ → Count
-numbers m k = unwrap_or (map.get m k) uncounted
-
 -- Who has a place more has one.
 more-some : (p : Place) (c : Count) → nat_eq (places_in (more p c)) 0 ≡ false
 more-some Table c = told_apart (c.tabled + 1 + c.inflight) 0 (λ e. omega (arith, e))
@@ -215,95 +177,82 @@ fewer-one : (p : Place) (c : Count) → IsCounted p c → places_in (fewer p c) 
 fewer-one Table c h = omega arith
 fewer-one (Queue u) c h = omega arith
 
--- Who has no place has none to lose.
-pub has-some : (p : Place) (m : Map Count) (k : ℕ) → IsCounted p (numbers m k) → is_some (map.get m k) ≡ true
-has-some p m k = by p (map.get m k) where
-  by : (p : Place) (o : Option Count) → IsCounted p (unwrap_or o uncounted) → is_some o ≡ true
-  by p (Some c) h = refl
-  by Table None h = absurd (omega (arith, h))
-  by (Queue u) None h = absurd (omega (arith, h))
-
-module _ (m : Map Count) (fs : List ℕ) (capacity k : ℕ) (p : Place) (h : AreWaiting m fs capacity) where
-  module _ (there : is_some (map.get m k) ≡ true) where
-    few : (c : Count) → map.len (map.insert m k c) ≤ capacity
-    few c = let most = h.room in omega (arith, same-len m k c there, most)
+-- The numbers of a file that is there change.
+module _ (m n : Map Count) (fs : List ℕ) (files capacity k : ℕ) (p : Place) (h : AreWaiting m fs files capacity) where
+  module _ (is : n ≡ map.insert m k (more p (count_in_map m k))) where
+    is-more : (f : ℕ) → is_waiting n f ≡ cond (nat_eq f k) false (is_waiting m f)
+    is-more f = ap (λ n. is_waiting n f) is ∙ waiting-inserted m k f (more p (count_in_map m k)) ∙ ap (λ b. cond (nat_eq f k) b (is_waiting m f)) (more-some p (count_in_map m k))
 
     -- With its first place a file waits no more.
-    pub raised-off : (gs : List ℕ) → ((f : ℕ) → list_any (nat_eq f) gs ≡ (not (nat_eq f k) && list_any (nat_eq f) fs)) → IsDistinct nat_eq gs → AreWaiting (map.insert m k (more p (numbers m k))) gs capacity
-    raised-off gs off once = waiting-off m fs gs capacity k (more p (numbers m k)) h (more-some p (numbers m k)) (few (more p (numbers m k))) off once
+    pub raised-off : (gs : List ℕ) → ((f : ℕ) → list_any (nat_eq f) gs ≡ (not (nat_eq f k) && list_any (nat_eq f) fs)) → IsDistinct nat_eq gs → AreWaiting n gs files capacity
+    raised-off gs off once = record {
+      each = λ f. off f ∙ ap (λ b. not (nat_eq f k) && b) (h.each f) ∙ by f (nat_eq f k) ∙ sym (is-more f);
+      once = once;
+      room = h.room;
+    } where
+      by : (f : ℕ) (b : Bool) → (not b && is_waiting m f) ≡ cond b false (is_waiting m f)
+      by f true = refl
+      by f false = refl
 
     -- With a further place nothing changes for those that wait.
-    pub raised-kept : nat_eq (places_in (numbers m k)) 0 ≡ false → AreWaiting (map.insert m k (more p (numbers m k))) fs capacity
-    raised-kept some = waiting-kept m fs capacity k (more p (numbers m k)) h (not-waiting m k some) (more-some p (numbers m k)) (few (more p (numbers m k)))
+    pub raised-kept : nat_eq (places_in (count_in_map m k)) 0 ≡ false → AreWaiting n fs files capacity
+    raised-kept some = record {
+      each = λ f. h.each f ∙ by f (nat_eq f k) refl ∙ sym (is-more f);
+      once = h.once;
+      room = h.room;
+    } where
+      by : (f : ℕ) (b : Bool) → nat_eq f k ≡ b → is_waiting m f ≡ cond b false (is_waiting m f)
+      by f true same = ap (is_waiting m) (eqb-true f k same) ∙ not-waiting m k some
+      by f false apart = refl
 
-  module _ (counted : IsCounted p (numbers m k)) where
-    there : is_some (map.get m k) ≡ true
-    there = has-some p m k counted
-
-    some : nat_eq (places_in (numbers m k)) 0 ≡ false
-    some = told_apart (places_in (numbers m k)) 0 (λ e. omega (arith, e, fewer-one p (numbers m k) counted))
-
-    -- Without its last place a file waits, and there is room for it.
-    pub lowered-pushed : nat_eq (places_in (numbers m k)) 1 ≡ true → AreWaiting (map.insert m k (fewer p (numbers m k))) (fs ++ k ∷ []) capacity × (length fs < capacity)
-    lowered-pushed last =
-        let none : places_in (fewer p (numbers m k)) ≡ 0 = omega (arith, fewer-one p (numbers m k) counted, eqb-true (places_in (numbers m k)) 1 last) in
-        waiting-pushed m fs capacity k (fewer p (numbers m k)) h (not-waiting m k some) (eq-eqb (places_in (fewer p (numbers m k))) 0 none) (few there (fewer p (numbers m k)))
+  module _ (counted : IsCounted p (count_in_map m k)) where
+    some : is_waiting m k ≡ false
+    some = not-waiting m k (told_apart (places_in (count_in_map m k)) 0 (λ e. omega (arith, e, fewer-one p (count_in_map m k) counted)))
 
     -- Where others are left nothing changes for those that wait.
-    pub lowered-kept : nat_eq (places_in (numbers m k)) 1 ≡ false → AreWaiting (map.insert m k (fewer p (numbers m k))) fs capacity
-    lowered-kept more =
-        waiting-kept m fs capacity k (fewer p (numbers m k)) h (not-waiting m k some)
-        (told_apart (places_in (fewer p (numbers m k))) 0 (λ e. not_same (places_in (numbers m k)) 1 more (omega (arith, e, fewer-one p (numbers m k) counted))))
-        (few there (fewer p (numbers m k)))
+    pub lowered-kept : n ≡ map.insert m k (fewer p (count_in_map m k)) → nat_eq (places_in (count_in_map m k)) 1 ≡ false → AreWaiting n fs files capacity
+    lowered-kept is others = record {
+      each = λ f. h.each f ∙ by f (nat_eq f k) refl ∙ sym (ap (λ n. is_waiting n f) is ∙ waiting-inserted m k f (fewer p (count_in_map m k)));
+      once = h.once;
+      room = h.room;
+    } where
+      after : nat_eq (places_in (fewer p (count_in_map m k))) 0 ≡ false
+      after = told_apart (places_in (fewer p (count_in_map m k))) 0 (λ e. not_same (places_in (count_in_map m k)) 1 others (omega (arith, e, fewer-one p (count_in_map m k) counted)))
+
+      by : (f : ℕ) (b : Bool) → nat_eq f k ≡ b → is_waiting m f ≡ cond b (nat_eq (places_in (fewer p (count_in_map m k))) 0) (is_waiting m f)
+      by f true same = ap (is_waiting m) (eqb-true f k same) ∙ some ∙ sym after
+      by f false apart = refl
+
+-- Without its last place a file waits, and there is room for it.
+pub lowered-pushed : (m n : Map Count) (fs : List ℕ) (files left capacity k : ℕ) (p : Place) → n ≡ map.insert m k (fewer p (count_in_map m k)) → map.len n ≡ left → left ≡ files → AreWaiting m fs files capacity → IsCounted p (count_in_map m k)
+    → nat_eq (places_in (count_in_map m k)) 1 ≡ true → AreWaiting n (fs ++ k ∷ []) left capacity × (length fs < capacity)
+lowered-pushed m n fs files left capacity k p is many same h counted last =
+    let none : places_in (fewer p (count_in_map m k)) ≡ 0 = omega (arith, fewer-one p (count_in_map m k) counted, eqb-true (places_in (count_in_map m k)) 1 last) in
+    let most = h.room in
+    waiting-pushed m n fs files left capacity k (fewer p (count_in_map m k)) is many (omega (arith, most, same)) h (some m n fs files capacity k p h counted) (eq-eqb (places_in (fewer p (count_in_map m k))) 0 none)
 
 -- A stranger that is entered waits, and there is room for it.
-pub entered-pushed : (m : Map Count) (fs : List ℕ) (capacity k : ℕ) → AreWaiting m fs capacity → is_some (map.get m k) ≡ false → map.len m < capacity → AreWaiting (map.insert m k uncounted) (fs ++ k ∷ []) capacity × (length fs < capacity)
-entered-pushed m fs capacity k h new room =
-    waiting-pushed m fs capacity k uncounted h (stranger-waits m k new) refl (omega (arith, room, map.len-insert nat_cmp_total m k uncounted ∙ ap (λ b. cond b (map.len m) (map.len m + 1)) new))
+pub entered-pushed : (m n : Map Count) (fs : List ℕ) (files left capacity k : ℕ) → n ≡ map.insert m k uncounted → map.len n ≡ left → left ≤ capacity → AreWaiting m fs files capacity → map.contains_key m k ≡ false
+    → AreWaiting n (fs ++ k ∷ []) left capacity × (length fs < capacity)
+entered-pushed m n fs files left capacity k is many few h new = waiting-pushed m n fs files left capacity k uncounted is many few h (stranger-waits m k new) refl
 
--- What is said of numbers, of a list and of its room is said of their equals.
-pub waiting-same : (m n : Map Count) (fs gs : List ℕ) (c d : ℕ) → n ≡ m → gs ≡ fs → d ≡ c → AreWaiting m fs c → AreWaiting n gs d
-waiting-same m n fs gs c d numbers list room h = subst (λ x. AreWaiting x gs d) (sym numbers) (subst (λ x. AreWaiting m x d) (sym list) (subst (AreWaiting m fs) (sym room) h))
-
--- The last of a list that was taken off it.
-pub last-is : (xs ys : List ℕ) (o : Option ℕ) (n x k : ℕ) → n ≡ length xs → xs ≡ ys ++ option_to_list o → ((d : ℕ) → 0 < n → o ≡ Some (slice_index_or xs (n - 1) d)) → Some x ≡ slice_get xs (length xs - 1) → nat_eq x k ≡ true → xs ≡ ys ++ k ∷ []
-last-is xs ys o n x k size split popped last same =
-    let within = slice_get_within xs (length xs - 1) x (sym last) in
-    let at : slice_index_or xs (n - 1) x ≡ x = ap (λ m. slice_index_or xs (m - 1) x) size ∙ get_or_from_slice_get xs (length xs - 1) x x (sym last) in
-    split ∙ ap (λ p. ys ++ option_to_list p) (popped x (omega (arith, within, size))) ∙ ap (λ z. ys ++ z ∷ []) (at ∙ eqb-true x k same)
-
--- What a ledger shows after the numbers of one file have changed.
-pub changed-view : (m n : Map Count) (k : ℕ) (c : Count) (users : List (ℕ × ℕ)) (total spare t capacity d : ℕ) → is_some (map.get m k) ≡ true → n ≡ map.insert m k c → t ≡ spare → d ≡ capacity
-    → ◌≡◌ {A = Kept} (record { counts = n; users = users; total = total; room = room_left n t d }) (record { counts = map.insert m k c; users = users; total = total; room = room_left m spare capacity })
-changed-view m n k c users total spare t capacity d there same kept still =
-    let room : room_left n t d ≡ room_left m spare capacity = (λ i. room_left (same i) (kept i) (still i)) ∙ same-room m k c spare capacity there in
-    λ i. record { counts = same i; users = users; total = total; room = room i }
-
--- A file entered takes up room for one at most.
-pub entered-room : (m : Map Count) (k : ℕ) (c : Count) (spare t capacity : ℕ) → spare ≤ t + 1 → room_left m spare capacity ≤ room_left (map.insert m k c) t capacity + 1
-entered-room m k c spare t capacity less = omega (arith, less, most (map.contains_key m k) (map.len-insert nat_cmp_total m k c)) where
-  most : (b : Bool) → map.len (map.insert m k c) ≡ cond b (map.len m) (map.len m + 1) → map.len (map.insert m k c) ≤ map.len m + 1
-  most true e = omega (arith, e)
-  most false e = omega (arith, e)
-
--- A file struck out takes up none.
-pub struck-room : (m : Map Count) (k : ℕ) (spare t capacity : ℕ) → spare ≤ t → room_left m spare capacity ≤ room_left (map.remove m k) t capacity
-struck-room m k spare t capacity more = omega (arith, more, fewer-len m k)
+-- What is said of a list and of its room is said of their equals.
+pub waiting-same : (m : Map Count) (fs gs : List ℕ) (files left slots wide list long : ℕ) → gs ≡ fs → left ≡ files → wide ≡ slots → long ≡ list → AreWaiting m fs files (min slots list) → AreWaiting m gs left (min wide long)
+waiting-same m fs gs files left slots wide list long same size fits stays h = subst (λ x. x) (λ i. AreWaiting m (sym same i) (sym size i) (min (sym fits i) (sym stays i))) h
 
 -- Where there is no file, none waits.
-pub nothing-waits : (m : Map Count) (fs : List ℕ) (capacity : ℕ) → m ≡ map.empty → fs ≡ [] → AreWaiting m fs capacity
+pub nothing-waits : (m : Map Count) (fs : List ℕ) (files capacity : ℕ) → m ≡ map.empty → fs ≡ [] → files ≤ capacity → AreWaiting m fs files capacity
 unfolding IsDistinct
-nothing-waits m fs capacity none empty = record {
+nothing-waits m fs files capacity none empty room = record {
   each = λ f. ap (list_any (nat_eq f)) empty ∙ sym (ap (λ n. is_waiting n f) none ∙ ap (λ o. option_map_or (λ c. nat_eq (places_in c) 0) o false) (map.get-empty nat_cmp f));
   once = subst (IsDistinct nat_eq) (sym empty) tt;
-  room = let zero = ap {A = Map Count} (λ n. map.len n) none ∙ map.len-empty nat_cmp Count in omega (arith, zero);
+  room = room;
 }
 
--- What follows on success follows from what is ensured then.
-pub on-ok-map : {T E : Type 0} (r : Result T E) {P Q : Type 0} → (P → Q) → OnOk r P → OnOk r Q
-on-ok-map (Ok x) f p = f p
-on-ok-map (Err e) f p = p
-
--- So many fit where the map and the list have room for them.
-pub room-fits : (m : Map Count) (spare capacity files : ℕ) → files ≤ spare → map.len m + files ≤ capacity → files ≤ room_left m spare capacity
-room-fits m spare capacity files low high = omega (arith, low, high)
+-- The numbers of a file changed where they stand.
+pub recounted : (keys : Map ℕ) (s : Slab (Entry Count)) (f key : ℕ) (x : Entry Count) (c : Count) (g : Count → Count) → AreInPlace keys s → map.get keys f ≡ Some key → slab.get s key ≡ Some x → c ≡ g x.value
+    → values_of keys (slab.with_value s key (record x { value = c })) ≡ map.insert (values_of keys s) f (g (count_in_map (values_of keys s) f))
+recounted keys s f key x c g h was at e =
+    let here : count_in_map (values_of keys s) f ≡ x.value =
+    ap (λ o. unwrap_or o uncounted) (looked keys s f ∙ ap (λ o. option_map_or (value_at s) o None) was ∙ ap (option_map (λ x. x.value)) at) in
+    write_values keys s f key x (record x { value = c }) h was at ∙ ap (map.insert (values_of keys s) f) (e ∙ ap g (sym here))

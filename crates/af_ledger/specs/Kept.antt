@@ -11,16 +11,21 @@ use Rattle.af_ledger.specs.declared.count.Count.{Count}
 use Rattle.af_ledger.specs.declared.place.Place.{Place}
 use Rattle.af_ledger.specs.declared.place.Place.TheVariants.{Table, Queue}
 
--- The numbers of each file that was entered and not struck out since, each user with what it is charged, in the order in which they came, what is charged to all together, and for how many further files there is room (this project's own).
+-- The numbers of each file that was entered and not struck out since, each user with what it is charged, in the order in which they came, what is charged to all together, the last number that was entered, and for how many further files there is room (this project's own).
 pub record Kept : Type 0 where
   pub counts : Map Count
   pub users : List (ℕ × ℕ)
   pub total : ℕ
+  pub last : ℕ
   pub room : ℕ
 
--- The numbers of a file; all are 0 for a stranger (this project's own).
+-- The numbers of f in this map; all are 0 for a stranger (this project's own).
+abbrev pub count_in_map : Map Count → ℕ → Count
+count_in_map m f = unwrap_or (map.get m f) uncounted
+
+-- The numbers of a file (this project's own).
 abbrev pub count_of : Kept → ℕ → Count
-count_of k f = unwrap_or (map.get k.counts f) uncounted
+count_of k f = count_in_map k.counts f
 
 -- Whether the numbers of f are kept (this project's own).
 abbrev pub has_count : Kept → ℕ → Bool
@@ -50,15 +55,23 @@ is_user u us = list_any (nat_eq u) (keys_of us)
 abbrev pub with_user : ℕ → List (ℕ × ℕ) → List (ℕ × ℕ)
 with_user u us = if is_user u us then us else us ++ (u, 0) ∷ []
 
--- One unit of charge more (unix(7), ETOOMANYREFS: sent, and not yet received).
+-- So many units of charge more (unix(7), ETOOMANYREFS: sent, and not yet received).
+abbrev pub charged_by : ℕ → ℕ → Kept → Kept
+charged_by units u k = record k { users = recharged (λ n. n + units) u k.users; total = k.total + units }
+
+-- So many units of charge less (unix(7), ETOOMANYREFS).
+abbrev pub freed_by : ℕ → ℕ → Kept → Kept
+freed_by units u k = record k { users = recharged (λ n. n - units) u k.users; total = k.total - units }
+
+-- The unit of charge of a place more: only one in a queue has one (this project's own).
 abbrev pub charged_more : Place → Kept → Kept
 charged_more Table k = k
-charged_more (Queue u) k = record k { users = recharged (λ n. n + 1) u k.users; total = k.total + 1 }
+charged_more (Queue u) k = charged_by 1 u k
 
--- One unit of charge less (unix(7), ETOOMANYREFS).
+-- The unit of charge of a place less (this project's own).
 abbrev pub charged_less : Place → Kept → Kept
 charged_less Table k = k
-charged_less (Queue u) k = record k { users = recharged (λ n. n - 1) u k.users; total = k.total - 1 }
+charged_less (Queue u) k = freed_by 1 u k
 
 -- One place more holds f (this project's own).
 abbrev pub held : Place → ℕ → Kept → Kept

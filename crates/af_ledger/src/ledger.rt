@@ -1,21 +1,23 @@
 //! The ledger.
-ghost use Rattle.std.specs.Prelude.{◌≡◌, ℕ, ◌+◌, ◌-◌, ◌≤◌, ◌<◌, ◌^◌, [], Some, None, true, false, not, ◌&&◌, IsTrue, IsOk, IfErr, IfSome, IfNone, OnOk, OnErr, length, nat_eq, slice_get, vec_capacity};
+ghost use Rattle.std.specs.Prelude.{◌≡◌, ℕ, ◌+◌, ◌≤◌, ◌<◌, ◌^◌, [], None, Some, true, false, not, ◌&&◌, IsTrue, IsOk, IfErr, IfSome, IfNone, OnOk, OnErr, Option, length, nat_eq, slice_get, slice_index_or, vec_capacity, unwrap_or};
 ghost use Rattle.std.specs.FinMap as map;
-ghost use Rattle.std.specs.Map.{keys_of};
-ghost use Rattle.af_ledger.specs.Counted.{fewer, more, places_in, uncounted, IsCountable, IsCounted};
-ghost use Rattle.af_ledger.specs.Kept.{Kept, count_of, refs_of, charge_of, is_user, with_user, has_count, is_waiting, held_all, dropped_all, CanHoldAll, CanDropAll, charged_more, charged_less, held, dropped, IsChargeable, IsCharged, CanHold, CanDrop};
-ghost use Rattle.af_ledger.specs.Sending.{send_refusal};
-ghost use Rattle.af_ledger.specs.Waiting.{count_in_entries, is_known};
-ghost use Rattle.std.specs.HashMap.{spare};
 ghost use Rattle.std.specs.List.{IsDistinct, list_any};
-ghost use Rattle.std.specs.Ordering.{nat_cmp};
+ghost use Rattle.std.specs.Map.{keys_of};
+ghost use Rattle.std.specs.Option.{option_map_or};
+ghost use Rattle.slab.specs.Slab.{slab_len};
+ghost use Rattle.af_order.specs.Keyed.{AreInPlace, value_at, values_of};
+ghost use Rattle.af_ledger.specs.Counted.{fewer, more, places_in, uncounted, IsCountable, IsCounted};
+ghost use Rattle.af_ledger.specs.Kept.{Kept, count_in_map, count_of, refs_of, charge_of, is_user, with_user, has_count, is_waiting, held_all, dropped_all, CanHoldAll, CanDropAll, charged_by, freed_by, held, dropped, CanHold, CanDrop};
+ghost use Rattle.af_ledger.specs.Sending.{send_refusal};
 
 use crate::count::Count;
 use crate::place::Place;
 use af_base::errno::Errno;
 use af_base::limits::MAX_INFLIGHT;
-use af_base::names::{Ino, Uid};
+use af_base::names::{FileRef, Ino, Uid};
+use af_order::{Entry, Order, key_of, put, reserve, take};
 use indexmap::IndexMap;
+use slab::Slab;
 use std::alloc::{AllocError, Global};
 use std::marker::Model;
 
@@ -23,18 +25,21 @@ use std::marker::Model;
 /// which they came, each with what it is charged. A user is never removed.
 #[derive(Drop)]
 pub struct Ledger {
-    counts: IndexMap<Ino, Count>,
+    /// The keys of the files' numbers.
+    order: Order,
+    counts: Slab<Entry<Count>>,
     /// The files that no place holds.
-    waiting: Vec<Ino>,
+    waiting: Vec<FileRef>,
     users: IndexMap<Uid, u64>,
     total: u64,
 }
 
 impl Model for Ledger {
-    ghost use Rattle.std.specs.Prelude.{vec_capacity};
+    ghost use Rattle.std.specs.Prelude.{min, vec_capacity};
     ghost use Rattle.std.specs.FinMap as map;
-    ghost use Rattle.std.specs.HashMap.{spare};
     ghost use Rattle.std.specs.Coded.{codes};
+    ghost use Rattle.slab.specs.Slab.{slab_len};
+    ghost use Rattle.af_order.specs.Keyed.{AreInPlace, values_of};
     ghost use Rattle.af_ledger.specs.Kept.{Kept};
     ghost use Rattle.af_ledger.specs.Waiting.{AreWaiting, room_left};
 
@@ -42,9 +47,9 @@ impl Model for Ledger {
 
     ghost coded = { Prim.hlevel (codes, map.code) };
 
-    ghost view = { λ a. record { counts = map.from_entries a.counts.entries; users = a.users.entries; total = a.total; room = room_left (map.from_entries a.counts.entries) (spare a.counts) (vec_capacity a.waiting) } };
+    ghost view = { λ a. record { counts = values_of a.order.keys a.counts; users = a.users.entries; total = a.total; last = a.order.last; room = room_left a.order.room (slab_len a.counts) (min a.counts.capacity (vec_capacity a.waiting)) } };
 
-    ghost invariant = { λ a. AreWaiting (map.from_entries a.counts.entries) a.waiting.items (vec_capacity a.waiting) };
+    ghost invariant = { λ a. AreInPlace a.order.keys a.counts × AreWaiting (values_of a.order.keys a.counts) a.waiting.items (slab_len a.counts) (min a.counts.capacity (vec_capacity a.waiting)) };
 }
 
 impl Ledger {
@@ -53,24 +58,23 @@ impl Ledger {
         ensures counts { result.counts ≡ map.empty }
         ensures users { result.users ≡ [] }
         ensures total { result.total ≡ 0 }
+        ensures last { result.last ≡ 0 }
     {
         Ledger {
-            counts: IndexMap::new(alloc),
+            order: Order::new(alloc),
+            counts: Slab::new(alloc),
             waiting: Vec::new(alloc),
             users: IndexMap::new(alloc),
             total: 0,
         }
     }
 
-    /// The numbers of a file; all are 0 where no place holds it.
-    #[tactic(auto, using(af_base::proofs::Hashed::hash_changes))]
+    /// The numbers of the file of this number, by a binary search; all are 0 where no place holds it.
+    #[tactic(auto, using(af_order::proofs::Keyed::finds))]
     fn count(&self, ino: Ino) -> Count
         ensures { result ≡ count_of self.now ino }
     {
-        match self.counts.get(&ino) {
-            Some(count) => *count,
-            None => Count::none(),
-        }
+        count_at(&self.counts, self.order.key_of(ino))
     }
 
     /// How many places hold a file: none holds a stranger.
@@ -81,10 +85,12 @@ impl Ledger {
     }
 
     /// How many numbers of all tables stand for a file.
-    pub fn tabled(&self, ino: Ino) -> u64
-        ensures { result ≡ (count_of self.now ino).tabled }
+    #[tactic(auto, using(af_order::proofs::Keyed::finds))]
+    pub fn tabled(&self, file: &FileRef) -> u64
+        ensures { result ≡ (count_of self.now file.now).tabled }
     {
-        u64::from(self.count(ino).tabled)
+        let key = key_of(&self.order, &self.counts, file);
+        u64::from(count_at(&self.counts, key).tabled)
     }
 
     /// How many places in queues hold a file.
@@ -151,13 +157,14 @@ impl Ledger {
 
     /// Room for so many further files: then `enter` needs no memory for them. Nothing else changes,
     /// also on an error.
+    #[tactic(auto, using(af_order::proofs::Keyed::comes_and_goes))]
     pub fn reserve(&mut self, files: usize) -> Result<(), AllocError>
         ensures same { self.new ≡ record self.old { room = self.new.room } }
         ensures ok { OnOk result (files ≤ self.new.room) }
         ensures room { self.old.room ≤ self.new.room }
         ensures succeeds { files ≤ self.old.room → IsOk result }
     {
-        self.counts.reserve(files)?;
+        reserve(&mut self.order, &mut self.counts, files)?;
         let wanted = self.counts.len().saturating_add(files);
         if wanted <= self.waiting.capacity() {
             return Ok(());
@@ -180,174 +187,203 @@ impl Ledger {
         Ok(())
     }
 
-    /// A file more, of which no place is counted yet: it waits. There is room for it.
-    #[tactic(auto, using(af_base::proofs::Hashed::hash_changes))]
+    /// A file more, above all others that there were, of which no place is counted yet: it waits.
+    /// There is room for it.
     pub fn enter(&mut self, ino: Ino)
         requires room { 0 < self.old.room }
-        requires new { has_count self.old ino ≡ false }
-        ensures entered { self.new ≡ record self.old { counts = map.insert self.old.counts ino uncounted; room = self.new.room } }
+        requires above { self.old.last < ino }
+        ensures entered { self.new ≡ record self.old { counts = map.insert self.old.counts ino uncounted; last = ino; room = self.new.room } }
+        ensures new { has_count self.old ino ≡ false }
         ensures room { self.old.room ≤ self.new.room + 1 }
     {
-        self.counts.insert(ino, Count::none()).unwrap();
-        self.waiting.push_reserved(ino);
+        let file = put(&mut self.order, &mut self.counts, ino, Count::none());
+        self.waiting.push_reserved(file);
     }
 
     /// A file that waits, if there is one.
-    pub fn next_waiting(&self) -> Option<Ino>
+    pub fn next_waiting(&self) -> Option<FileRef>
         ensures some { IfSome result (λ f. is_waiting self.now.counts f ≡ true) }
         ensures none { IfNone result ((f : ℕ) → is_waiting self.now.counts f ≡ false) }
     {
-        self.waiting.last().copied()
+        let file = self.waiting.last()?;
+        Some(file.again())
     }
 
     /// The numbers of a file are kept no more, and it does not wait. It takes no memory.
-    #[tactic(auto, using(af_base::proofs::Hashed::hash_changes))]
-    pub fn strike_out(&mut self, ino: Ino)
-        ensures struck_out { self.new ≡ record self.old { counts = map.remove self.old.counts ino; room = self.new.room } }
+    pub fn strike_out(&mut self, file: &FileRef)
+        ensures struck_out { self.new ≡ record self.old { counts = map.remove self.old.counts file.now; room = self.new.room } }
         ensures room { self.old.room ≤ self.new.room }
     {
-        self.counts.swap_remove(&ino);
-        take_off(&mut self.waiting, ino);
+        take(&mut self.order, &mut self.counts, file);
+        take_off(&mut self.waiting, file.ino());
     }
 
     /// One place more in the counts of a file. If it waited, it does so no more.
-    fn raise(&mut self, place: &Place, ino: Ino)
-        requires known { IsTrue (has_count self.old ino) }
-        requires countable { IsCountable place.now (count_of self.old ino) }
-        ensures { self.new ≡ record self.old { counts = map.insert self.old.counts ino (more place.now (count_of self.old ino)) } }
+    fn raise(&mut self, place: &Place, file: &FileRef)
+        requires known { IsTrue (has_count self.old file.now) }
+        requires countable { IsCountable place.now (count_of self.old file.now) }
+        ensures { self.new ≡ record self.old { counts = map.insert self.old.counts file.now (more place.now (count_of self.old file.now)) } }
     {
-        let first = add_place(&mut self.counts, place, ino);
+        let first = add_place(&self.order, &mut self.counts, place, file);
         if first {
-            take_off(&mut self.waiting, ino);
+            take_off(&mut self.waiting, file.ino());
         }
     }
 
     /// One place less in the counts of a file. If that was the last, it waits.
-    fn lower(&mut self, place: &Place, ino: Ino)
-        requires { IsCounted place.now (count_of self.old ino) }
-        ensures { self.new ≡ record self.old { counts = map.insert self.old.counts ino (fewer place.now (count_of self.old ino)) } }
+    fn lower(&mut self, place: &Place, file: &FileRef)
+        requires { IsCounted place.now (count_of self.old file.now) }
+        ensures { self.new ≡ record self.old { counts = map.insert self.old.counts file.now (fewer place.now (count_of self.old file.now)) } }
     {
-        let last = sub_place(&mut self.counts, place, ino);
+        let last = sub_place(&self.order, &mut self.counts, place, file);
         if last {
-            self.waiting.push_reserved(ino);
+            self.waiting.push_reserved(file.again());
         }
     }
 
-    /// One unit of charge more.
+    /// So many units of charge more.
     #[tactic(auto, using(crate::proofs::Users::user_changes))]
-    fn charge(&mut self, uid: Uid)
-        requires { IsChargeable (Place.Queue uid) self.old }
-        ensures { self.new ≡ charged_more (Place.Queue uid) self.old }
+    fn charge(&mut self, uid: Uid, units: u64)
+        requires charge { charge_of self.old uid + units ≤ 2 ^ 63 }
+        requires total { self.old.total + units ≤ 2 ^ 63 }
+        ensures { self.new ≡ charged_by units uid self.old }
     {
-        self.total += 1;
+        self.total += units;
         let Some(charge) = self.users.get_mut(&uid) else {
             return;
         };
-        *charge += 1;
+        *charge += units;
     }
 
-    /// One unit of charge less.
+    /// So many units of charge less.
     #[tactic(auto, using(crate::proofs::Users::user_changes))]
-    fn free(&mut self, uid: Uid)
-        requires { IsCharged (Place.Queue uid) self.old }
-        ensures { self.new ≡ charged_less (Place.Queue uid) self.old }
+    fn free(&mut self, uid: Uid, units: u64)
+        requires charge { units ≤ charge_of self.old uid }
+        requires total { units ≤ self.old.total }
+        ensures { self.new ≡ freed_by units uid self.old }
     {
-        self.total -= 1;
+        self.total -= units;
         let Some(charge) = self.users.get_mut(&uid) else {
             return;
         };
-        *charge -= 1;
+        *charge -= units;
     }
 
     /// One place more holds a file, whose numbers are kept; a place in a queue is charged to its
     /// user, who was added before. It takes no memory.
-    pub fn hold(&mut self, place: Place, ino: Ino)
-        requires known { IsTrue (has_count self.old ino) }
-        requires fits { CanHold place ino self.old }
-        ensures { self.new ≡ held place ino self.old }
+    pub fn hold(&mut self, place: Place, file: &FileRef)
+        requires known { IsTrue (has_count self.old file.now) }
+        requires fits { CanHold place file.now self.old }
+        ensures { self.new ≡ held place file.now self.old }
     {
-        self.raise(&place, ino);
+        self.raise(&place, file);
         if let Place::Queue(uid) = place {
-            self.charge(uid);
+            self.charge(uid, 1);
         }
     }
 
     /// One place less holds a file; one in a queue is no longer charged to its user. There is such a
     /// place: it was counted and charged. After the last, the file waits. It takes no memory.
-    pub fn drop_one(&mut self, place: Place, ino: Ino)
-        requires { CanDrop place ino self.old }
-        ensures { self.new ≡ dropped place ino self.old }
+    pub fn drop_one(&mut self, place: Place, file: &FileRef)
+        requires { CanDrop place file.now self.old }
+        ensures { self.new ≡ dropped place file.now self.old }
     {
-        self.lower(&place, ino);
+        self.lower(&place, file);
         if let Place::Queue(uid) = place {
-            self.free(uid);
+            self.free(uid, 1);
         }
     }
 
     /// One place more in a queue holds each of these files, charged to the user. It takes no memory.
-    pub fn hold_all(&mut self, user: Uid, inos: &[Ino])
-        requires { CanHoldAll user inos.now self.old }
-        ensures { self.new ≡ held_all (Place.Queue user) inos.now self.old }
+    pub fn hold_all(&mut self, user: Uid, files: &[FileRef])
+        requires { CanHoldAll user files.now self.old }
+        ensures { self.new ≡ held_all (Place.Queue user) files.now self.old }
     {
-        for ino in inos {
-            self.hold(Place::Queue(user), *ino);
+        self.charge(user, files.len() as u64);
+        for file in files {
+            self.raise(&Place::Queue(user), file);
         }
     }
 
     /// One place less in a queue holds each of these files, which were charged to the user. It takes
     /// no memory.
-    pub fn drop_all(&mut self, user: Uid, inos: &[Ino])
-        requires { CanDropAll user inos.now self.old }
-        ensures { self.new ≡ dropped_all (Place.Queue user) inos.now self.old }
+    pub fn drop_all(&mut self, user: Uid, files: &[FileRef])
+        requires { CanDropAll user files.now self.old }
+        ensures { self.new ≡ dropped_all (Place.Queue user) files.now self.old }
     {
-        for ino in inos {
-            self.drop_one(Place::Queue(user), *ino);
+        self.free(user, files.len() as u64);
+        for file in files {
+            self.lower(&Place::Queue(user), file);
         }
     }
 }
 
-/// One place more of a file, whose numbers are kept. Whether it had none.
-#[tactic(auto, using(af_base::proofs::Hashed::hash_changes))]
-fn add_place(counts: &mut IndexMap<Ino, Count>, place: &Place, ino: Ino) -> bool
-    requires known { IsTrue (is_known counts.old.entries ino) }
-    requires countable { IsCountable place.now (count_in_entries counts.old.entries ino) }
-    ensures counts { map.from_entries {R = nat_cmp} counts.new.entries ≡ map.insert (map.from_entries counts.old.entries) ino (more place.now (count_in_entries counts.old.entries ino)) }
-    ensures spare { spare counts.new ≡ spare counts.old }
-    ensures first { result ≡ nat_eq (places_in (count_in_entries counts.old.entries ino)) 0 }
+/// The numbers under a key; all are 0 where there is none.
+fn count_at(counts: &Slab<Entry<Count>>, key: Option<usize>) -> Count
+    ensures { result ≡ unwrap_or (option_map_or (value_at counts.now) key None) uncounted }
 {
-    let count = counts.get_mut(&ino).unwrap();
-    let first = count.places() == 0;
-    count.add(place);
+    if let Some(key) = key
+        && let Some(entry) = counts.get(key)
+    {
+        return entry.value;
+    }
+    Count::none()
+}
+
+/// One place more of a file, whose numbers are kept. Whether it had none.
+#[tactic(auto, using(af_order::proofs::Keyed::writes))]
+fn add_place(order: &Order, counts: &mut Slab<Entry<Count>>, place: &Place, file: &FileRef) -> bool
+    requires place { AreInPlace order.now.keys counts.old }
+    requires known { IsTrue (map.contains_key (values_of order.now.keys counts.old) file.now) }
+    requires countable { IsCountable place.now (count_in_map (values_of order.now.keys counts.old) file.now) }
+    ensures counts { values_of order.now.keys counts.new ≡ map.insert (values_of order.now.keys counts.old) file.now (more place.now (count_in_map (values_of order.now.keys counts.old) file.now)) }
+    ensures place { AreInPlace order.now.keys counts.new }
+    ensures len { slab_len counts.new ≡ slab_len counts.old }
+    ensures capacity { counts.new.capacity ≡ counts.old.capacity }
+    ensures first { result ≡ nat_eq (places_in (count_in_map (values_of order.now.keys counts.old) file.now)) 0 }
+{
+    let key = key_of(order, counts, file).unwrap();
+    let entry = counts.get_mut(key).unwrap();
+    let first = entry.value.places() == 0;
+    entry.value.add(place);
     first
 }
 
 /// One place less of a file, which has one. Whether it was the last.
-#[tactic(auto, using(af_base::proofs::Hashed::hash_changes))]
-fn sub_place(counts: &mut IndexMap<Ino, Count>, place: &Place, ino: Ino) -> bool
-    requires { IsCounted place.now (count_in_entries counts.old.entries ino) }
-    ensures counts { map.from_entries {R = nat_cmp} counts.new.entries ≡ map.insert (map.from_entries counts.old.entries) ino (fewer place.now (count_in_entries counts.old.entries ino)) }
-    ensures spare { spare counts.new ≡ spare counts.old }
-    ensures last { result ≡ nat_eq (places_in (count_in_entries counts.old.entries ino)) 1 }
+#[tactic(auto, using(af_order::proofs::Keyed::writes))]
+fn sub_place(order: &Order, counts: &mut Slab<Entry<Count>>, place: &Place, file: &FileRef) -> bool
+    requires place { AreInPlace order.now.keys counts.old }
+    requires counted { IsCounted place.now (count_in_map (values_of order.now.keys counts.old) file.now) }
+    ensures counts { values_of order.now.keys counts.new ≡ map.insert (values_of order.now.keys counts.old) file.now (fewer place.now (count_in_map (values_of order.now.keys counts.old) file.now)) }
+    ensures place { AreInPlace order.now.keys counts.new }
+    ensures len { slab_len counts.new ≡ slab_len counts.old }
+    ensures capacity { counts.new.capacity ≡ counts.old.capacity }
+    ensures last { result ≡ nat_eq (places_in (count_in_map (values_of order.now.keys counts.old) file.now)) 1 }
 {
-    let count = counts.get_mut(&ino).unwrap();
-    let last = count.places() == 1;
-    count.sub(place);
+    let key = key_of(order, counts, file).unwrap();
+    let entry = counts.get_mut(key).unwrap();
+    let last = entry.value.places() == 1;
+    entry.value.sub(place);
     last
 }
 
+/// Where a file stands in the list, found from its end; nothing where it does not.
+fn place_of(waiting: &[FileRef], ino: Ino) -> Option<usize>
+    ensures some { IfSome result (λ i. slice_get waiting.now i ≡ Some ino) }
+    ensures none { IfNone result ((k : ℕ) → k < length waiting.now → nat_eq (slice_index_or waiting.now k 0) ino ≡ false) }
+{
+    waiting.iter().rposition(|file| file.ino() == ino)
+}
+
 /// The file is in the list no more.
-fn take_off(waiting: &mut Vec<Ino>, ino: Ino)
+fn take_off(waiting: &mut Vec<FileRef>, ino: Ino)
     requires { IsDistinct nat_eq waiting.old.items }
     ensures each { (f : ℕ) → list_any (nat_eq f) waiting.new.items ≡ (not (nat_eq f ino) && list_any (nat_eq f) waiting.old.items) }
     ensures once { IsDistinct nat_eq waiting.new.items }
     ensures capacity { vec_capacity waiting.new ≡ vec_capacity waiting.old }
 {
-    // Most who wait no more were the last who came.
-    if let Some(last) = waiting.last()
-        && *last == ino
-    {
-        waiting.pop();
-        return;
+    // Most who wait no more came last, or last but one.
+    if let Some(at) = place_of(waiting.as_slice(), ino) {
+        waiting.remove(at);
     }
-    waiting.retain(|other| *other != ino);
 }

@@ -2,35 +2,38 @@
 use crate::{Ledger, Place};
 use af_base::errno::Errno;
 use af_base::limits::MAX_INFLIGHT;
-use af_base::names::{Ino, Uid};
+use af_base::names::{FileRef, Ino, Uid};
 use std::test::Fail;
 
 #[test]
 fn a_file_comes_and_goes(rt: HostRuntime) -> Result<(), Fail> {
     let mut ledger = Ledger::new(rt.alloc());
-    let (user, file) = (Uid(1000), Ino(1));
+    let user = Uid(1000);
+    let file = FileRef::new(Ino(1), 0);
     ledger.add_user(user)?;
     ledger.reserve(1)?;
-    ledger.enter(file);
-    assert_eq!(rt; ledger.next_waiting(), Some(file));
-    ledger.hold(Place::Queue(user), file);
-    assert_eq!(rt; ledger.next_waiting(), None);
+    ledger.enter(Ino(1));
+    assert!(rt; ledger.next_waiting().is_some());
+    ledger.hold(Place::Queue(user), &file);
+    assert!(rt; ledger.next_waiting().is_none());
     assert!(rt; ledger.may_send(user, 0, false, 1) == Err(Errno::ETOOMANYREFS));
     assert!(rt; ledger.may_send(user, 0, true, 1).is_ok());
-    assert_eq!(rt; ledger.tabled(file), 0);
-    ledger.hold(Place::Table, file);
-    assert_eq!(rt; ledger.refs(file), 2);
-    assert_eq!(rt; ledger.tabled(file), 1);
-    ledger.drop_one(Place::Table, file);
-    assert_eq!(rt; ledger.next_waiting(), None);
-    assert_eq!(rt; ledger.inflight(file), 1);
+    assert_eq!(rt; ledger.tabled(&file), 0);
+    // A key under which it does not stand.
+    let astray = FileRef::new(Ino(1), 7);
+    ledger.hold(Place::Table, &astray);
+    assert_eq!(rt; ledger.refs(Ino(1)), 2);
+    assert_eq!(rt; ledger.tabled(&astray), 1);
+    ledger.drop_one(Place::Table, &file);
+    assert!(rt; ledger.next_waiting().is_none());
+    assert_eq!(rt; ledger.inflight(Ino(1)), 1);
     assert_eq!(rt; ledger.charged(user), 1);
     assert_eq!(rt; ledger.total(), 1);
-    ledger.drop_one(Place::Queue(user), file);
-    assert_eq!(rt; ledger.refs(file), 0);
-    assert_eq!(rt; ledger.next_waiting(), Some(file));
-    ledger.strike_out(file);
-    assert_eq!(rt; ledger.next_waiting(), None);
+    ledger.drop_one(Place::Queue(user), &file);
+    assert_eq!(rt; ledger.refs(Ino(1)), 0);
+    assert!(rt; ledger.next_waiting().is_some());
+    ledger.strike_out(&file);
+    assert!(rt; ledger.next_waiting().is_none());
     Ok(())
 }
 

@@ -6,5 +6,4 @@ pub mod Sent
 pub mod Refused
 pub mod Running
 pub mod Made
-pub mod Copied
 pub mod Untabled

@@ -13,7 +13,7 @@ use Rattle.af_base.proofs.Lookups.{insert-here, insert-other, itself, not_same, 
 use Rattle.af_base.proofs.Moved.{there-table}
 use Rattle.af_base.proofs.Stepping.{get-change_at}
 use Rattle.af_base.proofs.Trees.{insert_same}
-use Rattle.af_steps.proofs.Copied.{insert_twice}
+use Rattle.af_collect.proofs.Joined.{insert_twice, table-uninstall}
 
 -- What is not there need not be removed.
 remove-none : {X : Type 0} (m : Map X) (k : ℕ) → map.get m k ≡ None → map.remove m k ≡ m
@@ -33,48 +33,6 @@ uninstall-free w p n free = by (map.get w.processes p) refl where
   by (Some q) e =
       let table = remove-none q.table n (sym (there-table w p n q e) ∙ free) in
       ap changed e ∙ ap (λ t. record w { processes = map.insert w.processes p (record q { table = t }) }) table ∙ ap (λ m. record w { processes = m }) (insert_same w.processes p q e)
-
--- What the numbers of a process stand for, after one was given up.
-pub table-uninstall : (w : World) (p n m : ℕ) → table_at (uninstall w p n) p m ≡ cond (nat_eq m n) None (table_at w p m)
-table-uninstall w p n m =
-    ap (λ (o : Option Process). option_map_or (λ q. map.get q.table m) o None) (get-change_at less w.processes p p)
-    ∙ ap (λ (b : Bool). option_map_or (λ (q : Process). map.get q.table m) (option_map {T = Process} {U = Process} (λ q. cond b (less q) q) (map.get w.processes p)) None) (unsigned_tied p p ∙ itself p)
-    ∙ by (map.get w.processes p) where
-      less : Process → Process
-      less q = record q { table = map.remove q.table n }
-
-      by : (o : Option Process) → option_map_or (λ (q : Process). map.get q.table m) (option_map {T = Process} {U = Process} (λ q. less q) o) None ≡ cond (nat_eq m n) None (option_map_or (λ (q : Process). map.get q.table m) o None)
-      by None = nothing (nat_eq m n) where
-        nothing : (b : Bool) → ◌≡◌ {A = Option ℕ} None (cond b None None)
-        nothing true = refl
-        nothing false = refl
-      by (Some q) = map.get-remove nat_cmp_total q.table n m ∙ ap (λ b. cond b None (map.get q.table m)) (unsigned_tied m n)
-
--- Without the process the number does not matter.
-pub removed-uninstall : (w : World) (p n : ℕ) → remove_process (uninstall w p n) p ≡ remove_process w p
-removed-uninstall w p n = ap (λ m. record w { processes = m }) (map.same_map nat_cmp_total nat_cmp-IsAntisymmetric _ _ (λ r. elim (same_or_not r p) [
-  | inl e ↦ ap (map.get (map.remove changed p)) e ∙ remove-here changed p ∙ sym (ap (map.get (map.remove w.processes p)) e ∙ remove-here w.processes p)
-  | inr a ↦ remove-other changed p r a ∙ get-change_at g w.processes p r ∙ ap (λ b. option_map (λ q. cond b (g q) q) (map.get w.processes r)) (unsigned_tied r p ∙ a) ∙ kept (map.get w.processes r) ∙ sym (remove-other w.processes p r a)
-])) where
-  g : Process → Process
-  g q = record q { table = map.remove q.table n }
-
-  changed : Map Process
-  changed = change_at g w.processes p
-
-  kept : (o : Option Process) → option_map (λ q. q) o ≡ o
-  kept None = refl
-  kept (Some q) = refl
-
--- Below the next number none is left, where none was below this one, none between, and this one was given up.
-pub none-below : (w : World) (p from n : ℕ) → ((q : ℕ) → q < from → table_at w p q ≡ None) → ((q : ℕ) → from ≤ q → q < n → table_at w p q ≡ None) → (q : ℕ) → q < n + 1 → table_at (uninstall w p n) p q ≡ None
-none-below w p from n below between q low = table-uninstall w p n q ∙ by (nat_eq q n) refl where
-  by : (b : Bool) → nat_eq q n ≡ b → cond b None (table_at w p q) ≡ None
-  by true e = refl
-  by false e = elim (cases_lt q from) [
-    | inl under ↦ below q under
-    | inr past ↦ between q past (elim (cases_lt q n) [ inl under ↦ under | inr over ↦ absurd (not_same q n e (omega (arith, low, over))) ])
-  ]
 
 -- A value put where one was removed is put once.
 insert-removed : {X : Type 0} (m : Map X) (k : ℕ) (x : X) → map.insert (map.remove m k) k x ≡ map.insert m k x

@@ -11,17 +11,17 @@ use af_base::errno::Errno;
 use af_base::events::{Reply, State, Step};
 use af_base::items::Items;
 use af_base::limits::{MAX_BYTES, MAX_MESSAGES, SCM_MAX_FD};
-use af_base::names::{Fd, Ino, Pid};
+use af_base::names::{Fd, FileRef, Pid};
 use af_desc::{Message, Socket};
 use af_table::Process;
 use std::alloc::{AllocError, Global};
 
 impl Engine {
-    /// The socket of that number; a plain file and a stranger are none.
-    fn socket(&self, ino: Ino) -> Option<&Socket>
-        ensures { option_copied result ≡ socket_at self.now.world ino }
+    /// The socket; a plain file and a stranger are none.
+    fn socket(&self, file: &FileRef) -> Option<&Socket>
+        ensures { option_copied result ≡ socket_at self.now.world file.now }
     {
-        self.store.files().get(ino)?.socket()
+        self.store.files().get(file)?.socket()
     }
 
     /// A process sends bytes, and with them what these numbers stand for (sendmsg(2)).
@@ -35,18 +35,18 @@ impl Engine {
         ensures { Answers self.old pid (Step.Send on bytes.now attach.now) result self.new }
     {
         let process = self.store.procs().find(pid).ok_or(Errno::ESRCH)?;
-        let ino = process.lookup(on).ok_or(Errno::EBADF)?;
-        let socket = self.socket(ino).ok_or(Errno::ENOTSOCK)?;
+        let file = process.lookup(on).ok_or(Errno::EBADF)?;
+        let socket = self.socket(&file).ok_or(Errno::ENOTSOCK)?;
         check_parts(process, bytes, attach)?;
-        let peer = peer_of(socket.state())?;
+        let peer = peer_of(socket)?;
         let (limit, privileged) = (process.limit(), process.is_privileged());
         self.store
             .may_send(process.user(), limit, privileged, attach.len())?;
-        if self.socket(peer).unwrap().messages() >= MAX_MESSAGES {
+        if self.socket(&peer).unwrap().messages() >= MAX_MESSAGES {
             return Err(Errno::EAGAIN);
         }
         let message = message(self.alloc, process, bytes, attach)?;
-        self.store.put_msg(peer, message)?;
+        self.store.put_msg(&peer, message)?;
         self.store.release();
         Ok(Reply::Sent(bytes.len() as u32))
     }
@@ -64,8 +64,8 @@ impl Engine {
         ensures { Answers self.old pid (Step.Recv on max_bytes max_fds) result self.new }
     {
         let process = self.store.procs().find(pid).ok_or(Errno::ESRCH)?;
-        let ino = process.lookup(on).ok_or(Errno::EBADF)?;
-        let socket = self.socket(ino).ok_or(Errno::ENOTSOCK)?;
+        let file = process.lookup(on).ok_or(Errno::EBADF)?;
+        let socket = self.socket(&file).ok_or(Errno::ENOTSOCK)?;
         check_receive(socket, max_bytes)?;
         let Some(first) = socket.first() else {
             return Ok(Reply::End);
@@ -73,7 +73,7 @@ impl Engine {
         let count = first.attached().len().min(max_fds as usize);
         let fds = process.lowest_free(self.alloc, count)?;
         self.store.room_for(pid, fds.len())?;
-        let message = self.store.take_msg(ino, pid, &fds);
+        let message = self.store.take_msg(&file, pid, &fds);
         self.store.release();
         Ok(got(message, fds, max_bytes))
     }
@@ -103,16 +103,18 @@ fn any_free(process: &Process, fds: &[Fd]) -> bool
     fds.iter().any(|fd| process.lookup(*fd).is_none())
 }
 
-/// Whom a socket of this state sends to, or why it cannot.
-fn peer_of(state: State) -> Result<Ino, Errno>
-    ensures ok { OnOk result (first_fit (peer_row state) ≡ None) }
-    ensures peer { IfOk result (λ peer. peer ≡ peer_of state) }
-    ensures err { IfErr result (λ e. first_fit (peer_row state) ≡ Some e) }
+/// Whom a socket sends to, or why it cannot.
+fn peer_of(socket: &Socket) -> Result<FileRef, Errno>
+    ensures ok { OnOk result (first_fit (peer_row socket.now.state) ≡ None) }
+    ensures peer { IfOk result (λ peer. peer ≡ peer_of socket.now.state) }
+    ensures err { IfErr result (λ e. first_fit (peer_row socket.now.state) ≡ Some e) }
 {
-    match state {
-        State::Idle | State::Listening(_) => Err(Errno::ENOTCONN),
+    if let Some(peer) = socket.peer() {
+        return Ok(peer);
+    }
+    match socket.state() {
         State::HungUp => Err(Errno::EPIPE),
-        State::Connected(peer) => Ok(peer),
+        _ => Err(Errno::ENOTCONN),
     }
 }
 
@@ -147,9 +149,9 @@ fn message(
 }
 
 /// What these numbers of the process stand for; those that are free are left out.
-fn files_at(alloc: Global, process: &Process, fds: &[Fd]) -> Result<Vec<Ino>, AllocError>
-    ensures value { IfOk result (λ inos. inos.items ≡ filter_map (map.get process.now.process.table) fds.now) }
-    ensures bound { IfOk result (λ inos. length inos.items ≤ length fds.now) }
+fn files_at(alloc: Global, process: &Process, fds: &[Fd]) -> Result<Vec<FileRef>, AllocError>
+    ensures value { IfOk result (λ files. files.items ≡ filter_map (map.get process.now.process.table) fds.now) }
+    ensures bound { IfOk result (λ files. length files.items ≤ length fds.now) }
 {
     fds.iter()
         .filter_map(|fd| process.lookup(*fd))

@@ -1,18 +1,13 @@
 //! Steps that start and end processes, and those that change only tables.
-ghost use Rattle.std.specs.Prelude.{◌≡◌, ◌<◌, ℕ, None, Some};
-ghost use Rattle.std.specs.FinMap as map;
-ghost use Rattle.af_base.specs.Changes.{remove_process, uninstall};
-ghost use Rattle.af_base.specs.Places.{table_at};
-ghost use Rattle.af_base.specs.Refusals.{process_at};
-ghost use Rattle.af_base.specs.World.{IsLive};
-ghost use Rattle.af_collect.specs.Stored.{row_at};
+ghost use Rattle.std.specs.Prelude.{◌≡◌};
+ghost use Rattle.af_base.specs.Changes.{uninstall};
 ghost use Rattle.af_steps.specs.Outcome.{Answers, Starts};
 
 use crate::engine::Engine;
 use af_base::errno::Errno;
 use af_base::events::{Reply, Step};
 use af_base::limits::MAX_NOFILE;
-use af_base::names::{Fd, Ino, Pid, Uid};
+use af_base::names::{Fd, Pid, Uid};
 use af_collect::Store;
 
 impl Engine {
@@ -41,8 +36,8 @@ impl Engine {
             return Err(Errno::ENFILE);
         }
         self.store.room_for(pid, 1)?;
-        let ino = self.store.make_plain()?;
-        self.store.table_in(pid, fd, ino);
+        let file = self.store.make_plain()?;
+        self.store.table_in(pid, fd, file);
         self.store.release();
         Ok(Reply::Fd(fd))
     }
@@ -52,10 +47,10 @@ impl Engine {
         ensures { Answers self.old pid (Step.Dup from) result self.new }
     {
         let process = self.store.procs().find(pid).ok_or(Errno::ESRCH)?;
-        let ino = process.lookup(from).ok_or(Errno::EBADF)?;
+        let file = process.lookup(from).ok_or(Errno::EBADF)?;
         let fd = process.lowest().ok_or(Errno::EMFILE)?;
         self.store.room_for(pid, 1)?;
-        self.store.table_in(pid, fd, ino);
+        self.store.table_in(pid, fd, file);
         self.store.release();
         Ok(Reply::Fd(fd))
     }
@@ -66,7 +61,7 @@ impl Engine {
         ensures { Answers self.old pid (Step.Dup2 from to) result self.new }
     {
         let process = self.store.procs().find(pid).ok_or(Errno::ESRCH)?;
-        let ino = process.lookup(from).ok_or(Errno::EBADF)?;
+        let file = process.lookup(from).ok_or(Errno::EBADF)?;
         if to == from {
             return Ok(Reply::Fd(to));
         }
@@ -75,7 +70,7 @@ impl Engine {
         }
         self.store.room_for(pid, 1)?;
         vacate(&mut self.store, pid, to);
-        self.store.table_in(pid, to, ino);
+        self.store.table_in(pid, to, file);
         self.store.release();
         Ok(Reply::Fd(to))
     }
@@ -100,7 +95,6 @@ impl Engine {
             return Err(Errno::EAGAIN);
         }
         let child = self.store.copy_for_fork(pid)?;
-        copy_numbers(&mut self.store, pid, child);
         self.store.release();
         Ok(Reply::Pid(child))
     }
@@ -110,7 +104,6 @@ impl Engine {
         ensures { Answers self.old pid Step.Exit result self.new }
     {
         self.store.procs().find(pid).ok_or(Errno::ESRCH)?;
-        close_all(&mut self.store, pid);
         self.store.remove_process(pid);
         self.store.release();
         Ok(Reply::Ok)
@@ -123,34 +116,5 @@ fn vacate(store: &mut Store, pid: Pid, fd: Fd)
 {
     if store.procs().lookup(pid, fd).is_some() {
         store.table_out(pid, fd);
-    }
-}
-
-/// The child, which has no number yet and room for all of its parent's, gets what its parent has.
-fn copy_numbers(store: &mut Store, parent: Pid, child: Pid)
-    requires apart { ¬ (child ≡ parent) }
-    requires there { map.get store.old.world.processes parent ≡ Some (process_at store.old.world parent) }
-    requires child { map.get store.old.world.processes child ≡ Some (record (process_at store.old.world parent) { table = map.empty }) }
-    requires row { (n f : ℕ) → table_at store.old.world parent n ≡ Some f → n < row_at store.old child }
-    requires limit { (n f : ℕ) → table_at store.old.world parent n ≡ Some f → n < (process_at store.old.world parent).limit }
-    requires live { (n f : ℕ) → table_at store.old.world parent n ≡ Some f → IsLive store.old.world f }
-    ensures { store.new.world ≡ record store.old.world { processes = map.insert store.old.world.processes child (process_at store.old.world parent) } }
-{
-    let mut from = Fd(0);
-    while let Some((fd, ino)) = store.procs().next_open(parent, from) {
-        store.table_in(child, fd, ino);
-        from = Fd(fd.0 + 1);
-    }
-}
-
-/// All numbers of a process are free from now on.
-fn close_all(store: &mut Store, pid: Pid)
-    ensures empty { (n : ℕ) → table_at store.new.world pid n ≡ None }
-    ensures rest { remove_process store.new.world pid ≡ remove_process store.old.world pid }
-{
-    let mut from = Fd(0);
-    while let Some((fd, _)) = store.procs().next_open(pid, from) {
-        store.table_out(pid, fd);
-        from = Fd(fd.0 + 1);
     }
 }

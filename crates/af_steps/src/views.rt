@@ -71,7 +71,8 @@ impl Engine {
         ensures least { IfSome result (λ n. (q : ℕ) → ino < q → q < n → is_live self.now.world q ≡ false) }
         ensures none { IfNone result ((q : ℕ) → ino < q → is_live self.now.world q ≡ false) }
     {
-        self.store.files().next_after(ino)
+        let next = self.store.files().next_after(ino)?;
+        Some(next.ino())
     }
 
     /// The pid that the next process gets.
@@ -99,7 +100,9 @@ impl Engine {
     pub fn file(&self, ino: Ino) -> Option<FileInfo>
         ensures { result ≡ shown_of (map.get self.now.world.files ino) }
     {
-        let Some(socket) = self.store.files().get(ino)?.socket() else {
+        let files = self.store.files();
+        let file = files.find(ino)?;
+        let Some(socket) = files.get(&file)?.socket() else {
             return Some(FileInfo::Plain);
         };
         Some(FileInfo::Socket {

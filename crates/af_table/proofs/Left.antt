@@ -4,13 +4,12 @@ use Rattle.std.specs.Prelude.{Option, Some, None, not, is_some, IfSome, IfNone, 
 use Rattle.std.specs.List.{range_with_len}
 use Rattle.std.specs.FinMap as map
 use Rattle.std.proofs.lemmas.List.{append-nil, append_assoc, take-append-le}
-use Rattle.af_base.specs.declared.limits.TheConstants.{MAX_NOFILE}
 use Rattle.af_base.specs.World.{Process}
 use Rattle.af_base.specs.Table.{free_numbers, lowest_free}
 use Rattle.af_table.specs.Bits.{is_taken}
-use Rattle.af_table.specs.Slots.{table_of, AreTaken}
+use Rattle.af_table.specs.Slots.{table_of, NoneFrom}
 use Rattle.af_table.specs.Free.{free_from}
-use Rattle.af_table.proofs.Tables.{table_at}
+use Rattle.af_table.proofs.Tables.{open_as_marked}
 
 -- those of len numbers from k on that do not pass the test
 abbrev left : ℕ → ℕ → (ℕ → Bool) → List ℕ
@@ -39,24 +38,20 @@ left_first k n m len s le e none below =
 left_none : (k len : ℕ) (s : ℕ → Bool) → ((q : ℕ) → k ≤ q → q < k + len → s q ≡ true) → left k len s ≡ []
 left_none k len s h = left_past len k len s h (omega arith) ∙ (let no : len - len ≡ 0 = omega arith in ap (λ m. left (k + len) m s) no)
 
-module _ (p : Process) (words : List ℕ) (xs : List (Option ℕ)) (e : p.table ≡ table_of xs) (marked : AreTaken words xs) where
-  open_as_marked : (q : ℕ) → q < MAX_NOFILE → map.contains_key p.table q ≡ is_taken words q
-  open_as_marked q h = ap (λ m. is_some (map.get m q)) e ∙ ap is_some (table_at xs q) ∙ sym (marked q h)
+module _ (p : Process) (words slots : List ℕ) (e : p.table ≡ table_of words slots) (m : ℕ) (len : m ≡ length slots) (none : NoneFrom m words) where
+  open_if_marked : (q : ℕ) → map.contains_key p.table q ≡ is_taken words q
+  open_if_marked q = ap (λ m. is_some (map.get m q)) e ∙ open_as_marked words slots m q len none
 
-  pub free_some : (k n : ℕ) → p.limit ≤ MAX_NOFILE → k ≤ n → n < p.limit → is_taken words n ≡ false → ((q : ℕ) → k ≤ q → q < n → is_taken words q ≡ true) → free_from k p ≡ n ∷ free_from (n + 1) p
+  pub free_some : (k n : ℕ) → k ≤ n → n < p.limit → is_taken words n ≡ false → ((q : ℕ) → k ≤ q → q < n → is_taken words q ≡ true) → free_from k p ≡ n ∷ free_from (n + 1) p
   unfolding free_from
-  free_some k n most le lt free below =
-      left_first k n (p.limit - (n + 1)) (p.limit - k) (map.contains_key p.table) le (omega arith) (open_as_marked n (omega arith) ∙ free) (λ q low high. open_as_marked q (omega arith) ∙ below q low high)
+  free_some k n le lt free below =
+      left_first k n (p.limit - (n + 1)) (p.limit - k) (map.contains_key p.table) le (omega arith) (open_if_marked n ∙ free) (λ q low high. open_if_marked q ∙ below q low high)
 
-  pub free_none_below : (k n : ℕ) → n < MAX_NOFILE → p.limit ≤ n → ((q : ℕ) → k ≤ q → q < n → is_taken words q ≡ true) → free_from k p ≡ []
+  pub free_none : (k : ℕ) → ((q : ℕ) → k ≤ q → q < p.limit → is_taken words q ≡ true) → free_from k p ≡ []
   unfolding free_from
-  free_none_below k n h le below = left_none k (p.limit - k) (map.contains_key p.table) (λ q low high. open_as_marked q (omega arith) ∙ below q low (omega arith))
+  free_none k taken = left_none k (p.limit - k) (map.contains_key p.table) (λ q low high. open_if_marked q ∙ taken q low (omega arith))
 
-  pub free_none : (k : ℕ) → p.limit ≤ MAX_NOFILE → ((q : ℕ) → k ≤ q → q < MAX_NOFILE → is_taken words q ≡ true) → free_from k p ≡ []
-  unfolding free_from
-  free_none k le taken = left_none k (p.limit - k) (map.contains_key p.table) (λ q low high. open_as_marked q (omega arith) ∙ taken q low (omega arith))
-
-pub ruleset free_changes = (free_some, free_none_below, free_none)
+pub ruleset free_changes = (free_some, free_none)
 
 pub free_all : (p : Process) → free_from 0 p ≡ free_numbers p
 unfolding free_from

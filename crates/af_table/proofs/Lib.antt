@@ -2,6 +2,7 @@ pub mod Words
 pub mod Tables
 pub mod Left
 pub mod Parts
+pub mod Places
 pub mod Spawned
 pub mod Pids
 pub mod Numbers

@@ -1,5 +1,5 @@
 -- What the parts of a hash map's entries are as maps, and what a change of the hash map does to them.
-use Rattle.std.proofs.Common.{◌≡◌, ℕ, ◌+◌, ◌<◌, ◌≤◌, List, [], ◌∷◌, length, refl, sym, ap, subst, ◌∙◌, Bool, true, false, cond, arith}
+use Rattle.std.proofs.Common.{◌≡◌, ℕ, ◌+◌, ◌≤◌, List, [], ◌∷◌, length, refl, sym, ap, subst, ◌∙◌, Bool, true, false, cond, arith}
 use Rattle.std.specs.Prelude.{Option, Some, None, is_some, unwrap_or, nat_eq}
 use Rattle.std.specs.Ordering.{nat_cmp, eq_by_cmp}
 use Rattle.std.specs.Cmp.{nat_cmp_total, unsigned_tied, nat_eq_equiv}
@@ -12,12 +12,10 @@ use Rattle.std.specs.FinMap.{nat_cmp-IsAntisymmetric, get-empty, get-insert, get
 use Rattle.std.specs.Option.{option_map, option_map_or}
 use Rattle.std.proofs.lemmas.Bool.{eqb-true}
 use Rattle.af_base.specs.World.{Map, Process}
-use Rattle.af_base.specs.Places.{number_in}
 use Rattle.af_base.specs.Changes.{change_at}
 use Rattle.af_base.specs.Listing.{keyed}
-use Rattle.af_base.proofs.Lookups.{insert-here}
 use Rattle.af_table.specs.Slots.{Roomed}
-use Rattle.af_table.specs.Procs.{Procs, processes_of, rows_of, row_in}
+use Rattle.af_table.specs.Procs.{processes_of, rows_of}
 
 -- One part of each entry, as a map.
 abbrev part_of : {X Y : Type 0} → (X → Y) → List (ℕ × X) → Map Y
@@ -158,13 +156,6 @@ module _ {S : Type 0} where
   pub process_count : (m : HashMap ℕ Roomed S) → hash.IsUnique nat_eq m → map.len (processes_of m.entries) ≡ hash.hash_map_len m
   unfolding processes_of
   process_count m h = part_of_len (λ h. h.process) m.entries h
-
--- each number of x is below the row that was made for the process k
-pub room_of : (s t : Procs) (p k : ℕ) (x : Roomed) → map.get s.processes p ≡ Some x.process → t.rows ≡ map.insert s.rows k x.row → ((n f : ℕ) → map.get x.process.table n ≡ Some f → n < x.row) → (n f : ℕ) → number_in s.processes p n ≡ Some f → n < row_in t.rows k
-room_of s t p k x there made low n f is =
-    let row = ap (λ m. unwrap_or (map.get m k) 0) made ∙ ap (λ o. unwrap_or o 0) (insert-here s.rows k x.row) in
-    let below = low n f (sym (ap (λ o. option_map_or (λ q. map.get q.table n) o None) there) ∙ is) in
-    subst (λ r. n < r) (sym row) below
 
 pub no_processes : (es : List (ℕ × Roomed)) → es ≡ [] → processes_of es ≡ map.empty
 unfolding processes_of

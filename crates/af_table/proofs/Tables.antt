@@ -1,88 +1,154 @@
--- A row of slots as a map.
-use Rattle.std.proofs.Common.{◌≡◌, ℕ, ◌+◌, ◌<◌, ◌≤◌, Bool, true, false, zero, suc, replicate, take, take_all, add-zero, zero-add, List, [], ◌∷◌, ◌++◌, length, refl, sym, ap, ◌∙◌, arith}
-use Rattle.std.specs.Prelude.{Option, Some, None, nat_eq, slice_index_or, slice_set}
+-- A row of slots under bits as a map.
+use Rattle.std.proofs.Common.{◌≡◌, ℕ, ◌+◌, ◌<◌, ◌≤◌, Bool, true, false, true≢false, cond, zero, suc, take, take_all, List, [], ◌∷◌, ◌++◌, length, refl, sym, ap, ◌∙◌, arith}
+use Rattle.std.specs.Prelude.{Option, Some, None, Result, Ok, Err, OnOk, OnErr, is_some, nat_eq, nat_lt, slice_get, slice_index_or, slice_set}
+use Rattle.std.specs.List.{AppendsResults}
 use Rattle.std.specs.Ordering.{nat_cmp}
 use Rattle.std.specs.Cmp.{nat_cmp_total}
 use Rattle.std.specs.FinMap as map
 use Rattle.std.specs.FinMap.{get-empty, same_map, nat_cmp-IsAntisymmetric}
-use Rattle.std.proofs.lemmas.Bool.{eqb-true, eqb-false}
-use Rattle.std.proofs.lemmas.List.{get_or-set_other, get_or_past}
-use Rattle.std.proofs.lemmas.Grind.{get_or-set_at}
+use Rattle.std.proofs.lemmas.Bool.{eqb-true, eqb-false, ltb-true, ltb-false}
+use Rattle.std.proofs.lemmas.Option.{slice_get-get_or}
 use Rattle.af_base.proofs.Lookups.{told_apart, insert-here, insert-other, remove-here, remove-other}
-use Rattle.af_table.specs.Slots.{table_from, table_of}
+use Rattle.af_table.specs.Bits.{is_taken}
+use Rattle.af_table.specs.Slots.{table_from, table_of, NoneFrom}
 
--- nothing stands below k
-from_below : (xs : List (Option ℕ)) (k q : ℕ) → q < k → map.get (table_from k xs) q ≡ None
-unfolding table_from
-from_below [] k q h = get-empty nat_cmp q
-from_below (None ∷ xs) k q h = from_below xs (k + 1) q (omega arith)
-from_below (Some f ∷ xs) k q h = insert-other (table_from (k + 1) xs) k f q (told_apart q k (λ e. omega arith)) ∙ from_below xs (k + 1) q (omega arith)
+-- nothing where neither has something
+neither : (b : Bool) (o : Option ℕ) → o ≡ None → cond b o None ≡ None
+neither true o e = e
+neither false o e = refl
 
-moved : (k i : ℕ) → k + suc i ≡ k + 1 + i
-moved k i = omega arith
+slice_get-set_same : (fs : List ℕ) (n f : ℕ) → n < length fs → slice_get (slice_set fs n f) n ≡ Some f
+slice_get-set_same [] n f h = absurd (omega arith)
+slice_get-set_same (x ∷ fs) zero f h = refl
+slice_get-set_same (x ∷ fs) (suc n) f h = slice_get-set_same fs n f (omega arith)
 
--- what stands at the number k + i
-from_at : (xs : List (Option ℕ)) (k i : ℕ) → map.get (table_from k xs) (k + i) ≡ slice_index_or xs i None
-unfolding table_from
-from_at [] k i = get-empty nat_cmp (k + i)
-from_at (None ∷ xs) k zero = from_below xs (k + 1) (k + 0) (omega arith)
-from_at (None ∷ xs) k (suc i) = ap (map.get (table_from (k + 1) xs)) (moved k i) ∙ from_at xs (k + 1) i
-from_at (Some f ∷ xs) k zero = ap (map.get (map.insert (table_from (k + 1) xs) k f)) (add-zero k) ∙ insert-here (table_from (k + 1) xs) k f
-from_at (Some f ∷ xs) k (suc i) =
-    insert-other (table_from (k + 1) xs) k f (k + suc i) (told_apart (k + suc i) k (λ e. omega arith)) ∙ ap (map.get (table_from (k + 1) xs)) (moved k i) ∙ from_at xs (k + 1) i
+slice_get-set_other : (fs : List ℕ) (n q f : ℕ) → (q ≡ n → ⊥) → slice_get (slice_set fs n f) q ≡ slice_get fs q
+slice_get-set_other [] n q f apart = refl
+slice_get-set_other (x ∷ fs) zero zero f apart = absurd (apart refl)
+slice_get-set_other (x ∷ fs) zero (suc q) f apart = refl
+slice_get-set_other (x ∷ fs) (suc n) zero f apart = refl
+slice_get-set_other (x ∷ fs) (suc n) (suc q) f apart = slice_get-set_other fs n q f (λ e. apart (ap suc e))
 
-pub table_at : (xs : List (Option ℕ)) (q : ℕ) → map.get (table_of xs) q ≡ slice_index_or xs q None
-unfolding table_of
-table_at xs q = ap (map.get (table_from 0 xs)) (sym (zero-add q)) ∙ from_at xs 0 q
+slice_get-take : (m : ℕ) (fs : List ℕ) (q : ℕ) → q < m → slice_get (take m fs) q ≡ slice_get fs q
+slice_get-take zero fs q h = absurd (omega arith)
+slice_get-take (suc m) [] q h = refl
+slice_get-take (suc m) (f ∷ fs) zero h = refl
+slice_get-take (suc m) (f ∷ fs) (suc q) h = slice_get-take m fs q (omega arith)
 
-pub same_table : (xs : List (Option ℕ)) (m : map.FinMap nat_cmp ℕ) → ((q : ℕ) → slice_index_or xs q None ≡ map.get m q) → table_of xs ≡ m
-same_table xs m h = same_map nat_cmp_total nat_cmp-IsAntisymmetric _ _ (λ q. table_at xs q ∙ h q)
+slice_get-append : (fs gs : List ℕ) (q : ℕ) → q < length fs → slice_get (fs ++ gs) q ≡ slice_get fs q
+slice_get-append [] gs q h = absurd (omega arith)
+slice_get-append (f ∷ fs) gs zero h = refl
+slice_get-append (f ∷ fs) gs (suc q) h = slice_get-append fs gs q (omega arith)
 
-pub installed : (xs : List (Option ℕ)) (n f : ℕ) → n < length xs → table_of (slice_set xs n (Some f)) ≡ map.insert (table_of xs) n f
-installed xs n f h = same_table _ _ (λ q. by q (nat_eq q n) refl) where
-  by : (q : ℕ) (b : Bool) → nat_eq q n ≡ b → slice_index_or (slice_set xs n (Some f)) q None ≡ map.get (map.insert (table_of xs) n f) q
-  by q true e = get_or-set_at xs n q (Some f) None (eqb-true q n e) h ∙ sym (ap (map.get (map.insert (table_of xs) n f)) (eqb-true q n e) ∙ insert-here (table_of xs) n f)
-  by q false e = get_or-set_other xs n q (Some f) None (eqb-false q n e) ∙ sym (insert-other (table_of xs) n f q e ∙ table_at xs q)
+module _ (ws : List ℕ) where
+  -- nothing stands below k
+  from_below : (fs : List ℕ) (k q : ℕ) → q < k → map.get (table_from ws k fs) q ≡ None
+  unfolding table_from
+  from_below [] k q h = get-empty nat_cmp q
+  from_below (f ∷ fs) k q h = by (is_taken ws k) (from_below fs (k + 1) q (omega arith)) where
+    by : (b : Bool) → map.get (table_from ws (k + 1) fs) q ≡ None → map.get (cond b (map.insert (table_from ws (k + 1) fs) k f) (table_from ws (k + 1) fs)) q ≡ None
+    by true rest = insert-other (table_from ws (k + 1) fs) k f q (told_apart q k (λ e. omega arith)) ∙ rest
+    by false rest = rest
 
-pub taken_out : (xs : List (Option ℕ)) (n : ℕ) → n < length xs → table_of (slice_set xs n None) ≡ map.remove (table_of xs) n
-taken_out xs n h = same_table _ _ (λ q. by q (nat_eq q n) refl) where
-  by : (q : ℕ) (b : Bool) → nat_eq q n ≡ b → slice_index_or (slice_set xs n None) q None ≡ map.get (map.remove (table_of xs) n) q
-  by q true e = get_or-set_at xs n q None None (eqb-true q n e) h ∙ sym (ap (map.get (map.remove (table_of xs) n)) (eqb-true q n e) ∙ remove-here (table_of xs) n)
-  by q false e = get_or-set_other xs n q None None (eqb-false q n e) ∙ sym (remove-other (table_of xs) n q e ∙ table_at xs q)
+  -- what stands at the number k + i
+  from_at : (fs : List ℕ) (k i q : ℕ) → q ≡ k + i → map.get (table_from ws k fs) q ≡ cond (is_taken ws q) (slice_get fs i) None
+  unfolding table_from
+  from_at [] k i q e = get-empty nat_cmp q ∙ sym (neither (is_taken ws q) None refl)
+  from_at (f ∷ fs) k zero q e =
+      let same : q ≡ k = omega arith in
+      ap (map.get (table_from ws k (f ∷ fs))) same ∙ by (is_taken ws k) (from_below fs (k + 1) k (omega arith)) ∙ ap (λ n. cond (is_taken ws n) (Some f) None) (sym same) where
+        by : (b : Bool) → map.get (table_from ws (k + 1) fs) k ≡ None → map.get (cond b (map.insert (table_from ws (k + 1) fs) k f) (table_from ws (k + 1) fs)) k ≡ cond b (Some f) None
+        by true rest = insert-here (table_from ws (k + 1) fs) k f
+        by false rest = rest
+  from_at (f ∷ fs) k (suc i) q e = by (is_taken ws k) ∙ from_at fs (k + 1) i q (omega arith) where
+    by : (b : Bool) → map.get (cond b (map.insert (table_from ws (k + 1) fs) k f) (table_from ws (k + 1) fs)) q ≡ map.get (table_from ws (k + 1) fs) q
+    by true = insert-other (table_from ws (k + 1) fs) k f q (told_apart q k (λ same. omega arith))
+    by false = refl
 
--- past the row there is nothing to take out
-pub none_beyond : (xs : List (Option ℕ)) (n : ℕ) → length xs ≤ n → table_of xs ≡ map.remove (table_of xs) n
-none_beyond xs n h = same_table _ _ (λ q. by q (nat_eq q n) refl) where
-  by : (q : ℕ) (b : Bool) → nat_eq q n ≡ b → slice_index_or xs q None ≡ map.get (map.remove (table_of xs) n) q
-  by q true e = get_or_past xs q None (let same = eqb-true q n e in omega arith) ∙ sym (ap (map.get (map.remove (table_of xs) n)) (eqb-true q n e) ∙ remove-here (table_of xs) n)
-  by q false e = sym (remove-other (table_of xs) n q e ∙ table_at xs q)
+  pub table_at : (fs : List ℕ) (q : ℕ) → map.get (table_of ws fs) q ≡ cond (is_taken ws q) (slice_get fs q) None
+  unfolding table_of
+  table_at fs q = from_at fs 0 q q (omega arith)
 
-nothing : (m q : ℕ) → slice_index_or {A = Option ℕ} (replicate m None) q None ≡ None
-nothing zero q = refl
-nothing (suc m) zero = refl
-nothing (suc m) (suc q) = nothing m q
+  same_table : (fs : List ℕ) (m : map.FinMap nat_cmp ℕ) → ((q : ℕ) → cond (is_taken ws q) (slice_get fs q) None ≡ map.get m q) → table_of ws fs ≡ m
+  same_table fs m h = same_map nat_cmp_total nat_cmp-IsAntisymmetric _ _ (λ q. table_at fs q ∙ h q)
 
--- empty slots more change no look-up
-grown_at : (xs : List (Option ℕ)) (m q : ℕ) → slice_index_or (xs ++ replicate m None) q None ≡ slice_index_or xs q None
-grown_at [] m q = nothing m q
-grown_at (x ∷ xs) m zero = refl
-grown_at (x ∷ xs) m (suc q) = grown_at xs m q
+  -- a number whose bit is clear stands for nothing
+  pub table_clear : (fs : List ℕ) (q : ℕ) → is_taken ws q ≡ false → map.get (table_of ws fs) q ≡ None
+  table_clear fs q none = table_at fs q ∙ ap (λ b. cond b (slice_get fs q) None) none
 
-pub grown : (xs : List (Option ℕ)) (m : ℕ) → table_of (xs ++ replicate m None) ≡ table_of xs
-grown xs m = same_table _ _ (λ q. grown_at xs m q ∙ sym (table_at xs q))
+  -- and one whose bit is set for what its slot has
+  pub table_set : (fs : List ℕ) (q d : ℕ) → is_taken ws q ≡ true → q < length fs → map.get (table_of ws fs) q ≡ Some (slice_index_or fs q d)
+  table_set fs q d some h = table_at fs q ∙ ap (λ b. cond b (slice_get fs q) None) some ∙ slice_get-get_or fs q d h
 
-pub resized : (xs ys : List (Option ℕ)) (n m : ℕ) → length xs ≤ n → ys ≡ take n xs ++ replicate m None → table_of ys ≡ table_of xs
-resized xs ys n m h e = ap table_of (e ∙ ap (λ l. l ++ replicate m None) (take_all n xs h)) ∙ grown xs m
+  -- a bit is set below the row alone
+  pub taken_low : (n q : ℕ) → NoneFrom n ws → is_taken ws q ≡ true → q < n
+  taken_low n q none some = by (nat_lt q n) refl where
+    by : (b : Bool) → nat_lt q n ≡ b → q < n
+    by true e = ltb-true q n e
+    by false e = absurd (true≢false (sym some ∙ none q (ltb-false q n e)))
 
-pub no_slots : (xs : List (Option ℕ)) → xs ≡ [] → table_of xs ≡ map.empty
-no_slots xs e = same_table xs map.empty (λ q. ap (λ l. slice_index_or l q None) e ∙ sym (get-empty nat_cmp q))
+  -- which numbers stand for something
+  pub open_as_marked : (fs : List ℕ) (n q : ℕ) → n ≡ length fs → NoneFrom n ws → map.contains_key (table_of ws fs) q ≡ is_taken ws q
+  open_as_marked fs n q len none = by (is_taken ws q) refl where
+    by : (b : Bool) → is_taken ws q ≡ b → is_some (map.get (table_of ws fs) q) ≡ b
+    by true e = ap is_some (table_set fs q 0 e (let low = taken_low n q none e in omega arith))
+    by false e = ap is_some (table_clear fs q e)
 
--- a row of empty slots
-pub no_files : (n : ℕ) → table_of (replicate n None) ≡ map.empty
-no_files n = same_table _ map.empty (λ q. nothing n q ∙ sym (get-empty nat_cmp q))
+  -- a number that stands for nothing is taken out already
+  pub none_there : (fs : List ℕ) (n : ℕ) → map.get (table_of ws fs) n ≡ None → table_of ws fs ≡ map.remove (table_of ws fs) n
+  none_there fs n none = same_map nat_cmp_total nat_cmp-IsAntisymmetric _ _ (λ q. by q (nat_eq q n) refl) where
+    by : (q : ℕ) (b : Bool) → nat_eq q n ≡ b → map.get (table_of ws fs) q ≡ map.get (map.remove (table_of ws fs) n) q
+    by q true e = ap (map.get (table_of ws fs)) (eqb-true q n e) ∙ none ∙ sym (ap (map.get (map.remove (table_of ws fs) n)) (eqb-true q n e) ∙ remove-here (table_of ws fs) n)
+    by q false e = sym (remove-other (table_of ws fs) n q e)
 
--- nothing stands past the row
-pub none_past : (xs : List (Option ℕ)) (n : ℕ) → length xs ≤ n → None ≡ map.get (table_of xs) n
-none_past xs n h = sym (table_at xs n ∙ get_or_past xs n None h)
+  -- slots from n on say nothing where no bit is set from n on
+  pub same_below : (fs gs : List ℕ) (n : ℕ) → NoneFrom n ws → ((q : ℕ) → q < n → slice_get gs q ≡ slice_get fs q) → table_of ws gs ≡ table_of ws fs
+  same_below fs gs n none same = same_table gs _ (λ q. by q (nat_lt q n) refl ∙ sym (table_at fs q)) where
+    by : (q : ℕ) (b : Bool) → nat_lt q n ≡ b → cond (is_taken ws q) (slice_get gs q) None ≡ cond (is_taken ws q) (slice_get fs q) None
+    by q true e = ap (λ o. cond (is_taken ws q) o None) (same q (ltb-true q n e))
+    by q false e = ap (λ b. cond b (slice_get gs q) None) (none q (ltb-false q n e)) ∙ sym (ap (λ b. cond b (slice_get fs q) None) (none q (ltb-false q n e)))
 
-pub ruleset table_changes = (table_at, installed, taken_out, none_beyond, none_past, resized, no_slots, no_files)
+  -- more slots
+  pub resized : (fs gs more : List ℕ) (m n : ℕ) → m ≡ length fs → NoneFrom m ws → m ≤ n → gs ≡ take n fs ++ more → table_of ws gs ≡ table_of ws fs
+  resized fs gs more m n len none le e =
+      same_below fs gs m none (λ q low. ap (λ l. slice_get l q) (e ∙ ap (λ l. l ++ more) (take_all n fs (omega arith))) ∙ slice_get-append fs more q (omega arith))
+
+  -- as many more as there was memory for
+  pub filled : {F E : Type 0} (step : F → ℕ → F → Type 0) (f : F) (fs gs : List ℕ) (m n : ℕ) (r : Result (Unit {0}) E) → m ≡ length fs → NoneFrom m ws → m ≤ n
+      → OnOk r (AppendsResults step (take n fs) gs f) → OnErr r (gs ≡ fs) → table_of ws gs ≡ table_of ws fs
+  filled step f fs gs m n (Ok u) len none le ok err = resized fs gs ok.0 m n len none le ok.2
+  filled step f fs gs m n (Err e) len none le ok err = ap (table_of ws) err
+
+  -- fewer
+  pub cut : (fs gs : List ℕ) (n : ℕ) → NoneFrom n ws → gs ≡ take n fs → table_of ws gs ≡ table_of ws fs
+  cut fs gs n none e = same_below fs gs n none (λ q low. ap (λ l. slice_get l q) e ∙ slice_get-take n fs q low)
+
+  -- none
+  pub no_slots : (fs : List ℕ) → fs ≡ [] → table_of ws fs ≡ map.empty
+  no_slots fs e = same_table fs map.empty (λ q. ap (λ l. cond (is_taken ws q) (slice_get l q) None) e ∙ neither (is_taken ws q) None refl ∙ sym (get-empty nat_cmp q))
+
+-- a number taken into use
+pub installed : (ws vs fs : List ℕ) (n f : ℕ) → n < length fs → ((q : ℕ) → is_taken vs q ≡ cond (nat_eq q n) true (is_taken ws q)) → table_of vs (slice_set fs n f) ≡ map.insert (table_of ws fs) n f
+installed ws vs fs n f h bits = same_table vs _ _ (λ q. by q (nat_eq q n) refl) where
+  by : (q : ℕ) (b : Bool) → nat_eq q n ≡ b → cond (is_taken vs q) (slice_get (slice_set fs n f) q) None ≡ map.get (map.insert (table_of ws fs) n f) q
+  by q true e =
+      let marked : is_taken vs q ≡ true = bits q ∙ ap (λ b. cond b true (is_taken ws q)) e in
+      let same = eqb-true q n e in
+      ap (λ b. cond b (slice_get (slice_set fs n f) q) None) marked ∙ ap (slice_get (slice_set fs n f)) same ∙ slice_get-set_same fs n f h
+      ∙ sym (ap (map.get (map.insert (table_of ws fs) n f)) same ∙ insert-here (table_of ws fs) n f)
+  by q false e =
+      let kept : is_taken vs q ≡ is_taken ws q = bits q ∙ ap (λ b. cond b true (is_taken ws q)) e in
+      ap (λ b. cond b (slice_get (slice_set fs n f) q) None) kept ∙ ap (λ o. cond (is_taken ws q) o None) (slice_get-set_other fs n q f (eqb-false q n e)) ∙ sym (insert-other (table_of ws fs) n f q e ∙ table_at ws fs q)
+
+-- and out of it
+pub taken_out : (ws vs fs : List ℕ) (n : ℕ) → ((q : ℕ) → is_taken vs q ≡ cond (nat_eq q n) false (is_taken ws q)) → table_of vs fs ≡ map.remove (table_of ws fs) n
+taken_out ws vs fs n bits = same_table vs _ _ (λ q. by q (nat_eq q n) refl) where
+  by : (q : ℕ) (b : Bool) → nat_eq q n ≡ b → cond (is_taken vs q) (slice_get fs q) None ≡ map.get (map.remove (table_of ws fs) n) q
+  by q true e =
+      let clear : is_taken vs q ≡ false = bits q ∙ ap (λ b. cond b false (is_taken ws q)) e in
+      ap (λ b. cond b (slice_get fs q) None) clear ∙ sym (ap (map.get (map.remove (table_of ws fs) n)) (eqb-true q n e) ∙ remove-here (table_of ws fs) n)
+  by q false e =
+      let kept : is_taken vs q ≡ is_taken ws q = bits q ∙ ap (λ b. cond b false (is_taken ws q)) e in
+      ap (λ b. cond b (slice_get fs q) None) kept ∙ sym (remove-other (table_of ws fs) n q e ∙ table_at ws fs q)
+
+pub ruleset table_changes = (table_clear, table_set, taken_low, installed, taken_out, none_there, resized, cut, no_slots)

@@ -1,12 +1,12 @@
 -- What setting, clearing and finding a bit does to bits in words of 64.
-use Rattle.std.proofs.Common.{◌≡◌, ◌≢◌, ℕ, ◌-◌, ◌*◌, ◌/◌, ◌%◌, ◌^◌, ◌<◌, ◌≤◌, zero, suc, min, Bool, true, false, cond, List, length, refl, sym, ap, subst, ◌∙◌, arith, bit_and, bit_or, w64}
+use Rattle.std.proofs.Common.{◌≡◌, ◌≢◌, ℕ, ◌+◌, ◌-◌, ◌*◌, ◌/◌, ◌%◌, ◌^◌, ◌<◌, ◌≤◌, zero, suc, min, Bool, true, false, cond, List, length, refl, sym, ap, subst, ◌∙◌, arith, bit_and, bit_or, w64}
 use Rattle.std.specs.Prelude.{Option, Some, None, IfSome, nat_eq, nat_lt, not, slice_index, slice_index_or, slice_set}
-use Rattle.std.specs.Int.{bit_at, trailing_zeros}
+use Rattle.std.specs.Int.{bit_at, trailing_zeros, leading_zeros}
 use Rattle.std.proofs.lemmas.Bool.{eqb-true, eqb-false, ltb-true, ltb-false}
-use Rattle.std.proofs.lemmas.List.{get_or-set_same, get_or-set_other}
+use Rattle.std.proofs.lemmas.List.{get_or-set_same, get_or-set_other, get_or_past}
 use Rattle.std.proofs.lemmas.Grind.{get_or-set_at}
-use Rattle.std.proofs.lemmas.Nat.{and_le_l}
-use Rattle.std.proofs.lemmas.Nat.Bits.{bit_at-zero, bit_at-lt, bit_at_and, bit_at_not, bit_at_set_same, bit_at_set_other, bit_at_clear_same, bit_at_clear_other, bit_at-trailing_zeros, bit_at_mask_inside, bit_at_mask_below, ones_shl}
+use Rattle.std.proofs.lemmas.Nat.{and_le_l, leading_length}
+use Rattle.std.proofs.lemmas.Nat.Bits.{bit_at-zero, bit_at-lt, bit_at_and, bit_at_not, bit_at_set_same, bit_at_set_other, bit_at_clear_same, bit_at_clear_other, bit_at-trailing_zeros, bit_at_mask_inside, bit_at_mask_below, bit_at_above, ones_shl}
 use Rattle.af_base.specs.declared.limits.TheConstants.{MAX_NOFILE}
 use Rattle.af_table.specs.Bits.{is_set, is_taken, IsPlace, HasNoPlace}
 
@@ -111,5 +111,35 @@ places_of_not word k b (Some n) e fits h = subst (λ r. IsPlace word k r n) (sym
 
 pub no_place_of_not : (word k : ℕ) → word < 2 ^ 64 → HasNoPlace (18446744073709551615 - word) k true → HasNoPlace word k false
 no_place_of_not word k fits h = λ q le lt. sym (twice (is_set word q)) ∙ ap not (sym (set_of_not word q fits lt) ∙ h q le lt)
+
+-- a number below 2 ^ m has no bit from m on
+word_end : (word m q : ℕ) → word < 2 ^ m → m ≤ q → is_set word q ≡ false
+word_end word m q fits le = same_bit (bit_at word q) 0 (bit_at_above word m q fits le)
+
+-- nothing is taken behind the highest bit of the last word that is not 0
+pub none_behind : (ws : List ℕ) (i q : ℕ) → slice_index ws i < 2 ^ 64 → ((r : ℕ) → 64 * (i + 1) ≤ r → is_taken ws r ≡ false) → 64 * (i + 1) - leading_zeros w64 (slice_index ws i) ≤ q → is_taken ws q ≡ false
+none_behind ws i q fits above le =
+    let l = leading_length 64 (slice_index ws i) fits in
+    by l.0 l.1 l.2 (nat_lt q (64 * (i + 1))) refl where
+      by : (m : ℕ) → leading_zeros w64 (slice_index ws i) + m ≡ 64 → slice_index ws i < 2 ^ m → (b : Bool) → nat_lt q (64 * (i + 1)) ≡ b → is_taken ws q ≡ false
+      by m total low true e =
+          let h : q < 64 * (i + 1) = ltb-true q (64 * (i + 1)) e in
+          let word : q / 64 ≡ i = omega arith in
+          ap (λ j. is_set (slice_index ws j) (q % 64)) word ∙ word_end (slice_index ws i) m (q % 64) low (omega arith)
+      by m total low false e = above q (omega (arith, ltb-false q (64 * (i + 1)) e))
+
+-- nor in a word that is 0
+pub none_in_zero : (ws : List ℕ) (i q : ℕ) → slice_index ws i ≡ 0 → ((r : ℕ) → 64 * (i + 1) ≤ r → is_taken ws r ≡ false) → 64 * i ≤ q → is_taken ws q ≡ false
+none_in_zero ws i q empty above le = by (nat_lt q (64 * (i + 1))) refl where
+  by : (b : Bool) → nat_lt q (64 * (i + 1)) ≡ b → is_taken ws q ≡ false
+  by true e =
+      let h : q < 64 * (i + 1) = ltb-true q (64 * (i + 1)) e in
+      let word : q / 64 ≡ i = omega arith in
+      ap (λ j. is_set (slice_index ws j) (q % 64)) word ∙ same_bit _ 0 (ap (λ w. bit_at w (q % 64)) empty ∙ bit_at-zero (q % 64))
+  by false e = above q (omega (arith, ltb-false q (64 * (i + 1)) e))
+
+-- nor behind the words
+pub none_past : (ws : List ℕ) (q : ℕ) → length ws ≤ q / 64 → is_taken ws q ≡ false
+none_past ws q h = same_bit _ 0 (ap (λ w. bit_at w (q % 64)) (get_or_past ws (q / 64) 0 h) ∙ bit_at-zero (q % 64))
 
 pub ruleset places = (place_found, place_none, places_of_not, no_place_of_not)

@@ -20,10 +20,6 @@ row_in rows p = unwrap_or (map.get rows p) 0
 abbrev pub started : ℕ → ℕ → Bool → Process
 started user limit privileged = record { user = user; limit = limit; privileged = privileged; table = map.empty }
 
--- A process with an empty table: a child that has no number of its parent yet (this project's profile).
-abbrev pub with_empty_table : Process → Process
-with_empty_table q = record q { table = map.empty }
-
 -- The processes of entries (this project's profile).
 unfoldable pub processes_of : List (ℕ × Roomed) → Map Process
 processes_of es = keyed (λ e. e.0) (λ e. e.1.process) es

@@ -16,46 +16,75 @@ pub struct Bits {
 impl Bits {
     /// No number is taken.
     pub fn new() -> Bits
-        ensures { (q : ℕ) → q < MAX_NOFILE → is_taken result.words q ≡ false }
+        ensures { (q : ℕ) → is_taken result.words q ≡ false }
     {
         Bits { words: [0; WORDS] }
     }
 
+    /// Whether the number is taken. None beyond the largest limit is.
+    #[inline]
+    pub fn has(&self, n: u32) -> bool
+        ensures { result ≡ is_taken self.now.words n }
+    {
+        let i = (n / u64::BITS) as usize;
+        i < WORDS && (self.words[i] >> (n % u64::BITS)) % 2 == 1
+    }
+
     /// The number is taken from now on.
+    #[inline]
     pub fn set(&mut self, n: u32)
         requires { n < MAX_NOFILE }
-        ensures { (q : ℕ) → q < MAX_NOFILE → is_taken self.new.words q ≡ (if nat_eq q n then true else is_taken self.old.words q) }
+        ensures { (q : ℕ) → is_taken self.new.words q ≡ (if nat_eq q n then true else is_taken self.old.words q) }
     {
         self.words[(n / u64::BITS) as usize] |= 1 << (n % u64::BITS);
     }
 
     /// The number is free from now on.
+    #[inline]
     pub fn clear(&mut self, n: u32)
         requires { n < MAX_NOFILE }
-        ensures { (q : ℕ) → q < MAX_NOFILE → is_taken self.new.words q ≡ (if nat_eq q n then false else is_taken self.old.words q) }
+        ensures { (q : ℕ) → is_taken self.new.words q ≡ (if nat_eq q n then false else is_taken self.old.words q) }
     {
         self.words[(n / u64::BITS) as usize] &= !(1 << (n % u64::BITS));
     }
 
-    /// The least number from this one on that is taken, or that is free. It looks at each word once.
-    pub fn next(&self, from: u32, taken: bool) -> Option<u32>
+    /// The least number from `from` on and below `end` that is taken, or that is free. It looks at
+    /// each word once, and at none beyond.
+    #[inline]
+    pub fn next(&self, from: u32, end: u32, taken: bool) -> Option<u32>
+        requires { end ≤ MAX_NOFILE }
         ensures found { IfSome result (λ n. is_taken self.now.words n ≡ taken) }
-        ensures low { IfSome result (λ n. n < MAX_NOFILE) }
+        ensures low { IfSome result (λ n. n < end) }
         ensures reached { IfSome result (λ n. from ≤ n) }
         ensures least { IfSome result (λ n. (q : ℕ) → from ≤ q → q < n → is_taken self.now.words q ≡ not taken) }
-        ensures none { IfNone result ((q : ℕ) → from ≤ q → q < MAX_NOFILE → is_taken self.now.words q ≡ not taken) }
+        ensures none { IfNone result ((q : ℕ) → from ≤ q → q < end → is_taken self.now.words q ≡ not taken) }
     {
-        for i in from / u64::BITS..WORDS as u32 {
+        for i in from / u64::BITS..end.div_ceil(u64::BITS) {
             let word = self.words[i as usize];
             if let Some(bit) = place_from(word, from.saturating_sub(u64::BITS * i), taken) {
-                return Some(u64::BITS * i + bit);
+                let n = u64::BITS * i + bit;
+                return if n < end { Some(n) } else { None };
             }
         }
         None
     }
+
+    /// A number behind all that are taken: behind the last one, and 0 where none is.
+    pub fn end(&self) -> u32
+        ensures { (q : ℕ) → result ≤ q → is_taken self.now.words q ≡ false }
+    {
+        for i in (0..WORDS as u32).rev() {
+            let word = self.words[i as usize];
+            if word != 0 {
+                return u64::BITS * (i + 1) - word.leading_zeros();
+            }
+        }
+        0
+    }
 }
 
 /// The least place of a word from this one on whose bit is as wanted.
+#[inline]
 #[tactic(auto, using(crate::proofs::Words::places))]
 fn place_from(word: u64, from: u32, set: bool) -> Option<u32>
     requires { from < 64 }
@@ -69,6 +98,7 @@ fn place_from(word: u64, from: u32, set: bool) -> Option<u32>
 }
 
 /// The least place of a word from this one on whose bit is set.
+#[inline]
 #[tactic(auto, using(crate::proofs::Words::places))]
 fn set_place_from(word: u64, from: u32) -> Option<u32>
     requires { from < 64 }

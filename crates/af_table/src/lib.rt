@@ -2,6 +2,7 @@
 #![tactic(auto)]
 
 mod bits;
+mod hints;
 mod listed;
 mod process;
 mod procs;

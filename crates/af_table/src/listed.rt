@@ -23,8 +23,9 @@ impl Process {
     {
         let mut numbers = Vec::new(alloc);
         for (number, slot) in self.slots.iter().enumerate() {
-            if let Some(ino) = *slot {
-                let fd = Fd(number as u32);
+            let fd = Fd(number as u32);
+            if self.taken.has(fd.0) {
+                let ino = slot.ino();
                 numbers.push(ListedNumber { fd, ino })?;
             }
         }

@@ -4,23 +4,23 @@ ghost use Rattle.std.specs.FinMap as map;
 ghost use Rattle.af_base.specs.Changes.{installed, taken_out};
 ghost use Rattle.af_base.specs.Table.{free_numbers, lowest_free};
 ghost use Rattle.af_table.specs.Free.{free_from};
-ghost use Rattle.af_table.specs.Procs.{with_empty_table};
 
 use crate::bits::Bits;
 use af_base::limits::MAX_NOFILE;
-use af_base::names::{Fd, Ino, Uid};
+use af_base::names::{Fd, FileRef, Ino, Uid};
 use std::alloc::{AllocError, Global};
 use std::marker::Model;
 
-/// A process: slot n of its table says what number n stands for, and bit n whether it is open.
-/// The slots grow by `make_room` alone, so a number is taken into use without memory.
+/// A process: bit n says whether number n is open, and slot n what it stands for where it is. What
+/// the slot of a free number has says nothing. The slots grow by `make_room` alone, so a number is
+/// taken into use without memory.
 #[derive(Drop)]
 pub struct Process {
     user: Uid,
     limit: u32,
     privileged: bool,
-    pub(crate) slots: Vec<Option<Ino>>,
-    taken: Bits,
+    pub(crate) slots: Vec<FileRef>,
+    pub(crate) taken: Bits,
 }
 
 impl Model for Process {
@@ -28,15 +28,15 @@ impl Model for Process {
     ghost use Rattle.std.specs.FinMap as map;
     ghost use Rattle.std.specs.Coded.{codes};
     ghost use Rattle.af_base.specs.declared.limits.TheConstants.{MAX_NOFILE};
-    ghost use Rattle.af_table.specs.Slots.{Roomed, table_of, AreTaken};
+    ghost use Rattle.af_table.specs.Slots.{Roomed, table_of, NoneFrom};
 
     ghost Value = { Roomed };
 
     ghost coded = { Prim.hlevel (codes, map.code) };
 
-    ghost view = { λ a. record { process = record { user = a.user; limit = a.limit; privileged = a.privileged; table = table_of a.slots.items }; row = vec_len a.slots } };
+    ghost view = { λ a. record { process = record { user = a.user; limit = a.limit; privileged = a.privileged; table = table_of a.taken.words a.slots.items }; row = vec_len a.slots } };
 
-    ghost invariant = { λ a. (vec_len a.slots ≤ MAX_NOFILE) × (a.limit ≤ MAX_NOFILE) × AreTaken a.taken.words a.slots.items };
+    ghost invariant = { λ a. (vec_len a.slots ≤ MAX_NOFILE) × (a.limit ≤ MAX_NOFILE) × NoneFrom (vec_len a.slots) a.taken.words };
 }
 
 impl Process {
@@ -55,20 +55,18 @@ impl Process {
         }
     }
 
-    /// A process of the same user, with the same limit and privilege. Its table is empty, and has
-    /// as much room.
+    /// The same process once more, with all that is open. Its slots end behind its last open number.
     #[tactic(auto, using(crate::proofs::Tables::table_changes))]
-    pub(crate) fn child(&self, alloc: Global) -> Result<Process, AllocError>
-        ensures child { IfOk result (λ p. p ≡ record { process = with_empty_table self.now.process; row = self.now.row }) }
-        ensures room { (n f : ℕ) → map.get self.now.process.table n ≡ Some f → n < self.now.row }
+    pub(crate) fn copy(&self, alloc: Global) -> Result<Process, AllocError>
+        ensures { IfOk result (λ p. p.process ≡ self.now.process) }
     {
-        let slots = vec![in alloc; None; self.slots.len()]?;
+        let used = self.slots.len().min(self.taken.end() as usize);
         Ok(Process {
             user: self.user,
             limit: self.limit,
             privileged: self.privileged,
-            slots,
-            taken: Bits::new(),
+            slots: copied(alloc, &self.slots[..used])?,
+            taken: self.taken,
         })
     }
 
@@ -95,11 +93,15 @@ impl Process {
     }
 
     /// What the number stands for; nothing where it is free.
+    #[inline]
     #[tactic(auto, using(crate::proofs::Tables::table_changes))]
-    pub fn lookup(&self, fd: Fd) -> Option<Ino>
+    pub fn lookup(&self, fd: Fd) -> Option<FileRef>
         ensures { result ≡ map.get self.now.process.table fd }
     {
-        self.slots.get(fd.0 as usize).copied().flatten()
+        if !self.taken.has(fd.0) {
+            return None;
+        }
+        Some(self.slots[fd.0 as usize].again())
     }
 
     /// Room for each number below the limit, and for none beyond that had none.
@@ -116,33 +118,30 @@ impl Process {
         if self.slots.len() >= limit {
             return Ok(());
         }
-        self.slots.resize(limit, None)
+        self.slots.resize_with(limit, || FileRef::new(Ino(0), 0))
     }
 
     /// The number, for which there is room, stands for the file from now on.
+    #[inline]
     #[tactic(auto, using(crate::proofs::Tables::table_changes))]
-    pub(crate) fn install(&mut self, fd: Fd, ino: Ino)
+    pub(crate) fn install(&mut self, fd: Fd, file: FileRef)
         requires { fd < self.old.row }
-        ensures { self.new ≡ record self.old { process = installed fd ino self.old.process } }
+        ensures { self.new ≡ record self.old { process = installed fd file self.old.process } }
     {
-        self.slots[fd.0 as usize] = Some(ino);
+        self.slots[fd.0 as usize] = file;
         self.taken.set(fd.0);
     }
 
     /// The number is free from now on. It answers what the number stood for.
+    #[inline]
     #[tactic(auto, using(crate::proofs::Tables::table_changes))]
-    pub(crate) fn take_out(&mut self, fd: Fd) -> Option<Ino>
+    pub(crate) fn take_out(&mut self, fd: Fd) -> Option<FileRef>
         ensures value { result ≡ map.get self.old.process.table fd }
         ensures taken { self.new ≡ record self.old { process = taken_out fd self.old.process } }
     {
-        let slot = fd.0 as usize;
-        if slot >= self.slots.len() {
-            return None;
-        }
-        let was = self.slots[slot];
-        self.slots[slot] = None;
+        let was = self.lookup(fd)?;
         self.taken.clear(fd.0);
-        was
+        Some(was)
     }
 
     /// The least free number from this one on: the head of those that are left.
@@ -152,10 +151,7 @@ impl Process {
         ensures none { IfNone result (free_from from self.now.process ≡ []) }
         ensures low { IfSome result (λ n. n < MAX_NOFILE) }
     {
-        let n = self.taken.next(from, false)?;
-        if n >= self.limit {
-            return None;
-        }
+        let n = self.taken.next(from, self.limit, false)?;
         Some(Fd(n))
     }
 
@@ -199,16 +195,28 @@ impl Process {
 
     /// The least open number from this one on, with what it stands for, if there is one. To walk over
     /// all, go on behind each.
+    #[inline]
     #[tactic(auto, using(crate::proofs::Tables::table_changes))]
-    pub fn next_open(&self, from: Fd) -> Option<(Fd, Ino)>
+    pub fn next_open(&self, from: Fd) -> Option<(Fd, FileRef)>
         ensures open { IfSome result (λ e. map.get self.now.process.table e.0 ≡ Some e.1) }
         ensures low { IfSome result (λ e. e.0 < MAX_NOFILE) }
         ensures reached { IfSome result (λ e. from ≤ e.0) }
         ensures least { IfSome result (λ e. (q : ℕ) → from ≤ q → q < e.0 → map.get self.now.process.table q ≡ None) }
         ensures none { IfNone result ((q : ℕ) → from ≤ q → map.get self.now.process.table q ≡ None) }
     {
-        let n = self.taken.next(from.0, true)?;
-        let ino = self.lookup(Fd(n))?;
-        Some((Fd(n), ino))
+        let n = self.taken.next(from.0, self.slots.len() as u32, true)?;
+        let file = self.slots[n as usize].again();
+        Some((Fd(n), file))
     }
+}
+
+/// The files once more, in a list that is as long and no longer.
+fn copied(alloc: Global, files: &[FileRef]) -> Result<Vec<FileRef>, AllocError>
+    ensures { IfOk result (λ copies. copies.items ≡ files.now) }
+{
+    let mut copies = Vec::with_capacity(alloc, files.len())?;
+    for file in files {
+        copies.push_reserved(file.again());
+    }
+    Ok(copies)
 }

@@ -5,11 +5,12 @@ ghost use Rattle.af_base.specs.Changes.{change_at, installed, taken_out};
 ghost use Rattle.af_base.specs.Places.{number_in};
 ghost use Rattle.af_base.specs.Refusals.{process_in};
 ghost use Rattle.af_base.specs.Table.{free_numbers, lowest_free};
-ghost use Rattle.af_table.specs.Procs.{row_in, started, with_empty_table};
+ghost use Rattle.af_table.specs.Procs.{row_in, started};
 
+use crate::hints::Hints;
 use crate::process::Process;
 use af_base::limits::{MAX_NOFILE, MAX_PID};
-use af_base::names::{Fd, Ino, Pid, Uid};
+use af_base::names::{Fd, FileRef, Pid, Uid};
 use indexmap::IndexMap;
 use std::alloc::{AllocError, Global};
 use std::marker::Model;
@@ -26,6 +27,7 @@ pub struct Who {
 #[derive(Drop)]
 pub struct Procs {
     pub(crate) processes: IndexMap<Pid, Process>,
+    hints: Hints,
     next_pid: u32,
     pub(crate) alloc: Global,
 }
@@ -54,6 +56,7 @@ impl Procs {
     {
         Procs {
             processes: IndexMap::new(alloc),
+            hints: Hints::new(),
             next_pid: 1,
             alloc,
         }
@@ -75,13 +78,16 @@ impl Procs {
     }
 
     /// The process of that pid; nothing of a stranger.
+    #[inline]
     #[tactic(auto, using(crate::proofs::Parts::part_changes))]
     pub fn find(&self, pid: Pid) -> Option<&Process>
         ensures there { IfSome result (λ p. map.get self.now.processes pid ≡ Some p.now.process) }
         ensures row { IfSome result (λ p. map.get self.now.rows pid ≡ Some p.now.row) }
         ensures none { IfNone result (map.get self.now.processes pid ≡ None) }
     {
-        self.processes.get(&pid)
+        let index = self.hints.place(&self.processes, pid)?;
+        let (_, process) = self.processes.get_index(index).unwrap();
+        Some(process)
     }
 
     /// Whose the process is, its limit, and whether it is privileged; nothing of a stranger.
@@ -103,7 +109,7 @@ impl Procs {
 
     /// What the number of the process stands for: nothing where it is free, or there is no such
     /// process.
-    pub fn lookup(&self, pid: Pid, fd: Fd) -> Option<Ino>
+    pub fn lookup(&self, pid: Pid, fd: Fd) -> Option<FileRef>
         ensures { result ≡ number_in self.now.processes pid fd }
     {
         self.find(pid)?.lookup(fd)
@@ -140,7 +146,7 @@ impl Procs {
 
     /// The least open number of the process from this one on, with what it stands for, if there is
     /// one; a stranger has none. To walk over all, go on behind each.
-    pub fn next_open(&self, pid: Pid, from: Fd) -> Option<(Fd, Ino)>
+    pub fn next_open(&self, pid: Pid, from: Fd) -> Option<(Fd, FileRef)>
         ensures open { IfSome result (λ e. number_in self.now.processes pid e.0 ≡ Some e.1) }
         ensures low { IfSome result (λ e. e.0 < MAX_NOFILE) }
         ensures reached { IfSome result (λ e. from ≤ e.0) }
@@ -166,7 +172,7 @@ impl Procs {
 
     /// The process gets the next pid. There is room for it.
     #[tactic(auto, using(crate::proofs::Parts::part_changes))]
-    fn add(&mut self, process: Process) -> Pid
+    pub fn add(&mut self, process: Process) -> Pid
         requires room { 0 < self.old.room }
         requires next { self.old.next_pid ≤ MAX_PID }
         ensures pid { result ≡ self.old.next_pid }
@@ -175,8 +181,9 @@ impl Procs {
         ensures rows { self.new.rows ≡ map.insert self.old.rows self.old.next_pid process.row }
         ensures room { self.old.room ≤ self.new.room + 1 }
     {
-        let pid = self.next_pid();
+        let (pid, index) = (self.next_pid(), self.count());
         self.next_pid += 1;
+        self.hints.note(pid, index);
         self.processes.insert(pid, process).unwrap();
         pid
     }
@@ -197,24 +204,20 @@ impl Procs {
         self.add(process)
     }
 
-    /// A process more, for a fork: of the same user, with the same limit and privilege. Its table
-    /// is empty, with as much room as that of its parent, so that each number of the parent can be
-    /// installed in it. On an error nothing has changed, but that there may be room for more
-    /// processes.
-    pub fn copy_for_fork(&mut self, pid: Pid) -> Result<Pid, AllocError>
-        requires there { IsTrue (map.contains_key self.old.processes pid) }
-        requires next { self.old.next_pid ≤ MAX_PID }
-        ensures pid { IfOk result (λ child. child ≡ self.old.next_pid) }
-        ensures next { OnOk result (self.new.next_pid ≡ self.old.next_pid + 1) }
-        ensures processes { OnOk result (self.new.processes ≡ map.insert self.old.processes self.old.next_pid (with_empty_table (process_in self.old.processes pid))) }
-        ensures rows { OnOk result (self.new.rows ≡ map.insert self.old.rows self.old.next_pid (row_in self.old.rows pid)) }
-        ensures room { OnOk result ((n f : ℕ) → number_in self.old.processes pid n ≡ Some f → n < row_in self.new.rows self.old.next_pid) }
-        ensures err { OnErr result (self.new ≡ record self.old { room = self.new.room }) }
-        ensures kept { OnErr result (self.old.room ≤ self.new.room) }
+    /// The process once more, for a fork: of the same user, with the same limit and privilege, and
+    /// with all that is open in it. It is to be added, for which there is room then; room for further
+    /// numbers in its table is another matter. No process changes, also on an error.
+    pub fn copy_for_fork(&mut self, pid: Pid) -> Result<Process, AllocError>
+        requires { IsTrue (map.contains_key self.old.processes pid) }
+        ensures copy { IfOk result (λ p. p.process ≡ process_in self.old.processes pid) }
+        ensures processes { self.new.processes ≡ self.old.processes }
+        ensures rows { self.new.rows ≡ self.old.rows }
+        ensures next { self.new.next_pid ≡ self.old.next_pid }
+        ensures ok { OnOk result (0 < self.new.room) }
+        ensures room { self.old.room ≤ self.new.room }
     {
         self.room_to_spawn()?;
-        let child = self.find(pid).unwrap().child(self.alloc)?;
-        Ok(self.add(child))
+        self.find(pid).unwrap().copy(self.alloc)
     }
 
     /// Room to install at every number of the process below its limit, where so many, and not none,
@@ -234,52 +237,64 @@ impl Procs {
         if count == 0 {
             return Ok(());
         }
-        let Some(process) = self.processes.get_mut(&pid) else {
+        let Some(index) = self.hints.found(&self.processes, pid) else {
             return Ok(());
         };
+        let (_, process) = self.processes.pair_mut(index);
         process.make_room()
     }
 
     /// The number of the process, for which there is room, stands for the file from now on,
     /// whatever it stood for. It takes no memory.
+    #[inline]
     #[tactic(auto, using(crate::proofs::Parts::part_changes))]
-    pub fn install(&mut self, pid: Pid, fd: Fd, ino: Ino)
+    pub fn install(&mut self, pid: Pid, fd: Fd, file: FileRef)
         requires { fd < row_in self.old.rows pid }
-        ensures processes { self.new.processes ≡ change_at (installed fd ino) self.old.processes pid }
+        ensures processes { self.new.processes ≡ change_at (installed fd file) self.old.processes pid }
         ensures rows { self.new.rows ≡ self.old.rows }
         ensures next { self.new.next_pid ≡ self.old.next_pid }
         ensures room { self.new.room ≡ self.old.room }
     {
-        let Some(process) = self.processes.get_mut(&pid) else {
+        let Some(index) = self.hints.found(&self.processes, pid) else {
             return;
         };
-        process.install(fd, ino);
+        let (_, process) = self.processes.pair_mut(index);
+        process.install(fd, file);
     }
 
     /// The number of the process is free from now on. It answers what the number stood for, which
     /// is nothing where it was free already, and nothing of a stranger. It takes no memory.
+    #[inline]
     #[tactic(auto, using(crate::proofs::Parts::part_changes))]
-    pub fn take_out(&mut self, pid: Pid, fd: Fd) -> Option<Ino>
+    pub fn take_out(&mut self, pid: Pid, fd: Fd) -> Option<FileRef>
         ensures value { result ≡ number_in self.old.processes pid fd }
         ensures processes { self.new.processes ≡ change_at (taken_out fd) self.old.processes pid }
         ensures rows { self.new.rows ≡ self.old.rows }
         ensures next { self.new.next_pid ≡ self.old.next_pid }
         ensures room { self.new.room ≡ self.old.room }
     {
-        self.processes.get_mut(&pid)?.take_out(fd)
+        let index = self.hints.found(&self.processes, pid)?;
+        let (_, process) = self.processes.pair_mut(index);
+        process.take_out(fd)
     }
 
-    /// The process is gone, and its pid is never given again. Its table is empty: no number of a
-    /// process goes but by `take_out`, and `next_open` tells which are left. For a stranger nothing
-    /// changes. It takes no memory.
+    /// The process is gone, and its pid is never given again. It is handed on with all that is open
+    /// in it, so that the caller lets go of that; `next_open` tells what it is. Of a stranger there is
+    /// nothing, and nothing changes. It takes no memory.
     #[tactic(auto, using(crate::proofs::Parts::part_changes))]
-    pub fn remove(&mut self, pid: Pid)
-        requires { (n : ℕ) → number_in self.old.processes pid n ≡ None }
+    pub fn remove(&mut self, pid: Pid) -> Option<Process>
+        ensures there { IfSome result (λ p. map.get self.old.processes pid ≡ Some p.process) }
+        ensures none { IfNone result (map.get self.old.processes pid ≡ None) }
         ensures processes { self.new.processes ≡ map.remove self.old.processes pid }
         ensures rows { self.new.rows ≡ map.remove self.old.rows pid }
         ensures next { self.new.next_pid ≡ self.old.next_pid }
         ensures room { self.old.room ≤ self.new.room }
     {
-        self.processes.swap_remove(&pid);
+        let (index, _, gone) = self.processes.swap_remove_full(&pid)?;
+        // The last process stands there now.
+        if let Some((moved, _)) = self.processes.get_index(index) {
+            self.hints.note(*moved, index);
+        }
+        Some(gone)
     }
 }

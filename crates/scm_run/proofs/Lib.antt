@@ -4,3 +4,5 @@ pub mod RunLemmas
 pub mod UserLines
 pub mod Audited
 pub mod ShortReplies
+pub mod PlainLemmas
+pub mod RoomLemmas

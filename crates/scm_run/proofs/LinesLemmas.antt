@@ -1,12 +1,13 @@
 -- The lines of bytes that are read piece by piece.
-use Rattle.std.proofs.Common.{◌≡◌, ℕ, ◌+◌, ◌-◌, ◌<◌, ◌==◌, List, [], ◌∷◌, ◌++◌, Bool, true, false, cond, length, take, drop, Some, None, refl, sym, ap, ◌∙◌, append_assoc, append-nil, arith, length-append, ◌⊎◌, inl, inr, get_or, take-append-drop}
+use Rattle.std.proofs.Common.{◌≡◌, ◌≤◌, ℕ, ◌+◌, ◌-◌, ◌<◌, ◌==◌, List, [], ◌∷◌, ◌++◌, Bool, true, false, cond, length, take, drop, Some, None, refl, sym, ap, ◌∙◌, append_assoc, append-nil, arith, length-append, ◌⊎◌, inl, inr, get_or, take-append-drop, length-take, get_or-take}
 use Rattle.std.specs.Prelude.{map, slice_get, slice_index}
 use Rattle.std.specs.List.{AllByRecursion, flat_map, slice_split, onto_first}
 use Rattle.std.specs.Str.Lines.{lines, lines_of_parts, strip_carriage_return}
 use Rattle.std.proofs.lemmas.List.{flat_map_more, take_at, drop_more, map-append, length-map}
 use Rattle.std.proofs.lemmas.List.Splits.{slice_split_at, slice_split_none}
-use Rattle.std.proofs.lemmas.List.Elements.{All-append, All-nil, All-push, All-cons}
+use Rattle.std.proofs.lemmas.List.Elements.{All-append, All-nil, All-cons, All-from_get_or}
 use Rattle.std.proofs.lemmas.Grind.{common_steps}
+use Rattle.memchr.specs.Find.{IsFirstByte, is_byte}
 use Rattle.scm_lines.specs.Lines.{line_of}
 use Rattle.scm_lines.specs.declared.line.TheConstants.{MAX_LINE}
 use Rattle.scm_run.specs.Progress.{may_fit}
@@ -57,12 +58,12 @@ cut_end taken whole rest cut = record {
   open_end = All-nil (λ x. (x == 10) ≡ false);
 }
 
--- another byte goes on with the line
-pub cut_push : (taken : List ℕ) (whole : List (List ℕ)) (rest : List ℕ) (b : ℕ) → IsCut taken whole rest → (b == 10) ≡ false → IsCut (taken ++ b ∷ []) whole (rest ++ b ∷ [])
-cut_push taken whole rest b cut h = record {
-  joined = rw (cut.joined) (append_assoc (flat_map ended_by_feed whole) rest (b ∷ []));
+-- other bytes go on with the line
+pub cut_more : (taken : List ℕ) (whole : List (List ℕ)) (rest bs : List ℕ) → IsCut taken whole rest → NoFeed bs → IsCut (taken ++ bs) whole (rest ++ bs)
+cut_more taken whole rest bs cut h = record {
+  joined = rw (cut.joined) (append_assoc (flat_map ended_by_feed whole) rest bs);
   each = cut.each;
-  open_end = All-push (λ x. (x == 10) ≡ false) rest b cut.open_end h;
+  open_end = All-append (λ x. (x == 10) ≡ false) rest bs cut.open_end h;
 }
 
 -- the first lines of an input that begins so
@@ -128,44 +129,28 @@ long_line bytes h = grind (arith, common_steps)
 strip_long : (line : List ℕ) → 262145 < length line → MAX_LINE < length (strip_carriage_return line)
 strip_long line h = grind (arith, common_steps)
 
-last_of : (front : List ℕ) (b : ℕ) → slice_index (front ++ b ∷ []) (length front) ≡ b
-last_of [] b = refl
-last_of (a ∷ front) b = last_of front b
+past_limit : (bytes : List ℕ) → may_fit bytes ≡ false → MAX_LINE < length (strip_carriage_return bytes)
+past_limit bytes over = grind (arith, common_steps)
 
--- only a carriage return is left out
-strip_other : (front : List ℕ) (b : ℕ) → (b == 13) ≡ false → strip_carriage_return (front ++ b ∷ []) ≡ front ++ b ∷ []
-strip_other front b other =
-    let count : length (front ++ b ∷ []) - 1 ≡ length front = rw (length-append front (b ∷ [])) (omega arith) in
-    let test : (slice_index (front ++ b ∷ []) (length (front ++ b ∷ []) - 1) == 13) ≡ false = rw (count, last_of front b) other in
-    rw test refl
+strip_shorter : (bytes : List ℕ) → length (strip_carriage_return bytes) ≤ length bytes
+strip_shorter bytes = grind (arith, common_steps)
 
-past_return : (pending : List ℕ) (b : ℕ) → (b == 13) ≡ true → may_fit pending b ≡ false → MAX_LINE < length pending
-past_return pending b is_return over = grind (arith, common_steps)
-
-past_limit : (pending : List ℕ) (b : ℕ) → may_fit pending b ≡ false → 262143 < length pending
-past_limit pending b over = grind (arith, common_steps)
+long_bare : (bytes : List ℕ) → may_fit bytes ≡ false → MAX_LINE < length bytes
+long_bare bytes over = omega (arith, past_limit bytes over, strip_shorter bytes)
 
 -- however the line goes on, it is too long
-long_stripped : (pending x : List ℕ) (b : ℕ) → may_fit pending b ≡ false → MAX_LINE < length (strip_carriage_return ((pending ++ b ∷ []) ++ x))
-long_stripped pending x b over = by_test (b == 13) refl x
-  where
-    size : (x : List ℕ) → length ((pending ++ b ∷ []) ++ x) ≡ length pending + 1 + length x
-    size x = length-append (pending ++ b ∷ []) x ∙ ap (λ (n : ℕ). n + length x) (length-append pending (b ∷ []))
-
-    by_test : (t : Bool) → (b == 13) ≡ t → (x : List ℕ) → MAX_LINE < length (strip_carriage_return ((pending ++ b ∷ []) ++ x))
-    by_test true e x = strip_long ((pending ++ b ∷ []) ++ x) (omega (arith, size x, past_return pending b e over))
-    by_test false e [] = rw (append-nil (pending ++ b ∷ []), strip_other pending b e, length-append pending (b ∷ [])) (omega (arith, past_limit pending b over))
-    by_test false e (a ∷ x) = strip_long ((pending ++ b ∷ []) ++ a ∷ x) (omega (arith, size (a ∷ x), past_limit pending b over))
+long_stripped : (bad x : List ℕ) → may_fit bad ≡ false → MAX_LINE < length (strip_carriage_return (bad ++ x))
+long_stripped bad [] over = rw (append-nil bad) (past_limit bad over)
+long_stripped bad (a ∷ x) over = strip_long (bad ++ a ∷ x) (omega (arith, long_bare bad over, length-append bad (a ∷ x)))
 
 -- the line that begins so cannot be read
-pub long_first : (pending more : List ℕ) (b : ℕ) → NoFeed (pending ++ b ∷ []) → may_fit pending b ≡ false
-    → (line : List ℕ) × ((others : List (List ℕ)) × ((lines ((pending ++ b ∷ []) ++ more) ≡ line ∷ others) × (line_of line ≡ None)))
-long_first pending more b none over =
-    let bad = pending ++ b ∷ [] in
+pub long_first : (bad more : List ℕ) → NoFeed bad → may_fit bad ≡ false
+    → (line : List ℕ) × ((others : List (List ℕ)) × ((lines (bad ++ more) ≡ line ∷ others) × (line_of line ≡ None)))
+long_first bad more none over =
     let (x, (free, end)) = first_cut more in
     let joined : NoFeed (bad ++ x) = All-append (λ c. (c == 10) ≡ false) bad x none free in
-    let size : length (bad ++ x) ≡ length pending + 1 + length x = length-append bad x ∙ ap (λ (n : ℕ). n + length x) (length-append pending (b ∷ [])) in
-    let big : MAX_LINE < length (bad ++ x) = omega (arith, size, past_limit pending b over) in
+    let size : length (bad ++ x) ≡ length bad + length x = length-append bad x in
+    let big : MAX_LINE < length (bad ++ x) = omega (arith, size, long_bare bad over) in
     elim end [
       | inl h ↦ (bad ++ x, ([], (ap (λ m. lines (bad ++ m)) h ∙ last_line (bad ++ x) joined (omega arith), long_line (bad ++ x) big)))
       | inr (r, h) ↦ (
@@ -174,7 +159,7 @@ long_first pending more b none over =
           lines r,
           (
             ap (λ m. lines (bad ++ m)) h ∙ ap lines (sym (append_assoc bad x (10 ∷ r))) ∙ line-front (bad ++ x) r joined,
-            long_line (strip_carriage_return (bad ++ x)) (long_stripped pending x b over),
+            long_line (strip_carriage_return (bad ++ x)) (long_stripped bad x over),
           ),
         ),
       )
@@ -187,9 +172,24 @@ all_lines taken whole rest cut = ap lines cut.joined ∙ lines-front whole rest 
 
 -- ---- the bytes of a chunk
 
-pub around : (taken chunk more : List ℕ) (i d : ℕ) → i < length chunk
-    → ((taken ++ take i chunk) ++ get_or chunk i d ∷ []) ++ (drop (i + 1) chunk ++ more) ≡ (taken ++ chunk) ++ more
-around taken chunk more i d h =
-    let whole : take i chunk ++ (get_or chunk i d ∷ drop (i + 1) chunk) ≡ chunk = ap (λ l. take i chunk ++ l) (sym (drop_more chunk i d h)) ∙ take-append-drop i chunk in
-    let joined : ((taken ++ take i chunk) ++ get_or chunk i d ∷ []) ++ (drop (i + 1) chunk ++ more) ≡ (taken ++ (take i chunk ++ (get_or chunk i d ∷ drop (i + 1) chunk))) ++ more = simp append_assoc in
-    joined ∙ ap (λ c. (taken ++ c) ++ more) whole
+not_true : (b : Bool) → ¬ (b ≡ true) → b ≡ false
+not_true true never = absurd (never refl)
+not_true false never = refl
+
+-- where there is none, there is none
+pub NoFeed-all : (bytes : List ℕ) → IsFirstByte (is_byte 10) bytes None → NoFeed bytes
+NoFeed-all bytes nowhere = All-from_get_or (λ b. (b == 10) ≡ false) bytes 0 (λ k low. not_true (slice_index bytes k == 10) (nowhere k (omega arith) low))
+
+-- before the first line feed there is none
+pub NoFeed-before : (bytes : List ℕ) (at : ℕ) → IsFirstByte (is_byte 10) bytes (Some at) → NoFeed (take at bytes)
+NoFeed-before bytes at (first, here) = All-from_get_or (λ b. (b == 10) ≡ false) (take at bytes) 0 (λ k low.
+    let under : k < at = omega (arith, low, length-take at bytes) in
+    rw (get_or-take at bytes k 0 under) (not_true (slice_index bytes k == 10) (first.before k (omega arith) under)))
+
+-- the bytes up to a line feed, it, and those after it
+pub around : (bytes : List ℕ) (at : ℕ) → IsFirstByte (is_byte 10) bytes (Some at) → bytes ≡ ended_by_feed (take at bytes) ++ drop (at + 1) bytes
+around bytes at (first, here) =
+    let high : at < length bytes = first.high in
+    let ten : get_or bytes at 0 ≡ 10 = is_ten (get_or bytes at 0) here in
+    sym (take-append-drop at bytes) ∙ ap (λ l. take at bytes ++ l) (drop_more bytes at 0 high ∙ ap (λ (b : ℕ). b ∷ drop (at + 1) bytes) ten)
+    ∙ sym (append_assoc (take at bytes) (10 ∷ []) (drop (at + 1) bytes))

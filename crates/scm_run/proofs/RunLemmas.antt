@@ -1,6 +1,6 @@
 -- What a run has done, line by line, and how it stops.
-use Rattle.std.proofs.Common.{◌≡◌, ℕ, ◌+◌, ◌-◌, ◌<◌, ◌==◌, List, [], ◌∷◌, ◌++◌, false, length, take, Option, Some, None, refl, sym, ap, ◌∙◌, subst, append_assoc, append-nil, arith, length-append, Result, Ok, Err, IfErr, IfOk}
-use Rattle.std.specs.Prelude.{map, slice_get}
+use Rattle.std.proofs.Common.{◌≡◌, ◌⊎◌, inl, inr, ℕ, ◌+◌, ◌-◌, ◌<◌, ◌==◌, List, [], ◌∷◌, ◌++◌, false, length, take, Option, Some, None, refl, sym, ap, ◌∙◌, subst, append_assoc, append-nil, arith, length-append, Result, Ok, Err, IfErr, IfOk}
+use Rattle.std.specs.Prelude.{map, slice_get, ⊤}
 use Rattle.std.specs.Str.Lines.{lines, strip_carriage_return}
 use Rattle.std.specs.Io.KnownBytes.{Appends, Consumes, IsAtEnd, Keeps}
 use Rattle.std.proofs.KnownBytes.{Appends-trans, Appends-nil}
@@ -10,12 +10,13 @@ use Rattle.scm_watched.specs.Watched.{AppendsFront}
 use Rattle.scm_lines.specs.Lines.{line_of}
 use Rattle.af_base.specs.Pass.{Machine}
 use Rattle.af_base.specs.Run.{fresh}
-use Rattle.scm_run.specs.Script.{FaultAt, LineText, RanFirst, RanToEnd, RanToUnreadable, RunText, StopsBy, Tells, Wrote, WroteFirst, is_read_fault, RanAsRead}
-use Rattle.scm_run.specs.Line.{LineDone, LineCut, LineStops}
-use Rattle.scm_run.specs.Progress.{FaultIn, Progress, Ran, TooLong, may_fit}
+use Rattle.scm_run.specs.Script.{FaultAt, LineText, NoFeed, RanFirst, RanToEnd, RanToUnreadable, RunText, StopsBy, Tells, Wrote, WroteFirst, ended_by_feed, is_read_fault, RanAsRead}
+use Rattle.scm_run.specs.Gather.{Moves, Settles}
+use Rattle.scm_run.specs.Line.{LineDone, LineStops}
+use Rattle.scm_run.specs.Progress.{FaultIn, Halts, Progress, Ran, RanAll, Runs, TooLong, Waits, may_fit}
 use Rattle.scm_run.specs.declared.fault.RunFault.{RunFault}
 use Rattle.scm_run.specs.declared.fault.RunFault.TheVariants as fault
-use Rattle.scm_run.proofs.LinesLemmas.{all_lines, cut_end, cut_push, ended_lines, firsts, front_lines, last_line, line_at, long_first, slice_get_at}
+use Rattle.scm_run.proofs.LinesLemmas.{all_lines, cut_end, cut_more, firsts, front_lines, last_line, line_at, long_first, slice_get_at}
 
 -- a run goes on by one line
 pub RunText-more : (old mid new : Machine) (script : List (List ℕ)) (events k : ℕ) (text out bytes : List ℕ)
@@ -38,159 +39,308 @@ Appends-front : (a b c : Option (List ℕ)) (x y : List ℕ) → Appends a b x �
 Appends-front a b c x y first (front, rest, e, second) =
     (x ++ front, rest, ap (λ l. x ++ l) e ∙ sym (append_assoc x front rest), Appends-trans a b c x front first second)
 
--- ---- what a run has done
+-- ---- what is gathered
 
-pub end_ok : (taken : List ℕ) (before mid after : Option (List ℕ)) (old : Progress) (k : ℕ) (machine : Machine) → Ran taken before mid old
-    → LineDone old.machine (strip_carriage_return old.pending) mid after k machine
-    → Ran (taken ++ 10 ∷ []) before after (record { machine = machine; pending = []; events = old.events + k; done = old.done + 1 })
-end_ok taken before mid after old k machine ran done = record {
-  whole = ran.whole ++ old.pending ∷ [];
-  text = ran.text ++ done.text;
-  cut = cut_end taken ran.whole old.pending ran.cut;
-  runs = rw (map-append strip_carriage_return ran.whole (old.pending ∷ [])) (RunText-more _ _ _ _ _ _ _ _ _ ran.runs done.does);
-  counted = rw ran.counted (sym (length-append ran.whole (old.pending ∷ [])));
-  wrote = Appends-trans before mid after ran.text done.text ran.wrote done.wrote;
+-- What was written and what is gathered are the same text after some was moved.
+moved : (written gathered kept : List ℕ) (before after : Option (List ℕ)) → (m : Moves gathered kept before after) → (written ++ m.front) ++ kept ≡ written ++ gathered
+moved written gathered kept before after m = append_assoc written m.front kept ∙ ap (λ l. written ++ l) (sym m.split)
+
+-- A fault that is so once all text is written.
+waits : (says : Option (List ℕ) → RunFault → Type 0) (before mid after : Option (List ℕ)) (written gathered kept : List ℕ) (f : RunFault)
+    → Appends before mid written → Moves gathered kept mid after
+    → ((last : Option (List ℕ)) → Appends before last (written ++ gathered) → says last f)
+    → ((last : Option (List ℕ)) → AppendsFront before last (written ++ gathered) → says last fault.Write)
+    → Waits says before after kept f
+waits says before mid after written gathered kept f wrote m whole part =
+    let same = moved written gathered kept mid after m in
+    record {
+      written = written ++ m.front;
+      wrote = Appends-trans before mid after written m.front wrote m.wrote;
+      whole = λ last a. whole last (subst (Appends before last) same a);
+      part = λ last a. part last (subst (AppendsFront before last) same a);
+    }
+
+-- Nothing was moved.
+still : (gathered : List ℕ) (now : Option (List ℕ)) → Moves gathered gathered now now
+still gathered now = record { front = []; split = refl; wrote = Appends-nil now }
+
+waits_settled : (says : Option (List ℕ) → RunFault → Type 0) (before mid after : Option (List ℕ)) (gathered : List ℕ) (f answer : RunFault)
+    → Waits says before mid gathered f → ((answer ≡ f) × Appends mid after gathered) ⊎ ((answer ≡ fault.Write) × AppendsFront mid after gathered) → says after answer
+waits_settled says before mid after gathered f answer w (inl (e, a)) = subst (says after) (sym e) (w.whole after (Appends-trans before mid after w.written gathered w.wrote a))
+waits_settled says before mid after gathered f answer w (inr (e, a)) = subst (says after) (sym e) (w.part after (Appends-front before mid after w.written gathered w.wrote a))
+
+-- What is answered for a fault once what is gathered is written.
+pub settled : (says : Option (List ℕ) → RunFault → Type 0) (before mid after : Option (List ℕ)) (gathered : List ℕ) (f answer : RunFault)
+    → Halts says before mid gathered f → Settles f answer gathered mid after → says after answer
+settled says before mid after gathered (fault.Unreadable n) answer h s = waits_settled says before mid after gathered (fault.Unreadable n) answer h s
+settled says before mid after gathered fault.Read answer h s = absurd h
+settled says before mid after gathered fault.Write answer h (e, same) = subst (says after) (sym e) (subst (λ a. says a fault.Write) (sym same) h)
+settled says before mid after gathered fault.Memory answer h s = waits_settled says before mid after gathered fault.Memory answer h s
+
+waits_as : (says tells : Option (List ℕ) → RunFault → Type 0) (before after : Option (List ℕ)) (gathered : List ℕ) (f : RunFault)
+    → ((last : Option (List ℕ)) (g : RunFault) → says last g → tells last g) → Waits says before after gathered f → Waits tells before after gathered f
+waits_as says tells before after gathered f so w = record {
+  written = w.written;
+  wrote = w.wrote;
+  whole = λ last a. so last f (w.whole last a);
+  part = λ last a. so last fault.Write (w.part last a);
 }
 
-pub ran_some : (taken : List ℕ) (before mid after : Option (List ℕ)) (old : Progress) → Ran taken before mid old → after ≡ mid
-    → (bs more : List ℕ) → RanFirst ((taken ++ bs) ++ more) before after
-ran_some taken before mid after old ran same bs more = record {
-  count = length ran.whole;
+-- What follows from what a fault says.
+pub halts_as : (says tells : Option (List ℕ) → RunFault → Type 0) (before after : Option (List ℕ)) (gathered : List ℕ) (f : RunFault)
+    → ((last : Option (List ℕ)) (g : RunFault) → says last g → tells last g) → Halts says before after gathered f → Halts tells before after gathered f
+halts_as says tells before after gathered (fault.Unreadable n) so h = waits_as says tells before after gathered (fault.Unreadable n) so h
+halts_as says tells before after gathered fault.Read so h = h
+halts_as says tells before after gathered fault.Write so h = so after fault.Write h
+halts_as says tells before after gathered fault.Memory so h = waits_as says tells before after gathered fault.Memory so h
+
+-- What is so however the input goes on is so of more of it.
+pub fault_later : (taken bs : List ℕ) (before last : Option (List ℕ)) (f : RunFault) → FaultIn taken before last f → FaultIn (taken ++ bs) before last f
+fault_later taken bs before last f h = λ more. subst (λ l. FaultAt l before last f) (sym (append_assoc taken bs more)) (h (bs ++ more))
+
+-- ---- what a run has done
+
+-- The same, with other bytes on the line that goes on.
+abbrev pub longer : Progress → List ℕ → Progress
+longer old bs = record { machine = old.machine; pending = old.pending ++ bs; gathered = old.gathered; events = old.events; done = old.done }
+
+pub ran_more : (taken bs : List ℕ) (before after : Option (List ℕ)) (old : Progress) → Ran taken before after old → NoFeed bs → Ran (taken ++ bs) before after (longer old bs)
+ran_more taken bs before after old ran none = record {
+  written = ran.written;
+  runs = record { whole = ran.runs.whole; cut = cut_more taken ran.runs.whole old.pending bs ran.runs.cut none; runs = ran.runs.runs; counted = ran.runs.counted };
+  wrote = ran.wrote;
+}
+
+pub end_ok : (taken : List ℕ) (before mid after : Option (List ℕ)) (old : Progress) (left : List ℕ) (k : ℕ) (machine : Machine) → Ran taken before mid old
+    → LineDone old.machine (strip_carriage_return old.pending) old.gathered left mid after k machine
+    → Ran (taken ++ 10 ∷ []) before after (record { machine = machine; pending = []; gathered = left; events = old.events + k; done = old.done + 1 })
+end_ok taken before mid after old left k machine ran done =
+    let whole = ran.runs.whole in
+    let front = done.moves.front in
+    let text : (ran.written ++ front) ++ left ≡ (ran.written ++ old.gathered) ++ done.text =
+    ap (λ l. (ran.written ++ front) ++ l) done.behind ∙ sym (append_assoc (ran.written ++ front) done.kept done.text)
+    ∙ ap (λ l. l ++ done.text) (moved ran.written old.gathered done.kept mid after done.moves) in
+    let more : RunText fresh (map strip_carriage_return whole ++ strip_carriage_return old.pending ∷ []) (old.events + k) ((ran.written ++ old.gathered) ++ done.text) machine =
+    RunText-more _ _ _ _ _ _ _ _ _ ran.runs.runs done.does in
+    record {
+      written = ran.written ++ front;
+      runs = record {
+        whole = whole ++ old.pending ∷ [];
+        cut = cut_end taken whole old.pending ran.runs.cut;
+        runs = rw (map-append strip_carriage_return whole (old.pending ∷ []), text) more;
+        counted = rw ran.runs.counted (sym (length-append whole (old.pending ∷ [])));
+      };
+      wrote = Appends-trans before mid after ran.written front ran.wrote done.moves.wrote;
+    }
+
+-- all text of the lines that were run is written
+pub run_some : (taken text : List ℕ) (before last : Option (List ℕ)) (old : Progress) → Runs taken text old → Appends before last text → FaultIn taken before last fault.Memory
+run_some taken text before last old run wrote = λ more. record {
+  count = length run.whole;
   events = old.events;
   all = record {
-    text = ran.text;
+    text = text;
     machine = old.machine;
-    runs = subst (λ ls. RunText fresh ls old.events ran.text old.machine)
-        (sym (ap (λ l. take (length ran.whole) (lines l)) (append_assoc taken bs more) ∙ firsts taken ran.whole old.pending (bs ++ more) (length ran.whole) ran.cut refl)) ran.runs;
-    wrote = subst (λ a. Appends before a ran.text) (sym same) ran.wrote;
+    runs = subst (λ ls. RunText fresh ls old.events text old.machine) (sym (firsts taken run.whole old.pending more (length run.whole) run.cut refl)) run.runs;
+    wrote = wrote;
   };
 }
 
-end_bad : (taken : List ℕ) (before mid after : Option (List ℕ)) (old : Progress) → Ran taken before mid old
-    → line_of (strip_carriage_return old.pending) ≡ None → after ≡ mid
-    → (more : List ℕ) → RanToUnreadable ((taken ++ 10 ∷ []) ++ more) before after (old.done + 1)
-end_bad taken before mid after old ran bad same more =
-    let one : old.done + 1 - 1 ≡ length ran.whole = omega (arith, ran.counted) in
+-- a beginning of it is
+pub run_cut : (taken text : List ℕ) (before last : Option (List ℕ)) (old : Progress) → Runs taken text old → AppendsFront before last text → FaultIn taken before last fault.Write
+run_cut taken text before last old run wrote = λ more. record {
+  count = length run.whole;
+  beginning = record {
+    events = old.events;
+    text = text;
+    machine = old.machine;
+    runs = subst (λ ls. RunText fresh ls old.events text old.machine) (sym (firsts taken run.whole old.pending more (length run.whole) run.cut refl)) run.runs;
+    wrote = wrote;
+  };
+}
+
+run_bad : (taken text : List ℕ) (before last : Option (List ℕ)) (old : Progress) → Runs taken text old → line_of (strip_carriage_return old.pending) ≡ None → Appends before last text
+    → FaultIn (taken ++ 10 ∷ []) before last (fault.Unreadable (old.done + 1))
+run_bad taken text before last old run bad wrote = λ more.
+    let one : old.done + 1 - 1 ≡ length run.whole = omega (arith, run.counted) in
     record {
       bad = strip_carriage_return old.pending;
       events = old.events;
       counted = omega arith;
-      at = line_at taken ran.whole old.pending more (old.done + 1 - 1) ran.cut one;
+      at = line_at taken run.whole old.pending more (old.done + 1 - 1) run.cut one;
       unreadable = bad;
       all = record {
-        text = ran.text;
+        text = text;
         machine = old.machine;
-        runs = subst (λ ls. RunText fresh ls old.events ran.text old.machine)
-            (sym (ap (λ l. take (old.done + 1 - 1) (lines l)) (append_assoc taken (10 ∷ []) more) ∙ firsts taken ran.whole old.pending (10 ∷ more) (old.done + 1 - 1) ran.cut one)) ran.runs;
-        wrote = subst (λ a. Appends before a ran.text) (sym same) ran.wrote;
-      };
-    }
-
-end_cut : (taken : List ℕ) (before mid after : Option (List ℕ)) (old : Progress) → Ran taken before mid old
-    → LineCut old.machine (strip_carriage_return old.pending) mid after
-    → (more : List ℕ) → WroteFirst ((taken ++ 10 ∷ []) ++ more) before after
-end_cut taken before mid after old ran part more =
-    let first = map strip_carriage_return ran.whole in
-    let here = strip_carriage_return old.pending in
-    let all : take (length (first ++ here ∷ [])) (lines ((taken ++ 10 ∷ []) ++ more)) ≡ first ++ here ∷ [] =
-    rw (ended_lines taken ran.whole old.pending more ran.cut) (take_at (first ++ here ∷ []) (lines more) (length (first ++ here ∷ [])) refl) in
-    record {
-      count = length (first ++ here ∷ []);
-      beginning = record {
-        events = old.events + part.events;
-        text = ran.text ++ part.text;
-        machine = part.new;
-        runs = subst (λ ls. RunText fresh ls (old.events + part.events) (ran.text ++ part.text) part.new) (sym all) (RunText-more _ _ _ _ _ _ _ _ _ ran.runs part.does);
-        wrote = Appends-front before mid after ran.text part.text ran.wrote part.wrote;
+        runs = subst (λ ls. RunText fresh ls old.events text old.machine)
+            (sym (ap (λ l. take (old.done + 1 - 1) (lines l)) (append_assoc taken (10 ∷ []) more) ∙ firsts taken run.whole old.pending (10 ∷ more) (old.done + 1 - 1) run.cut one)) run.runs;
+        wrote = wrote;
       };
     }
 
 -- nothing was taken
-pub ran_nothing : (before : Option (List ℕ)) → Ran [] before before (record { machine = fresh; pending = []; events = 0; done = 0 })
+pub ran_nothing : (before : Option (List ℕ)) → Ran [] before before (record { machine = fresh; pending = []; gathered = []; events = 0; done = 0 })
 ran_nothing before = record {
-  whole = [];
-  text = [];
-  cut = record { joined = refl; each = tt; open_end = All-nil (λ b. (b == 10) ≡ false) };
-  runs = (refl, refl, refl);
-  counted = refl;
+  written = [];
+  runs = record {
+    whole = [];
+    cut = record { joined = refl; each = tt; open_end = All-nil (λ b. (b == 10) ≡ false) };
+    runs = (refl, refl, refl);
+    counted = refl;
+  };
   wrote = Appends-nil before;
 }
 
--- the line that ends here was not done to its end
-pub end_stops : (taken : List ℕ) (before mid after : Option (List ℕ)) (old : Progress) (f : RunFault) → Ran taken before mid old
-    → LineStops old.machine (strip_carriage_return old.pending) (old.done + 1) mid after f
-    → FaultIn (taken ++ 10 ∷ []) before after f
-end_stops taken before mid after old (fault.Unreadable n) ran (number, bad, same) = λ more. rw number (end_bad taken before mid after old ran bad same more)
-end_stops taken before mid after old fault.Read ran stops = absurd stops
-end_stops taken before mid after old fault.Write ran part = end_cut taken before mid after old ran part
-end_stops taken before mid after old fault.Memory ran same = λ more. ran_some taken before mid after old ran same (10 ∷ []) more
+-- memory was refused before the next line
+pub ran_stops : (taken : List ℕ) (before mid after : Option (List ℕ)) (old : Progress) (left : List ℕ) → Ran taken before mid old → Moves old.gathered left mid after
+    → Halts (FaultIn taken before) before after left fault.Memory
+ran_stops taken before mid after old left ran m = waits (FaultIn taken before) before mid after ran.written old.gathered left fault.Memory ran.wrote m
+    (λ last a. run_some taken _ before last old ran.runs a) (λ last a. run_cut taken _ before last old ran.runs a)
+
+-- the same, as a run that goes on by these bytes says it
+pub ran_refused : (taken bs : List ℕ) (before mid : Option (List ℕ)) (old : Progress) → Ran taken before mid old → Halts (FaultIn (taken ++ bs) before) before mid old.gathered fault.Memory
+ran_refused taken bs before mid old ran =
+    halts_as (FaultIn taken before) (FaultIn (taken ++ bs) before) before mid old.gathered fault.Memory (fault_later taken bs before) (ran_stops taken before mid mid old old.gathered ran (still old.gathered mid))
+
+-- the line that ends here was not done
+pub end_stops : (taken : List ℕ) (before mid after : Option (List ℕ)) (old : Progress) (left : List ℕ) (f : RunFault) → Ran taken before mid old
+    → LineStops (strip_carriage_return old.pending) (old.done + 1) old.gathered left mid after f
+    → Halts (FaultIn (taken ++ 10 ∷ []) before) before after left f
+end_stops taken before mid after old left (fault.Unreadable n) ran (number, bad, m) = waits (FaultIn (taken ++ 10 ∷ []) before) before mid after ran.written old.gathered left (fault.Unreadable n) ran.wrote m
+    (λ last a. subst (λ k. FaultIn (taken ++ 10 ∷ []) before last (fault.Unreadable k)) (sym number) (run_bad taken _ before last old ran.runs bad a))
+    (λ last a. fault_later taken (10 ∷ []) before last fault.Write (run_cut taken _ before last old ran.runs a))
+end_stops taken before mid after old left fault.Read ran stops = absurd stops
+end_stops taken before mid after old left fault.Write ran part =
+    fault_later taken (10 ∷ []) before after fault.Write (run_cut taken _ before after old ran.runs (Appends-front before mid after ran.written old.gathered ran.wrote part))
+end_stops taken before mid after old left fault.Memory ran m =
+    halts_as (FaultIn taken before) (FaultIn (taken ++ 10 ∷ []) before) before after left fault.Memory (fault_later taken (10 ∷ []) before) (ran_stops taken before mid after old left ran m)
+
+-- the line that was begun and goes on by these bytes
+pub whole_line : (old new back line : List ℕ) → (0 < length old → new ≡ old ++ back) → (old ≡ [] → new ≡ [])
+    → (0 < length new → line ≡ new) → (new ≡ [] → line ≡ back) → line ≡ old ++ back
+whole_line [] new back line begun empty some none = none (empty refl)
+whole_line (b ∷ old) new back line begun empty some none =
+    let joined = begun (omega arith) in
+    some (rw joined (omega (arith, length-append (b ∷ old) back))) ∙ joined
+
+-- a line that was begun ends after these bytes
+pub end_ok_after : (taken back : List ℕ) (before mid after : Option (List ℕ)) (old : Progress) (left : List ℕ) (k : ℕ) (machine : Machine) → NoFeed back → Ran taken before mid old
+    → LineDone old.machine (strip_carriage_return (old.pending ++ back)) old.gathered left mid after k machine
+    → Ran (taken ++ ended_by_feed back) before after (record { machine = machine; pending = []; gathered = left; events = old.events + k; done = old.done + 1 })
+end_ok_after taken back before mid after old left k machine free ran done =
+    subst (λ t. Ran t before after (record { machine = machine; pending = []; gathered = left; events = old.events + k; done = old.done + 1 })) (append_assoc taken back (10 ∷ []))
+    (end_ok (taken ++ back) before mid after (longer old back) left k machine (ran_more taken back before mid old ran free) done)
+
+pub end_stops_after : (taken back : List ℕ) (before mid after : Option (List ℕ)) (old : Progress) (left : List ℕ) (f : RunFault) → NoFeed back → Ran taken before mid old
+    → LineStops (strip_carriage_return (old.pending ++ back)) (old.done + 1) old.gathered left mid after f
+    → Halts (FaultIn (taken ++ ended_by_feed back) before) before after left f
+end_stops_after taken back before mid after old left f free ran stops =
+    subst (λ t. Halts (FaultIn t before) before after left f) (append_assoc taken back (10 ∷ []))
+    (end_stops (taken ++ back) before mid after (longer old back) left f (ran_more taken back before mid old ran free) stops)
+
+-- a fault is so however these bytes go on
+pub halts_longer : (taken front line more bytes : List ℕ) (before after : Option (List ℕ)) (gathered : List ℕ) (f : RunFault) → bytes ≡ front ++ (line ++ more)
+    → Halts (FaultIn ((taken ++ front) ++ line) before) before after gathered f → Halts (FaultIn (taken ++ bytes) before) before after gathered f
+halts_longer taken front line more bytes before after gathered f joined h =
+    let whole : ((taken ++ front) ++ line) ++ more ≡ taken ++ bytes =
+    append_assoc (taken ++ front) line more ∙ append_assoc taken front (line ++ more) ∙ ap (λ l. taken ++ l) (sym joined) in
+    subst (λ t. Halts (FaultIn t before) before after gathered f) whole
+    (halts_as (FaultIn ((taken ++ front) ++ line) before) (FaultIn (((taken ++ front) ++ line) ++ more) before) before after gathered f (fault_later ((taken ++ front) ++ line) more before) h)
+
+-- what is kept of the bytes stops the run
+pub keep_stops : (rest bytes front : List ℕ) (first now : Option (List ℕ)) (begun old new : Progress) (r : Result ⊤ RunFault) → bytes ≡ front ++ rest
+    → ((taken : List ℕ) (before : Option (List ℕ)) → Ran taken before first begun → Ran (taken ++ front) before now old)
+    → IfErr r (λ f. (taken : List ℕ) (before after : Option (List ℕ)) → Ran taken before after old → Halts (FaultIn (taken ++ rest) before) before after new.gathered f)
+    → IfErr r (λ f. (taken : List ℕ) (before : Option (List ℕ)) → Ran taken before first begun → Halts (FaultIn (taken ++ bytes) before) before now new.gathered f)
+keep_stops rest bytes front first now begun old new (Ok x) joined ran h = tt
+keep_stops rest bytes front first now begun old new (Err f) joined ran h = λ taken before begins.
+    subst (λ t. Halts (FaultIn t before) before now new.gathered f) (append_assoc taken front rest ∙ ap (λ l. taken ++ l) (sym joined))
+    (h (taken ++ front) before now (ran taken before begins))
 
 -- ---- a line that is too long
 
-ran_long : (taken : List ℕ) (before mid : Option (List ℕ)) (old : Progress) (b : ℕ) → Ran taken before mid old → (b == 10) ≡ false → may_fit old.pending b ≡ false
-    → (more : List ℕ) → RanToUnreadable ((taken ++ b ∷ []) ++ more) before mid (old.done + 1)
-ran_long taken before mid old b ran other over more =
-    let cut = cut_push taken ran.whole old.pending b ran.cut other in
-    let bad = old.pending ++ b ∷ [] in
-    let (line, (others, (e, unread))) = long_first old.pending more b cut.open_end over in
-    let first = map strip_carriage_return ran.whole in
+run_long : (taken text : List ℕ) (before last : Option (List ℕ)) (old : Progress) → Runs taken text old → may_fit old.pending ≡ false → Appends before last text
+    → FaultIn taken before last (fault.Unreadable (old.done + 1))
+run_long taken text before last old run over wrote = λ more.
+    let (line, (others, (e, unread))) = long_first old.pending more run.cut.open_end over in
+    let first = map strip_carriage_return run.whole in
     let n = old.done + 1 - 1 in
-    let one : n ≡ length ran.whole = omega (arith, ran.counted) in
-    let sum : n ≡ length first = one ∙ sym (length-map ran.whole strip_carriage_return) in
+    let one : n ≡ length run.whole = omega (arith, run.counted) in
+    let sum : n ≡ length first = one ∙ sym (length-map run.whole strip_carriage_return) in
     record {
       bad = line;
       events = old.events;
       counted = omega arith;
-      at = ap (λ l. slice_get l n) (front_lines (taken ++ b ∷ []) ran.whole bad more cut ∙ ap (λ l. first ++ l) e) ∙ ap (slice_get (first ++ line ∷ others)) sum ∙ slice_get_at first line others;
+      at = ap (λ l. slice_get l n) (front_lines taken run.whole old.pending more run.cut ∙ ap (λ l. first ++ l) e) ∙ ap (slice_get (first ++ line ∷ others)) sum ∙ slice_get_at first line others;
       unreadable = unread;
       all = record {
-        text = ran.text;
+        text = text;
         machine = old.machine;
-        runs = subst (λ ls. RunText fresh ls old.events ran.text old.machine) (sym (firsts (taken ++ b ∷ []) ran.whole bad more n cut one)) ran.runs;
-        wrote = ran.wrote;
+        runs = subst (λ ls. RunText fresh ls old.events text old.machine) (sym (firsts taken run.whole old.pending more n run.cut one)) run.runs;
+        wrote = wrote;
       };
     }
 
-pub ran_too_long : (taken : List ℕ) (before mid : Option (List ℕ)) (old : Progress) (b : ℕ) (f : RunFault) → TooLong old.done f → Ran taken before mid old → (b == 10) ≡ false → may_fit old.pending b ≡ false
-    → FaultIn (taken ++ b ∷ []) before mid f
-ran_too_long taken before mid old b (fault.Unreadable number) h ran other over = λ more. rw h (ran_long taken before mid old b ran other over more)
-ran_too_long taken before mid old b fault.Read h ran other over = absurd h
-ran_too_long taken before mid old b fault.Write h ran other over = absurd h
-ran_too_long taken before mid old b fault.Memory h ran other over = λ more. ran_some taken before mid mid old ran refl (b ∷ []) more
+pub ran_too_long : (taken : List ℕ) (before mid : Option (List ℕ)) (old : Progress) (f : RunFault) → TooLong old.done f → Ran taken before mid old → may_fit old.pending ≡ false
+    → Halts (FaultIn taken before) before mid old.gathered f
+ran_too_long taken before mid old (fault.Unreadable number) h ran over =
+    waits (FaultIn taken before) before mid mid ran.written old.gathered old.gathered (fault.Unreadable number) ran.wrote (still old.gathered mid)
+    (λ last a. subst (λ k. FaultIn taken before last (fault.Unreadable k)) (sym h) (run_long taken _ before last old ran.runs over a)) (λ last a. run_cut taken _ before last old ran.runs a)
+ran_too_long taken before mid old fault.Read h ran over = absurd h
+ran_too_long taken before mid old fault.Write h ran over = absurd h
+ran_too_long taken before mid old fault.Memory h ran over = ran_stops taken before mid mid old old.gathered ran (still old.gathered mid)
+
+-- ---- what is gathered is written
+
+pub ran_out : (taken : List ℕ) (before mid after : Option (List ℕ)) (old : Progress) → Ran taken before mid old → Appends mid after old.gathered
+    → Ran taken before after (record { machine = old.machine; pending = old.pending; gathered = []; events = old.events; done = old.done })
+ran_out taken before mid after old ran wrote = record {
+  written = ran.written ++ old.gathered;
+  runs = record { whole = ran.runs.whole; cut = ran.runs.cut; runs = rw (append-nil (ran.written ++ old.gathered)) ran.runs.runs; counted = ran.runs.counted };
+  wrote = Appends-trans before mid after ran.written old.gathered ran.wrote wrote;
+}
+
+pub ran_part : (taken : List ℕ) (before mid after : Option (List ℕ)) (old : Progress) → Ran taken before mid old → AppendsFront mid after old.gathered → FaultIn taken before after fault.Write
+ran_part taken before mid after old ran part = run_cut taken _ before after old ran.runs (Appends-front before mid after ran.written old.gathered ran.wrote part)
 
 -- ---- the end of the input
 
-pub finish_empty : (taken : List ℕ) (before mid : Option (List ℕ)) (old : Progress) → Ran taken before mid old → old.pending ≡ [] → Wrote (lines taken) old.events before mid
+pub finish_empty : (taken : List ℕ) (before mid : Option (List ℕ)) (old : Progress) → Ran taken before mid old → old.pending ≡ [] → RanAll taken before mid old
 finish_empty taken before mid old ran none =
-    let all : lines taken ≡ map strip_carriage_return ran.whole = all_lines taken ran.whole old.pending ran.cut ∙ ap (λ r. map strip_carriage_return ran.whole ++ lines r) none ∙ append-nil _ in
-    record { text = ran.text; machine = old.machine; runs = rw all ran.runs; wrote = ran.wrote }
+    let all : lines taken ≡ map strip_carriage_return ran.runs.whole = all_lines taken ran.runs.whole old.pending ran.runs.cut ∙ ap (λ r. map strip_carriage_return ran.runs.whole ++ lines r) none ∙ append-nil _ in
+    record { written = ran.written; runs = rw all ran.runs.runs; wrote = ran.wrote }
 
-finish_lines : (taken : List ℕ) (before mid : Option (List ℕ)) (old : Progress) → (ran : Ran taken before mid old) → 0 < length old.pending
-    → lines taken ≡ map strip_carriage_return ran.whole ++ old.pending ∷ []
-finish_lines taken before mid old ran some =
-    all_lines taken ran.whole old.pending ran.cut ∙ ap (λ l. map strip_carriage_return ran.whole ++ l) (last_line old.pending ran.cut.open_end some)
+finish_lines : (taken text : List ℕ) (old : Progress) → (run : Runs taken text old) → 0 < length old.pending
+    → lines taken ≡ map strip_carriage_return run.whole ++ old.pending ∷ []
+finish_lines taken text old run some =
+    all_lines taken run.whole old.pending run.cut ∙ ap (λ l. map strip_carriage_return run.whole ++ l) (last_line old.pending run.cut.open_end some)
 
-pub finish_ok : (taken : List ℕ) (before mid after : Option (List ℕ)) (old : Progress) (k : ℕ) (machine : Machine) → Ran taken before mid old → 0 < length old.pending
-    → LineDone old.machine old.pending mid after k machine → Wrote (lines taken) (old.events + k) before after
-finish_ok taken before mid after old k machine ran some done = record {
-  text = ran.text ++ done.text;
-  machine = machine;
-  runs = rw (finish_lines taken before mid old ran some) (RunText-more _ _ _ _ _ _ _ _ _ ran.runs done.does);
-  wrote = Appends-trans before mid after ran.text done.text ran.wrote done.wrote;
-}
+pub finish_ok : (taken : List ℕ) (before mid after : Option (List ℕ)) (old : Progress) (left : List ℕ) (k n : ℕ) (machine : Machine) → Ran taken before mid old → 0 < length old.pending
+    → LineDone old.machine old.pending old.gathered left mid after k machine
+    → RanAll taken before after (record { machine = machine; pending = old.pending; gathered = left; events = old.events + k; done = n })
+finish_ok taken before mid after old left k n machine ran some done =
+    let front = done.moves.front in
+    let text : (ran.written ++ front) ++ left ≡ (ran.written ++ old.gathered) ++ done.text =
+    ap (λ l. (ran.written ++ front) ++ l) done.behind ∙ sym (append_assoc (ran.written ++ front) done.kept done.text)
+    ∙ ap (λ l. l ++ done.text) (moved ran.written old.gathered done.kept mid after done.moves) in
+    record {
+      written = ran.written ++ front;
+      runs = rw (finish_lines taken _ old ran.runs some, text) (RunText-more _ _ _ _ _ _ _ _ _ ran.runs.runs done.does);
+      wrote = Appends-trans before mid after ran.written front ran.wrote done.moves.wrote;
+    }
 
-pub finish_some : (taken : List ℕ) (before mid after : Option (List ℕ)) (old : Progress) → Ran taken before mid old → after ≡ mid → RanFirst taken before after
-finish_some taken before mid after old ran same =
-    subst (λ t. RanFirst t before after) (append-nil (taken ++ []) ∙ append-nil taken) (ran_some taken before mid after old ran same [] [])
+-- the input ends here
+here : (taken : List ℕ) (before last : Option (List ℕ)) (f : RunFault) → FaultIn taken before last f → FaultAt taken before last f
+here taken before last f h = subst (λ t. FaultAt t before last f) (append-nil taken) (h [])
 
-finish_bad : (taken : List ℕ) (before mid after : Option (List ℕ)) (old : Progress) → Ran taken before mid old → 0 < length old.pending
-    → line_of old.pending ≡ None → after ≡ mid → RanToUnreadable taken before after (old.done + 1)
-finish_bad taken before mid after old ran some unread same =
-    let first = map strip_carriage_return ran.whole in
+finish_bad : (taken text : List ℕ) (before last : Option (List ℕ)) (old : Progress) → Runs taken text old → 0 < length old.pending
+    → line_of old.pending ≡ None → Appends before last text → FaultAt taken before last (fault.Unreadable (old.done + 1))
+finish_bad taken text before last old run some unread wrote =
+    let first = map strip_carriage_return run.whole in
     let n = old.done + 1 - 1 in
-    let one : n ≡ length ran.whole = omega (arith, ran.counted) in
-    let sum : n ≡ length first = one ∙ sym (length-map ran.whole strip_carriage_return) in
-    let all = finish_lines taken before mid old ran some in
+    let one : n ≡ length run.whole = omega (arith, run.counted) in
+    let sum : n ≡ length first = one ∙ sym (length-map run.whole strip_carriage_return) in
+    let all = finish_lines taken text old run some in
     record {
       bad = old.pending;
       events = old.events;
@@ -198,36 +348,56 @@ finish_bad taken before mid after old ran some unread same =
       at = ap (λ l. slice_get l n) all ∙ ap (slice_get (first ++ old.pending ∷ [])) sum ∙ slice_get_at first old.pending [];
       unreadable = unread;
       all = record {
-        text = ran.text;
+        text = text;
         machine = old.machine;
-        runs = subst (λ ls. RunText fresh ls old.events ran.text old.machine) (sym (ap (take n) all ∙ take_at first (old.pending ∷ []) n (sym sum))) ran.runs;
-        wrote = subst (λ a. Appends before a ran.text) (sym same) ran.wrote;
+        runs = subst (λ ls. RunText fresh ls old.events text old.machine) (sym (ap (take n) all ∙ take_at first (old.pending ∷ []) n (sym sum))) run.runs;
+        wrote = wrote;
       };
     }
 
-finish_cut : (taken : List ℕ) (before mid after : Option (List ℕ)) (old : Progress) → Ran taken before mid old → 0 < length old.pending
-    → LineCut old.machine old.pending mid after → WroteFirst taken before after
-finish_cut taken before mid after old ran some part =
-    let first = map strip_carriage_return ran.whole in
-    let all : take (length (lines taken)) (lines taken) ≡ first ++ old.pending ∷ [] = take_all (length (lines taken)) (lines taken) (omega arith) ∙ finish_lines taken before mid old ran some in
+-- memory was refused before the last line
+pub finish_refused : (taken : List ℕ) (before mid after : Option (List ℕ)) (old : Progress) (left : List ℕ) → Ran taken before mid old → Moves old.gathered left mid after
+    → Halts (FaultAt taken before) before after left fault.Memory
+finish_refused taken before mid after old left ran m =
+    halts_as (FaultIn taken before) (FaultAt taken before) before after left fault.Memory (here taken before) (ran_stops taken before mid after old left ran m)
+
+pub finish_still : (taken : List ℕ) (before mid : Option (List ℕ)) (old : Progress) → Ran taken before mid old → Halts (FaultAt taken before) before mid old.gathered fault.Memory
+finish_still taken before mid old ran = finish_refused taken before mid mid old old.gathered ran (still old.gathered mid)
+
+-- the last line was not done
+pub finish_stops : (taken : List ℕ) (before mid after : Option (List ℕ)) (old : Progress) (left : List ℕ) (f : RunFault) → Ran taken before mid old → 0 < length old.pending
+    → LineStops old.pending (old.done + 1) old.gathered left mid after f → Halts (FaultAt taken before) before after left f
+finish_stops taken before mid after old left (fault.Unreadable n) ran some (number, bad, m) = waits (FaultAt taken before) before mid after ran.written old.gathered left (fault.Unreadable n) ran.wrote m
+    (λ last a. subst (λ k. FaultAt taken before last (fault.Unreadable k)) (sym number) (finish_bad taken _ before last old ran.runs some bad a))
+    (λ last a. here taken before last fault.Write (run_cut taken _ before last old ran.runs a))
+finish_stops taken before mid after old left fault.Read ran some stops = absurd stops
+finish_stops taken before mid after old left fault.Write ran some part =
+    here taken before after fault.Write (run_cut taken _ before after old ran.runs (Appends-front before mid after ran.written old.gathered ran.wrote part))
+finish_stops taken before mid after old left fault.Memory ran some m = finish_refused taken before mid after old left ran m
+
+-- all lines were run, and all their text is written
+pub all_out : (taken : List ℕ) (before mid after : Option (List ℕ)) (old : Progress) → RanAll taken before mid old → Appends mid after old.gathered → Wrote (lines taken) old.events before after
+all_out taken before mid after old ran wrote = record {
+  text = ran.written ++ old.gathered;
+  machine = old.machine;
+  runs = ran.runs;
+  wrote = Appends-trans before mid after ran.written old.gathered ran.wrote wrote;
+}
+
+-- or a beginning of it
+pub all_part : (taken : List ℕ) (before mid after : Option (List ℕ)) (old : Progress) → RanAll taken before mid old → AppendsFront mid after old.gathered → FaultAt taken before after fault.Write
+all_part taken before mid after old ran part =
+    let all : take (length (lines taken)) (lines taken) ≡ lines taken = take_all (length (lines taken)) (lines taken) (omega arith) in
     record {
       count = length (lines taken);
       beginning = record {
-        events = old.events + part.events;
-        text = ran.text ++ part.text;
-        machine = part.new;
-        runs = subst (λ ls. RunText fresh ls (old.events + part.events) (ran.text ++ part.text) part.new) (sym all) (RunText-more _ _ _ _ _ _ _ _ _ ran.runs part.does);
-        wrote = Appends-front before mid after ran.text part.text ran.wrote part.wrote;
+        events = old.events;
+        text = ran.written ++ old.gathered;
+        machine = old.machine;
+        runs = subst (λ ls. RunText fresh ls old.events (ran.written ++ old.gathered) old.machine) (sym all) ran.runs;
+        wrote = Appends-front before mid after ran.written old.gathered ran.wrote part;
       };
     }
-
--- the last line was not done to its end
-pub finish_stops : (taken : List ℕ) (before mid after : Option (List ℕ)) (old : Progress) (f : RunFault) → Ran taken before mid old → 0 < length old.pending
-    → LineStops old.machine old.pending (old.done + 1) mid after f → FaultAt taken before after f
-finish_stops taken before mid after old (fault.Unreadable n) ran some (number, bad, same) = rw number (finish_bad taken before mid after old ran some bad same)
-finish_stops taken before mid after old fault.Read ran some stops = absurd stops
-finish_stops taken before mid after old fault.Write ran some part = finish_cut taken before mid after old ran some part
-finish_stops taken before mid after old fault.Memory ran some same = finish_some taken before mid after old ran same
 
 -- ---- what the reader tells
 
@@ -273,24 +443,33 @@ pub stops_at_end : (told left before mid after : Option (List ℕ)) (bytes : Lis
 stops_at_end told left before mid after bytes old (Ok n) p q ran h = tt
 stops_at_end told left before mid after bytes old (Err f) p q ran h = stops_at told left before after bytes f (told_all told left bytes p q) (h bytes before ran)
 
+-- all text is written where none is gathered
+written_all : (taken : List ℕ) (before mid : Option (List ℕ)) (old : Progress) → Ran taken before mid old → old.gathered ≡ [] → (text : List ℕ) × Runs taken text old × Appends before mid text
+written_all taken before mid old ran none =
+    let same : ran.written ++ old.gathered ≡ ran.written = ap (λ g. ran.written ++ g) none ∙ append-nil ran.written in
+    (ran.written, subst (λ t. Runs taken t old) same ran.runs, ran.wrote)
+
 -- the run went on too long
-pub stops_late : (told left before mid : Option (List ℕ)) (bytes : List ℕ) (old : Progress) → Consumes told left bytes → Ran bytes before mid old
+pub stops_late : (told left before mid : Option (List ℕ)) (bytes : List ℕ) (old : Progress) → Consumes told left bytes → Ran bytes before mid old → old.gathered ≡ []
     → (input : List ℕ) × (Tells told input × RanFirst input before mid)
-stops_late told left before mid bytes old p ran =
+stops_late told left before mid bytes old p ran none =
     let (more, t) = told_input told left bytes p in
-    (bytes ++ more, (t, subst (λ l. RanFirst l before mid) (append-nil (bytes ++ more)) (ran_some bytes before mid mid old ran refl more [])))
+    let (text, run, wrote) = written_all bytes before mid old ran none in
+    (bytes ++ more, (t, run_some bytes text before mid old run wrote more))
 
 -- reading failed: the lines whose end was read were run
-pub stops_as_read : (told left before after : Option (List ℕ)) (taken : List ℕ) (state : Progress) → Consumes told left taken → Ran taken before after state → RanAsRead told left before after
-stops_as_read told left before after taken state consumed ran = record {
-  taken = taken;
-  whole = ran.whole;
-  rest = state.pending;
-  events = state.events;
-  consumed = consumed;
-  cut = ran.cut;
-  all = record { text = ran.text; machine = state.machine; runs = ran.runs; wrote = ran.wrote };
-}
+pub stops_as_read : (told left before after : Option (List ℕ)) (taken : List ℕ) (state : Progress) → Consumes told left taken → Ran taken before after state → state.gathered ≡ [] → RanAsRead told left before after
+stops_as_read told left before after taken state consumed ran none =
+    let (text, run, wrote) = written_all taken before after state ran none in
+    record {
+      taken = taken;
+      whole = run.whole;
+      rest = state.pending;
+      events = state.events;
+      consumed = consumed;
+      cut = run.cut;
+      all = record { text = text; machine = state.machine; runs = run.runs; wrote = wrote };
+    }
 
 -- A reader that keeps its bytes has given none.
 pub keeps_none_taken : (old new : Option (List ℕ)) → Keeps old new → Consumes old new []

@@ -2,5 +2,6 @@
 pub mod Text
 pub mod Report
 pub mod Script
+pub mod Gather
 pub mod Line
 pub mod Progress

@@ -1,7 +1,8 @@
 -- How far a run has come.
-use Rattle.std.specs.Prelude.{◌≡◌, ℕ, ◌+◌, ◌==◌, ◌&&◌, ◌||◌, nat_lt, List, ◌++◌, Option, Bool, length, map}
-use Rattle.std.specs.Str.Lines.{strip_carriage_return}
+use Rattle.std.specs.Prelude.{◌≡◌, ℕ, ◌+◌, nat_le, List, ◌++◌, Option, Bool, length, map}
+use Rattle.std.specs.Str.Lines.{lines, strip_carriage_return}
 use Rattle.std.specs.Io.KnownBytes.{Appends}
+use Rattle.scm_watched.specs.Watched.{AppendsFront}
 use Rattle.af_base.specs.Pass.{Machine}
 use Rattle.af_base.specs.Run.{fresh}
 use Rattle.scm_lines.specs.declared.line.TheConstants.{MAX_LINE}
@@ -9,33 +10,58 @@ use Rattle.scm_run.specs.Script.{IsCut, RunText, FaultAt}
 use Rattle.scm_run.specs.declared.fault.RunFault.{RunFault}
 use Rattle.scm_run.specs.declared.fault.RunFault.TheVariants as fault
 
--- The machine, the bytes after the last line feed, and how many events and lines were done.
+-- The machine, the bytes after the last line feed, the text that is not written yet, and how many events and lines were done (this project's own).
 pub record Progress : Type 0 where
   pub machine : Machine
   pub pending : List ℕ
+  pub gathered : List ℕ
   pub events : ℕ
   pub done : ℕ
 
--- These bytes were taken, the whole lines in them were run, and their text was written.
-pub record Ran (taken : List ℕ) (before after : Option (List ℕ)) (state : Progress) : Type 0 where
+-- These bytes were taken, and the whole lines in them were run, with this text (this project's own).
+pub record Runs (taken text : List ℕ) (state : Progress) : Type 0 where
   pub whole : List (List ℕ)
-  pub text : List ℕ
   pub cut : IsCut taken whole state.pending
   pub runs : RunText fresh (map strip_carriage_return whole) state.events text state.machine
   pub counted : state.done ≡ length whole
-  pub wrote : Appends before after text
 
--- A line that begins with these bytes may be short enough, the one carriage return at its end left out.
-abbrev pub may_fit : List ℕ → ℕ → Bool
-may_fit pending b = nat_lt (length pending) MAX_LINE || ((length pending == MAX_LINE) && (b == 13))
+-- These bytes were taken, the whole lines in them were run, and their text was written but for what is gathered (this project's own).
+pub record Ran (taken : List ℕ) (before after : Option (List ℕ)) (state : Progress) : Type 0 where
+  pub written : List ℕ
+  pub runs : Runs taken (written ++ state.gathered) state
+  pub wrote : Appends before after written
 
--- The fault of a line that is too long, after so many lines.
+-- All lines of this input were run, and their text was written but for what is gathered (this project's own).
+pub record RanAll (input : List ℕ) (before after : Option (List ℕ)) (state : Progress) : Type 0 where
+  pub written : List ℕ
+  pub runs : RunText fresh (lines input) state.events (written ++ state.gathered) state.machine
+  pub wrote : Appends before after written
+
+-- A line that begins with these bytes may be short enough, the one carriage return at its end left out (this project's own).
+abbrev pub may_fit : List ℕ → Bool
+may_fit bytes = nat_le (length (strip_carriage_return bytes)) MAX_LINE
+
+-- The fault of a line that is too long, after so many lines (this project's own).
 abbrev pub TooLong : ℕ → RunFault → Type 0
 TooLong done (fault.Unreadable number) = number ≡ done + 1
 TooLong done fault.Read = ⊥
 TooLong done fault.Write = ⊥
 TooLong done fault.Memory = Unit {0}
 
--- What a fault says, however the input goes on after these bytes.
+-- What a fault says, however the input goes on after these bytes (this project's own).
 abbrev pub FaultIn : List ℕ → Option (List ℕ) → Option (List ℕ) → RunFault → Type 0
 FaultIn bytes before after f = (more : List ℕ) → FaultAt (bytes ++ more) before after f
+
+-- Some text was written and some is gathered: the fault is so once all of it is written, and it is the writer's where only a beginning is (this project's own).
+pub record Waits (says : Option (List ℕ) → RunFault → Type 0) (before after : Option (List ℕ)) (gathered : List ℕ) (f : RunFault) : Type 0 where
+  pub written : List ℕ
+  pub wrote : Appends before after written
+  pub whole : (last : Option (List ℕ)) → Appends before last (written ++ gathered) → says last f
+  pub part : (last : Option (List ℕ)) → AppendsFront before last (written ++ gathered) → says last fault.Write
+
+-- A fault, before what is gathered is written: one of the writer is so already (this project's own).
+abbrev pub Halts : (Option (List ℕ) → RunFault → Type 0) → Option (List ℕ) → Option (List ℕ) → List ℕ → RunFault → Type 0
+Halts says before after gathered (fault.Unreadable n) = Waits says before after gathered (fault.Unreadable n)
+Halts says before after gathered fault.Read = ⊥
+Halts says before after gathered fault.Write = says after fault.Write
+Halts says before after gathered fault.Memory = Waits says before after gathered fault.Memory

@@ -1,5 +1,5 @@
 -- The text of replies.
-use Rattle.std.specs.Prelude.{ℕ, ◌+◌, ◌/◌, ◌%◌, ◌==◌, ◌&&◌, ◌||◌, ◌≤◌, nat_le, nat_lt, length, List, [], ◌∷◌, ◌++◌, Bool, if◌then◌else◌, codes}
+use Rattle.std.specs.Prelude.{ℕ, ◌+◌, ◌/◌, ◌%◌, ◌==◌, ◌&&◌, ◌||◌, ◌≤◌, nat_le, nat_lt, length, List, [], ◌∷◌, ◌++◌, Bool, true, if◌then◌else◌, codes}
 use Rattle.std.specs.List.{flat_map}
 use Rattle.std.specs.Fmt.{decimal}
 use Rattle.af_base.specs.Errno.{name_of}
@@ -10,6 +10,11 @@ use Rattle.af_base.specs.declared.limits.TheConstants.{MAX_BYTES, SCM_MAX_FD}
 -- A letter, a digit, `_`, `-` or `.` is printed as itself. This project's profile.
 abbrev pub is_plain : ℕ → Bool
 is_plain b = (nat_le 48 b && nat_le b 57) || (nat_le 65 b && nat_le b 90) || (nat_le 97 b && nat_le b 122) || (b == 95) || (b == 45) || (b == 46)
+
+-- Each byte is printed as itself.
+abbrev pub all_plain : List ℕ → Bool
+all_plain [] = true
+all_plain (b ∷ bytes) = is_plain b && all_plain bytes
 
 -- The capital hexadecimal digit of a number below 16.
 abbrev pub hex_digit : ℕ → ℕ

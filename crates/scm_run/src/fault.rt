@@ -1,7 +1,8 @@
 //! Why a run stops.
 ghost use Rattle.std.specs.Prelude.{◌≡◌};
-ghost use Rattle.scm_run.specs.declared.fault.RunFault.TheVariants.{Memory};
+ghost use Rattle.scm_run.specs.declared.fault.RunFault.TheVariants.{Memory, Write};
 
+use scm_watched::writes::WriteFailed;
 use std::alloc::{AllocError, AllocFailed};
 use thiserror::Error;
 
@@ -35,5 +36,13 @@ impl<T: Drop> From<AllocFailed<T>> for RunFault {
 
     fn from(_error: AllocFailed<T>) -> RunFault {
         RunFault::Memory
+    }
+}
+
+impl From<WriteFailed> for RunFault {
+    ghost from_gives = { λ _ fault. fault ≡ Write };
+
+    fn from(_error: WriteFailed) -> RunFault {
+        RunFault::Write
     }
 }

@@ -1,88 +1,78 @@
 //! One line of a script: read, done, and its text written.
-ghost use Rattle.std.specs.Prelude.{◌≡◌, ◌≤◌, ◌⊎◌, [], IfOk, IfErr, OnOk, OnErr, string_bytes, false};
+ghost use Rattle.std.specs.Prelude.{◌≡◌, ◌≤◌, ◌+◌, ◌++◌, ◌⊎◌, List, ℕ, IfOk, IfErr, vec_capacity, vec_len, false};
 ghost use Rattle.af_base.specs.declared.errno.Errno.TheVariants.{ENOMEM};
 ghost use Rattle.af_base.specs.declared.events.Reply.TheVariants as reply;
 ghost use Rattle.scm_run.specs.Report.{IsReportText};
 ghost use Rattle.scm_run.specs.Text.{reply_line};
 ghost use Rattle.scm_run.specs.Script.{Does, is_read_fault, is_write_fault};
 ghost use Rattle.scm_run.specs.Line.{LineDone, LineStops};
+ghost use Rattle.scm_run.specs.declared.text.TheConstants.{MAX_REPLY_LINE};
 
 use crate::fault::RunFault;
+use crate::gather::make_room;
 use crate::report::push_report;
-use crate::text::{MAX_REPLY_LINE, push_reply};
+use crate::text::push_reply;
 use af_base::errno::Errno;
 use af_base::events::Reply;
 use af_steps::Engine;
 use scm_lines::line::{Line, Report, line_of};
 use scm_watched::watched::Watched;
-use scm_watched::writes::{WriteFailed, write_whole};
-use std::alloc::{AllocError, Global};
+use std::alloc::Global;
 use std::io::Write;
 
-/// Makes the text of a report, whole, or the line `ENOMEM` where memory for it was refused.
-fn answer_report(
-    alloc: Global,
-    engine: &Engine,
-    report: Report,
-    text: &mut String,
-) -> Result<(), AllocError>
-    requires { string_bytes text.old ≡ [] }
-    ensures { OnOk result (IsReportText engine.now.world report (string_bytes text.new)
-        ⊎ (string_bytes text.new ≡ reply_line (reply.Refused ENOMEM))) }
+/// Appends the text of a report, whole, or the line `ENOMEM` where memory for it was refused.
+fn answer_report(alloc: Global, engine: &Engine, report: Report, text: &mut Vec<u8>)
+    requires { vec_len text.old + MAX_REPLY_LINE ≤ vec_capacity text.old }
+    ensures { (line : List ℕ) × (text.new.items ≡ text.old.items ++ line)
+        × (IsReportText engine.now.world report line ⊎ (line ≡ reply_line (reply.Refused ENOMEM))) }
 {
-    if push_report(alloc, text, engine, report).is_ok() {
-        return Ok(());
+    let mut whole = String::new(alloc);
+    let made = push_report(alloc, &mut whole, engine, report);
+    if made.is_ok() && text.extend_from_slice(whole.as_bytes()).is_ok() {
+        return;
     }
-    text.clear();
-    push_reply(text, &Reply::Refused(Errno::ENOMEM))
+    push_reply(text, &Reply::Refused(Errno::ENOMEM)).unwrap();
 }
 
-/// Does what a line says, makes its text, and says how many events that were.
+/// Does what a line says, appends its text, and says how many events that were.
 ///
-/// Room for the text of any reply is had before the step, so a step that was done has its text: on
-/// an error none was.
-fn answer(
-    alloc: Global,
-    engine: &mut Engine,
-    says: Line,
-    text: &mut String,
-) -> Result<u64, AllocError>
-    ensures does { IfOk result (λ events. Does engine.old says events (string_bytes text.new) engine.new) }
-    ensures few { IfOk result (λ events. events ≤ 1) }
-    ensures same { OnErr result (engine.new ≡ engine.old) }
+/// There is room for the text of any reply before the step, so a step that was done has its text.
+fn answer(alloc: Global, engine: &mut Engine, says: Line, text: &mut Vec<u8>) -> u64
+    requires { vec_len text.old + MAX_REPLY_LINE ≤ vec_capacity text.old }
+    ensures does { (line : List ℕ) × (text.new.items ≡ text.old.items ++ line) × Does engine.old says result line engine.new }
+    ensures few { result ≤ 1 }
 {
-    text.clear();
-    text.reserve(MAX_REPLY_LINE)?;
     match says {
-        Line::Silence => Ok(0),
+        Line::Silence => 0,
         Line::Event(event) => {
             // What a sound world answers is short.
             engine.is_sound();
             let reply = engine.step(&event);
-            push_reply(text, &reply)?;
-            Ok(1)
+            push_reply(text, &reply).unwrap();
+            1
         }
         Line::Report(report) => {
-            answer_report(alloc, engine, report, text)?;
-            Ok(0)
+            answer_report(alloc, engine, report, text);
+            0
         }
     }
 }
 
-/// Does the line of this number, writes its text, and says how many events that were.
+/// Does the line of this number, appends its text to what is gathered, and says how many events
+/// that were.
 ///
-/// The text is made in `text`, whose room is used again by the next line.
+/// What was gathered before is written first where too little room is left.
 pub fn do_line<W: Write>(
     alloc: Global,
     engine: &mut Engine,
-    text: &mut String,
+    text: &mut Vec<u8>,
     number: u64,
     bytes: &[u8],
     writer: &mut Watched<W>,
 ) -> Result<u64, RunFault>
     requires { writer.old.has_failed ≡ false }
-    ensures ok { IfOk result (λ events. LineDone engine.old bytes.now (W.contents writer.old.inner) (W.contents writer.new.inner) events engine.new) }
-    ensures err { IfErr result (LineStops engine.old bytes.now number (W.contents writer.old.inner) (W.contents writer.new.inner)) }
+    ensures ok { IfOk result (λ events. LineDone engine.old bytes.now text.old.items text.new.items (W.contents writer.old.inner) (W.contents writer.new.inner) events engine.new) }
+    ensures err { IfErr result (LineStops bytes.now number text.old.items text.new.items (W.contents writer.old.inner) (W.contents writer.new.inner)) }
     ensures few { IfOk result (λ events. events ≤ 1) }
     ensures write { writer.new.has_failed ≡ is_write_fault result }
     ensures no_read { is_read_fault result ≡ false }
@@ -90,9 +80,6 @@ pub fn do_line<W: Write>(
     let Some(says) = line_of(alloc, bytes)? else {
         return Err(RunFault::Unreadable(number));
     };
-    let events = answer(alloc, engine, says, text)?;
-    match write_whole(writer, text.as_bytes()) {
-        Ok(()) => Ok(events),
-        Err(WriteFailed) => Err(RunFault::Write),
-    }
+    make_room(text, writer)?;
+    Ok(answer(alloc, engine, says, text))
 }

@@ -1,13 +1,15 @@
 //! The run of a script, from a reader to a writer.
-ghost use Rattle.std.specs.Prelude.{◌≡◌, ℕ, List, [], ◌∷◌, ◌++◌, Option, OnOk, IfOk, IfErr, false};
+ghost use Rattle.std.specs.Prelude.{◌≡◌, ◌<◌, ℕ, List, [], ◌++◌, Option, length, OnOk, IfOk, IfErr, false};
 ghost use Rattle.std.specs.Str.Lines.{lines, strip_carriage_return};
 ghost use Rattle.af_base.specs.Run.{fresh};
-ghost use Rattle.scm_run.specs.Progress.{FaultIn, Ran, TooLong, may_fit};
-ghost use Rattle.scm_run.specs.Script.{FaultAt, RanToEnd, StopsBy, Wrote, is_read_fault, is_write_fault};
+ghost use Rattle.scm_run.specs.Progress.{FaultIn, Halts, Ran, RanAll, TooLong, may_fit};
+ghost use Rattle.scm_run.specs.Script.{FaultAt, NoFeed, RanToEnd, StopsBy, Wrote, ended_by_feed, is_read_fault, is_write_fault};
 
 use crate::fault::RunFault;
+use crate::gather::{settle, write_out};
 use crate::line::do_line;
 use af_steps::Engine;
+use memchr::memchr;
 use scm_lines::line::MAX_LINE;
 use scm_watched::watched::Watched;
 use std::alloc::{AllocError, Global};
@@ -21,10 +23,10 @@ const CHUNK: usize = 8192;
 #[derive(Drop)]
 struct Run {
     engine: Engine,
-    /// The bytes after the last line feed.
+    /// The bytes after the last line feed that was read.
     pending: Vec<u8>,
-    /// Room for one line's text, used again.
-    text: String,
+    /// The text of lines that were done, as far as it is not written yet.
+    text: Vec<u8>,
     events: u64,
     /// How many lines were done.
     done: u64,
@@ -40,7 +42,7 @@ impl Model for Run {
 
     ghost coded = { Prim.hlevel (codes, map.code) };
 
-    ghost view = { λ r. record { machine = r.engine; pending = r.pending.items; events = r.events; done = r.done } };
+    ghost view = { λ r. record { machine = r.engine; pending = r.pending.items; gathered = r.text.items; events = r.events; done = r.done } };
 
     ghost invariant = { λ r. r.events ≤ r.done };
 }
@@ -55,38 +57,73 @@ fn without_return(bytes: &[u8]) -> &[u8]
     }
 }
 
+/// Appends bytes to a line that was begun; none is begun where it is empty.
+fn go_on(line: &mut Vec<u8>, bytes: &[u8]) -> Result<(), AllocError>
+    ensures begun { OnOk result (0 < length line.old.items → line.new.items ≡ line.old.items ++ bytes.now) }
+    ensures empty { line.old.items ≡ [] → line.new.items ≡ [] }
+{
+    if line.is_empty() {
+        return Ok(());
+    }
+    line.extend_from_slice(bytes)
+}
+
+/// The first of two, or the second where the first is empty.
+fn unless_empty<'a>(first: &'a [u8], second: &'a [u8]) -> &'a [u8]
+    ensures some { 0 < length first.now → result.now ≡ first.now }
+    ensures none { first.now ≡ [] → result.now ≡ second.now }
+{
+    if first.is_empty() { second } else { first }
+}
+
+/// Whether a line that begins with these bytes may be short enough.
+///
+/// A carriage return may still belong to the line's end.
+fn may_fit(bytes: &[u8]) -> bool
+    ensures { result ≡ may_fit bytes.now }
+{
+    without_return(bytes).len() <= MAX_LINE
+}
+
 impl Run {
     /// Nothing was read yet.
     fn new(alloc: Global) -> Result<Self, AllocError>
-        ensures { IfOk result (λ r. r ≡ record { machine = fresh; pending = []; events = 0; done = 0 }) }
+        ensures { IfOk result (λ r. r ≡ record { machine = fresh; pending = []; gathered = []; events = 0; done = 0 }) }
     {
         Ok(Run {
             engine: Engine::new(alloc)?,
             pending: Vec::new(alloc),
-            text: String::new(alloc),
+            text: Vec::new(alloc),
             events: 0,
             done: 0,
         })
     }
 
-    /// Takes the line feed, and does the line that it ends.
-    fn end_line<W: Write>(&mut self, alloc: Global, writer: &mut Watched<W>) -> Result<(), RunFault>
-        requires { writer.old.has_failed ≡ false }
+    /// Does the line that the pending bytes begin and these end: its line feed comes next.
+    fn end_line<W: Write>(
+        &mut self,
+        alloc: Global,
+        back: &[u8],
+        writer: &mut Watched<W>,
+    ) -> Result<(), RunFault>
+        requires failed { writer.old.has_failed ≡ false }
+        requires feed { NoFeed back.now }
         ensures ok { OnOk result ((taken : List ℕ) (before : Option (List ℕ)) → Ran taken before (W.contents writer.old.inner) self.old
-            → Ran (taken ++ 10 ∷ []) before (W.contents writer.new.inner) self.new) }
+            → Ran (taken ++ ended_by_feed back.now) before (W.contents writer.new.inner) self.new) }
         ensures err { IfErr result (λ f. (taken : List ℕ) (before : Option (List ℕ)) → Ran taken before (W.contents writer.old.inner) self.old
-            → FaultIn (taken ++ 10 ∷ []) before (W.contents writer.new.inner) f) }
+            → Halts (FaultIn (taken ++ ended_by_feed back.now) before) before (W.contents writer.new.inner) self.new.gathered f) }
         ensures write { writer.new.has_failed ≡ is_write_fault result }
         ensures no_read { is_read_fault result ≡ false }
     {
         let number = self.done.checked_add(1).ok_or(RunFault::Memory)?;
-        let bytes = without_return(self.pending.as_slice());
+        go_on(&mut self.pending, back)?;
+        let line = unless_empty(self.pending.as_slice(), back);
         let events = do_line(
             alloc,
             &mut self.engine,
             &mut self.text,
             number,
-            bytes,
+            without_return(line),
             writer,
         )?;
         self.events += events;
@@ -95,39 +132,22 @@ impl Run {
         Ok(())
     }
 
-    /// Takes the next byte of the script.
-    fn feed_byte<W: Write>(
-        &mut self,
-        alloc: Global,
-        byte: u8,
-        writer: &mut Watched<W>,
-    ) -> Result<(), RunFault>
-        requires { writer.old.has_failed ≡ false }
-        ensures ok { OnOk result ((taken : List ℕ) (before : Option (List ℕ)) → Ran taken before (W.contents writer.old.inner) self.old
-            → Ran (taken ++ byte ∷ []) before (W.contents writer.new.inner) self.new) }
-        ensures err { IfErr result (λ f. (taken : List ℕ) (before : Option (List ℕ)) → Ran taken before (W.contents writer.old.inner) self.old
-            → FaultIn (taken ++ byte ∷ []) before (W.contents writer.new.inner) f) }
-        ensures write { writer.new.has_failed ≡ is_write_fault result }
+    /// Keeps bytes whose line feed was not read yet, unless their line is too long already.
+    fn keep(&mut self, bytes: &[u8]) -> Result<(), RunFault>
+        requires { NoFeed bytes.now }
+        ensures ok { OnOk result ((taken : List ℕ) (before after : Option (List ℕ)) → Ran taken before after self.old
+            → Ran (taken ++ bytes.now) before after self.new) }
+        ensures err { IfErr result (λ f. (taken : List ℕ) (before after : Option (List ℕ)) → Ran taken before after self.old
+            → Halts (FaultIn (taken ++ bytes.now) before) before after self.new.gathered f) }
+        ensures no_write { is_write_fault result ≡ false }
         ensures no_read { is_read_fault result ≡ false }
     {
-        if byte == b'\n' {
-            return self.end_line(alloc, writer);
+        self.pending.extend_from_slice(bytes)?;
+        if may_fit(self.pending.as_slice()) {
+            Ok(())
+        } else {
+            Err(self.too_long())
         }
-        if !self.may_fit(byte) {
-            return Err(self.too_long());
-        }
-        self.pending.push(byte)?;
-        Ok(())
-    }
-
-    /// Whether a line that begins with the pending bytes and this one may be short enough.
-    ///
-    /// A carriage return may still belong to the line's end.
-    fn may_fit(&self, byte: u8) -> bool
-        ensures { result ≡ may_fit self.now.pending byte }
-    {
-        let length = self.pending.len();
-        length < MAX_LINE || (length == MAX_LINE && byte == b'\r')
     }
 
     /// The fault of a line that is too long.
@@ -140,7 +160,63 @@ impl Run {
         }
     }
 
-    /// Takes the next bytes of the script.
+    /// Takes the next bytes of the script: does each line whose line feed is among them.
+    fn take<W: Write>(
+        &mut self,
+        alloc: Global,
+        bytes: &[u8],
+        writer: &mut Watched<W>,
+    ) -> Result<(), RunFault>
+        requires { writer.old.has_failed ≡ false }
+        ensures ok { OnOk result ((taken : List ℕ) (before : Option (List ℕ)) → Ran taken before (W.contents writer.old.inner) self.old
+            → Ran (taken ++ bytes.now) before (W.contents writer.new.inner) self.new) }
+        ensures err { IfErr result (λ f. (taken : List ℕ) (before : Option (List ℕ)) → Ran taken before (W.contents writer.old.inner) self.old
+            → Halts (FaultIn (taken ++ bytes.now) before) before (W.contents writer.new.inner) self.new.gathered f) }
+        ensures write { writer.new.has_failed ≡ is_write_fault result }
+        ensures no_read { is_read_fault result ≡ false }
+    {
+        let mut rest = bytes;
+        while let Some(at) = memchr(b'\n', rest) {
+            let (line, _) = rest.split_at(at);
+            let (_, others) = rest.split_at(at + 1);
+            self.end_line(alloc, line, writer)?;
+            rest = others;
+        }
+        self.keep(rest)
+    }
+
+    /// Does the last line, where it has no line feed.
+    fn last_line<W: Write>(
+        &mut self,
+        alloc: Global,
+        writer: &mut Watched<W>,
+    ) -> Result<(), RunFault>
+        requires { writer.old.has_failed ≡ false }
+        ensures ok { OnOk result ((taken : List ℕ) (before : Option (List ℕ)) → Ran taken before (W.contents writer.old.inner) self.old
+            → RanAll taken before (W.contents writer.new.inner) self.new) }
+        ensures err { IfErr result (λ f. (taken : List ℕ) (before : Option (List ℕ)) → Ran taken before (W.contents writer.old.inner) self.old
+            → Halts (FaultAt taken before) before (W.contents writer.new.inner) self.new.gathered f) }
+        ensures write { writer.new.has_failed ≡ is_write_fault result }
+        ensures no_read { is_read_fault result ≡ false }
+    {
+        if self.pending.is_empty() {
+            return Ok(());
+        }
+        let number = self.done.checked_add(1).ok_or(RunFault::Memory)?;
+        let events = do_line(
+            alloc,
+            &mut self.engine,
+            &mut self.text,
+            number,
+            self.pending.as_slice(),
+            writer,
+        )?;
+        self.events += events;
+        self.done = number;
+        Ok(())
+    }
+
+    /// Takes the next bytes of the script, and writes the text of the lines that end in them.
     fn feed<W: Write>(
         &mut self,
         alloc: Global,
@@ -150,18 +226,20 @@ impl Run {
         requires { writer.old.has_failed ≡ false }
         ensures ok { OnOk result ((taken : List ℕ) (before : Option (List ℕ)) → Ran taken before (W.contents writer.old.inner) self.old
             → Ran (taken ++ chunk.now) before (W.contents writer.new.inner) self.new) }
+        ensures out { OnOk result (self.new.gathered ≡ []) }
         ensures err { IfErr result (λ f. (taken : List ℕ) (before : Option (List ℕ)) → Ran taken before (W.contents writer.old.inner) self.old
             → FaultIn (taken ++ chunk.now) before (W.contents writer.new.inner) f) }
         ensures write { writer.new.has_failed ≡ is_write_fault result }
         ensures no_read { is_read_fault result ≡ false }
     {
-        for byte in chunk {
-            self.feed_byte(alloc, *byte, writer)?;
+        match self.take(alloc, chunk, writer) {
+            Ok(()) => Ok(write_out(&mut self.text, writer)?),
+            Err(fault) => Err(settle(&mut self.text, fault, writer)),
         }
-        Ok(())
     }
 
-    /// Does the last line, where it has no line feed, and says how many events were done in all.
+    /// Does and writes the last line, where it has no line feed, and says how many events were done
+    /// in all.
     fn finish<W: Write>(&mut self, alloc: Global, writer: &mut Watched<W>) -> Result<u64, RunFault>
         requires { writer.old.has_failed ≡ false }
         ensures ok { IfOk result (λ n. (taken : List ℕ) (before : Option (List ℕ)) → Ran taken before (W.contents writer.old.inner) self.old
@@ -171,20 +249,13 @@ impl Run {
         ensures write { writer.new.has_failed ≡ is_write_fault result }
         ensures no_read { is_read_fault result ≡ false }
     {
-        if self.pending.is_empty() {
-            return Ok(self.events);
+        match self.last_line(alloc, writer) {
+            Ok(()) => {
+                write_out(&mut self.text, writer)?;
+                Ok(self.events)
+            }
+            Err(fault) => Err(settle(&mut self.text, fault, writer)),
         }
-        let number = self.done.checked_add(1).ok_or(RunFault::Memory)?;
-        let bytes = self.pending.as_slice();
-        let events = do_line(
-            alloc,
-            &mut self.engine,
-            &mut self.text,
-            number,
-            bytes,
-            writer,
-        )?;
-        Ok(self.events + events)
     }
 }
 

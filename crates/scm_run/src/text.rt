@@ -1,7 +1,7 @@
 //! The text of replies.
-ghost use Rattle.std.specs.Prelude.{◌≡◌, ◌<◌, ◌≤◌, ◌+◌, ◌*◌, ◌++◌, OnOk, OnErr, decimal, length, string_bytes, string_capacity, string_len};
+ghost use Rattle.std.specs.Prelude.{◌≡◌, ◌<◌, ◌≤◌, ◌+◌, ◌*◌, ◌++◌, OnOk, OnErr, decimal, length, vec_capacity, vec_len};
 ghost use Rattle.std.specs.List.{flat_map};
-ghost use Rattle.scm_run.specs.Text.{IsShort, is_plain, hex_digit, escaped, spaced, fds_text, flag_text, got_text, reply_line, reply_text};
+ghost use Rattle.scm_run.specs.Text.{IsShort, all_plain, is_plain, hex_digit, escaped, spaced, fds_text, flag_text, got_text, reply_line, reply_text};
 
 use af_base::events::Reply;
 use af_base::limits::{MAX_BYTES, SCM_MAX_FD};
@@ -12,6 +12,9 @@ use std::alloc::AllocError;
 /// Room for the line of any reply: three characters for each byte that a receive takes, a space and
 /// twenty digits for each descriptor, and the words.
 pub const MAX_REPLY_LINE: usize = 3 * MAX_BYTES + 21 * SCM_MAX_FD + 64;
+
+/// How many bytes of a message are appended at once.
+const BLOCK: usize = 256;
 
 /// Whether a byte is printed as itself.
 fn is_plain(byte: u8) -> bool
@@ -36,27 +39,52 @@ fn hex_digit(value: u8) -> u8
 // What appends to a text fails only where there was no room for as many bytes as it may take, and
 // then some beginning may stand in the text; room is never lost.
 
-/// Appends a byte as itself, or % and its two hexadecimal digits.
-fn push_escaped(text: &mut String, byte: u8) -> Result<(), AllocError>
-    ensures bytes { OnOk result (string_bytes text.new ≡ string_bytes text.old ++ escaped byte) }
-    ensures most { OnOk result (string_len text.new ≤ string_len text.old + 3) }
-    ensures room { string_capacity text.old ≤ string_capacity text.new }
-    ensures full { OnErr result (string_capacity text.old < string_len text.old + 3) }
+/// Appends a word.
+fn push_word(text: &mut Vec<u8>, word: &str) -> Result<(), AllocError>
+    ensures bytes { OnOk result (text.new.items ≡ text.old.items ++ word.now) }
+    ensures most { OnOk result (vec_len text.new ≤ vec_len text.old + length word.now) }
+    ensures room { vec_capacity text.old ≤ vec_capacity text.new }
+    ensures full { OnErr result (vec_capacity text.old < vec_len text.old + length word.now) }
 {
-    if is_plain(byte) {
-        return text.push(char::from(byte));
-    }
-    text.push('%')?;
-    text.push(char::from(hex_digit(byte / 16)))?;
-    text.push(char::from(hex_digit(byte % 16)))
+    text.extend_from_slice(word.as_bytes())
 }
 
-/// Appends bytes, each as itself or by its digits.
-fn push_bytes(text: &mut String, bytes: &[u8]) -> Result<(), AllocError>
-    ensures bytes { OnOk result (string_bytes text.new ≡ string_bytes text.old ++ flat_map escaped bytes.now) }
-    ensures most { OnOk result (string_len text.new ≤ string_len text.old + 3 * length bytes.now) }
-    ensures room { string_capacity text.old ≤ string_capacity text.new }
-    ensures full { OnErr result (string_capacity text.old < string_len text.old + 3 * length bytes.now) }
+/// Appends a byte as itself, or % and its two hexadecimal digits.
+fn push_escaped(text: &mut Vec<u8>, byte: u8) -> Result<(), AllocError>
+    ensures bytes { OnOk result (text.new.items ≡ text.old.items ++ escaped byte) }
+    ensures most { OnOk result (vec_len text.new ≤ vec_len text.old + 3) }
+    ensures room { vec_capacity text.old ≤ vec_capacity text.new }
+    ensures full { OnErr result (vec_capacity text.old < vec_len text.old + 3) }
+{
+    if is_plain(byte) {
+        text.push(byte)?;
+        return Ok(());
+    }
+    text.push(b'%')?;
+    text.push(hex_digit(byte / 16))?;
+    text.push(hex_digit(byte % 16))?;
+    Ok(())
+}
+
+/// Whether each byte is printed as itself.
+///
+/// It looks at all of them, whatever the first ones are: so the bytes are looked at many at a time.
+fn all_plain(bytes: &[u8]) -> bool
+    ensures { result ≡ all_plain bytes.now }
+{
+    let mut plain = true;
+    for byte in bytes {
+        plain &= is_plain(*byte);
+    }
+    plain
+}
+
+/// Appends some bytes, each as itself or by its digits.
+fn push_each(text: &mut Vec<u8>, bytes: &[u8]) -> Result<(), AllocError>
+    ensures bytes { OnOk result (text.new.items ≡ text.old.items ++ flat_map escaped bytes.now) }
+    ensures most { OnOk result (vec_len text.new ≤ vec_len text.old + 3 * length bytes.now) }
+    ensures room { vec_capacity text.old ≤ vec_capacity text.new }
+    ensures full { OnErr result (vec_capacity text.old < vec_len text.old + 3 * length bytes.now) }
 {
     for byte in bytes {
         push_escaped(text, *byte)?;
@@ -64,24 +92,53 @@ fn push_bytes(text: &mut String, bytes: &[u8]) -> Result<(), AllocError>
     Ok(())
 }
 
-/// Appends a word, and a number behind it.
-fn push_named(text: &mut String, word: &str, number: u64) -> Result<(), AllocError>
-    ensures bytes { OnOk result (string_bytes text.new ≡ string_bytes text.old ++ word.now ++ decimal number) }
-    ensures most { OnOk result (string_len text.new ≤ string_len text.old + (length word.now + 20)) }
-    ensures room { string_capacity text.old ≤ string_capacity text.new }
-    ensures full { OnErr result (string_capacity text.old < string_len text.old + (length word.now + 20)) }
+/// Appends a few bytes, each as itself or by its digits; at once where each is printed as itself.
+fn push_block(text: &mut Vec<u8>, bytes: &[u8]) -> Result<(), AllocError>
+    ensures bytes { OnOk result (text.new.items ≡ text.old.items ++ flat_map escaped bytes.now) }
+    ensures most { OnOk result (vec_len text.new ≤ vec_len text.old + 3 * length bytes.now) }
+    ensures room { vec_capacity text.old ≤ vec_capacity text.new }
+    ensures full { OnErr result (vec_capacity text.old < vec_len text.old + 3 * length bytes.now) }
 {
-    text.push_str(word)?;
+    if all_plain(bytes) {
+        return text.extend_from_slice(bytes);
+    }
+    push_each(text, bytes)
+}
+
+/// Appends bytes, each as itself or by its digits, a block at a time.
+fn push_bytes(text: &mut Vec<u8>, bytes: &[u8]) -> Result<(), AllocError>
+    ensures bytes { OnOk result (text.new.items ≡ text.old.items ++ flat_map escaped bytes.now) }
+    ensures most { OnOk result (vec_len text.new ≤ vec_len text.old + 3 * length bytes.now) }
+    ensures room { vec_capacity text.old ≤ vec_capacity text.new }
+    ensures full { OnErr result (vec_capacity text.old < vec_len text.old + 3 * length bytes.now) }
+{
+    let mut rest = bytes;
+    while rest.len() > BLOCK {
+        let (block, others) = rest.split_at(BLOCK);
+        push_block(text, block)?;
+        rest = others;
+    }
+    push_block(text, rest)
+}
+
+/// Appends a word, and a number behind it.
+fn push_named(text: &mut Vec<u8>, word: &str, number: u64) -> Result<(), AllocError>
+    ensures bytes { OnOk result (text.new.items ≡ text.old.items ++ word.now ++ decimal number) }
+    ensures most { OnOk result (vec_len text.new ≤ vec_len text.old + (length word.now + 20)) }
+    ensures room { vec_capacity text.old ≤ vec_capacity text.new }
+    ensures full { OnErr result (vec_capacity text.old < vec_len text.old + (length word.now + 20)) }
+{
+    push_word(text, word)?;
     let mut buffer = Buffer::new();
-    text.push_str(buffer.format(number))
+    push_word(text, buffer.format(number))
 }
 
 /// Appends numbers, each behind a space.
-fn push_numbers(text: &mut String, fds: &[Fd]) -> Result<(), AllocError>
-    ensures bytes { OnOk result (string_bytes text.new ≡ string_bytes text.old ++ flat_map spaced fds.now) }
-    ensures most { OnOk result (string_len text.new ≤ string_len text.old + 21 * length fds.now) }
-    ensures room { string_capacity text.old ≤ string_capacity text.new }
-    ensures full { OnErr result (string_capacity text.old < string_len text.old + 21 * length fds.now) }
+fn push_numbers(text: &mut Vec<u8>, fds: &[Fd]) -> Result<(), AllocError>
+    ensures bytes { OnOk result (text.new.items ≡ text.old.items ++ flat_map spaced fds.now) }
+    ensures most { OnOk result (vec_len text.new ≤ vec_len text.old + 21 * length fds.now) }
+    ensures room { vec_capacity text.old ≤ vec_capacity text.new }
+    ensures full { OnErr result (vec_capacity text.old < vec_len text.old + 21 * length fds.now) }
 {
     for fd in fds {
         push_named(text, " ", u64::from(fd.0))?;
@@ -90,46 +147,46 @@ fn push_numbers(text: &mut String, fds: &[Fd]) -> Result<(), AllocError>
 }
 
 /// Appends ` fds` and the numbers, where there is one.
-fn push_fds(text: &mut String, fds: &[Fd]) -> Result<(), AllocError>
-    ensures bytes { OnOk result (string_bytes text.new ≡ string_bytes text.old ++ fds_text fds.now) }
-    ensures most { OnOk result (string_len text.new ≤ string_len text.old + (4 + 21 * length fds.now)) }
-    ensures room { string_capacity text.old ≤ string_capacity text.new }
-    ensures full { OnErr result (string_capacity text.old < string_len text.old + (4 + 21 * length fds.now)) }
+fn push_fds(text: &mut Vec<u8>, fds: &[Fd]) -> Result<(), AllocError>
+    ensures bytes { OnOk result (text.new.items ≡ text.old.items ++ fds_text fds.now) }
+    ensures most { OnOk result (vec_len text.new ≤ vec_len text.old + (4 + 21 * length fds.now)) }
+    ensures room { vec_capacity text.old ≤ vec_capacity text.new }
+    ensures full { OnErr result (vec_capacity text.old < vec_len text.old + (4 + 21 * length fds.now)) }
 {
     if fds.is_empty() {
         return Ok(());
     }
-    text.push_str(" fds")?;
+    push_word(text, " fds")?;
     push_numbers(text, fds)
 }
 
 /// Appends a word, where it is to stand.
-fn push_flag(text: &mut String, flag: bool, word: &str) -> Result<(), AllocError>
-    ensures bytes { OnOk result (string_bytes text.new ≡ string_bytes text.old ++ flag_text flag word.now) }
-    ensures most { OnOk result (string_len text.new ≤ string_len text.old + length word.now) }
-    ensures room { string_capacity text.old ≤ string_capacity text.new }
-    ensures full { OnErr result (string_capacity text.old < string_len text.old + length word.now) }
+fn push_flag(text: &mut Vec<u8>, flag: bool, word: &str) -> Result<(), AllocError>
+    ensures bytes { OnOk result (text.new.items ≡ text.old.items ++ flag_text flag word.now) }
+    ensures most { OnOk result (vec_len text.new ≤ vec_len text.old + length word.now) }
+    ensures room { vec_capacity text.old ≤ vec_capacity text.new }
+    ensures full { OnErr result (vec_capacity text.old < vec_len text.old + length word.now) }
 {
     if !flag {
         return Ok(());
     }
-    text.push_str(word)
+    push_word(text, word)
 }
 
 /// Appends what a receive took.
 fn push_got(
-    text: &mut String,
+    text: &mut Vec<u8>,
     bytes: &[u8],
     fds: &[Fd],
     trunc: bool,
     ctrunc: bool,
 ) -> Result<(), AllocError>
-    ensures bytes { OnOk result (string_bytes text.new ≡ string_bytes text.old ++ got_text bytes.now fds.now trunc ctrunc) }
-    ensures most { OnOk result (string_len text.new ≤ string_len text.old + (3 * length bytes.now + 21 * length fds.now + 21)) }
-    ensures room { string_capacity text.old ≤ string_capacity text.new }
-    ensures full { OnErr result (string_capacity text.old < string_len text.old + (3 * length bytes.now + 21 * length fds.now + 21)) }
+    ensures bytes { OnOk result (text.new.items ≡ text.old.items ++ got_text bytes.now fds.now trunc ctrunc) }
+    ensures most { OnOk result (vec_len text.new ≤ vec_len text.old + (3 * length bytes.now + 21 * length fds.now + 21)) }
+    ensures room { vec_capacity text.old ≤ vec_capacity text.new }
+    ensures full { OnErr result (vec_capacity text.old < vec_len text.old + (3 * length bytes.now + 21 * length fds.now + 21)) }
 {
-    text.push_str("got ")?;
+    push_word(text, "got ")?;
     push_bytes(text, bytes)?;
     push_fds(text, fds)?;
     push_flag(text, trunc, " trunc")?;
@@ -137,11 +194,11 @@ fn push_got(
 }
 
 /// Appends a reply, without the end of its line.
-fn push_text(text: &mut String, reply: &Reply) -> Result<(), AllocError>
-    ensures bytes { OnOk result (string_bytes text.new ≡ string_bytes text.old ++ reply_text reply.now) }
-    ensures most { OnOk result (IsShort reply.now → string_len text.new < string_len text.old + MAX_REPLY_LINE) }
-    ensures room { string_capacity text.old ≤ string_capacity text.new }
-    ensures full { OnErr result (IsShort reply.now → string_capacity text.old < string_len text.old + MAX_REPLY_LINE) }
+fn push_text(text: &mut Vec<u8>, reply: &Reply) -> Result<(), AllocError>
+    ensures bytes { OnOk result (text.new.items ≡ text.old.items ++ reply_text reply.now) }
+    ensures most { OnOk result (IsShort reply.now → vec_len text.new < vec_len text.old + MAX_REPLY_LINE) }
+    ensures room { vec_capacity text.old ≤ vec_capacity text.new }
+    ensures full { OnErr result (IsShort reply.now → vec_capacity text.old < vec_len text.old + MAX_REPLY_LINE) }
 {
     match reply {
         Reply::Pid(pid) => push_named(text, "pid ", u64::from(pid.0)),
@@ -150,7 +207,7 @@ fn push_text(text: &mut String, reply: &Reply) -> Result<(), AllocError>
             push_named(text, "fds ", u64::from(first.0))?;
             push_named(text, " ", u64::from(second.0))
         }
-        Reply::Ok => text.push_str("ok"),
+        Reply::Ok => push_word(text, "ok"),
         Reply::Sent(count) => push_named(text, "sent ", u64::from(*count)),
         Reply::Got {
             bytes,
@@ -158,14 +215,14 @@ fn push_text(text: &mut String, reply: &Reply) -> Result<(), AllocError>
             trunc,
             ctrunc,
         } => push_got(text, bytes.as_slice(), fds.as_slice(), *trunc, *ctrunc),
-        Reply::End => text.push_str("end"),
+        Reply::End => push_word(text, "end"),
         Reply::Started(pass) => push_named(text, "started ", *pass),
-        Reply::Working => text.push_str("working"),
+        Reply::Working => push_word(text, "working"),
         Reply::Done { pass, reclaimed } => {
             push_named(text, "pass ", *pass)?;
             push_named(text, " reclaimed ", *reclaimed)
         }
-        Reply::Refused(error) => text.push_str(error.name()),
+        Reply::Refused(error) => push_word(text, error.name()),
     }
 }
 
@@ -174,10 +231,11 @@ fn push_text(text: &mut String, reply: &Reply) -> Result<(), AllocError>
 /// Where memory runs out, some beginning of the line may stand in the text. It does not where there
 /// was room for a line of `MAX_REPLY_LINE` bytes, and the reply is one that a step may give.
 #[tactic(auto, unfolding(crate::specs::Text::reply_line))]
-pub fn push_reply(text: &mut String, reply: &Reply) -> Result<(), AllocError>
-    ensures bytes { OnOk result (string_bytes text.new ≡ string_bytes text.old ++ reply_line reply.now) }
-    ensures full { OnErr result (IsShort reply.now → string_capacity text.old < string_len text.old + MAX_REPLY_LINE) }
+pub fn push_reply(text: &mut Vec<u8>, reply: &Reply) -> Result<(), AllocError>
+    ensures bytes { OnOk result (text.new.items ≡ text.old.items ++ reply_line reply.now) }
+    ensures full { OnErr result (IsShort reply.now → vec_capacity text.old < vec_len text.old + MAX_REPLY_LINE) }
 {
     push_text(text, reply)?;
-    text.push('\n')
+    text.push(b'\n')?;
+    Ok(())
 }

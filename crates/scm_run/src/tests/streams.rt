@@ -47,3 +47,22 @@ impl Write for FailingWriter {
         Ok(())
     }
 }
+
+/// A writer that takes all that it is given, and counts its calls.
+#[derive(Drop)]
+pub struct CountingWriter {
+    pub held: Vec<u8>,
+    pub calls: usize,
+}
+
+impl Write for CountingWriter {
+    fn write(&mut self, buf: &[u8]) -> io::Result<usize> {
+        self.calls = self.calls.wrapping_add(1);
+        self.held.extend_from_slice(buf)?;
+        Ok(buf.len())
+    }
+
+    fn flush(&mut self) -> io::Result<()> {
+        Ok(())
+    }
+}

@@ -17,7 +17,7 @@ loop-message-preserved c =
     let xs = c.loop-message.queue.items in
     let m = c.in-Some.message.now in
     let rest = c.next.new.self in
-    let x : ListedMessage = record { user = c.user.result; attached = c.in_ok-to_vec.field-0 } in
+    let x : ListedMessage = record { user = c.user.result; attached = c.in_ok-numbers_of.field-0 } in
     let copied : x.attached.items ≡ m.attached = search rules in
     let same : message_of x ≡ bare_message m = λ i. record { bytes = []; attached = copied i; user = c.user.ensures i } in
     let step : c.loop-message.message-iterator ≡ m ∷ rest = c.in-Some.ensures.steps in

@@ -13,8 +13,8 @@ invariant-loop-fd l =
     let ns = l.fd-iterator.a.rest.now in
     let fs = l.fd-iterator.b.rest.now in
     record {
-      processes : filled l.procs.processes l.pid (zip ns fs) ≡ filled l.initial.procs.processes l.pid (zip l.fds l.inos);
-      kept : held_all Table (map (λ e. e.1) (zip ns fs)) l.ledger ≡ held_all Table (map (λ e. e.1) (zip l.fds l.inos)) l.initial.ledger;
+      processes : filled l.procs.processes l.pid (zip ns fs) ≡ filled l.initial.procs.processes l.pid (zip l.fds l.files);
+      kept : held_all Table (map (λ e. e.1) (zip ns fs)) l.ledger ≡ held_all Table (map (λ e. e.1) (zip l.fds l.files)) l.initial.ledger;
       rows : l.procs.rows ≡ l.initial.procs.rows;
       next : l.procs.next_pid ≡ l.initial.procs.next_pid;
       row : All (λ n. n < row_in l.procs.rows l.pid) ns;

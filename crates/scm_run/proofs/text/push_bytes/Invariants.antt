@@ -1,12 +1,15 @@
--- The text so far, and the room that it took.
-use Rattle.std.proofs.Common.{◌≡◌, ◌≤◌, ◌+◌, ◌*◌, ◌++◌, take, string_bytes, string_capacity, string_len}
+-- The text so far and what the rest adds to it, and the room that it took.
+use Rattle.std.proofs.Common.{◌≡◌, ◌≤◌, ◌+◌, ◌*◌, ◌++◌, length, vec_capacity, vec_len}
 use Rattle.std.specs.List.{flat_map}
 use Rattle.scm_run.specs.Text.{escaped}
 use Rattle.scm_run.proofs.text.push_bytes.Given as goal
 
-abbrev pub invariant-loop-byte : goal.invariant-loop-byte
-invariant-loop-byte l = record {
-  bytes : string_bytes l.text ≡ string_bytes l.fn.text ++ flat_map escaped (take l.byte-index l.bytes);
-  most : string_len l.text ≤ string_len l.fn.text + 3 * l.byte-index;
-  room : string_capacity l.fn.text ≤ string_capacity l.text;
+abbrev pub invariant-loop-rest : goal.invariant-loop-rest
+invariant-loop-rest l = record {
+  bytes : l.text.items ++ flat_map escaped l.rest ≡ l.fn.text.items ++ flat_map escaped l.bytes;
+  most : vec_len l.text + 3 * length l.rest ≤ vec_len l.fn.text + 3 * length l.bytes;
+  room : vec_capacity l.fn.text ≤ vec_capacity l.text;
 }
+
+abbrev pub decreases-loop-rest : goal.decreases-loop-rest
+decreases-loop-rest l = length l.rest

@@ -14,15 +14,15 @@ turned a false e f = absurd (false≢true (sym f ∙ e))
 pub returns-then-not-branch : goal.returns-then-not-branch
 returns-then-not-branch c =
     let e = c.in_ok-insert.ensures in
-    let was : is_marked c.args.self.now c.args.ino ≡ true = grind (arith, turned) in
+    let was : is_marked c.args.self.now c.args.file.now ≡ true = grind (arith, turned) in
     let same : c.insert.new.self.keys ≡ c.args.self.now.marked = grind arith in
     let waits : c.self.inside.waiting.items ≡ c.args.self.now.waiting = grind arith in
-    marked-old c.args.self.now _ c.args.ino was same waits
+    marked-old c.args.self.now _ c.args.file.now was same waits
 
 pub returns : goal.returns
 returns c =
     let e = c.in_ok-insert.ensures in
     let more : length c.insert.new.self.keys ≡ length c.args.self.now.marked + 1 = grind arith in
-    let waits : c.push.new.self.items ≡ c.args.self.now.waiting ++ c.args.ino ∷ [] = grind arith in
-    let inside : (f : ℕ) → list_any (eq_by_cmp nat_cmp f) c.insert.new.self.keys ≡ cond (eq_by_cmp nat_cmp c.args.ino f) true (list_any (eq_by_cmp nat_cmp f) c.self.inside.marked.keys) = e.updates.0 in
-    marked-new c.args.self.now _ c.args.ino (λ f. inside f ∙ ap (λ m. cond (eq_by_cmp nat_cmp c.args.ino f) true (is_marked m f)) c.self.view_is) e.ordered more waits
+    let waits : c.push.new.self.items ≡ c.args.self.now.waiting ++ c.args.file.now ∷ [] = grind arith in
+    let inside : (f : ℕ) → list_any (eq_by_cmp nat_cmp f) c.insert.new.self.keys ≡ cond (eq_by_cmp nat_cmp c.args.file.now f) true (list_any (eq_by_cmp nat_cmp f) c.self.inside.marked.keys) = λ f. e.updates.0 f ∙ ap (λ n. cond (eq_by_cmp nat_cmp n f) true (list_any (eq_by_cmp nat_cmp f) c.self.inside.marked.keys)) c.ino.ensures in
+    marked-new c.args.self.now _ c.args.file.now (λ f. inside f ∙ ap (λ m. cond (eq_by_cmp nat_cmp c.args.file.now f) true (is_marked m f)) c.self.view_is) e.ordered more waits

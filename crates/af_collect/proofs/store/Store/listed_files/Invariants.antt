@@ -9,13 +9,13 @@ use Rattle.af_collect.proofs.Listed.{entry, changed}
 use Rattle.af_base.proofs.Rising.{above}
 use Rattle.af_collect.proofs.store.Store.listed_files.Given as goal
 
-abbrev pub invariant-loop-ino : goal.invariant-loop-ino
-invariant-loop-ino l = record {
+abbrev pub invariant-loop-file : goal.invariant-loop-file
+invariant-loop-file l = record {
   so_far :
       map (entry (λ x. x.ino) file_of) l.files.items ++ map (changed bare_file) (above l.last (finmap.entries l.self.world.files))
       ≡ map (changed bare_file) (above 0 (finmap.entries l.self.world.files));
   few : sum_by (λ x. length (contents (file_of x))) l.files.items + MAX_MESSAGES * SCM_MAX_FD * length (above l.last (finmap.entries l.self.world.files)) ≤ MAX_FILES * (MAX_MESSAGES * SCM_MAX_FD);
 }
 
-abbrev pub decreases-loop-ino : goal.decreases-loop-ino
-decreases-loop-ino l = length (above l.last (finmap.entries l.self.world.files))
+abbrev pub decreases-loop-file : goal.decreases-loop-file
+decreases-loop-file l = length (above l.last (finmap.entries l.self.world.files))

@@ -13,6 +13,6 @@ pub invariant_of-self-2 : goal.invariant_of-self-2
 invariant_of-self-2 c =
     let w = (the_view c.self.inside).world in
     let fits = subst (λ (s : Stored). is_full s.world 1 ≡ false) (sym c.self.view_is) c.requires in
-    let kept = c.enter.ensures.entered ∙ (λ i. record (c.reserve.ensures.same i) { counts = map.insert (c.reserve.ensures.same i).counts (c.in_ok-ino.ensures.ino i) uncounted; room = c.enter.new.self.room }) in
-    exact-same _ _ _ _ (world-is _ _ refl c.in_ok-ino.ensures.files c.in_ok-ino.ensures.next refl (ap {A = Kept} (λ k. keys_of k.users) kept)) kept
+    let kept = c.enter.ensures.entered ∙ (λ i. record (c.reserve.ensures.same i) { counts = map.insert (c.reserve.ensures.same i).counts ((c.ino.ensures ∙ c.in_ok-file.ensures.ino) i) uncounted; last = (c.ino.ensures ∙ c.in_ok-file.ensures.ino) i; room = c.enter.new.self.room }) in
+    exact-same _ _ _ _ (world-is _ _ refl c.in_ok-file.ensures.files c.in_ok-file.ensures.next refl (ap {A = Kept} (λ k. keys_of k.users) kept)) kept
     (exact-plain w c.self.inside.ledger c.enter.new.self.room fits c.self.invariant)

@@ -6,6 +6,6 @@ use Rattle.af_collect.proofs.store.Store.mark_held.Given as goal
 
 abbrev pub invariant-loop-message : goal.invariant-loop-message
 invariant-loop-message l = record {
-  marks : Marked (Holds l.self.world l.fn.ino) (Contains (carried l.message-iterator)) l.fn.marks l.marks;
-  within : (f : ℕ) → Contains (carried l.message-iterator) f → Holds l.self.world l.fn.ino f;
+  marks : Marked (Holds l.self.world l.fn.file) (Contains (carried l.message-iterator)) l.fn.marks l.marks;
+  within : (f : ℕ) → Contains (carried l.message-iterator) f → Holds l.self.world l.fn.file f;
 }

@@ -22,37 +22,37 @@ use Rattle.af_collect.proofs.store.Store.put_msg.Goals as goal
 
 pub unwrap-requires : goal.unwrap-requires
 unwrap-requires c =
-    let socket = subst (λ (t : Stored). is_none (socket_at t.world c.args.ino) ≡ false) (sym c.self.view_is) c.requires.socket in
-    let there = c.get.ensures ∙ has (the_view c.self.inside).world c.args.ino c.args.message socket c.push.new.self.files c.in_ok-push.ensures.files in
+    let socket = subst (λ (t : Stored). is_none (socket_at t.world c.args.socket.now) ≡ false) (sym c.self.view_is) c.requires.socket in
+    let there = c.get.ensures ∙ has (the_view c.self.inside).world c.args.socket.now c.args.message socket c.push.new.self.files c.in_ok-push.ensures.files in
     search rules
 
 pub unwrap-requires-2 : goal.unwrap-requires-2
 unwrap-requires-2 c =
-    let socket = subst (λ (t : Stored). is_none (socket_at t.world c.args.ino) ≡ false) (sym c.self.view_is) c.requires.socket in
+    let socket = subst (λ (t : Stored). is_none (socket_at t.world c.args.socket.now) ≡ false) (sym c.self.view_is) c.requires.socket in
     let at = sym (ap option_copied c.unwrap.ensures) ∙ c.get.ensures in
-    let there = c.socket.ensures ∙ ap socket_of (found (the_view c.self.inside).world c.args.ino c.args.message socket c.push.new.self.files c.in_ok-push.ensures.files c.unwrap.result.now at) in
+    let there = c.socket.ensures ∙ ap socket_of (found (the_view c.self.inside).world c.args.socket.now c.args.message socket c.push.new.self.files c.in_ok-push.ensures.files c.unwrap.result.now at) in
     search rules
 
 pub unwrap-sent-requires : goal.unwrap-sent-requires
 unwrap-sent-requires c =
     let w = (the_view c.self.inside).world in
-    let socket = subst (λ (t : Stored). is_none (socket_at t.world c.args.ino) ≡ false) (sym c.self.view_is) c.requires.socket in
+    let socket = subst (λ (t : Stored). is_none (socket_at t.world c.args.socket.now) ≡ false) (sym c.self.view_is) c.requires.socket in
     let at = sym (ap option_copied c.unwrap.ensures) ∙ c.get.ensures in
     let is = sym (ap option_copied c.unwrap-2.ensures) ∙ c.socket.ensures in
-    let x = to w c.args.ino c.args.message socket c.push.new.self.files c.in_ok-push.ensures.files in
-    last-some c.last.result c.unwrap-2.result.now.queue x.0.queue c.args.message c.last.ensures.none (ap (λ t. t.queue) (socket_found w c.args.ino c.args.message socket c.push.new.self.files c.in_ok-push.ensures.files c.unwrap.result.now c.unwrap-2.result.now at is))
+    let x = to w c.args.socket.now c.args.message socket c.push.new.self.files c.in_ok-push.ensures.files in
+    last-some c.last.result c.unwrap-2.result.now.queue x.0.queue c.args.message c.last.ensures.none (ap (λ t. t.queue) (socket_found w c.args.socket.now c.args.message socket c.push.new.self.files c.in_ok-push.ensures.files c.unwrap.result.now c.unwrap-2.result.now at is))
 
 pub hold_all-requires : goal.hold_all-requires
 hold_all-requires c =
     let w = (the_view c.self.inside).world in
     let m = c.args.message in
     let back = sym c.self.view_is in
-    let socket = subst (λ (t : Stored). is_none (socket_at t.world c.args.ino) ≡ false) back c.requires.socket in
+    let socket = subst (λ (t : Stored). is_none (socket_at t.world c.args.socket.now) ≡ false) back c.requires.socket in
     let at = sym (ap option_copied c.unwrap.ensures) ∙ c.get.ensures in
     let is = sym (ap option_copied c.unwrap-2.ensures) ∙ c.socket.ensures in
     let q = c.unwrap-2.result.now.queue in
     let last = subst (λ o. IfSome o (λ z. slice_get q (length q - 1) ≡ Some z.now)) c.unwrap-sent.ensures c.last.ensures.some in
-    let sent = sent_found w c.args.ino m socket c.push.new.self.files c.in_ok-push.ensures.files c.unwrap.result.now c.unwrap-2.result.now c.unwrap-sent.result.now at is last in
+    let sent = sent_found w c.args.socket.now m socket c.push.new.self.files c.in_ok-push.ensures.files c.unwrap.result.now c.unwrap-2.result.now c.unwrap-sent.result.now at is last in
     let user = known-sender w m.user c.self.inside.ledger (subst (λ (t : Stored). IsOfProcess t.world m.user) back c.requires.user) c.self.invariant.agrees in
     let flying = subst (λ (t : Stored). total t.world + length m.attached ≤ MAX_INFLIGHT) back c.requires.flying in
     let live = subst (λ (t : Stored). (f : ℕ) → Contains m.attached f → IsLive t.world f) back c.requires.live in
@@ -63,25 +63,25 @@ hold_all-requires c =
 -- What the ledger keeps then.
 kept : (c : goal.After-hold_all) → c.hold_all.new.self ≡ held_all (Queue c.args.message.user) c.args.message.attached c.self.inside.ledger
 kept c =
-    let socket = subst (λ (t : Stored). is_none (socket_at t.world c.args.ino) ≡ false) (sym c.self.view_is) c.requires.socket in
+    let socket = subst (λ (t : Stored). is_none (socket_at t.world c.args.socket.now) ≡ false) (sym c.self.view_is) c.requires.socket in
     let at = sym (ap option_copied c.unwrap.ensures) ∙ c.get.ensures in
     let is = sym (ap option_copied c.unwrap-2.ensures) ∙ c.socket.ensures in
     let q = c.unwrap-2.result.now.queue in
     let last = subst (λ o. IfSome o (λ z. slice_get q (length q - 1) ≡ Some z.now)) c.unwrap-sent.ensures c.last.ensures.some in
-    let sent = sent_found (the_view c.self.inside).world c.args.ino c.args.message socket c.push.new.self.files c.in_ok-push.ensures.files c.unwrap.result.now c.unwrap-2.result.now c.unwrap-sent.result.now at is last in
+    let sent = sent_found (the_view c.self.inside).world c.args.socket.now c.args.message socket c.push.new.self.files c.in_ok-push.ensures.files c.unwrap.result.now c.unwrap-2.result.now c.unwrap-sent.result.now at is last in
     c.hold_all.ensures ∙ (λ i. held_all (Queue ((c.user.ensures ∙ ap (λ x. x.user) sent) i)) ((c.attached.ensures.value ∙ ap (λ x. x.attached) sent) i) c.self.inside.ledger)
 
 -- What the world is then.
-put : (c : goal.After-hold_all) → (the_view (record c.self.inside { files = c.push.new.self; ledger = c.hold_all.new.self })).world ≡ push_message (the_view c.self.inside).world c.args.ino c.args.message
+put : (c : goal.After-hold_all) → (the_view (record c.self.inside { files = c.push.new.self; ledger = c.hold_all.new.self })).world ≡ push_message (the_view c.self.inside).world c.args.socket.now c.args.message
 put c = world-is _ _ refl c.in_ok-push.ensures.files c.in_ok-push.ensures.next refl (ap (λ k. keys_of k.users) (kept c) ∙ users-held_all c.args.message.user c.args.message.attached c.self.inside.ledger)
 
 pub invariant_of-self-2 : goal.invariant_of-self-2
 invariant_of-self-2 c =
     let w = (the_view c.self.inside).world in
-    let s = c.args.ino in
+    let s = c.args.socket.now in
     let m = c.args.message in
     let back = sym c.self.view_is in
-    let socket = subst (λ (t : Stored). is_none (socket_at t.world c.args.ino) ≡ false) back c.requires.socket in
+    let socket = subst (λ (t : Stored). is_none (socket_at t.world c.args.socket.now) ≡ false) back c.requires.socket in
     let x = to w s m socket c.push.new.self.files c.in_ok-push.ensures.files in
     let user = known-sender w m.user c.self.inside.ledger (subst (λ (t : Stored). IsOfProcess t.world m.user) back c.requires.user) c.self.invariant.agrees in
     let flying = subst (λ (t : Stored). total t.world + length m.attached ≤ MAX_INFLIGHT) back c.requires.flying in
@@ -92,4 +92,4 @@ invariant_of-self-2 c =
 pub returns-clause-ok : goal.returns-clause-ok
 returns-clause-ok c =
     ap {A = World} {B = Stored} (λ w. record { world = w; rows = c.self.inside.procs.rows }) (put c)
-    ∙ ap {A = Stored} {B = Stored} (λ s. record s { world = push_message s.world c.args.ino c.args.message }) c.self.view_is
+    ∙ ap {A = Stored} {B = Stored} (λ s. record s { world = push_message s.world c.args.socket.now c.args.message }) c.self.view_is

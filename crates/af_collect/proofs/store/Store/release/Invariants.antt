@@ -5,11 +5,11 @@ use Rattle.af_base.specs.Unheld.{Settles}
 use Rattle.af_collect.proofs.Shedding.{burden}
 use Rattle.af_collect.proofs.store.Store.release.Given as goal
 
-abbrev pub invariant-loop-ino : goal.invariant-loop-ino
-invariant-loop-ino l = record {
+abbrev pub invariant-loop-file : goal.invariant-loop-file
+invariant-loop-file l = record {
   settles : (end : World) → Settles l.self.world end → Settles l.initial.self.world end;
   rows : l.self.rows ≡ l.initial.self.rows;
 }
 
-abbrev pub decreases-loop-ino : goal.decreases-loop-ino
-decreases-loop-ino l = burden l.self.world
+abbrev pub decreases-loop-file : goal.decreases-loop-file
+decreases-loop-file l = burden l.self.world

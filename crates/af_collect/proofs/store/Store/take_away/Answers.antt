@@ -14,7 +14,7 @@ use Rattle.af_collect.proofs.store.Store.take_away.Goals as goal
 pub invariant_of-self : goal.invariant_of-self
 invariant_of-self c =
     let w = (the_view c.self.inside).world in
-    let f = c.args.ino in
+    let f = c.args.file.now in
     let back = sym c.self.view_is in
     let x = there (map.get w.files f) (subst (λ (s : Stored). IsLive s.world f) back c.requires.live) in
     let bare = sym (ap (λ o. option_map_or contents o []) x.1) ∙ subst (λ (s : Stored). held_by s.world f ≡ []) back c.requires.bare in

@@ -1,4 +1,4 @@
-use Rattle.std.proofs.Common.{ℕ, Bool, not, filter, List, [], ◌++◌, append-nil, sym, ap, ◌∙◌}
+use Rattle.std.proofs.Common.{◌<◌, length, subst, ℕ, Bool, not, filter, List, [], ◌++◌, append-nil, sym, ap, ◌∙◌}
 use Rattle.std.specs.Map.{keys_of}
 use Rattle.std.specs.FinMap as map
 use Rattle.af_base.specs.World.{File}
@@ -15,43 +15,47 @@ has_none m f = not (is_marked m f)
 abbrev with_rest : Marks → List ℕ → List (ℕ × File) → List ℕ
 with_rest m items es = items ++ filter (has_none m) (keys_of es)
 
-pub loop-ino-smaller : goal.loop-ino-smaller
-loop-ino-smaller c =
+pub loop-file-smaller : goal.loop-file-smaller
+loop-file-smaller c =
     let next = c.in-Some.ensures in
-    fewer_above c.self.inside.files.files c.args.self.now.world.files (ap (λ s. s.world.files) c.self.view_is) c.loop-ino.last c.in-Some.ino next.above next.live next.least
+    let es = map.entries c.args.self.now.world.files in
+    subst (λ n. length (above n es) < length (above c.loop-file.last es)) (sym c.ino-last.ensures) (fewer_above c.self.inside.files.files c.args.self.now.world.files (ap (λ s. s.world.files) c.self.view_is) c.loop-file.last c.in-Some.file next.above next.live next.least)
 
-pub loop-ino-smaller-then-is_marked : goal.loop-ino-smaller-then-is_marked
-loop-ino-smaller-then-is_marked c =
+pub loop-file-smaller-then-is_marked : goal.loop-file-smaller-then-is_marked
+loop-file-smaller-then-is_marked c =
     let next = c.in-Some.ensures in
-    fewer_above c.self.inside.files.files c.args.self.now.world.files (ap (λ s. s.world.files) c.self.view_is) c.loop-ino.last c.in-Some.ino next.above next.live next.least
+    let es = map.entries c.args.self.now.world.files in
+    subst (λ n. length (above n es) < length (above c.loop-file.last es)) (sym c.ino-last.ensures) (fewer_above c.self.inside.files.files c.args.self.now.world.files (ap (λ s. s.world.files) c.self.view_is) c.loop-file.last c.in-Some.file next.above next.live next.least)
 
-pub loop-ino-preserved-then-is_marked : goal.loop-ino-preserved-then-is_marked
-loop-ino-preserved-then-is_marked c =
+pub loop-file-preserved-then-is_marked : goal.loop-file-preserved-then-is_marked
+loop-file-preserved-then-is_marked c =
     let files = c.args.self.now.world.files in
     let m = c.args.marks.now in
     let next = c.in-Some.ensures in
-    let at = next_entry c.self.inside.files.files files (ap (λ s. s.world.files) c.self.view_is) c.loop-ino.last c.in-Some.ino next.above next.live next.least in
-    let marked = sym c.is_marked.ensures ∙ c.if-is_marked.true in
-    listed-same (has_none m) c.loop-ino.unmarked.items c.in-Some.ino (keys_of (above c.in-Some.ino (map.entries files))) (ap not marked)
-    ∙ ap (with_rest m c.loop-ino.unmarked.items) (sym at.2) ∙ c.loop-ino.invariant
+    let at = next_entry c.self.inside.files.files files (ap (λ s. s.world.files) c.self.view_is) c.loop-file.last c.in-Some.file next.above next.live next.least in
+    let marked = ap (is_marked m) (sym c.ino-last.ensures) ∙ sym c.is_marked.ensures ∙ c.if-is_marked.true in
+    ap (λ n. with_rest m c.loop-file.unmarked.items (above n (map.entries files))) c.ino-last.ensures
+    ∙ listed-same (has_none m) c.loop-file.unmarked.items c.in-Some.file (keys_of (above c.in-Some.file (map.entries files))) (ap not marked)
+    ∙ ap (with_rest m c.loop-file.unmarked.items) (sym at.2) ∙ c.loop-file.invariant
 
-pub loop-ino-preserved : goal.loop-ino-preserved
-loop-ino-preserved c =
+pub loop-file-preserved : goal.loop-file-preserved
+loop-file-preserved c =
     let files = c.args.self.now.world.files in
     let m = c.args.marks.now in
     let next = c.in-Some.ensures in
-    let at = next_entry c.self.inside.files.files files (ap (λ s. s.world.files) c.self.view_is) c.loop-ino.last c.in-Some.ino next.above next.live next.least in
-    let unmarked = sym c.is_marked.ensures ∙ c.if-is_marked.false in
-    ap (λ xs. with_rest m xs (above c.in-Some.ino (map.entries files))) c.in_ok-push.ensures.items
-    ∙ listed-more (has_none m) c.loop-ino.unmarked.items c.in-Some.ino (keys_of (above c.in-Some.ino (map.entries files))) (ap not unmarked)
-    ∙ ap (with_rest m c.loop-ino.unmarked.items) (sym at.2) ∙ c.loop-ino.invariant
+    let at = next_entry c.self.inside.files.files files (ap (λ s. s.world.files) c.self.view_is) c.loop-file.last c.in-Some.file next.above next.live next.least in
+    let unmarked = ap (is_marked m) (sym c.ino-last.ensures) ∙ sym c.is_marked.ensures ∙ c.if-is_marked.false in
+    ap (λ n. with_rest m c.push.new.self.items (above n (map.entries files))) c.ino-last.ensures
+    ∙ ap (λ xs. with_rest m xs (above c.in-Some.file (map.entries files))) c.in_ok-push.ensures.items
+    ∙ listed-more (has_none m) c.loop-file.unmarked.items c.in-Some.file (keys_of (above c.in-Some.file (map.entries files))) (ap not unmarked)
+    ∙ ap (with_rest m c.loop-file.unmarked.items) (sym at.2) ∙ c.loop-file.invariant
 
 pub returns : goal.returns
 returns c =
     let files = c.args.self.now.world.files in
     let same = ap (λ s. s.world.files) c.self.view_is in
     let last = c.in_default.ensures in
-    sym (append-nil c.loop-ino.unmarked.items)
-    ∙ ap (with_rest c.args.marks.now c.loop-ino.unmarked.items) (sym (no_entry c.self.inside.files.files files same c.loop-ino.last last.none))
-    ∙ c.loop-ino.invariant
+    sym (append-nil c.loop-file.unmarked.items)
+    ∙ ap (with_rest c.args.marks.now c.loop-file.unmarked.items) (sym (no_entry c.self.inside.files.files files same c.loop-file.last last.none))
+    ∙ c.loop-file.invariant
     ∙ ap (with_rest c.args.marks.now []) (all_entries c.self.inside.files.files files same last.begins)

@@ -1,10 +1,10 @@
-use Rattle.std.proofs.Common.{rules, arith}
-use Rattle.af_desc.proofs.Over.{none_over-empty}
-use Rattle.af_desc.proofs.Keys.{none_in_place}
+use Rattle.std.proofs.Common.{◌<◌, subst, sym, arith}
+use Rattle.af_order.proofs.Keyed.{none_in_place, none_there}
 use Rattle.af_desc.proofs.files.Files.new.Goals as goal
 
 pub invariant_of-result : goal.invariant_of-result
 invariant_of-result c = (
-  none_in_place c.new.result c.new-2.result _ c.new.ensures.empty (omega arith),
-  none_over-empty c.new.result c.new-2.result (search rules),
+  none_in_place c.new.result.keys c.new-2.result c.new.ensures.keys c.new-2.ensures.empty,
+  subst (λ n. n < 1) (sym c.new.ensures.last) (omega arith),
+  none_there c.new.result.keys c.new-2.result 0 c.new.ensures.keys,
 )

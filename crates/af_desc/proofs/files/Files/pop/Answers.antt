@@ -1,10 +1,13 @@
-use Rattle.std.proofs.Common.{rules, refl}
-use Rattle.af_desc.proofs.Over.{none_over-written}
-use Rattle.af_desc.proofs.Keys.{written_in_place}
+use Rattle.std.proofs.Common.{sym, ap, refl, ◌∙◌}
+use Rattle.std.specs.Option.{option_copied_mut}
+use Rattle.af_order.proofs.Keyed.{write_in_place, write_absent}
 use Rattle.af_desc.proofs.files.Files.pop.Goals as goal
 
 pub invariant_of-self-2 : goal.invariant_of-self-2
-invariant_of-self-2 c = (
-  written_in_place c.self.inside.keys c.self.inside.slab c.args.ino c.in_ok-key.key.now c.self.inside.next c.in_ok-entry.entry.now _ c.self.invariant.0 (search rules) (search rules) refl,
-  none_over-written c.self.inside.keys c.self.inside.slab c.in_ok-key.key.now c.in_ok-entry.entry.now _ (search rules) c.self.invariant.1,
-)
+invariant_of-self-2 c =
+    let was = sym c.key_of.ensures ∙ c.in_ok-key.was in
+    let at = sym c.get_mut.ensures.value ∙ ap option_copied_mut c.in_ok-entry.was in (
+      write_in_place c.self.inside.order.keys c.self.inside.slab c.args.file.now c.in_ok-key.key _ _ c.self.invariant.0 was at refl,
+      c.self.invariant.1,
+      write_absent c.self.inside.order.keys c.self.inside.slab c.args.file.now c.in_ok-key.key _ _ c.self.invariant.0 was at 0 c.self.invariant.2,
+    )

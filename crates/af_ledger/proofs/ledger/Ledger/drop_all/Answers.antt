@@ -1,14 +1,24 @@
-use Rattle.std.proofs.Common.{sym, ap, ◌∙◌, subst}
-use Rattle.af_ledger.specs.Kept.{CanDrop, dropped}
+use Rattle.std.proofs.Common.{◌≡◌, ℕ, List, arith, length, take, sym, ap, ◌∙◌, subst}
+use Rattle.std.specs.FinMap as map
+use Rattle.std.proofs.lemmas.List.{take_all}
+use Rattle.af_base.specs.World.{Map}
+use Rattle.af_ledger.specs.Counted.{IsCounted, fewer}
+use Rattle.af_ledger.specs.Kept.{Kept, count_of, dropped_all, freed_by}
+use Rattle.af_ledger.specs.declared.count.Count.{Count}
 use Rattle.af_ledger.specs.declared.place.Place.TheVariants.{Queue}
-use Rattle.af_ledger.proofs.HeldAll.{drop-next, dropped-more}
+use Rattle.af_ledger.proofs.HeldAll.{drop-next, dropped-more, freed-dropped_all}
 use Rattle.af_ledger.proofs.ledger.Ledger.drop_all.Goals as goal
 
-pub drop_one-requires : goal.drop_one-requires
-drop_one-requires c =
-    subst (CanDrop (Queue c.args.user) c.ino-item.result) (sym c.loop-ino.invariant) (drop-next c.args.user c.args.inos.now c.loop-ino.ino-index c.ino-item.result c.args.self.now c.requires c.loop-ino-test.true c.ino-item.is)
+pub lower-requires : goal.lower-requires
+lower-requires c =
+    subst (λ k. IsCounted (Queue c.args.user) (count_of k c.file-item.result)) (sym c.loop-file.invariant) (drop-next c.args.user c.args.files.now c.loop-file.file-index c.file-item.result c.args.self.now c.requires c.loop-file-test.true c.file-item.is).0
 
-pub loop-ino-preserved : goal.loop-ino-preserved
-loop-ino-preserved c =
-    c.drop_one.ensures ∙ ap (dropped (Queue c.args.user) c.ino-item.result) c.loop-ino.invariant
-    ∙ sym (dropped-more (Queue c.args.user) c.args.inos.now c.loop-ino.ino-index c.ino-item.result c.args.self.now c.loop-ino-test.true c.ino-item.is)
+pub loop-file-preserved : goal.loop-file-preserved
+loop-file-preserved c =
+    c.lower.ensures ∙ ap {A = Kept} {B = Kept} (λ k. record k { counts = map.insert k.counts c.file-item.result (fewer (Queue c.args.user) (count_of k c.file-item.result)) }) c.loop-file.invariant
+    ∙ ap {A = Map Count} {B = Kept} (λ m. record (freed_by (length c.args.files.now) c.args.user c.args.self.now) { counts = m }) (ap (λ k. k.counts) (sym (dropped-more (Queue c.args.user) c.args.files.now c.loop-file.file-index c.file-item.result c.args.self.now c.loop-file-test.true c.file-item.is)))
+
+pub returns : goal.returns
+returns c =
+    let all : take c.loop-file.file-index c.args.files.now ≡ c.args.files.now = take_all c.loop-file.file-index c.args.files.now (omega (arith, c.loop-file-test.false)) in
+    c.loop-file.invariant ∙ ap {A = List ℕ} {B = Kept} (λ fs. record (freed_by (length c.args.files.now) c.args.user c.args.self.now) { counts = (dropped_all (Queue c.args.user) fs c.args.self.now).counts }) all ∙ freed-dropped_all c.args.user c.args.files.now c.args.self.now

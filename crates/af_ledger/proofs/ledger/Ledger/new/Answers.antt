@@ -1,7 +1,13 @@
-use Rattle.std.proofs.Common.{nat_cmp, ap}
-use Rattle.std.specs.FinMap as map
+use Rattle.std.proofs.Common.{arith}
+use Rattle.af_order.proofs.Keyed.{no_values, none_in_place}
 use Rattle.af_ledger.proofs.Waiting.{nothing-waits}
 use Rattle.af_ledger.proofs.ledger.Ledger.new.Goals as goal
 
+pub returns-clause-counts : goal.returns-clause-counts
+returns-clause-counts c = no_values _ _ c.new.ensures.keys
+
 pub invariant_of-result : goal.invariant_of-result
-invariant_of-result c = nothing-waits _ _ _ (ap (map.from_entries {R = nat_cmp}) c.new.ensures.empty) c.new-2.ensures.items
+invariant_of-result c = (
+  none_in_place _ _ c.new.ensures.keys c.new-2.ensures.empty,
+  nothing-waits _ _ _ _ (no_values _ c.new-2.result c.new.ensures.keys) c.new-3.ensures.items (grind (arith, c.new-2.ensures.empty)),
+)

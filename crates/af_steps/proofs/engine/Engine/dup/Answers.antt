@@ -39,5 +39,5 @@ table_in-requires-clause-live c =
     let p = c.args.pid in
     let q = c.in_ok-process.process.now.process in
     let at : map.get w.processes p ≡ Some q = search rules in
-    let stands : map.get q.table c.args.from ≡ Some c.in_ok-ino.ino = search rules in
-    subst (λ v. IsLive v c.in_ok-ino.ino) (sym c.room_for.ensures.world) (c.self.invariant.0.whole.tables_live c.in_ok-ino.ino (p, c.args.from, on_table w p q at c.args.from ∙ stands))
+    let stands : map.get q.table c.args.from ≡ Some c.in_ok-file.file = search rules in
+    subst (λ v. IsLive v c.in_ok-file.file) (sym c.room_for.ensures.world) (c.self.invariant.0.whole.tables_live c.in_ok-file.file (p, c.args.from, on_table w p q at c.args.from ∙ stands))

@@ -18,10 +18,10 @@ returns-then-eq c =
     let p = c.args.pid in
     let q = c.in_ok-process.process.now.process in
     let at : map.get w.processes p ≡ Some q = search rules in
-    let stands : map.get q.table c.args.from ≡ Some c.in_ok-ino.ino = search rules in
+    let stands : map.get q.table c.args.from ≡ Some c.in_ok-file.file = search rules in
     let same : nat_eq c.args.to c.args.from ≡ true = search rules in
     subst (λ (m : Machine). ProcessStep m.world p (step.Dup2 c.args.from c.args.to) (reply.Fd c.args.to) m.world × ((m.pass ≡ m.pass) × (m.last_pass ≡ m.last_pass))) c.self.view_is
-    (same-done w p q at c.args.from c.args.to c.in_ok-ino.ino stands c.self.invariant.0 same, (refl, refl))
+    (same-done w p q at c.args.from c.args.to c.in_ok-file.file stands c.self.invariant.0 same, (refl, refl))
 
 pub table_in-requires-clause-there : goal.table_in-requires-clause-there
 table_in-requires-clause-there c =
@@ -66,8 +66,8 @@ table_in-requires-clause-live c =
     let v = c.vacate.new.store.world in
     let vacant : v ≡ uninstall w p c.args.to = ap (λ (s : Stored). s.world) c.vacate.ensures ∙ ap (λ x. uninstall x p c.args.to) c.room_for.ensures.world in
     let same = ap (λ (x : World). x.processes) vacant in
-    let stands : map.get q.table c.args.from ≡ Some c.in_ok-ino.ino = search rules in
-    subst (λ x. IsLive x c.in_ok-ino.ino) (sym vacant) (c.self.invariant.0.whole.tables_live c.in_ok-ino.ino (p, c.args.from, on_table w p q at c.args.from ∙ stands))
+    let stands : map.get q.table c.args.from ≡ Some c.in_ok-file.file = search rules in
+    subst (λ x. IsLive x c.in_ok-file.file) (sym vacant) (c.self.invariant.0.whole.tables_live c.in_ok-file.file (p, c.args.from, on_table w p q at c.args.from ∙ stands))
 
 pub returns : goal.returns
 returns c =
@@ -75,12 +75,12 @@ returns c =
     let p = c.args.pid in
     let q = c.in_ok-process.process.now.process in
     let at : map.get w.processes p ≡ Some q = search rules in
-    let stands : map.get q.table c.args.from ≡ Some c.in_ok-ino.ino = search rules in
+    let stands : map.get q.table c.args.from ≡ Some c.in_ok-file.file = search rules in
     let other : nat_eq c.args.to c.args.from ≡ false = search rules in
     let low : c.args.to < q.limit = omega (arith, c.if-to-limit.false, c.limit.ensures.value) in
     let v = c.room_for.new.self.world in
     let there : map.get v.processes p ≡ Some q = ap (λ (x : World). map.get x.processes p) c.room_for.ensures.world ∙ at in
-    let placed : c.table_in.new.self.world ≡ install v p c.args.to c.in_ok-ino.ino =
-    ap (λ (s : Stored). s.world) c.table_in.ensures ∙ ap (λ (s : Stored). install s.world p c.args.to c.in_ok-ino.ino) c.vacate.ensures ∙ install-uninstalled v p c.args.to q there c.in_ok-ino.ino in
-    let moved = moved-done w p q at c.args.from c.args.to c.in_ok-ino.ino stands other low v c.table_in.new.self.world c.release.new.self.world c.room_for.ensures.world placed c.release.ensures.settles in
+    let placed : c.table_in.new.self.world ≡ install v p c.args.to c.in_ok-file.file =
+    ap (λ (s : Stored). s.world) c.table_in.ensures ∙ ap (λ (s : Stored). install s.world p c.args.to c.in_ok-file.file) c.vacate.ensures ∙ install-uninstalled v p c.args.to q there c.in_ok-file.file in
+    let moved = moved-done w p q at c.args.from c.args.to c.in_ok-file.file stands other low v c.table_in.new.self.world c.release.new.self.world c.room_for.ensures.world placed c.release.ensures.settles in
     subst (λ (m : Machine). ProcessStep m.world p (step.Dup2 c.args.from c.args.to) (reply.Fd c.args.to) c.release.new.self.world × ((Idle ≡ m.pass) × (c.self.inside.last_pass ≡ m.last_pass))) c.self.view_is (moved, (refl, refl))

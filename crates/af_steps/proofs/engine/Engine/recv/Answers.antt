@@ -19,12 +19,12 @@ returns-in_default c =
     let q = c.in_ok-process.process.now.process in
     let x = c.in_ok-socket.socket.now in
     let at : map.get w.processes p ≡ Some q = search rules in
-    let stands : map.get q.table c.args.on ≡ Some c.in_ok-ino.ino = search rules in
-    let found : socket_at w c.in_ok-ino.ino ≡ Some x = search rules in
+    let stands : map.get q.table c.args.on ≡ Some c.in_ok-file.file = search rules in
+    let found : socket_at w c.in_ok-file.file ≡ Some x = search rules in
     let given : first_fit (receive_row x c.args.max_bytes) ≡ None = search rules in
     let empty : x.queue ≡ [] = search rules in
     subst (λ (m : Machine). ProcessStep m.world p (step.Recv c.args.on c.args.max_bytes c.args.max_fds) reply.End m.world × ((m.pass ≡ m.pass) × (m.last_pass ≡ m.last_pass))) c.self.view_is
-    (recv-end w p c.args.on q at c.in_ok-ino.ino stands x found c.args.max_bytes c.args.max_fds empty c.self.invariant.0 given, (refl, refl))
+    (recv-end w p c.args.on q at c.in_ok-file.file stands x found c.args.max_bytes c.args.max_fds empty c.self.invariant.0 given, (refl, refl))
 
 pub take_msg-message-requires-clause-row : goal.take_msg-message-requires-clause-row
 take_msg-message-requires-clause-row c =

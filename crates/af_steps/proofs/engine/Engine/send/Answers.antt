@@ -25,13 +25,13 @@ returns-in_err-peer c =
     let q = c.in_ok-process.process.now.process in
     let x = c.in_ok-socket.socket.now in
     let at : map.get w.processes p ≡ Some q = search rules in
-    let stands : map.get q.table c.args.on ≡ Some c.in_ok-ino.ino = search rules in
-    let found : socket_at w c.in_ok-ino.ino ≡ Some x = search rules in
+    let stands : map.get q.table c.args.on ≡ Some c.in_ok-file.file = search rules in
+    let found : socket_at w c.in_ok-file.file ≡ Some x = search rules in
     let given : first_fit (parts_row q c.args.bytes.now c.args.attach.now) ≡ None = search rules in
-    let fits = ap (λ s. first_fit (peer_row s)) (sym c.state.ensures) ∙ c.in_err-peer.ensures.err in
+    let fits = c.in_err-peer.ensures.err in
     let e = c.in_err-peer.field-0.0 in
     let error : c.from_residual-in_err-peer.result ≡ Err e = search rules in
-    let said : ProcessStep w p (step.Send c.args.on c.args.bytes.now c.args.attach.now) (reply_of c.from_residual-in_err-peer.result) w = subst (λ r. ProcessStep w p (step.Send c.args.on c.args.bytes.now c.args.attach.now) (reply_of r) w) (sym error) (refused-peer w p c.args.on q at c.in_ok-ino.ino stands x found c.args.bytes.now c.args.attach.now given e fits) in
+    let said : ProcessStep w p (step.Send c.args.on c.args.bytes.now c.args.attach.now) (reply_of c.from_residual-in_err-peer.result) w = subst (λ r. ProcessStep w p (step.Send c.args.on c.args.bytes.now c.args.attach.now) (reply_of r) w) (sym error) (refused-peer w p c.args.on q at c.in_ok-file.file stands x found c.args.bytes.now c.args.attach.now given e fits) in
     subst (λ (m : Machine). ProcessStep m.world p (step.Send c.args.on c.args.bytes.now c.args.attach.now) (reply_of c.from_residual-in_err-peer.result) m.world × ((m.pass ≡ m.pass) × (m.last_pass ≡ m.last_pass))) c.self.view_is (said, (refl, refl))
 
 pub returns-in_err-may_send : goal.returns-in_err-may_send
@@ -41,16 +41,16 @@ returns-in_err-may_send c =
     let q = c.in_ok-process.process.now.process in
     let x = c.in_ok-socket.socket.now in
     let at : map.get w.processes p ≡ Some q = search rules in
-    let stands : map.get q.table c.args.on ≡ Some c.in_ok-ino.ino = search rules in
-    let found : socket_at w c.in_ok-ino.ino ≡ Some x = search rules in
+    let stands : map.get q.table c.args.on ≡ Some c.in_ok-file.file = search rules in
+    let found : socket_at w c.in_ok-file.file ≡ Some x = search rules in
     let given : first_fit (parts_row q c.args.bytes.now c.args.attach.now) ≡ None = search rules in
-    let alive : first_fit (peer_row x.state) ≡ None = ap (λ s. first_fit (peer_row s)) (sym c.state.ensures) ∙ c.in_ok-peer.ensures.ok in
+    let alive : first_fit (peer_row x.state) ≡ None = c.in_ok-peer.ensures.ok in
     let same : first_fit (send_row (charged w q.user) (total w) q.limit q.privileged (length c.args.attach.now)) ≡ first_fit (send_row (charged w c.user.result) (total w) c.limit-limit.result c.is_privileged-privileged.result (length c.args.attach.now)) =
     λ i. first_fit (send_row (charged w (sym c.user.ensures i)) (total w) (sym c.limit-limit.ensures.value i) (sym c.is_privileged-privileged.ensures i) (length c.args.attach.now)) in
     let fits = same ∙ c.in_err-may_send.ensures.err in
     let e = c.in_err-may_send.field-0.0 in
     let error : c.from_residual-in_err-may_send.result ≡ Err e = search rules in
-    let said : ProcessStep w p (step.Send c.args.on c.args.bytes.now c.args.attach.now) (reply_of c.from_residual-in_err-may_send.result) w = subst (λ r. ProcessStep w p (step.Send c.args.on c.args.bytes.now c.args.attach.now) (reply_of r) w) (sym error) (refused-charge w p c.args.on q at c.in_ok-ino.ino stands x found c.args.bytes.now c.args.attach.now given alive e fits) in
+    let said : ProcessStep w p (step.Send c.args.on c.args.bytes.now c.args.attach.now) (reply_of c.from_residual-in_err-may_send.result) w = subst (λ r. ProcessStep w p (step.Send c.args.on c.args.bytes.now c.args.attach.now) (reply_of r) w) (sym error) (refused-charge w p c.args.on q at c.in_ok-file.file stands x found c.args.bytes.now c.args.attach.now given alive e fits) in
     subst (λ (m : Machine). ProcessStep m.world p (step.Send c.args.on c.args.bytes.now c.args.attach.now) (reply_of c.from_residual-in_err-may_send.result) m.world × ((m.pass ≡ m.pass) × (m.last_pass ≡ m.last_pass))) c.self.view_is (said, (refl, refl))
 
 pub returns-then-messages-ge-MAX_MESSAGES : goal.returns-then-messages-ge-MAX_MESSAGES
@@ -60,16 +60,16 @@ returns-then-messages-ge-MAX_MESSAGES c =
     let q = c.in_ok-process.process.now.process in
     let x = c.in_ok-socket.socket.now in
     let at : map.get w.processes p ≡ Some q = search rules in
-    let stands : map.get q.table c.args.on ≡ Some c.in_ok-ino.ino = search rules in
-    let found : socket_at w c.in_ok-ino.ino ≡ Some x = search rules in
+    let stands : map.get q.table c.args.on ≡ Some c.in_ok-file.file = search rules in
+    let found : socket_at w c.in_ok-file.file ≡ Some x = search rules in
     let given : first_fit (parts_row q c.args.bytes.now c.args.attach.now) ≡ None = search rules in
-    let alive : first_fit (peer_row x.state) ≡ None = ap (λ s. first_fit (peer_row s)) (sym c.state.ensures) ∙ c.in_ok-peer.ensures.ok in
+    let alive : first_fit (peer_row x.state) ≡ None = c.in_ok-peer.ensures.ok in
     let same : first_fit (send_row (charged w q.user) (total w) q.limit q.privileged (length c.args.attach.now)) ≡ first_fit (send_row (charged w c.user.result) (total w) c.limit-limit.result c.is_privileged-privileged.result (length c.args.attach.now)) =
     λ i. first_fit (send_row (charged w (sym c.user.ensures i)) (total w) (sym c.limit-limit.ensures.value i) (sym c.is_privileged-privileged.ensures i) (length c.args.attach.now)) in
     let paid = same ∙ c.in_ok-may_send.ensures.ok in
-    let to : c.in_ok-peer.peer ≡ peer_of x.state = c.in_ok-peer.ensures.peer ∙ ap peer_of c.state.ensures in
+    let to : c.in_ok-peer.peer ≡ peer_of x.state = c.in_ok-peer.ensures.peer in
     let full : nat_le MAX_MESSAGES (length (queue_at w c.in_ok-peer.peer)) ≡ true = grind arith in
-    subst (λ (m : Machine). ProcessStep m.world p (step.Send c.args.on c.args.bytes.now c.args.attach.now) (reply.Refused EAGAIN) m.world × ((m.pass ≡ m.pass) × (m.last_pass ≡ m.last_pass))) c.self.view_is (refused-full w p c.args.on q at c.in_ok-ino.ino stands x found c.args.bytes.now c.args.attach.now given alive paid c.in_ok-peer.peer to full, (refl, refl))
+    subst (λ (m : Machine). ProcessStep m.world p (step.Send c.args.on c.args.bytes.now c.args.attach.now) (reply.Refused EAGAIN) m.world × ((m.pass ≡ m.pass) × (m.last_pass ≡ m.last_pass))) c.self.view_is (refused-full w p c.args.on q at c.in_ok-file.file stands x found c.args.bytes.now c.args.attach.now given alive paid c.in_ok-peer.peer to full, (refl, refl))
 
 pub returns-in_err-message : goal.returns-in_err-message
 returns-in_err-message c =
@@ -78,17 +78,17 @@ returns-in_err-message c =
     let q = c.in_ok-process.process.now.process in
     let x = c.in_ok-socket.socket.now in
     let at : map.get w.processes p ≡ Some q = search rules in
-    let stands : map.get q.table c.args.on ≡ Some c.in_ok-ino.ino = search rules in
-    let found : socket_at w c.in_ok-ino.ino ≡ Some x = search rules in
+    let stands : map.get q.table c.args.on ≡ Some c.in_ok-file.file = search rules in
+    let found : socket_at w c.in_ok-file.file ≡ Some x = search rules in
     let given : first_fit (parts_row q c.args.bytes.now c.args.attach.now) ≡ None = search rules in
-    let alive : first_fit (peer_row x.state) ≡ None = ap (λ s. first_fit (peer_row s)) (sym c.state.ensures) ∙ c.in_ok-peer.ensures.ok in
+    let alive : first_fit (peer_row x.state) ≡ None = c.in_ok-peer.ensures.ok in
     let same : first_fit (send_row (charged w q.user) (total w) q.limit q.privileged (length c.args.attach.now)) ≡ first_fit (send_row (charged w c.user.result) (total w) c.limit-limit.result c.is_privileged-privileged.result (length c.args.attach.now)) =
     λ i. first_fit (send_row (charged w (sym c.user.ensures i)) (total w) (sym c.limit-limit.ensures.value i) (sym c.is_privileged-privileged.ensures i) (length c.args.attach.now)) in
     let paid = same ∙ c.in_ok-may_send.ensures.ok in
-    let to : c.in_ok-peer.peer ≡ peer_of x.state = c.in_ok-peer.ensures.peer ∙ ap peer_of c.state.ensures in
+    let to : c.in_ok-peer.peer ≡ peer_of x.state = c.in_ok-peer.ensures.peer in
     let full : nat_le MAX_MESSAGES (length (queue_at w c.in_ok-peer.peer)) ≡ false = grind arith in
     let error : c.from_residual-in_err-message.result ≡ Err ENOMEM = search rules in
-    let said : ProcessStep w p (step.Send c.args.on c.args.bytes.now c.args.attach.now) (reply_of c.from_residual-in_err-message.result) w = subst (λ r. ProcessStep w p (step.Send c.args.on c.args.bytes.now c.args.attach.now) (reply_of r) w) (sym error) (send-starved w p c.args.on q at c.in_ok-ino.ino stands x found c.args.bytes.now c.args.attach.now given alive paid c.in_ok-peer.peer to full w refl) in
+    let said : ProcessStep w p (step.Send c.args.on c.args.bytes.now c.args.attach.now) (reply_of c.from_residual-in_err-message.result) w = subst (λ r. ProcessStep w p (step.Send c.args.on c.args.bytes.now c.args.attach.now) (reply_of r) w) (sym error) (send-starved w p c.args.on q at c.in_ok-file.file stands x found c.args.bytes.now c.args.attach.now given alive paid c.in_ok-peer.peer to full w refl) in
     subst (λ (m : Machine). ProcessStep m.world p (step.Send c.args.on c.args.bytes.now c.args.attach.now) (reply_of c.from_residual-in_err-message.result) m.world × ((m.pass ≡ m.pass) × (m.last_pass ≡ m.last_pass))) c.self.view_is (said, (refl, refl))
 
 pub put_msg-requires-clause-live : goal.put_msg-requires-clause-live
@@ -98,16 +98,16 @@ put_msg-requires-clause-live c =
     let q = c.in_ok-process.process.now.process in
     let x = c.in_ok-socket.socket.now in
     let at : map.get w.processes p ≡ Some q = search rules in
-    let stands : map.get q.table c.args.on ≡ Some c.in_ok-ino.ino = search rules in
-    let found : socket_at w c.in_ok-ino.ino ≡ Some x = search rules in
+    let stands : map.get q.table c.args.on ≡ Some c.in_ok-file.file = search rules in
+    let found : socket_at w c.in_ok-file.file ≡ Some x = search rules in
     let given : first_fit (parts_row q c.args.bytes.now c.args.attach.now) ≡ None = search rules in
-    let alive : first_fit (peer_row x.state) ≡ None = ap (λ s. first_fit (peer_row s)) (sym c.state.ensures) ∙ c.in_ok-peer.ensures.ok in
+    let alive : first_fit (peer_row x.state) ≡ None = c.in_ok-peer.ensures.ok in
     let same : first_fit (send_row (charged w q.user) (total w) q.limit q.privileged (length c.args.attach.now)) ≡ first_fit (send_row (charged w c.user.result) (total w) c.limit-limit.result c.is_privileged-privileged.result (length c.args.attach.now)) =
     λ i. first_fit (send_row (charged w (sym c.user.ensures i)) (total w) (sym c.limit-limit.ensures.value i) (sym c.is_privileged-privileged.ensures i) (length c.args.attach.now)) in
     let paid = same ∙ c.in_ok-may_send.ensures.ok in
-    let to : c.in_ok-peer.peer ≡ peer_of x.state = c.in_ok-peer.ensures.peer ∙ ap peer_of c.state.ensures in
+    let to : c.in_ok-peer.peer ≡ peer_of x.state = c.in_ok-peer.ensures.peer in
     let full : nat_le MAX_MESSAGES (length (queue_at w c.in_ok-peer.peer)) ≡ false = grind arith in
-    let fits = send-fits w p c.args.on q at c.in_ok-ino.ino stands x found c.args.bytes.now c.args.attach.now given alive paid c.in_ok-peer.peer to full in
+    let fits = send-fits w p c.args.on q at c.in_ok-file.file stands x found c.args.bytes.now c.args.attach.now given alive paid c.in_ok-peer.peer to full in
     sent-live w p c.args.on c.args.bytes.now c.args.attach.now c.self.invariant.0 fits q at c.in_ok-message.message c.in_ok-message.ensures
 
 pub put_msg-requires-clause-flying : goal.put_msg-requires-clause-flying
@@ -117,16 +117,16 @@ put_msg-requires-clause-flying c =
     let q = c.in_ok-process.process.now.process in
     let x = c.in_ok-socket.socket.now in
     let at : map.get w.processes p ≡ Some q = search rules in
-    let stands : map.get q.table c.args.on ≡ Some c.in_ok-ino.ino = search rules in
-    let found : socket_at w c.in_ok-ino.ino ≡ Some x = search rules in
+    let stands : map.get q.table c.args.on ≡ Some c.in_ok-file.file = search rules in
+    let found : socket_at w c.in_ok-file.file ≡ Some x = search rules in
     let given : first_fit (parts_row q c.args.bytes.now c.args.attach.now) ≡ None = search rules in
-    let alive : first_fit (peer_row x.state) ≡ None = ap (λ s. first_fit (peer_row s)) (sym c.state.ensures) ∙ c.in_ok-peer.ensures.ok in
+    let alive : first_fit (peer_row x.state) ≡ None = c.in_ok-peer.ensures.ok in
     let same : first_fit (send_row (charged w q.user) (total w) q.limit q.privileged (length c.args.attach.now)) ≡ first_fit (send_row (charged w c.user.result) (total w) c.limit-limit.result c.is_privileged-privileged.result (length c.args.attach.now)) =
     λ i. first_fit (send_row (charged w (sym c.user.ensures i)) (total w) (sym c.limit-limit.ensures.value i) (sym c.is_privileged-privileged.ensures i) (length c.args.attach.now)) in
     let paid = same ∙ c.in_ok-may_send.ensures.ok in
-    let to : c.in_ok-peer.peer ≡ peer_of x.state = c.in_ok-peer.ensures.peer ∙ ap peer_of c.state.ensures in
+    let to : c.in_ok-peer.peer ≡ peer_of x.state = c.in_ok-peer.ensures.peer in
     let full : nat_le MAX_MESSAGES (length (queue_at w c.in_ok-peer.peer)) ≡ false = grind arith in
-    let fits = send-fits w p c.args.on q at c.in_ok-ino.ino stands x found c.args.bytes.now c.args.attach.now given alive paid c.in_ok-peer.peer to full in
+    let fits = send-fits w p c.args.on q at c.in_ok-file.file stands x found c.args.bytes.now c.args.attach.now given alive paid c.in_ok-peer.peer to full in
     sent-flying w p c.args.on c.args.bytes.now c.args.attach.now c.self.invariant.0 fits q at c.in_ok-message.message c.in_ok-message.ensures
 
 pub returns-in_err-put_msg : goal.returns-in_err-put_msg
@@ -136,18 +136,18 @@ returns-in_err-put_msg c =
     let q = c.in_ok-process.process.now.process in
     let x = c.in_ok-socket.socket.now in
     let at : map.get w.processes p ≡ Some q = search rules in
-    let stands : map.get q.table c.args.on ≡ Some c.in_ok-ino.ino = search rules in
-    let found : socket_at w c.in_ok-ino.ino ≡ Some x = search rules in
+    let stands : map.get q.table c.args.on ≡ Some c.in_ok-file.file = search rules in
+    let found : socket_at w c.in_ok-file.file ≡ Some x = search rules in
     let given : first_fit (parts_row q c.args.bytes.now c.args.attach.now) ≡ None = search rules in
-    let alive : first_fit (peer_row x.state) ≡ None = ap (λ s. first_fit (peer_row s)) (sym c.state.ensures) ∙ c.in_ok-peer.ensures.ok in
+    let alive : first_fit (peer_row x.state) ≡ None = c.in_ok-peer.ensures.ok in
     let same : first_fit (send_row (charged w q.user) (total w) q.limit q.privileged (length c.args.attach.now)) ≡ first_fit (send_row (charged w c.user.result) (total w) c.limit-limit.result c.is_privileged-privileged.result (length c.args.attach.now)) =
     λ i. first_fit (send_row (charged w (sym c.user.ensures i)) (total w) (sym c.limit-limit.ensures.value i) (sym c.is_privileged-privileged.ensures i) (length c.args.attach.now)) in
     let paid = same ∙ c.in_ok-may_send.ensures.ok in
-    let to : c.in_ok-peer.peer ≡ peer_of x.state = c.in_ok-peer.ensures.peer ∙ ap peer_of c.state.ensures in
+    let to : c.in_ok-peer.peer ≡ peer_of x.state = c.in_ok-peer.ensures.peer in
     let full : nat_le MAX_MESSAGES (length (queue_at w c.in_ok-peer.peer)) ≡ false = grind arith in
     let error : c.from_residual-in_err-put_msg.result ≡ Err ENOMEM = search rules in
     let kept = ap (λ (s : Stored). s.world) c.in_err-put_msg.ensures.err in
-    let said : ProcessStep w p (step.Send c.args.on c.args.bytes.now c.args.attach.now) (reply_of c.from_residual-in_err-put_msg.result) c.put_msg.new.self.world = subst (λ r. ProcessStep w p (step.Send c.args.on c.args.bytes.now c.args.attach.now) (reply_of r) c.put_msg.new.self.world) (sym error) (send-starved w p c.args.on q at c.in_ok-ino.ino stands x found c.args.bytes.now c.args.attach.now given alive paid c.in_ok-peer.peer to full c.put_msg.new.self.world kept) in
+    let said : ProcessStep w p (step.Send c.args.on c.args.bytes.now c.args.attach.now) (reply_of c.from_residual-in_err-put_msg.result) c.put_msg.new.self.world = subst (λ r. ProcessStep w p (step.Send c.args.on c.args.bytes.now c.args.attach.now) (reply_of r) c.put_msg.new.self.world) (sym error) (send-starved w p c.args.on q at c.in_ok-file.file stands x found c.args.bytes.now c.args.attach.now given alive paid c.in_ok-peer.peer to full c.put_msg.new.self.world kept) in
     subst (λ (m : Machine). ProcessStep m.world p (step.Send c.args.on c.args.bytes.now c.args.attach.now) (reply_of c.from_residual-in_err-put_msg.result) c.put_msg.new.self.world × ((Idle ≡ m.pass) × (c.self.inside.last_pass ≡ m.last_pass))) c.self.view_is (said, (refl, refl))
 
 pub returns : goal.returns
@@ -157,17 +157,17 @@ returns c =
     let q = c.in_ok-process.process.now.process in
     let x = c.in_ok-socket.socket.now in
     let at : map.get w.processes p ≡ Some q = search rules in
-    let stands : map.get q.table c.args.on ≡ Some c.in_ok-ino.ino = search rules in
-    let found : socket_at w c.in_ok-ino.ino ≡ Some x = search rules in
+    let stands : map.get q.table c.args.on ≡ Some c.in_ok-file.file = search rules in
+    let found : socket_at w c.in_ok-file.file ≡ Some x = search rules in
     let given : first_fit (parts_row q c.args.bytes.now c.args.attach.now) ≡ None = search rules in
-    let alive : first_fit (peer_row x.state) ≡ None = ap (λ s. first_fit (peer_row s)) (sym c.state.ensures) ∙ c.in_ok-peer.ensures.ok in
+    let alive : first_fit (peer_row x.state) ≡ None = c.in_ok-peer.ensures.ok in
     let same : first_fit (send_row (charged w q.user) (total w) q.limit q.privileged (length c.args.attach.now)) ≡ first_fit (send_row (charged w c.user.result) (total w) c.limit-limit.result c.is_privileged-privileged.result (length c.args.attach.now)) =
     λ i. first_fit (send_row (charged w (sym c.user.ensures i)) (total w) (sym c.limit-limit.ensures.value i) (sym c.is_privileged-privileged.ensures i) (length c.args.attach.now)) in
     let paid = same ∙ c.in_ok-may_send.ensures.ok in
-    let to : c.in_ok-peer.peer ≡ peer_of x.state = c.in_ok-peer.ensures.peer ∙ ap peer_of c.state.ensures in
+    let to : c.in_ok-peer.peer ≡ peer_of x.state = c.in_ok-peer.ensures.peer in
     let full : nat_le MAX_MESSAGES (length (queue_at w c.in_ok-peer.peer)) ≡ false = grind arith in
-    let fits = send-fits w p c.args.on q at c.in_ok-ino.ino stands x found c.args.bytes.now c.args.attach.now given alive paid c.in_ok-peer.peer to full in
-    let to_peer = to ∙ ap (λ s. peer_of s.state) (sym (socket-is w p c.args.on q at c.in_ok-ino.ino stands x found)) in
+    let fits = send-fits w p c.args.on q at c.in_ok-file.file stands x found c.args.bytes.now c.args.attach.now given alive paid c.in_ok-peer.peer to full in
+    let to_peer = to ∙ ap (λ s. peer_of s.state) (sym (socket-is w p c.args.on q at c.in_ok-file.file stands x found)) in
     let put = ap (λ (s : Stored). s.world) c.in_ok-put_msg.ensures.ok in
     let sent = sent-done w p c.args.on c.args.bytes.now c.args.attach.now c.self.invariant.0 fits q at c.in_ok-message.message c.in_ok-message.ensures c.in_ok-peer.peer c.put_msg.new.self.world c.release.new.self.world to_peer put c.release.ensures.settles in
     subst (λ (m : Machine). ProcessStep m.world p (step.Send c.args.on c.args.bytes.now c.args.attach.now) (reply.Sent (length c.args.bytes.now)) c.release.new.self.world × ((Idle ≡ m.pass) × (c.self.inside.last_pass ≡ m.last_pass))) c.self.view_is (sent, (refl, refl))

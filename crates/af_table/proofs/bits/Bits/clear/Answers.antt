@@ -3,4 +3,4 @@ use Rattle.af_table.proofs.Words.{clear_bit}
 use Rattle.af_table.proofs.bits.Bits.clear.Goals as goal
 
 pub returns : goal.returns
-returns c = λ q h. clear_bit c.args.self.now.words c.args.n q c.requires (search rules)
+returns c = λ q. clear_bit c.args.self.now.words c.args.n q c.requires (search rules)

@@ -6,17 +6,19 @@ use Rattle.af_table.proofs.process.Process.listed.Goals as goal
 
 pub returns-clause-shown : goal.returns-clause-shown
 returns-clause-shown c =
+    let words = c.self.inside.taken.words in
     let slots = c.deref-slot-items.result.now in
-    let table : c.args.self.now.process.table ≡ table_of slots = search rules in
-    let same = numbers-table (λ n. n.fd) (λ n. n.ino) c.loop-number.numbers.items slots c.loop-number.number c.loop-number-test.false c.loop-number.invariant ∙ sym table in
+    let table : c.args.self.now.process.table ≡ table_of words slots = search rules in
+    let same = numbers-table (λ n. n.fd) (λ n. n.ino) c.loop-number.numbers.items words slots c.loop-number.number c.loop-number-test.false c.loop-number.invariant ∙ sym table in
     λ i. record { user = 0; limit = 0; privileged = false; table = same i }
 
 pub returns-clause-rising : goal.returns-clause-rising
-returns-clause-rising c = numbers-rise (λ n. n.fd) (λ n. n.ino) c.loop-number.numbers.items c.deref-slot-items.result.now c.loop-number.number c.loop-number-test.false c.loop-number.invariant
+returns-clause-rising c = numbers-rise (λ n. n.fd) (λ n. n.ino) c.loop-number.numbers.items c.self.inside.taken.words c.deref-slot-items.result.now c.loop-number.number c.loop-number-test.false c.loop-number.invariant
 
 pub returns-clause-few : goal.returns-clause-few
 returns-clause-few c =
+    let words = c.self.inside.taken.words in
     let slots = c.deref-slot-items.result.now in
-    let most = numbers-le (λ n. n.fd) (λ n. n.ino) c.loop-number.numbers.items slots c.loop-number.number c.loop-number-test.false c.loop-number.invariant in
+    let most = numbers-le (λ n. n.fd) (λ n. n.ino) c.loop-number.numbers.items words slots c.loop-number.number c.loop-number-test.false c.loop-number.invariant in
     let row : length slots ≤ MAX_NOFILE = search rules in
     omega (arith, most, row)

@@ -1,35 +1,28 @@
-use Rattle.std.proofs.Common.{rules, ◌≡◌, ◌<◌, ◌+◌, [], Err, length, refl, drop_of_length-le}
-use Rattle.scm_run.specs.Line.{LineDone, LineStops}
-use Rattle.scm_run.specs.declared.fault.RunFault.TheVariants.{Memory}
-use Rattle.scm_run.proofs.RunLemmas.{finish_empty, finish_some, finish_stops, finish_ok}
+use Rattle.std.proofs.Common.{rules, ◌≡◌, Err}
+use Rattle.std.specs.Io.KnownBytes.{Appends}
+use Rattle.scm_watched.specs.Watched.{AppendsFront}
+use Rattle.scm_run.specs.Gather.{Settles}
+use Rattle.scm_run.specs.Script.{FaultAt}
+use Rattle.scm_run.specs.declared.fault.RunFault.TheVariants.{Write}
+use Rattle.scm_run.proofs.RunLemmas.{all_out, all_part, settled}
 use Rattle.scm_run.proofs.run.Run.finish.Goals as goal
 
-pub returns-then-is_empty-clause-ok : goal.returns-then-is_empty-clause-ok
-returns-then-is_empty-clause-ok g c = λ taken before ran.
-    let events : c.self.inside.events ≡ c.args.self.now.events = search rules in
-    let none : c.args.self.now.pending ≡ [] = drop_of_length-le c.args.self.now.pending {i = 0} (search rules) in
-    rw events (finish_empty taken before _ c.args.self.now ran none)
+pub returns-in_err-write_out-in-Ok-clause-err : goal.returns-in_err-write_out-in-Ok-clause-err
+returns-in_err-write_out-in-Ok-clause-err g c =
+    let st = c.last_line.new.self in
+    let fault : c.from_residual.result ≡ Err Write = search rules in
+    let part : AppendsFront (g.W.Write.contents c.last_line.new.writer.inner) (g.W.Write.contents c.write_out.new.writer.inner) st.gathered = search rules in
+    rw fault (λ taken before ran. all_part taken before _ _ st (c.in-Ok.ensures.ok taken before ran) part)
 
-pub returns-in_err-number-clause-err : goal.returns-in_err-number-clause-err
-returns-in_err-number-clause-err g c =
-    let memory : c.from_residual.result ≡ Err Memory = search rules in
-    rw memory (λ taken before ran. finish_some taken before _ _ _ ran refl)
-
-pub returns-in_err-events-clause-err : goal.returns-in_err-events-clause-err
-returns-in_err-events-clause-err g c =
-    let st = c.args.self.now in
-    let f = c.in_err-events.field-0.0 in
-    let fault : c.from_residual-in_err-events.result ≡ Err f = search rules in
-    let number : c.in_ok-number.number ≡ st.done + 1 = search rules in
-    let some : 0 < length st.pending = search rules in
-    let stops : LineStops st.machine st.pending (st.done + 1) (g.W.Write.contents c.args.writer.now.inner) (g.W.Write.contents c.do_line.new.writer.inner) f = rw (← number) (search rules) in
-    rw fault (λ taken before ran. finish_stops taken before _ _ st f ran some stops)
-
-pub returns-clause-ok : goal.returns-clause-ok
-returns-clause-ok g c = λ taken before ran.
-    let st = c.args.self.now in
-    let k = c.in_ok-events.events in
-    let some : 0 < length st.pending = search rules in
-    let done : LineDone st.machine st.pending (g.W.Write.contents c.args.writer.now.inner) (g.W.Write.contents c.do_line.new.writer.inner) k c.do_line.new.engine = search rules in
+pub returns-in_ok-write_out-in-Ok-clause-ok : goal.returns-in_ok-write_out-in-Ok-clause-ok
+returns-in_ok-write_out-in-Ok-clause-ok g c = λ taken before ran.
+    let st = c.last_line.new.self in
+    let wrote : Appends (g.W.Write.contents c.last_line.new.writer.inner) (g.W.Write.contents c.write_out.new.writer.inner) st.gathered = search rules in
     let events : c.self.inside.events ≡ st.events = search rules in
-    rw events (finish_ok taken before _ _ st k c.do_line.new.engine ran some done)
+    rw events (all_out taken before _ _ st (c.in-Ok.ensures.ok taken before ran) wrote)
+
+pub returns-in-Err-clause-err : goal.returns-in-Err-clause-err
+returns-in-Err-clause-err g c = λ taken before ran.
+    let st = c.last_line.new.self in
+    let settles : Settles c.in-Err.fault c.settle.result st.gathered (g.W.Write.contents c.last_line.new.writer.inner) (g.W.Write.contents c.settle.new.writer.inner) = search rules in
+    settled (FaultAt taken before) before _ _ st.gathered c.in-Err.fault c.settle.result (c.in-Err.ensures.err taken before ran) settles

@@ -1,0 +1,4 @@
+pub mod Keyed
+pub mod Rows
+pub mod Searches
+pub mod Moves

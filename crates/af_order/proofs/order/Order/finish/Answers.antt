@@ -1,0 +1,12 @@
+use Rattle.std.proofs.Common.{rules, ◌≤◌, ◌++◌, ◌∙◌, length, ap, arith}
+use Rattle.af_order.specs.Rows.{live_of}
+use Rattle.af_order.proofs.Moves.{all_packed}
+use Rattle.af_order.proofs.order.Order.finish.Goals as goal
+
+pub returns-clause-keys : goal.returns-clause-keys
+returns-clause-keys c =
+    let done : length c.self.inside.rows.items ≤ c.self.inside.read = search (rules, arith) in
+    ap (λ xs. live_of (xs ++ c.swap.new.y.items)) c.clear.ensures.items
+    ∙ ap (λ v. live_of v.items) c.swap.ensures.y_after ∙ ap live_of c.reserve.ensures.items
+    ∙ all_packed c.self.inside.packed.items c.self.inside.rows.items c.self.inside.read c.self.inside.last c.self.invariant done
+    ∙ ap (λ a. a.keys) c.self.view_is

@@ -1,0 +1,4 @@
+-- Numbers in order, and what stands under them.
+pub mod Ordered
+pub mod Rows
+pub mod Keyed

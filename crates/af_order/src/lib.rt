@@ -1,0 +1,11 @@
+//! What stands under numbers that only rise: the order of the numbers, and where each is to be found.
+#![tactic(auto)]
+
+mod entry;
+mod order;
+
+pub use entry::{Entry, key_of, put, reserve, take};
+pub use order::Order;
+
+#[cfg(test)]
+mod tests;

@@ -1,0 +1,342 @@
+//! The order of numbers that only rise.
+ghost use Rattle.std.specs.Prelude.{◌≡◌, ℕ, ◌+◌, ◌≤◌, ◌<◌, length, false, None, IsTrue, IsOk, IfSome, IfNone, OnOk, OnErr, ◌++◌, ◌≢◌};
+ghost use Rattle.std.specs.FinMap as map;
+ghost use Rattle.af_order.specs.Ordered.{Ordered};
+ghost use Rattle.af_order.specs.Rows.{live_of, row_at, Rise, IsLiveAt, IsPlace};
+
+use af_base::names::{FileRef, Ino};
+use std::alloc::{AllocError, Global};
+use std::marker::Model;
+use std::mem;
+
+/// A packing begins when so many rows are dead, and more than half of them.
+const LEAST_DEAD: usize = 64;
+
+/// So many dead rows at most are passed over in one step of packing.
+const PASSED_AT_ONCE: usize = 16;
+
+/// A number and the key under which it is to be found. A row with no key is dead: its number is gone,
+/// or was moved.
+#[derive(Clone, Copy, Drop)]
+struct Row {
+    ino: Ino,
+    key: Option<usize>,
+}
+
+/// Where a row stands.
+enum Place {
+    /// Among those that were packed.
+    Packed(usize),
+    /// Among those that wait for it.
+    Waiting(usize),
+}
+
+/// Numbers in order, each with the key under which it is to be found. A number that goes leaves a
+/// dead row; the live ones are packed a few at a time, so that no event pays for many.
+#[derive(Drop)]
+pub struct Order {
+    /// The rows that were moved here, rising. All are below the live ones of `rows`.
+    packed: Vec<Row>,
+    /// The other rows, rising.
+    rows: Vec<Row>,
+    /// How many of `rows` a packing has read: they are dead.
+    read: usize,
+    /// How many rows are dead in all. It only says when to pack.
+    dead: usize,
+    /// The last number that was pushed, 0 before the first.
+    last: u64,
+}
+
+impl Model for Order {
+    ghost use Rattle.std.specs.Prelude.{◌-◌, ◌++◌, vec_capacity, length};
+    ghost use Rattle.std.specs.FinMap as map;
+    ghost use Rattle.std.specs.Coded.{codes};
+    ghost use Rattle.af_order.specs.Ordered.{Ordered};
+    ghost use Rattle.af_order.specs.Rows.{live_of, AreRows};
+
+    ghost Value = { Ordered };
+
+    ghost coded = { Prim.hlevel (codes, map.code) };
+
+    ghost view = { λ a. record { keys = live_of (a.packed.items ++ a.rows.items); last = a.last; room = vec_capacity a.rows - length a.rows.items } };
+
+    ghost invariant = { λ a. AreRows a.packed.items a.rows.items a.read a.last };
+}
+
+impl Order {
+    /// No number. It takes no memory.
+    pub fn new(alloc: Global) -> Order
+        ensures keys { result.keys ≡ map.empty }
+        ensures last { result.last ≡ 0 }
+    {
+        Order {
+            packed: Vec::new(alloc),
+            rows: Vec::new(alloc),
+            read: 0,
+            dead: 0,
+            last: 0,
+        }
+    }
+
+    /// Room for so many numbers more: then `push` needs no memory for them. Nothing else changes,
+    /// also on an error.
+    pub fn reserve(&mut self, numbers: usize) -> Result<(), AllocError>
+        ensures same { self.new ≡ record self.old { room = self.new.room } }
+        ensures ok { OnOk result (numbers ≤ self.new.room) }
+        ensures room { self.old.room ≤ self.new.room }
+        ensures succeeds { numbers ≤ self.old.room → IsOk result }
+    {
+        self.rows.reserve(numbers)
+    }
+
+    /// A number more, above all others that there were, with its key. It answers its place, which
+    /// `remove` takes as a hint. There is room for it.
+    pub fn push(&mut self, ino: Ino, key: usize) -> usize
+        requires room { 0 < self.old.room }
+        requires above { self.old.last < ino }
+        ensures keys { self.new.keys ≡ map.insert self.old.keys ino key }
+        ensures new { map.get self.old.keys ino ≡ None }
+        ensures last { self.new.last ≡ ino }
+        ensures room { self.old.room ≤ self.new.room + 1 }
+    {
+        let at = self.rows.len();
+        self.rows.push_reserved(Row {
+            ino,
+            key: Some(key),
+        });
+        self.last = ino.0;
+        at
+    }
+
+    /// The number goes; its key is the result. The place is a hint. It takes no memory.
+    pub fn remove(&mut self, ino: Ino, at: usize) -> Option<usize>
+        ensures value { result ≡ map.get self.old.keys ino }
+        ensures keys { self.new.keys ≡ map.remove self.old.keys ino }
+        ensures last { self.new.last ≡ self.old.last }
+        ensures room { self.old.room ≤ self.new.room }
+    {
+        match place_of(&self.packed, &self.rows, ino, at) {
+            Some(Place::Waiting(at)) => {
+                if at + 1 == self.rows.len() {
+                    return self.rows.take_last().key;
+                }
+                self.dead = self.dead.saturating_add(1);
+                self.rows[at].key.take()
+            }
+            Some(Place::Packed(at)) => {
+                self.dead = self.dead.saturating_add(1);
+                self.packed[at].key.take()
+            }
+            None => None,
+        }
+    }
+
+    /// The key of the number, if it is there: a binary search.
+    pub fn key_of(&self, ino: Ino) -> Option<usize>
+        ensures { result ≡ map.get self.now.keys ino }
+    {
+        match key_in(&self.packed, ino) {
+            Some(key) => Some(key),
+            None => key_in(&self.rows, ino),
+        }
+    }
+
+    /// The least number above this one, if there is one, with its key as a hint; this one need not be
+    /// there.
+    pub fn next_after(&self, ino: Ino) -> Option<FileRef>
+        ensures above { IfSome result (λ n. ino < n) }
+        ensures there { IfSome result (λ n. IsTrue (map.contains_key self.now.keys n)) }
+        ensures least { IfSome result (λ n. (q : ℕ) → ino < q → q < n → map.contains_key self.now.keys q ≡ false) }
+        ensures none { IfNone result ((q : ℕ) → ino < q → map.contains_key self.now.keys q ≡ false) }
+    {
+        match next_in(&self.packed, ino) {
+            Some(file) => Some(file),
+            None => next_in(&self.rows, ino),
+        }
+    }
+
+    /// One small step of packing, where one is due: dead rows leave, and at most one live row moves.
+    /// It answers that row's key and its new place, which `remove` takes as a hint. Where memory for
+    /// it is refused there is no packing.
+    pub fn pack(&mut self) -> Option<(usize, usize)>
+        ensures keys { self.new.keys ≡ self.old.keys }
+        ensures last { self.new.last ≡ self.old.last }
+        ensures room { self.old.room ≤ self.new.room }
+    {
+        if self.read == 0 && !self.begin() {
+            return None;
+        }
+        if self.finish() {
+            return None;
+        }
+        self.pass();
+        self.step()
+    }
+
+    /// Whether a packing is worth its while, and has the memory that it takes.
+    fn begin(&mut self) -> bool
+        ensures keys { self.new.keys ≡ self.old.keys }
+        ensures last { self.new.last ≡ self.old.last }
+        ensures room { self.old.room ≤ self.new.room }
+    {
+        self.dead >= LEAST_DEAD
+            && self.dead > self.rows.len() / 2
+            && self.packed.reserve(self.rows.capacity()).is_ok()
+    }
+
+    /// Where all rows were read, the packed ones take their place, unless that would lessen the room.
+    /// Whether they did.
+    fn finish(&mut self) -> bool
+        ensures keys { self.new.keys ≡ self.old.keys }
+        ensures last { self.new.last ≡ self.old.last }
+        ensures room { self.old.room ≤ self.new.room }
+    {
+        if self.read < self.rows.len() {
+            return false;
+        }
+        let room = self.rows.capacity() - self.rows.len();
+        if self.packed.reserve(room).is_err() {
+            return false;
+        }
+        mem::swap(&mut self.packed, &mut self.rows);
+        self.dead = self.dead.saturating_sub(self.packed.len());
+        self.packed.clear();
+        self.read = 0;
+        true
+    }
+
+    /// Dead rows are passed over, a few at most.
+    fn pass(&mut self)
+        ensures keys { self.new.keys ≡ self.old.keys }
+        ensures last { self.new.last ≡ self.old.last }
+        ensures room { self.old.room ≤ self.new.room }
+    {
+        let end = self
+            .rows
+            .len()
+            .min(self.read.saturating_add(PASSED_AT_ONCE));
+        self.read = first_live(&self.rows, self.read, end);
+    }
+
+    /// The first row that was not read is moved, if it is live. Its key, and its new place.
+    fn step(&mut self) -> Option<(usize, usize)>
+        ensures keys { self.new.keys ≡ self.old.keys }
+        ensures last { self.new.last ≡ self.old.last }
+        ensures room { self.old.room ≤ self.new.room }
+    {
+        if self.read >= self.rows.len() {
+            return None;
+        }
+        let row = self.rows[self.read];
+        let Some(key) = row.key else {
+            return None;
+        };
+        let at = self.packed.len();
+        if self.packed.push(row).is_err() {
+            return None;
+        }
+        self.rows[self.read].key = None;
+        self.read += 1;
+        self.dead = self.dead.saturating_add(1);
+        Some((key, at))
+    }
+}
+
+/// Where the number stands. This place is tried first in both, before a search.
+fn place_of(packed: &[Row], rows: &[Row], ino: Ino, at: usize) -> Option<Place>
+    requires packed { Rise packed.now }
+    requires rows { Rise rows.now }
+    ensures place { IfSome result (IsPlace packed.now rows.now ino) }
+    ensures none { IfNone result (map.get (live_of (packed.now ++ rows.now)) ino ≡ None) }
+{
+    if is_live_at(rows, ino, at) {
+        return Some(Place::Waiting(at));
+    }
+    if is_live_at(packed, ino, at) {
+        return Some(Place::Packed(at));
+    }
+    if let Some(at) = find(rows, ino) {
+        return Some(Place::Waiting(at));
+    }
+    match find(packed, ino) {
+        Some(at) => Some(Place::Packed(at)),
+        None => None,
+    }
+}
+
+/// Whether this very number is live at this place.
+fn is_live_at(rows: &[Row], ino: Ino, at: usize) -> bool
+    ensures { IsTrue result → IsLiveAt rows.now ino at }
+{
+    match rows.get(at) {
+        Some(row) => row.ino == ino && row.key.is_some(),
+        None => false,
+    }
+}
+
+/// Where the number is live.
+fn find(rows: &[Row], ino: Ino) -> Option<usize>
+    requires { Rise rows.now }
+    ensures place { IfSome result (IsLiveAt rows.now ino) }
+    ensures none { IfNone result (map.get (live_of rows.now) ino ≡ None) }
+{
+    match rows.binary_search_by_key(&ino.0, |row| row.ino.0) {
+        Ok(at) => {
+            if rows[at].key.is_some() {
+                Some(at)
+            } else {
+                None
+            }
+        }
+        Err(_) => None,
+    }
+}
+
+/// The key of the number among these rows.
+fn key_in(rows: &[Row], ino: Ino) -> Option<usize>
+    requires { Rise rows.now }
+    ensures { result ≡ map.get (live_of rows.now) ino }
+{
+    match find(rows, ino) {
+        Some(at) => rows[at].key,
+        None => None,
+    }
+}
+
+/// The first live row from this place to that end, or the end.
+fn first_live(rows: &[Row], from: usize, end: usize) -> usize
+    requires from { from ≤ end }
+    requires end { end ≤ length rows.now }
+    ensures from { from ≤ result }
+    ensures end { result ≤ end }
+    ensures dead { (j : ℕ) → from ≤ j → j < result → (row_at rows.now j).key ≡ None }
+    ensures live { result < end → (row_at rows.now result).key ≢ None }
+{
+    for at in from..end {
+        if rows[at].key.is_some() {
+            return at;
+        }
+    }
+    end
+}
+
+/// The least live number above this one among these rows.
+fn next_in(rows: &[Row], ino: Ino) -> Option<FileRef>
+    requires { Rise rows.now }
+    ensures above { IfSome result (λ n. ino < n) }
+    ensures there { IfSome result (λ n. IsTrue (map.contains_key (live_of rows.now) n)) }
+    ensures least { IfSome result (λ n. (q : ℕ) → ino < q → q < n → map.contains_key (live_of rows.now) q ≡ false) }
+    ensures none { IfNone result ((q : ℕ) → ino < q → map.contains_key (live_of rows.now) q ≡ false) }
+{
+    let number = ino.0;
+    let from = rows.partition_point(|row| row.ino.0 <= number);
+    let at = first_live(rows, from, rows.len());
+    if at == rows.len() {
+        return None;
+    }
+    let row = rows[at];
+    match row.key {
+        Some(key) => Some(FileRef::new(row.ino, key)),
+        None => None,
+    }
+}

@@ -1,0 +1,87 @@
+-- What stands at an index of the hash map of processes, and what a write there does.
+use Rattle.std.proofs.Common.{◌≡◌, ℕ, suc, ◌+◌, ◌<◌, ◌≤◌, List, [], ◌∷◌, length, refl, sym, ap, subst, ◌∙◌, Bool, true, false, cond, arith}
+use Rattle.std.specs.Prelude.{Option, Some, None, IfSome, unwrap_or, not, nat_eq, nat_lt, slice_get, position}
+use Rattle.std.specs.List.{position_or_len}
+use Rattle.std.specs.Option.{option_map}
+use Rattle.std.specs.Cmp.{nat_eq_equiv}
+use Rattle.std.specs.HashMap as hash
+use Rattle.std.specs.HashMap.{HashMap}
+use Rattle.std.specs.FinMap as map
+use Rattle.std.proofs.lemmas.Bool.{eqb-true, ltb-true}
+use Rattle.std.proofs.lemmas.Option.{slice_get-map}
+use Rattle.std.proofs.lemmas.Map.Entries.{hash_map_get_place}
+use Rattle.indexmap.specs.IndexMap.{with_value_at}
+use Rattle.indexmap.proofs.CallerLemmas.{updates-with_value_at}
+use Rattle.af_base.specs.World.{Process}
+use Rattle.af_base.specs.Changes.{change_at}
+use Rattle.af_table.specs.Slots.{Roomed}
+use Rattle.af_table.specs.Procs.{processes_of, rows_of}
+use Rattle.af_table.proofs.Parts.{processes_there, rows_there, processes_changed, processes_kept, rows_kept, rows_grown, row_made}
+
+-- the first key that is equal to this one is this one
+first_is : (ks : List ℕ) (pid : ℕ) → position_or_len (nat_eq pid) ks < length ks → slice_get ks (position_or_len (nat_eq pid) ks) ≡ Some pid
+first_is [] pid h = absurd (omega arith)
+first_is (k ∷ ks) pid h = by (nat_eq pid k) refl (first_is ks pid) h where
+  by : (b : Bool) → nat_eq pid k ≡ b → (position_or_len (nat_eq pid) ks < length ks → slice_get ks (position_or_len (nat_eq pid) ks) ≡ Some pid)
+      → cond (not b) (1 + position_or_len (nat_eq pid) ks) 0 < length (k ∷ ks) → slice_get (k ∷ ks) (cond (not b) (1 + position_or_len (nat_eq pid) ks) 0) ≡ Some pid
+  by true e rest low = ap Some (sym (eqb-true pid k e))
+  by false e rest low =
+      let next : 1 + position_or_len (nat_eq pid) ks ≡ suc (position_or_len (nat_eq pid) ks) = omega arith in
+      ap (slice_get (k ∷ ks)) next ∙ rest (omega arith)
+
+pub position_is : (ks : List ℕ) (pid : ℕ) (o : Option ℕ) → o ≡ position (nat_eq pid) ks → IfSome o (λ i. slice_get ks i ≡ Some pid)
+position_is ks pid o e = subst (λ r. IfSome r (λ i. slice_get ks i ≡ Some pid)) (sym e) (by (nat_lt (position_or_len (nat_eq pid) ks) (length ks)) refl) where
+  by : (b : Bool) → nat_lt (position_or_len (nat_eq pid) ks) (length ks) ≡ b → IfSome (cond b (Some (position_or_len (nat_eq pid) ks)) None) (λ i. slice_get ks i ≡ Some pid)
+  by true low = first_is ks pid (ltb-true _ _ low)
+  by false high = tt
+
+same_some : (k l : ℕ) → Some k ≡ Some l → k ≡ l
+same_some k l e = cc
+
+module _ {S : Type 0} (m : HashMap ℕ Roomed S) (index pid key : ℕ) (h : Roomed) (there : slice_get (hash.keys m) index ≡ Some pid) (at : slice_get m.entries index ≡ Some (key, h)) where
+  -- the pid there is this one
+  pub pid_there : key ≡ pid
+  pid_there = same_some key pid (sym (slice_get-map (λ e. e.0) m.entries index ∙ ap (option_map (λ e. e.0)) at) ∙ there)
+
+  module _ (got : hash.get nat_eq m key ≡ Some h) where
+    found : Some h ≡ hash.get nat_eq m pid
+    found = sym got ∙ ap (hash.get nat_eq m) pid_there
+
+    pub process_found : map.get (processes_of m.entries) pid ≡ Some h.process
+    process_found = processes_there m pid h found
+
+    pub row_found : map.get (rows_of m.entries) pid ≡ Some h.row
+    row_found = rows_there m pid h found
+
+  module _ (unique : hash.IsUnique nat_eq m) where
+    entry_there : slice_get m.entries index ≡ Some (pid, h)
+    entry_there = at ∙ ap (λ k. Some (k, h)) pid_there
+
+    pub process_there : Some h ≡ hash.get nat_eq m pid
+    process_there = sym (hash_map_get_place nat_eq_equiv m index pid h unique entry_there)
+
+    pub row_there : map.get (rows_of m.entries) pid ≡ Some h.row
+    row_there = rows_there m pid h process_there
+
+    pub is_there : map.get (processes_of m.entries) pid ≡ Some h.process
+    is_there = processes_there m pid h process_there
+
+    -- a process is written there
+    module _ (w : Roomed) where
+      written : hash.Updates nat_eq m (with_value_at m index w) pid (Some w)
+      written = updates-with_value_at m index w nat_eq_equiv unique pid h entry_there
+
+      pub processes_written : (g : Process → Process) → w ≡ record h { process = g h.process } → processes_of (with_value_at m index w).entries ≡ change_at g (processes_of m.entries) pid
+      processes_written g e = processes_changed g m (with_value_at m index w) pid h w process_there e written
+
+      pub processes_left : w.process ≡ h.process → processes_of (with_value_at m index w).entries ≡ processes_of m.entries
+      processes_left e = processes_kept m (with_value_at m index w) pid h w process_there e written
+
+      pub rows_left : w.row ≡ h.row → rows_of (with_value_at m index w).entries ≡ rows_of m.entries
+      rows_left e = rows_kept m (with_value_at m index w) pid h w process_there e written
+
+      pub row_written : map.get (rows_of (with_value_at m index w).entries) pid ≡ Some w.row
+      row_written = row_made m (with_value_at m index w) pid w written
+
+      pub rows_longer : h.row ≤ w.row → (q : ℕ) → unwrap_or (map.get (rows_of m.entries) q) 0 ≤ unwrap_or (map.get (rows_of (with_value_at m index w).entries) q) 0
+      rows_longer le q = rows_grown m (with_value_at m index w) pid h w process_there le written q

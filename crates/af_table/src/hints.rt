@@ -1,0 +1,56 @@
+//! Where a process is likely to stand, by its pid.
+ghost use Rattle.std.specs.Prelude.{◌≡◌, nat_eq, slice_get, Some, None, IfSome, IfNone};
+ghost use Rattle.indexmap.specs.IndexMap.{keys, get};
+
+use crate::process::Process;
+use af_base::names::Pid;
+use indexmap::IndexMap;
+
+/// How many hints there are: all pids with the same remainder share one.
+const HINTS: usize = 256;
+
+/// For each remainder of a pid, where the process stood that was noted last. This is only a hint:
+/// who goes by it looks at the pid that stands there, and asks the map where that is another. So a
+/// wrong hint costs time, and no clause speaks of one.
+#[derive(Drop)]
+pub struct Hints {
+    places: [u16; HINTS],
+}
+
+impl Hints {
+    /// Each process may stand first.
+    pub fn new() -> Hints {
+        Hints { places: [0; HINTS] }
+    }
+
+    /// The process of this pid stands there now.
+    #[inline]
+    pub fn note(&mut self, pid: Pid, index: usize) {
+        self.places[pid.0 as usize % HINTS] = (index % (u16::MAX as usize + 1)) as u16;
+    }
+
+    /// Where the process of this pid stands, if there is one. The map is asked only where another
+    /// process stands at the hint.
+    #[inline]
+    pub fn place(&self, processes: &IndexMap<Pid, Process>, pid: Pid) -> Option<usize>
+        ensures there { IfSome result (λ i. slice_get (keys processes.now) i ≡ Some pid) }
+        ensures none { IfNone result (get nat_eq processes.now pid ≡ None) }
+    {
+        let hint = self.places[pid.0 as usize % HINTS] as usize;
+        match processes.get_index(hint) {
+            Some((there, _)) if *there == pid => Some(hint),
+            _ => processes.get_index_of(&pid),
+        }
+    }
+
+    /// The same, and it is noted, so that the next look-up need not ask the map.
+    #[inline]
+    pub fn found(&mut self, processes: &IndexMap<Pid, Process>, pid: Pid) -> Option<usize>
+        ensures there { IfSome result (λ i. slice_get (keys processes.now) i ≡ Some pid) }
+        ensures none { IfNone result (get nat_eq processes.now pid ≡ None) }
+    {
+        let index = self.place(processes, pid)?;
+        self.note(pid, index);
+        Some(index)
+    }
+}

@@ -1,0 +1,17 @@
+-- Bytes that are printed as themselves.
+use Rattle.std.proofs.Common.{◌≡◌, ℕ, Bool, true, false, cond, ◌&&◌, List, [], ◌∷◌, refl, ap, ◌∙◌, arith}
+use Rattle.std.proofs.lemmas.Grind.{common_steps}
+use Rattle.std.specs.List.{flat_map}
+use Rattle.scm_run.specs.Text.{all_plain, escaped, is_plain}
+
+both : (a b : Bool) → (a && b) ≡ true → (a ≡ true) × (b ≡ true)
+both true true e = (refl, refl)
+both true false e = (refl, e)
+both false b e = (e, let never : ⊥ = grind (arith, common_steps) in absurd never)
+
+-- The text of plain bytes is the bytes.
+pub plain-escaped : (bytes : List ℕ) → all_plain bytes ≡ true → flat_map escaped bytes ≡ bytes
+plain-escaped [] h = refl
+plain-escaped (b ∷ bytes) h =
+    let (one, others) = both (is_plain b) (all_plain bytes) h in
+    rw one (ap (λ l. b ∷ l) (plain-escaped bytes others))

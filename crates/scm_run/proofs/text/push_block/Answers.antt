@@ -1,0 +1,10 @@
+use Rattle.std.proofs.Common.{rules, ◌≡◌, ◌++◌, OnOk, true, sym, subst}
+use Rattle.std.specs.List.{flat_map}
+use Rattle.scm_run.specs.Text.{all_plain, escaped}
+use Rattle.scm_run.proofs.PlainLemmas.{plain-escaped}
+use Rattle.scm_run.proofs.text.push_block.Goals as goal
+
+pub returns-then-all_plain-clause-bytes : goal.returns-then-all_plain-clause-bytes
+returns-then-all_plain-clause-bytes c =
+    let plain : all_plain c.args.bytes.now ≡ true = search rules in
+    rw (plain-escaped c.args.bytes.now plain) (search rules)
