@@ -13,6 +13,7 @@ pub mod Lookups
 pub mod Totals
 pub mod Dropped
 pub mod Moved
+pub mod Takes
 pub mod Free
 pub mod Placed
 pub mod Whole

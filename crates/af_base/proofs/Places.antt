@@ -8,7 +8,7 @@ use Rattle.std.proofs.lemmas.Grind.{flat_map-append}
 use Rattle.af_base.specs.World.{AsSocket, Message, Process, Socket, World}
 use Rattle.af_base.specs.Places.{carried, contents, queue_of}
 use Rattle.af_base.specs.Counts.{count_in, inflight, one, refs, total_of}
-use Rattle.af_base.specs.Changes.{file_with, install, push_message, uninstall, with_socket}
+use Rattle.af_base.specs.Changes.{file_with, install, push_message, uninstall, with_queue}
 use Rattle.af_base.proofs.Sums.{total-change_at, total-insert, total-remove}
 
 -- a number taken into use
@@ -49,15 +49,23 @@ inflight-push w s m f x there =
       count-append f (carried x.queue) m.attached,
     )
 
--- the first message taken
-pub refs-pop : (w : World) (s : ℕ) (m : Message) (rest : List Message) (f : ℕ) (x : Socket) → map.get w.files s ≡ Some (AsSocket x) → x.queue ≡ m ∷ rest
-    → refs (with_socket w s (λ x. record x { queue = rest })) f + count_in f m.attached ≡ refs w f
-refs-pop w s m rest f x there is =
+-- these files taken out of a queue
+pub refs-left : (w : World) (s : ℕ) (fs : List ℕ) (rest : List Message) (f : ℕ) (x : Socket) → map.get w.files s ≡ Some (AsSocket x) → fs ++ carried rest ≡ carried x.queue → refs (with_queue w s rest) f + count_in f fs ≡ refs w f
+refs-left w s fs rest f x there is =
     omega (
       arith,
       total-change_at (λ y. count_in f (contents y)) (file_with (λ x. record x { queue = rest })) w.files s (AsSocket x) there,
-      ap (λ q. count_in f (carried q ++ x.backlog)) is,
-      count-append f (m.attached ++ carried rest) x.backlog,
-      count-append f m.attached (carried rest),
+      ap (λ l. count_in f (l ++ x.backlog)) is,
+      count-append f (fs ++ carried rest) x.backlog,
+      count-append f fs (carried rest),
       count-append f (carried rest) x.backlog,
+    )
+
+pub inflight-left : (w : World) (s : ℕ) (fs : List ℕ) (rest : List Message) (f : ℕ) (x : Socket) → map.get w.files s ≡ Some (AsSocket x) → fs ++ carried rest ≡ carried x.queue → inflight (with_queue w s rest) f + count_in f fs ≡ inflight w f
+inflight-left w s fs rest f x there is =
+    omega (
+      arith,
+      total-change_at (λ y. count_in f (carried (queue_of y))) (file_with (λ x. record x { queue = rest })) w.files s (AsSocket x) there,
+      ap (count_in f) is,
+      count-append f fs (carried rest),
     )

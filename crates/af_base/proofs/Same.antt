@@ -8,7 +8,7 @@ use Rattle.std.proofs.lemmas.Bool.Decides.{Decides-eqb}
 use Rattle.std.proofs.lemmas.Slice.Eq.{slice_eq-Decides}
 use denote.Enum.Bare.{same_true}
 use Rattle.af_base.specs.contracts.errno.Errno as errno
-use Rattle.af_base.specs.declared.events.SockType.TheVariants.{Seqpacket}
+use Rattle.af_base.specs.declared.events.SockType.TheVariants.{Seqpacket, Stream}
 use Rattle.af_base.specs.declared.events.Step.{Step}
 use Rattle.af_base.specs.declared.events.Step.TheVariants as step
 use Rattle.af_base.specs.declared.events.Event.{Event}
@@ -43,6 +43,7 @@ step_same (step.Dup2 x z) (step.Dup2 y w) e = let h = both _ _ e in λ i. step.D
 step_same (step.Close x) (step.Close y) e = ap step.Close (eqb-true x y e)
 step_same step.Fork step.Fork e = refl
 step_same step.Exit step.Exit e = refl
+step_same (step.Pair Stream) (step.Pair Stream) e = refl
 step_same (step.Pair Seqpacket) (step.Pair Seqpacket) e = refl
 step_same (step.Send x z t) (step.Send y w u) e =
     let h = both _ _ e in
@@ -61,7 +62,8 @@ step_itself (step.Dup2 x z) = each _ _ (number_itself x) (number_itself z)
 step_itself (step.Close x) = number_itself x
 step_itself step.Fork = refl
 step_itself step.Exit = refl
-step_itself (step.Pair x) = refl
+step_itself (step.Pair Stream) = refl
+step_itself (step.Pair Seqpacket) = refl
 step_itself (step.Send x z t) = each _ _ (number_itself x) (each _ _ (list_itself z) (list_itself t))
 step_itself (step.Recv x z t) = each _ _ (number_itself x) (each _ _ (number_itself z) (number_itself t))
 

@@ -34,6 +34,7 @@ use Rattle.af_base.proofs.Pairs.{whole-paired}
 use Rattle.af_base.proofs.Sound.{sound-settles}
 use Rattle.af_base.proofs.Trees.{insert_same}
 use Rattle.af_base.proofs.Born.{whole-add_process, whole-spawned}
+use Rattle.af_base.proofs.Takes.{leaves-taken}
 use Rattle.af_base.proofs.Whole.{not_connected, whole-install, whole-install_all, whole-push, whole-take, whole-uninstall}
 use Rattle.af_base.proofs.Within.{neither, within-add_process, within-install, within-install_all, within-paired, within-push, within-spawned, within-take, within-uninstall}
 
@@ -186,28 +187,16 @@ fits-send w p n bytes attach k given =
       positive zero e = absurd (false≢true (sym e))
       positive (suc k) e = omega arith
 
--- What a receive leaves, by what it takes.
-abbrev received : World → ℕ → ℕ → ℕ → Taken → World
-received w p f max_fds taken = install_all (with_queue w f taken.rest) p (zip (lowest_free (min (length taken.attached) max_fds) (process_at w p)) taken.attached)
-
--- Each type takes a packet.
-take-seqpacket : (kind : SockType) (q : List Message) (n : ℕ) → take_from kind q n ≡ take_seqpacket q n
-take-seqpacket Seqpacket q n = refl
-
--- A message taken fits.
+-- What was received fits.
 fits-recv : (w : World) (p n max_bytes max_fds : ℕ) → Fits w → map.get w.processes p ≡ Some (process_at w p) → NoneFits (step_row w p (step.Recv n max_bytes max_fds)) → Fits (effect w p (step.Recv n max_bytes max_fds))
 fits-recv w p n max_bytes max_fds k at row =
-    subst (λ t. Fits (received w p (ino_on w p n) max_fds t)) (sym (take-seqpacket (socket_on w p n).kind (socket_on w p n).queue max_bytes))
-    (by (socket-there w p n row.here row.rest.here) (socket_on w p n).queue refl) where
-      by : map.get w.files (ino_on w p n) ≡ Some (AsSocket (socket_on w p n)) → (q : List Message) → (socket_on w p n).queue ≡ q → Fits (received w p (ino_on w p n) max_fds (take_seqpacket q max_bytes))
-      by there [] e =
-          let same : w ≡ with_queue w (ino_on w p n) [] = sym (same-with_queue w (ino_on w p n) (socket_on w p n) there) ∙ ap (with_queue w (ino_on w p n)) e in
-          let old = subst Fits same k in
-          let ns = lowest_free (min 0 max_fds) (process_at w p) in
-          (whole-install_all _ p ns [] old.0 (λ f h. absurd (Contains-none f h)), within-install_all _ p (process_at w p) ns [] old.1 at (free-lowest_free (min 0 max_fds) (process_at w p)))
-      by there (m ∷ rest) e =
-          let ns = lowest_free (min (length m.attached) max_fds) (process_at w p) in
-          (whole-take w (ino_on w p n) (socket_on w p n) m rest p ns k.0 there e, within-take w (ino_on w p n) (socket_on w p n) m rest p (process_at w p) ns k.1 there e at (free-lowest_free (min (length m.attached) max_fds) (process_at w p)))
+    let s = socket_on w p n in
+    let there = socket-there w p n row.here row.rest.here in
+    let taken = take_from s.kind s.queue max_bytes in
+    let left = leaves-taken s.kind s.queue max_bytes (k.1.sockets (ino_on w p n) s there).messages in
+    let free = free-lowest_free (min (length taken.attached) max_fds) (process_at w p) in
+    let ns = lowest_free (min (length taken.attached) max_fds) (process_at w p) in
+    (whole-take w (ino_on w p n) s taken.attached taken.rest p ns k.0 there left, within-take w (ino_on w p n) s taken.attached taken.rest p (process_at w p) ns k.1 there left at free)
 
 -- What a step that nothing refuses leaves is whole and within the limits, before it settles.
 pub fits-effect : (w : World) (p : ℕ) (s : Step) → IsWhole w → IsWithin w → refusal w p s ≡ None → IsWhole (effect w p s) × IsWithin (effect w p s)

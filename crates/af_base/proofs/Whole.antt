@@ -19,6 +19,7 @@ use Rattle.af_base.proofs.Elements.{Contains-first, Contains-later}
 use Rattle.af_base.proofs.Places.{carried-push}
 use Rattle.af_base.proofs.Held.{held_by_none}
 use Rattle.af_base.proofs.Lookups.{changed-live, some_same}
+use Rattle.af_base.proofs.Takes.{Leaves}
 use Rattle.af_base.proofs.Moved.{held-changed, live-changed, state-changed, there-holds, tabled-install, tabled-uninstall}
 
 -- Whom a file talks to where some are gone.
@@ -176,16 +177,16 @@ whole-with_queue w s q x k at fewer = whole-changed w s (λ y. record y { queue 
       | inr z ↦ inl (Contains-append_right (carried y.queue) y.backlog f z)
     ]) k
 
--- The first message taken.
-pub whole-pop : (w : World) (s : ℕ) (x : Socket) (m : Message) (rest : List Message) → IsWhole w → map.get w.files s ≡ Some (AsSocket x) → x.queue ≡ m ∷ rest → IsWhole (with_queue w s rest)
-whole-pop w s x m rest k at is = whole-with_queue w s rest x k at (λ f h. subst (λ q. Contains (carried q) f) (sym is) (Contains-append_right m.attached (carried rest) f h))
+-- These files taken out of a queue.
+pub whole-left : (w : World) (s : ℕ) (x : Socket) (fs : List ℕ) (rest : List Message) → IsWhole w → map.get w.files s ≡ Some (AsSocket x) → Leaves x.queue fs rest → IsWhole (with_queue w s rest)
+whole-left w s x fs rest k at left = whole-with_queue w s rest x k at (λ f h. subst (λ l. Contains l f) left.carried (Contains-append_right fs (carried rest) f h))
 
--- The files of a queue's first message are live.
-pub live-first : (w : World) (s : ℕ) (x : Socket) (m : Message) (rest : List Message) → IsWhole w → map.get w.files s ≡ Some (AsSocket x) → x.queue ≡ m ∷ rest → (f : ℕ) → Contains m.attached f → IsLive w f
-live-first w s x m rest k at is f h = k.queues_live s f (there-holds w s f (AsSocket x) at
-    (Contains-append_left (carried x.queue) x.backlog f (subst (λ q. Contains (carried q) f) (sym is) (Contains-append_left m.attached (carried rest) f h))))
+-- They are live.
+pub live-taken : (w : World) (s : ℕ) (x : Socket) (fs : List ℕ) (rest : List Message) → IsWhole w → map.get w.files s ≡ Some (AsSocket x) → Leaves x.queue fs rest → (f : ℕ) → Contains fs f → IsLive w f
+live-taken w s x fs rest k at left f h = k.queues_live s f (there-holds w s f (AsSocket x) at
+    (Contains-append_left (carried x.queue) x.backlog f (subst (λ l. Contains l f) left.carried (Contains-append_left fs (carried rest) f h))))
 
--- A message taken, with the first of its files installed.
-pub whole-take : (w : World) (s : ℕ) (x : Socket) (m : Message) (rest : List Message) (p : ℕ) (ns : List ℕ) → IsWhole w → map.get w.files s ≡ Some (AsSocket x) → x.queue ≡ m ∷ rest → IsWhole (install_all (with_queue w s rest) p (zip ns m.attached))
-whole-take w s x m rest p ns k at is =
-    whole-install_all (with_queue w s rest) p ns m.attached (whole-pop w s x m rest k at is) (λ f h. live-changed w s (λ y. record y { queue = rest }) f ∙ live-first w s x m rest k at is f h)
+-- And the first of them installed.
+pub whole-take : (w : World) (s : ℕ) (x : Socket) (fs : List ℕ) (rest : List Message) (p : ℕ) (ns : List ℕ) → IsWhole w → map.get w.files s ≡ Some (AsSocket x) → Leaves x.queue fs rest → IsWhole (install_all (with_queue w s rest) p (zip ns fs))
+whole-take w s x fs rest p ns k at left =
+    whole-install_all (with_queue w s rest) p ns fs (whole-left w s x fs rest k at left) (λ f h. live-changed w s (λ y. record y { queue = rest }) f ∙ live-taken w s x fs rest k at left f h)

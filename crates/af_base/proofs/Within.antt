@@ -11,7 +11,7 @@ use Rattle.std.proofs.lemmas.List.Sums.{sum_by-cons, sum_by_push}
 use Rattle.af_base.specs.declared.events.SockType.{SockType}
 use Rattle.af_base.specs.declared.limits.TheConstants.{MAX_PROCESSES, MAX_NOFILE, MAX_FILES, MAX_MESSAGES, MAX_INFLIGHT, MAX_PID, MAX_INO}
 use Rattle.af_base.specs.World.{AsSocket, File, Map, Message, Plain, Process, Socket, World}
-use Rattle.af_base.specs.Places.{queue_of}
+use Rattle.af_base.specs.Places.{carried, queue_of}
 use Rattle.af_base.specs.Counts.{total, total_of}
 use Rattle.af_base.specs.Unheld.{Settles, file_without, without}
 use Rattle.af_base.specs.Changes.{add_file, add_process, add_user, change_at, file_with, install, install_all, push_message, uninstall, with_queue, with_socket}
@@ -25,6 +25,7 @@ use Rattle.af_base.proofs.Free.{AreFree, first-low, rest-free}
 use Rattle.af_base.proofs.Lookups.{changed-was, insert-here, insert-other, none_some, remove-here, remove-other, same_or_not, some_same}
 use Rattle.af_base.proofs.Moved.{there-install}
 use Rattle.af_base.proofs.Sums.{total-change_at, total-insert}
+use Rattle.af_base.proofs.Takes.{Leaves}
 use Rattle.af_base.proofs.Totals.{total-below, total-count, total-most}
 
 -- A value changed leaves as many as there were.
@@ -130,12 +131,17 @@ total-push w s m x at =
     let longer : sum_by (λ n. length n.attached) (x.queue ++ m ∷ []) ≡ sum_by (λ n. length n.attached) x.queue + length m.attached = sum_by_push (λ n. length n.attached) x.queue m in
     omega (arith, longer, total-change_at places (file_with (λ x. record x { queue = x.queue ++ m ∷ [] })) w.files s (AsSocket x) at)
 
--- The queue places of a message go with it.
-pub total-pop : (w : World) (s : ℕ) (x : Socket) (m : Message) (rest : List Message) → map.get w.files s ≡ Some (AsSocket x) → x.queue ≡ m ∷ rest → total (with_queue w s rest) + length m.attached ≡ total w
-total-pop w s x m rest at is =
+-- A queue has as many places as files travel in it.
+sum-carried : (q : List Message) → sum_by (λ n. length n.attached) q ≡ length (carried q)
+sum-carried [] = refl
+sum-carried (m ∷ q) = omega (arith, sum-carried q, sum_by-cons (λ n. length n.attached) m q, length-append m.attached (carried q))
+
+-- The queue places of files that are taken go with them.
+pub total-left : (w : World) (s : ℕ) (x : Socket) (fs : List ℕ) (rest : List Message) → map.get w.files s ≡ Some (AsSocket x) → Leaves x.queue fs rest → total (with_queue w s rest) + length fs ≡ total w
+total-left w s x fs rest at left =
     let places : File → ℕ = λ y. sum_by (λ n. length n.attached) (queue_of y) in
-    let shorter : sum_by (λ n. length n.attached) x.queue ≡ length m.attached + sum_by (λ n. length n.attached) rest = ap (sum_by (λ n. length n.attached)) is ∙ sum_by-cons (λ n. length n.attached) m rest in
-    omega (arith, shorter, total-change_at places (file_with (λ x. record x { queue = rest })) w.files s (AsSocket x) at)
+    let all : length fs + length (carried rest) ≡ length (carried x.queue) = sym (length-append fs (carried rest)) ∙ ap length left.carried in
+    omega (arith, all, sum-carried x.queue, sum-carried rest, total-change_at places (file_with (λ x. record x { queue = rest })) w.files s (AsSocket x) at)
 
 -- A message put into a queue that has room, and that leaves room for its files.
 pub within-push : (w : World) (s : ℕ) (m : Message) (x : Socket) → IsWithin w → map.get w.files s ≡ Some (AsSocket x) → IsMessageWithin m → length x.queue < MAX_MESSAGES → total w + length m.attached ≤ MAX_INFLIGHT → IsWithin (push_message w s m)
@@ -149,22 +155,22 @@ within-push w s m x k at fits room few = within-changed w s (λ y. record y { qu
       messages = λ n h. elim (Contains-push_cases y.queue m n h) [ inl z ↦ before.messages n z | inr z ↦ subst IsMessageWithin z fits ];
     }) (omega (arith, few, total-push w s m x at))
 
--- The first message taken.
-pub within-pop : (w : World) (s : ℕ) (x : Socket) (m : Message) (rest : List Message) → IsWithin w → map.get w.files s ≡ Some (AsSocket x) → x.queue ≡ m ∷ rest → IsWithin (with_queue w s rest)
-within-pop w s x m rest k at is = within-changed w s (λ y. record y { queue = rest }) k (λ y e.
-    let same : y.queue ≡ m ∷ rest = ap (λ z. z.queue) (socket_same y x (some_same _ _ (sym e ∙ at))) ∙ is in
+-- These files taken out of a queue.
+pub within-left : (w : World) (s : ℕ) (x : Socket) (fs : List ℕ) (rest : List Message) → IsWithin w → map.get w.files s ≡ Some (AsSocket x) → Leaves x.queue fs rest → IsWithin (with_queue w s rest)
+within-left w s x fs rest k at left = within-changed w s (λ y. record y { queue = rest }) k (λ y e.
+    let same : y.queue ≡ x.queue = ap (λ z. z.queue) (socket_same y x (some_same _ _ (sym e ∙ at))) in
     let before = k.sockets s y e in
-    let long : length y.queue ≡ length rest + 1 = ap length same ∙ omega arith in
+    let fewer = left.fewer in
     record {
-      queue = let low = before.queue in omega (arith, low, long);
+      queue = let low = before.queue in omega (arith, low, fewer, ap length same);
       backlog = before.backlog;
-      messages = λ n h. before.messages n (subst (λ q. Contains q n) (sym same) (Contains-later m rest n h));
-    }) (let most = k.flying in omega (arith, most, total-pop w s x m rest at is))
+      messages = left.within;
+    }) (let most = k.flying in omega (arith, most, total-left w s x fs rest at left))
 
--- A message taken, with the first of its files installed at free numbers.
-pub within-take : (w : World) (s : ℕ) (x : Socket) (m : Message) (rest : List Message) (p : ℕ) (q : Process) (ns : List ℕ) → IsWithin w → map.get w.files s ≡ Some (AsSocket x) → x.queue ≡ m ∷ rest
-    → map.get w.processes p ≡ Some q → AreFree q ns → IsWithin (install_all (with_queue w s rest) p (zip ns m.attached))
-within-take w s x m rest p q ns k at is here free = within-install_all (with_queue w s rest) p q ns m.attached (within-pop w s x m rest k at is) here free
+-- And the first of them installed at free numbers.
+pub within-take : (w : World) (s : ℕ) (x : Socket) (fs : List ℕ) (rest : List Message) (p : ℕ) (q : Process) (ns : List ℕ) → IsWithin w → map.get w.files s ≡ Some (AsSocket x) → Leaves x.queue fs rest
+    → map.get w.processes p ≡ Some q → AreFree q ns → IsWithin (install_all (with_queue w s rest) p (zip ns fs))
+within-take w s x fs rest p q ns k at left here free = within-install_all (with_queue w s rest) p q ns fs (within-left w s x fs rest k at left) here free
 
 -- One user more in the list.
 pub within-add_user : (w : World) (u : ℕ) → IsWithin w → IsWithin (add_user w u)

@@ -4,7 +4,7 @@ use Rattle.std.specs.List.{flat_map, take_while, find}
 use Rattle.std.specs.Option.{option_map_or}
 use Rattle.af_base.specs.World.{Message}
 use Rattle.af_base.specs.declared.events.SockType.{SockType}
-use Rattle.af_base.specs.declared.events.SockType.TheVariants.{Seqpacket}
+use Rattle.af_base.specs.declared.events.SockType.TheVariants.{Stream, Seqpacket}
 
 -- What was taken, whether bytes were dropped (recvmsg(2), MSG_TRUNC), and the queue that is left.
 pub record Taken : Type 0 where
@@ -52,4 +52,5 @@ take_stream q n =
 
 -- What a receive of at most n bytes takes, by the socket's type.
 abbrev pub take_from : SockType → List Message → ℕ → Taken
+take_from Stream q n = take_stream q n
 take_from Seqpacket q n = take_seqpacket q n

@@ -6,6 +6,8 @@ use crate::names::{Fd, Ino, Pid, Uid};
 /// What a socket keeps of the borders between messages (unix(7)).
 #[derive(Clone, Copy, Debug, PartialEq, Eq)]
 pub enum SockType {
+    /// SOCK_STREAM: connection-oriented, bytes in order, with no borders between messages.
+    Stream,
     /// SOCK_SEQPACKET: connection-oriented, keeps message boundaries, delivers in order.
     Seqpacket,
 }

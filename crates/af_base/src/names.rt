@@ -32,7 +32,7 @@ impl fmt::Display for Ino {
 
 /// A file, and where it stood when this was made. A clause sees the number alone: the key is only a
 /// hint, and who goes by it looks whether that very number stands there.
-#[derive(Debug, Drop)]
+#[derive(Debug, Default, Drop)]
 pub struct FileRef {
     ino: Ino,
     key: usize,

@@ -14,7 +14,7 @@ use std::process::ExitCode;
 use std::time::Instant;
 
 /// What is measured: so many short runs, each of so many rounds.
-const PLAN: [(Workload, u32, u32); 11] = [
+const PLAN: [(Workload, u32, u32); 13] = [
     (Workload::OpenClose { live: 0 }, 301, 2_000),
     (Workload::OpenClose { live: 1_000 }, 301, 2_000),
     (Workload::OpenClose { live: 10_000 }, 301, 2_000),
@@ -24,6 +24,8 @@ const PLAN: [(Workload, u32, u32); 11] = [
     (Workload::ForkExit, 301, 100),
     (Workload::PingPong, 301, 1_000),
     (Workload::DeepQueue, 301, 10),
+    (Workload::Stream { piece: 4_096 }, 301, 10),
+    (Workload::Stream { piece: 16 }, 301, 1),
     (Workload::Cycle, 301, 10),
     (Workload::Chain { sockets: 60_000 }, 5, 1),
 ];

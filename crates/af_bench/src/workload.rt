@@ -1,6 +1,7 @@
 //! The workloads.
 use af_base::events::{Event, Reply, SockType, Step};
 use af_base::items::Items;
+use af_base::limits::MAX_BYTES;
 use af_base::names::{Fd, Pid, Uid};
 use af_steps::Engine;
 use std::alloc::Global;
@@ -22,6 +23,8 @@ pub enum Workload {
     PingPong,
     /// 64 messages of four descriptors each go into a queue, and then come out and are closed.
     DeepQueue,
+    /// 65,536 bytes go into a stream as one message, and come out in pieces of so many.
+    Stream { piece: u32 },
     /// 64 pairs of sockets, each in its own queue, and a pass that collects them.
     Cycle,
     /// So many sockets, each in the queue of the next, go by one close of the last.
@@ -38,6 +41,8 @@ impl Display for Workload {
             Workload::ForkExit => write!(f, "forkexit"),
             Workload::PingPong => write!(f, "pingpong"),
             Workload::DeepQueue => write!(f, "deepqueue"),
+            Workload::Stream { piece: 16 } => write!(f, "drip"),
+            Workload::Stream { .. } => write!(f, "stream64k"),
             Workload::Cycle => write!(f, "cycle"),
             Workload::Chain { sockets } => write!(f, "chain{sockets}"),
         }
@@ -52,6 +57,7 @@ impl Workload {
             Workload::Dup2 => 1,
             Workload::PingPong => 3,
             Workload::DeepQueue => 64 + 64 * 5,
+            Workload::Stream { piece } => pieces(*piece).saturating_add(1),
             Workload::Cycle => 64 * 5 + 1,
             Workload::Chain { sockets } => *sockets,
         }
@@ -99,6 +105,7 @@ impl Workload {
                 done(engine, &PAIR)?;
                 open_numbers(engine, 4)
             }
+            Workload::Stream { .. } => done(engine, &STREAM).map(|_| ()),
             Workload::Cycle => Some(()),
             Workload::Chain { sockets } => chain(engine, alloc, *sockets),
         }
@@ -115,6 +122,7 @@ impl Workload {
                 vec![in alloc; send(alloc, 0, &[Fd(2)])?, receive(1), close(3)].ok()
             }
             Workload::DeepQueue => deep_queue(alloc),
+            Workload::Stream { piece } => stream(alloc, *piece),
             Workload::Cycle => cycle(alloc),
             Workload::Chain { sockets } => vec![in alloc; close(end_of(*sockets))].ok(),
         }
@@ -135,6 +143,22 @@ fn deep_queue(alloc: Global) -> Option<Vec<Event>> {
         for fd in 6..10 {
             events.push(close(fd)).ok()?;
         }
+    }
+    Some(events)
+}
+
+/// In how many pieces a whole message comes.
+fn pieces(piece: u32) -> u32 {
+    MAX_BYTES as u32 / piece.max(1)
+}
+
+/// A whole message in, and out in such pieces. Nothing, where memory is refused.
+fn stream(alloc: Global, piece: u32) -> Option<Vec<Event>> {
+    let mut events = Vec::new(alloc);
+    let bytes = Vec::from_elem(alloc, b'a', MAX_BYTES).ok()?;
+    events.push(send_bytes(0, bytes, Vec::new(alloc))).ok()?;
+    for _ in 0..pieces(piece) {
+        events.push(receive_up_to(1, piece)).ok()?;
     }
     Some(events)
 }
@@ -166,11 +190,18 @@ const OPEN: Event = Event::Proc(FIRST, Step::Open);
 
 const PAIR: Event = Event::Proc(FIRST, Step::Pair(SockType::Seqpacket));
 
+const STREAM: Event = Event::Proc(FIRST, Step::Pair(SockType::Stream));
+
 /// Up to 16 bytes and four descriptors.
 fn receive(on: u32) -> Event {
+    receive_up_to(on, 16)
+}
+
+/// Up to so many bytes, and four descriptors.
+fn receive_up_to(on: u32, max_bytes: u32) -> Event {
     let step = Step::Recv {
         on: Fd(on),
-        max_bytes: 16,
+        max_bytes,
         max_fds: 4,
     };
     Event::Proc(FIRST, step)
@@ -182,12 +213,18 @@ fn close(fd: u32) -> Event {
 
 /// One byte, and what these numbers stand for. Nothing, where memory is refused.
 fn send(alloc: Global, on: u32, attached: &[Fd]) -> Option<Event> {
+    let bytes = [b'a'].to_vec(alloc).ok()?;
+    Some(send_bytes(on, bytes, attached.to_vec(alloc).ok()?))
+}
+
+/// These bytes, and what these numbers stand for.
+fn send_bytes(on: u32, bytes: Vec<u8>, attached: Vec<Fd>) -> Event {
     let step = Step::Send {
         on: Fd(on),
-        bytes: Items::of([b'a'].to_vec(alloc).ok()?),
-        attach: Items::of(attached.to_vec(alloc).ok()?),
+        bytes: Items::of(bytes),
+        attach: Items::of(attached),
     };
-    Some(Event::Proc(FIRST, step))
+    Event::Proc(FIRST, step)
 }
 
 /// Does an event. Nothing, where it is refused.

@@ -18,9 +18,9 @@ use Rattle.af_base.proofs.Held.{tabled-InTable}
 use Rattle.af_base.proofs.Lookups.{changed-was, insert-here, insert-other, none_some, remove-here, remove-other, same_or_not, some_same}
 use Rattle.af_base.proofs.Moved.{table-there, there-table}
 use Rattle.af_base.proofs.Pairs.{refs-add_file}
-use Rattle.af_base.proofs.Places.{inflight-push, refs-install, refs-pop, refs-push, refs-uninstall}
+use Rattle.af_base.proofs.Places.{inflight-left, inflight-push, refs-install, refs-left, refs-push, refs-uninstall}
 use Rattle.af_base.proofs.Totals.{total-most}
-use Rattle.af_base.proofs.Within.{total-pop, total-push}
+use Rattle.af_base.proofs.Within.{total-left, total-push}
 use Rattle.af_ledger.specs.Counted.{places_in, uncounted}
 use Rattle.af_ledger.specs.Kept.{CanDropAll, Kept, count_of, dropped, dropped_all, has_count, held, held_all, is_user, refs_of, with_user}
 use Rattle.af_ledger.specs.declared.place.Place.TheVariants.{Queue, Table}
@@ -28,7 +28,8 @@ use Rattle.af_ledger.proofs.HeldAll.{charge-dropped_all, charge-held_all, inflig
 use Rattle.af_ledger.proofs.Laws.{charge-added, count-entered, count-struck, inflight-tabled, inflight-untabled, refs-dropped, refs-held, tabled-tabled, tabled-untabled}
 use Rattle.af_ledger.proofs.Users.{user-added, user-stays}
 use Rattle.af_collect.specs.Agreement.{Agrees}
-use Rattle.af_collect.proofs.Recounts.{charged-pop, charged-push, inflight-pop, tabled-install, tabled-uninstall, total-new, total-weightless}
+use Rattle.af_collect.proofs.Recounts.{charged-push, charged-shed, tabled-install, tabled-uninstall, total-new, total-weightless}
+use Rattle.af_collect.proofs.Sheds.{Sheds}
 
 -- Each process has a user that is kept.
 abbrev AreKnown : World → List (ℕ × ℕ) → Type 0
@@ -84,14 +85,14 @@ agrees-push w s m x k at there a = record {
   known = known-kept w k.users (held_all (Queue m.user) m.attached k).users (λ u. same-user u k.users (held_all (Queue m.user) m.attached k).users (users-held_all m.user m.attached k)) a.known;
 }
 
--- The first message taken out of a queue is a place less there for each file that it carries.
-pub agrees-pop : (w : World) (s : ℕ) (m : Message) (rest : List Message) (x : Socket) (k : Kept) → map.get w.files s ≡ Some (AsSocket x) → x.queue ≡ m ∷ rest → CanDropAll m.user m.attached k → Agrees w k → Agrees (with_queue w s rest) (dropped_all (Queue m.user) m.attached k)
-agrees-pop w s m rest x k at is can a = record {
-  refs = λ g. omega (arith, refs-dropped_all m.user g m.attached k can, refs-pop w s m rest g x at is, a.refs g);
+-- A message taken out of a queue is a place less there for each file that it carries.
+pub agrees-shed : (w : World) (s : ℕ) (m : Message) (rest : List Message) (x : Socket) (k : Kept) → map.get w.files s ≡ Some (AsSocket x) → Sheds x.queue m rest → CanDropAll m.user m.attached k → Agrees w k → Agrees (with_queue w s rest) (dropped_all (Queue m.user) m.attached k)
+agrees-shed w s m rest x k at shed can a = record {
+  refs = λ g. omega (arith, refs-dropped_all m.user g m.attached k can, refs-left w s m.attached rest g x at shed.leaves.carried, a.refs g);
   tabled = λ g. tabled-dropped_all m.user g m.attached k ∙ a.tabled g;
-  inflight = λ g. omega (arith, inflight-dropped_all m.user g m.attached k can, inflight-pop w s m rest g x at is, a.inflight g);
-  charged = λ u. omega (arith, charge-dropped_all m.user u m.attached k can, charged-pop w s m rest u x at is, a.charged u);
-  total = omega (arith, total-dropped_all m.user m.attached k can, total-pop w s x m rest at is, a.total);
+  inflight = λ g. omega (arith, inflight-dropped_all m.user g m.attached k can, inflight-left w s m.attached rest g x at shed.leaves.carried, a.inflight g);
+  charged = λ u. omega (arith, charge-dropped_all m.user u m.attached k can, charged-shed w s m rest u x at shed, a.charged u);
+  total = omega (arith, total-dropped_all m.user m.attached k can, total-left w s x m.attached rest at shed.leaves, a.total);
   known = known-kept w k.users (dropped_all (Queue m.user) m.attached k).users (λ u. same-user u k.users (dropped_all (Queue m.user) m.attached k).users (users-dropped_all m.user m.attached k)) a.known;
 }
 

@@ -12,15 +12,16 @@ use Rattle.af_base.specs.Counts.{charge, charged, count_in, inflight, one, table
 use Rattle.af_base.specs.Whole.{IsWithin}
 use Rattle.af_base.proofs.Held.{tabled-InTable}
 use Rattle.af_base.proofs.Lookups.{none_some, not_same, remove-here, remove-other, same_or_not, itself}
-use Rattle.af_base.proofs.Places.{count-append}
+use Rattle.af_base.proofs.Places.{count-append, inflight-left}
 use Rattle.af_base.proofs.Sums.{total-remove}
 use Rattle.af_base.proofs.Totals.{total-below, total-most}
-use Rattle.af_base.proofs.Within.{total-pop}
+use Rattle.af_base.proofs.Within.{total-left}
 use Rattle.af_ledger.specs.Kept.{CanDrop, CanDropAll, CanHold, CanHoldAll, Kept, count_of, has_count, is_user}
 use Rattle.af_ledger.specs.declared.place.Place.TheVariants.{Table}
 use Rattle.af_ledger.proofs.HeldAll.{count-length}
 use Rattle.af_collect.specs.Agreement.{Agrees}
-use Rattle.af_collect.proofs.Recounts.{charged-pop, inflight-pop}
+use Rattle.af_collect.proofs.Recounts.{charged-shed}
+use Rattle.af_collect.proofs.Sheds.{Sheds}
 
 -- A number is another at most once.
 pub one-most : (f g : ℕ) → one f g ≤ 1
@@ -113,13 +114,13 @@ can-drop-table w p n f k is agrees =
     let same = agrees.tabled f in
     (omega (arith, some, same), tt)
 
--- The first message of a queue is counted and charged.
-pub can-drop-all : (w : World) (s : ℕ) (m : Message) (rest : List Message) (x : Socket) (k : Kept) → map.get w.files s ≡ Some (AsSocket x) → x.queue ≡ m ∷ rest → Agrees w k → CanDropAll m.user m.attached k
-can-drop-all w s m rest x k at is agrees = record {
-  counted = λ f. let same = agrees.inflight f in omega (arith, same, inflight-pop w s m rest f x at is);
+-- A message taken of a queue is counted and charged.
+pub can-drop-all : (w : World) (s : ℕ) (m : Message) (rest : List Message) (x : Socket) (k : Kept) → map.get w.files s ≡ Some (AsSocket x) → Sheds x.queue m rest → Agrees w k → CanDropAll m.user m.attached k
+can-drop-all w s m rest x k at shed agrees = record {
+  counted = λ f. let same = agrees.inflight f in omega (arith, same, inflight-left w s m.attached rest f x at shed.leaves.carried);
   charge =
       let same = agrees.charged m.user in
       let mine : charge m.user m ≡ length m.attached = ap {B = ℕ} (λ b. cond b (length m.attached) 0) (itself m.user) in
-      omega (arith, same, mine, charged-pop w s m rest m.user x at is);
-  total = let same = agrees.total in omega (arith, same, total-pop w s x m rest at is);
+      omega (arith, same, mine, charged-shed w s m rest m.user x at shed);
+  total = let same = agrees.total in omega (arith, same, total-left w s x m.attached rest at shed.leaves);
 }

@@ -29,8 +29,8 @@ use Rattle.af_base.proofs.Pairs.{whole-pair}
 use Rattle.af_base.proofs.Placed.{settled-counted}
 use Rattle.af_base.proofs.Settling.{live-without}
 use Rattle.af_base.proofs.Sound.{fresh_sound}
-use Rattle.af_base.proofs.Whole.{whole-install, whole-pop, whole-push, whole-uninstall, whole-unheld}
-use Rattle.af_base.proofs.Within.{within-install, within-pair, within-pop, within-push, within-spawned, within-uninstall, within-without}
+use Rattle.af_base.proofs.Whole.{whole-install, whole-left, whole-push, whole-uninstall, whole-unheld}
+use Rattle.af_base.proofs.Within.{within-install, within-left, within-pair, within-push, within-spawned, within-uninstall, within-without}
 use Rattle.af_ledger.specs.Counted.{places_in, uncounted}
 use Rattle.af_ledger.specs.Kept.{Kept, charged_less, charged_more, dropped, dropped_all, has_count, held, held_all, is_user, is_waiting, with_user}
 use Rattle.af_ledger.specs.declared.count.Count.{Count}
@@ -40,8 +40,9 @@ use Rattle.af_ledger.proofs.HeldAll.{has-dropped_all, has-held_all}
 use Rattle.af_ledger.proofs.Laws.{has-dropped, has-entered, has-held, has-struck, users-held}
 use Rattle.af_collect.specs.Agreement.{IsExact}
 use Rattle.af_collect.specs.Stored.{filled}
-use Rattle.af_collect.proofs.Agreement.{agrees-empty, agrees-entered, agrees-gone, agrees-install, agrees-new_file, agrees-pop, agrees-push, agrees-remove_process, agrees-spawned, agrees-struck, agrees-uninstall}
+use Rattle.af_collect.proofs.Agreement.{agrees-empty, agrees-entered, agrees-gone, agrees-install, agrees-new_file, agrees-push, agrees-remove_process, agrees-shed, agrees-spawned, agrees-struck, agrees-uninstall}
 use Rattle.af_collect.proofs.Bounds.{can-drop-all}
+use Rattle.af_collect.proofs.Sheds.{Sheds}
 
 -- Two worlds with the same parts are one.
 pub world-is : (v w : World) → v.processes ≡ w.processes → v.files ≡ w.files → v.next_ino ≡ w.next_ino → v.next_pid ≡ w.next_pid → v.users ≡ w.users → v ≡ w
@@ -142,14 +143,14 @@ exact-push w s m x k at user live fits room flying h = record {
   entered = subst (λ n. n < w.next_ino) (sym (last-held_all (Queue m.user) m.attached k)) h.entered;
 }
 
--- The first message of a queue goes.
-pub exact-pop : (w : World) (s : ℕ) (m : Message) (rest : List Message) (x : Socket) (k : Kept) → finmap.get w.files s ≡ Some (AsSocket x) → x.queue ≡ m ∷ rest → IsExact w k → IsExact (with_queue w s rest) (dropped_all (Queue m.user) m.attached k)
-exact-pop w s m rest x k at is h =
-    let can = can-drop-all w s m rest x k at is h.agrees in
+-- A message is taken out of a queue.
+pub exact-shed : (w : World) (s : ℕ) (m : Message) (rest : List Message) (x : Socket) (k : Kept) → finmap.get w.files s ≡ Some (AsSocket x) → Sheds x.queue m rest → IsExact w k → IsExact (with_queue w s rest) (dropped_all (Queue m.user) m.attached k)
+exact-shed w s m rest x k at shed h =
+    let can = can-drop-all w s m rest x k at shed h.agrees in
     record {
-      whole = whole-pop w s x m rest h.whole at is;
-      within = within-pop w s x m rest h.within at is;
-      agrees = agrees-pop w s m rest x k at is can h.agrees;
+      whole = whole-left w s x m.attached rest h.whole at shed.leaves;
+      within = within-left w s x m.attached rest h.within at shed.leaves;
+      agrees = agrees-shed w s m rest x k at shed can h.agrees;
       counted = λ g. has-dropped_all m.user g m.attached k can ∙ h.counted g ∙ sym (live-changed w s (λ y. record y { queue = rest }) g);
       entered = subst (λ n. n < w.next_ino) (sym (last-dropped_all (Queue m.user) m.attached k)) h.entered;
     }

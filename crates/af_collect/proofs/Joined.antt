@@ -17,7 +17,7 @@ use Rattle.af_base.proofs.Moved.{there-table}
 use Rattle.af_base.proofs.Stepping.{get-change_at}
 use Rattle.af_base.proofs.Stepped.{process-there}
 use Rattle.af_base.proofs.Within.{within-add_process}
-use Rattle.af_ledger.specs.Kept.{CanDrop, CanHold, Kept, dropped, has_count, held}
+use Rattle.af_ledger.specs.Kept.{CanDrop, CanHold, Kept, dropped, held}
 use Rattle.af_ledger.specs.declared.place.Place.TheVariants.{Table}
 use Rattle.af_collect.specs.Agreement.{IsExact, Joins}
 use Rattle.af_collect.proofs.Agreement.{agrees-add_process}
@@ -77,10 +77,7 @@ module _ (w : World) (q : Process) where
     joining-done none = subst (λ t. IsExact (add_process w (record q { table = t })) k) (same-parts c.table q.table from c.below (λ n over. c.above n over ∙ sym (none n over))) c.exact
 
     module _ (old : Kept) (j : Joins w q old) (n f : ℕ) (is : map.get q.table n ≡ Some f) where
-      -- What its next number stands for is kept, and one place more of it can be counted.
-      pub joining-known : IsTrue (has_count k f)
-      joining-known = c.exact.counted f ∙ j.live n f is
-
+      -- One place more of what its next number stands for can be counted.
       pub joining-fits : CanHold Table f k
       joining-fits = can-hold-table (add_process w (record q { table = c.table })) f k c.exact.within c.exact.agrees
 

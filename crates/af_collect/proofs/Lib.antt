@@ -1,10 +1,11 @@
+pub mod Sheds
 pub mod Recounts
 pub mod Bounds
 pub mod Agreement
 pub mod Exact
 pub mod Shedding
 pub mod Dropped
-pub mod Popped
+pub mod Taken
 pub mod Emptying
 pub mod Marking
 pub mod Walking
@@ -12,5 +13,6 @@ pub mod Tabled
 pub mod Unmarked
 pub mod Listed
 pub mod Putting
+pub mod Receiving
 pub mod Filling
 pub mod Joined

@@ -8,13 +8,14 @@ use Rattle.std.proofs.lemmas.List.Sums.{sum_by-cons, sum_by-append}
 use Rattle.std.proofs.lemmas.Grind.{flat_map-append}
 use Rattle.af_base.specs.World.{AsSocket, Map, Message, Process, Socket, World}
 use Rattle.af_base.specs.Places.{carried, queue_of}
-use Rattle.af_base.specs.Counts.{charge, charged, count_in, inflight, one, tabled, total_of}
+use Rattle.af_base.specs.Counts.{charge, charged, count_in, one, tabled, total_of}
 use Rattle.af_base.specs.Changes.{file_with, install, push_message, uninstall, with_queue}
 use Rattle.af_base.proofs.Lookups.{none_some, remove-here, remove-other, same_or_not}
 use Rattle.af_base.proofs.Places.{count-append, refs-install, refs-uninstall}
 use Rattle.af_base.proofs.Replaced.{refs-replace}
 use Rattle.af_base.proofs.Sums.{total-change_at, total-insert, total-remove}
 use Rattle.af_base.proofs.Totals.{total-same}
+use Rattle.af_collect.proofs.Sheds.{Sheds}
 
 -- A number taken into use stands for one file more.
 pub tabled-install : (w : World) (p n g f : ℕ) (q : Process) → map.get w.processes p ≡ Some q → map.get q.table n ≡ None → tabled (install w p n g) f ≡ tabled w f + one f g
@@ -38,25 +39,9 @@ charged-push w s m u x at =
       sum_by-cons (charge u) m [],
     )
 
--- The first message taken is in flight no more.
-pub inflight-pop : (w : World) (s : ℕ) (m : Message) (rest : List Message) (f : ℕ) (x : Socket) → map.get w.files s ≡ Some (AsSocket x) → x.queue ≡ m ∷ rest → inflight (with_queue w s rest) f + count_in f m.attached ≡ inflight w f
-inflight-pop w s m rest f x at is =
-    omega (
-      arith,
-      total-change_at (λ y. count_in f (carried (queue_of y))) (file_with (λ x. record x { queue = rest })) w.files s (AsSocket x) at,
-      ap (λ q. count_in f (carried q)) is,
-      count-append f m.attached (carried rest),
-    )
-
--- The first message taken is charged in no queue any more.
-pub charged-pop : (w : World) (s : ℕ) (m : Message) (rest : List Message) (u : ℕ) (x : Socket) → map.get w.files s ≡ Some (AsSocket x) → x.queue ≡ m ∷ rest → charged (with_queue w s rest) u + charge u m ≡ charged w u
-charged-pop w s m rest u x at is =
-    omega (
-      arith,
-      total-change_at (λ y. sum_by (charge u) (queue_of y)) (file_with (λ x. record x { queue = rest })) w.files s (AsSocket x) at,
-      ap (sum_by (charge u)) is,
-      sum_by-cons (charge u) m rest,
-    )
+-- A message taken is charged in no queue any more.
+pub charged-shed : (w : World) (s : ℕ) (m : Message) (rest : List Message) (u : ℕ) (x : Socket) → map.get w.files s ≡ Some (AsSocket x) → Sheds x.queue m rest → charged (with_queue w s rest) u + charge u m ≡ charged w u
+charged-shed w s m rest u x at shed = omega (arith, total-change_at (λ y. sum_by (charge u) (queue_of y)) (file_with (λ x. record x { queue = rest })) w.files s (AsSocket x) at, shed.charged u)
 
 -- What two lists of messages carry is what the one does and then the other.
 pub carried-append : (ps qs : List Message) → carried (ps ++ qs) ≡ carried ps ++ carried qs

@@ -13,6 +13,7 @@ use Rattle.af_base.specs.Counts.{refs}
 use Rattle.af_base.specs.Changes.{file_with, with_queue, with_socket}
 use Rattle.af_base.specs.Release.{messages_in}
 use Rattle.af_base.specs.Unheld.{Goes, Settles, Unheld, file_without, without}
+use Rattle.af_base.specs.Whole.{IsWithin}
 use Rattle.af_base.proofs.Dropped.{messages-without, total-without}
 use Rattle.af_base.proofs.Held.{held_by_none}
 use Rattle.af_base.proofs.Lookups.{insert-here, same_or_not, there}
@@ -24,6 +25,7 @@ use Rattle.af_base.proofs.Sums.{total-change_at}
 use Rattle.af_base.proofs.Totals.{total-count}
 use Rattle.af_base.proofs.Trees.{insert_same}
 use Rattle.af_base.proofs.Within.{len-change_at}
+use Rattle.af_collect.proofs.Sheds.{Sheds, sheds-first}
 
 -- The other files are what they were where one socket was changed.
 other-files : (w : World) (s : ℕ) (g : Socket → Socket) (q : ℕ) → nat_eq q s ≡ false → map.get (with_socket w s g).files q ≡ map.get w.files q
@@ -89,7 +91,7 @@ module _ (w : World) (s : ℕ) (g : Socket → Socket) (live : IsLive w s) (none
   )
 
 -- A queue that is not empty is that of a socket.
-pub queue-socket : (w : World) (s : ℕ) (m : Message) (rest : List Message) → queue_at w s ≡ m ∷ rest → (x : Socket) × (map.get w.files s ≡ Some (AsSocket x)) × (x.queue ≡ m ∷ rest)
+queue-socket : (w : World) (s : ℕ) (m : Message) (rest : List Message) → queue_at w s ≡ m ∷ rest → (x : Socket) × (map.get w.files s ≡ Some (AsSocket x)) × (x.queue ≡ m ∷ rest)
 queue-socket w s m rest e = by (map.get w.files s) refl where
   nothing : {A : Type 0} → [] ≡ m ∷ rest → A
   nothing e = absurd (let short : 0 ≡ length (m ∷ rest) = ap length e in omega (arith, short))
@@ -98,6 +100,10 @@ queue-socket w s m rest e = by (map.get w.files s) refl where
   by None is = nothing (sym (ap (λ o. option_map_or queue_of o []) is) ∙ e)
   by (Some Plain) is = nothing (sym (ap (λ o. option_map_or queue_of o []) is) ∙ e)
   by (Some (AsSocket x)) is = (x, is, sym (ap (λ o. option_map_or queue_of o []) is) ∙ e)
+
+-- So its first message can be taken.
+pub first-shed : (w : World) (s : ℕ) (m : Message) (rest : List Message) → IsWithin w → queue_at w s ≡ m ∷ rest → (x : Socket) × (map.get w.files s ≡ Some (AsSocket x)) × Sheds x.queue m rest
+first-shed w s m rest within e = let x = queue-socket w s m rest e in (x.0, x.1, sheds-first x.0.queue m rest (within.sockets s x.0 x.1).messages x.2)
 
 -- A queue that is not empty begins with a message.
 pub queue-first : (q : List Message) → 0 < length q → (m : Message) × (q ≡ m ∷ drop 1 q)

@@ -4,3 +4,4 @@ pub mod Stored
 pub mod Agreement
 pub mod Marking
 pub mod Collecting
+pub mod Receiving

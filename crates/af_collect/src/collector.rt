@@ -125,7 +125,7 @@ impl Store {
         let Some(socket) = desc.socket() else {
             return Ok(());
         };
-        for message in socket.queue() {
+        for message in socket.queue().messages() {
             marks.mark_all(message.attached())?;
         }
         Ok(())

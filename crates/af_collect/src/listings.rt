@@ -74,7 +74,7 @@ fn listed_socket(alloc: Global, socket: &Socket) -> Result<ListedSocket, AllocEr
     ensures few { IfOk result (λ s. length (contents (world.AsSocket (socket_of s))) ≤ MAX_MESSAGES * SCM_MAX_FD) }
 {
     let mut queue = Vec::new(alloc);
-    for message in socket.queue() {
+    for message in socket.queue().messages() {
         queue.push(ListedMessage {
             attached: numbers_of(alloc, message.attached())?,
             user: message.user(),

@@ -1,7 +1,7 @@
 //! Place changes of single numbers and messages. Each is one change of the world, and keeps the numbers
 //! in step with it. A file that lost its last place waits, with all that it holds, until `release`
 //! comes to it.
-ghost use Rattle.std.specs.Prelude.{◌≡◌, ◌<◌, ◌≤◌, ◌+◌, ◌∷◌, ◌^◌, [], ℕ, None, IsTrue, OnOk, OnErr, length, map, drop, false, is_none};
+ghost use Rattle.std.specs.Prelude.{◌≡◌, ◌<◌, ◌≤◌, ◌+◌, ◌∷◌, ◌^◌, [], ℕ, None, IsTrue, IfOk, OnOk, OnErr, length, map, drop, false, is_none};
 ghost use Rattle.std.specs.List.{zip, All, Contains};
 ghost use Rattle.std.specs.FinMap as finmap;
 ghost use Rattle.af_base.specs.World as world;
@@ -12,15 +12,17 @@ ghost use Rattle.af_base.specs.Refusals.{process_at, socket_at};
 ghost use Rattle.af_base.specs.Table.{lowest_free};
 ghost use Rattle.af_base.specs.Whole.{IsMessageWithin};
 ghost use Rattle.af_collect.specs.Limits.{IsBelowLimit, IsOfProcess};
+ghost use Rattle.af_collect.specs.Receiving.{taken_at};
 ghost use Rattle.af_collect.specs.Stored.{filled, row_at};
+ghost use Rattle.af_desc.specs.Filed.{received_of};
 ghost use Rattle.af_ledger.specs.Kept.{count_of, has_count, held_all};
 ghost use Rattle.af_table.specs.Procs.{row_in};
 
 use crate::store::Store;
 use af_base::limits::{MAX_INFLIGHT, MAX_MESSAGES};
 use af_base::names::{Fd, FileRef, Pid};
-use af_desc::Message;
 use af_ledger::{Ledger, Place};
+use af_queue::{Msg, Taken};
 use af_table::Procs;
 use std::alloc::AllocError;
 
@@ -66,7 +68,7 @@ impl Store {
 
     /// A message into the queue of a socket, last. It carries live files, and each of these places is
     /// charged to its user, who is the user of a process. On an error nothing has changed.
-    pub fn put_msg(&mut self, socket: &FileRef, message: Message) -> Result<(), AllocError>
+    pub fn put_msg(&mut self, socket: &FileRef, message: Msg) -> Result<(), AllocError>
         requires live { (f : ℕ) → Contains message.attached f → world.IsLive self.old.world f }
         requires user { IsOfProcess self.old.world message.user }
         requires within { IsMessageWithin message }
@@ -84,33 +86,43 @@ impl Store {
             .unwrap()
             .socket()
             .unwrap()
+            .queue()
             .last()
             .unwrap();
         self.ledger.hold_all(sent.user(), sent.attached());
         Ok(())
     }
 
-    /// The first message out of a queue: its first files into a table, at these numbers, which are
-    /// the lowest free ones, and its places in the queue dropped. It takes no memory.
-    pub fn take_msg(&mut self, socket: &FileRef, pid: Pid, fds: &[Fd]) -> Message
-        requires some { 0 < length (queue_at self.old.world socket.now) }
+    /// What a receive of at most `max` bytes takes out of a queue (recvmsg(2)): its first files come
+    /// into a table, at these numbers, which are the lowest free ones, and all its places in the queue
+    /// are dropped. Memory is taken before anything changes: on an error nothing has changed.
+    pub fn take_msg(
+        &mut self,
+        socket: &FileRef,
+        max: usize,
+        pid: Pid,
+        fds: &[Fd],
+    ) -> Result<Taken, AllocError>
+        requires some { 0 < max }
+        requires socket { is_none (socket_at self.old.world socket.now) ≡ false }
         requires there { IsTrue (finmap.contains_key self.old.world.processes pid) }
         requires free { (k : ℕ) × (fds.now ≡ lowest_free k (process_at self.old.world pid)) }
         requires row { All (λ n. n < row_at self.old pid) fds.now }
-        ensures first { queue_at self.old.world socket.now ≡ result ∷ drop 1 (queue_at self.old.world socket.now) }
-        ensures taken { self.new ≡ record self.old { world = install_all (with_queue self.old.world socket.now (drop 1 (queue_at self.old.world socket.now))) pid (zip fds.now result.attached) } }
+        ensures taken { IfOk result (λ t. t ≡ received_of (socket_at self.old.world socket.now) max) }
+        ensures world { OnOk result (self.new ≡ record self.old { world = install_all (with_queue self.old.world socket.now (taken_at self.old.world socket.now max).rest) pid (zip fds.now (taken_at self.old.world socket.now max).attached) }) }
+        ensures err { OnErr result (self.new ≡ self.old) }
     {
-        let message = self.files.pop(socket).unwrap();
+        let taken = self.files.take(socket, max)?;
         // Into the table first, so that no file waits in between.
         table_in_all(
             &mut self.procs,
             &mut self.ledger,
             pid,
             fds,
-            message.attached(),
+            taken.attached(),
         );
-        self.ledger.drop_all(message.user(), message.attached());
-        message
+        self.ledger.drop_all(taken.user(), taken.attached());
+        Ok(taken)
     }
 
     /// The first message of a queue goes, and its places with it. Whether there was one. It takes no

@@ -1,10 +1,9 @@
--- The first and the last of a list, as `front` and `back` tell them, and the queues of two new sockets.
-use Rattle.std.proofs.Common.{rules, ◌≡◌, ℕ, ◌+◌, ◌-◌, List, [], ◌∷◌, ◌++◌, length, ◌<◌, refl, sym, ap, subst, ◌∙◌, arith, Bor}
-use Rattle.std.specs.Prelude.{Option, Some, None, IsSome, IfSome, ◌↔◌, slice_get, slice_index_or, drop}
+-- The last of a list, and the queues of two new sockets.
+use Rattle.std.proofs.Common.{◌≡◌, ℕ, ◌+◌, ◌-◌, List, [], ◌∷◌, ◌++◌, length, ◌<◌, refl, sym, ap, subst, ◌∙◌, arith}
+use Rattle.std.specs.Prelude.{Some, slice_get}
 use Rattle.std.specs.FinMap as map
 use Rattle.std.specs.Option.{option_map_or}
 use Rattle.std.proofs.lemmas.List.{length-append}
-use Rattle.std.proofs.lemmas.Option.{slice_get_read}
 use Rattle.af_base.specs.declared.events.SockType.{SockType}
 use Rattle.af_base.specs.declared.limits.TheConstants.{MAX_MESSAGES}
 use Rattle.af_base.specs.World.{Map, File, Message, AsSocket}
@@ -12,17 +11,6 @@ use Rattle.af_base.specs.Places.{queue_of, queue_in}
 use Rattle.af_base.specs.Steps.{connected_socket}
 use Rattle.af_base.proofs.Lookups.{some_same, insert-here}
 use Rattle.af_desc.specs.Filed.{with_pair}
-
--- What stands first, and the rest.
-pub first_of : {A : Type 0} (xs : List A) (r : Option (Bor A)) → IsSome r ↔ (0 < length xs) → IfSome r (λ x. x.now ≡ slice_index_or xs 0 x.now) → IfSome r (λ x. xs ≡ x.now ∷ drop 1 xs)
-first_of xs None some at = tt
-first_of [] (Some x) some at = absurd (omega (arith, some.0 (search rules)))
-first_of (y ∷ ys) (Some x) some at = λ i. sym at i ∷ ys
-
--- What stands last.
-pub last_of : {A : Type 0} (xs : List A) (r : Option (Bor A)) → IsSome r ↔ (0 < length xs) → IfSome r (λ x. x.now ≡ slice_index_or xs (length xs - 1) x.now) → IfSome r (λ x. slice_get xs (length xs - 1) ≡ Some x.now)
-last_of xs None some at = tt
-last_of xs (Some x) some at = let long = some.0 (search rules) in slice_get_read xs (length xs) (length xs - 1) x.now refl (omega (arith, long)) at
 
 at_seam : {A : Type 0} (q : List A) (x : A) → slice_get (q ++ x ∷ []) (length q) ≡ Some x
 at_seam [] x = refl

@@ -1,11 +1,14 @@
 -- Files under numbers that are never used again.
-use Rattle.std.specs.Prelude.{ℕ, ◌+◌, Bool, drop}
+use Rattle.std.specs.Prelude.{ℕ, ◌+◌, Bool, Option, drop, unwrap_or}
+use Rattle.std.specs.Option.{option_and_then}
 use Rattle.af_base.specs.declared.events.SockType.{SockType}
 use Rattle.std.specs.FinMap as map
 use Rattle.af_base.specs.declared.events.State.TheVariants as state
 use Rattle.af_base.specs.World.{Map, File, Socket, AsSocket}
-use Rattle.af_base.specs.Refusals.{is_full_of, no_socket}
+use Rattle.af_base.specs.Refusals.{is_full_of, no_socket, socket_of}
 use Rattle.af_base.specs.Steps.{connected_socket}
+use Rattle.af_base.specs.Take.{take_from}
+use Rattle.af_queue.specs.Received.{Received, received}
 
 -- The world's files, and the number that the next one gets (this project's own).
 pub record Filed : Type 0 where
@@ -37,3 +40,15 @@ hung_up s = record s { state = state.HungUp }
 -- A socket whose first message is out of its queue (recvmsg(2)).
 abbrev pub popped : Socket → Socket
 popped s = record s { queue = drop 1 s.queue }
+
+-- The socket of this number among these files.
+abbrev pub socket_in : Map File → ℕ → Option Socket
+socket_in files f = option_and_then socket_of (map.get files f)
+
+-- What a receive of at most n bytes takes of a socket, if there is one (recvmsg(2)).
+abbrev pub received_of : Option Socket → ℕ → Received
+received_of o n = let s = unwrap_or o no_socket in received s.kind s.queue n
+
+-- A socket after a receive of at most n bytes (recvmsg(2)).
+abbrev pub received_from : ℕ → Socket → Socket
+received_from n s = record s { queue = (take_from s.kind s.queue n).rest }

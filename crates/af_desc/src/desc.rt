@@ -1,17 +1,18 @@
 //! An open file description.
-ghost use Rattle.std.specs.Prelude.{◌≡◌, ◌∷◌, [], ◌<◌, IfSome, IfNone, OnOk, OnErr, length, drop, option_copied};
+ghost use Rattle.std.specs.Prelude.{◌≡◌, ◌∷◌, [], ◌<◌, IfSome, IfNone, IfOk, OnOk, OnErr, length, drop, option_copied};
 ghost use Rattle.af_base.specs.World as world;
 ghost use Rattle.af_base.specs.Places.{queue_of, contents};
 ghost use Rattle.af_base.specs.Changes.{file_with, pushed};
 ghost use Rattle.af_base.specs.Refusals.{socket_of};
 ghost use Rattle.af_base.specs.Steps.{connected_socket};
-ghost use Rattle.af_desc.specs.Filed.{idle_socket, hung_up, popped};
+ghost use Rattle.af_base.specs.Whole.{IsMessageWithin};
+ghost use Rattle.af_desc.specs.Filed.{idle_socket, hung_up, popped, received_from, received_of};
 
-use crate::message::Message;
 use crate::socket::Socket;
 use af_base::events::SockType;
 use af_base::limits::MAX_MESSAGES;
 use af_base::names::FileRef;
+use af_queue::{Msg, Taken};
 use std::alloc::{AllocError, Global};
 use std::marker::Model;
 
@@ -95,8 +96,9 @@ impl Desc {
 
     /// One message more, last in the queue; a plain file has none, and the message goes. On an
     /// error nothing has changed.
-    pub(crate) fn push(&mut self, message: Message) -> Result<(), AllocError>
-        requires { length (queue_of self.old) < MAX_MESSAGES }
+    pub(crate) fn push(&mut self, message: Msg) -> Result<(), AllocError>
+        requires few { length (queue_of self.old) < MAX_MESSAGES }
+        requires within { IsMessageWithin message }
         ensures ok { OnOk result (self.new ≡ file_with (pushed message) self.old) }
         ensures err { OnErr result (self.new ≡ self.old) }
     {
@@ -106,8 +108,22 @@ impl Desc {
         }
     }
 
+    /// What a receive of at most so many bytes takes (recvmsg(2)): nothing of a plain file. On an
+    /// error nothing has changed.
+    pub(crate) fn take(&mut self, alloc: Global, max: usize) -> Result<Taken, AllocError>
+        requires { 0 < max }
+        ensures taken { IfOk result (λ t. t ≡ received_of (socket_of self.old) max) }
+        ensures rest { OnOk result (self.new ≡ file_with (received_from max) self.old) }
+        ensures err { OnErr result (self.new ≡ self.old) }
+    {
+        match &mut self.kind {
+            Kind::Plain => Ok(Taken::nothing(alloc)),
+            Kind::Socket(socket) => socket.take(max),
+        }
+    }
+
     /// The first message taken off the queue. It takes no memory.
-    pub(crate) fn pop(&mut self) -> Option<Message>
+    pub(crate) fn pop(&mut self) -> Option<Msg>
         ensures some { IfSome result (λ m. queue_of self.old ≡ m ∷ drop 1 (queue_of self.old)) }
         ensures none { IfNone result (queue_of self.old ≡ []) }
         ensures bare { IfNone result (contents self.old ≡ []) }

@@ -6,14 +6,15 @@ ghost use Rattle.af_base.specs.World.{Map};
 ghost use Rattle.af_base.specs.Places.{queue_in, held_in};
 ghost use Rattle.af_base.specs.Changes.{change_socket_at, pushed};
 ghost use Rattle.af_order.specs.Keyed.{AreInPlace, values_of};
-ghost use Rattle.af_desc.specs.Filed.{is_full, is_live, idle_socket, with_pair, hung_up, popped};
+ghost use Rattle.af_base.specs.Whole.{IsMessageWithin};
+ghost use Rattle.af_desc.specs.Filed.{is_full, is_live, idle_socket, with_pair, hung_up, popped, received_from, received_of, socket_in};
 
 use crate::desc::Desc;
-use crate::message::Message;
 use af_base::events::SockType;
 use af_base::limits::{MAX_FILES, MAX_INO, MAX_MESSAGES};
 use af_base::names::{FileRef, Ino};
 use af_order::{Entry, Order, key_of, put, reserve, take};
+use af_queue::{Msg, Taken};
 use slab::Slab;
 use std::alloc::{AllocError, Global};
 use std::marker::Model;
@@ -207,8 +208,9 @@ impl Files {
     /// stranger has no queue, and there the message is dropped. On an error nothing has changed, and
     /// the message is dropped too.
     #[tactic(auto, using(af_order::proofs::Keyed::writes, crate::proofs::Begun::begun))]
-    pub fn push(&mut self, file: &FileRef, message: Message) -> Result<(), AllocError>
-        requires { length (queue_in self.old.files file.now) < MAX_MESSAGES }
+    pub fn push(&mut self, file: &FileRef, message: Msg) -> Result<(), AllocError>
+        requires few { length (queue_in self.old.files file.now) < MAX_MESSAGES }
+        requires within { IsMessageWithin message }
         ensures files { OnOk result (self.new.files ≡ change_socket_at (pushed message) self.old.files file.now) }
         ensures next { self.new.next ≡ self.old.next }
         ensures err { OnErr result (self.new ≡ self.old) }
@@ -222,10 +224,29 @@ impl Files {
         entry.value.push(message)
     }
 
+    /// What a receive of at most so many bytes takes out of the queue of that socket (recvmsg(2)):
+    /// nothing, where it is a plain file or a stranger. On an error nothing has changed.
+    #[tactic(auto, using(af_order::proofs::Keyed::writes, crate::proofs::Begun::begun))]
+    pub fn take(&mut self, file: &FileRef, max: usize) -> Result<Taken, AllocError>
+        requires { 0 < max }
+        ensures taken { IfOk result (λ t. t ≡ received_of (socket_in self.old.files file.now) max) }
+        ensures files { OnOk result (self.new.files ≡ change_socket_at (received_from max) self.old.files file.now) }
+        ensures next { self.new.next ≡ self.old.next }
+        ensures err { OnErr result (self.new ≡ self.old) }
+    {
+        let Some(key) = key_of(&self.order, &self.slab, file) else {
+            return Ok(Taken::nothing(self.alloc));
+        };
+        let Some(entry) = self.slab.get_mut(key) else {
+            return Ok(Taken::nothing(self.alloc));
+        };
+        entry.value.take(self.alloc, max)
+    }
+
     /// The first message out of the queue of that socket, if there is one: where there is none, the
     /// file holds nothing at all. It takes no memory.
     #[tactic(auto, using(af_order::proofs::Keyed::writes, crate::proofs::Begun::begun))]
-    pub fn pop(&mut self, file: &FileRef) -> Option<Message>
+    pub fn pop(&mut self, file: &FileRef) -> Option<Msg>
         ensures some { IfSome result (λ m. queue_in self.old.files file.now ≡ m ∷ drop 1 (queue_in self.old.files file.now)) }
         ensures none { IfNone result (queue_in self.old.files file.now ≡ []) }
         ensures bare { IfNone result (held_in self.old.files file.now ≡ []) }

@@ -4,12 +4,10 @@
 
 mod desc;
 mod files;
-mod message;
 mod socket;
 
 pub use desc::Desc;
 pub use files::Files;
-pub use message::Message;
 pub use socket::Socket;
 
 #[cfg(test)]

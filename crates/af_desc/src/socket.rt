@@ -1,17 +1,18 @@
 //! A socket, and what it has to receive.
-ghost use Rattle.std.specs.Prelude.{◌≡◌, ℕ, ◌∷◌, [], ◌-◌, ◌<◌, ◌≤◌, Some, OnOk, OnErr, IfSome, IfNone, length, drop, slice_get};
+ghost use Rattle.std.specs.Prelude.{◌≡◌, ℕ, ◌∷◌, [], ◌<◌, OnOk, OnErr, IfOk, IfSome, IfNone, length, drop};
 ghost use Rattle.af_base.specs.World as world;
 ghost use Rattle.af_base.specs.Places.{contents};
 ghost use Rattle.af_base.specs.Changes.{pushed};
 ghost use Rattle.af_base.specs.Steps.{connected_socket};
-ghost use Rattle.af_desc.specs.Filed.{idle_socket, hung_up, popped};
+ghost use Rattle.af_base.specs.Whole.{IsMessageWithin};
+ghost use Rattle.af_queue.specs.Received.{received};
+ghost use Rattle.af_desc.specs.Filed.{idle_socket, hung_up, popped, received_from};
 
-use crate::message::Message;
 use af_base::events::{SockType, State};
 use af_base::limits::MAX_MESSAGES;
 use af_base::names::FileRef;
+use af_queue::{Msg, Queue, Taken};
 use std::alloc::{AllocError, Global};
-use std::collections::LinkedList;
 use std::marker::Model;
 
 /// A socket. It has no name and no embryos yet.
@@ -21,19 +22,16 @@ pub struct Socket {
     state: State,
     /// Where the peer stands, if there is one: a hint.
     peer_key: usize,
-    queue: LinkedList<Message>,
+    queue: Queue,
 }
 
 impl Model for Socket {
-    ghost use Rattle.std.specs.Prelude.{None, [], ◌≤◌, length};
+    ghost use Rattle.std.specs.Prelude.{None, []};
     ghost use Rattle.af_base.specs.World as world;
-    ghost use Rattle.af_base.specs.declared.limits.TheConstants.{MAX_MESSAGES};
 
     ghost Value = { world.Socket };
 
-    ghost view = { λ a. record { kind = a.kind; state = a.state; name = None; queue = a.queue; backlog = [] } };
-
-    ghost invariant = { λ a. length a.queue ≤ MAX_MESSAGES };
+    ghost view = { λ a. record { kind = a.kind; state = a.state; name = None; queue = a.queue.messages; backlog = [] } };
 }
 
 impl Socket {
@@ -45,7 +43,7 @@ impl Socket {
             kind,
             state: State::Idle,
             peer_key: 0,
-            queue: LinkedList::new(alloc),
+            queue: Queue::new(alloc),
         }
     }
 
@@ -57,7 +55,7 @@ impl Socket {
             kind,
             state: State::Connected(peer.ino()),
             peer_key: peer.key(),
-            queue: LinkedList::new(alloc),
+            queue: Queue::new(alloc),
         }
     }
 
@@ -86,36 +84,9 @@ impl Socket {
         }
     }
 
-    /// How many messages it has to receive.
-    pub fn messages(&self) -> usize
-        ensures value { result ≡ length self.now.queue }
-        ensures bound { result ≤ MAX_MESSAGES }
-    {
-        self.queue.len()
-    }
-
-    /// The message to be received next.
-    #[tactic(auto, using(crate::proofs::Queues::first_of))]
-    pub fn first(&self) -> Option<&Message>
-        ensures some { IfSome result (λ m. self.now.queue ≡ m.now ∷ drop 1 self.now.queue) }
-        ensures none { IfNone result (self.now.queue ≡ []) }
-    {
-        self.queue.front()
-    }
-
-    /// The message that was put in last.
-    #[tactic(auto, using(crate::proofs::Queues::last_of))]
-    pub fn last(&self) -> Option<&Message>
-        ensures some { IfSome result (λ m. slice_get self.now.queue (length self.now.queue - 1) ≡ Some m.now) }
-        ensures none { IfNone result (self.now.queue ≡ []) }
-    {
-        self.queue.back()
-    }
-
-    /// All that it has to receive, in order. No embryo waits, so that is all that it holds.
-    pub fn queue(&self) -> &LinkedList<Message>
-        ensures value { result.now ≡ self.now.queue }
-        ensures bound { length result.now ≤ MAX_MESSAGES }
+    /// What it has to receive. No embryo waits, so that is all that it holds.
+    pub fn queue(&self) -> &Queue
+        ensures value { result.now.messages ≡ self.now.queue }
         ensures alone { self.now.backlog ≡ [] }
     {
         &self.queue
@@ -136,22 +107,35 @@ impl Socket {
     }
 
     /// One message more, last in the queue. On an error nothing has changed.
-    pub(crate) fn push(&mut self, message: Message) -> Result<(), AllocError>
-        requires { length self.old.queue < MAX_MESSAGES }
+    pub(crate) fn push(&mut self, message: Msg) -> Result<(), AllocError>
+        requires few { length self.old.queue < MAX_MESSAGES }
+        requires within { IsMessageWithin message }
         ensures ok { OnOk result (self.new ≡ pushed message self.old) }
         ensures err { OnErr result (self.new ≡ self.old) }
     {
-        self.queue.push_back(message).map_err(|_| AllocError)
+        self.queue.room()?;
+        self.queue.push(message);
+        Ok(())
+    }
+
+    /// What a receive of at most so many bytes takes (recvmsg(2)). On an error nothing has changed.
+    pub(crate) fn take(&mut self, max: usize) -> Result<Taken, AllocError>
+        requires { 0 < max }
+        ensures taken { IfOk result (λ t. t ≡ received self.old.kind self.old.queue max) }
+        ensures rest { OnOk result (self.new ≡ received_from max self.old) }
+        ensures err { OnErr result (self.new ≡ self.old) }
+    {
+        self.queue.take(self.kind, max)
     }
 
     /// The first message taken off the queue: where there is none, the socket holds nothing at all,
     /// since no embryo waits in it. It takes no memory.
-    pub(crate) fn pop(&mut self) -> Option<Message>
+    pub(crate) fn pop(&mut self) -> Option<Msg>
         ensures some { IfSome result (λ m. self.old.queue ≡ m ∷ drop 1 self.old.queue) }
         ensures none { IfNone result (self.old.queue ≡ []) }
         ensures bare { IfNone result (contents (world.AsSocket self.old) ≡ []) }
         ensures rest { self.new ≡ popped self.old }
     {
-        self.queue.pop_front()
+        self.queue.pop()
     }
 }

@@ -1,14 +1,22 @@
 //! What no clause says: that ample memory is enough, and that a second trial is after a refusal.
-use crate::{Files, Message};
+ghost use Rattle.std.specs.Prelude.{IfOk};
+ghost use Rattle.af_base.specs.Whole.{IsMessageWithin};
+
+use crate::Files;
 use af_base::events::{SockType, State};
 use af_base::names::{FileRef, Ino, Uid};
+use af_queue::Msg;
+use smallvec::smallvec;
 use std::alloc::{AllocError, Global};
 use std::test::Fail;
 
-fn message(alloc: Global, attached: &FileRef) -> Result<Message, AllocError> {
+/// Two bytes with this file.
+fn message(alloc: Global, attached: &FileRef) -> Result<Msg, AllocError>
+    ensures { IfOk result IsMessageWithin }
+{
     let bytes = b"hi".to_vec(alloc)?;
-    let attached = vec![in alloc; attached.again()]?;
-    Ok(Message::new(bytes, attached, Uid(1000)))
+    let attached = smallvec![in alloc; attached.again()]?;
+    Ok(Msg::new(bytes, attached, Uid(1000)))
 }
 
 #[test]
@@ -42,20 +50,32 @@ fn a_message_comes_and_goes(rt: HostRuntime) -> Result<(), Fail> {
     let socket = file.socket().ok_or("no socket")?;
     assert_eq!(rt; socket.kind(), SockType::Seqpacket);
     assert_eq!(rt; socket.state(), State::HungUp);
-    assert_eq!(rt; socket.messages(), 1);
     assert_eq!(rt; socket.queue().len(), 1);
-    let waiting = socket.first().ok_or("no message")?;
-    assert_eq!(rt; waiting.attached().len(), 1);
-    let newest = socket.last().ok_or("no message")?;
-    let attached = newest.attached().first().ok_or("no file")?;
-    assert_eq!(rt; attached.ino(), first.ino());
     let message = files.pop(&second).ok_or("no message")?;
     assert_eq!(rt; message.user(), Uid(1000));
-    assert_eq!(rt; message.len(), 2);
-    assert_eq!(rt; message.into_bytes(1).as_slice(), b"h".as_slice());
-    let file = files.remove(&second).ok_or("no file")?;
-    let socket = file.socket().ok_or("no socket")?;
-    assert!(rt; socket.first().is_none() && socket.last().is_none());
+    let attached = message.attached().first().ok_or("no file")?;
+    assert_eq!(rt; attached.ino(), first.ino());
+    assert!(rt; files.pop(&second).is_none());
+    assert!(rt; files.remove(&second).is_some());
+    Ok(())
+}
+
+#[test]
+#[tactic(auto, using(crate::proofs::Queues::room_in_second))]
+fn a_stream_is_received_byte_by_byte(rt: HostRuntime) -> Result<(), Fail> {
+    let alloc = rt.alloc();
+    let mut files = Files::new(alloc);
+    assert!(rt; !files.is_full(2));
+    let (first, second) = files.make_two(SockType::Stream)?;
+    files.push(&second, message(alloc, &first)?)?;
+    let taken = files.take(&second, 1)?;
+    assert_eq!(rt; taken.attached().len(), 1);
+    assert_eq!(rt; taken.into_bytes().as_slice(), b"h".as_slice());
+    let taken = files.take(&second, 1)?;
+    assert!(rt; taken.attached().is_empty());
+    assert_eq!(rt; taken.into_bytes().as_slice(), b"i".as_slice());
+    let taken = files.take(&second, 1)?;
+    assert!(rt; taken.into_bytes().is_empty());
     Ok(())
 }
 

@@ -20,7 +20,7 @@ use Rattle.af_base.proofs.Moved.{table-there}
 use Rattle.af_base.proofs.Replaced.{refs-replace}
 use Rattle.af_base.proofs.Sums.{total-change_at}
 use Rattle.af_base.proofs.Held.{Contains-count, InTable-tabled, count-Contains, held_by_none, held_by_some, tabled-InTable, total-has, total-some}
-use Rattle.af_base.proofs.Places.{count-append, inflight-push, refs-install, refs-pop, refs-push, refs-uninstall}
+use Rattle.af_base.proofs.Places.{inflight-left, inflight-push, refs-install, refs-left, refs-push, refs-uninstall}
 use Rattle.af_base.proofs.Settling.{none_in}
 use Rattle.af_laws.specs.Places.{ExitCounts, ExitKeepsCharges, ForkCounts, GarbageCountsOnce, HoldsInQueueOrBacklog, InstallCounts, NoneWhereNotInFlight, NoneWhereUnplaced, NoneWhereUntabled, ReceiveCounts, ReceiveDischarges, ReplaceCounts, SendCharges, SendCounts, UninstallCounts}
 
@@ -108,15 +108,7 @@ pub send_counts : SendCounts
 send_counts w s f m x there = (refs-push w s m f x there, inflight-push w s m f x there)
 
 pub receive_counts : ReceiveCounts
-receive_counts w s f m rest x there is = (
-  refs-pop w s m rest f x there is,
-  omega (
-    arith,
-    total-change_at (λ y. count_in f (carried (queue_of y))) (file_with (λ x. record x { queue = rest })) w.files s (AsSocket x) there,
-    ap (λ q. count_in f (carried q)) is,
-    count-append f m.attached (carried rest),
-  ),
-)
+receive_counts w s f m rest x there is = let left = sym (ap carried is) in (refs-left w s m.attached rest f x there left, inflight-left w s m.attached rest f x there left)
 
 -- the sum over a queue with a message more, and with one less
 module _ (F : Message → ℕ) (w : World) (s : ℕ) (m : Message) (x : Socket) (there : map.get w.files s ≡ Some (AsSocket x)) where

@@ -4,6 +4,7 @@ pub mod Counting
 pub mod Sender
 pub mod Lowest
 pub mod Takes
+pub mod Receives
 pub mod Purges
 pub mod Chains
 pub mod Passed

@@ -1,12 +1,12 @@
 -- What a step leads to was reached before, or is new.
-use Rattle.std.proofs.Common.{◌≡◌, ◌⊎◌, inl, inr, ◌<◌, ◌≤◌, ℕ, ◌+◌, Bool, true, false, List, [], ◌∷◌, ◌++◌, refl, sym, ap, ◌∙◌, subst, cond, arith}
-use Rattle.std.specs.Prelude.{Option, Some, None, filter_map, is_none, nat_eq, not, option_map, unwrap_or}
+use Rattle.std.proofs.Common.{◌≡◌, ◌⊎◌, inl, inr, ◌<◌, ◌≤◌, ℕ, ◌+◌, ◌-◌, Bool, true, false, List, [], ◌∷◌, ◌++◌, length, drop, refl, sym, ap, ◌∙◌, subst, cond, arith}
+use Rattle.std.specs.Prelude.{Option, Some, None, filter_map, is_none, nat_eq, nat_le, nat_lt, not, option_map, unwrap_or}
 use Rattle.std.specs.Option.{option_and_then, option_map_or}
-use Rattle.std.specs.List.{Contains, zip}
+use Rattle.std.specs.List.{Contains, find, zip}
 use Rattle.std.specs.Ordering.{eq_by_cmp, nat_cmp}
 use Rattle.std.specs.Cmp.{nat_cmp_total}
 use Rattle.std.specs.FinMap as map
-use Rattle.std.proofs.lemmas.Bool.{false≢true}
+use Rattle.std.proofs.lemmas.Bool.{cases_Bool, false≢true}
 use Rattle.std.proofs.lemmas.List.Elements.{Contains-append_cases, Contains-append_left, Contains-append_right}
 use Rattle.af_base.specs.declared.errno.Errno.{Errno}
 use Rattle.af_base.specs.declared.errno.Errno.TheVariants.{ESRCH}
@@ -15,7 +15,7 @@ use Rattle.af_base.specs.declared.events.Event.TheVariants as event
 use Rattle.af_base.specs.declared.events.Reply.{Reply}
 use Rattle.af_base.specs.declared.events.Reply.TheVariants as reply
 use Rattle.af_base.specs.declared.events.SockType.{SockType}
-use Rattle.af_base.specs.declared.events.SockType.TheVariants.{Seqpacket}
+use Rattle.af_base.specs.declared.events.SockType.TheVariants.{Seqpacket, Stream}
 use Rattle.af_base.specs.declared.events.Step.{Step}
 use Rattle.af_base.specs.declared.events.Step.TheVariants as step
 use Rattle.af_base.specs.World.{AsSocket, File, Message, Plain, Process, Socket, World}
@@ -24,7 +24,7 @@ use Rattle.af_base.specs.Unheld.{Settles}
 use Rattle.af_base.specs.Reached.{ByTable, BySocket, Reached}
 use Rattle.af_base.specs.Changes.{add_file, add_process, file_with, install, install_all, uninstall, with_queue}
 use Rattle.af_base.specs.Refusals.{ino_on, no_socket, peer_of, process_at, refusal, socket_at, socket_of, socket_on, spawn_refusal, step_row}
-use Rattle.af_base.specs.Take.{take_from}
+use Rattle.af_base.specs.Take.{cut, has_files, take_from}
 use Rattle.af_base.specs.Steps.{Outcome, ProcessStep, SpawnStep, answer, connected_socket, effect, free_at, got_at, needs_no_memory, spawned, taken_on}
 use Rattle.af_base.specs.Pass.{Idle, Machine, Pass, PassesWhole, Running}
 use Rattle.af_base.specs.Run.{Step as MachineStep}
@@ -35,6 +35,7 @@ use Rattle.af_base.proofs.Ended.{tabled-remove}
 use Rattle.af_base.proofs.Lookups.{insert-here, insert-other, none_some, same_or_not, some_same}
 use Rattle.af_base.proofs.Moved.{table-there, tabled-install, tabled-uninstall, there-table}
 use Rattle.af_base.proofs.Stepped.{NoneFits, attached-tabled, none-fits, process-there}
+use Rattle.af_base.proofs.Takes.{either_none, find-here, find-later, up_to}
 use Rattle.af_laws.proofs.Chains.{held_or_sent, holder_live, purging_keeps_reached, reached_before}
 use Rattle.af_laws.proofs.Takes.{packet_keeps_files}
 use Rattle.af_laws.specs.Reaching.{GarbageStaysOutOfReach, SpawnReachesNoGarbage, StepReachesNoGarbage}
@@ -94,9 +95,45 @@ queued_reached w p n f h = by (table_at w p n) refl h where
   by None is h = absurd (none_in f h)
   by (Some s) is h = at s is (map.get w.files s) refl h
 
+-- files that travel with a message of a queue are in the queue
+found_carried : (q : List Message) (m : Message) (f : ℕ) → find has_files q ≡ Some m → Contains m.attached f → Contains (carried q) f
+found_carried [] m f e h = absurd (none_some m e)
+found_carried (x ∷ q) m f e h = elim (cases_Bool (has_files x)) [
+  | inl t ↦
+      let same : x ≡ m = ap (λ o. unwrap_or o x) (sym (find-here x q t) ∙ e) in
+      Contains-append_left x.attached (carried q) f (subst (λ y. Contains y.attached f) (sym same) h)
+  | inr t ↦ Contains-append_right x.attached (carried q) f (found_carried q m f (sym (find-later x q t) ∙ e) h)
+]
+
+-- what is left after a cut was there
+cut_carried : (c : ℕ) (q : List Message) (f : ℕ) → Contains (carried (cut c q)) f → Contains (carried q) f
+cut_carried c [] f h = h
+cut_carried c (m ∷ q) f h = by (cut_carried (c - length m.bytes) q f) (nat_le (length m.bytes) c) (nat_lt 0 c) h where
+  later : Contains (carried q) f → Contains (m.attached ++ carried q) f
+  later z = Contains-append_right m.attached (carried q) f z
+
+  by : (Contains (carried (cut (c - length m.bytes) q)) f → Contains (carried q) f) → (a b : Bool) → Contains (carried (cond a (cut (c - length m.bytes) q) (cond b (record m { bytes = drop c m.bytes; attached = [] } ∷ q) (m ∷ q)))) f → Contains (m.attached ++ carried q) f
+  by rest true b h = later (rest h)
+  by rest false true h = later h
+  by rest false false h = h
+
 -- what is taken and what is left were in the queue
-taken_keeps : (kind : SockType) (q : List Message) (n : ℕ) → (take_from kind q n).attached ++ carried (take_from kind q n).rest ≡ carried q
-taken_keeps Seqpacket q n = packet_keeps_files q n
+taken_before : (kind : SockType) (q : List Message) (n f : ℕ) → Contains ((take_from kind q n).attached ++ carried (take_from kind q n).rest) f → Contains (carried q) f
+taken_before Seqpacket q n f h = subst (λ xs. Contains xs f) (packet_keeps_files q n) h
+taken_before Stream q n f h = by (find has_files q) refl h where
+  one : (m : Message) → find has_files q ≡ Some m → (b : Bool) → Contains (cond b m.attached []) f → Contains (carried q) f
+  one m e true z = found_carried q m f e z
+  one m e false z = absurd (none_in f z)
+
+  by : (o : Option Message) → find has_files q ≡ o → Contains ((up_to q n o).attached ++ carried (up_to q n o).rest) f → Contains (carried q) f
+  by None e h = elim (Contains-append_cases (up_to q n None).attached _ f h) [
+    | inl z ↦ absurd (none_in f (subst (λ xs. Contains xs f) (either_none _) z))
+    | inr z ↦ cut_carried _ q f z
+  ]
+  by (Some m) e h = elim (Contains-append_cases (up_to q n (Some m)).attached _ f h) [
+    | inl z ↦ one m e _ z
+    | inr z ↦ cut_carried _ q f z
+  ]
 
 files-install_all : (w : World) (p : ℕ) (es : List (ℕ × ℕ)) → (install_all w p es).files ≡ w.files
 files-install_all w p [] = refl
@@ -150,7 +187,7 @@ module _ (w : World) (whole : IsWhole w) where
 
   module _ (p n max_bytes max_fds : ℕ) where
     pub within : (f : ℕ) → Contains ((taken_on w p n max_bytes).attached ++ carried (taken_on w p n max_bytes).rest) f → Reached w f
-    within f h = queued_reached w p n f (subst (λ xs. Contains xs f) (taken_keeps (socket_on w p n).kind (socket_on w p n).queue max_bytes) h)
+    within f h = queued_reached w p n f (taken_before (socket_on w p n).kind (socket_on w p n).queue max_bytes f h)
 
     abbrev cut_world : World
     cut_world = with_queue w (ino_on w p n) (taken_on w p n max_bytes).rest

@@ -1,9 +1,11 @@
 -- Laws of taking: what a receive takes from a queue, and what it leaves.
-use Rattle.std.specs.Prelude.{◌≡◌, ◌↔◌, ◌<◌, ◌≤◌, ℕ, ◌+◌, not, IsTrue, List, [], ◌∷◌, ◌++◌, drop, length, Some, None}
+use Rattle.std.specs.Prelude.{◌≡◌, ◌↔◌, ◌<◌, ◌≤◌, ℕ, ◌+◌, not, IsTrue, List, [], ◌∷◌, ◌++◌, drop, length, replicate, Some, None}
 use Rattle.std.specs.List.{All, find, take_while}
+use Rattle.af_base.specs.declared.events.SockType.{SockType}
+use Rattle.af_base.specs.declared.events.SockType.TheVariants.{Stream}
 use Rattle.af_base.specs.World.{Message}
 use Rattle.af_base.specs.Places.{carried}
-use Rattle.af_base.specs.Take.{has_files, joined, take_seqpacket, take_stream}
+use Rattle.af_base.specs.Take.{has_files, joined, take_from, take_seqpacket, take_stream}
 
 -- Each message has a byte, as a send sees to it (unix(7): files go with at least one byte).
 abbrev pub HaveBytes : List Message → Type 0
@@ -58,3 +60,35 @@ FilesComeWithFirstByte = (q : List Message) (n : ℕ) (m : Message) → find has
 -- Where no message has files, none come.
 abbrev pub NoFilesFromNone : Type 0
 NoFilesFromNone = (q : List Message) (n : ℕ) → find has_files q ≡ None → (take_stream q n).attached ≡ []
+
+-- What some receives took together: all their bytes, all their files, and the queue that they left.
+pub record Together : Type 0 where
+  pub bytes : List ℕ
+  pub attached : List ℕ
+  pub rest : List Message
+
+-- What receives of at most these numbers of bytes take together, one after the other.
+abbrev pub takes : SockType → List ℕ → List Message → Together
+takes kind [] q = record { bytes = []; attached = []; rest = q }
+takes kind (n ∷ ns) q =
+    let first = take_from kind q n in
+    let others = takes kind ns first.rest in
+    record { bytes = first.bytes ++ others.bytes; attached = first.attached ++ others.attached; rest = others.rest }
+
+-- Receives from a stream lose no byte and give none twice, however many bytes each asks for: what they took and what is left are what was there.
+abbrev pub ReceivesKeepBytes : Type 0
+ReceivesKeepBytes = (ns : List ℕ) (q : List Message) →
+    let all = takes Stream ns q in
+    all.bytes ++ joined all.rest ≡ joined q
+
+-- Receives of either type lose no file and give none twice, where each message has a byte.
+abbrev pub ReceivesKeepFiles : Type 0
+ReceivesKeepFiles = (kind : SockType) (ns : List ℕ) (q : List Message) → HaveBytes q →
+    let all = takes kind ns q in
+    all.attached ++ carried all.rest ≡ carried q
+
+-- What one receive takes of a stream comes just so one byte at a time, where each message has a byte: as many receives of one byte as it took bytes take together the same bytes and files, and leave the same queue.
+abbrev pub OneByteAtATime : Type 0
+OneByteAtATime = (q : List Message) (n : ℕ) → HaveBytes q →
+    let taken = take_stream q n in
+    takes Stream (replicate (length taken.bytes) 1) q ≡ record { bytes = taken.bytes; attached = taken.attached; rest = taken.rest }

@@ -1,6 +1,7 @@
 //! Laws of taking: what a receive takes from a queue, and what it leaves.
 ghost use Rattle.af_laws.specs.Taking.{PacketKeepsBytes, PacketKeepsFiles, PacketTellsOfDrops};
 ghost use Rattle.af_laws.specs.Taking.{StreamKeepsBytes, StreamKeepsFiles, StreamTakesAtMost, StreamStopsAtFiles, FilesComeWithFirstByte, NoFilesFromNone};
+ghost use Rattle.af_laws.specs.Taking.{ReceivesKeepBytes, ReceivesKeepFiles, OneByteAtATime};
 
 /// A packet loses no byte but those that it drops.
 pub fn packet_keeps_bytes()
@@ -45,4 +46,20 @@ pub fn files_come_with_first_byte()
 /// Where no message has files, none come.
 pub fn no_files_from_none()
     ensures { NoFilesFromNone }
+{}
+
+/// Receives from a stream, of any numbers of bytes, lose no byte and give none twice.
+pub fn receives_keep_bytes()
+    ensures { ReceivesKeepBytes }
+{}
+
+/// Receives lose no file and give none twice, where each message has a byte.
+pub fn receives_keep_files()
+    ensures { ReceivesKeepFiles }
+{}
+
+/// One byte at a time gives the same bytes and files as one receive, and leaves the same queue,
+/// where each message has a byte.
+pub fn one_byte_at_a_time()
+    ensures { OneByteAtATime }
 {}

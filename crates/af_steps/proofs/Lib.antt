@@ -7,3 +7,4 @@ pub mod Refused
 pub mod Running
 pub mod Made
 pub mod Untabled
+pub mod Looked

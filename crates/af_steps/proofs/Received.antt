@@ -1,12 +1,12 @@
 -- A receive where nothing is left and the peer is gone, and the room that one asks for.
-use Rattle.std.proofs.Common.{◌≡◌, ◌<◌, ◌≤◌, false, not, ◌&&◌, ◌∷◌, arith, ℕ, List, [], length, refl, sym, ap, ◌∙◌, subst, nat_eq}
+use Rattle.std.proofs.Common.{◌≡◌, ◌<◌, ◌≤◌, false, not, ◌&&◌, ◌∷◌, arith, ℕ, List, [], length, take, refl, sym, ap, ◌∙◌, subst, nat_eq}
 use Rattle.std.specs.Prelude.{Option, Some, None, is_none, is_some, min, nat_lt, if◌then◌else◌, unwrap_or}
 use Rattle.std.specs.Option.{option_and_then}
 use Rattle.std.specs.List.{All, zip}
 use Rattle.std.specs.FinMap as map
 use Rattle.af_base.specs.declared.errno.Errno.TheVariants.{EAGAIN, EBADF, EINVAL, ENOTCONN, ENOTSOCK, ESRCH}
 use Rattle.af_base.specs.declared.events.SockType.{SockType}
-use Rattle.af_base.specs.declared.events.SockType.TheVariants.{Seqpacket}
+use Rattle.af_base.specs.declared.events.SockType.TheVariants.{Seqpacket, Stream}
 use Rattle.af_base.specs.declared.events.Step.TheVariants as step
 use Rattle.af_base.specs.declared.events.Reply.TheVariants as reply
 use Rattle.af_base.specs.declared.limits.TheConstants.{MAX_BYTES}
@@ -14,7 +14,7 @@ use Rattle.af_base.specs.World.{World, File, Process, Plain, Socket, AsSocket}
 use Rattle.af_base.specs.Places.{table_at}
 use Rattle.af_base.specs.Changes.{install_all, with_queue}
 use Rattle.af_base.specs.Table.{lowest_free}
-use Rattle.af_base.specs.Take.{take_from, nothing_taken}
+use Rattle.af_base.specs.Take.{cut, take_from, nothing_taken}
 use Rattle.af_base.specs.Refusals.{first_fit, ino_on, is_between, is_connected, is_hung_up, socket_on, socket_at, socket_of, process_at, refusal}
 use Rattle.af_base.specs.Steps.{taken_on, effect, answer, ProcessStep}
 use Rattle.af_base.specs.Whole.{IsSound}
@@ -53,6 +53,7 @@ module _ (w : World) (p n : ℕ) (q : Process) (at : map.get w.processes p ≡ S
   none_taken : taken_on w p n bytes ≡ nothing_taken
   none_taken = ap (λ s. take_from s.kind s.queue bytes) on ∙ ap (λ l. take_from x.kind l bytes) empty ∙ by x.kind where
     by : (k : SockType) → take_from k [] bytes ≡ nothing_taken
+    by Stream = let end : min bytes 0 ≡ 0 = omega arith in λ i. record { bytes = take (end i) []; attached = if nat_lt 0 (end i) then [] else []; trunc = false; rest = cut (end i) [] }
     by Seqpacket = refl
 
   abbrev none : List ℕ
@@ -77,6 +78,11 @@ module _ (w : World) (p n : ℕ) (q : Process) (at : map.get w.processes p ≡ S
 
   pub recv-end : IsSound w → first_fit (receive_row x bytes) ≡ None → ProcessStep w p (step.Recv n bytes fds) reply.End w
   recv-end sound given = done w p (step.Recv n bytes fds) w w reply.End (fits given) answered_end ended (settles_none w sound.settled)
+
+-- A queue of no length has no message.
+pub no-message : {A : Type 0} (q : List A) → length q ≡ 0 → q ≡ []
+no-message [] e = refl
+no-message (m ∷ q) e = absurd (omega (arith, e))
 
 -- The lowest free numbers are below the room that was made for them.
 pub numbers-below : (q : Process) (ns : List ℕ) (count room : ℕ) → ns ≡ lowest_free count q → (0 < length ns → q.limit ≤ room) → All (λ n. n < room) ns

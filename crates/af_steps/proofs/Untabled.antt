@@ -1,19 +1,17 @@
 -- Tables with a number less, or another in place of it.
-use Rattle.std.proofs.Common.{◌≡◌, ◌<◌, ◌≤◌, ℕ, ◌+◌, Bool, true, false, inl, inr, refl, sym, ap, ◌∙◌, cond, nat_eq, arith}
-use Rattle.std.specs.Prelude.{Option, Some, None, option_map}
+use Rattle.std.proofs.Common.{◌≡◌, ℕ, inl, inr, refl, sym, ap, ◌∙◌}
+use Rattle.std.specs.Prelude.{Option, Some, None}
 use Rattle.std.specs.Option.{option_map_or}
-use Rattle.std.specs.Cmp.{nat_cmp_total, unsigned_tied}
+use Rattle.std.specs.Cmp.{nat_cmp_total}
 use Rattle.std.specs.FinMap as map
-use Rattle.std.proofs.lemmas.Bool.{cases_lt}
 use Rattle.std.specs.FinMap.{nat_cmp-IsAntisymmetric}
 use Rattle.af_base.specs.World.{Map, Process, World}
 use Rattle.af_base.specs.Places.{table_at}
-use Rattle.af_base.specs.Changes.{change_at, install, remove_process, uninstall}
-use Rattle.af_base.proofs.Lookups.{insert-here, insert-other, itself, not_same, remove-here, remove-other, same_or_not}
+use Rattle.af_base.specs.Changes.{install, uninstall}
+use Rattle.af_base.proofs.Lookups.{insert-here, insert-other, remove-here, remove-other, same_or_not}
 use Rattle.af_base.proofs.Moved.{there-table}
-use Rattle.af_base.proofs.Stepping.{get-change_at}
 use Rattle.af_base.proofs.Trees.{insert_same}
-use Rattle.af_collect.proofs.Joined.{insert_twice, table-uninstall}
+use Rattle.af_collect.proofs.Joined.{insert_twice}
 
 -- What is not there need not be removed.
 remove-none : {X : Type 0} (m : Map X) (k : ℕ) → map.get m k ≡ None → map.remove m k ≡ m

@@ -1,5 +1,5 @@
 //! Steps that send and receive.
-ghost use Rattle.std.specs.Prelude.{◌≡◌, ◌≤◌, Some, None, IfOk, IfErr, OnOk, length, filter_map, is_none, nat_lt, take, option_copied};
+ghost use Rattle.std.specs.Prelude.{◌≡◌, ◌≤◌, Some, None, IfOk, IfErr, OnOk, length, filter_map, is_none, nat_lt, option_copied};
 ghost use Rattle.std.specs.List.{list_any};
 ghost use Rattle.std.specs.FinMap as map;
 ghost use Rattle.af_base.specs.Refusals.{first_fit, peer_of, socket_at};
@@ -12,8 +12,10 @@ use af_base::events::{Reply, State, Step};
 use af_base::items::Items;
 use af_base::limits::{MAX_BYTES, MAX_MESSAGES, SCM_MAX_FD};
 use af_base::names::{Fd, FileRef, Pid};
-use af_desc::{Message, Socket};
+use af_desc::Socket;
+use af_queue::{Attached, Msg, Taken};
 use af_table::Process;
+use smallvec::SmallVec;
 use std::alloc::{AllocError, Global};
 
 impl Engine {
@@ -42,7 +44,7 @@ impl Engine {
         let (limit, privileged) = (process.limit(), process.is_privileged());
         self.store
             .may_send(process.user(), limit, privileged, attach.len())?;
-        if self.socket(&peer).unwrap().messages() >= MAX_MESSAGES {
+        if self.socket(&peer).unwrap().queue().len() >= MAX_MESSAGES {
             return Err(Errno::EAGAIN);
         }
         let message = message(self.alloc, process, bytes, attach)?;
@@ -51,9 +53,9 @@ impl Engine {
         Ok(Reply::Sent(bytes.len() as u32))
     }
 
-    /// A process receives at most so many bytes and so many descriptors (recvmsg(2)). Bytes beyond
-    /// `max_bytes` are dropped (recvmsg(2), MSG_TRUNC); descriptors beyond `max_fds` or the free
-    /// numbers are closed (unix(7), SCM_RIGHTS; MSG_CTRUNC).
+    /// A process receives at most so many bytes and so many descriptors (recvmsg(2)). A packet's bytes
+    /// beyond `max_bytes` are dropped (recvmsg(2), MSG_TRUNC); a stream's wait for the next receive.
+    /// Descriptors beyond `max_fds` or the free numbers are closed (unix(7), SCM_RIGHTS; MSG_CTRUNC).
     pub(crate) fn recv(
         &mut self,
         pid: Pid,
@@ -67,15 +69,16 @@ impl Engine {
         let file = process.lookup(on).ok_or(Errno::EBADF)?;
         let socket = self.socket(&file).ok_or(Errno::ENOTSOCK)?;
         check_receive(socket, max_bytes)?;
-        let Some(first) = socket.first() else {
+        if socket.queue().len() == 0 {
             return Ok(Reply::End);
-        };
-        let count = first.attached().len().min(max_fds as usize);
-        let fds = process.lowest_free(self.alloc, count)?;
+        }
+        let max = max_bytes as usize;
+        let files = socket.queue().reach(socket.kind(), max);
+        let fds = process.lowest_free(self.alloc, files.min(max_fds as usize))?;
         self.store.room_for(pid, fds.len())?;
-        let message = self.store.take_msg(&file, pid, &fds);
+        let taken = self.store.take_msg(&file, max, pid, &fds)?;
         self.store.release();
-        Ok(got(message, fds, max_bytes))
+        Ok(got(taken, fds))
     }
 }
 
@@ -128,44 +131,44 @@ fn check_receive(socket: &Socket, max_bytes: u32) -> Result<(), Errno>
     }
     match socket.state() {
         State::Idle | State::Listening(_) => Err(Errno::ENOTCONN),
-        State::Connected(_) if socket.messages() == 0 => Err(Errno::EAGAIN),
+        State::Connected(_) if socket.queue().len() == 0 => Err(Errno::EAGAIN),
         State::Connected(_) | State::HungUp => Ok(()),
     }
 }
 
 /// The message that a send puts into the queue.
-fn message(
-    alloc: Global,
-    process: &Process,
-    bytes: &[u8],
-    attach: &[Fd],
-) -> Result<Message, AllocError>
+fn message(alloc: Global, process: &Process, bytes: &[u8], attach: &[Fd]) -> Result<Msg, AllocError>
     requires { length attach.now ≤ SCM_MAX_FD }
     ensures { IfOk result (λ m. m ≡ record { bytes = bytes.now; attached = filter_map (map.get process.now.process.table) attach.now; user = process.now.process.user }) }
 {
     let bytes = bytes.to_vec(alloc)?;
     let attached = files_at(alloc, process, attach)?;
-    Ok(Message::new(bytes, attached, process.user()))
+    Ok(Msg::new(bytes, attached, process.user()))
 }
 
 /// What these numbers of the process stand for; those that are free are left out.
-fn files_at(alloc: Global, process: &Process, fds: &[Fd]) -> Result<Vec<FileRef>, AllocError>
+fn files_at(alloc: Global, process: &Process, fds: &[Fd]) -> Result<Attached, AllocError>
     ensures value { IfOk result (λ files. files.items ≡ filter_map (map.get process.now.process.table) fds.now) }
     ensures bound { IfOk result (λ files. length files.items ≤ length fds.now) }
 {
-    fds.iter()
-        .filter_map(|fd| process.lookup(*fd))
-        .collect(alloc)
+    let mut files = SmallVec::with_capacity(alloc, fds.len())?;
+    for fd in fds {
+        let Some(file) = process.lookup(*fd) else {
+            continue;
+        };
+        files.push(file)?;
+    }
+    Ok(files)
 }
 
-/// The answer to a receive of this message, whose first files were installed at these numbers.
-fn got(message: Message, fds: Vec<Fd>, max_bytes: u32) -> Reply
-    ensures { result ≡ Reply.Got (take max_bytes message.bytes) fds.items (nat_lt max_bytes (length message.bytes)) (nat_lt (length fds.items) (length message.attached)) }
+/// The answer to a receive of this, whose first files were installed at these numbers.
+fn got(taken: Taken, fds: Vec<Fd>) -> Reply
+    ensures { result ≡ Reply.Got taken.message.bytes fds.items taken.trunc (nat_lt (length fds.items) (length taken.message.attached)) }
 {
-    let trunc = message.len() > max_bytes as usize;
-    let ctrunc = message.attached().len() > fds.len();
+    let trunc = taken.trunc();
+    let ctrunc = taken.attached().len() > fds.len();
     Reply::Got {
-        bytes: Items::of(message.into_bytes(max_bytes as usize)),
+        bytes: Items::of(taken.into_bytes()),
         fds: Items::of(fds),
         trunc,
         ctrunc,

@@ -108,7 +108,7 @@ impl Engine {
         Some(FileInfo::Socket {
             kind: socket.kind(),
             state: socket.state(),
-            messages: socket.messages(),
+            messages: socket.queue().len(),
         })
     }
 

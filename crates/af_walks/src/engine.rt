@@ -1,7 +1,7 @@
 //! What there is, and what goes after each event.
 
 use af_base::errno::Errno;
-use af_base::events::{Event, Reply, State};
+use af_base::events::{Event, Reply, SockType, State};
 use af_base::limits::MAX_PASS;
 use af_base::names::{Fd, Ino, Pid, Uid};
 use std::alloc::{AllocError, Global};
@@ -24,10 +24,17 @@ pub struct Message {
     pub user: Uid,
 }
 
-/// An open file description: a socket with its state, or a plain file, which has none.
+/// A socket: its type, and whom it can talk to.
+#[derive(Drop)]
+pub struct Socket {
+    pub kind: SockType,
+    pub state: State,
+}
+
+/// An open file description: a socket, or a plain file, which has nothing to it.
 #[derive(Drop)]
 pub struct File {
-    pub state: Option<State>,
+    pub socket: Option<Socket>,
     /// What the socket has to receive, the oldest first.
     pub queue: VecDeque<Message>,
 }
@@ -35,9 +42,16 @@ pub struct File {
 impl File {
     /// Whom the socket is connected to.
     fn peer(&self) -> Option<Ino> {
-        match self.state {
-            Some(State::Connected(peer)) => Some(peer),
+        match self.socket.as_ref()?.state {
+            State::Connected(peer) => Some(peer),
             _ => None,
+        }
+    }
+
+    /// Whom the socket can talk to from now on.
+    pub fn set_state(&mut self, state: State) {
+        if let Some(socket) = &mut self.socket {
+            socket.state = state;
         }
     }
 }
@@ -115,7 +129,7 @@ impl Engine {
     /// The peer of the socket is gone.
     fn hang_up(&mut self, ino: Ino) {
         if let Some(file) = self.files.get_mut(&ino) {
-            file.state = Some(State::HungUp);
+            file.set_state(State::HungUp);
         }
     }
 
@@ -127,7 +141,7 @@ impl Engine {
             if reached.contains(ino) {
                 continue;
             }
-            if file.state.is_some() {
+            if file.socket.is_some() {
                 reclaimed = reclaimed.saturating_add(1);
             }
             file.queue.clear();

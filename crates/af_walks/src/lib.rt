@@ -7,6 +7,7 @@
 
 mod engine;
 mod steps;
+mod take;
 mod views;
 
 pub use engine::Engine;

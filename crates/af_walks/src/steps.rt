@@ -1,8 +1,9 @@
 //! The steps of processes. Tests stand in the order in which they are answered.
 
-use crate::engine::{Engine, File, Message, Process};
+use crate::engine::{Engine, File, Message, Process, Socket};
+use crate::take::Taken;
 use af_base::errno::Errno;
-use af_base::events::{Reply, State, Step};
+use af_base::events::{Reply, SockType, State, Step};
 use af_base::items::Items;
 use af_base::limits::{
     MAX_BYTES, MAX_FILES, MAX_INFLIGHT, MAX_INO, MAX_MESSAGES, MAX_NOFILE, MAX_PID, MAX_PROCESSES,
@@ -21,7 +22,7 @@ impl Engine {
             Step::Close(fd) => self.close(pid, *fd),
             Step::Fork => self.fork(pid),
             Step::Exit => self.exit(pid),
-            Step::Pair(_) => self.pair(pid),
+            Step::Pair(kind) => self.pair(pid, *kind),
             Step::Send { on, bytes, attach } => {
                 self.send(pid, *on, bytes.as_slice(), attach.as_slice())
             }
@@ -100,16 +101,18 @@ impl Engine {
         }
     }
 
-    fn pair(&mut self, pid: Pid) -> Result<Reply, Errno> {
+    fn pair(&mut self, pid: Pid, kind: SockType) -> Result<Reply, Errno> {
         let free = self.free_numbers(pid, 2)?;
         let [lower, higher] = free.as_slice() else {
             return Err(Errno::EMFILE);
         };
         self.check_room(2)?;
-        let first = self.add_file(Some(State::Idle))?;
-        let second = self.add_file(Some(State::Connected(first)))?;
+        let state = State::Idle;
+        let first = self.add_file(Some(Socket { kind, state }))?;
+        let state = State::Connected(first);
+        let second = self.add_file(Some(Socket { kind, state }))?;
         if let Some(file) = self.files.get_mut(&first) {
-            file.state = Some(State::Connected(second));
+            file.set_state(State::Connected(second));
         }
         self.install(pid, *lower, first)?;
         self.install(pid, *higher, second)?;
@@ -117,7 +120,7 @@ impl Engine {
     }
 
     fn send(&mut self, pid: Pid, on: Fd, bytes: &[u8], attach: &[Fd]) -> Result<Reply, Errno> {
-        let state = self.state_at(pid, on)?;
+        let state = self.socket_at(pid, on)?.state;
         if bytes.is_empty() || attach.len() > SCM_MAX_FD {
             return Err(Errno::EINVAL);
         }
@@ -145,31 +148,32 @@ impl Engine {
     }
 
     fn recv(&mut self, pid: Pid, on: Fd, max_bytes: u32, max_fds: u32) -> Result<Reply, Errno> {
-        let state = self.state_at(pid, on)?;
+        let socket = self.socket_at(pid, on)?;
+        let (kind, state) = (socket.kind, socket.state);
         if max_bytes == 0 || max_bytes as usize > MAX_BYTES {
             return Err(Errno::EINVAL);
         }
         if matches!(state, State::Idle | State::Listening(_)) {
             return Err(Errno::ENOTCONN);
         }
-        let Some(message) = self.pop(self.lookup(pid, on)?) else {
+        let ino = self.lookup(pid, on)?;
+        let taken = self.take(ino, kind, max_bytes as usize);
+        let Some(taken) = taken.map_err(|_| Errno::ENOMEM)? else {
             return match state {
                 State::HungUp => Ok(Reply::End),
                 _ => Err(Errno::EAGAIN),
             };
         };
-        let Message {
-            mut bytes,
+        let Taken {
+            bytes,
             attached,
-            ..
-        } = message;
+            trunc,
+        } = taken;
         let fds = self.free_numbers(pid, attached.len().min(max_fds as usize))?;
         for (fd, ino) in fds.iter().zip(&attached) {
             self.install(pid, *fd, *ino)?;
         }
-        let trunc = bytes.len() > max_bytes as usize;
         let ctrunc = attached.len() > fds.len();
-        bytes.truncate(max_bytes as usize);
         Ok(Reply::Got {
             bytes: Items::of(bytes),
             fds: Items::of(fds),
@@ -198,7 +202,7 @@ impl Engine {
     }
 
     /// What the number of the process stands for.
-    fn lookup(&self, pid: Pid, fd: Fd) -> Result<Ino, Errno> {
+    pub fn lookup(&self, pid: Pid, fd: Fd) -> Result<Ino, Errno> {
         let table = &self.process(pid)?.table;
         table.get(&fd).copied().ok_or(Errno::EBADF)
     }
@@ -238,21 +242,21 @@ impl Engine {
         Ok(())
     }
 
-    fn add_file(&mut self, state: Option<State>) -> Result<Ino, Errno> {
+    fn add_file(&mut self, socket: Option<Socket>) -> Result<Ino, Errno> {
         let ino = Ino(self.next_ino);
         let queue = VecDeque::new(self.alloc);
         self.files
-            .insert(ino, File { state, queue })
+            .insert(ino, File { socket, queue })
             .map_err(|_| Errno::ENOMEM)?;
         self.next_ino = self.next_ino.saturating_add(1);
         Ok(ino)
     }
 
-    /// The state of the socket that the number stands for.
-    fn state_at(&self, pid: Pid, fd: Fd) -> Result<State, Errno> {
+    /// The socket that the number stands for.
+    fn socket_at(&self, pid: Pid, fd: Fd) -> Result<&Socket, Errno> {
         let ino = self.lookup(pid, fd)?;
-        let state = self.files.get(&ino).and_then(|file| file.state);
-        state.ok_or(Errno::ENOTSOCK)
+        let socket = self.files.get(&ino).and_then(|file| file.socket.as_ref());
+        socket.ok_or(Errno::ENOTSOCK)
     }
 
     /// Whether the process may send so many files.
@@ -277,10 +281,5 @@ impl Engine {
             return Err(Errno::EAGAIN);
         }
         file.queue.push_back(message).map_err(|_| Errno::ENOMEM)
-    }
-
-    /// The first message of the socket, which leaves the queue.
-    fn pop(&mut self, ino: Ino) -> Option<Message> {
-        self.files.get_mut(&ino)?.queue.pop_front()
     }
 }

@@ -3,7 +3,7 @@ mod source;
 
 use crate::Engine;
 use af_base::errno::Errno;
-use af_base::events::{Event, Reply, Step};
+use af_base::events::{Event, Reply, SockType, Step};
 use af_base::names::{Ino, Uid};
 use source::{Kind, Mix, Source};
 use std::alloc::{AllocError, Global};
@@ -44,6 +44,30 @@ static USUAL: [Kind; 29] = [
     Kind::Recv,
 ];
 
+/// Hardly anything but sends and receives.
+static TALKING: [Kind; 20] = [
+    Kind::Close,
+    Kind::Close,
+    Kind::Pair,
+    Kind::Pair,
+    Kind::Pair,
+    Kind::Send,
+    Kind::Send,
+    Kind::Send,
+    Kind::Send,
+    Kind::Send,
+    Kind::Send,
+    Kind::Send,
+    Kind::Recv,
+    Kind::Recv,
+    Kind::Recv,
+    Kind::Recv,
+    Kind::Recv,
+    Kind::Recv,
+    Kind::Recv,
+    Kind::Pass,
+];
+
 /// Hardly anything but sends, so that queues fill.
 static HOARDING: [Kind; 10] = [
     Kind::Pair,
@@ -73,6 +97,14 @@ struct Met {
     reclaimed: u64,
     /// Sends that found a full queue.
     full: u64,
+    /// Receives of packets that dropped bytes.
+    dropped: u64,
+    /// Receives from streams that left a part of the first message.
+    split: u64,
+    /// Receives from streams that took bytes of more than one message.
+    joined: u64,
+    /// Receives from streams that took less than they asked for and left bytes: files stopped them.
+    stopped: u64,
 }
 
 impl Met {
@@ -85,6 +117,10 @@ impl Met {
             cut: 0,
             reclaimed: 0,
             full: 0,
+            dropped: 0,
+            split: 0,
+            joined: 0,
+            stopped: 0,
         }
     }
 
@@ -100,9 +136,15 @@ impl Met {
         }
         self.done = self.done.saturating_add(1);
         match reply {
-            Reply::Got { fds, ctrunc, .. } => {
+            Reply::Got {
+                fds,
+                trunc,
+                ctrunc,
+                ..
+            } => {
                 self.installed = self.installed.saturating_add(fds.len() as u64);
                 self.cut = self.cut.saturating_add(u64::from(*ctrunc));
+                self.dropped = self.dropped.saturating_add(u64::from(*trunc));
             }
             Reply::Done { reclaimed, .. } => {
                 self.reclaimed = self.reclaimed.saturating_add(*reclaimed);
@@ -111,6 +153,50 @@ impl Met {
         }
         Ok(())
     }
+
+    /// A receive that found this in a stream had this reply.
+    fn note_stream(&mut self, found: Found, reply: &Reply) {
+        let Reply::Got { bytes, .. } = reply else {
+            return;
+        };
+        let taken = bytes.len();
+        let is_stopped = taken < found.asked && taken < found.all;
+        self.split = self.split.saturating_add(u64::from(taken < found.first));
+        self.joined = self.joined.saturating_add(u64::from(taken > found.first));
+        self.stopped = self.stopped.saturating_add(u64::from(is_stopped));
+    }
+}
+
+/// What a receive from a stream finds.
+#[derive(Clone, Copy, Drop)]
+struct Found {
+    /// The bytes of the first message.
+    first: usize,
+    /// The bytes of all messages.
+    all: usize,
+    /// The bytes that were asked for.
+    asked: usize,
+}
+
+/// What the event finds, if it receives from a stream in which bytes wait.
+fn found_by(plain: &Engine, event: &Event) -> Option<Found> {
+    let Event::Proc(pid, Step::Recv { on, max_bytes, .. }) = event else {
+        return None;
+    };
+    let ino = plain.lookup(*pid, *on).ok()?;
+    let file = plain.files.get(&ino)?;
+    if file.socket.as_ref()?.kind != SockType::Stream {
+        return None;
+    }
+    let mut all: usize = 0;
+    for message in &file.queue {
+        all = all.saturating_add(message.bytes.len());
+    }
+    Some(Found {
+        first: file.queue.front()?.bytes.len(),
+        all,
+        asked: *max_bytes as usize,
+    })
 }
 
 /// Whether both have the same live files, held as often.
@@ -155,6 +241,7 @@ fn run(
     let mut met = Met::nothing(alloc);
     for number in 0..events {
         let event = source.event()?;
+        let found = found_by(&plain, &event);
         let reply = plain.step(&event);
         let other = kept.step(&event);
         assert_eq!(rt; reply, other, "seed {seed}, event {number}: {event:?}");
@@ -166,6 +253,9 @@ fn run(
         }
         source.note(&event, &reply)?;
         met.note(&event, &reply)?;
+        if let Some(found) = found {
+            met.note_stream(found, &reply);
+        }
     }
     assert!(rt;
         same_views(&plain, &kept, mix.last_user),
@@ -236,6 +326,30 @@ fn most_events_are_refused(rt: HostRuntime) -> Result<(), Fail> {
         assert!(rt; all.contains(&errno.number()), "{errno} was not met");
     }
     assert!(rt; !all.contains(&Errno::ENOMEM.number()));
+    Ok(())
+}
+
+/// A process sends and receives, often a part of a message or several messages at once.
+#[test]
+fn messages_are_cut_and_joined(rt: HostRuntime) -> Result<(), Fail> {
+    let mix = Mix {
+        kinds: &TALKING,
+        last_user: 1,
+        limits: &[4],
+        last_fd: 3,
+        most_processes: 1,
+    };
+    for seed in 1..=4 {
+        let met = run(&rt, rt.alloc(), seed, 2_000, mix)?;
+        assert!(rt;
+            met.dropped > 0 && met.split > 0 && met.joined > 0 && met.stopped > 0,
+            "seed {seed}: {} dropped, {} split, {} joined, {} stopped",
+            met.dropped,
+            met.split,
+            met.joined,
+            met.stopped
+        );
+    }
     Ok(())
 }
 

@@ -2,7 +2,7 @@
 use Rattle.std.proofs.Common.{◌≡◌, ℕ, List, cond, Option, Some, None, is_some, false, refl, ap, ◌∙◌, inl, inr, subst, codes}
 use Rattle.std.specs.Str.{bytes_eq}
 use Rattle.af_base.specs.declared.events.SockType.{SockType}
-use Rattle.af_base.specs.declared.events.SockType.TheVariants.{Seqpacket}
+use Rattle.af_base.specs.declared.events.SockType.TheVariants.{Seqpacket, Stream}
 use Rattle.scm_lines.specs.Numbers.{all_digits, number_of}
 use Rattle.scm_lines.specs.Keywords.{keyword_of, opening_of, type_of, verb_of}
 use Rattle.scm_lines.specs.Says.{IsNumber, type_name}
@@ -87,11 +87,21 @@ verb_said word v e =
     picked word verb.Send v _ e7 (λ e8.
     picked word verb.Recv v _ e8 (none_picked word v)))))))))
 
-pub type_said : (word : List ℕ) (kind : SockType) → type_of word ≡ Some kind → word ≡ type_name kind
-type_said word kind e = elim (chosen (bytes_eq word (codes "seqpacket")) _ _ _ e) [
-  | inl (t, e1) ↦ let is : Seqpacket ≡ kind = cc in same_word word (codes "seqpacket") t ∙ ap type_name is
-  | inr (f, e2) ↦ cc
+-- this type, or one of the others
+typed : (word : List ℕ) (one kind : SockType) (others : Option SockType) → cond (bytes_eq word (type_name one)) (Some one) others ≡ Some kind → (others ≡ Some kind → word ≡ type_name kind) → word ≡ type_name kind
+typed word one kind others e else = elim (chosen (bytes_eq word (type_name one)) _ _ _ e) [
+  | inl (t, e1) ↦ let is : one ≡ kind = cc in same_word word (type_name one) t ∙ ap type_name is
+  | inr (f, e2) ↦ else e2
 ]
 
+none_typed : (word : List ℕ) (kind : SockType) → None ≡ Some kind → word ≡ type_name kind
+none_typed word kind e = cc
+
+pub type_said : (word : List ℕ) (kind : SockType) → type_of word ≡ Some kind → word ≡ type_name kind
+type_said word kind e =
+    typed word Stream kind _ e (λ e1.
+    typed word Seqpacket kind _ e1 (none_typed word kind))
+
 pub type_read : (kind : SockType) → type_of (type_name kind) ≡ Some kind
+type_read Stream = refl
 type_read Seqpacket = refl

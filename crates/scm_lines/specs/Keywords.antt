@@ -3,7 +3,7 @@ use Rattle.std.specs.Prelude.{ℕ, List, if◌then◌else◌, Option, Some, None
 use Rattle.std.specs.Option.{option_map}
 use Rattle.std.specs.Str.{bytes_eq}
 use Rattle.af_base.specs.declared.events.SockType.{SockType}
-use Rattle.af_base.specs.declared.events.SockType.TheVariants.{Seqpacket}
+use Rattle.af_base.specs.declared.events.SockType.TheVariants.{Seqpacket, Stream}
 use Rattle.scm_lines.specs.Numbers.{number_of}
 use Rattle.scm_lines.specs.declared.keywords.Opening.{Opening}
 use Rattle.scm_lines.specs.declared.keywords.Opening.TheVariants as opening
@@ -39,4 +39,7 @@ verb_of word =
 
 -- The type of sockets that a word names.
 abbrev pub type_of : List ℕ → Option SockType
-type_of word = if bytes_eq word (codes "seqpacket") then Some Seqpacket else None
+type_of word =
+    if bytes_eq word (codes "stream") then Some Stream
+    else if bytes_eq word (codes "seqpacket") then Some Seqpacket
+    else None

@@ -2,7 +2,7 @@
 use Rattle.std.specs.Prelude.{◌≡◌, ◌≤◌, ◌<◌, ◌⊎◌, ℕ, ◌+◌, ◌*◌, ◌^◌, List, [], ◌∷◌, ◌++◌, length, replicate, true, false, codes, Some}
 use Rattle.std.specs.Fmt.{decimal}
 use Rattle.af_base.specs.declared.events.SockType.{SockType}
-use Rattle.af_base.specs.declared.events.SockType.TheVariants.{Seqpacket}
+use Rattle.af_base.specs.declared.events.SockType.TheVariants.{Seqpacket, Stream}
 use Rattle.af_base.specs.declared.events.Step.{Step}
 use Rattle.af_base.specs.declared.events.Step.TheVariants as step
 use Rattle.af_base.specs.declared.events.Event.TheVariants as event
@@ -53,6 +53,7 @@ IsAttached words fds = (length fds ≤ 1024) × AreItems words fds
 
 -- The name of a type of sockets.
 abbrev pub type_name : SockType → List ℕ
+type_name Stream = codes "stream"
 type_name Seqpacket = codes "seqpacket"
 
 -- The words after a process's number that say this step.

@@ -67,10 +67,11 @@ fn keyword_named(word: &[u8]) -> Option<Opening>
 pub fn opening_named(word: &[u8]) -> Option<Opening>
     ensures { result ≡ opening_of word.now }
 {
-    if let Some(opening) = keyword_named(word) {
-        return Some(opening);
+    // Most lines are a process's, and no keyword is a number, so that is asked first.
+    if let Some(pid) = number(word) {
+        return Some(Opening::Process(Pid(pid)));
     }
-    Some(Opening::Process(Pid(number(word)?)))
+    keyword_named(word)
 }
 
 /// What the word after a process's number stands for.
@@ -111,9 +112,11 @@ pub fn verb_named(word: &[u8]) -> Option<Verb>
 pub fn type_named(word: &[u8]) -> Option<SockType>
     ensures { result ≡ type_of word.now }
 {
-    if word == b"seqpacket".as_slice() {
-        Some(SockType::Seqpacket)
-    } else {
-        None
+    if word == b"stream".as_slice() {
+        return Some(SockType::Stream);
     }
+    if word == b"seqpacket".as_slice() {
+        return Some(SockType::Seqpacket);
+    }
+    None
 }

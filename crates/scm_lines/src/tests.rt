@@ -14,7 +14,7 @@ const UNREADABLE: [&[u8]; 28] = [
     b"spawn 1 4 root",
     b"spawn 1",
     b"1 pair dgram",
-    b"1 pair stream",
+    b"1 pair",
     b"1 send 0",
     b"1 send 0 a%2",
     b"1 send 0 a%2G",
@@ -80,6 +80,7 @@ fn words_that_stand_alone(rt: HostRuntime) -> Result<(), Fail> {
 
 #[test]
 fn steps_with_numbers(rt: HostRuntime) -> Result<(), Fail> {
+    stepped(&rt, b"1 pair stream", Step::Pair(SockType::Stream))?;
     stepped(&rt, b"1 pair seqpacket", Step::Pair(SockType::Seqpacket))?;
     stepped(&rt, b"1 open", Step::Open)?;
     stepped(&rt, b"1 dup 2", Step::Dup(Fd(2)))?;

@@ -1,7 +1,7 @@
 //! One allocation refused, the Nth, by `rt try --test --fail-alloc N`.
 use super::bench::{Bench, close, got, pair, recv, send, spawn, step};
 use af_base::errno::Errno;
-use af_base::events::{Event, Reply, Step};
+use af_base::events::{Event, Reply, SockType, Step};
 use af_base::names::{Fd, Ino, Pid, Uid};
 use std::alloc::{AllocError, Global};
 use std::process::Abort;
@@ -38,6 +38,25 @@ fn from_an_open_on(alloc: Global) -> Result<Vec<(Event, Reply)>, AllocError> {
         (step(1, Step::Fork), Reply::Pid(Pid(2))),
         (close(2, 0), Reply::Ok),
         (step(1, Step::Exit), Reply::Ok),
+    ]?;
+    Ok(lines)
+}
+
+/// The same of a stream with three messages to receive, the second of which has a descriptor.
+fn from_a_stream_on(alloc: Global) -> Result<Vec<(Event, Reply)>, AllocError> {
+    let lines = vec![in alloc;
+        (spawn(16), Reply::Pid(Pid(1))),
+        (
+            step(1, Step::Pair(SockType::Stream)),
+            Reply::Fds(Fd(0), Fd(1))
+        ),
+        (step(1, Step::Open), Reply::Fd(Fd(2))),
+        (send(alloc, 0, b"aaaa", &[])?, Reply::Sent(4)),
+        (send(alloc, 0, b"b", &[2])?, Reply::Sent(1)),
+        (send(alloc, 0, b"cccc", &[])?, Reply::Sent(4)),
+        (recv(1, 8), got(alloc, b"aaaab", &[3], false)?),
+        (recv(1, 8), got(alloc, b"cccc", &[], false)?),
+        (recv(1, 8), Reply::Refused(Errno::EAGAIN)),
     ]?;
     Ok(lines)
 }
@@ -96,5 +115,14 @@ fn one_refused_from_an_open_on(rt: HostRuntime) {
     if let (Ok(mut bench), Ok(lines)) = (Bench::new(alloc), from_an_open_on(alloc)) {
         assert_all_done(&rt, &mut bench, &lines);
         assert_eq!(rt; bench.engine.live(), 0);
+    }
+}
+
+#[test]
+fn one_refused_from_a_stream_on(rt: HostRuntime) {
+    let alloc = rt.alloc();
+    if let (Ok(mut bench), Ok(lines)) = (Bench::new(alloc), from_a_stream_on(alloc)) {
+        assert_all_done(&rt, &mut bench, &lines);
+        assert_eq!(rt; bench.engine.live(), 3);
     }
 }

@@ -78,7 +78,7 @@ impl Source {
             Kind::Close => Step::Close(self.fd()),
             Kind::Fork => Step::Fork,
             Kind::Exit => Step::Exit,
-            Kind::Pair => Step::Pair(SockType::Seqpacket),
+            Kind::Pair => Step::Pair(self.kind()),
             Kind::Send => self.send()?,
             Kind::Recv => self.recv(),
         };
@@ -124,16 +124,27 @@ impl Source {
         }
     }
 
-    /// Up to three bytes and three descriptors, and rarely about as many as a message may have.
+    fn kind(&mut self) -> SockType {
+        if self.is_rare(2) {
+            SockType::Stream
+        } else {
+            SockType::Seqpacket
+        }
+    }
+
+    /// Up to six bytes, and to every other message up to three descriptors. Rarely there are about as
+    /// many as a message may have.
     fn send(&mut self) -> Result<Step, AllocError> {
         let on = self.fd();
         let length: usize = if self.is_rare(50) {
             self.rng.random_range(65_535usize..=65_537)
         } else {
-            self.rng.random_range(..=3usize)
+            self.rng.random_range(..=6usize)
         };
         let count: usize = if self.is_rare(200) {
             self.rng.random_range(252usize..=254)
+        } else if self.is_rare(2) {
+            0
         } else {
             self.rng.random_range(..=3usize)
         };
@@ -143,7 +154,10 @@ impl Source {
             let fd = if count > 3 { same } else { self.fd() };
             attach.push(fd)?;
         }
-        let bytes = vec![in self.alloc; self.rng.random::<u8>(); length]?;
+        let mut bytes = Vec::new(self.alloc);
+        for _ in 0..length {
+            bytes.push(self.rng.random::<u8>())?;
+        }
         Ok(Step::Send {
             on,
             bytes: Items::of(bytes),
@@ -151,12 +165,15 @@ impl Source {
         })
     }
 
-    /// Up to four bytes and four descriptors, and rarely as many bytes as there may be, or one more.
+    /// Few bytes, so that messages are cut, or as many as several messages have, and rarely as many
+    /// as there may be, or one more. Up to four descriptors.
     fn recv(&mut self) -> Step {
         let max_bytes = if self.is_rare(50) {
             self.rng.random_range(65_536u32..=65_537)
+        } else if self.is_rare(3) {
+            self.rng.random_range(7u32..=40)
         } else {
-            self.rng.random_range(..=4u32)
+            self.rng.random_range(..=3u32)
         };
         Step::Recv {
             on: self.fd(),

@@ -248,3 +248,47 @@ fn users_in_the_order_of_their_first_process(rt: HostRuntime) -> Result<(), Fail
     ];
     plays(&rt, rows.as_slice())
 }
+
+/// A stream is received over the borders of messages, up to the end of the first with descriptors.
+#[test]
+fn a_stream_stops_behind_descriptors(rt: HostRuntime) -> Result<(), Fail> {
+    let rows = [
+        ("spawn 1000 16", "pid 1"),
+        ("1 pair stream", "fds 0 1"),
+        ("1 open", "fd 2"),
+        ("1 send 0 aaaa", "sent 4"),
+        ("1 send 0 b 2", "sent 1"),
+        ("1 send 0 cccc", "sent 4"),
+        ("1 recv 1 20 8", "got aaaab fds 3"),
+        ("1 recv 1 20 8", "got cccc"),
+        ("1 recv 1 20 8", "EAGAIN"),
+        ("1 send 0 aaaa", "sent 4"),
+        ("1 send 0 b 2", "sent 1"),
+        ("1 send 0 cccc", "sent 4"),
+        ("1 recv 1 2 8", "got aa"),
+        ("1 recv 1 2 8", "got aa"),
+        ("1 recv 1 2 8", "got b fds 4"),
+        ("1 recv 1 2 8", "got cc"),
+        ("1 recv 1 2 8", "got cc"),
+    ];
+    plays(&rt, rows.as_slice())
+}
+
+/// What is left of a message whose descriptors were taken is received with those behind it.
+#[test]
+fn the_rest_of_a_message_has_no_descriptors(rt: HostRuntime) -> Result<(), Fail> {
+    let rows = [
+        ("spawn 1000 16", "pid 1"),
+        ("1 pair stream", "fds 0 1"),
+        ("1 open", "fd 2"),
+        ("1 send 0 bcd 2", "sent 3"),
+        ("1 send 0 ee", "sent 2"),
+        ("1 send 0 f 2 2", "sent 1"),
+        ("1 recv 1 1 0", "got b ctrunc"),
+        ("totals", "user 1000 inflight 2"),
+        ("1 recv 1 20 8", "got cdeef fds 3 4"),
+        ("totals", "user 1000 inflight 0"),
+        ("check", "check ok live 3 garbage 0"),
+    ];
+    plays(&rt, rows.as_slice())
+}

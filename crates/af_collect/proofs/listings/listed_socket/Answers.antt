@@ -1,6 +1,8 @@
 use Rattle.std.proofs.Common.{rules, ◌≡◌, ◌≤◌, ◌*◌, ◌++◌, ◌∷◌, [], length, map, sym, ap, ◌∙◌, arith}
 use Rattle.std.specs.Prelude.{None}
 use Rattle.std.specs.List.{sum_by}
+use Rattle.std.specs.VecDeque.Iter.{deque_iter_rest}
+use Rattle.std.proofs.lemmas.List.{nil_from_length}
 use Rattle.std.proofs.lemmas.List.Sums.{sum_by_push}
 use Rattle.af_base.specs.Bare.{bare_message}
 use Rattle.af_base.specs.Listing.{message_of}
@@ -16,11 +18,11 @@ pub loop-message-preserved : goal.loop-message-preserved
 loop-message-preserved c =
     let xs = c.loop-message.queue.items in
     let m = c.in-Some.message.now in
-    let rest = c.next.new.self in
+    let rest = deque_iter_rest c.next.new.self in
     let x : ListedMessage = record { user = c.user.result; attached = c.in_ok-numbers_of.field-0 } in
     let copied : x.attached.items ≡ m.attached = search rules in
     let same : message_of x ≡ bare_message m = λ i. record { bytes = []; attached = copied i; user = c.user.ensures i } in
-    let step : c.loop-message.message-iterator ≡ m ∷ rest = c.in-Some.ensures.steps in
+    let step : deque_iter_rest c.loop-message.message-iterator ≡ m ∷ rest = c.in-Some.ensures.steps in
     let before = ap (λ ms. map message_of xs ++ map bare_message ms) (sym step) ∙ c.loop-message.invariant.so_far in
     let few : length x.attached.items ≤ SCM_MAX_FD = omega (arith, ap length copied, ap length c.attached.ensures.value, c.attached.ensures.bound) in
     record {
@@ -37,8 +39,8 @@ loop-message-preserved c =
 
 pub returns-clause-shown : goal.returns-clause-shown
 returns-clause-shown c =
-    let whole = made_all message_of bare_message c.loop-message.queue.items c.loop-message.message-iterator (map bare_message c.args.socket.now.queue) c.in-None.ensures.steps.0 c.loop-message.invariant.so_far in
-    let none = c.new.ensures.items ∙ sym c.queue-message-items.ensures.alone in
+    let whole = made_all message_of bare_message c.loop-message.queue.items (deque_iter_rest c.loop-message.message-iterator) (map bare_message c.args.socket.now.queue) (nil_from_length _ c.in-None.ensures.steps.0) c.loop-message.invariant.so_far in
+    let none = c.new.ensures.items ∙ sym c.queue.ensures.alone in
     λ i. record { kind = Seqpacket; state = state.Idle; name = None; queue = whole i; backlog = none i }
 
 pub returns-clause-few : goal.returns-clause-few

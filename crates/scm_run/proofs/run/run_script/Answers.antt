@@ -1,11 +1,11 @@
-use Rattle.std.proofs.Common.{rules, ◌≡◌, ℕ, ◌++◌, take, [], refl, ap, subst, append-nil}
-use Rattle.std.specs.Prelude.{Result, Ok, Err}
+use Rattle.std.proofs.Common.{rules, ◌≡◌, ℕ, ◌++◌, take, [], refl, ap, subst, ◌∙◌, append-nil}
+use Rattle.std.specs.Prelude.{Err}
 use Rattle.std.specs.Io.KnownBytes.{Consumes, IsAtEnd}
 use Rattle.std.proofs.KnownBytes.{Consumes-trans}
 use Rattle.af_base.specs.Run.{fresh}
 use Rattle.scm_run.specs.declared.fault.RunFault.TheVariants.{Memory}
 use Rattle.scm_run.proofs.RunLemmas.{done_at_end, keeps_none_taken, told_any, nothing_ran, ran_nothing, stops_in, stops_as_read, stops_at_end, stops_late}
-use Rattle.std.specs.Result.{IsErrAnd}
+use Rattle.std.proofs.lemmas.Result.{err_from_is_err_and}
 use Rattle.scm_run.proofs.run.run_script.Goals as goal
 
 pub returns-in_err-run-clause-stopped : goal.returns-in_err-run-clause-stopped
@@ -41,18 +41,13 @@ returns-then-count-eq0-clause-stopped g c =
     let all : Consumes (g.R.Read.remaining c.args.reader.now.inner) (g.R.Read.remaining c.read.new.self.inner) taken = subst (Consumes _ _) (append-nil taken) (Consumes-trans _ _ _ taken [] consumed still) in
     stops_at_end _ _ _ _ _ taken c.loop.run c.finish.result all ended ran c.finish.ensures.err
 
--- An error that is this one.
-err_is : {T E : Type 0} (r : Result T E) (e : E) → IsErrAnd r (λ x. x ≡ e) → r ≡ Err e
-err_is (Ok x) e h = absurd h
-err_is (Err x) e h = ap Err h
-
 pub returns-in_err-feed-clause-stopped : goal.returns-in_err-feed-clause-stopped
 returns-in_err-feed-clause-stopped g c =
     let (taken, consumed, ran) = c.loop.invariant.3 in
     let bytes = take c.in-Ok.count c.read.new.buf in
     let reads : Consumes (g.R.Read.remaining c.loop.reader.inner) (g.R.Read.remaining c.read.new.self.inner) bytes = search rules in
     let f = c.in_err-feed.field-0.0 in
-    let fault : c.from_residual-in_err-feed.result ≡ Err f = err_is c.from_residual-in_err-feed.result f c.from_residual-in_err-feed.ensures.1 in
+    let fault : c.from_residual-in_err-feed.result ≡ Err f = (let same = err_from_is_err_and c.from_residual-in_err-feed.result c.from_residual-in_err-feed.ensures.1 in same.1 ∙ ap Err same.2) in
     rw fault (stops_in _ _ _ _ (taken ++ bytes) f (search rules) (Consumes-trans _ _ _ taken bytes consumed reads)
     (c.in_err-feed.ensures.err taken (g.W.Write.contents c.args.writer.now.inner) ran))
 

@@ -9,9 +9,9 @@ use Rattle.af_ledger.proofs.HeldAll.{users-dropped_all}
 use Rattle.af_collect.specs.Stored.{Stored}
 use Rattle.af_collect.specs.contracts.store.Store.{the_view}
 use Rattle.af_collect.proofs.Bounds.{can-drop-all}
-use Rattle.af_collect.proofs.Exact.{exact-pop, exact-same, world-is}
-use Rattle.af_collect.proofs.Popped.{popped_queue}
-use Rattle.af_collect.proofs.Shedding.{emptied-same, queue-socket}
+use Rattle.af_collect.proofs.Exact.{exact-same, exact-shed, world-is}
+use Rattle.af_collect.proofs.Taken.{popped_queue}
+use Rattle.af_collect.proofs.Shedding.{emptied-same, first-shed}
 use Rattle.af_collect.proofs.store.Store.drop_first.Goals as goal
 
 pub invariant_of-self : goal.invariant_of-self
@@ -26,16 +26,17 @@ pub drop_all-requires : goal.drop_all-requires
 drop_all-requires c =
     let w = (the_view c.self.inside).world in
     let m = c.in-Some.message in
-    let x = queue-socket w c.args.file.now m (drop 1 (queue_at w c.args.file.now)) c.in-Some.ensures.some in
-    let can = can-drop-all w c.args.file.now m (drop 1 (queue_at w c.args.file.now)) x.0 c.self.inside.ledger x.1 x.2 c.self.invariant.agrees in
+    let rest = drop 1 (queue_at w c.args.file.now) in
+    let x = first-shed w c.args.file.now m rest c.self.invariant.within c.in-Some.ensures.some in
+    let can = can-drop-all w c.args.file.now m rest x.0 c.self.inside.ledger x.1 x.2 c.self.invariant.agrees in
     subst (λ u. CanDropAll u c.attached.result.now c.self.inside.ledger) (sym c.user.ensures) (subst (λ fs. CanDropAll m.user fs c.self.inside.ledger) (sym c.attached.ensures.value) can)
 
 -- What the ledger keeps then.
-dropped : (c : goal.After-drop-message-inside-2) → c.drop_all.new.self ≡ dropped_all (Queue c.in-Some.message.user) c.in-Some.message.attached c.self.inside.ledger
+dropped : (c : goal.Joined-message) → c.drop_all.new.self ≡ dropped_all (Queue c.in-Some.message.user) c.in-Some.message.attached c.self.inside.ledger
 dropped c = c.drop_all.ensures ∙ (λ i. dropped_all (Queue (c.user.ensures i)) (c.attached.ensures.value i) c.self.inside.ledger)
 
 -- What the world is then.
-popped : (c : goal.After-drop-message-inside-2) → (the_view (record c.self.inside { files = c.pop.new.self; ledger = c.drop_all.new.self })).world ≡ with_queue (the_view c.self.inside).world c.args.file.now (drop 1 (queue_at (the_view c.self.inside).world c.args.file.now))
+popped : (c : goal.Joined-message) → (the_view (record c.self.inside { files = c.pop.new.self; ledger = c.drop_all.new.self })).world ≡ with_queue (the_view c.self.inside).world c.args.file.now (drop 1 (queue_at (the_view c.self.inside).world c.args.file.now))
 popped c =
     let w = (the_view c.self.inside).world in
     let m = c.in-Some.message in
@@ -46,8 +47,9 @@ pub invariant_of-self-2 : goal.invariant_of-self-2
 invariant_of-self-2 c =
     let w = (the_view c.self.inside).world in
     let m = c.in-Some.message in
-    let x = queue-socket w c.args.file.now m (drop 1 (queue_at w c.args.file.now)) c.in-Some.ensures.some in
-    exact-same _ _ _ _ (popped c) (dropped c) (exact-pop w c.args.file.now m (drop 1 (queue_at w c.args.file.now)) x.0 c.self.inside.ledger x.1 x.2 c.self.invariant)
+    let rest = drop 1 (queue_at w c.args.file.now) in
+    let x = first-shed w c.args.file.now m rest c.self.invariant.within c.in-Some.ensures.some in
+    exact-same _ _ _ _ (popped c) (dropped c) (exact-shed w c.args.file.now m rest x.0 c.self.inside.ledger x.1 x.2 c.self.invariant)
 
 pub returns-clause-world : goal.returns-clause-world
 returns-clause-world c =

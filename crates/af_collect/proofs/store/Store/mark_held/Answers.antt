@@ -1,5 +1,6 @@
 use Rattle.std.proofs.Common.{◌≡◌, ◌++◌, sym, ap, ◌∙◌, subst}
 use Rattle.std.specs.List.{Contains}
+use Rattle.std.specs.VecDeque.Iter.{deque_iter_rest}
 use Rattle.std.proofs.lemmas.List.Elements.{Contains-append_left, Contains-append_right, Contains-append_cases}
 use Rattle.af_base.specs.Places.{carried}
 use Rattle.af_collect.proofs.Marking.{marked-join}
@@ -7,8 +8,8 @@ use Rattle.af_collect.proofs.store.Store.mark_held.Goals as goal
 
 pub loop-message-preserved : goal.loop-message-preserved
 loop-message-preserved c =
-    let all = c.loop-message.message-iterator in
-    let rest = c.next.new.self in
+    let all = deque_iter_rest c.loop-message.message-iterator in
+    let rest = deque_iter_rest c.next.new.self in
     let attached = c.attached.result.now in
     let next : carried all ≡ attached ++ carried rest = ap carried c.in-Some-message.ensures.steps ∙ ap (λ xs. xs ++ carried rest) (sym c.attached.ensures.value) in
     let invariant = c.loop-message.invariant in

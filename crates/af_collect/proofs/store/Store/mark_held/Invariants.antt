@@ -1,11 +1,12 @@
 use Rattle.std.proofs.Common.{ℕ}
 use Rattle.std.specs.List.{Contains}
+use Rattle.std.specs.VecDeque.Iter.{deque_iter_rest}
 use Rattle.af_base.specs.Places.{Holds, carried}
 use Rattle.af_collect.specs.Marking.{Marked}
 use Rattle.af_collect.proofs.store.Store.mark_held.Given as goal
 
 abbrev pub invariant-loop-message : goal.invariant-loop-message
 invariant-loop-message l = record {
-  marks : Marked (Holds l.self.world l.fn.file) (Contains (carried l.message-iterator)) l.fn.marks l.marks;
-  within : (f : ℕ) → Contains (carried l.message-iterator) f → Holds l.self.world l.fn.file f;
+  marks : Marked (Holds l.self.world l.fn.file) (Contains (carried (deque_iter_rest l.message-iterator))) l.fn.marks l.marks;
+  within : (f : ℕ) → Contains (carried (deque_iter_rest l.message-iterator)) f → Holds l.self.world l.fn.file f;
 }

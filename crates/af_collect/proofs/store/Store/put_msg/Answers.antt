@@ -17,7 +17,7 @@ use Rattle.af_collect.specs.Stored.{Stored}
 use Rattle.af_collect.specs.contracts.store.Store.{the_view}
 use Rattle.af_collect.proofs.Bounds.{can-hold-all}
 use Rattle.af_collect.proofs.Exact.{exact-push, exact-same, world-is}
-use Rattle.af_collect.proofs.Putting.{found, has, known-sender, last-some, sent_found, socket_found, to}
+use Rattle.af_collect.proofs.Putting.{found, has, known-sender, last-some, queue_found, sent_found, to}
 use Rattle.af_collect.proofs.store.Store.put_msg.Goals as goal
 
 pub unwrap-requires : goal.unwrap-requires
@@ -40,7 +40,8 @@ unwrap-sent-requires c =
     let at = sym (ap option_copied c.unwrap.ensures) ∙ c.get.ensures in
     let is = sym (ap option_copied c.unwrap-2.ensures) ∙ c.socket.ensures in
     let x = to w c.args.socket.now c.args.message socket c.push.new.self.files c.in_ok-push.ensures.files in
-    last-some c.last.result c.unwrap-2.result.now.queue x.0.queue c.args.message c.last.ensures.none (ap (λ t. t.queue) (socket_found w c.args.socket.now c.args.message socket c.push.new.self.files c.in_ok-push.ensures.files c.unwrap.result.now c.unwrap-2.result.now at is))
+    let q = c.queue.result.now.messages in
+    last-some c.last.result q x.0.queue c.args.message c.last.ensures.none (queue_found w c.args.socket.now c.args.message socket c.push.new.self.files c.in_ok-push.ensures.files c.unwrap.result.now c.unwrap-2.result.now q at is c.queue.ensures.value)
 
 pub hold_all-requires : goal.hold_all-requires
 hold_all-requires c =
@@ -50,9 +51,9 @@ hold_all-requires c =
     let socket = subst (λ (t : Stored). is_none (socket_at t.world c.args.socket.now) ≡ false) back c.requires.socket in
     let at = sym (ap option_copied c.unwrap.ensures) ∙ c.get.ensures in
     let is = sym (ap option_copied c.unwrap-2.ensures) ∙ c.socket.ensures in
-    let q = c.unwrap-2.result.now.queue in
+    let q = c.queue.result.now.messages in
     let last = subst (λ o. IfSome o (λ z. slice_get q (length q - 1) ≡ Some z.now)) c.unwrap-sent.ensures c.last.ensures.some in
-    let sent = sent_found w c.args.socket.now m socket c.push.new.self.files c.in_ok-push.ensures.files c.unwrap.result.now c.unwrap-2.result.now c.unwrap-sent.result.now at is last in
+    let sent = sent_found w c.args.socket.now m socket c.push.new.self.files c.in_ok-push.ensures.files c.unwrap.result.now c.unwrap-2.result.now q c.unwrap-sent.result.now at is c.queue.ensures.value last in
     let user = known-sender w m.user c.self.inside.ledger (subst (λ (t : Stored). IsOfProcess t.world m.user) back c.requires.user) c.self.invariant.agrees in
     let flying = subst (λ (t : Stored). total t.world + length m.attached ≤ MAX_INFLIGHT) back c.requires.flying in
     let live = subst (λ (t : Stored). (f : ℕ) → Contains m.attached f → IsLive t.world f) back c.requires.live in
@@ -66,9 +67,9 @@ kept c =
     let socket = subst (λ (t : Stored). is_none (socket_at t.world c.args.socket.now) ≡ false) (sym c.self.view_is) c.requires.socket in
     let at = sym (ap option_copied c.unwrap.ensures) ∙ c.get.ensures in
     let is = sym (ap option_copied c.unwrap-2.ensures) ∙ c.socket.ensures in
-    let q = c.unwrap-2.result.now.queue in
+    let q = c.queue.result.now.messages in
     let last = subst (λ o. IfSome o (λ z. slice_get q (length q - 1) ≡ Some z.now)) c.unwrap-sent.ensures c.last.ensures.some in
-    let sent = sent_found (the_view c.self.inside).world c.args.socket.now c.args.message socket c.push.new.self.files c.in_ok-push.ensures.files c.unwrap.result.now c.unwrap-2.result.now c.unwrap-sent.result.now at is last in
+    let sent = sent_found (the_view c.self.inside).world c.args.socket.now c.args.message socket c.push.new.self.files c.in_ok-push.ensures.files c.unwrap.result.now c.unwrap-2.result.now q c.unwrap-sent.result.now at is c.queue.ensures.value last in
     c.hold_all.ensures ∙ (λ i. held_all (Queue ((c.user.ensures ∙ ap (λ x. x.user) sent) i)) ((c.attached.ensures.value ∙ ap (λ x. x.attached) sent) i) c.self.inside.ledger)
 
 -- What the world is then.

@@ -1,5 +1,5 @@
-use Rattle.std.proofs.Common.{rules, ◌≡◌, ◌<◌, false, [], refl, sym, ap, subst, ◌∙◌, arith}
-use Rattle.std.specs.Prelude.{Some, None, is_some, not}
+use Rattle.std.proofs.Common.{rules, ◌≡◌, false, [], refl, sym, ap, subst}
+use Rattle.std.specs.Prelude.{Some, None, not}
 use Rattle.std.specs.FinMap as map
 use Rattle.af_base.specs.declared.errno.Errno.TheVariants.{EAGAIN, ESRCH}
 use Rattle.af_base.specs.declared.events.Reply.TheVariants as reply

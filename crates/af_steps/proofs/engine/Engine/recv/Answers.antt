@@ -1,4 +1,4 @@
-use Rattle.std.proofs.Common.{rules, ◌≡◌, [], refl, ap, subst, arith}
+use Rattle.std.proofs.Common.{rules, ◌≡◌, [], length, refl, sym, ap, ◌∙◌, subst, arith}
 use Rattle.std.specs.Prelude.{Some, None}
 use Rattle.std.specs.FinMap as map
 use Rattle.af_base.specs.declared.events.Reply.TheVariants as reply
@@ -9,11 +9,11 @@ use Rattle.af_base.specs.Steps.{ProcessStep}
 use Rattle.af_base.specs.Table.{lowest_free}
 use Rattle.af_steps.specs.Rows.{receive_row}
 use Rattle.af_steps.proofs.Numbers.{is_process}
-use Rattle.af_steps.proofs.Received.{numbers-below, recv-end}
+use Rattle.af_steps.proofs.Received.{no-message, numbers-below, recv-end}
 use Rattle.af_steps.proofs.engine.Engine.recv.Goals as goal
 
-pub returns-in_default : goal.returns-in_default
-returns-in_default c =
+pub returns-then-len-eq0 : goal.returns-then-len-eq0
+returns-then-len-eq0 c =
     let w = c.self.inside.store.world in
     let p = c.args.pid in
     let q = c.in_ok-process.process.now.process in
@@ -22,18 +22,18 @@ returns-in_default c =
     let stands : map.get q.table c.args.on ≡ Some c.in_ok-file.file = search rules in
     let found : socket_at w c.in_ok-file.file ≡ Some x = search rules in
     let given : first_fit (receive_row x c.args.max_bytes) ≡ None = search rules in
-    let empty : x.queue ≡ [] = search rules in
+    let empty : x.queue ≡ [] = no-message x.queue (sym (c.len.ensures.value ∙ ap length c.queue.ensures.value) ∙ c.if-len-eq0.true) in
     subst (λ (m : Machine). ProcessStep m.world p (step.Recv c.args.on c.args.max_bytes c.args.max_fds) reply.End m.world × ((m.pass ≡ m.pass) × (m.last_pass ≡ m.last_pass))) c.self.view_is
     (recv-end w p c.args.on q at c.in_ok-file.file stands x found c.args.max_bytes c.args.max_fds empty c.self.invariant.0 given, (refl, refl))
 
-pub take_msg-message-requires-clause-row : goal.take_msg-message-requires-clause-row
-take_msg-message-requires-clause-row c =
+pub take_msg-requires-clause-row : goal.take_msg-requires-clause-row
+take_msg-requires-clause-row c =
     let w = c.self.inside.store.world in
     let p = c.args.pid in
     let q = c.in_ok-process.process.now.process in
     let at : map.get w.processes p ≡ Some q = search rules in
-    let lowest : c.deref.result.now ≡ lowest_free c.min-count.result q = search rules in
+    let lowest : c.deref.result.now ≡ lowest_free c.min.result q = search rules in
     let same = ap (λ r. r.limit) (is_process w p q at) in
-    numbers-below q c.deref.result.now c.min-count.result _ lowest (λ some.
+    numbers-below q c.deref.result.now c.min.result _ lowest (λ some.
     let most = c.in_ok-room_for.ensures.row (omega (arith, some, c.deref.ensures.len, c.len.ensures)) in
     omega (arith, most, same))

@@ -53,8 +53,8 @@ returns-in_err-may_send c =
     let said : ProcessStep w p (step.Send c.args.on c.args.bytes.now c.args.attach.now) (reply_of c.from_residual-in_err-may_send.result) w = subst (λ r. ProcessStep w p (step.Send c.args.on c.args.bytes.now c.args.attach.now) (reply_of r) w) (sym error) (refused-charge w p c.args.on q at c.in_ok-file.file stands x found c.args.bytes.now c.args.attach.now given alive e fits) in
     subst (λ (m : Machine). ProcessStep m.world p (step.Send c.args.on c.args.bytes.now c.args.attach.now) (reply_of c.from_residual-in_err-may_send.result) m.world × ((m.pass ≡ m.pass) × (m.last_pass ≡ m.last_pass))) c.self.view_is (said, (refl, refl))
 
-pub returns-then-messages-ge-MAX_MESSAGES : goal.returns-then-messages-ge-MAX_MESSAGES
-returns-then-messages-ge-MAX_MESSAGES c =
+pub returns-then-len-ge-MAX_MESSAGES : goal.returns-then-len-ge-MAX_MESSAGES
+returns-then-len-ge-MAX_MESSAGES c =
     let w = c.self.inside.store.world in
     let p = c.args.pid in
     let q = c.in_ok-process.process.now.process in

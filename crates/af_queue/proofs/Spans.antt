@@ -1,0 +1,260 @@
+-- A stream's receive, message by message, is what is said of it as a whole.
+use Rattle.std.proofs.Common.{◌≡◌, ◌<◌, ◌≤◌, ℕ, suc, ◌+◌, ◌-◌, ◌||◌, Bool, true, false, inl, inr, List, [], ◌∷◌, ◌++◌, length, take, drop, min, refl, sym, ap, ◌∙◌, cond, nat_eq, arith}
+use Rattle.std.specs.Prelude.{Option, Some, None, IfSome, nat_le, nat_lt}
+use Rattle.std.specs.Option.{option_map_or}
+use Rattle.std.specs.List.{AllByRecursion, find, slice_get}
+use Rattle.std.proofs.lemmas.Bool.{cases_Bool, cases_lt, eq-eqb, eqb-true, le-leb, le-ltb, leb-false, leb-true, lt-leb, lt-ltb, ltb-false, ltb-true}
+use Rattle.std.proofs.lemmas.List.{length-append, length-drop, length-take, take-append-le}
+use Rattle.af_base.specs.declared.events.SockType.TheVariants.{Seqpacket, Stream}
+use Rattle.af_base.specs.World.{Message}
+use Rattle.af_base.specs.Take.{cut, has_files, joined, take_seqpacket, take_stream}
+use Rattle.af_base.specs.Whole.{IsMessageWithin}
+use Rattle.af_base.proofs.Takes.{HaveBytes, before, before-here, before-later, cut_none, find-here, find-later, no_files, up_to}
+use Rattle.af_queue.specs.Received.{message_at, received, sender_at}
+use Rattle.af_queue.specs.Streams.{files_in, first_kept, first_shortened, span}
+
+-- Where the first message with files ends, or all bytes do.
+abbrev end_of : List Message → Option Message → ℕ
+end_of q o = option_map_or (λ m. before q + length m.bytes) o (before q)
+
+abbrev end : List Message → ℕ
+end q = end_of q (find has_files q)
+
+-- The files of the first message that has some.
+abbrev first_files : List Message → List ℕ
+first_files q = option_map_or (λ m. m.attached) (find has_files q) []
+
+module _ (m : Message) (q : List Message) where
+  end-here : has_files m ≡ true → end (m ∷ q) ≡ length m.bytes
+  end-here t = ap (end_of (m ∷ q)) (find-here m q t) ∙ ap (λ k. k + length m.bytes) (before-here m q t) ∙ omega arith
+
+  end-later : has_files m ≡ false → end (m ∷ q) ≡ length m.bytes + end q
+  end-later t = ap (end_of (m ∷ q)) (find-later m q t) ∙ by (find has_files q) where
+    by : (o : Option Message) → end_of (m ∷ q) o ≡ length m.bytes + end_of q o
+    by None = before-later m q t
+    by (Some x) = omega (arith, before-later m q t)
+
+  -- What stands at the front ends it, or the rest does.
+  module _ (n : ℕ) where
+    pub span-front : has_files m || nat_le n (length m.bytes) ≡ true → span n (m ∷ q) ≡ min n (length m.bytes)
+    span-front e = ap (λ b. cond b (min n (length m.bytes)) (length m.bytes + span (n - length m.bytes) q)) e
+
+    pub span-rest : has_files m || nat_le n (length m.bytes) ≡ false → span n (m ∷ q) ≡ length m.bytes + span (n - length m.bytes) q
+    span-rest e = ap (λ b. cond b (min n (length m.bytes)) (length m.bytes + span (n - length m.bytes) q)) e
+
+    pub files-front : has_files m || nat_le n (length m.bytes) ≡ true → files_in n (m ∷ q) ≡ m.attached
+    files-front e = ap (λ b. cond b m.attached (files_in (n - length m.bytes) q)) e
+
+    pub files-rest : has_files m || nat_le n (length m.bytes) ≡ false → files_in n (m ∷ q) ≡ files_in (n - length m.bytes) q
+    files-rest e = ap (λ b. cond b m.attached (files_in (n - length m.bytes) q)) e
+
+    pub at-front : n ≤ length m.bytes → message_at n (m ∷ q) ≡ Some m
+    at-front le = ap (λ b. cond b (Some m) (message_at (n - length m.bytes) q)) (le-leb n (length m.bytes) le)
+
+    pub at-rest : length m.bytes < n → message_at n (m ∷ q) ≡ message_at (n - length m.bytes) q
+    at-rest lt = ap (λ b. cond b (Some m) (message_at (n - length m.bytes) q)) (lt-leb n (length m.bytes) lt)
+
+    abbrev shorter : Message
+    shorter = record m { bytes = drop n m.bytes; attached = [] }
+
+    pub cut-rest : length m.bytes ≤ n → cut n (m ∷ q) ≡ cut (n - length m.bytes) q
+    cut-rest le = ap (λ b. cond b (cut (n - length m.bytes) q) (cond (nat_lt 0 n) (shorter ∷ q) (m ∷ q))) (le-leb (length m.bytes) n le)
+
+    pub cut-part : 0 < n → n < length m.bytes → cut n (m ∷ q) ≡ shorter ∷ q
+    cut-part some lt =
+        ap (λ b. cond b (cut (n - length m.bytes) q) (cond (nat_lt 0 n) (shorter ∷ q) (m ∷ q))) (lt-leb (length m.bytes) n lt)
+        ∙ ap (λ b. cond b (shorter ∷ q) (m ∷ q)) (lt-ltb 0 n some)
+
+    pub cut-whole : HaveBytes q → n ≡ length m.bytes → cut n (m ∷ q) ≡ q
+    cut-whole have e = cut-rest (omega (arith, e)) ∙ ap (λ k. cut k q) (omega (arith, e)) ∙ cut_none q have
+
+-- Neither of two.
+pub neither : (a b : Bool) → a || b ≡ false → (a ≡ false) × (b ≡ false)
+neither false b e = (refl, e)
+neither true b e = absurd (let no : true ≡ false = e in cc)
+
+-- One of two.
+pub either : (a b : Bool) → a || b ≡ true → ¬ (a ≡ true) → b ≡ true
+either true b e n = absurd (n refl)
+either false b e n = e
+
+span-is : (n : ℕ) (q : List Message) → span n q ≡ min n (end q)
+span-is n [] = omega arith
+span-is n (m ∷ q) = by (span-is (n - length m.bytes) q) (has_files m) refl (nat_le n (length m.bytes)) refl where
+  by : span (n - length m.bytes) q ≡ min (n - length m.bytes) (end q) → (a : Bool) → has_files m ≡ a → (b : Bool) → nat_le n (length m.bytes) ≡ b → span n (m ∷ q) ≡ min n (end (m ∷ q))
+  by rest true t b d = span-front m q n (ap (λ a. a || nat_le n (length m.bytes)) t) ∙ ap (min n) (sym (end-here m q t))
+  by rest false t true d = span-front m q n (ap (λ a. a || nat_le n (length m.bytes)) t ∙ d) ∙ (let low = leb-true _ _ d in omega (arith, low, end-later m q t))
+  by rest false t false d = span-rest m q n (ap (λ a. a || nat_le n (length m.bytes)) t ∙ d) ∙ (let high = leb-false _ _ d in omega (arith, rest, high, end-later m q t))
+
+-- It takes no more than there is.
+pub span-most : (n : ℕ) (q : List Message) → span n q ≤ length (joined q)
+span-most n [] = omega arith
+span-most n (m ∷ q) = by (span-most (n - length m.bytes) q) (has_files m || nat_le n (length m.bytes)) refl where
+  by : span (n - length m.bytes) q ≤ length (joined q) → (b : Bool) → (has_files m || nat_le n (length m.bytes)) ≡ b → span n (m ∷ q) ≤ length (m.bytes ++ joined q)
+  by rest true e = omega (arith, span-front m q n e, length-append m.bytes (joined q))
+  by rest false e = omega (arith, rest, span-rest m q n e, length-append m.bytes (joined q))
+
+-- And no more than is asked for.
+pub span-asked : (n : ℕ) (q : List Message) → span n q ≤ n
+span-asked n q = let is = span-is n q in omega (arith, is)
+
+-- Something is taken where something is.
+pub span-some : (n : ℕ) (m : Message) (q : List Message) → 0 < n → HaveBytes (m ∷ q) → 0 < span n (m ∷ q)
+span-some n m q some have = by (has_files m || nat_le n (length m.bytes)) refl where
+  by : (b : Bool) → (has_files m || nat_le n (length m.bytes)) ≡ b → 0 < span n (m ∷ q)
+  by true e = omega (arith, span-front m q n e, some, have.0)
+  by false e = omega (arith, span-rest m q n e, have.0)
+
+-- The message with which it ends has the last byte.
+pub files-at : (n : ℕ) (q : List Message) → 0 < n → HaveBytes q → option_map_or (λ m. m.attached) (message_at (span n q) q) [] ≡ files_in n q
+files-at n [] some have = refl
+files-at n (m ∷ []) some have = by (has_files m || nat_le n (length m.bytes)) refl where
+  by : (b : Bool) → (has_files m || nat_le n (length m.bytes)) ≡ b → option_map_or (λ m. m.attached) (message_at (span n (m ∷ [])) (m ∷ [])) [] ≡ files_in n (m ∷ [])
+  by true e = ap (λ o. option_map_or (λ m. m.attached) o []) (at-front m [] (span n (m ∷ [])) (omega (arith, span-front m [] n e))) ∙ sym (files-front m [] n e)
+  by false e =
+      let no = neither (has_files m) (nat_le n (length m.bytes)) e in
+      ap (λ o. option_map_or (λ m. m.attached) o []) (at-front m [] (span n (m ∷ [])) (omega (arith, span-rest m [] n e))) ∙ no_files m.attached no.0 ∙ sym (files-rest m [] n e)
+files-at n (m ∷ x ∷ q) some have = by (λ more. files-at (n - length m.bytes) (x ∷ q) more have.1) (has_files m || nat_le n (length m.bytes)) refl where
+  by : (0 < n - length m.bytes → option_map_or (λ m. m.attached) (message_at (span (n - length m.bytes) (x ∷ q)) (x ∷ q)) [] ≡ files_in (n - length m.bytes) (x ∷ q)) → (b : Bool) → (has_files m || nat_le n (length m.bytes)) ≡ b
+      → option_map_or (λ m. m.attached) (message_at (span n (m ∷ x ∷ q)) (m ∷ x ∷ q)) [] ≡ files_in n (m ∷ x ∷ q)
+  by rest true e = ap (λ o. option_map_or (λ m. m.attached) o []) (at-front m (x ∷ q) (span n (m ∷ x ∷ q)) (omega (arith, span-front m (x ∷ q) n e))) ∙ sym (files-front m (x ∷ q) n e)
+  by rest false e =
+      let no = neither (has_files m) (nat_le n (length m.bytes)) e in
+      let high = leb-false _ _ no.1 in
+      let more : 0 < n - length m.bytes = omega (arith, high) in
+      let long = span-rest m (x ∷ q) n e in
+      let on = span-some (n - length m.bytes) x q more have.1 in
+      ap (λ o. option_map_or (λ m. m.attached) o []) (at-rest m (x ∷ q) (span n (m ∷ x ∷ q)) (omega (arith, long, on)) ∙ ap (λ k. message_at k (x ∷ q)) (omega (arith, long)))
+      ∙ rest more ∙ sym (files-rest m (x ∷ q) n e)
+
+-- They are the files of the first message that has some, where a byte of it is taken.
+files-of : (n : ℕ) (q : List Message) → 0 < n → HaveBytes q → cond (nat_lt (before q) (span n q)) (first_files q) [] ≡ files_in n q
+files-of n [] some have = by (nat_lt (before []) (span n [])) where
+  by : (b : Bool) → cond {A = List ℕ} b [] [] ≡ []
+  by true = refl
+  by false = refl
+files-of n (m ∷ q) some have = by (λ more. files-of (n - length m.bytes) q more have.1) (has_files m) refl (nat_le n (length m.bytes)) refl where
+  same : (a b c : ℕ) → nat_lt (a + b) (a + c) ≡ nat_lt b c
+  same a b c = elim (cases_Bool (nat_lt b c)) [
+    | inl t ↦ (let h = ltb-true b c t in lt-ltb (a + b) (a + c) (omega (arith, h))) ∙ sym t
+    | inr t ↦ (let h = ltb-false b c t in le-ltb (a + b) (a + c) (omega (arith, h))) ∙ sym t
+  ]
+
+  by : (0 < n - length m.bytes → cond (nat_lt (before q) (span (n - length m.bytes) q)) (first_files q) [] ≡ files_in (n - length m.bytes) q) → (a : Bool) → has_files m ≡ a → (b : Bool) → nat_le n (length m.bytes) ≡ b
+      → cond (nat_lt (before (m ∷ q)) (span n (m ∷ q))) (first_files (m ∷ q)) [] ≡ files_in n (m ∷ q)
+  by rest true t b d =
+      let e = ap (λ a. a || nat_le n (length m.bytes)) t in
+      ap (λ b. cond b (first_files (m ∷ q)) []) (lt-ltb (before (m ∷ q)) (span n (m ∷ q)) (omega (arith, before-here m q t, span-front m q n e, some, have.0)))
+      ∙ ap (λ o. option_map_or (λ m. m.attached) o []) (find-here m q t) ∙ sym (files-front m q n e)
+  by rest false t true d =
+      let e = ap (λ a. a || nat_le n (length m.bytes)) t ∙ d in
+      ap (λ b. cond b (first_files (m ∷ q)) []) (le-ltb (before (m ∷ q)) (span n (m ∷ q)) (omega (arith, before-later m q t, span-front m q n e)))
+      ∙ sym (no_files m.attached t) ∙ sym (files-front m q n e)
+  by rest false t false d =
+      let e = ap (λ a. a || nat_le n (length m.bytes)) t ∙ d in
+      let high = leb-false _ _ d in
+      (λ i. cond (nat_lt (before-later m q t i) (span-rest m q n e i)) (option_map_or (λ m. m.attached) (find-later m q t i) []) [])
+      ∙ ap (λ b. cond b (first_files q) []) (same (length m.bytes) (before q) (span (n - length m.bytes) q))
+      ∙ rest (omega (arith, high)) ∙ sym (files-rest m q n e)
+
+-- What is taken up to a place, part by part.
+parts : (q : List Message) (n : ℕ) (o : Option Message) → up_to q n o ≡ record { bytes = take (min n (end_of q o)) (joined q); attached = cond (nat_lt (before q) (min n (end_of q o))) (option_map_or (λ m. m.attached) o []) []; trunc = false; rest = cut (min n (end_of q o)) q }
+parts q n None = refl
+parts q n (Some m) = refl
+
+-- A stream's receive by its span.
+pub stream-is : (q : List Message) (n : ℕ) → 0 < n → HaveBytes q → take_stream q n ≡ record { bytes = take (span n q) (joined q); attached = files_in n q; trunc = false; rest = cut (span n q) q }
+stream-is q n some have =
+    parts q n (find has_files q)
+    ∙ (λ i. record { bytes = take (sym (span-is n q) i) (joined q); attached = cond (nat_lt (before q) (sym (span-is n q) i)) (first_files q) []; trunc = false; rest = cut (sym (span-is n q) i) q })
+    ∙ (λ i. record { bytes = take (span n q) (joined q); attached = files-of n q some have i; trunc = false; rest = cut (span n q) q })
+
+-- Its bytes are as many.
+span-long : (n : ℕ) (q : List Message) → length (take (span n q) (joined q)) ≡ span n q
+span-long n q = let most = span-most n q in omega (arith, most, length-take (span n q) (joined q))
+
+-- What is received of a stream.
+pub stream-received : (q : List Message) (n : ℕ) → 0 < n → HaveBytes q
+    → received Stream q n ≡ record { message = record { bytes = take (span n q) (joined q); attached = files_in n q; user = sender_at (span n q) q }; trunc = false }
+stream-received q n some have =
+    (λ i.
+    let taken = stream-is q n some have i in
+    record { message = record { bytes = taken.bytes; attached = taken.attached; user = sender_at (length taken.bytes) q }; trunc = taken.trunc })
+    ∙ ap (λ k. record { message = record { bytes = take (span n q) (joined q); attached = files_in n q; user = sender_at k q }; trunc = false }) (span-long n q)
+
+-- All messages within the limits have bytes.
+pub have-bytes : (q : List Message) → AllByRecursion IsMessageWithin q → HaveBytes q
+have-bytes [] h = tt
+have-bytes (m ∷ q) h = (h.0.some, have-bytes q h.1)
+
+-- What a message that is taken whole gives as a packet it gives as a part of a stream.
+pub whole-received : (q : List Message) (n : ℕ) → 0 < n → HaveBytes q → option_map_or (λ m. length m.bytes) (slice_get q 0) 0 ≡ span n q → received Seqpacket q (span n q) ≡ received Stream q n
+whole-received [] n some have e = sym (stream-received [] n some have)
+whole-received (m ∷ q) n some have e =
+    let long : length (take (span n (m ∷ q)) m.bytes) ≡ span n (m ∷ q) = omega (arith, e, length-take (span n (m ∷ q)) m.bytes) in
+    let bytes : take (span n (m ∷ q)) m.bytes ≡ take (span n (m ∷ q)) (m.bytes ++ joined q) = sym (take-append-le (span n (m ∷ q)) m.bytes (joined q) (omega (arith, e))) in
+    let files : m.attached ≡ files_in n (m ∷ q) = sym (ap (λ o. option_map_or (λ m. m.attached) o []) (at-front m q (span n (m ∷ q)) (omega (arith, e)))) ∙ files-at n (m ∷ q) some have in
+    let whole : nat_lt (span n (m ∷ q)) (length m.bytes) ≡ false = le-ltb (span n (m ∷ q)) (length m.bytes) (omega (arith, e)) in
+    (λ i. record { message = record { bytes = bytes i; attached = files i; user = sender_at (long i) (m ∷ q) }; trunc = whole i }) ∙ sym (stream-received (m ∷ q) n some have)
+
+-- And it leaves the others.
+pub whole-rest : (q : List Message) (n : ℕ) → 0 < n → HaveBytes q → option_map_or (λ m. length m.bytes) (slice_get q 0) 0 ≡ span n q → drop 1 q ≡ (take_stream q n).rest
+whole-rest [] n some have e = sym (ap (λ t. t.rest) (stream-is [] n some have))
+whole-rest (m ∷ q) n some have e = sym (ap (λ t. t.rest) (stream-is (m ∷ q) n some have) ∙ cut-whole m q (span n (m ∷ q)) have.1 (sym e))
+
+-- Where it is not so, something is taken.
+pub part-some : (q : List Message) (n : ℕ) → 0 < n → HaveBytes q → ¬ (option_map_or (λ m. length m.bytes) (slice_get q 0) 0 ≡ span n q) → 0 < span n q
+part-some [] n some have other = absurd (other refl)
+part-some (m ∷ q) n some have other = span-some n m q some have
+
+-- What is copied and cut is what is received.
+pub part-received : (q : List Message) (n k : ℕ) (bytes files : List ℕ) (user : ℕ) → 0 < n → HaveBytes q → k ≡ span n q → bytes ≡ take k (joined q) → files ≡ option_map_or (λ m. m.attached) (message_at k q) [] → user ≡ sender_at k q
+    → record { message = record { bytes = bytes; attached = files; user = user }; trunc = false } ≡ received Stream q n
+part-received q n k bytes files user some have is copied taken sent =
+    (λ i. record { message = record { bytes = copied i; attached = taken i; user = sent i }; trunc = false })
+    ∙ (λ i. record { message = record { bytes = take (is i) (joined q); attached = option_map_or (λ m. m.attached) (message_at (is i) q) []; user = sender_at (is i) q }; trunc = false })
+    ∙ ap (λ fs. record { message = record { bytes = take (span n q) (joined q); attached = fs; user = sender_at (span n q) q }; trunc = false }) (files-at n q some have) ∙ sym (stream-received q n some have)
+
+-- How many files come.
+pub stream-files : (q : List Message) (n : ℕ) → 0 < n → HaveBytes q → length (files_in n q) ≡ length (take_stream q n).attached
+stream-files q n some have = sym (ap (λ t. length t.attached) (stream-is q n some have))
+
+pub packet-files : (q : List Message) (n : ℕ) → option_map_or (λ m. length m.attached) (slice_get q 0) 0 ≡ length (take_seqpacket q n).attached
+packet-files [] n = refl
+packet-files (m ∷ q) n = refl
+
+-- A first message that is long enough has the byte.
+pub first-at : (q : List Message) (k : ℕ) → IfSome (slice_get q 0) (λ m. k ≤ length m.bytes) → slice_get q 0 ≡ message_at k q
+first-at [] k low = refl
+first-at (m ∷ q) k low = sym (at-front m q k low)
+
+-- To shorten it, and to drop it where nothing is left of it, is to cut.
+pub first-cut : (q : List Message) (k : ℕ) → 0 < k → HaveBytes q → IfSome (slice_get q 0) (λ m. k ≤ length m.bytes) → first_kept (first_shortened k q) ≡ cut k q
+first-cut [] k some have low = refl
+first-cut (m ∷ q) k some have low = elim (cases_lt k (length m.bytes)) [
+  | inl part ↦
+      ap (λ b. cond b q (record m { bytes = drop k m.bytes; attached = [] } ∷ q)) (lt-eqb' (omega (arith, length-drop k m.bytes, part))) ∙ sym (cut-part m q k some part)
+  | inr whole ↦
+      ap (λ b. cond b q (record m { bytes = drop k m.bytes; attached = [] } ∷ q)) (eq-eqb (length (drop k m.bytes)) 0 (omega (arith, length-drop k m.bytes, whole))) ∙ sym (cut-whole m q k have.1 (omega (arith, low, whole)))
+] where
+  lt-eqb' : 0 < length (drop k m.bytes) → nat_eq (length (drop k m.bytes)) 0 ≡ false
+  lt-eqb' pos = by (nat_eq (length (drop k m.bytes)) 0) refl where
+    by : (b : Bool) → nat_eq (length (drop k m.bytes)) 0 ≡ b → nat_eq (length (drop k m.bytes)) 0 ≡ false
+    by false e = e
+    by true e = absurd (let is = eqb-true _ _ e in omega (arith, is, pos))
+
+pub within-cut : (c : ℕ) (q : List Message) → AllByRecursion IsMessageWithin q → AllByRecursion IsMessageWithin (cut c q)
+within-cut c [] h = tt
+within-cut c (m ∷ q) h = by (within-cut (c - length m.bytes) q h.1) (nat_le (length m.bytes) c) refl (nat_lt 0 c) where
+  by : AllByRecursion IsMessageWithin (cut (c - length m.bytes) q) → (a : Bool) → nat_le (length m.bytes) c ≡ a → (b : Bool) → AllByRecursion IsMessageWithin (cond a (cut (c - length m.bytes) q) (cond b (record m { bytes = drop c m.bytes; attached = [] } ∷ q) (m ∷ q)))
+  by rest true e b = rest
+  by rest false e false = h
+  by rest false e true = (record { some = (let part = leb-false _ _ e in omega (arith, part, length-drop c m.bytes)); bytes = (let most = h.0.bytes in omega (arith, most, length-drop c m.bytes)); attached = omega arith }, h.1)
+
+pub shorter-cut : (c : ℕ) (q : List Message) → length (cut c q) ≤ length q
+shorter-cut c [] = omega arith
+shorter-cut c (m ∷ q) = by (shorter-cut (c - length m.bytes) q) (nat_le (length m.bytes) c) (nat_lt 0 c) where
+  by : length (cut (c - length m.bytes) q) ≤ length q → (a b : Bool) → length (cond a (cut (c - length m.bytes) q) (cond b (record m { bytes = drop c m.bytes; attached = [] } ∷ q) (m ∷ q))) ≤ suc (length q)
+  by rest true b = omega (arith, rest)
+  by rest false true = omega arith
+  by rest false false = omega arith

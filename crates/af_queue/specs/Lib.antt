@@ -1,0 +1,4 @@
+-- A queue as a list of messages, and what a receive takes from it.
+pub mod Queued
+pub mod Received
+pub mod Streams

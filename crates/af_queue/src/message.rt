@@ -1,0 +1,108 @@
+//! A message in a queue.
+ghost use Rattle.std.specs.Prelude.{◌≡◌, ◌≤◌, ◌<◌, [], length, drop, take, nat_lt};
+ghost use Rattle.smallvec.specs.SmallVec.{small_vec_len};
+
+use crate::taken::Taken;
+use af_base::limits::SCM_MAX_FD;
+use af_base::names::{FileRef, Uid};
+use smallvec::SmallVec;
+use std::alloc::Global;
+use std::marker::Model;
+use std::mem;
+
+/// The files that travel with a message: up to four of them need no allocation.
+pub type Attached = SmallVec<FileRef, 4>;
+
+/// A message in a queue: its bytes, the files that travel with it, and who is charged for them.
+#[derive(Drop)]
+pub struct Msg {
+    bytes: Vec<u8>,
+    /// So many of its first bytes were received before.
+    begin: usize,
+    attached: Attached,
+    user: Uid,
+}
+
+impl Model for Msg {
+    ghost use Rattle.std.specs.Prelude.{◌≤◌, vec_len, drop};
+    ghost use Rattle.smallvec.specs.SmallVec.{small_vec_len};
+    ghost use Rattle.af_base.specs.World as world;
+    ghost use Rattle.af_base.specs.declared.limits.TheConstants.{SCM_MAX_FD};
+
+    ghost Value = { world.Message };
+
+    ghost view = { λ a. record { bytes = drop a.begin a.bytes.items; attached = a.attached.items; user = a.user } };
+
+    ghost invariant = { λ a. (a.begin ≤ vec_len a.bytes) × (small_vec_len a.attached ≤ SCM_MAX_FD) };
+}
+
+impl Msg {
+    /// A message of these parts, at most 253 files among them. It takes no memory.
+    pub fn new(bytes: Vec<u8>, attached: Attached, user: Uid) -> Msg
+        requires few { small_vec_len attached ≤ SCM_MAX_FD }
+        ensures { result ≡ record { bytes = bytes.items; attached = attached.items; user = user } }
+    {
+        Msg {
+            bytes,
+            begin: 0,
+            attached,
+            user,
+        }
+    }
+
+    /// The bytes of it that were not received yet.
+    pub fn bytes(&self) -> &[u8]
+        ensures { result.now ≡ self.now.bytes }
+    {
+        &self.bytes[self.begin..]
+    }
+
+    /// How many they are.
+    pub fn len(&self) -> usize
+        ensures { result ≡ length self.now.bytes }
+    {
+        self.bytes.len() - self.begin
+    }
+
+    /// The files that travel with it.
+    pub fn attached(&self) -> &[FileRef]
+        ensures value { result.now ≡ self.now.attached }
+        ensures bound { length result.now ≤ SCM_MAX_FD }
+    {
+        self.attached.as_slice()
+    }
+
+    /// The user who is charged for the files that travel with it.
+    pub fn user(&self) -> Uid
+        ensures { result ≡ self.now.user }
+    {
+        self.user
+    }
+
+    /// Its first bytes are gone, and its files with them, which are handed on. It takes no memory.
+    pub(crate) fn shorten(&mut self, alloc: Global, bytes: usize) -> Attached
+        requires { bytes ≤ length self.old.bytes }
+        ensures files { result.items ≡ self.old.attached }
+        ensures bound { small_vec_len result ≤ SCM_MAX_FD }
+        ensures rest { self.new ≡ record self.old { bytes = drop bytes self.old.bytes; attached = [] } }
+    {
+        self.begin += bytes;
+        mem::replace(&mut self.attached, SmallVec::new(alloc))
+    }
+
+    /// It as a receive of at most so many bytes takes it whole. It takes no memory.
+    pub(crate) fn into_taken(self, max: usize) -> Taken
+        ensures { result ≡ record { message = record self { bytes = take max self.bytes }; trunc = nat_lt max (length self.bytes) } }
+    {
+        let trunc = self.len() > max;
+        let Msg {
+            mut bytes,
+            begin,
+            attached,
+            user,
+        } = self;
+        bytes.drain(..begin);
+        bytes.truncate(max);
+        Taken::new(bytes, attached, user, trunc)
+    }
+}

@@ -1,0 +1,84 @@
+//! What a receive takes.
+ghost use Rattle.std.specs.Prelude.{◌≡◌, ◌≤◌, length};
+ghost use Rattle.smallvec.specs.SmallVec.{small_vec_len};
+ghost use Rattle.af_queue.specs.Received.{nothing_received};
+
+use crate::message::Attached;
+use af_base::limits::SCM_MAX_FD;
+use af_base::names::{FileRef, Uid};
+use smallvec::SmallVec;
+use std::alloc::Global;
+use std::marker::Model;
+
+/// What a receive takes: a message of its own, and whether bytes were dropped.
+#[derive(Drop)]
+pub struct Taken {
+    bytes: Vec<u8>,
+    attached: Attached,
+    user: Uid,
+    trunc: bool,
+}
+
+impl Model for Taken {
+    ghost use Rattle.std.specs.Prelude.{◌≤◌};
+    ghost use Rattle.smallvec.specs.SmallVec.{small_vec_len};
+    ghost use Rattle.af_queue.specs.Received.{Received};
+    ghost use Rattle.af_base.specs.declared.limits.TheConstants.{SCM_MAX_FD};
+
+    ghost Value = { Received };
+
+    ghost view = { λ a. record { message = record { bytes = a.bytes.items; attached = a.attached.items; user = a.user }; trunc = a.trunc } };
+
+    ghost invariant = { λ a. small_vec_len a.attached ≤ SCM_MAX_FD };
+}
+
+impl Taken {
+    /// These parts.
+    pub(crate) fn new(bytes: Vec<u8>, attached: Attached, user: Uid, trunc: bool) -> Taken
+        requires few { small_vec_len attached ≤ SCM_MAX_FD }
+        ensures { result ≡ record { message = record { bytes = bytes.items; attached = attached.items; user = user }; trunc = trunc } }
+    {
+        Taken {
+            bytes,
+            attached,
+            user,
+            trunc,
+        }
+    }
+
+    /// Nothing at all. It takes no memory.
+    pub fn nothing(alloc: Global) -> Taken
+        ensures { result ≡ nothing_received }
+    {
+        Taken::new(Vec::new(alloc), SmallVec::new(alloc), Uid(0), false)
+    }
+
+    /// The files that came.
+    pub fn attached(&self) -> &[FileRef]
+        ensures value { result.now ≡ self.now.message.attached }
+        ensures bound { length result.now ≤ SCM_MAX_FD }
+    {
+        self.attached.as_slice()
+    }
+
+    /// The user who was charged for them.
+    pub fn user(&self) -> Uid
+        ensures { result ≡ self.now.message.user }
+    {
+        self.user
+    }
+
+    /// Whether bytes were dropped (recvmsg(2), MSG_TRUNC).
+    pub fn trunc(&self) -> bool
+        ensures { result ≡ self.now.trunc }
+    {
+        self.trunc
+    }
+
+    /// The bytes that came.
+    pub fn into_bytes(self) -> Vec<u8>
+        ensures { result.items ≡ self.message.bytes }
+    {
+        self.bytes
+    }
+}
