@@ -50,6 +50,8 @@ whole-add_user w u k = by (list_any (nat_eq u) w.users) where
     next_ino = k.next_ino;
     next_pid = k.next_pid;
     peers = k.peers;
+    names = k.names;
+    embryos = k.embryos;
   }
 
 -- One user more in the list.
@@ -78,6 +80,8 @@ whole-add_process w q k live = record {
   next_ino = k.next_ino;
   next_pid = omega arith;
   peers = k.peers;
+  names = k.names;
+  embryos = k.embryos;
 }
 
 -- With a process more come the places of its table.

@@ -38,6 +38,8 @@ module _ (w : World) (p : ℕ) where
     next_ino = k.next_ino;
     next_pid = k.next_pid;
     peers = k.peers;
+    names = k.names;
+    embryos = k.embryos;
   } where
     numbered : (r : ℕ) (o : Option Process) → map.get (remove_process w p).processes r ≡ o → is_some o ≡ true → r < w.next_pid
     numbered r None e l = absurd (false≢true l)

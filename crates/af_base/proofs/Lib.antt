@@ -13,6 +13,8 @@ pub mod Lookups
 pub mod Totals
 pub mod Dropped
 pub mod Moved
+pub mod Named
+pub mod Embryos
 pub mod Takes
 pub mod Free
 pub mod Placed
@@ -22,6 +24,7 @@ pub mod Born
 pub mod Pairs
 pub mod Within
 pub mod Opened
+pub mod Connections
 pub mod Ended
 pub mod Replaced
 pub mod Sound

@@ -1,5 +1,5 @@
 -- Where places come from and where they go, under each change.
-use Rattle.std.proofs.Common.{◌≡◌, ℕ, Bool, true, false, ◌⊎◌, inl, inr, [], refl, sym, ap, ◌∙◌, subst, cond}
+use Rattle.std.proofs.Common.{◌≡◌, ℕ, Bool, true, false, ◌⊎◌, inl, inr, [], refl, sym, ap, ◌∙◌, subst, cond, nat_eq, arith}
 use Rattle.std.specs.Prelude.{Option, Some, None, option_map}
 use Rattle.std.specs.Option.{option_map_or}
 use Rattle.std.specs.List.{Contains}
@@ -8,10 +8,12 @@ use Rattle.std.specs.FinMap as map
 use Rattle.af_base.specs.declared.events.State.TheVariants as state
 use Rattle.af_base.specs.World.{AsSocket, File, Map, Plain, Process, Socket, World, is_live}
 use Rattle.af_base.specs.Places.{Holds, InTable, contents, table_at}
+use Rattle.af_base.specs.Counts.{total_of}
 use Rattle.af_base.specs.Changes.{file_with, install, uninstall, with_socket, with_table}
 use Rattle.af_base.specs.Whole.{state_at, state_of}
 use Rattle.af_base.proofs.Settling.{none_in}
 use Rattle.af_base.proofs.Stepping.{get-change_at}
+use Rattle.af_base.proofs.Sums.{total-change_at}
 use Rattle.af_base.proofs.Lookups.{changed-live, changed-was, insert-here, insert-other, none_some, remove-here, remove-other, same_or_not, some_same}
 
 -- What a number stands for stands in a process's table.
@@ -39,6 +41,36 @@ there-holds w s f x e h = subst (λ o. Contains (option_map_or contents o []) f)
 -- A socket's change leaves every file where it is.
 pub live-changed : (w : World) (s : ℕ) (g : Socket → Socket) (q : ℕ) → is_live (with_socket w s g) q ≡ is_live w q
 live-changed w s g q = changed-live (file_with g) w.files s q
+
+-- A socket that was changed is there.
+pub there-changed : (w : World) (s : ℕ) (g : Socket → Socket) (x : Socket) → map.get w.files s ≡ Some (AsSocket x) → map.get (with_socket w s g).files s ≡ Some (AsSocket (g x))
+there-changed w s g x at = ap (λ o. map.get (option_map_or (λ y. map.insert w.files s (file_with g y)) o w.files) s) at ∙ insert-here w.files s (AsSocket (g x))
+
+-- The other files are there as before.
+pub others-changed : (w : World) (s : ℕ) (g : Socket → Socket) (q : ℕ) → nat_eq q s ≡ false → map.get (with_socket w s g).files q ≡ map.get w.files q
+others-changed w s g q apart = by (map.get w.files s) where
+  by : (o : Option File) → map.get (option_map_or (λ y. map.insert w.files s (file_with g y)) o w.files) q ≡ map.get w.files q
+  by None = refl
+  by (Some y) = insert-other w.files s (file_with g y) q apart
+
+-- Whom a file that is there talks to.
+pub state-there : (w : World) (f : ℕ) (x : File) → map.get w.files f ≡ Some x → state_at w f ≡ state_of x
+state-there w f x at = ap (λ o. option_map_or state_of o state.Idle) at
+
+-- Whom another file talks to stays.
+pub state-others : (w : World) (s : ℕ) (g : Socket → Socket) (q : ℕ) → nat_eq q s ≡ false → state_at (with_socket w s g) q ≡ state_at w q
+state-others w s g q apart = ap (λ o. option_map_or state_of o state.Idle) (others-changed w s g q apart)
+
+-- What no change of a socket alters adds up to the same.
+pub total-changed : (F : File → ℕ) (w : World) (s : ℕ) (g : Socket → Socket) → ((x : Socket) → F (AsSocket (g x)) ≡ F (AsSocket x)) → total_of F (with_socket w s g).files ≡ total_of F w.files
+total-changed F w s g same = by (map.get w.files s) refl where
+  each : (x : File) → F (file_with g x) ≡ F x
+  each Plain = refl
+  each (AsSocket x) = same x
+
+  by : (o : Option File) → map.get w.files s ≡ o → total_of F (with_socket w s g).files ≡ total_of F w.files
+  by None e = ap (λ o. total_of F (option_map_or (λ y. map.insert w.files s (file_with g y)) o w.files)) e
+  by (Some x) e = omega (arith, each x, total-change_at F (file_with g) w.files s x e)
 
 -- A socket's change that leaves alone whom it talks to.
 pub state-changed : (w : World) (s : ℕ) (g : Socket → Socket) → ((x : Socket) → (g x).state ≡ x.state) → (q : ℕ) → state_at (with_socket w s g) q ≡ state_at w q

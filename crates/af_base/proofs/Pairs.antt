@@ -1,5 +1,5 @@
 -- Two sockets that are new, connected to each other.
-use Rattle.std.proofs.Common.{◌≡◌, ℕ, ◌+◌, false, ◌⊎◌, inl, inr, [], refl, sym, ap, ◌∙◌, subst, cond, nat_eq, arith}
+use Rattle.std.proofs.Common.{◌≡◌, ℕ, ◌+◌, false, ◌⊎◌, inl, inr, List, [], refl, sym, ap, ◌∙◌, subst, cond, nat_eq, arith}
 use Rattle.std.specs.Prelude.{Option, Some, None, is_some, IsTrue}
 use Rattle.std.specs.Option.{option_map_or}
 use Rattle.std.specs.List.{Contains}
@@ -13,10 +13,12 @@ use Rattle.af_base.specs.Counts.{count_in, one, refs}
 use Rattle.af_base.specs.Unheld.{IsSettled}
 use Rattle.af_base.specs.Changes.{add_file, install}
 use Rattle.af_base.specs.Steps.{connected_socket, with_pair}
-use Rattle.af_base.specs.Whole.{AreMutual, IsWhole, state_at, state_of}
+use Rattle.af_base.specs.Whole.{AreMutual, IsWhole, name_at, state_at, state_of}
 use Rattle.af_base.proofs.Born.{fresh_file}
 use Rattle.af_base.proofs.Placed.{settled-counted, settled-held}
-use Rattle.af_base.proofs.Lookups.{insert-here, insert-other, same_or_not, told_apart}
+use Rattle.af_base.proofs.Lookups.{insert-here, insert-other, none_some, same_or_not, told_apart}
+use Rattle.af_base.proofs.Embryos.{waiting-add_file}
+use Rattle.af_base.proofs.Named.{name-there, names-kept}
 use Rattle.af_base.proofs.Moved.{there-install}
 use Rattle.af_base.proofs.Places.{refs-install}
 use Rattle.af_base.proofs.Settling.{none_in}
@@ -107,6 +109,16 @@ module _ (w : World) (kind : SockType) where
     ]
   ]
 
+  -- The new sockets have no name.
+  name_before : (f : ℕ) (name : List ℕ) → name_at new f ≡ Some name → name_at w f ≡ Some name
+  name_before f name e = elim (which f) [
+    | inl s ↦ absurd (none_some name (sym (name-there new f (Some (AsSocket (connected_socket kind b))) (ap (map.get new.files) s ∙ first_there)) ∙ e))
+    | inr r ↦ elim r [
+      | inl s ↦ absurd (none_some name (sym (name-there new f (Some (AsSocket (connected_socket kind a))) (ap (map.get new.files) s ∙ second_there)) ∙ e))
+      | inr s ↦ name-there w f (map.get new.files f) (sym s) ∙ e
+    ]
+  ]
+
   -- Two sockets more.
   pub whole-pair : IsWhole w → IsWhole new
   whole-pair k = record {
@@ -130,6 +142,12 @@ module _ (w : World) (kind : SockType) where
     next_ino = omega arith;
     next_pid = k.next_pid;
     peers = mutual-pair k;
+    names = names-kept w new (λ f name e. name_before f name e) k.names;
+    embryos = λ f.
+        let once = k.embryos f in
+        let one_more = waiting-add_file w (AsSocket (connected_socket kind b)) refl f in
+        let two_more = waiting-add_file (add_file w (AsSocket (connected_socket kind b))) (AsSocket (connected_socket kind a)) refl f in
+        omega (arith, once, one_more, two_more);
   }
 
   -- They have no place yet, and add none.

@@ -1,5 +1,5 @@
 -- A world with some queues emptied stays whole and within the limits, and one purged stays sound.
-use Rattle.std.proofs.Common.{◌≡◌, ◌≤◌, ℕ, Bool, true, false, inl, inr, length, refl, sym, ap, ◌∙◌, subst, arith}
+use Rattle.std.proofs.Common.{◌≡◌, ◌≤◌, ℕ, Bool, true, false, inl, inr, [], length, refl, sym, ap, ◌∙◌, subst, arith}
 use Rattle.std.specs.Prelude.{Option, Some, None, option_map, if◌then◌else◌}
 use Rattle.std.specs.Option.{option_map_or}
 use Rattle.std.specs.List.{sum_by}
@@ -7,13 +7,14 @@ use Rattle.std.specs.FinMap as map
 use Rattle.af_base.specs.declared.events.Reply.{Reply}
 use Rattle.af_base.specs.declared.events.State.TheVariants as state
 use Rattle.af_base.specs.World.{AsSocket, File, Plain, Socket, World}
-use Rattle.af_base.specs.Places.{queue_of}
-use Rattle.af_base.specs.Counts.{total_of}
+use Rattle.af_base.specs.Places.{backlog_of, queue_of}
+use Rattle.af_base.specs.Counts.{count_in, total_of}
 use Rattle.af_base.specs.Refusals.{socket_of}
 use Rattle.af_base.specs.Pass.{Idle, Machine, Pass, PassesWhole, Purges, Running, emptied, empty_file}
 use Rattle.af_base.specs.Whole.{IsSocketWithin, IsSound, IsWhole, IsWithin, state_at, state_of}
 use Rattle.af_base.proofs.Elements.{Contains-none}
 use Rattle.af_base.proofs.Lookups.{none_some, some_same}
+use Rattle.af_base.proofs.Named.{name-there, name_of, named-there, names-kept}
 use Rattle.af_base.proofs.Purging.{from_emptied, get-emptied, live-emptied}
 use Rattle.af_base.proofs.Sound.{sound-settles}
 use Rattle.af_base.proofs.Totals.{total-below, total-count}
@@ -36,6 +37,15 @@ module _ (t : ℕ → Bool) (w : World) where
     each true (Some (AsSocket s)) = refl
     each false (Some x) = refl
 
+  -- What weighs no more where it is emptied adds up to no more.
+  fewer : (F : File → ℕ) → ((x : File) → F (empty_file x) ≤ F x) → total_of F (emptied t w).files ≤ total_of F w.files
+  fewer F low = total-below F F (emptied t w).files w.files (λ f y is.
+      let was = emptied-was f y is in
+      (was.0, was.1, subst (λ z. F z ≤ F was.0) was.2 (at (t f) was.0))) where
+        at : (b : Bool) (x : File) → F (if b then empty_file x else x) ≤ F x
+        at true x = low x
+        at false x = omega arith
+
   -- A whole world stays whole.
   pub whole-emptied : IsWhole w → IsWhole (emptied t w)
   whole-emptied k = record {
@@ -47,16 +57,23 @@ module _ (t : ℕ → Bool) (w : World) where
     next_ino = k.next_ino;
     next_pid = k.next_pid;
     peers = λ f p e. state_at-emptied p ∙ k.peers f p (sym (state_at-emptied f) ∙ e);
-  }
+    names = names-kept w (emptied t w) (λ f name e.
+        let new = named-there (emptied t w) f name e in
+        let was = emptied-was f new.0 new.1 in
+        name-there w f (Some was.0) was.1 ∙ sym (same_name (t f) was.0) ∙ ap name_of was.2 ∙ new.2) k.names;
+    embryos = λ f.
+        let once = k.embryos f in
+        let less = fewer (λ x. count_in f (backlog_of x)) (λ x. no_more f x) in
+        omega (arith, once, less);
+  } where
+    same_name : (b : Bool) (x : File) → name_of (if b then empty_file x else x) ≡ name_of x
+    same_name true Plain = refl
+    same_name true (AsSocket s) = refl
+    same_name false x = refl
 
-  -- What weighs no more where it is emptied adds up to no more.
-  fewer : (F : File → ℕ) → ((x : File) → F (empty_file x) ≤ F x) → total_of F (emptied t w).files ≤ total_of F w.files
-  fewer F low = total-below F F (emptied t w).files w.files (λ f y is.
-      let was = emptied-was f y is in
-      (was.0, was.1, subst (λ z. F z ≤ F was.0) was.2 (at (t f) was.0))) where
-        at : (b : Bool) (x : File) → F (if b then empty_file x else x) ≤ F x
-        at true x = low x
-        at false x = omega arith
+    no_more : (f : ℕ) (x : File) → count_in f (backlog_of (empty_file x)) ≤ count_in f (backlog_of x)
+    no_more f Plain = omega arith
+    no_more f (AsSocket s) = let none : count_in f [] ≡ 0 = refl in omega (arith, none)
 
   -- A world within the limits stays within them.
   pub within-emptied : IsWithin w → IsWithin (emptied t w)
@@ -81,7 +98,7 @@ module _ (t : ℕ → Bool) (w : World) where
 
     by : (b : Bool) (x : File) (s : Socket) → ((y : Socket) → x ≡ AsSocket y → IsSocketWithin y) → (if b then empty_file x else x) ≡ AsSocket s → IsSocketWithin s
     by true Plain s fits d = absurd (none_some s (ap socket_of d))
-    by true (AsSocket y) s fits d = subst IsSocketWithin (socket_same _ s d) (record { queue = omega arith; backlog = omega arith; messages = λ m h. absurd (Contains-none m h) })
+    by true (AsSocket y) s fits d = subst IsSocketWithin (socket_same _ s d) (let before = fits y refl in record { queue = omega arith; room = before.room; backlog = omega arith; name = before.name; messages = λ m h. absurd (Contains-none m h) })
     by false x s fits d = fits s d
 
 -- A sound world, purged, is sound.

@@ -30,10 +30,12 @@ each false b p q = p
 number_itself : (x : ℕ) → nat_eq x x ≡ true
 number_itself x = eq-eqb x x refl
 
-list_same : (xs ys : List ℕ) → pointwise nat_eq xs ys ≡ true → xs ≡ ys
+-- Byte lists that compare equal are one list.
+pub list_same : (xs ys : List ℕ) → pointwise nat_eq xs ys ≡ true → xs ≡ ys
 list_same xs ys e = (slice_eq-Decides Decides-eqb xs ys (pointwise nat_eq xs ys) refl).0 e
 
-list_itself : (xs : List ℕ) → pointwise nat_eq xs xs ≡ true
+-- Each list compares equal to itself.
+pub list_itself : (xs : List ℕ) → pointwise nat_eq xs xs ≡ true
 list_itself xs = (slice_eq-Decides Decides-eqb xs xs (pointwise nat_eq xs xs) refl).1 refl
 
 pub step_same : (a b : Step) → step_eq.ghosts.eq a b ≡ true → a ≡ b
@@ -45,6 +47,12 @@ step_same step.Fork step.Fork e = refl
 step_same step.Exit step.Exit e = refl
 step_same (step.Pair Stream) (step.Pair Stream) e = refl
 step_same (step.Pair Seqpacket) (step.Pair Seqpacket) e = refl
+step_same (step.Socket Stream) (step.Socket Stream) e = refl
+step_same (step.Socket Seqpacket) (step.Socket Seqpacket) e = refl
+step_same (step.Bind x z) (step.Bind y w) e = let h = both _ _ e in λ i. step.Bind (eqb-true x y h.0 i) (list_same z w h.1 i)
+step_same (step.Listen x z) (step.Listen y w) e = let h = both _ _ e in λ i. step.Listen (eqb-true x y h.0 i) (eqb-true z w h.1 i)
+step_same (step.Connect x z) (step.Connect y w) e = let h = both _ _ e in λ i. step.Connect (eqb-true x y h.0 i) (list_same z w h.1 i)
+step_same (step.Accept x) (step.Accept y) e = ap step.Accept (eqb-true x y e)
 step_same (step.Send x z t) (step.Send y w u) e =
     let h = both _ _ e in
     let k = both _ _ h.1 in
@@ -64,6 +72,12 @@ step_itself step.Fork = refl
 step_itself step.Exit = refl
 step_itself (step.Pair Stream) = refl
 step_itself (step.Pair Seqpacket) = refl
+step_itself (step.Socket Stream) = refl
+step_itself (step.Socket Seqpacket) = refl
+step_itself (step.Bind x z) = each _ _ (number_itself x) (list_itself z)
+step_itself (step.Listen x z) = each _ _ (number_itself x) (number_itself z)
+step_itself (step.Connect x z) = each _ _ (number_itself x) (list_itself z)
+step_itself (step.Accept x) = number_itself x
 step_itself (step.Send x z t) = each _ _ (number_itself x) (each _ _ (list_itself z) (list_itself t))
 step_itself (step.Recv x z t) = each _ _ (number_itself x) (each _ _ (number_itself z) (number_itself t))
 

@@ -8,12 +8,14 @@ use Rattle.std.specs.FinMap as map
 use Rattle.std.proofs.lemmas.Bool.{cases_Bool, false≢true}
 use Rattle.af_base.specs.declared.events.State.TheVariants as state
 use Rattle.af_base.specs.World.{AsSocket, File, Process, World, empty_world}
-use Rattle.af_base.specs.Places.{queue_of}
+use Rattle.af_base.specs.Places.{backlog_of, queue_of}
+use Rattle.af_base.specs.Counts.{count_in}
 use Rattle.af_base.specs.Unheld.{Goes, IsSettled, Settles, Unheld, without}
 use Rattle.af_base.specs.Whole.{IsSound, IsWhole, IsWithin, state_of}
 use Rattle.af_base.proofs.Born.{total-empty}
 use Rattle.af_base.proofs.Lookups.{none_some}
 use Rattle.af_base.proofs.Moved.{holds-there, table-there}
+use Rattle.af_base.proofs.Named.{named-there}
 use Rattle.af_base.proofs.Settling.{live-without, stays, to_without}
 use Rattle.af_base.proofs.Whole.{not_connected, whole-settles}
 use Rattle.af_base.proofs.Within.{within-settles}
@@ -53,6 +55,8 @@ fresh_whole = record {
   next_ino = omega arith;
   next_pid = omega arith;
   peers = λ f p e. not_connected state.Idle p refl (sym (ap (λ o. option_map_or state_of o state.Idle) (no_file f)) ∙ e);
+  names = λ f g name e d. let at = named-there empty_world f name e in absurd (none_some at.0 (sym (no_file f) ∙ at.1));
+  embryos = λ f. omega (arith, total-empty (λ x. count_in f (backlog_of x)));
 }
 
 -- The world is within the limits at first.

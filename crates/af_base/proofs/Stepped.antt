@@ -1,42 +1,45 @@
 -- Each step of a process, and each start of one, leaves the world sound.
 use Rattle.std.proofs.Common.{◌≡◌, ◌<◌, ◌≤◌, ℕ, zero, suc, ◌+◌, Bool, true, false, not, ◌&&◌, inl, inr, List, [], ◌∷◌, length, min, refl, sym, ap, ◌∙◌, subst, nat_eq, arith}
-use Rattle.std.specs.Prelude.{Option, Some, None, is_some, is_none, unwrap_or, filter_map, nat_le, if◌then◌else◌, ⊤}
+use Rattle.std.specs.Prelude.{Option, Some, None, is_some, is_none, unwrap_or, filter_map, nat_le, slice_get, if◌then◌else◌, ⊤}
 use Rattle.std.specs.Option.{option_and_then, option_map_or}
-use Rattle.std.specs.List.{Contains, cons_option, zip}
+use Rattle.std.specs.List.{Contains, cons_option}
 use Rattle.std.specs.FinMap as map
-use Rattle.std.proofs.lemmas.Bool.{false≢true, leb-false, ltb-false}
+use Rattle.std.proofs.lemmas.Bool.{false≢true, leb-false, leb-true, ltb-false}
 use Rattle.af_base.specs.declared.errno.Errno.{Errno}
 use Rattle.af_base.specs.declared.errno.Errno.TheVariants.{ESRCH}
 use Rattle.af_base.specs.declared.events.Reply.{Reply}
 use Rattle.af_base.specs.declared.events.SockType.{SockType}
-use Rattle.af_base.specs.declared.events.SockType.TheVariants.{Seqpacket}
 use Rattle.af_base.specs.declared.events.State.{State}
 use Rattle.af_base.specs.declared.events.State.TheVariants as state
 use Rattle.af_base.specs.declared.events.Step.{Step}
 use Rattle.af_base.specs.declared.events.Step.TheVariants as step
-use Rattle.af_base.specs.declared.limits.TheConstants.{MAX_BYTES, MAX_INFLIGHT, MAX_MESSAGES, MAX_NOFILE, SCM_MAX_FD}
-use Rattle.af_base.specs.World.{AsSocket, File, IsLive, Message, Plain, Process, Socket, World}
+use Rattle.af_base.specs.declared.limits.TheConstants.{MAX_BACKLOG, MAX_BYTES, MAX_INFLIGHT, MAX_MESSAGES, MAX_NOFILE, SCM_MAX_FD}
+use Rattle.af_base.specs.World.{AsSocket, File, IsLive, Plain, Process, Socket, World}
 use Rattle.af_base.specs.Places.{queue_at, queue_of, table_at}
 use Rattle.af_base.specs.Counts.{total}
-use Rattle.af_base.specs.Changes.{install, install_all, with_queue}
-use Rattle.af_base.specs.Refusals.{Row, first_fit, ino_on, is_connected, is_hung_up, is_short, no_process, no_socket, peer_of, process_at, refusal, socket_at, socket_of, socket_on, spawn_refusal, spawn_row, step_row}
-use Rattle.af_base.specs.Steps.{Outcome, ProcessStep, SpawnStep, answer, effect, free_at, needs_no_memory, spawned}
+use Rattle.af_base.specs.Changes.{dequeued, add_file, install, with_queue, with_socket}
+use Rattle.af_base.specs.Names.{named}
+use Rattle.af_base.specs.Refusals.{Row, first_fit, ino_named, ino_on, is_connected, is_hung_up, is_listening, is_short, no_process, no_socket, peer_of, process_at, refusal, room_of, socket_at, socket_named, socket_of, socket_on, spawn_refusal, spawn_row, step_row}
+use Rattle.af_base.specs.Steps.{Outcome, ProcessStep, SpawnStep, answer, effect, first_embryo, free_at, idle_socket, needs_no_memory, spawned}
 use Rattle.af_base.specs.Table.{free_numbers, lowest_free}
-use Rattle.af_base.specs.Take.{Taken, take_from, take_seqpacket}
+use Rattle.af_base.specs.Take.{take_from}
 use Rattle.af_base.specs.Whole.{IsSound, IsWhole, IsWithin, state_at, state_of}
-use Rattle.af_base.proofs.Elements.{Contains-none, Contains-rest}
+use Rattle.af_base.proofs.Elements.{Contains-first, Contains-none, Contains-rest}
 use Rattle.af_base.proofs.Free.{free-free_numbers, free-lowest_free}
-use Rattle.af_base.proofs.Lookups.{none_some, not_same, same_or_not}
-use Rattle.af_base.proofs.Moved.{there-table}
-use Rattle.af_base.proofs.Opened.{whole-opened, within-opened}
+use Rattle.af_base.proofs.Lookups.{none_some, not_same, same_or_not, some_same, told_apart}
+use Rattle.af_base.proofs.Moved.{live-changed, there-table}
+use Rattle.af_base.proofs.Opened.{blank-idle, blank-plain, whole-opened, within-blank, within-plain}
+use Rattle.af_base.proofs.Connections.{live-embryo, whole-accepted, whole-bound, whole-embryo, whole-listening, within-accepted, within-bound, within-embryo, within-listening}
+use Rattle.af_base.proofs.Named.{named-none}
 use Rattle.af_base.proofs.Ended.{whole-remove_process, within-remove_process}
 use Rattle.af_base.proofs.Pairs.{whole-paired}
+use Rattle.af_base.proofs.Same.{both}
 use Rattle.af_base.proofs.Sound.{sound-settles}
 use Rattle.af_base.proofs.Trees.{insert_same}
 use Rattle.af_base.proofs.Born.{whole-add_process, whole-spawned}
 use Rattle.af_base.proofs.Takes.{leaves-taken}
-use Rattle.af_base.proofs.Whole.{not_connected, whole-install, whole-install_all, whole-push, whole-take, whole-uninstall}
-use Rattle.af_base.proofs.Within.{neither, within-add_process, within-install, within-install_all, within-paired, within-push, within-spawned, within-take, within-uninstall}
+use Rattle.af_base.proofs.Whole.{not_connected, whole-install, whole-push, whole-take, whole-uninstall}
+use Rattle.af_base.proofs.Within.{neither, socket_same, within-add_process, within-install, within-paired, within-push, within-spawned, within-take, within-uninstall}
 
 -- A test that does not fit, and what follows it.
 pub record Passed (test : Bool) (Rest : Type 0) : Type 0 where
@@ -81,6 +84,35 @@ connected-to state.Idle e d = absurd (false≢true (sym e))
 connected-to (state.Listening b) e d = absurd (false≢true (sym e))
 connected-to (state.Connected p) e d = refl
 connected-to state.HungUp e d = absurd (false≢true (sym d))
+
+-- Who was never connected and does not listen is idle.
+pub never-connected : (t : State) → is_connected t ≡ false → is_listening t ≡ false → t ≡ state.Idle
+never-connected state.Idle e d = refl
+never-connected (state.Listening b) e d = absurd (false≢true (sym d))
+never-connected (state.Connected p) e d = absurd (false≢true (sym e))
+never-connected state.HungUp e d = absurd (false≢true (sym e))
+
+-- Where the denial of a test does not fit, the test does.
+holds : {b : Bool} → not b ≡ false → b ≡ true
+holds {b = true} e = refl
+holds {b = false} e = absurd (false≢true (sym e))
+
+-- Where a test for somebody does not fit, there is nobody.
+no_one : (o : Option ℕ) → not (is_none o) ≡ false → o ≡ None
+no_one None e = refl
+no_one (Some f) e = absurd (false≢true (sym e))
+
+-- A name that gives a listener is that of a socket that is there.
+pub listener-there : (w : World) (name : List ℕ) → not (is_listening (socket_named w name).state) ≡ false → map.get w.files (ino_named w name) ≡ Some (AsSocket (socket_named w name))
+listener-there w name = by (named w.files name) where
+  at : (o : Option File) → not (is_listening (unwrap_or (option_and_then socket_of o) no_socket).state) ≡ false → o ≡ Some (AsSocket (unwrap_or (option_and_then socket_of o) no_socket))
+  at None e = absurd (false≢true (sym e))
+  at (Some Plain) e = absurd (false≢true (sym e))
+  at (Some (AsSocket s)) e = refl
+
+  by : (t : Option ℕ) → not (is_listening (unwrap_or (option_and_then (socket_at w) t) no_socket).state) ≡ false → map.get w.files (unwrap_or t 0) ≡ Some (AsSocket (unwrap_or (option_and_then (socket_at w) t) no_socket))
+  by None e = absurd (false≢true (sym e))
+  by (Some f) e = at (map.get w.files f) e
 
 -- Who is connected is a socket.
 pub connected-socket : (w : World) (f p : ℕ) → state_at w f ≡ state.Connected p → (x : Socket) × (map.get w.files f ≡ Some (AsSocket x))
@@ -140,7 +172,71 @@ live-on w p n k = by (table_at w p n) refl where
 
 -- A file opened fits.
 fits-open : (w : World) (p : ℕ) → Fits w → map.get w.processes p ≡ Some (process_at w p) → NoneFits (step_row w p step.Open) → Fits (effect w p step.Open)
-fits-open w p k at row = (whole-opened w p (free_at w p 0) k.0, within-opened w p (free_at w p 0) (process_at w p) k.1 row.rest.here at (lowest-below w p row.here))
+fits-open w p k at row = (
+  whole-opened w Plain blank-plain p (free_at w p 0) refl k.0,
+  within-install (add_file w Plain) p (free_at w p 0) w.next_ino (process_at w p) (within-plain w k.1 row.rest.here) at (lowest-below w p row.here),
+)
+
+-- A socket more fits.
+fits-socket : (w : World) (p : ℕ) (kind : SockType) → Fits w → map.get w.processes p ≡ Some (process_at w p) → NoneFits (step_row w p (step.Socket kind)) → Fits (effect w p (step.Socket kind))
+fits-socket w p kind k at row = (
+  whole-opened w (AsSocket (idle_socket kind)) (blank-idle kind) p (free_at w p 0) refl k.0,
+  within-install (add_file w (AsSocket (idle_socket kind))) p (free_at w p 0) w.next_ino (process_at w p) (within-blank w (idle_socket kind) k.1 row.rest.here refl refl refl refl) at (lowest-below w p row.here),
+)
+
+-- A socket that got a name fits.
+fits-bind : (w : World) (p n : ℕ) (name : List ℕ) → Fits w → NoneFits (step_row w p (step.Bind n name)) → Fits (effect w p (step.Bind n name))
+fits-bind w p n name k row =
+    let there = socket-there w p n row.here row.rest.here in
+    let fresh = row.rest.rest in
+    let parts = neither _ _ fresh.here in
+    let nobody = no_one (named w.files name) fresh.rest.here in
+    (whole-bound w (ino_on w p n) name (named-none w name nobody) k.0, within-bound w (ino_on w p n) name (socket_on w p n) k.1 there (holds parts.1))
+
+-- A socket that listens fits.
+fits-listen : (w : World) (p n b : ℕ) → Fits w → NoneFits (step_row w p (step.Listen n b)) → Fits (effect w p (step.Listen n b))
+fits-listen w p n b k row =
+    let s = socket_on w p n in
+    let there = socket-there w p n row.here row.rest.here in
+    let parts = neither _ _ row.rest.rest.here in
+    let quiet = neither _ _ parts.0 in
+    let unconnected = neither _ _ quiet.0 in
+    let idle = never-connected s.state unconnected.1 quiet.1 in
+    let low = both (nat_le 1 b) (nat_le b MAX_BACKLOG) (holds parts.1) in
+    (whole-listening w (ino_on w p n) b s there idle k.0, within-listening w (ino_on w p n) b s k.1 there idle (leb-true b MAX_BACKLOG low.1))
+
+-- A client and its embryo fit.
+fits-connect : (w : World) (p n : ℕ) (name : List ℕ) → Fits w → NoneFits (step_row w p (step.Connect n name)) → Fits (effect w p (step.Connect n name))
+fits-connect w p n name k row =
+    let s = socket_on w p n in
+    let listener = socket_named w name in
+    let there = socket-there w p n row.here row.rest.here in
+    let deaf = row.rest.rest in
+    let idle = never-connected s.state deaf.rest.here deaf.here in
+    let heard = deaf.rest.rest in
+    let listener_is = listener-there w name heard.here in
+    let room = heard.rest.rest in
+    let apart = told_apart (ino_named w name) (ino_on w p n) (λ same.
+    let one_socket : listener ≡ s = socket_same listener s (some_same _ _ (sym listener_is ∙ ap (map.get w.files) same ∙ there)) in
+    false≢true (sym deaf.here ∙ ap (λ x. is_listening x.state) (sym one_socket) ∙ holds heard.here)) in (
+      whole-embryo w (ino_on w p n) (ino_named w name) listener.kind s listener k.0 there idle listener_is apart,
+      within-embryo w (ino_on w p n) (ino_named w name) listener.kind s listener k.0 there idle listener_is apart k.1 room.rest.here (leb-false (room_of listener.state) (length listener.backlog) room.here),
+    )
+
+-- An embryo accepted fits.
+fits-accept : (w : World) (p n : ℕ) → Fits w → map.get w.processes p ≡ Some (process_at w p) → NoneFits (step_row w p (step.Accept n)) → Fits (effect w p (step.Accept n))
+fits-accept w p n k at row =
+    let s = socket_on w p n in
+    let f = ino_on w p n in
+    let there = socket-there w p n row.here row.rest.here in
+    let waits = row.rest.rest.rest in
+    let live = live-embryo w f (first_embryo w p n) s k.0 there (first-waits s.backlog waits.here) in (
+      whole-install (with_socket w f dequeued) p (free_at w p 0) (first_embryo w p n) (whole-accepted w f s there k.0) (live-changed w f dequeued (first_embryo w p n) ∙ live),
+      within-install (with_socket w f dequeued) p (free_at w p 0) (first_embryo w p n) (process_at w p) (within-accepted w f s k.1 there) at (lowest-below w p waits.rest.here),
+    ) where
+      first-waits : (fs : List ℕ) → nat_eq (length fs) 0 ≡ false → Contains fs (unwrap_or (slice_get fs 0) 0)
+      first-waits [] e = absurd (false≢true (sym e))
+      first-waits (g ∷ gs) e = Contains-first g gs
 
 -- A number more for what one stands for fits.
 fits-dup : (w : World) (p n : ℕ) → Fits w → map.get w.processes p ≡ Some (process_at w p) → NoneFits (step_row w p (step.Dup n)) → Fits (effect w p (step.Dup n))
@@ -211,6 +307,11 @@ fits-effect w p s whole within none =
       by step.Fork at e = fits-fork w p (whole, within) at e
       by step.Exit at e = (whole-remove_process w p whole, within-remove_process w p within)
       by (step.Pair kind) at e = fits-pair w p kind (whole, within) at e
+      by (step.Socket kind) at e = fits-socket w p kind (whole, within) at e
+      by (step.Bind n name) at e = fits-bind w p n name (whole, within) e
+      by (step.Listen n b) at e = fits-listen w p n b (whole, within) e
+      by (step.Connect n name) at e = fits-connect w p n name (whole, within) e
+      by (step.Accept n) at e = fits-accept w p n (whole, within) at e
       by (step.Send n bytes attach) at e = fits-send w p n bytes attach (whole, within) e
       by (step.Recv n max_bytes max_fds) at e = fits-recv w p n max_bytes max_fds (whole, within) at e
 

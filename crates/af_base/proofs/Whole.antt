@@ -1,5 +1,5 @@
 -- What is changed stays whole.
-use Rattle.std.proofs.Common.{◌≡◌, ◌<◌, ℕ, Bool, true, false, not, ◌⊎◌, inl, inr, List, [], ◌∷◌, ◌++◌, refl, sym, ap, ◌∙◌, subst, cond, nat_eq}
+use Rattle.std.proofs.Common.{◌≡◌, ◌<◌, ℕ, Bool, true, false, not, ◌⊎◌, inl, inr, List, [], ◌∷◌, ◌++◌, refl, sym, ap, ◌∙◌, subst, cond, nat_eq, arith}
 use Rattle.std.specs.Prelude.{Option, Some, None, IsTrue, option_map}
 use Rattle.std.specs.Option.{option_map_or}
 use Rattle.std.specs.List.{Contains, zip}
@@ -20,6 +20,8 @@ use Rattle.af_base.proofs.Places.{carried-push}
 use Rattle.af_base.proofs.Held.{held_by_none}
 use Rattle.af_base.proofs.Lookups.{changed-live, some_same}
 use Rattle.af_base.proofs.Takes.{Leaves}
+use Rattle.af_base.proofs.Embryos.{WaitOnce, waiting-changed, waiting-gone}
+use Rattle.af_base.proofs.Named.{AreNamedApart, names-changed, names-gone}
 use Rattle.af_base.proofs.Moved.{held-changed, live-changed, state-changed, there-holds, tabled-install, tabled-uninstall}
 
 -- Whom a file talks to where some are gone.
@@ -82,6 +84,8 @@ whole-gone gone w none k = record {
   next_ino = k.next_ino;
   next_pid = k.next_pid;
   peers = mutual-without gone w k.peers;
+  names = names-gone gone w k.names;
+  embryos = λ f. let once = k.embryos f in omega (arith, once, waiting-gone gone w f);
 } where
   kept : (f : ℕ) → ¬ (gone f ≡ true) → IsLive w f → IsLive (without gone w) f
   kept f n l = live-without gone w f ∙ by (gone f) refl where
@@ -105,11 +109,11 @@ whole-settles old new s k = subst IsWhole (sym s.2) (whole-gone s.0 old (λ f e.
   by : (f : ℕ) → Unheld old f → (¬ (InTable old f)) × ((q : ℕ) → s.0 q ≡ false → ¬ (Holds old q f))
   by _ (Goes f l no_table hs) = (no_table, λ q e h. false≢true (sym e ∙ (s.1 q).1 (hs q h)))
 
--- A socket changed in nothing but what it holds, with live files only.
-pub whole-changed : (w : World) (s : ℕ) (g : Socket → Socket) → ((x : Socket) → (g x).state ≡ x.state)
+-- A socket changed, with live files only, where peers stay mutual, no two have one name and no file waits twice.
+pub whole-socket : (w : World) (s : ℕ) (g : Socket → Socket)
     → ((x : Socket) (f : ℕ) → map.get w.files s ≡ Some (AsSocket x) → Contains (contents (AsSocket (g x))) f → Contains (contents (AsSocket x)) f ⊎ IsLive w f)
-    → IsWhole w → IsWhole (with_socket w s g)
-whole-changed w s g same gain k = record {
+    → AreMutual (with_socket w s g) → AreNamedApart (with_socket w s g) → WaitOnce (with_socket w s g) → IsWhole w → IsWhole (with_socket w s g)
+whole-socket w s g gain pairs apart once k = record {
   tables_live = λ f t. live-changed w s g f ∙ k.tables_live f t;
   queues_live = λ q f h. live-changed w s g f ∙ elim (held-changed w s g q f (λ x is c. gain x f is c) h) [ inl y ↦ k.queues_live q f y | inr y ↦ y ];
   files_numbered = λ f l. k.files_numbered f (sym (live-changed w s g f) ∙ l);
@@ -117,10 +121,24 @@ whole-changed w s g same gain k = record {
   files_begin = λ f l. k.files_begin f (sym (live-changed w s g f) ∙ l);
   next_ino = k.next_ino;
   next_pid = k.next_pid;
-  peers = λ f p e. state_same p ∙ k.peers f p (sym (state_same f) ∙ e);
-} where
-  state_same : (q : ℕ) → state_at (with_socket w s g) q ≡ state_at w q
-  state_same q = state-changed w s g same q
+  peers = pairs;
+  names = apart;
+  embryos = once;
+}
+
+-- Peers are mutual where a socket's change leaves alone whom it talks to.
+pub mutual-changed : (w : World) (s : ℕ) (g : Socket → Socket) → ((x : Socket) → (g x).state ≡ x.state) → AreMutual w → AreMutual (with_socket w s g)
+mutual-changed w s g same pairs f p e = state-changed w s g same p ∙ pairs f p (sym (state-changed w s g same f) ∙ e)
+
+-- No file waits twice where a socket's change leaves its backlog alone.
+pub once-changed : (w : World) (s : ℕ) (g : Socket → Socket) → ((x : Socket) → (g x).backlog ≡ x.backlog) → WaitOnce w → WaitOnce (with_socket w s g)
+once-changed w s g same once f = let before = once f in omega (arith, before, waiting-changed w s g same f)
+
+-- A socket changed in nothing but its queue, with live files only.
+pub whole-changed : (w : World) (s : ℕ) (g : Socket → Socket) → ((x : Socket) → (g x).state ≡ x.state) → ((x : Socket) → (g x).name ≡ x.name) → ((x : Socket) → (g x).backlog ≡ x.backlog)
+    → ((x : Socket) (f : ℕ) → map.get w.files s ≡ Some (AsSocket x) → Contains (contents (AsSocket (g x))) f → Contains (contents (AsSocket x)) f ⊎ IsLive w f)
+    → IsWhole w → IsWhole (with_socket w s g)
+whole-changed w s g state name backlog gain k = whole-socket w s g gain (mutual-changed w s g state k.peers) (names-changed w s g name k.names) (once-changed w s g backlog k.embryos) k
 
 -- A process is as before among those that are there.
 processes-numbered : (w : World) (p : ℕ) (g : Process → Process) → IsWhole w → (q : ℕ) → IsTrue (map.contains_key (change_at g w.processes p) q) → q < w.next_pid
@@ -137,6 +155,8 @@ whole-install w p n f k l = record {
   next_ino = k.next_ino;
   next_pid = k.next_pid;
   peers = k.peers;
+  names = k.names;
+  embryos = k.embryos;
 }
 
 -- A number given up.
@@ -150,6 +170,8 @@ whole-uninstall w p n k = record {
   next_ino = k.next_ino;
   next_pid = k.next_pid;
   peers = k.peers;
+  names = k.names;
+  embryos = k.embryos;
 }
 
 -- Numbers taken into use for live files.
@@ -160,7 +182,7 @@ whole-install_all w p (n ∷ ns) (f ∷ fs) k live = whole-install_all (install 
 
 -- A message put into a queue, whose files are live.
 pub whole-push : (w : World) (s : ℕ) (m : Message) → IsWhole w → ((f : ℕ) → Contains m.attached f → IsLive w f) → IsWhole (push_message w s m)
-whole-push w s m k live = whole-changed w s (λ x. record x { queue = x.queue ++ m ∷ [] }) (λ x. refl) (λ x f is h. elim (Contains-append_cases (carried (x.queue ++ m ∷ [])) x.backlog f h) [
+whole-push w s m k live = whole-changed w s (λ x. record x { queue = x.queue ++ m ∷ [] }) (λ x. refl) (λ x. refl) (λ x. refl) (λ x f is h. elim (Contains-append_cases (carried (x.queue ++ m ∷ [])) x.backlog f h) [
   | inl y ↦ elim (Contains-append_cases (carried x.queue) m.attached f (subst (λ xs. Contains xs f) (carried-push x.queue m) y)) [
     | inl z ↦ inl (Contains-append_left (carried x.queue) x.backlog f z)
     | inr z ↦ inr (live f z)
@@ -170,7 +192,7 @@ whole-push w s m k live = whole-changed w s (λ x. record x { queue = x.queue ++
 
 -- Another queue in place of one, with no file that was not in it.
 pub whole-with_queue : (w : World) (s : ℕ) (q : List Message) (x : Socket) → IsWhole w → map.get w.files s ≡ Some (AsSocket x) → ((f : ℕ) → Contains (carried q) f → Contains (carried x.queue) f) → IsWhole (with_queue w s q)
-whole-with_queue w s q x k at fewer = whole-changed w s (λ y. record y { queue = q }) (λ y. refl) (λ y f is h.
+whole-with_queue w s q x k at fewer = whole-changed w s (λ y. record y { queue = q }) (λ y. refl) (λ y. refl) (λ y. refl) (λ y f is h.
     let same : x.queue ≡ y.queue = ap queue_of (some_same (AsSocket x) (AsSocket y) (sym at ∙ is)) in
     elim (Contains-append_cases (carried q) y.backlog f h) [
       | inl z ↦ inl (Contains-append_left (carried y.queue) y.backlog f (subst (λ r. Contains (carried r) f) same (fewer f z)))

@@ -1,5 +1,5 @@
 -- What is changed stays within the limits.
-use Rattle.std.proofs.Common.{◌≡◌, ◌<◌, ◌≤◌, ℕ, ◌+◌, ◌*◌, Bool, true, false, ◌||◌, inl, inr, List, [], ◌∷◌, ◌++◌, length, refl, sym, ap, ◌∙◌, subst, nat_eq, arith, length-append}
+use Rattle.std.proofs.Common.{◌≡◌, ◌<◌, ◌≤◌, ℕ, ◌+◌, ◌*◌, Bool, true, false, ◌||◌, inl, inr, List, [], ◌∷◌, ◌++◌, length, refl, sym, ap, ◌∙◌, subst, cond, nat_eq, arith, length-append}
 use Rattle.std.specs.Prelude.{Option, Some, None, is_some, if◌then◌else◌}
 use Rattle.std.specs.Option.{option_map_or}
 use Rattle.std.specs.List.{Contains, list_any, sum_by, zip}
@@ -9,18 +9,20 @@ use Rattle.std.proofs.lemmas.Bool.{false≢true, leb-false, ltb-false}
 use Rattle.std.proofs.lemmas.List.Elements.{Contains-push_cases}
 use Rattle.std.proofs.lemmas.List.Sums.{sum_by-cons, sum_by_push}
 use Rattle.af_base.specs.declared.events.SockType.{SockType}
-use Rattle.af_base.specs.declared.limits.TheConstants.{MAX_PROCESSES, MAX_NOFILE, MAX_FILES, MAX_MESSAGES, MAX_INFLIGHT, MAX_PID, MAX_INO}
+use Rattle.af_base.specs.declared.events.State.{State}
+use Rattle.af_base.specs.declared.events.State.TheVariants as state
+use Rattle.af_base.specs.declared.limits.TheConstants.{MAX_PROCESSES, MAX_NOFILE, MAX_FILES, MAX_MESSAGES, MAX_BACKLOG, MAX_INFLIGHT, MAX_PID, MAX_INO}
 use Rattle.af_base.specs.World.{AsSocket, File, Map, Message, Plain, Process, Socket, World}
 use Rattle.af_base.specs.Places.{carried, queue_of}
 use Rattle.af_base.specs.Counts.{total, total_of}
-use Rattle.af_base.specs.Unheld.{Settles, file_without, without}
+use Rattle.af_base.specs.Unheld.{Settles, file_without, state_without, without}
 use Rattle.af_base.specs.Changes.{add_file, add_process, add_user, change_at, file_with, install, install_all, push_message, uninstall, with_queue, with_socket}
-use Rattle.af_base.specs.Refusals.{is_crowded, is_full, socket_of}
+use Rattle.af_base.specs.Refusals.{is_crowded, is_full, room_of, socket_of}
 use Rattle.af_base.specs.Release.{messages_in}
 use Rattle.af_base.specs.Steps.{connected_socket, spawned, with_pair}
 use Rattle.af_base.specs.Whole.{IsMessageWithin, IsProcessWithin, IsSocketWithin, IsWithin}
 use Rattle.af_base.proofs.Dropped.{same_queue, without-was}
-use Rattle.af_base.proofs.Elements.{Contains-later, Contains-none}
+use Rattle.af_base.proofs.Elements.{Contains-none}
 use Rattle.af_base.proofs.Free.{AreFree, first-low, rest-free}
 use Rattle.af_base.proofs.Lookups.{changed-was, insert-here, insert-other, none_some, remove-here, remove-other, same_or_not, some_same}
 use Rattle.af_base.proofs.Moved.{there-install}
@@ -151,7 +153,9 @@ within-push w s m x k at fits room few = within-changed w s (λ y. record y { qu
     let long = length-append y.queue (m ∷ []) in
     record {
       queue = let low : length y.queue < MAX_MESSAGES = subst (λ z. length z.queue < MAX_MESSAGES) same room in omega (arith, long, low);
+      room = before.room;
       backlog = before.backlog;
+      name = before.name;
       messages = λ n h. elim (Contains-push_cases y.queue m n h) [ inl z ↦ before.messages n z | inr z ↦ subst IsMessageWithin z fits ];
     }) (omega (arith, few, total-push w s m x at))
 
@@ -163,7 +167,9 @@ within-left w s x fs rest k at left = within-changed w s (λ y. record y { queue
     let fewer = left.fewer in
     record {
       queue = let low = before.queue in omega (arith, low, fewer, ap length same);
+      room = before.room;
       backlog = before.backlog;
+      name = before.name;
       messages = left.within;
     }) (let most = k.flying in omega (arith, most, total-left w s x fs rest at left))
 
@@ -208,9 +214,9 @@ within-add_process w q k room fits =
 pub within-spawned : (w : World) (uid nofile : ℕ) (privileged : Bool) → IsWithin w → is_crowded w ≡ false → nofile ≤ MAX_NOFILE → IsWithin (spawned w uid nofile privileged)
 within-spawned w uid nofile privileged k room low = within-add_user _ uid (within-add_process w _ k room (record { limit = low; numbers = λ n l. absurd (false≢true (sym (ap is_some (map.get-empty nat_cmp n)) ∙ l)) }))
 
--- A file more with nothing in it, where there is room for one.
-within-add_file : (w : World) (s : Socket) → IsWithin w → map.len w.files + 1 ≤ MAX_FILES → w.next_ino ≤ MAX_INO → s.queue ≡ [] → s.backlog ≡ [] → IsWithin (add_file w (AsSocket s))
-within-add_file w s k room low bare none_waits = record {
+-- A socket more with nothing in it, which does not listen and has no name, where there is room for one.
+pub within-add_file : (w : World) (s : Socket) → IsWithin w → map.len w.files + 1 ≤ MAX_FILES → w.next_ino ≤ MAX_INO → s.queue ≡ [] → s.backlog ≡ [] → s.name ≡ None → room_of s.state ≡ 0 → IsWithin (add_file w (AsSocket s))
+within-add_file w s k room low bare none_waits unnamed no_room = record {
   process_count = k.process_count;
   file_count = let more = len-insert_most w.files w.next_ino (AsSocket s) in omega (arith, room, more);
   flying =
@@ -224,7 +230,9 @@ within-add_file w s k room low bare none_waits = record {
   sockets = λ f t is. elim (same_or_not f w.next_ino) [
     | inl same ↦ subst IsSocketWithin (socket_same s t (some_same _ _ (sym (insert-here w.files w.next_ino (AsSocket s)) ∙ ap (map.get (map.insert w.files w.next_ino (AsSocket s))) (sym same) ∙ is))) (record {
       queue = let short : length s.queue ≡ 0 = ap length bare in omega (arith, short);
+      room = omega (arith, no_room);
       backlog = let short : length s.backlog ≡ 0 = ap length none_waits in omega (arith, short);
+      name = λ name is. absurd (none_some name (sym unnamed ∙ is));
       messages = λ m h. absurd (Contains-none m (subst (λ q. Contains q m) bare h));
     })
     | inr apart ↦ k.sockets f t (sym (insert-other w.files w.next_ino (AsSocket s) f apart) ∙ is)
@@ -239,7 +247,7 @@ within-pair w kind k room =
     let low = ltb-false (MAX_INO + 1) (w.next_ino + 2) parts.1 in
     let one_more = len-insert_most w.files w.next_ino (AsSocket (connected_socket kind (w.next_ino + 1))) in
     within-add_file (add_file w (AsSocket (connected_socket kind (w.next_ino + 1)))) (connected_socket kind w.next_ino)
-    (within-add_file w (connected_socket kind (w.next_ino + 1)) k (omega (arith, few)) (omega (arith, low)) refl refl) (omega (arith, few, one_more)) (omega (arith, low)) refl refl
+    (within-add_file w (connected_socket kind (w.next_ino + 1)) k (omega (arith, few)) (omega (arith, low)) refl refl refl refl) (omega (arith, few, one_more)) (omega (arith, low)) refl refl refl refl
 
 -- Two sockets more, each with a number that was free.
 pub within-paired : (w : World) (kind : SockType) (p n m : ℕ) (q : Process) → IsWithin w → is_full w 2 ≡ false → map.get w.processes p ≡ Some q → n < q.limit → m < q.limit
@@ -247,6 +255,13 @@ pub within-paired : (w : World) (kind : SockType) (p n m : ℕ) (q : Process) �
 within-paired w kind p n m q k room at low low_too =
     within-install (install (with_pair w kind) p n w.next_ino) p m (w.next_ino + 1) (record q { table = map.insert q.table n w.next_ino })
     (within-install (with_pair w kind) p n w.next_ino q (within-pair w kind k room) at low) (there-install (with_pair w kind) p n w.next_ino q at) low_too
+
+-- Who has hung up has room for as many embryos: none.
+same_room : (gone : ℕ → Bool) (t : State) → room_of (state_without gone t) ≡ room_of t
+same_room gone state.Idle = refl
+same_room gone (state.Listening b) = refl
+same_room gone (state.Connected p) = elim (gone p) as (λ b. room_of (cond b state.HungUp (state.Connected p)) ≡ 0) [ true ↦ refl | false ↦ refl ]
+same_room gone state.HungUp = refl
 
 -- Without some files.
 pub within-gone : (gone : ℕ → Bool) (w : World) → IsWithin w → IsWithin (without gone w)
@@ -275,7 +290,13 @@ within-gone gone w k = record {
   by f s Plain e d = absurd (none_some s (ap socket_of d))
   by f s (AsSocket t) e d =
       let before = k.sockets f t e in
-      subst IsSocketWithin (socket_same _ s d) (record { queue = before.queue; backlog = before.backlog; messages = before.messages })
+      subst IsSocketWithin (socket_same _ s d) (record {
+        queue = before.queue;
+        room = subst (λ r. r ≤ MAX_BACKLOG) (sym (same_room gone t.state)) before.room;
+        backlog = subst (λ r. length t.backlog ≤ r) (sym (same_room gone t.state)) before.backlog;
+        name = before.name;
+        messages = before.messages;
+      })
 
 -- Without one file.
 pub within-without : (w : World) (f : ℕ) → IsWithin w → IsWithin (without (nat_eq f) w)

@@ -1,8 +1,9 @@
 -- How a world is changed: a value in a map, a table, a socket, a file or a process more.
-use Rattle.std.specs.Prelude.{ℕ, ◌+◌, List, [], ◌∷◌, ◌++◌, nat_eq, if◌then◌else◌}
+use Rattle.std.specs.Prelude.{ℕ, ◌+◌, List, [], ◌∷◌, ◌++◌, Some, drop, nat_eq, if◌then◌else◌}
 use Rattle.std.specs.List.{list_any}
 use Rattle.std.specs.Option.{option_map_or}
 use Rattle.std.specs.FinMap as map
+use Rattle.af_base.specs.declared.events.State.TheVariants as state
 use Rattle.af_base.specs.World.{World, Map, Process, File, Socket, Message, Plain, AsSocket}
 
 -- The value at k changed, where there is one.
@@ -62,6 +63,26 @@ pushed m x = record x { queue = x.queue ++ m ∷ [] }
 -- One message more, last in the queue of s (unix(7)).
 abbrev pub push_message : World → ℕ → Message → World
 push_message w s m = with_socket w s (pushed m)
+
+-- A socket with this abstract name (bind(2)).
+abbrev pub bound : List ℕ → Socket → Socket
+bound name s = record s { name = Some name }
+
+-- A socket that waits for connections, b of them at most (listen(2)).
+abbrev pub listening : ℕ → Socket → Socket
+listening b s = record s { state = state.Listening b }
+
+-- A socket that is connected to f (connect(2)).
+abbrev pub connected : ℕ → Socket → Socket
+connected f s = record s { state = state.Connected f }
+
+-- A listener with an embryo more, last in its backlog (connect(2)).
+abbrev pub queued : ℕ → Socket → Socket
+queued f s = record s { backlog = s.backlog ++ f ∷ [] }
+
+-- A listener without its first embryo (accept(2)).
+abbrev pub dequeued : Socket → Socket
+dequeued s = record s { backlog = drop 1 s.backlog }
 
 -- Process p is gone, and its table with it (_exit(2)).
 abbrev pub remove_process : World → ℕ → World

@@ -3,7 +3,7 @@ use Rattle.std.specs.Prelude.{ℕ, ◌+◌, List, length, nat_eq, if◌then◌el
 use Rattle.std.specs.List.{sum_by, count_by}
 use Rattle.std.specs.FinMap as map
 use Rattle.af_base.specs.World.{World, Map, Message}
-use Rattle.af_base.specs.Places.{queue_of, contents, carried}
+use Rattle.af_base.specs.Places.{backlog_of, carried, contents, queue_of}
 
 -- What the values of a map add up to.
 abbrev pub total_of : {X : Type 0} → (X → ℕ) → Map X → ℕ
@@ -28,6 +28,10 @@ refs w f = tabled w f + total_of (λ x. count_in f (contents x)) w.files
 -- The in-flight count: how many queue places hold f, sent and not yet accepted by a receive (unix(7), ETOOMANYREFS).
 abbrev pub inflight : World → ℕ → ℕ
 inflight w f = total_of (λ x. count_in f (carried (queue_of x))) w.files
+
+-- How many backlog places hold f: one, where f is an embryo (listen(2)).
+abbrev pub waiting : World → ℕ → ℕ
+waiting w f = total_of (λ x. count_in f (backlog_of x)) w.files
 
 -- What a message charges to user u: each file that travels with it, repeats included, where u sent it (this project's profile).
 abbrev pub charge : ℕ → Message → ℕ

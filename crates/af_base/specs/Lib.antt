@@ -7,6 +7,7 @@ pub mod Reached
 pub mod Table
 pub mod Take
 pub mod Changes
+pub mod Names
 pub mod Refusals
 pub mod Steps
 pub mod Pass

@@ -39,6 +39,14 @@ queue_in files s = option_map_or queue_of (map.get files s) []
 abbrev pub queue_at : World → ℕ → List Message
 queue_at w s = queue_in w.files s
 
+-- What the backlog of the file s of these has.
+abbrev pub backlog_in : Map File → ℕ → List ℕ
+backlog_in files s = option_map_or backlog_of (map.get files s) []
+
+-- The same of a world.
+abbrev pub backlog_at : World → ℕ → List ℕ
+backlog_at w s = backlog_in w.files s
+
 -- What the queue and the backlog of the file s of these hold.
 abbrev pub held_in : Map File → ℕ → List ℕ
 held_in files s = option_map_or contents (map.get files s) []

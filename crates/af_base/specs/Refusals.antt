@@ -3,17 +3,19 @@ use Rattle.std.specs.Prelude.{ℕ, ◌+◌, Bool, true, false, not, ◌&&◌, �
 use Rattle.std.specs.List.{list_any}
 use Rattle.std.specs.Option.{option_and_then}
 use Rattle.std.specs.FinMap as map
-use Rattle.af_base.specs.declared.events.SockType.TheVariants.{Seqpacket}
+use Rattle.af_base.specs.declared.events.SockType.{SockType}
+use Rattle.af_base.specs.declared.events.SockType.TheVariants.{Seqpacket, Stream}
 use Rattle.af_base.specs.declared.events.State.{State}
 use Rattle.af_base.specs.declared.events.State.TheVariants as state
 use Rattle.af_base.specs.declared.errno.Errno.{Errno}
-use Rattle.af_base.specs.declared.errno.Errno.TheVariants.{EBADF, ENOTSOCK, EINVAL, EMFILE, ENFILE, EAGAIN, EMSGSIZE, ETOOMANYREFS, ENOBUFS, ENOTCONN, EPIPE, ESRCH, ERANGE}
+use Rattle.af_base.specs.declared.errno.Errno.TheVariants.{EADDRINUSE, EAGAIN, EBADF, ECONNREFUSED, EINVAL, EISCONN, EMFILE, EMSGSIZE, ENFILE, ENOBUFS, ENOTCONN, ENOTSOCK, EPIPE, EPROTOTYPE, ERANGE, ESRCH, ETOOMANYREFS}
 use Rattle.af_base.specs.declared.events.Step.{Step}
 use Rattle.af_base.specs.declared.events.Step.TheVariants as step
-use Rattle.af_base.specs.declared.limits.TheConstants.{MAX_PROCESSES, MAX_NOFILE, MAX_FILES, MAX_MESSAGES, MAX_BYTES, SCM_MAX_FD, MAX_INFLIGHT, MAX_PID, MAX_INO}
+use Rattle.af_base.specs.declared.limits.TheConstants.{MAX_PROCESSES, MAX_NOFILE, MAX_FILES, MAX_MESSAGES, MAX_BYTES, SCM_MAX_FD, MAX_BACKLOG, MAX_INFLIGHT, MAX_PID, MAX_INO}
 use Rattle.af_base.specs.World.{World, Map, Process, Socket, File, Plain, AsSocket}
 use Rattle.af_base.specs.Places.{table_at, queue_at}
 use Rattle.af_base.specs.Counts.{charged, total}
+use Rattle.af_base.specs.Names.{is_between, is_name, named}
 use Rattle.af_base.specs.Table.{free_numbers}
 
 -- Stands for a process that is not there. Stand-ins are never seen: a row's later tests are read only where the earlier ones failed.
@@ -56,12 +58,33 @@ is_connected (state.Listening b) = false
 is_connected (state.Connected q) = true
 is_connected state.HungUp = true
 
+-- Whether both are one type.
+abbrev pub is_same_type : SockType → SockType → Bool
+is_same_type Stream Stream = true
+is_same_type Stream Seqpacket = false
+is_same_type Seqpacket Stream = false
+is_same_type Seqpacket Seqpacket = true
+
 -- Whether its peer is gone.
 abbrev pub is_hung_up : State → Bool
 is_hung_up state.Idle = false
 is_hung_up (state.Listening b) = false
 is_hung_up (state.Connected q) = false
 is_hung_up state.HungUp = true
+
+-- Whether it waits for connections.
+abbrev pub is_listening : State → Bool
+is_listening state.Idle = false
+is_listening (state.Listening b) = true
+is_listening (state.Connected q) = false
+is_listening state.HungUp = false
+
+-- How many embryos it may hold: none, where it does not listen (listen(2)).
+abbrev pub room_of : State → ℕ
+room_of state.Idle = 0
+room_of (state.Listening b) = b
+room_of (state.Connected q) = 0
+room_of state.HungUp = 0
 
 -- The live peer, or 0, which is no inode number.
 abbrev pub peer_of : State → ℕ
@@ -70,9 +93,13 @@ peer_of (state.Listening b) = 0
 peer_of (state.Connected q) = q
 peer_of state.HungUp = 0
 
--- Whether the number is in a range, both ends included.
-abbrev pub is_between : ℕ → ℕ → ℕ → Bool
-is_between low high n = nat_le low n && nat_le n high
+-- The inode number of the live socket of this name, or 0, which is none.
+abbrev pub ino_named : World → List ℕ → ℕ
+ino_named w name = unwrap_or (named w.files name) 0
+
+-- The live socket of this name.
+abbrev pub socket_named : World → List ℕ → Socket
+socket_named w name = unwrap_or (option_and_then (socket_at w) (named w.files name)) no_socket
 
 -- Whether fewer than k numbers of the table are free (open(2), EMFILE).
 abbrev pub is_short : Process → ℕ → Bool
@@ -118,7 +145,7 @@ spawn_row w nofile = (nat_lt MAX_NOFILE nofile, ERANGE) ∷ (is_crowded w, EAGAI
 abbrev pub is_beyond : World → ℕ → ℕ → ℕ → Bool
 is_beyond w p n m = not (nat_eq m n) && nat_le (process_at w p).limit m
 
--- Why a step of a process that is there is refused: open(2), dup(2), dup2(2), close(2), fork(2), _exit(2), socketpair(2), sendmsg(2), recvmsg(2), but for want of memory.
+-- Why a step of a process that is there is refused: open(2), dup(2), dup2(2), close(2), fork(2), _exit(2), socketpair(2), socket(2), bind(2), listen(2), connect(2), accept(2), sendmsg(2), recvmsg(2), but for want of memory.
 abbrev pub step_row : World → ℕ → Step → Row
 step_row w p step.Open = (is_short (process_at w p) 1, EMFILE) ∷ (is_full w 1, ENFILE) ∷ []
 step_row w p (step.Dup n) = (is_none (table_at w p n), EBADF) ∷ (is_short (process_at w p) 1, EMFILE) ∷ []
@@ -127,6 +154,40 @@ step_row w p (step.Close n) = (is_none (table_at w p n), EBADF) ∷ []
 step_row w p step.Fork = (is_crowded w, EAGAIN) ∷ []
 step_row w p step.Exit = []
 step_row w p (step.Pair kind) = (is_short (process_at w p) 2, EMFILE) ∷ (is_full w 2, ENFILE) ∷ []
+step_row w p (step.Socket kind) = (is_short (process_at w p) 1, EMFILE) ∷ (is_full w 1, ENFILE) ∷ []
+step_row w p (step.Bind n name) =
+    let s = socket_on w p n in
+    (is_none (table_at w p n), EBADF)
+    ∷ (is_none (socket_at w (ino_on w p n)), ENOTSOCK)
+    ∷ (not (is_none s.name) || is_connected s.state || is_listening s.state || not (is_name name), EINVAL)
+    ∷ (not (is_none (named w.files name)), EADDRINUSE)
+    ∷ []
+step_row w p (step.Listen n b) =
+    let s = socket_on w p n in
+    (is_none (table_at w p n), EBADF)
+    ∷ (is_none (socket_at w (ino_on w p n)), ENOTSOCK)
+    ∷ (is_none s.name || is_connected s.state || is_listening s.state || not (is_between 1 MAX_BACKLOG b), EINVAL)
+    ∷ []
+step_row w p (step.Connect n name) =
+    let s = socket_on w p n in
+    let listener = socket_named w name in
+    (is_none (table_at w p n), EBADF)
+    ∷ (is_none (socket_at w (ino_on w p n)), ENOTSOCK)
+    ∷ (is_listening s.state, EINVAL)
+    ∷ (is_connected s.state, EISCONN)
+    ∷ (not (is_listening listener.state), ECONNREFUSED)
+    ∷ (not (is_same_type listener.kind s.kind), EPROTOTYPE)
+    ∷ (nat_le (room_of listener.state) (length listener.backlog), EAGAIN)
+    ∷ (is_full w 1, ENFILE)
+    ∷ []
+step_row w p (step.Accept n) =
+    let s = socket_on w p n in
+    (is_none (table_at w p n), EBADF)
+    ∷ (is_none (socket_at w (ino_on w p n)), ENOTSOCK)
+    ∷ (not (is_listening s.state), EINVAL)
+    ∷ (nat_eq (length s.backlog) 0, EAGAIN)
+    ∷ (is_short (process_at w p) 1, EMFILE)
+    ∷ []
 step_row w p (step.Send n bytes attach) =
     let s = socket_on w p n in
     (is_none (table_at w p n), EBADF)

@@ -1,5 +1,5 @@
 -- What a step of a process answers and what it changes.
-use Rattle.std.specs.Prelude.{◌≡◌, ◌⊎◌, ℕ, ◌+◌, Bool, true, false, List, length, filter_map, min, Option, Some, None, slice_index, nat_eq, nat_lt, if◌then◌else◌}
+use Rattle.std.specs.Prelude.{◌≡◌, ◌⊎◌, ℕ, ◌+◌, Bool, true, false, List, length, filter_map, min, Option, Some, None, slice_get, slice_index, unwrap_or, nat_eq, nat_lt, if◌then◌else◌}
 use Rattle.std.specs.List.{zip}
 use Rattle.std.specs.FinMap as map
 use Rattle.af_base.specs.declared.events.SockType.{SockType}
@@ -12,11 +12,11 @@ use Rattle.af_base.specs.declared.events.Reply.{Reply}
 use Rattle.af_base.specs.declared.events.Reply.TheVariants as reply
 use Rattle.af_base.specs.World.{World, Socket, Plain, AsSocket}
 use Rattle.af_base.specs.Places.{table_at}
-use Rattle.af_base.specs.Changes.{install, install_all, uninstall, with_queue, push_message, add_file, add_process, remove_process, add_user}
+use Rattle.af_base.specs.Changes.{dequeued, add_file, add_process, add_user, bound, connected, install, install_all, listening, push_message, queued, remove_process, uninstall, with_queue, with_socket}
 use Rattle.af_base.specs.Table.{free_numbers, lowest_free}
 use Rattle.af_base.specs.Take.{Taken, take_from}
 use Rattle.af_base.specs.Unheld.{Settles}
-use Rattle.af_base.specs.Refusals.{process_at, ino_on, socket_on, peer_of, no_socket, refusal, spawn_refusal}
+use Rattle.af_base.specs.Refusals.{ino_named, ino_on, no_socket, peer_of, process_at, refusal, socket_named, socket_on, spawn_refusal}
 
 -- The k-th of the free numbers of process p, from 0.
 abbrev pub free_at : World → ℕ → ℕ → ℕ
@@ -30,6 +30,18 @@ connected_socket kind peer = record no_socket { kind = kind; state = state.Conne
 abbrev pub with_pair : World → SockType → World
 with_pair w kind = add_file (add_file w (AsSocket (connected_socket kind (w.next_ino + 1)))) (AsSocket (connected_socket kind w.next_ino))
 
+-- A new socket that was never connected (socket(2)).
+abbrev pub idle_socket : SockType → Socket
+idle_socket kind = record no_socket { kind = kind }
+
+-- The world where the client c is connected to a new embryo, which waits last in the backlog of the listener l (connect(2); the embryo is this project's own).
+abbrev pub with_embryo : World → ℕ → ℕ → SockType → World
+with_embryo w c l kind = with_socket (with_socket (add_file w (AsSocket (connected_socket kind c))) c (connected w.next_ino)) l (queued w.next_ino)
+
+-- The embryo that process p accepts at n: the first that waits there, or 0, which is no inode number (accept(2)).
+abbrev pub first_embryo : World → ℕ → ℕ → ℕ
+first_embryo w p n = unwrap_or (slice_get (socket_on w p n).backlog 0) 0
+
 -- What a receive takes.
 abbrev pub taken_on : World → ℕ → ℕ → ℕ → Taken
 taken_on w p n max_bytes = take_from (socket_on w p n).kind (socket_on w p n).queue max_bytes
@@ -42,7 +54,7 @@ got_at w p n max_bytes max_fds = lowest_free (min (length (taken_on w p n max_by
 abbrev pub spawned : World → ℕ → ℕ → Bool → World
 spawned w uid nofile privileged = add_user (add_process w (record { user = uid; limit = nofile; privileged = privileged; table = map.empty })) uid
 
--- The world after the places were changed, which is then settled, where nothing refuses the step (open(2), dup(2), dup2(2), close(2), fork(2), _exit(2), socketpair(2), sendmsg(2), recvmsg(2)).
+-- The world after the places were changed, which is then settled, where nothing refuses the step (open(2), dup(2), dup2(2), close(2), fork(2), _exit(2), socketpair(2), socket(2), bind(2), listen(2), connect(2), accept(2), sendmsg(2), recvmsg(2)).
 abbrev pub effect : World → ℕ → Step → World
 effect w p step.Open = install (add_file w Plain) p (free_at w p 0) w.next_ino
 effect w p (step.Dup n) = install w p (free_at w p 0) (ino_on w p n)
@@ -51,6 +63,11 @@ effect w p (step.Close n) = uninstall w p n
 effect w p step.Fork = add_process w (process_at w p)
 effect w p step.Exit = remove_process w p
 effect w p (step.Pair kind) = install (install (with_pair w kind) p (free_at w p 0) w.next_ino) p (free_at w p 1) (w.next_ino + 1)
+effect w p (step.Socket kind) = install (add_file w (AsSocket (idle_socket kind))) p (free_at w p 0) w.next_ino
+effect w p (step.Bind n name) = with_socket w (ino_on w p n) (bound name)
+effect w p (step.Listen n b) = with_socket w (ino_on w p n) (listening b)
+effect w p (step.Connect n name) = with_embryo w (ino_on w p n) (ino_named w name) (socket_named w name).kind
+effect w p (step.Accept n) = install (with_socket w (ino_on w p n) dequeued) p (free_at w p 0) (first_embryo w p n)
 effect w p (step.Send n bytes attach) =
     push_message w (peer_of (socket_on w p n).state) (record { bytes = bytes; attached = filter_map (table_at w p) attach; user = (process_at w p).user })
 effect w p (step.Recv n max_bytes max_fds) =
@@ -66,6 +83,11 @@ answer w p (step.Close n) = reply.Ok
 answer w p step.Fork = reply.Pid w.next_pid
 answer w p step.Exit = reply.Ok
 answer w p (step.Pair kind) = reply.Fds (free_at w p 0) (free_at w p 1)
+answer w p (step.Socket kind) = reply.Fd (free_at w p 0)
+answer w p (step.Bind n name) = reply.Ok
+answer w p (step.Listen n b) = reply.Ok
+answer w p (step.Connect n name) = reply.Ok
+answer w p (step.Accept n) = reply.Fd (free_at w p 0)
 answer w p (step.Send n bytes attach) = reply.Sent (length bytes)
 answer w p (step.Recv n max_bytes max_fds) =
     let taken = taken_on w p n max_bytes in

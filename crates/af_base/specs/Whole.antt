@@ -1,14 +1,16 @@
 -- What is true of every world that events lead to.
-use Rattle.std.specs.Prelude.{◌≡◌, ◌<◌, ◌≤◌, ◌+◌, ℕ, IsTrue, Some, length}
+use Rattle.std.specs.Prelude.{◌≡◌, ◌<◌, ◌≤◌, ◌+◌, ℕ, IsTrue, true, List, Option, Some, length}
 use Rattle.std.specs.List.{Contains}
-use Rattle.std.specs.Option.{option_map_or}
+use Rattle.std.specs.Option.{option_and_then, option_map_or}
 use Rattle.std.specs.FinMap as map
 use Rattle.af_base.specs.declared.events.State.{State}
 use Rattle.af_base.specs.declared.events.State.TheVariants as state
 use Rattle.af_base.specs.declared.limits.TheConstants.{MAX_PROCESSES, MAX_NOFILE, MAX_FILES, MAX_MESSAGES, MAX_BYTES, SCM_MAX_FD, MAX_BACKLOG, MAX_INFLIGHT, MAX_PID, MAX_INO}
 use Rattle.af_base.specs.World.{World, Process, Socket, File, Plain, AsSocket, Message, IsLive}
 use Rattle.af_base.specs.Places.{InTable, Holds}
-use Rattle.af_base.specs.Counts.{total}
+use Rattle.af_base.specs.Counts.{total, waiting}
+use Rattle.af_base.specs.Names.{is_name}
+use Rattle.af_base.specs.Refusals.{room_of, socket_at}
 use Rattle.af_base.specs.Unheld.{IsSettled}
 
 -- Whom a file can talk to: a plain file nobody.
@@ -24,7 +26,11 @@ state_at w f = option_map_or state_of (map.get w.files f) state.Idle
 abbrev pub AreMutual : World → Type 0
 AreMutual w = (f p : ℕ) → state_at w f ≡ state.Connected p → state_at w p ≡ state.Connected f
 
--- The world is whole: each place holds a live file, peers are mutual, and the numbers given are below the next ones; the next ones and the files' numbers begin at 1, so 0 is no file (this project's profile).
+-- The abstract name of the file f, if it is a socket that has one.
+abbrev pub name_at : World → ℕ → Option (List ℕ)
+name_at w f = option_and_then (λ s. s.name) (socket_at w f)
+
+-- The world is whole: each place holds a live file, peers are mutual, no two sockets have one name, no file is in two backlogs, and the numbers given are below the next ones; the next ones and the files' numbers begin at 1, so 0 is no file (this project's profile).
 pub record IsWhole (w : World) : Type 0 where
   pub tables_live : (f : ℕ) → InTable w f → IsLive w f
   pub queues_live : (s f : ℕ) → Holds w s f → IsLive w f
@@ -34,6 +40,8 @@ pub record IsWhole (w : World) : Type 0 where
   pub next_ino : 0 < w.next_ino
   pub next_pid : 0 < w.next_pid
   pub peers : AreMutual w
+  pub names : (f g : ℕ) (name : List ℕ) → name_at w f ≡ Some name → name_at w g ≡ Some name → f ≡ g
+  pub embryos : (f : ℕ) → waiting w f ≤ 1
 
 -- A process within its limit, and the limit within its own (this project's profile).
 pub record IsProcessWithin (q : Process) : Type 0 where
@@ -49,7 +57,9 @@ pub record IsMessageWithin (m : Message) : Type 0 where
 -- A socket within the limits (this project's profile).
 pub record IsSocketWithin (s : Socket) : Type 0 where
   pub queue : length s.queue ≤ MAX_MESSAGES
-  pub backlog : length s.backlog ≤ MAX_BACKLOG
+  pub room : room_of s.state ≤ MAX_BACKLOG
+  pub backlog : length s.backlog ≤ room_of s.state
+  pub name : (name : List ℕ) → s.name ≡ Some name → is_name name ≡ true
   pub messages : (m : Message) → Contains s.queue m → IsMessageWithin m
 
 -- The world is within all limits (this project's profile).

@@ -42,6 +42,25 @@ pub enum Step {
     Exit,
     /// socketpair(2): two sockets connected to each other.
     Pair(SockType),
+    /// socket(2): a socket that was never connected.
+    Socket(SockType),
+    /// bind(2) of a socket to an abstract name (unix(7)).
+    Bind {
+        on: Fd,
+        name: Items<u8>,
+    },
+    /// listen(2), with room for so many embryos.
+    Listen {
+        on: Fd,
+        backlog: u32,
+    },
+    /// connect(2) to the listener of this abstract name.
+    Connect {
+        on: Fd,
+        name: Items<u8>,
+    },
+    /// accept(2) of the first embryo of a listener.
+    Accept(Fd),
     /// sendmsg(2) with SCM_RIGHTS: bytes, and the numbers whose descriptions go with them.
     Send {
         on: Fd,

@@ -1,6 +1,7 @@
 //! A `Vec` that a clause sees as its list.
 ghost use Rattle.std.specs.Prelude.{◌≡◌, ◌↔◌, IsTrue, List, [], length};
 
+use std::hash::{Hash, Hasher};
 use std::marker::Model;
 
 /// Items in order, as the bytes of a message or the descriptors that go with it.
@@ -71,4 +72,21 @@ impl<T: Eq> Eq for Items<T> {
     ghost use Rattle.std.specs.Cmp.Lexicographic.{lists_equiv};
 
     ghost laws = { lists_equiv T.Eq.laws };
+}
+
+/// Bytes are hashed as one write, behind their number, and not one by one.
+impl Hash for Items<u8> {
+    ghost use Rattle.std.specs.Prelude.{[], ◌∷◌, ◌++◌, length};
+    ghost use Rattle.std.proofs.Common.{ap};
+    ghost use Rattle.std.specs.Cmp.Lexicographic.{bytes_decides};
+    ghost use Rattle.std.specs.Hash as fed;
+
+    ghost hash_input = { λ x. fed.usize (length x) ++ x ∷ [] };
+
+    ghost respects_eq = { λ x y h. ap (λ z. fed.usize (length z) ++ z ∷ []) ((bytes_decides x y).0 h) };
+
+    fn hash<H: Hasher>(&self, state: &mut H) {
+        state.write_usize(self.len());
+        state.write(self.as_slice());
+    }
 }

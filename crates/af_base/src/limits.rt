@@ -24,7 +24,7 @@ pub const MAX_BACKLOG: u32 = 128;
 /// Descriptors in flight, of all users together.
 pub const MAX_INFLIGHT: u64 = 1_048_576;
 
-/// Bytes of a name. Not used yet.
+/// Bytes of a name.
 pub const MAX_NAME: usize = 107;
 
 /// The last pid that is given.

@@ -1,5 +1,5 @@
 -- What a place more and a place less ask for, where the numbers that are kept are the recounts.
-use Rattle.std.proofs.Common.{◌≡◌, ◌<◌, ◌≤◌, ℕ, zero, suc, ◌+◌, ◌*◌, Bool, true, false, inl, inr, List, [], ◌∷◌, length, refl, sym, ap, ◌∙◌, cond, nat_eq, arith}
+use Rattle.std.proofs.Common.{◌≡◌, ◌<◌, ◌≤◌, ℕ, zero, suc, ◌+◌, ◌*◌, Bool, true, false, inl, inr, List, [], ◌∷◌, drop, length, refl, sym, ap, ◌∙◌, cond, nat_eq, arith}
 use Rattle.std.specs.Prelude.{Option, Some, None, IsTrue, is_some}
 use Rattle.std.specs.List.{Contains, sum_by}
 use Rattle.std.specs.FinMap as map
@@ -17,10 +17,10 @@ use Rattle.af_base.proofs.Sums.{total-remove}
 use Rattle.af_base.proofs.Totals.{total-below, total-most}
 use Rattle.af_base.proofs.Within.{total-left}
 use Rattle.af_ledger.specs.Kept.{CanDrop, CanDropAll, CanHold, CanHoldAll, Kept, count_of, has_count, is_user}
-use Rattle.af_ledger.specs.declared.place.Place.TheVariants.{Table}
-use Rattle.af_ledger.proofs.HeldAll.{count-length}
+use Rattle.af_ledger.specs.declared.place.Place.TheVariants.{Backlog, Table}
+use Rattle.af_ledger.proofs.HeldAll.{count-length, one-itself}
 use Rattle.af_collect.specs.Agreement.{Agrees}
-use Rattle.af_collect.proofs.Recounts.{charged-shed}
+use Rattle.af_collect.proofs.Recounts.{charged-shed, waiting-dequeued}
 use Rattle.af_collect.proofs.Sheds.{Sheds}
 
 -- A number is another at most once.
@@ -113,6 +113,13 @@ can-drop-table w p n f k is agrees =
     let some = tabled-InTable w f (p, n, is) in
     let same = agrees.tabled f in
     (omega (arith, some, same), tt)
+
+-- The first embryo of a backlog is counted.
+pub can-drop-backlog : (w : World) (s f : ℕ) (x : Socket) (k : Kept) → map.get w.files s ≡ Some (AsSocket x) → x.backlog ≡ f ∷ drop 1 x.backlog → Agrees w k → CanDrop Backlog f k
+can-drop-backlog w s f x k at first agrees =
+    let same = agrees.waiting f in
+    let mine = one-itself f in
+    (omega (arith, same, mine, waiting-dequeued w s f f x at first), tt)
 
 -- A message taken of a queue is counted and charged.
 pub can-drop-all : (w : World) (s : ℕ) (m : Message) (rest : List Message) (x : Socket) (k : Kept) → map.get w.files s ≡ Some (AsSocket x) → Sheds x.queue m rest → Agrees w k → CanDropAll m.user m.attached k

@@ -1,14 +1,15 @@
 -- A file goes: what the code does to the map of files is what the world without it is.
-use Rattle.std.proofs.Common.{◌≡◌, ℕ, refl, sym, ap, ◌∙◌, nat_eq}
+use Rattle.std.proofs.Common.{◌≡◌, ℕ, Bool, refl, sym, ap, ◌∙◌, nat_eq}
 use Rattle.std.specs.Prelude.{Some, None}
 use Rattle.std.specs.Option.{option_map_or}
 use Rattle.std.specs.FinMap as map
 use Rattle.af_base.specs.declared.events.State.{State}
 use Rattle.af_base.specs.declared.events.State.TheVariants as state
 use Rattle.af_base.specs.World.{World, File, Socket, Plain, AsSocket}
+use Rattle.af_base.specs.Places.{backlog_of}
 use Rattle.af_base.specs.Changes.{with_socket}
 use Rattle.af_base.specs.Refusals.{socket_of}
-use Rattle.af_base.specs.Unheld.{without}
+use Rattle.af_base.specs.Unheld.{file_without, without}
 use Rattle.af_base.specs.Whole.{AreMutual, state_at, state_of}
 use Rattle.af_base.proofs.Lookups.{some_same}
 use Rattle.af_base.proofs.Dropping.{without_one, drop_with}
@@ -42,3 +43,8 @@ plain_alone (AsSocket s) none p e = cc
 pub socket_is : (x : File) (s : Socket) → socket_of x ≡ Some s → x ≡ AsSocket s
 socket_is Plain s e = cc
 socket_is (AsSocket r) s e = ap AsSocket (some_same r s e)
+
+-- who has hung up has the backlog that it had
+pub same_backlog : (gone : ℕ → Bool) (x : File) → backlog_of (file_without gone x) ≡ backlog_of x
+same_backlog gone Plain = refl
+same_backlog gone (AsSocket s) = refl

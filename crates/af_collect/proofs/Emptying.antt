@@ -11,7 +11,7 @@ use Rattle.std.proofs.lemmas.List.Folds.{list_any-append}
 use Rattle.af_base.specs.World.{AsSocket, File, Message, Plain, Socket, World}
 use Rattle.std.specs.Option.{option_map_or}
 use Rattle.af_base.specs.Places.{carried, contents, held_by, queue_at, queue_of}
-use Rattle.af_base.specs.Changes.{file_with, with_queue}
+use Rattle.af_base.specs.Changes.{file_with, with_queue, with_socket}
 use Rattle.af_base.specs.Pass.{emptied, empty_file}
 use Rattle.af_base.proofs.Purging.{emptied-emptied, get-emptied}
 use Rattle.af_base.proofs.Stepping.{get-change_at}
@@ -27,16 +27,13 @@ emptied_none w = ap (λ fs. record w { files = fs }) (map.same_map nat_cmp_total
   each None = refl
   each (Some x) = refl
 
--- A file that is emptied need not lose its messages before.
-pub emptied-popped : (w : World) (s : ℕ) (q : List Message) → emptied (nat_eq s) (with_queue w s q) ≡ emptied (nat_eq s) w
-emptied-popped w s q = ap (λ fs. record w { files = fs }) (map.same_map nat_cmp_total nat_cmp-IsAntisymmetric _ _ (λ f.
-    get-emptied (nat_eq s) (with_queue w s q) f ∙ ap (option_map (λ x. if nat_eq s f then empty_file x else x)) (get-change_at (file_with cut) w.files s f) ∙ each f (nat_eq s f) (turned s f ∙ sym (unsigned_tied f s)) (map.get w.files f) ∙ sym (get-emptied (nat_eq s) w f))) where
-      cut : Socket → Socket
-      cut x = record x { queue = q }
-
+-- A file that is emptied need not lose before what goes then.
+pub emptied-changed : (w : World) (s : ℕ) (cut : Socket → Socket) → ((x : Socket) → empty_file (AsSocket (cut x)) ≡ empty_file (AsSocket x)) → emptied (nat_eq s) (with_socket w s cut) ≡ emptied (nat_eq s) w
+emptied-changed w s cut goes = ap (λ fs. record w { files = fs }) (map.same_map nat_cmp_total nat_cmp-IsAntisymmetric _ _ (λ f.
+    get-emptied (nat_eq s) (with_socket w s cut) f ∙ ap (option_map (λ x. if nat_eq s f then empty_file x else x)) (get-change_at (file_with cut) w.files s f) ∙ each f (nat_eq s f) (turned s f ∙ sym (unsigned_tied f s)) (map.get w.files f) ∙ sym (get-emptied (nat_eq s) w f))) where
       empty : (x : File) → empty_file (file_with cut x) ≡ empty_file x
       empty Plain = refl
-      empty (AsSocket x) = refl
+      empty (AsSocket x) = goes x
 
       one : (b : Bool) (x : File) → (if b then empty_file (cond b (file_with cut x) x) else cond b (file_with cut x) x) ≡ (if b then empty_file x else x)
       one true x = empty x
@@ -45,6 +42,10 @@ emptied-popped w s q = ap (λ fs. record w { files = fs }) (map.same_map nat_cmp
       each : (f : ℕ) (b : Bool) → b ≡ eq_by_cmp nat_cmp f s → (o : Option File) → option_map (λ x. if b then empty_file x else x) (option_map (λ x. cond (eq_by_cmp nat_cmp f s) (file_with cut x) x) o) ≡ option_map (λ x. if b then empty_file x else x) o
       each f b e None = refl
       each f b e (Some x) = ap (λ c. Some (if b then empty_file (cond c (file_with cut x) x) else cond c (file_with cut x) x)) (sym e) ∙ ap Some (one b x)
+
+-- Nor its messages.
+pub emptied-popped : (w : World) (s : ℕ) (q : List Message) → emptied (nat_eq s) (with_queue w s q) ≡ emptied (nat_eq s) w
+emptied-popped w s q = emptied-changed w s (λ x. record x { queue = q }) (λ x. refl)
 
 -- A file with nothing in it is empty.
 pub emptied-bare : (w : World) (s : ℕ) → queue_at w s ≡ [] → held_by w s ≡ [] → emptied (nat_eq s) w ≡ w

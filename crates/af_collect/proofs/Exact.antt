@@ -1,5 +1,5 @@
 -- A store stays exact, whatever changes in its world and in its ledger at once.
-use Rattle.std.proofs.Common.{◌≡◌, ◌<◌, ◌≤◌, ℕ, zero, suc, ◌+◌, Bool, true, false, not, List, [], ◌∷◌, ◌++◌, length, refl, sym, ap, ◌∙◌, subst, cond, map, nat_eq, arith}
+use Rattle.std.proofs.Common.{◌≡◌, ◌<◌, ◌≤◌, ℕ, zero, suc, ◌+◌, Bool, true, false, not, List, [], ◌∷◌, ◌++◌, drop, length, refl, sym, ap, ◌∙◌, subst, cond, map, nat_eq, arith}
 use Rattle.std.specs.Prelude.{Option, Some, None, Result, Ok, Err, OnOk, OnErr, IfNone, IfSome, IsTrue, is_some, unwrap_or, if◌then◌else◌}
 use Rattle.std.specs.Cmp.{nat_cmp_total, unsigned_tied}
 use Rattle.std.specs.FinMap as finmap
@@ -13,12 +13,13 @@ use Rattle.af_base.specs.declared.limits.TheConstants.{MAX_INFLIGHT, MAX_MESSAGE
 use Rattle.af_base.specs.World.{AsSocket, File, IsLive, Map, Message, Plain, Process, Socket, World, empty_world, is_live}
 use Rattle.af_base.specs.Places.{contents, queue_of, table_at}
 use Rattle.af_base.specs.Counts.{refs, total}
-use Rattle.af_base.specs.Changes.{add_file, add_process, add_user, install, install_all, push_message, pushed, remove_process, uninstall, with_queue}
+use Rattle.af_base.specs.Changes.{add_file, add_process, add_user, dequeued, install, install_all, push_message, pushed, remove_process, uninstall, with_queue, with_socket}
 use Rattle.af_base.specs.Refusals.{is_crowded, is_full}
 use Rattle.af_base.specs.Steps.{connected_socket, spawned, with_pair}
 use Rattle.af_base.specs.Unheld.{without}
-use Rattle.af_base.specs.Whole.{IsMessageWithin, IsSound}
+use Rattle.af_base.specs.Whole.{IsMessageWithin, IsSound, IsWhole, IsWithin}
 use Rattle.af_base.proofs.Born.{fresh_file, whole-spawned}
+use Rattle.af_base.proofs.Connections.{live-embryo, whole-accepted, within-accepted}
 use Rattle.af_base.proofs.Elements.{Contains-first, Contains-later}
 use Rattle.af_base.proofs.Ended.{whole-remove_process, within-remove_process}
 use Rattle.af_base.proofs.Free.{AreFree, first-free, first-low, rest-free}
@@ -35,12 +36,12 @@ use Rattle.af_ledger.specs.Counted.{places_in, uncounted}
 use Rattle.af_ledger.specs.Kept.{Kept, charged_less, charged_more, dropped, dropped_all, has_count, held, held_all, is_user, is_waiting, with_user}
 use Rattle.af_ledger.specs.declared.count.Count.{Count}
 use Rattle.af_ledger.specs.declared.place.Place.{Place}
-use Rattle.af_ledger.specs.declared.place.Place.TheVariants.{Queue, Table}
+use Rattle.af_ledger.specs.declared.place.Place.TheVariants.{Backlog, Queue, Table}
 use Rattle.af_ledger.proofs.HeldAll.{has-dropped_all, has-held_all}
 use Rattle.af_ledger.proofs.Laws.{has-dropped, has-entered, has-held, has-struck, users-held}
 use Rattle.af_collect.specs.Agreement.{IsExact}
 use Rattle.af_collect.specs.Stored.{filled}
-use Rattle.af_collect.proofs.Agreement.{agrees-empty, agrees-entered, agrees-gone, agrees-install, agrees-new_file, agrees-push, agrees-remove_process, agrees-shed, agrees-spawned, agrees-struck, agrees-uninstall}
+use Rattle.af_collect.proofs.Agreement.{agrees-dequeued, agrees-empty, agrees-entered, agrees-gone, agrees-install, agrees-new_file, agrees-push, agrees-remove_process, agrees-shed, agrees-spawned, agrees-struck, agrees-uninstall}
 use Rattle.af_collect.proofs.Bounds.{can-drop-all}
 use Rattle.af_collect.proofs.Sheds.{Sheds}
 
@@ -59,7 +60,7 @@ exact-room w k room h =
     record {
       whole = h.whole;
       within = h.within;
-      agrees = record { refs = a.refs; tabled = a.tabled; inflight = a.inflight; charged = a.charged; total = a.total; known = a.known };
+      agrees = record { refs = a.refs; tabled = a.tabled; inflight = a.inflight; waiting = a.waiting; charged = a.charged; total = a.total; known = a.known };
       counted = h.counted;
       entered = h.entered;
     }
@@ -119,10 +120,12 @@ exact-uninstall w p n f k is h = record {
 last-charged_more : (p : Place) (k : Kept) → (charged_more p k).last ≡ k.last
 last-charged_more Table k = refl
 last-charged_more (Queue u) k = refl
+last-charged_more Backlog k = refl
 
 last-charged_less : (p : Place) (k : Kept) → (charged_less p k).last ≡ k.last
 last-charged_less Table k = refl
 last-charged_less (Queue u) k = refl
+last-charged_less Backlog k = refl
 
 last-held_all : (p : Place) (fs : List ℕ) (k : Kept) → (held_all p fs k).last ≡ k.last
 last-held_all p [] k = refl
@@ -155,6 +158,18 @@ exact-shed w s m rest x k at shed h =
       entered = subst (λ n. n < w.next_ino) (sym (last-dropped_all (Queue m.user) m.attached k)) h.entered;
     }
 
+-- The first embryo leaves a backlog.
+pub exact-dequeued : (w : World) (s f : ℕ) (x : Socket) (k : Kept) → finmap.get w.files s ≡ Some (AsSocket x) → x.backlog ≡ f ∷ drop 1 x.backlog → IsExact w k → IsExact (with_socket w s dequeued) (dropped Backlog f k)
+exact-dequeued w s f x k at first h =
+    let live = live-embryo w s f x h.whole at (subst (λ xs. Contains xs f) (sym first) (Contains-first f (drop 1 x.backlog))) in
+    record {
+      whole = whole-accepted w s x at h.whole;
+      within = within-accepted w s x h.within at;
+      agrees = agrees-dequeued w s f x k at first h.agrees;
+      counted = λ g. has-dropped Backlog f g k (h.counted f ∙ live) ∙ h.counted g ∙ sym (live-changed w s dequeued g);
+      entered = h.entered;
+    }
+
 -- A file that nothing holds, and that holds nothing, goes.
 pub exact-gone : (w : World) (f : ℕ) (x : File) (k : Kept) (room : ℕ) → finmap.get w.files f ≡ Some x → contents x ≡ [] → queue_of x ≡ [] → refs w f ≡ 0 → IsExact w k → IsExact (without (nat_eq f) w) (record k { counts = finmap.remove k.counts f; room = room })
 exact-gone w f x k room is bare silent none h = record {
@@ -169,7 +184,7 @@ exact-gone w f x k room is bare silent none h = record {
   by g false e = h.counted g ∙ sym (ap (λ c. cond (not c) (is_live w g) false) (told_apart f g (λ same. not_same g f e (sym same))))
 
 -- What is live with a file more.
-live-added : (w : World) (x : File) (g : ℕ) → is_live (add_file w x) g ≡ cond (nat_eq g w.next_ino) true (is_live w g)
+pub live-added : (w : World) (x : File) (g : ℕ) → is_live (add_file w x) g ≡ cond (nat_eq g w.next_ino) true (is_live w g)
 live-added w x g = ap is_some (finmap.get-insert nat_cmp_total w.files w.next_ino x g ∙ ap (λ b. cond b (Some x) (finmap.get w.files g)) (unsigned_tied g w.next_ino)) ∙ by (nat_eq g w.next_ino) where
   by : (b : Bool) → is_some (cond b (Some x) (finmap.get w.files g)) ≡ cond b true (is_live w g)
   by true = refl
@@ -179,17 +194,20 @@ live-added w x g = ap is_some (finmap.get-insert nat_cmp_total w.files w.next_in
 pub next-new : (w : World) (k : Kept) (f : ℕ) → IsExact w k → w.next_ino ≤ f → has_count k f ≡ false
 next-new w k f h low = h.counted f ∙ ap is_some (fresh_file w f h.whole low)
 
+-- A file more that holds nothing, which waits.
+pub exact-made : (w : World) (x : File) (k : Kept) (room : ℕ) → contents x ≡ [] → queue_of x ≡ [] → IsWhole (add_file w x) → IsWithin (add_file w x) → IsExact w k
+    → IsExact (add_file w x) (record k { counts = finmap.insert k.counts w.next_ino uncounted; last = w.next_ino; room = room })
+exact-made w x k room empty silent whole within h = record {
+  whole = whole;
+  within = within;
+  agrees = agrees-entered (add_file w x) w.next_ino k room (next-new w k w.next_ino h (omega arith)) (agrees-new_file w x k (fresh_file w w.next_ino h.whole (omega arith)) empty silent h.agrees);
+  counted = λ g. has-entered k w.next_ino g room ∙ ap (cond (nat_eq g w.next_ino) true) (h.counted g) ∙ sym (live-added w x g);
+  entered = omega arith;
+}
+
 -- A plain file more, which waits.
 pub exact-plain : (w : World) (k : Kept) (room : ℕ) → is_full w 1 ≡ false → IsExact w k → IsExact (add_file w Plain) (record k { counts = finmap.insert k.counts w.next_ino uncounted; last = w.next_ino; room = room })
-exact-plain w k room fits h =
-    let new = fresh_file w w.next_ino h.whole (omega arith) in
-    record {
-      whole = whole-plain w h.whole;
-      within = within-plain w h.within fits;
-      agrees = agrees-entered (add_file w Plain) w.next_ino k room (next-new w k w.next_ino h (omega arith)) (agrees-new_file w Plain k new refl refl h.agrees);
-      counted = λ g. has-entered k w.next_ino g room ∙ ap (cond (nat_eq g w.next_ino) true) (h.counted g) ∙ sym (live-added w Plain g);
-      entered = omega arith;
-    }
+exact-plain w k room fits h = exact-made w Plain k room refl refl (whole-plain w h.whole) (within-plain w h.within fits) h
 
 -- The second of two files with the next numbers is new to the ledger when the first was entered.
 second-stranger : (w : World) (k : Kept) (room : ℕ) → IsExact w k → has_count (record k { counts = finmap.insert k.counts w.next_ino uncounted; last = w.next_ino; room = room }) (w.next_ino + 1) ≡ false

@@ -16,3 +16,8 @@ pub mod Putting
 pub mod Receiving
 pub mod Filling
 pub mod Joined
+pub mod Losing
+pub mod Holding
+pub mod Altered
+pub mod Connecting
+pub mod Accepting

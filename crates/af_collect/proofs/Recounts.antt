@@ -1,5 +1,5 @@
 -- What each change of a world does to a single recount of it.
-use Rattle.std.proofs.Common.{◌≡◌, ℕ, ◌+◌, inl, inr, List, [], ◌∷◌, ◌++◌, refl, sym, ap, ◌∙◌, arith}
+use Rattle.std.proofs.Common.{◌≡◌, ℕ, ◌+◌, inl, inr, List, [], ◌∷◌, ◌++◌, drop, refl, sym, ap, ◌∙◌, arith}
 use Rattle.std.specs.Prelude.{Option, Some, None}
 use Rattle.std.specs.Option.{option_map_or}
 use Rattle.std.specs.List.{sum_by}
@@ -7,9 +7,10 @@ use Rattle.std.specs.FinMap as map
 use Rattle.std.proofs.lemmas.List.Sums.{sum_by-cons, sum_by-append}
 use Rattle.std.proofs.lemmas.Grind.{flat_map-append}
 use Rattle.af_base.specs.World.{AsSocket, Map, Message, Process, Socket, World}
-use Rattle.af_base.specs.Places.{carried, queue_of}
-use Rattle.af_base.specs.Counts.{charge, charged, count_in, one, tabled, total_of}
-use Rattle.af_base.specs.Changes.{file_with, install, push_message, uninstall, with_queue}
+use Rattle.af_base.specs.Places.{backlog_of, carried, contents, queue_of}
+use Rattle.af_base.specs.Counts.{charge, charged, count_in, one, refs, tabled, total_of, waiting}
+use Rattle.af_base.specs.Changes.{dequeued, file_with, install, push_message, uninstall, with_queue, with_socket}
+use Rattle.af_base.proofs.Held.{count-cons}
 use Rattle.af_base.proofs.Lookups.{none_some, remove-here, remove-other, same_or_not}
 use Rattle.af_base.proofs.Places.{count-append, refs-install, refs-uninstall}
 use Rattle.af_base.proofs.Replaced.{refs-replace}
@@ -42,6 +43,23 @@ charged-push w s m u x at =
 -- A message taken is charged in no queue any more.
 pub charged-shed : (w : World) (s : ℕ) (m : Message) (rest : List Message) (u : ℕ) (x : Socket) → map.get w.files s ≡ Some (AsSocket x) → Sheds x.queue m rest → charged (with_queue w s rest) u + charge u m ≡ charged w u
 charged-shed w s m rest u x at shed = omega (arith, total-change_at (λ y. sum_by (charge u) (queue_of y)) (file_with (λ x. record x { queue = rest })) w.files s (AsSocket x) at, shed.charged u)
+
+-- The first embryo that leaves a backlog has a place less there.
+pub waiting-dequeued : (w : World) (s n f : ℕ) (x : Socket) → map.get w.files s ≡ Some (AsSocket x) → x.backlog ≡ n ∷ drop 1 x.backlog → waiting (with_socket w s dequeued) f + one f n ≡ waiting w f
+waiting-dequeued w s n f x at first =
+    omega (arith, ap (count_in f) first, count-cons f n (drop 1 x.backlog), total-change_at (λ y. count_in f (backlog_of y)) (file_with dequeued) w.files s (AsSocket x) at)
+
+-- And it is held once less.
+pub refs-dequeued : (w : World) (s n f : ℕ) (x : Socket) → map.get w.files s ≡ Some (AsSocket x) → x.backlog ≡ n ∷ drop 1 x.backlog → refs (with_socket w s dequeued) f + one f n ≡ refs w f
+refs-dequeued w s n f x at first =
+    omega (
+      arith,
+      ap (count_in f) first,
+      count-cons f n (drop 1 x.backlog),
+      count-append f (carried x.queue) x.backlog,
+      count-append f (carried x.queue) (drop 1 x.backlog),
+      total-change_at (λ y. count_in f (contents y)) (file_with dequeued) w.files s (AsSocket x) at,
+    )
 
 -- What two lists of messages carry is what the one does and then the other.
 pub carried-append : (ps qs : List Message) → carried (ps ++ qs) ≡ carried ps ++ carried qs

@@ -1,15 +1,15 @@
 -- What is let go on the way changes nothing of the outcome.
 use Rattle.std.proofs.Common.{◌≡◌, ◌<◌, ℕ, ◌+◌, Bool, true, false, not, ◌⊎◌, inl, inr, List, [], ◌∷◌, ◌++◌, length, append_assoc, refl, sym, ap, ◌∙◌, subst, cond, nat_eq, arith, drop}
 use Rattle.std.specs.Prelude.{Option, Some, None, option_map}
-use Rattle.std.specs.Cmp.{nat_cmp_total, unsigned_tied}
+use Rattle.std.specs.Cmp.{nat_cmp_total}
 use Rattle.std.specs.FinMap as map
 use Rattle.std.specs.FinMap.{nat_cmp-IsAntisymmetric}
 use Rattle.std.specs.List.{Contains}
 use Rattle.std.specs.Option.{option_map_or}
 use Rattle.std.proofs.lemmas.List.Elements.{Contains-append_right}
 use Rattle.af_base.specs.World.{AsSocket, File, IsLive, Message, Plain, Socket, World}
-use Rattle.af_base.specs.Places.{Holds, carried, contents, held_by, queue_at, queue_of}
-use Rattle.af_base.specs.Counts.{refs}
+use Rattle.af_base.specs.Places.{Holds, backlog_of, carried, contents, held_by, queue_at, queue_of}
+use Rattle.af_base.specs.Counts.{refs, total_of}
 use Rattle.af_base.specs.Changes.{file_with, with_queue, with_socket}
 use Rattle.af_base.specs.Release.{messages_in}
 use Rattle.af_base.specs.Unheld.{Goes, Settles, Unheld, file_without, without}
@@ -17,22 +17,15 @@ use Rattle.af_base.specs.Whole.{IsWithin}
 use Rattle.af_base.proofs.Dropped.{messages-without, total-without}
 use Rattle.af_base.proofs.Held.{held_by_none}
 use Rattle.af_base.proofs.Lookups.{insert-here, same_or_not, there}
-use Rattle.af_base.proofs.Moved.{live-changed, there-holds}
+use Rattle.af_base.proofs.Moved.{live-changed, others-changed, there-holds, total-changed}
 use Rattle.af_base.proofs.Settling.{get-without}
 use Rattle.af_base.proofs.Stepped.{same-with_queue}
-use Rattle.af_base.proofs.Stepping.{get-change_at}
 use Rattle.af_base.proofs.Sums.{total-change_at}
 use Rattle.af_base.proofs.Totals.{total-count}
 use Rattle.af_base.proofs.Trees.{insert_same}
 use Rattle.af_base.proofs.Within.{len-change_at}
+use Rattle.af_collect.proofs.Dropped.{same_backlog}
 use Rattle.af_collect.proofs.Sheds.{Sheds, sheds-first}
-
--- The other files are what they were where one socket was changed.
-other-files : (w : World) (s : ℕ) (g : Socket → Socket) (q : ℕ) → nat_eq q s ≡ false → map.get (with_socket w s g).files q ≡ map.get w.files q
-other-files w s g q apart = get-change_at (file_with g) w.files s q ∙ ap (λ b. option_map (λ x. cond b (file_with g x) x) (map.get w.files q)) (unsigned_tied q s ∙ apart) ∙ kept (map.get w.files q) where
-  kept : (o : Option File) → option_map (λ x. x) o ≡ o
-  kept None = refl
-  kept (Some x) = refl
 
 -- A socket that nothing holds lets go of some of what it holds.
 module _ (w : World) (s : ℕ) (g : Socket → Socket) (live : IsLive w s) (none : refs w s ≡ 0) (fewer : (f : ℕ) → Holds (with_socket w s g) s f → Holds w s f) where
@@ -42,7 +35,7 @@ module _ (w : World) (s : ℕ) (g : Socket → Socket) (live : IsLive w s) (none
 
   -- The others hold what they held.
   others : (q : ℕ) → nat_eq q s ≡ false → held_by after q ≡ held_by w q
-  others q apart = ap (λ o. option_map_or contents o []) (other-files w s g q apart)
+  others q apart = ap (λ o. option_map_or contents o []) (others-changed w s g q apart)
 
   -- What is held was held.
   held-before : (q f : ℕ) → Holds after q f → Holds w q f
@@ -79,7 +72,7 @@ module _ (w : World) (s : ℕ) (g : Socket → Socket) (live : IsLive w s) (none
     by : (q : ℕ) → (q ≡ s) ⊎ (nat_eq q s ≡ false) → cond (not (gone q)) (option_map (file_without gone) (map.get after.files q)) None ≡ cond (not (gone q)) (option_map (file_without gone) (map.get w.files q)) None
     by q which = elim which [
       | inl same ↦ let e = ap gone same ∙ goes in nothing q e (map.get after.files q) ∙ sym (nothing q e (map.get w.files q))
-      | inr apart ↦ ap (λ o. cond (not (gone q)) (option_map (file_without gone) o) None) (other-files w s g q apart)
+      | inr apart ↦ ap (λ o. cond (not (gone q)) (option_map (file_without gone) o) None) (others-changed w s g q apart)
     ]
 
   -- So the outcome is the same.
@@ -130,22 +123,26 @@ emptied-same w s empty = by (map.get w.files s) refl where
       let none : x.queue ≡ [] = sym (ap (λ o. option_map_or queue_of o []) e) ∙ empty in
       ap (with_queue w s) (sym none) ∙ same-with_queue w s x e
 
--- How much a release has to do: files, and messages in queues.
+-- How many embryos wait in all backlogs together.
+abbrev embryos_in : World → ℕ
+embryos_in w = total_of (λ x. length (backlog_of x)) w.files
+
+-- How much a release has to do: files, messages in queues, and embryos in backlogs.
 abbrev pub burden : World → ℕ
-burden w = map.len w.files + messages_in w
+burden w = map.len w.files + messages_in w + embryos_in w
 
 -- A message less is less to do.
 pub burden-popped : (w : World) (s : ℕ) (m : Message) (rest : List Message) → queue_at w s ≡ m ∷ rest → burden (with_queue w s rest) < burden w
 burden-popped w s m rest first =
     let x = queue-socket w s m rest first in
     let long : length (x.0).queue ≡ length rest + 1 = ap length x.2 ∙ omega arith in
-    omega (arith, long, len-change_at (file_with (λ y. record y { queue = rest })) w.files s, total-change_at (λ y. length (queue_of y)) (file_with (λ y. record y { queue = rest })) w.files s (AsSocket x.0) x.1)
+    omega (arith, long, total-changed (λ y. length (backlog_of y)) w s (λ y. record y { queue = rest }) (λ y. refl), len-change_at (file_with (λ y. record y { queue = rest })) w.files s, total-change_at (λ y. length (queue_of y)) (file_with (λ y. record y { queue = rest })) w.files s (AsSocket x.0) x.1)
 
 -- A file less is less to do.
 pub burden-gone : (w : World) (f : ℕ) → IsLive w f → burden (without (nat_eq f) w) < burden w
 burden-gone w f live =
     let x = there (map.get w.files f) live in
-    omega (arith, messages-without w f x.0 x.1, total-without (λ y. 1) (λ h y. refl) w f x.0 x.1, total-count w.files, total-count (without (nat_eq f) w).files)
+    omega (arith, messages-without w f x.0 x.1, total-without (λ y. length (backlog_of y)) (λ h y. ap length (same_backlog h y)) w f x.0 x.1, total-without (λ y. 1) (λ h y. refl) w f x.0 x.1, total-count w.files, total-count (without (nat_eq f) w).files)
 
 -- To drop the first of an empty queue changes nothing.
 pub none-popped : (w : World) (s : ℕ) → queue_at w s ≡ [] → with_queue w s (drop 1 (queue_at w s)) ≡ w
@@ -162,13 +159,3 @@ pub burden-less : (w v : World) (s : ℕ) → v ≡ with_queue w s (drop 1 (queu
 burden-less w v s is some =
     let first = queue-first (queue_at w s) some in
     subst (λ x. burden x < burden w) (sym is) (burden-popped w s first.0 (drop 1 (queue_at w s)) first.1)
-
--- The queue that is left.
-pub queue-left : (w : World) (s : ℕ) → 0 < length (queue_at w s) → length (queue_at (with_queue w s (drop 1 (queue_at w s))) s) < length (queue_at w s)
-queue-left w s some =
-    let first = queue-first (queue_at w s) some in
-    let x = queue-socket w s first.0 (drop 1 (queue_at w s)) first.1 in
-    let rest = drop 1 (queue_at w s) in
-    let here : queue_at (with_queue w s rest) s ≡ rest = ap (λ o. option_map_or queue_of (map.get (option_map_or (λ y. map.insert w.files s (file_with (λ z. record z { queue = rest }) y)) o w.files) s) []) x.1
-    ∙ ap (λ o. option_map_or queue_of o []) (insert-here w.files s (AsSocket (record x.0 { queue = rest }))) in
-    omega (arith, ap length here, ap length first.1)

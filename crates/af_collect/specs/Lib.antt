@@ -5,3 +5,4 @@ pub mod Agreement
 pub mod Marking
 pub mod Collecting
 pub mod Receiving
+pub mod Losing

@@ -1,5 +1,5 @@
 //! A whole pass of the collector: finds the files that no chain of places leads to from a table,
-//! empties their queues, and lets go what no place holds then.
+//! empties their queues and backlogs, and lets go what no place holds then.
 ghost use Rattle.std.specs.Prelude.{◌≡◌, IfOk, OnOk, OnErr, nat_eq};
 ghost use Rattle.std.specs.List.{count_by, list_any};
 ghost use Rattle.af_base.specs.Pass.{emptied};
@@ -30,7 +30,7 @@ impl Store {
         Ok(sockets)
     }
 
-    /// The queues of these files are emptied, one after the other.
+    /// The queues and backlogs of these files are emptied, one after the other.
     fn empty_all(&mut self, files: &[FileRef])
         ensures { self.new ≡ record self.old { world = emptied (λ f. list_any (nat_eq f) files.now) self.old.world } }
     {
@@ -43,7 +43,7 @@ impl Store {
     fn empty(&mut self, file: &FileRef)
         ensures { self.new ≡ record self.old { world = emptied (nat_eq file.now) self.old.world } }
     {
-        while self.drop_first(file) {}
+        while self.drop_place(file) {}
     }
 
     /// The live files that no chain of places leads to from a table, rising.
@@ -127,6 +127,12 @@ impl Store {
         };
         for message in socket.queue().messages() {
             marks.mark_all(message.attached())?;
+        }
+        let Some(backlog) = socket.backlog() else {
+            return Ok(());
+        };
+        for embryo in backlog.files() {
+            marks.mark(embryo)?;
         }
         Ok(())
     }

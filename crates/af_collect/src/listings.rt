@@ -1,5 +1,5 @@
 //! Plain lists of all that holds a file, for a recount that shares no walk with the engine.
-ghost use Rattle.std.specs.Prelude.{◌≡◌, ◌≤◌, ◌*◌, Some, IfOk, length, option_map};
+ghost use Rattle.std.specs.Prelude.{◌≡◌, ◌≤◌, ◌*◌, ◌+◌, Some, IfOk, length, option_map};
 ghost use Rattle.std.specs.FinMap as map;
 ghost use Rattle.af_base.specs.World as world;
 ghost use Rattle.af_base.specs.Places.{contents};
@@ -7,7 +7,7 @@ ghost use Rattle.af_base.specs.Bare.{bare, bare_file, bare_socket};
 ghost use Rattle.af_base.specs.Listing.{processes_of, files_of, file_of, socket_of, AreTables, AreFiles};
 
 use crate::store::Store;
-use af_base::limits::{MAX_MESSAGES, SCM_MAX_FD};
+use af_base::limits::{MAX_BACKLOG, MAX_MESSAGES, SCM_MAX_FD};
 use af_base::listing::{ListedFile, ListedMessage, ListedSocket, ListedTable, Listing};
 use af_base::names::{FileRef, Ino};
 use af_desc::Socket;
@@ -50,12 +50,12 @@ impl Store {
         Ok(files)
     }
 
-    /// A live file, with what it has to receive.
+    /// A live file, with what it has to receive and who waits at it.
     fn listed_file(&self, file: &FileRef) -> Result<ListedFile, AllocError>
         requires { world.IsLive self.now.world file.now }
         ensures ino { IfOk result (λ x. x.ino ≡ file.now) }
         ensures shown { IfOk result (λ x. Some (file_of x) ≡ option_map bare_file (map.get self.now.world.files file.now)) }
-        ensures few { IfOk result (λ x. length (contents (file_of x)) ≤ MAX_MESSAGES * SCM_MAX_FD) }
+        ensures few { IfOk result (λ x. length (contents (file_of x)) ≤ MAX_MESSAGES * SCM_MAX_FD + MAX_BACKLOG) }
     {
         let socket = match self.files.get(file).unwrap().socket() {
             Some(socket) => Some(listed_socket(self.alloc, socket)?),
@@ -68,10 +68,11 @@ impl Store {
     }
 }
 
-/// What a socket has to receive, as plain lists; no embryos wait yet.
+/// What a socket has to receive and who waits at it, as plain lists.
 fn listed_socket(alloc: Global, socket: &Socket) -> Result<ListedSocket, AllocError>
+    requires { length socket.now.backlog ≤ MAX_BACKLOG }
     ensures shown { IfOk result (λ s. socket_of s ≡ bare_socket socket.now) }
-    ensures few { IfOk result (λ s. length (contents (world.AsSocket (socket_of s))) ≤ MAX_MESSAGES * SCM_MAX_FD) }
+    ensures few { IfOk result (λ s. length (contents (world.AsSocket (socket_of s))) ≤ MAX_MESSAGES * SCM_MAX_FD + MAX_BACKLOG) }
 {
     let mut queue = Vec::new(alloc);
     for message in socket.queue().messages() {
@@ -82,8 +83,18 @@ fn listed_socket(alloc: Global, socket: &Socket) -> Result<ListedSocket, AllocEr
     }
     Ok(ListedSocket {
         queue,
-        backlog: Vec::new(alloc),
+        backlog: numbers_waiting(alloc, socket)?,
     })
+}
+
+/// The numbers of the embryos that wait at a socket.
+fn numbers_waiting(alloc: Global, socket: &Socket) -> Result<Vec<Ino>, AllocError>
+    ensures { IfOk result (λ inos. inos.items ≡ socket.now.backlog) }
+{
+    let Some(backlog) = socket.backlog() else {
+        return Ok(Vec::new(alloc));
+    };
+    backlog.files().iter().map(|file| file.ino()).collect(alloc)
 }
 
 /// The numbers of these files.

@@ -5,12 +5,13 @@ ghost use Rattle.std.specs.Prelude.{◌≡◌, ◌<◌, ◌≤◌, ◌+◌, ◌�
 ghost use Rattle.std.specs.List.{zip, All, Contains};
 ghost use Rattle.std.specs.FinMap as finmap;
 ghost use Rattle.af_base.specs.World as world;
-ghost use Rattle.af_base.specs.Places.{held_by, table_at, queue_at};
-ghost use Rattle.af_base.specs.Changes.{install, install_all, uninstall, push_message, with_queue};
+ghost use Rattle.af_base.specs.Places.{backlog_at, queue_at, table_at};
+ghost use Rattle.af_base.specs.Changes.{dequeued, install, install_all, push_message, uninstall, with_queue, with_socket};
 ghost use Rattle.af_base.specs.Counts.{total};
 ghost use Rattle.af_base.specs.Refusals.{process_at, socket_at};
 ghost use Rattle.af_base.specs.Table.{lowest_free};
 ghost use Rattle.af_base.specs.Whole.{IsMessageWithin};
+ghost use Rattle.af_collect.specs.Losing.{places_at, without_place};
 ghost use Rattle.af_collect.specs.Limits.{IsBelowLimit, IsOfProcess};
 ghost use Rattle.af_collect.specs.Receiving.{taken_at};
 ghost use Rattle.af_collect.specs.Stored.{filled, row_at};
@@ -130,13 +131,39 @@ impl Store {
     pub(crate) fn drop_first(&mut self, file: &FileRef) -> bool
         ensures world { self.new ≡ record self.old { world = with_queue self.old.world file.now (drop 1 (queue_at self.old.world file.now)) } }
         ensures some { IsTrue result → 0 < length (queue_at self.old.world file.now) }
-        ensures none { result ≡ false → held_by self.old.world file.now ≡ [] }
-        ensures empty { result ≡ false → queue_at self.old.world file.now ≡ [] }
+        ensures none { result ≡ false → queue_at self.old.world file.now ≡ [] }
     {
         let Some(message) = self.files.pop(file) else {
             return false;
         };
         self.ledger.drop_all(message.user(), message.attached());
         true
+    }
+
+    /// The first embryo of a listener waits no more, and its place in the backlog goes. Whether one
+    /// waited. It takes no memory.
+    pub(crate) fn drop_embryo(&mut self, file: &FileRef) -> bool
+        ensures world { self.new ≡ record self.old { world = with_socket self.old.world file.now dequeued } }
+        ensures some { IsTrue result → 0 < length (backlog_at self.old.world file.now) }
+        ensures none { result ≡ false → backlog_at self.old.world file.now ≡ [] }
+    {
+        let Some(embryo) = self.files.dequeue(file) else {
+            return false;
+        };
+        self.ledger.drop_one(Place::Backlog, &embryo);
+        true
+    }
+
+    /// The first message of a file goes, or, where it has none, its first embryo, and the places with
+    /// it. Whether the file had one of the two. It takes no memory.
+    pub(crate) fn drop_place(&mut self, file: &FileRef) -> bool
+        ensures world { self.new ≡ record self.old { world = without_place self.old.world file.now } }
+        ensures some { IsTrue result → 0 < places_at self.old.world file.now }
+        ensures none { result ≡ false → places_at self.old.world file.now ≡ 0 }
+    {
+        if self.drop_first(file) {
+            return true;
+        }
+        self.drop_embryo(file)
     }
 }

@@ -19,7 +19,7 @@ impl Store {
         ensures rows { self.new.rows ≡ self.old.rows }
     {
         while let Some(file) = self.next_waiting() {
-            if !self.drop_first(&file) {
+            if !self.drop_place(&file) {
                 self.take_away(&file);
             }
         }

@@ -1,13 +1,14 @@
 -- Files under numbers that are never used again.
-use Rattle.std.specs.Prelude.{ℕ, ◌+◌, Bool, Option, drop, unwrap_or}
+use Rattle.std.specs.Prelude.{◌≡◌, ◌↔◌, ℕ, ◌+◌, Bool, List, Option, Some, drop, unwrap_or}
 use Rattle.std.specs.Option.{option_and_then}
 use Rattle.af_base.specs.declared.events.SockType.{SockType}
 use Rattle.std.specs.FinMap as map
 use Rattle.af_base.specs.declared.events.State.TheVariants as state
 use Rattle.af_base.specs.World.{Map, File, Socket, AsSocket}
 use Rattle.af_base.specs.Refusals.{is_full_of, no_socket, socket_of}
-use Rattle.af_base.specs.Steps.{connected_socket}
+use Rattle.af_base.specs.Steps.{connected_socket, idle_socket}
 use Rattle.af_base.specs.Take.{take_from}
+use Rattle.af_listen.specs.Named.{Named}
 use Rattle.af_queue.specs.Received.{Received, received}
 
 -- The world's files, and the number that the next one gets (this project's own).
@@ -22,10 +23,6 @@ is_full v k = is_full_of v.files v.next k
 -- Whether the number has a file (this project's own).
 abbrev pub is_live : Filed → ℕ → Bool
 is_live v f = map.contains_key v.files f
-
--- A new socket that was never connected (unix(7)).
-abbrev pub idle_socket : SockType → Socket
-idle_socket kind = record no_socket { kind = kind }
 
 -- The files with two sockets more, n and n + 1, connected to each other (socketpair(2)).
 abbrev pub with_pair : SockType → ℕ → Map File → Map File
@@ -52,3 +49,15 @@ received_of o n = let s = unwrap_or o no_socket in received s.kind s.queue n
 -- A socket after a receive of at most n bytes (recvmsg(2)).
 abbrev pub received_from : ℕ → Socket → Socket
 received_from n s = record s { queue = (take_from s.kind s.queue n).rest }
+
+-- The abstract name of a file, if it is a socket that has one (unix(7)).
+abbrev pub name_of : File → Option (List ℕ)
+name_of x = option_and_then (λ s. s.name) (socket_of x)
+
+-- The abstract name of the file f of these.
+abbrev pub name_in : Map File → ℕ → Option (List ℕ)
+name_in files f = option_and_then (λ s. s.name) (socket_in files f)
+
+-- The names are just those of these files: a name leads to the one socket that has it (unix(7), abstract names).
+pub record AreNamed (names : Named) (files : Map File) : Type 0 where
+  pub each : (name : List ℕ) (f : ℕ) → (map.get names name ≡ Some f) ↔ (name_in files f ≡ Some name)

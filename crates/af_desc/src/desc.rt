@@ -1,15 +1,16 @@
 //! An open file description.
-ghost use Rattle.std.specs.Prelude.{◌≡◌, ◌∷◌, [], ◌<◌, IfSome, IfNone, IfOk, OnOk, OnErr, length, drop, option_copied};
+ghost use Rattle.std.specs.Prelude.{◌≡◌, ◌∷◌, [], ◌<◌, IfSome, IfNone, IfOk, OnOk, OnErr, None, false, is_none, length, drop, option_copied};
 ghost use Rattle.af_base.specs.World as world;
-ghost use Rattle.af_base.specs.Places.{queue_of, contents};
-ghost use Rattle.af_base.specs.Changes.{file_with, pushed};
-ghost use Rattle.af_base.specs.Refusals.{socket_of};
-ghost use Rattle.af_base.specs.Steps.{connected_socket};
+ghost use Rattle.af_base.specs.Places.{backlog_of, queue_of};
+ghost use Rattle.af_base.specs.Changes.{bound, connected, dequeued, file_with, listening, pushed, queued};
+ghost use Rattle.af_base.specs.Refusals.{room_of, socket_of};
+ghost use Rattle.af_base.specs.Steps.{connected_socket, idle_socket};
 ghost use Rattle.af_base.specs.Whole.{IsMessageWithin};
-ghost use Rattle.af_desc.specs.Filed.{idle_socket, hung_up, popped, received_from, received_of};
+ghost use Rattle.af_desc.specs.Filed.{hung_up, name_of, popped, received_from, received_of};
 
 use crate::socket::Socket;
 use af_base::events::SockType;
+use af_base::items::Items;
 use af_base::limits::MAX_MESSAGES;
 use af_base::names::FileRef;
 use af_queue::{Msg, Taken};
@@ -75,6 +76,13 @@ impl Desc {
         }
     }
 
+    /// The abstract name of a socket, if it has one.
+    pub(crate) fn name(&self) -> Option<&Items<u8>>
+        ensures { option_copied result ≡ name_of self.now }
+    {
+        self.socket()?.name()
+    }
+
     /// Where the peer stands, for a socket that is connected to it. Nothing that a contract sees
     /// changes.
     pub(crate) fn point(&mut self, peer: &FileRef)
@@ -126,12 +134,68 @@ impl Desc {
     pub(crate) fn pop(&mut self) -> Option<Msg>
         ensures some { IfSome result (λ m. queue_of self.old ≡ m ∷ drop 1 (queue_of self.old)) }
         ensures none { IfNone result (queue_of self.old ≡ []) }
-        ensures bare { IfNone result (contents self.old ≡ []) }
         ensures rest { self.new ≡ file_with popped self.old }
     {
         match &mut self.kind {
             Kind::Plain => None,
             Kind::Socket(socket) => socket.pop(),
+        }
+    }
+
+    /// A socket without a name has this one from now on; a plain file has none. On an error nothing
+    /// has changed.
+    pub(crate) fn bind(&mut self, alloc: Global, name: Items<u8>) -> Result<(), AllocError>
+        requires { IfSome (socket_of self.old) (λ s. s.name ≡ None) }
+        ensures ok { OnOk result (self.new ≡ file_with (bound name) self.old) }
+        ensures err { OnErr result (self.new ≡ self.old) }
+    {
+        match &mut self.kind {
+            Kind::Plain => Ok(()),
+            Kind::Socket(socket) => socket.bind(alloc, name),
+        }
+    }
+
+    /// A socket with a name waits for connections from now on. On an error nothing has changed.
+    pub(crate) fn listen(&mut self, alloc: Global, most: u32) -> Result<(), AllocError>
+        requires named { IfSome (socket_of self.old) (λ s. is_none s.name ≡ false) }
+        requires nobody { backlog_of self.old ≡ [] }
+        ensures ok { OnOk result (self.new ≡ file_with (listening most) self.old) }
+        ensures err { OnErr result (self.new ≡ self.old) }
+    {
+        match &mut self.kind {
+            Kind::Plain => Ok(()),
+            Kind::Socket(socket) => socket.listen(alloc, most),
+        }
+    }
+
+    /// A socket is connected to that one from now on.
+    pub(crate) fn connect(&mut self, peer: &FileRef)
+        ensures { self.new ≡ file_with (connected peer.now) self.old }
+    {
+        if let Kind::Socket(socket) = &mut self.kind {
+            socket.connect(peer);
+        }
+    }
+
+    /// An embryo more waits at a listener, last.
+    pub(crate) fn enqueue(&mut self, embryo: FileRef)
+        requires { IfSome (socket_of self.old) (λ s. length s.backlog < room_of s.state) }
+        ensures { self.new ≡ file_with (queued embryo) self.old }
+    {
+        if let Kind::Socket(socket) = &mut self.kind {
+            socket.enqueue(embryo);
+        }
+    }
+
+    /// The first embryo waits no more, if one does.
+    pub(crate) fn dequeue(&mut self) -> Option<FileRef>
+        ensures some { IfSome result (λ f. backlog_of self.old ≡ f ∷ drop 1 (backlog_of self.old)) }
+        ensures none { IfNone result (backlog_of self.old ≡ []) }
+        ensures rest { self.new ≡ file_with dequeued self.old }
+    {
+        match &mut self.kind {
+            Kind::Plain => None,
+            Kind::Socket(socket) => socket.dequeue(),
         }
     }
 }

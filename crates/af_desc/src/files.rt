@@ -1,39 +1,45 @@
 //! The files, by their numbers.
-ghost use Rattle.std.specs.Prelude.{◌≡◌, ℕ, ◌+◌, ◌<◌, ◌≤◌, ◌∷◌, [], false, None, IsTrue, IfSome, IfNone, IfOk, OnOk, OnErr, option_copied, length, drop};
+ghost use Rattle.std.specs.Prelude.{◌≡◌, ℕ, ◌+◌, ◌<◌, ◌≤◌, ◌∷◌, [], false, None, IsTrue, IfSome, IfNone, IfOk, OnOk, OnErr, is_none, option_copied, length, drop};
 ghost use Rattle.std.specs.FinMap as map;
 ghost use Rattle.af_base.specs.World as world;
 ghost use Rattle.af_base.specs.World.{Map};
-ghost use Rattle.af_base.specs.Places.{queue_in, held_in};
-ghost use Rattle.af_base.specs.Changes.{change_socket_at, pushed};
+ghost use Rattle.af_base.specs.Places.{backlog_in, queue_in};
+ghost use Rattle.af_base.specs.Names.{named};
+ghost use Rattle.af_base.specs.Changes.{bound, change_socket_at, connected, dequeued, listening, pushed, queued};
+ghost use Rattle.af_base.specs.Refusals.{room_of};
+ghost use Rattle.af_base.specs.Steps.{connected_socket, idle_socket};
 ghost use Rattle.af_order.specs.Keyed.{AreInPlace, values_of};
 ghost use Rattle.af_base.specs.Whole.{IsMessageWithin};
-ghost use Rattle.af_desc.specs.Filed.{is_full, is_live, idle_socket, with_pair, hung_up, popped, received_from, received_of, socket_in};
+ghost use Rattle.af_desc.specs.Filed.{is_full, is_live, name_of, with_pair, hung_up, popped, received_from, received_of, socket_in};
 
 use crate::desc::Desc;
 use af_base::events::SockType;
+use af_base::items::Items;
 use af_base::limits::{MAX_FILES, MAX_INO, MAX_MESSAGES};
 use af_base::names::{FileRef, Ino};
+use af_listen::Names;
 use af_order::{Entry, Order, key_of, put, reserve, take};
 use af_queue::{Msg, Taken};
 use slab::Slab;
 use std::alloc::{AllocError, Global};
 use std::marker::Model;
 
-/// The files, each under a number that is never used again. A `FileRef` that was handed out has the
-/// key at which its file stands as a hint.
+/// The files, each under a number that is never used again, and the names of those that have one. A
+/// `FileRef` that was handed out has the key at which its file stands as a hint.
 #[derive(Drop)]
 pub struct Files {
     alloc: Global,
     order: Order,
     slab: Slab<Entry<Desc>>,
     next: u64,
+    names: Names,
 }
 
 impl Model for Files {
     ghost use Rattle.std.specs.FinMap as map;
     ghost use Rattle.std.specs.Coded.{codes};
     ghost use Rattle.std.specs.Prelude.{◌≡◌, ◌<◌, false};
-    ghost use Rattle.af_desc.specs.Filed.{Filed};
+    ghost use Rattle.af_desc.specs.Filed.{AreNamed, Filed};
     ghost use Rattle.af_order.specs.Keyed.{AreInPlace, values_of};
 
     ghost Value = { Filed };
@@ -42,7 +48,7 @@ impl Model for Files {
 
     ghost view = { λ a. record { files = values_of a.order.keys a.slab; next = a.next } };
 
-    ghost invariant = { λ a. AreInPlace a.order.keys a.slab × (a.order.last < a.next) × (map.contains_key (values_of a.order.keys a.slab) 0 ≡ false) };
+    ghost invariant = { λ a. AreInPlace a.order.keys a.slab × (a.order.last < a.next) × (map.contains_key (values_of a.order.keys a.slab) 0 ≡ false) × AreNamed a.names (values_of a.order.keys a.slab) };
 }
 
 impl Files {
@@ -56,6 +62,7 @@ impl Files {
             order: Order::new(alloc),
             slab: Slab::new(alloc),
             next: 1,
+            names: Names::new(alloc),
         }
     }
 
@@ -102,6 +109,13 @@ impl Files {
         Some(&entry.value)
     }
 
+    /// The socket of this abstract name, if there is one (unix(7)): one look-up, however many have one.
+    pub fn named(&self, name: &Items<u8>) -> Option<FileRef>
+        ensures { result ≡ named self.now.files name.now }
+    {
+        self.names.find(name)
+    }
+
     /// The least number above this one that a file has, if there is one; from 0 on, the least of all.
     /// This one need not have one.
     #[tactic(auto, using(af_order::proofs::Keyed::finds))]
@@ -118,7 +132,8 @@ impl Files {
     /// A file more, under the next number. Room comes first, so that on an error nothing has changed.
     #[tactic(auto, using(af_order::proofs::Keyed::comes_and_goes, crate::proofs::Begun::begun))]
     fn make(&mut self, desc: Desc) -> Result<FileRef, AllocError>
-        requires { self.old.next < MAX_INO + 1 }
+        requires number { self.old.next < MAX_INO + 1 }
+        requires nameless { name_of desc ≡ None }
         ensures ino { IfOk result (λ ino. ino ≡ self.old.next) }
         ensures files { OnOk result (self.new.files ≡ map.insert self.old.files self.old.next desc) }
         ensures next { OnOk result (self.new.next ≡ self.old.next + 1) }
@@ -143,7 +158,7 @@ impl Files {
     }
 
     /// A socket more that was never connected, under the next number, where `is_full(1)` is false. On
-    /// an error nothing has changed. No event makes one yet.
+    /// an error nothing has changed.
     pub fn make_sock(&mut self, kind: SockType) -> Result<FileRef, AllocError>
         requires room { is_full self.old 1 ≡ false }
         ensures ino { IfOk result (λ ino. ino ≡ self.old.next) }
@@ -177,15 +192,19 @@ impl Files {
         Ok((first, second))
     }
 
-    /// The file goes, and is handed on; nothing of a stranger. Its number is never given again. It
-    /// takes no memory.
+    /// The file goes, and is handed on; nothing of a stranger. Its number is never given again, and
+    /// its name is free. It takes no memory.
     #[tactic(auto, using(af_order::proofs::Keyed::comes_and_goes, crate::proofs::Begun::begun))]
     pub fn remove(&mut self, file: &FileRef) -> Option<Desc>
         ensures value { result ≡ map.get self.old.files file.now }
         ensures files { self.new.files ≡ map.remove self.old.files file.now }
         ensures next { self.new.next ≡ self.old.next }
     {
-        take(&mut self.order, &mut self.slab, file)
+        let desc = take(&mut self.order, &mut self.slab, file)?;
+        if let Some(name) = desc.name() {
+            self.names.unbind(name);
+        }
+        Some(desc)
     }
 
     /// The peer of that socket is gone from now on. A plain file or a stranger stays as it is. It
@@ -243,13 +262,11 @@ impl Files {
         entry.value.take(self.alloc, max)
     }
 
-    /// The first message out of the queue of that socket, if there is one: where there is none, the
-    /// file holds nothing at all. It takes no memory.
+    /// The first message out of the queue of that socket, if there is one. It takes no memory.
     #[tactic(auto, using(af_order::proofs::Keyed::writes, crate::proofs::Begun::begun))]
     pub fn pop(&mut self, file: &FileRef) -> Option<Msg>
         ensures some { IfSome result (λ m. queue_in self.old.files file.now ≡ m ∷ drop 1 (queue_in self.old.files file.now)) }
         ensures none { IfNone result (queue_in self.old.files file.now ≡ []) }
-        ensures bare { IfNone result (held_in self.old.files file.now ≡ []) }
         ensures files { self.new.files ≡ change_socket_at popped self.old.files file.now }
         ensures next { self.new.next ≡ self.old.next }
     {
@@ -257,6 +274,137 @@ impl Files {
         let entry = self.slab.get_mut(key)?;
         entry.value.pop()
     }
+
+    /// A socket more, connected to that client, which is connected to it in turn: an embryo, under
+    /// the next number, where `is_full(1)` is false. On an error nothing has changed.
+    #[tactic(auto, using(af_order::proofs::Keyed::comes_and_goes, crate::proofs::Begun::begun))]
+    pub fn make_embryo(&mut self, kind: SockType, client: &FileRef) -> Result<FileRef, AllocError>
+        requires room { is_full self.old 1 ≡ false }
+        ensures ino { IfOk result (λ ino. ino ≡ self.old.next) }
+        ensures files { OnOk result (self.new.files ≡ change_socket_at (connected self.old.next) (map.insert self.old.files self.old.next (world.AsSocket (connected_socket kind client.now))) client.now) }
+        ensures next { OnOk result (self.new.next ≡ self.old.next + 1) }
+        ensures err { OnErr result (self.new ≡ self.old) }
+    {
+        let embryo = self.make(Desc::connected(self.alloc, kind, client))?;
+        self.connect(client, &embryo);
+        Ok(embryo)
+    }
+
+    /// That socket is connected to this peer from now on. A plain file or a stranger stays as it is.
+    /// It takes no memory.
+    #[tactic(auto, using(af_order::proofs::Keyed::writes, crate::proofs::Begun::begun))]
+    fn connect(&mut self, file: &FileRef, peer: &FileRef)
+        ensures files { self.new.files ≡ change_socket_at (connected peer.now) self.old.files file.now }
+        ensures next { self.new.next ≡ self.old.next }
+    {
+        let Some(key) = key_of(&self.order, &self.slab, file) else {
+            return;
+        };
+        let Some(entry) = self.slab.get_mut(key) else {
+            return;
+        };
+        entry.value.connect(peer);
+    }
+
+    /// That socket, which has no name, has this one from now on, which is nobody's (bind(2)). A plain
+    /// file or a stranger stays as it is. On an error nothing has changed.
+    #[tactic(auto, using(af_order::proofs::Keyed::writes, crate::proofs::Begun::begun))]
+    pub fn bind(&mut self, file: &FileRef, name: &Items<u8>) -> Result<(), AllocError>
+        requires nameless { IfSome (socket_in self.old.files file.now) (λ s. s.name ≡ None) }
+        requires free { named self.old.files name.now ≡ None }
+        ensures files { OnOk result (self.new.files ≡ change_socket_at (bound name.now) self.old.files file.now) }
+        ensures next { self.new.next ≡ self.old.next }
+        ensures err { OnErr result (self.new ≡ self.old) }
+    {
+        let Some(desc) = self.get(file) else {
+            return Ok(());
+        };
+        if desc.socket().is_none() {
+            return Ok(());
+        }
+        let own = Items::of(name.as_slice().to_vec(self.alloc)?);
+        let listed = Items::of(name.as_slice().to_vec(self.alloc)?);
+        self.names.bind(listed, file.again())?;
+        if let Err(refused) = set_name(self.alloc, &self.order, &mut self.slab, file, own) {
+            self.names.unbind(name);
+            return Err(refused);
+        }
+        Ok(())
+    }
+
+    /// That socket, which has a name and no embryos, waits for connections from now on, so many at
+    /// most (listen(2)). A plain file or a stranger stays as it is. On an error nothing has changed.
+    #[tactic(auto, using(af_order::proofs::Keyed::writes, crate::proofs::Begun::begun))]
+    pub fn listen(&mut self, file: &FileRef, most: u32) -> Result<(), AllocError>
+        requires named { IfSome (socket_in self.old.files file.now) (λ s. is_none s.name ≡ false) }
+        requires nobody { IfSome (socket_in self.old.files file.now) (λ s. s.backlog ≡ []) }
+        ensures files { OnOk result (self.new.files ≡ change_socket_at (listening most) self.old.files file.now) }
+        ensures next { self.new.next ≡ self.old.next }
+        ensures err { OnErr result (self.new ≡ self.old) }
+    {
+        let Some(key) = key_of(&self.order, &self.slab, file) else {
+            return Ok(());
+        };
+        let Some(entry) = self.slab.get_mut(key) else {
+            return Ok(());
+        };
+        entry.value.listen(self.alloc, most)
+    }
+
+    /// An embryo more waits at that listener, last, for which its backlog has room. A plain file or a
+    /// stranger stays as it is. It takes no memory.
+    #[tactic(auto, using(af_order::proofs::Keyed::writes, crate::proofs::Begun::begun))]
+    pub fn enqueue(&mut self, file: &FileRef, embryo: FileRef)
+        requires { IfSome (socket_in self.old.files file.now) (λ s. length s.backlog < room_of s.state) }
+        ensures files { self.new.files ≡ change_socket_at (queued embryo) self.old.files file.now }
+        ensures next { self.new.next ≡ self.old.next }
+    {
+        let Some(key) = key_of(&self.order, &self.slab, file) else {
+            return;
+        };
+        let Some(entry) = self.slab.get_mut(key) else {
+            return;
+        };
+        entry.value.enqueue(embryo);
+    }
+
+    /// The first embryo of that listener waits no more, if one does. It takes no memory.
+    #[tactic(auto, using(af_order::proofs::Keyed::writes, crate::proofs::Begun::begun))]
+    pub fn dequeue(&mut self, file: &FileRef) -> Option<FileRef>
+        ensures some { IfSome result (λ f. backlog_in self.old.files file.now ≡ f ∷ drop 1 (backlog_in self.old.files file.now)) }
+        ensures none { IfNone result (backlog_in self.old.files file.now ≡ []) }
+        ensures files { self.new.files ≡ change_socket_at dequeued self.old.files file.now }
+        ensures next { self.new.next ≡ self.old.next }
+    {
+        let key = key_of(&self.order, &self.slab, file)?;
+        let entry = self.slab.get_mut(key)?;
+        entry.value.dequeue()
+    }
+}
+
+/// That socket, which has no name, has this one from now on. A plain file or a stranger stays as it
+/// is. On an error nothing has changed.
+#[tactic(auto, using(af_order::proofs::Keyed::writes))]
+fn set_name(
+    alloc: Global,
+    order: &Order,
+    slab: &mut Slab<Entry<Desc>>,
+    file: &FileRef,
+    name: Items<u8>,
+) -> Result<(), AllocError>
+    requires place { AreInPlace order.now.keys slab.old }
+    requires nameless { IfSome (socket_in (values_of order.now.keys slab.old) file.now) (λ s. s.name ≡ None) }
+    ensures ok { OnOk result (values_of order.now.keys slab.new ≡ change_socket_at (bound name) (values_of order.now.keys slab.old) file.now) }
+    ensures err { OnErr result (values_of order.now.keys slab.new ≡ values_of order.now.keys slab.old) }
+    ensures place { AreInPlace order.now.keys slab.new }
+{
+    let Some(key) = key_of(order, slab, file) else {
+        return Ok(());
+    };
+    let Some(entry) = slab.get_mut(key) else {
+        return Ok(());
+    };
+    entry.value.bind(alloc, name)
 }
 
 /// A new socket is told where its peer stands.

@@ -1,21 +1,22 @@
 //! A socket, and what it has to receive.
-ghost use Rattle.std.specs.Prelude.{◌≡◌, ℕ, ◌∷◌, [], ◌<◌, OnOk, OnErr, IfOk, IfSome, IfNone, length, drop};
-ghost use Rattle.af_base.specs.World as world;
-ghost use Rattle.af_base.specs.Places.{contents};
-ghost use Rattle.af_base.specs.Changes.{pushed};
-ghost use Rattle.af_base.specs.Steps.{connected_socket};
+ghost use Rattle.std.specs.Prelude.{◌≡◌, ℕ, ◌∷◌, [], ◌<◌, OnOk, OnErr, IfOk, IfSome, IfNone, None, false, is_none, length, drop, option_copied};
+ghost use Rattle.af_base.specs.Changes.{bound, connected, dequeued, listening, pushed, queued};
+ghost use Rattle.af_base.specs.Refusals.{room_of};
+ghost use Rattle.af_base.specs.Steps.{connected_socket, idle_socket};
 ghost use Rattle.af_base.specs.Whole.{IsMessageWithin};
 ghost use Rattle.af_queue.specs.Received.{received};
-ghost use Rattle.af_desc.specs.Filed.{idle_socket, hung_up, popped, received_from};
+ghost use Rattle.af_desc.specs.Filed.{hung_up, popped, received_from};
 
 use af_base::events::{SockType, State};
+use af_base::items::Items;
 use af_base::limits::MAX_MESSAGES;
 use af_base::names::FileRef;
+use af_listen::Backlog;
 use af_queue::{Msg, Queue, Taken};
 use std::alloc::{AllocError, Global};
 use std::marker::Model;
 
-/// A socket. It has no name and no embryos yet.
+/// A socket.
 #[derive(Drop)]
 pub struct Socket {
     kind: SockType,
@@ -23,15 +24,28 @@ pub struct Socket {
     /// Where the peer stands, if there is one: a hint.
     peer_key: usize,
     queue: Queue,
+    /// What a socket with a name has besides; most have none.
+    bound: Option<Box<Bound>>,
+}
+
+/// A name, and who waits for the socket of that name to accept them: nobody, until it listens.
+#[derive(Drop)]
+pub(crate) struct Bound {
+    name: Items<u8>,
+    backlog: Backlog,
 }
 
 impl Model for Socket {
-    ghost use Rattle.std.specs.Prelude.{None, []};
+    ghost use Rattle.std.specs.Prelude.{◌≤◌, [], option_map};
+    ghost use Rattle.std.specs.Option.{option_map_or};
+    ghost use Rattle.af_base.specs.Refusals.{room_of};
     ghost use Rattle.af_base.specs.World as world;
 
     ghost Value = { world.Socket };
 
-    ghost view = { λ a. record { kind = a.kind; state = a.state; name = None; queue = a.queue.messages; backlog = [] } };
+    ghost view = { λ a. record { kind = a.kind; state = a.state; name = option_map (λ b. b.value.name) a.bound; queue = a.queue.messages; backlog = option_map_or (λ b. b.value.backlog.waiting) a.bound [] } };
+
+    ghost invariant = { λ a. room_of a.state ≤ option_map_or (λ b. b.value.backlog.most) a.bound 0 };
 }
 
 impl Socket {
@@ -44,6 +58,7 @@ impl Socket {
             state: State::Idle,
             peer_key: 0,
             queue: Queue::new(alloc),
+            bound: None,
         }
     }
 
@@ -56,6 +71,7 @@ impl Socket {
             state: State::Connected(peer.ino()),
             peer_key: peer.key(),
             queue: Queue::new(alloc),
+            bound: None,
         }
     }
 
@@ -84,12 +100,102 @@ impl Socket {
         }
     }
 
-    /// What it has to receive. No embryo waits, so that is all that it holds.
+    /// What it has to receive.
     pub fn queue(&self) -> &Queue
-        ensures value { result.now.messages ≡ self.now.queue }
-        ensures alone { self.now.backlog ≡ [] }
+        ensures { result.now.messages ≡ self.now.queue }
     {
         &self.queue
+    }
+
+    /// Its abstract name, if it has one (unix(7)).
+    pub fn name(&self) -> Option<&Items<u8>>
+        ensures { option_copied result ≡ self.now.name }
+    {
+        match &self.bound {
+            Some(bound) => Some(&bound.name),
+            None => None,
+        }
+    }
+
+    /// The embryos that wait to be accepted, if it has a name; without one none wait.
+    pub fn backlog(&self) -> Option<&Backlog>
+        ensures some { IfSome result (λ b. b.now.waiting ≡ self.now.backlog) }
+        ensures none { IfNone result (self.now.backlog ≡ []) }
+    {
+        match &self.bound {
+            Some(bound) => Some(&bound.backlog),
+            None => None,
+        }
+    }
+
+    /// How many embryos wait to be accepted.
+    pub fn embryos(&self) -> usize
+        ensures { result ≡ length self.now.backlog }
+    {
+        match &self.bound {
+            Some(bound) => bound.backlog.len(),
+            None => 0,
+        }
+    }
+
+    /// It has this name from now on. On an error nothing has changed.
+    pub(crate) fn bind(&mut self, alloc: Global, name: Items<u8>) -> Result<(), AllocError>
+        requires { self.old.name ≡ None }
+        ensures ok { OnOk result (self.new ≡ bound name self.old) }
+        ensures err { OnErr result (self.new ≡ self.old) }
+    {
+        let bound = Bound {
+            name,
+            backlog: Backlog::none(alloc),
+        };
+        self.bound = Some(Box::new(alloc, bound)?);
+        Ok(())
+    }
+
+    /// It waits for connections from now on, so many at most; it has a name, and nobody waits yet. On
+    /// an error nothing has changed.
+    pub(crate) fn listen(&mut self, alloc: Global, most: u32) -> Result<(), AllocError>
+        requires named { is_none self.old.name ≡ false }
+        requires nobody { self.old.backlog ≡ [] }
+        ensures ok { OnOk result (self.new ≡ listening most self.old) }
+        ensures err { OnErr result (self.new ≡ self.old) }
+    {
+        let backlog = Backlog::new(alloc, most)?;
+        let Some(bound) = &mut self.bound else {
+            return Ok(());
+        };
+        bound.backlog = backlog;
+        self.state = State::Listening(most);
+        Ok(())
+    }
+
+    /// It is connected to that socket from now on. It takes no memory.
+    pub(crate) fn connect(&mut self, peer: &FileRef)
+        ensures { self.new ≡ connected peer.now self.old }
+    {
+        self.state = State::Connected(peer.ino());
+        self.peer_key = peer.key();
+    }
+
+    /// An embryo more waits, last. It takes no memory.
+    pub(crate) fn enqueue(&mut self, embryo: FileRef)
+        requires { length self.old.backlog < room_of self.old.state }
+        ensures { self.new ≡ queued embryo self.old }
+    {
+        let Some(bound) = self.bound.as_mut() else {
+            return;
+        };
+        bound.backlog.enqueue(embryo);
+    }
+
+    /// The first embryo waits no more, if one does. It takes no memory.
+    pub(crate) fn dequeue(&mut self) -> Option<FileRef>
+        ensures some { IfSome result (λ f. self.old.backlog ≡ f ∷ drop 1 self.old.backlog) }
+        ensures none { IfNone result (self.old.backlog ≡ []) }
+        ensures rest { self.new ≡ dequeued self.old }
+    {
+        let bound = self.bound.as_mut()?;
+        bound.backlog.dequeue()
     }
 
     /// Where the peer stands. Nothing that a contract sees changes.
@@ -128,12 +234,10 @@ impl Socket {
         self.queue.take(self.kind, max)
     }
 
-    /// The first message taken off the queue: where there is none, the socket holds nothing at all,
-    /// since no embryo waits in it. It takes no memory.
+    /// The first message taken off the queue. It takes no memory.
     pub(crate) fn pop(&mut self) -> Option<Msg>
         ensures some { IfSome result (λ m. self.old.queue ≡ m ∷ drop 1 self.old.queue) }
         ensures none { IfNone result (self.old.queue ≡ []) }
-        ensures bare { IfNone result (contents (world.AsSocket self.old) ≡ []) }
         ensures rest { self.new ≡ popped self.old }
     {
         self.queue.pop()

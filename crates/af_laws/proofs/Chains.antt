@@ -19,7 +19,7 @@ use Rattle.af_base.proofs.Places.{carried-push}
 use Rattle.af_base.proofs.Purging.{from_emptied, to_emptied}
 use Rattle.af_base.proofs.Settling.{from_without, none_in, to_without}
 use Rattle.af_base.proofs.Stepping.{get-change_at}
-use Rattle.af_laws.specs.Reaching.{InstallKeepsReached, PlacesKeepReached, PurgingKeepsReached, ReachedIsHeld, SendKeepsReached, SettlingKeepsReached}
+use Rattle.af_laws.specs.Reaching.{GroupsOfTheirOwnAreGarbage, InstallKeepsReached, PlacesKeepReached, PurgingKeepsReached, ReachedIsHeld, SendKeepsReached, SettlingKeepsReached}
 
 -- what holds something is live
 pub holder_live : (w : World) (s f : ℕ) → Holds w s f → IsLive w s
@@ -35,6 +35,12 @@ places_keep_reached old new has _ (BySocket s f r h) = BySocket s f (places_keep
 pub reached_is_held : ReachedIsHeld
 reached_is_held w _ (ByTable f t) (Goes g l no_table hs) = no_table t
 reached_is_held w _ (BySocket s f r h) (Goes g l no_table hs) = reached_is_held w s r (hs s h)
+
+pub groups_of_their_own_are_garbage : GroupsOfTheirOwnAreGarbage
+groups_of_their_own_are_garbage w group apart closed f is = ((apart f is).0, λ r. out f r is) where
+  out : (f : ℕ) → Reached w f → ¬ (group f ≡ true)
+  out _ (ByTable f t) is = (apart f is).1 t
+  out _ (BySocket s f r h) is = out s r (closed s f is h)
 
 module _ (w new : World) (t : Settles w new) where
   pub not_gone : (f : ℕ) → Reached w f → t.0 f ≡ false

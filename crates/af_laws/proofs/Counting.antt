@@ -9,8 +9,8 @@ use Rattle.std.proofs.lemmas.Bool.{cases_lt, eq-eqb, false≢true}
 use Rattle.std.proofs.lemmas.List.Elements.{Contains-append_cases, Contains-append_left, Contains-append_right}
 use Rattle.af_base.proofs.Lookups.{none_some, told_apart}
 use Rattle.af_base.specs.World.{AsSocket, File, Message, Process, Socket, World}
-use Rattle.af_base.specs.Places.{InQueue, backlog_of, carried, contents, queue_of}
-use Rattle.af_base.specs.Counts.{charge, charged, count_in, inflight, one, refs, tabled, total_of}
+use Rattle.af_base.specs.Places.{InBacklog, InQueue, backlog_of, carried, contents, queue_of}
+use Rattle.af_base.specs.Counts.{charge, charged, count_in, inflight, one, refs, tabled, total_of, waiting}
 use Rattle.af_base.specs.Reached.{is_socket}
 use Rattle.af_base.specs.Changes.{file_with, install, push_message, uninstall, with_queue}
 use Rattle.std.proofs.lemmas.List.Sums.{sum_by-append, sum_by-cons}
@@ -20,9 +20,9 @@ use Rattle.af_base.proofs.Moved.{table-there}
 use Rattle.af_base.proofs.Replaced.{refs-replace}
 use Rattle.af_base.proofs.Sums.{total-change_at}
 use Rattle.af_base.proofs.Held.{Contains-count, InTable-tabled, count-Contains, held_by_none, held_by_some, tabled-InTable, total-has, total-some}
-use Rattle.af_base.proofs.Places.{inflight-left, inflight-push, refs-install, refs-left, refs-push, refs-uninstall}
+use Rattle.af_base.proofs.Places.{count-append, inflight-left, inflight-push, refs-install, refs-left, refs-push, refs-uninstall}
 use Rattle.af_base.proofs.Settling.{none_in}
-use Rattle.af_laws.specs.Places.{ExitCounts, ExitKeepsCharges, ForkCounts, GarbageCountsOnce, HoldsInQueueOrBacklog, InstallCounts, NoneWhereNotInFlight, NoneWhereUnplaced, NoneWhereUntabled, ReceiveCounts, ReceiveDischarges, ReplaceCounts, SendCharges, SendCounts, UninstallCounts}
+use Rattle.af_laws.specs.Places.{ExitCounts, ExitKeepsCharges, ForkCounts, GarbageCountsOnce, HoldsInQueueOrBacklog, InstallCounts, NoneWhereNotInFlight, NoneWhereNotWaiting, NoneWhereUnplaced, NoneWhereUntabled, ReceiveCounts, ReceiveDischarges, ReferencesAddUp, ReplaceCounts, SendCharges, SendCounts, UninstallCounts}
 
 pub holds_in_queue_or_backlog : HoldsInQueueOrBacklog
 holds_in_queue_or_backlog w s f = either (map.get w.files s) where
@@ -79,6 +79,43 @@ none_where_not_in_flight w f = (
     | inr p ↦ let at = counted_in_flight w f p in absurd (none at.0 at.1)
   ],
 )
+
+waiting_counted : (w : World) (s f : ℕ) → InBacklog w s f → 0 < waiting w f
+waiting_counted w s f h = by (map.get w.files s) refl h where
+  by : (o : Option File) → map.get w.files s ≡ o → Contains (option_map_or backlog_of o []) f → 0 < waiting w f
+  by None e h = absurd (none_in f h)
+  by (Some x) e h = omega (arith, total-has (λ x. count_in f (backlog_of x)) w.files s x e, count-Contains f (backlog_of x) h)
+
+counted_waiting : (w : World) (f : ℕ) → 0 < waiting w f → (s : ℕ) × InBacklog w s f
+counted_waiting w f p =
+    let at = total-some (λ x. count_in f (backlog_of x)) w.files p in
+    (at.0, subst (λ o. Contains (option_map_or backlog_of o []) f) (sym at.2) (Contains-count f (backlog_of at.1) at.3))
+
+pub none_where_not_waiting : NoneWhereNotWaiting
+none_where_not_waiting w f = (
+  λ z s h. omega (arith, z, waiting_counted w s f h),
+  λ none. elim (none_or_some (waiting w f)) [
+    | inl z ↦ z
+    | inr p ↦ let at = counted_waiting w f p in absurd (none at.0 at.1)
+  ],
+)
+
+-- what files hold is in their queues and in their backlogs
+contents_counted : (f : ℕ) (es : List (ℕ × File)) → sum_by (λ e. count_in f (contents e.1)) es ≡ sum_by (λ e. count_in f (carried (queue_of e.1))) es + sum_by (λ e. count_in f (backlog_of e.1)) es
+contents_counted f [] = refl
+contents_counted f (e ∷ es) =
+    let rest = contents_counted f es in
+    omega (
+      arith,
+      rest,
+      count-append f (carried (queue_of e.1)) (backlog_of e.1),
+      sum_by-cons (λ d. count_in f (contents d.1)) e es,
+      sum_by-cons (λ d. count_in f (carried (queue_of d.1))) e es,
+      sum_by-cons (λ d. count_in f (backlog_of d.1)) e es,
+    )
+
+pub references_add_up : ReferencesAddUp
+references_add_up w f = omega (arith, contents_counted f (map.entries w.files))
 
 pub install_counts : InstallCounts
 install_counts w p n g f there free = by (map.get w.processes p) refl where

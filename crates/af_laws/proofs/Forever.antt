@@ -43,6 +43,11 @@ effect_next w p (step.Close n) = omega arith
 effect_next w p step.Fork = omega arith
 effect_next w p step.Exit = omega arith
 effect_next w p (step.Pair kind) = omega arith
+effect_next w p (step.Socket kind) = omega arith
+effect_next w p (step.Bind n name) = omega arith
+effect_next w p (step.Listen n b) = omega arith
+effect_next w p (step.Connect n name) = omega arith
+effect_next w p (step.Accept n) = omega arith
 effect_next w p (step.Send n bytes attach) = omega arith
 effect_next w p (step.Recv n max_bytes max_fds) = omega (arith, same_next (with_queue w (ino_on w p n) (taken_on w p n max_bytes).rest) p (zip (got_at w p n max_bytes max_fds) (taken_on w p n max_bytes).attached))
 

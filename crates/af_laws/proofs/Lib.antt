@@ -12,6 +12,8 @@ pub mod Unreached
 pub mod Existing
 pub mod Logs
 pub mod Forever
+pub mod Bindings
+pub mod Accepts
 pub mod TakeRows
 pub mod Cycle
 pub mod Collected

@@ -12,6 +12,7 @@ use Rattle.af_base.specs.declared.events.Reply.TheVariants as reply
 use Rattle.af_base.specs.declared.events.Step.{Step as ProcStep}
 use Rattle.af_base.specs.declared.events.Step.TheVariants as step
 use Rattle.af_base.specs.World.{World}
+use Rattle.af_base.specs.Unheld.{Settles}
 use Rattle.af_base.specs.Refusals.{refusal, spawn_refusal}
 use Rattle.af_base.specs.Steps.{Outcome, answer, effect, needs_no_memory, spawned}
 use Rattle.af_base.specs.Pass.{Idle, Machine, Pass, Passes, PassesWhole, Purges, Running, emptied}
@@ -49,7 +50,7 @@ events_have_replies old (event.Proc p s) sound =
 events_have_replies old event.Pass sound = pass_some old.pass old
 
 -- whether the reply is a refusal
-is_refused : Reply → Bool
+pub is_refused : Reply → Bool
 is_refused (reply.Refused e) = true
 is_refused (reply.Pid p) = false
 is_refused (reply.Fd n) = false
@@ -72,6 +73,11 @@ answers w p (step.Close n) = refl
 answers w p step.Fork = refl
 answers w p step.Exit = refl
 answers w p (step.Pair kind) = refl
+answers w p (step.Socket kind) = refl
+answers w p (step.Bind n name) = refl
+answers w p (step.Listen n b) = refl
+answers w p (step.Connect n name) = refl
+answers w p (step.Accept n) = refl
 answers w p (step.Send n bytes attach) = refl
 answers w p (step.Recv n max_bytes max_fds) = either _ _ _ _ _ where
   either : (b : Bool) (bytes fds : List ℕ) (trunc ctrunc : Bool) → is_refused (cond b reply.End (reply.Got bytes fds trunc ctrunc)) ≡ false
@@ -115,6 +121,22 @@ replies_determine old a b (event.Spawn uid nofile privileged) r none x y =
 replies_determine old a b (event.Proc p s) r none x y =
     same_machine a b (outcome_one (answer old.world p s) (answers old.world p s) (effect old.world p s) old.world a.world b.world r (refusal old.world p s) (needs_no_memory s) x.0 y.0) (x.1.0 ∙ sym y.1.0) (x.1.1 ∙ sym y.1.1)
 replies_determine old a b event.Pass r none x y = pass_one old.pass old a b r x y
+
+pub ok_is_done : is_refused reply.Ok ≡ false
+unfolding is_refused
+ok_is_done = refl
+
+pub number_is_done : (n : ℕ) → is_refused (reply.Fd n) ≡ false
+unfolding is_refused
+number_is_done n = refl
+
+-- what is not refused comes of the effect
+pub outcome_done : (o : Option Errno) (frugal : Bool) (answer : Reply) (now old : World) (r : Reply) (new : World) → is_refused r ≡ false → Outcome o frugal answer now old r new → (o ≡ None) × (r ≡ answer) × Settles now new
+unfolding is_refused
+outcome_done (Some e) frugal answer now old r new given h = absurd (false≢true (sym given ∙ ap is_refused h.0))
+outcome_done None true answer now old r new given h = (refl, h.0, h.1)
+outcome_done None false answer now old r new given (inl h) = (refl, h.0, h.1)
+outcome_done None false answer now old r new given (inr h) = absurd (false≢true (sym given ∙ ap is_refused h.0))
 
 outcome_refused : (answer : Reply) → is_refused answer ≡ false → (now old new : World) (error : Errno) (o : Option Errno) (frugal : Bool) → Outcome o frugal answer now old (reply.Refused error) new → new ≡ old
 unfolding is_refused

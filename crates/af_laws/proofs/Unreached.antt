@@ -1,13 +1,13 @@
 -- What a step leads to was reached before, or is new.
 use Rattle.std.proofs.Common.{◌≡◌, ◌⊎◌, inl, inr, ◌<◌, ◌≤◌, ℕ, ◌+◌, ◌-◌, Bool, true, false, List, [], ◌∷◌, ◌++◌, length, drop, refl, sym, ap, ◌∙◌, subst, cond, arith}
-use Rattle.std.specs.Prelude.{Option, Some, None, filter_map, is_none, nat_eq, nat_le, nat_lt, not, option_map, unwrap_or}
+use Rattle.std.specs.Prelude.{Option, Some, None, filter_map, is_none, nat_eq, nat_le, nat_lt, not, option_map, slice_get, unwrap_or}
 use Rattle.std.specs.Option.{option_and_then, option_map_or}
 use Rattle.std.specs.List.{Contains, find, zip}
 use Rattle.std.specs.Ordering.{eq_by_cmp, nat_cmp}
 use Rattle.std.specs.Cmp.{nat_cmp_total}
 use Rattle.std.specs.FinMap as map
 use Rattle.std.proofs.lemmas.Bool.{cases_Bool, false≢true}
-use Rattle.std.proofs.lemmas.List.Elements.{Contains-append_cases, Contains-append_left, Contains-append_right}
+use Rattle.std.proofs.lemmas.List.Elements.{Contains-append_cases, Contains-append_left, Contains-append_right, Contains-push_cases}
 use Rattle.af_base.specs.declared.errno.Errno.{Errno}
 use Rattle.af_base.specs.declared.errno.Errno.TheVariants.{ESRCH}
 use Rattle.af_base.specs.declared.events.Event.{Event}
@@ -22,18 +22,20 @@ use Rattle.af_base.specs.World.{AsSocket, File, Message, Plain, Process, Socket,
 use Rattle.af_base.specs.Places.{Holds, InTable, carried, contents, table_at}
 use Rattle.af_base.specs.Unheld.{Settles}
 use Rattle.af_base.specs.Reached.{ByTable, BySocket, Reached}
-use Rattle.af_base.specs.Changes.{add_file, add_process, file_with, install, install_all, uninstall, with_queue}
-use Rattle.af_base.specs.Refusals.{ino_on, no_socket, peer_of, process_at, refusal, socket_at, socket_of, socket_on, spawn_refusal, step_row}
+use Rattle.af_base.specs.Changes.{add_file, add_process, bound, connected, dequeued, file_with, install, install_all, listening, queued, uninstall, with_queue, with_socket}
+use Rattle.af_base.specs.Refusals.{ino_named, ino_on, no_socket, peer_of, process_at, refusal, socket_at, socket_named, socket_of, socket_on, spawn_refusal, step_row}
 use Rattle.af_base.specs.Take.{cut, has_files, take_from}
-use Rattle.af_base.specs.Steps.{Outcome, ProcessStep, SpawnStep, answer, connected_socket, effect, free_at, got_at, needs_no_memory, spawned, taken_on}
+use Rattle.af_base.specs.Steps.{Outcome, ProcessStep, SpawnStep, answer, connected_socket, effect, first_embryo, free_at, got_at, idle_socket, needs_no_memory, spawned, taken_on, with_embryo}
 use Rattle.af_base.specs.Pass.{Idle, Machine, Pass, PassesWhole, Running}
 use Rattle.af_base.specs.Run.{Step as MachineStep}
 use Rattle.af_base.specs.Whole.{IsWhole}
 use Rattle.af_base.proofs.Settling.{none_in}
-use Rattle.af_base.proofs.Stepping.{get-change_at}
+use Rattle.af_base.proofs.Stepping.{get-change_at, held-with_socket}
+use Rattle.af_base.proofs.Elements.{Contains-first}
+use Rattle.af_base.proofs.Embryos.{Contains-dropped}
 use Rattle.af_base.proofs.Ended.{tabled-remove}
 use Rattle.af_base.proofs.Lookups.{insert-here, insert-other, none_some, same_or_not, some_same}
-use Rattle.af_base.proofs.Moved.{table-there, tabled-install, tabled-uninstall, there-table}
+use Rattle.af_base.proofs.Moved.{held-changed, table-there, tabled-install, tabled-uninstall, there-holds, there-table}
 use Rattle.af_base.proofs.Stepped.{NoneFits, attached-tabled, none-fits, process-there}
 use Rattle.af_base.proofs.Takes.{either_none, find-here, find-later, up_to}
 use Rattle.af_laws.proofs.Chains.{held_or_sent, holder_live, purging_keeps_reached, reached_before}
@@ -44,12 +46,12 @@ use Rattle.af_laws.specs.Reaching.{GarbageStaysOutOfReach, SpawnReachesNoGarbage
 abbrev IsNew : World → ℕ → Type 0
 IsNew w f = w.next_ino ≤ f
 
--- Where each place of a world is one of the old, or of what was reached, or in a table and new, a chain leads to what was reached or is new.
-module _ (old now : World) (whole : IsWhole old) (tables : (f : ℕ) → InTable now f → Reached old f ⊎ IsNew old f) (holders : (s f : ℕ) → Holds now s f → Holds old s f ⊎ Reached old f) where
+-- Where each place of a world is one of the old, or holds what was reached or is new, a chain leads to what was reached or is new.
+module _ (old now : World) (whole : IsWhole old) (tables : (f : ℕ) → InTable now f → Reached old f ⊎ IsNew old f) (holders : (s f : ℕ) → Holds now s f → Holds old s f ⊎ (Reached old f ⊎ IsNew old f)) where
   reached_or_new : (f : ℕ) → Reached now f → Reached old f ⊎ IsNew old f
   reached_or_new _ (ByTable f t) = tables f t
   reached_or_new _ (BySocket s f r h) = elim (holders s f h) [
-    | inr d ↦ inl d
+    | inr d ↦ d
     | inl g ↦ elim (reached_or_new s r) [
       | inl d ↦ inl (BySocket s f d g)
       | inr n ↦ absurd (omega (arith, n, whole.files_numbered s (holder_live old s f g)))
@@ -83,17 +85,50 @@ held_or_left w s rest q f h = by (eq_by_cmp nat_cmp q s) (map.get w.files q) (su
 attached_in_table : (w : World) (p f : ℕ) (ns : List ℕ) → Contains (filter_map (table_at w p) ns) f → InTable w f
 attached_in_table w p f ns h = let at = attached-tabled w p ns f h in (p, at.0, at.1)
 
--- what waits in the queue of a socket that a table holds is reached
-queued_reached : (w : World) (p n f : ℕ) → Contains (carried (socket_on w p n).queue) f → Reached w f
-queued_reached w p n f h = by (table_at w p n) refl h where
-  at : (s : ℕ) → table_at w p n ≡ Some s → (o : Option File) → map.get w.files s ≡ o → Contains (carried (unwrap_or (option_and_then socket_of o) no_socket).queue) f → Reached w f
+-- what a socket that a table holds holds in turn is reached
+pub held_reached : (w : World) (p n f : ℕ) → Contains (contents (AsSocket (socket_on w p n))) f → Reached w f
+held_reached w p n f h = by (table_at w p n) refl h where
+  at : (s : ℕ) → table_at w p n ≡ Some s → (o : Option File) → map.get w.files s ≡ o → Contains (contents (AsSocket (unwrap_or (option_and_then socket_of o) no_socket))) f → Reached w f
   at s is None there h = absurd (none_in f h)
   at s is (Some Plain) there h = absurd (none_in f h)
-  at s is (Some (AsSocket x)) there h = BySocket s f (ByTable s (p, n, is)) (subst (λ o. Contains (option_map_or contents o []) f) (sym there) (Contains-append_left (carried x.queue) x.backlog f h))
+  at s is (Some (AsSocket x)) there h = BySocket s f (ByTable s (p, n, is)) (there-holds w s f (AsSocket x) there h)
 
-  by : (o : Option ℕ) → table_at w p n ≡ o → Contains (carried (unwrap_or (option_and_then (socket_at w) o) no_socket).queue) f → Reached w f
+  by : (o : Option ℕ) → table_at w p n ≡ o → Contains (contents (AsSocket (unwrap_or (option_and_then (socket_at w) o) no_socket))) f → Reached w f
   by None is h = absurd (none_in f h)
   by (Some s) is h = at s is (map.get w.files s) refl h
+
+-- what is held after a connect was held, or is the embryo
+module _ (w : World) (c l : ℕ) (kind : SockType) where
+  abbrev with_new : World
+  with_new = add_file w (AsSocket (connected_socket kind c))
+
+  held_or_embryo : (q f : ℕ) → Holds (with_embryo w c l kind) q f → Holds w q f ⊎ (w.next_ino ≡ f)
+  held_or_embryo q f h = elim (held-changed (with_socket with_new c (connected w.next_ino)) l (queued w.next_ino) q f (λ x is d. gain x d) h) [
+    | inl y ↦ inl (held_before w (AsSocket (connected_socket kind c)) refl q f (subst (λ xs. Contains xs f) (held-with_socket with_new c (connected w.next_ino) (λ x. refl) q) y))
+    | inr e ↦ inr e
+  ] where
+    gain : (x : Socket) → Contains (contents (AsSocket (queued w.next_ino x))) f → Contains (contents (AsSocket x)) f ⊎ (w.next_ino ≡ f)
+    gain x d = elim (Contains-append_cases (carried x.queue) (x.backlog ++ w.next_ino ∷ []) f d) [
+      | inl z ↦ inl (Contains-append_left (carried x.queue) x.backlog f z)
+      | inr z ↦ elim (Contains-push_cases x.backlog w.next_ino f z) [
+        | inl b ↦ inl (Contains-append_right (carried x.queue) x.backlog f b)
+        | inr b ↦ inr b
+      ]
+    ]
+
+-- what is held where the first embryo of a listener is gone was held
+held_or_accepted : (w : World) (s q f : ℕ) → Holds (with_socket w s dequeued) q f → Holds w q f
+held_or_accepted w s q f h = elim (held-changed {A = ⊥} w s dequeued q f (λ x is d. inl (gain x d)) h) [ inl y ↦ y | inr y ↦ absurd y ] where
+  gain : (x : Socket) → Contains (contents (AsSocket (dequeued x))) f → Contains (contents (AsSocket x)) f
+  gain x d = elim (Contains-append_cases (carried x.queue) (drop 1 x.backlog) f d) [
+    | inl z ↦ Contains-append_left (carried x.queue) x.backlog f z
+    | inr z ↦ Contains-append_right (carried x.queue) x.backlog f (Contains-dropped x.backlog f z)
+  ]
+
+-- the first of a backlog that is not empty waits there
+pub first_waits : (xs : List ℕ) → nat_eq (length xs) 0 ≡ false → Contains xs (unwrap_or (slice_get xs 0) 0)
+first_waits [] some = absurd (false≢true (sym some))
+first_waits (x ∷ xs) some = Contains-first x xs
 
 -- files that travel with a message of a queue are in the queue
 found_carried : (q : List Message) (m : Message) (f : ℕ) → find has_files q ≡ Some m → Contains m.attached f → Contains (carried q) f
@@ -176,10 +211,10 @@ module _ (w : World) (whole : IsWhole w) where
     abbrev pub sent : Message
     sent = record { bytes = bytes; attached = filter_map (table_at w p) attach; user = (process_at w p).user }
 
-    send_holders : (s f : ℕ) → Holds (effect w p (step.Send n bytes attach)) s f → Holds w s f ⊎ Reached w f
+    send_holders : (s f : ℕ) → Holds (effect w p (step.Send n bytes attach)) s f → Holds w s f ⊎ (Reached w f ⊎ IsNew w f)
     send_holders s f h = elim (held_or_sent w (peer_of (socket_on w p n).state) sent s f h) [
       | inl a ↦ inl a
-      | inr a ↦ inr (ByTable f (attached_in_table w p f attach a))
+      | inr a ↦ inr (inl (ByTable f (attached_in_table w p f attach a)))
     ]
 
     send_leads : Leads w (effect w p (step.Send n bytes attach))
@@ -187,7 +222,7 @@ module _ (w : World) (whole : IsWhole w) where
 
   module _ (p n max_bytes max_fds : ℕ) where
     pub within : (f : ℕ) → Contains ((taken_on w p n max_bytes).attached ++ carried (taken_on w p n max_bytes).rest) f → Reached w f
-    within f h = queued_reached w p n f (taken_before (socket_on w p n).kind (socket_on w p n).queue max_bytes f h)
+    within f h = held_reached w p n f (Contains-append_left (carried (socket_on w p n).queue) (socket_on w p n).backlog f (taken_before (socket_on w p n).kind (socket_on w p n).queue max_bytes f h))
 
     abbrev cut_world : World
     cut_world = with_queue w (ino_on w p n) (taken_on w p n max_bytes).rest
@@ -201,10 +236,10 @@ module _ (w : World) (whole : IsWhole w) where
       | inr h ↦ inl (within f (Contains-append_left _ _ f h))
     ]
 
-    holders : (s f : ℕ) → Holds (install_all cut_world p given) s f → Holds w s f ⊎ Reached w f
+    holders : (s f : ℕ) → Holds (install_all cut_world p given) s f → Holds w s f ⊎ (Reached w f ⊎ IsNew w f)
     holders s f h = elim (held_or_left w (ino_on w p n) (taken_on w p n max_bytes).rest s f (subst (λ fs. Contains (option_map_or contents (map.get fs s) []) f) (files-install_all cut_world p given) h)) [
       | inl a ↦ inl a
-      | inr a ↦ inr (within f (Contains-append_right (taken_on w p n max_bytes).attached _ f a))
+      | inr a ↦ inr (inl (within f (Contains-append_right (taken_on w p n max_bytes).attached _ f a)))
     ]
 
     receive_leads : Leads w (effect w p (step.Recv n max_bytes max_fds))
@@ -235,14 +270,38 @@ module _ (w : World) (whole : IsWhole w) where
     pair_leads : Leads w (effect w p (step.Pair kind))
     pair_leads = reached_or_new w (effect w p (step.Pair kind)) whole pair_tables (λ s f h. inl (held_before w (AsSocket (connected_socket kind b)) refl s f (held_before one_more (AsSocket (connected_socket kind a)) refl s f h)))
 
-  open_tables : (p f : ℕ) → InTable (effect w p step.Open) f → Reached w f ⊎ IsNew w f
-  open_tables p f t = elim (tabled-install (add_file w Plain) p (free_at w p 0) w.next_ino f t) [
-    | inr e ↦ inr (omega (arith, e))
-    | inl r ↦ inl (ByTable f r)
-  ]
+  -- one file more, that holds nothing, and a number for it
+  opened_leads : (p : ℕ) (x : File) → contents x ≡ [] → Leads w (install (add_file w x) p (free_at w p 0) w.next_ino)
+  opened_leads p x empty = reached_or_new w (install (add_file w x) p (free_at w p 0) w.next_ino) whole opened (λ s f h. inl (held_before w x empty s f h)) where
+    opened : (f : ℕ) → InTable (install (add_file w x) p (free_at w p 0) w.next_ino) f → Reached w f ⊎ IsNew w f
+    opened f t = elim (tabled-install (add_file w x) p (free_at w p 0) w.next_ino f t) [
+      | inr e ↦ inr (omega (arith, e))
+      | inl r ↦ inl (ByTable f r)
+    ]
 
-  open_leads : (p : ℕ) → Leads w (effect w p step.Open)
-  open_leads p = reached_or_new w (effect w p step.Open) whole (open_tables p) (λ s f h. inl (held_before w Plain refl s f h))
+  -- a socket changed, but not in what it holds
+  still_leads : (s : ℕ) (g : Socket → Socket) → ((x : Socket) → contents (AsSocket (g x)) ≡ contents (AsSocket x)) → Leads w (with_socket w s g)
+  still_leads s g same = reached_or_new w (with_socket w s g) whole (λ f t. inl (ByTable f t)) (λ q f h. inl (subst (λ xs. Contains xs f) (held-with_socket w s g same q) h))
+
+  -- an embryo, which is new, is held by the listener alone
+  connect_leads : (c l : ℕ) (kind : SockType) → Leads w (with_embryo w c l kind)
+  connect_leads c l kind = reached_or_new w (with_embryo w c l kind) whole (λ f t. inl (ByTable f t)) (λ q f h. elim (held_or_embryo w c l kind q f h) [
+    | inl a ↦ inl a
+    | inr e ↦ inr (inr (omega (arith, e)))
+  ])
+
+  module _ (p n : ℕ) (some : nat_eq (length (socket_on w p n).backlog) 0 ≡ false) where
+    abbrev waiting_world : World
+    waiting_world = with_socket w (ino_on w p n) dequeued
+
+    accept_tables : (f : ℕ) → InTable (effect w p (step.Accept n)) f → Reached w f ⊎ IsNew w f
+    accept_tables f t = elim (tabled-install waiting_world p (free_at w p 0) (first_embryo w p n) f t) [
+      | inl r ↦ inl (ByTable f r)
+      | inr e ↦ inl (held_reached w p n f (Contains-append_right (carried (socket_on w p n).queue) (socket_on w p n).backlog f (subst (Contains (socket_on w p n).backlog) e (first_waits (socket_on w p n).backlog some))))
+    ]
+
+    accept_leads : Leads w (effect w p (step.Accept n))
+    accept_leads = reached_or_new w (effect w p (step.Accept n)) whole accept_tables (λ s f h. inl (held_or_accepted w (ino_on w p n) s f h))
 
   -- one more number, wherever it is, for what another stands for
   copied_leads : (p n m : ℕ) → is_none (table_at w p n) ≡ false → Leads w (install w p m (ino_on w p n))
@@ -270,13 +329,18 @@ module _ (w : World) (whole : IsWhole w) where
       let row = none-fits ((not (map.contains_key w.processes p), ESRCH) ∷ step_row w p s) none in
       by s (process-there w p row.here) row.rest where
         by : (s : Step) → map.get w.processes p ≡ Some (process_at w p) → NoneFits (step_row w p s) → Leads w (effect w p s)
-        by step.Open at e = open_leads p
+        by step.Open at e = opened_leads p Plain refl
         by (step.Dup n) at e = copied_leads p n (free_at w p 0) e.here
         by (step.Dup2 n m) at e = dup2_leads p n m e.here
         by (step.Close n) at e = close_leads p n
         by step.Fork at e = fork_leads p at
         by step.Exit at e = exit_leads p
         by (step.Pair kind) at e = pair_leads p kind
+        by (step.Socket kind) at e = opened_leads p (AsSocket (idle_socket kind)) refl
+        by (step.Bind n name) at e = still_leads (ino_on w p n) (bound name) (λ x. refl)
+        by (step.Listen n b) at e = still_leads (ino_on w p n) (listening b) (λ x. refl)
+        by (step.Connect n name) at e = connect_leads (ino_on w p n) (ino_named w name) (socket_named w name).kind
+        by (step.Accept n) at e = accept_leads p n e.rest.rest.rest.here
         by (step.Send n bytes attach) at e = send_leads p n bytes attach
         by (step.Recv n max_bytes max_fds) at e = receive_leads p n max_bytes max_fds
 

@@ -7,3 +7,4 @@ pub mod Purging
 pub mod Running
 pub mod Rows
 pub mod Stepping
+pub mod Connecting

@@ -3,7 +3,7 @@ use Rattle.std.specs.Prelude.{◌≡◌, ◌≢◌, ◌⊎◌, ◌↔◌, ℕ, �
 use Rattle.std.specs.FinMap as map
 use Rattle.af_base.specs.World.{World, Process, Message, Socket, AsSocket}
 use Rattle.af_base.specs.Places.{table_at, InTable, InQueue, InBacklog, Holds}
-use Rattle.af_base.specs.Counts.{charged, count_in, inflight, one, refs, tabled, total, total_of}
+use Rattle.af_base.specs.Counts.{charged, count_in, inflight, one, refs, tabled, total, total_of, waiting}
 use Rattle.af_base.specs.Reached.{IsGarbageCount}
 use Rattle.af_base.specs.Changes.{install, uninstall, push_message, with_queue, add_process, remove_process}
 use Rattle.af_base.specs.Whole.{IsWhole}
@@ -24,6 +24,14 @@ NoneWhereUntabled = (w : World) (f : ℕ) → (tabled w f ≡ 0) ↔ (¬ (InTabl
 -- The in-flight count is zero exactly where no queue holds the file.
 abbrev pub NoneWhereNotInFlight : Type 0
 NoneWhereNotInFlight = (w : World) (f : ℕ) → (inflight w f ≡ 0) ↔ ((s : ℕ) → ¬ (InQueue w s f))
+
+-- The count of backlog places is zero exactly where no backlog holds the file.
+abbrev pub NoneWhereNotWaiting : Type 0
+NoneWhereNotWaiting = (w : World) (f : ℕ) → (waiting w f ≡ 0) ↔ ((s : ℕ) → ¬ (InBacklog w s f))
+
+-- The reference count is what tables, queues and backlogs have of the file, each place counted once.
+abbrev pub ReferencesAddUp : Type 0
+ReferencesAddUp = (w : World) (f : ℕ) → refs w f ≡ tabled w f + inflight w f + waiting w f
 
 -- A number that is taken into use is one reference more to its file, and none to any other.
 abbrev pub InstallCounts : Type 0

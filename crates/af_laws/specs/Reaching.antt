@@ -33,6 +33,10 @@ SendKeepsReached = (w : World) (s : ℕ) (m : Message) (f : ℕ) → Reached w f
 abbrev pub ReachedIsHeld : Type 0
 ReachedIsHeld = (w : World) (f : ℕ) → Reached w f → ¬ (Unheld w f)
 
+-- Live files that no table holds, and that only they themselves hold, are garbage: a listener in the queue of its own embryo, and the embryo in its backlog (net/unix/garbage.c).
+abbrev pub GroupsOfTheirOwnAreGarbage : Type 0
+GroupsOfTheirOwnAreGarbage = (w : World) (group : ℕ → Bool) → ((f : ℕ) → group f ≡ true → IsLive w f × (¬ (InTable w f))) → ((s f : ℕ) → group f ≡ true → Holds w s f → group s ≡ true) → (f : ℕ) → group f ≡ true → Garbage w f
+
 -- The same files are reached before and after settling.
 abbrev pub SettlingKeepsReached : Type 0
 SettlingKeepsReached = (w new : World) → Settles w new → (f : ℕ) → Reached w f ↔ Reached new f

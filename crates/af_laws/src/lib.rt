@@ -2,6 +2,7 @@
 //! empty body ensures, so that it is a theorem on the definitions alone.
 #![tactic(auto)]
 
+pub mod connecting;
 pub mod numbering;
 pub mod places;
 pub mod purging;

@@ -1,5 +1,5 @@
 //! Laws of places and of their counts.
-ghost use Rattle.af_laws.specs.Places.{HoldsInQueueOrBacklog, NoneWhereUnplaced, NoneWhereUntabled, NoneWhereNotInFlight};
+ghost use Rattle.af_laws.specs.Places.{HoldsInQueueOrBacklog, NoneWhereUnplaced, NoneWhereUntabled, NoneWhereNotInFlight, NoneWhereNotWaiting, ReferencesAddUp};
 ghost use Rattle.af_laws.specs.Places.{InstallCounts, UninstallCounts, ReplaceCounts, ForkCounts, ExitCounts, ExitKeepsCharges, SendCounts, ReceiveCounts, SendCharges, ReceiveDischarges, GarbageCountsOnce};
 
 /// What a socket holds is in its queue or in its backlog.
@@ -20,6 +20,16 @@ pub fn none_where_untabled()
 /// The in-flight count is zero exactly where no queue holds the file.
 pub fn none_where_not_in_flight()
     ensures { NoneWhereNotInFlight }
+{}
+
+/// The count of backlog places is zero exactly where no backlog holds the file.
+pub fn none_where_not_waiting()
+    ensures { NoneWhereNotWaiting }
+{}
+
+/// The reference count is what tables, queues and backlogs have of the file.
+pub fn references_add_up()
+    ensures { ReferencesAddUp }
 {}
 
 /// A number that is taken into use is one reference more to its file, and none to any other.

@@ -1,5 +1,5 @@
 //! Laws of reach: what a chain of places that begins in a table leads to.
-ghost use Rattle.af_laws.specs.Reaching.{PlacesKeepReached, InstallKeepsReached, SendKeepsReached, ReachedIsHeld};
+ghost use Rattle.af_laws.specs.Reaching.{PlacesKeepReached, GroupsOfTheirOwnAreGarbage, InstallKeepsReached, SendKeepsReached, ReachedIsHeld};
 ghost use Rattle.af_laws.specs.Reaching.{SettlingKeepsReached, PurgingKeepsReached, SpawnReachesNoGarbage, StepReachesNoGarbage, GarbageStaysOutOfReach, GarbageIsNeverReached};
 
 /// What is reached stays reached where no place is lost.
@@ -20,6 +20,12 @@ pub fn send_keeps_reached()
 /// What is reached is never unheld.
 pub fn reached_is_held()
     ensures { ReachedIsHeld }
+{}
+
+/// What no table holds, and nothing else but itself, is garbage, as a listener in the queue of its
+/// own embryo.
+pub fn groups_of_their_own_are_garbage()
+    ensures { GroupsOfTheirOwnAreGarbage }
 {}
 
 /// The same files are reached before and after settling.

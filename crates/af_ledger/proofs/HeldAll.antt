@@ -17,7 +17,7 @@ use Rattle.af_base.proofs.Lookups.{itself, some_is}
 use Rattle.af_ledger.specs.Kept.{CanDrop, CanDropAll, CanHold, CanHoldAll, Kept, charge_of, charged_by, count_of, dropped, dropped_all, freed_by, has_count, held, held_all, is_user, recharged, refs_of}
 use Rattle.af_ledger.specs.declared.place.Place.{Place}
 use Rattle.af_ledger.specs.declared.place.Place.TheVariants.{Queue}
-use Rattle.af_ledger.proofs.Laws.{charge-queued, charge-unqueued, counted-there, has-dropped, has-held, inflight-queued, inflight-unqueued, refs-dropped, refs-held, tabled-queued, tabled-unqueued, total-queued, total-unqueued, users-dropped, users-held}
+use Rattle.af_ledger.proofs.Laws.{charge-queued, charge-unqueued, counted-there, has-dropped, has-held, inflight-queued, inflight-unqueued, refs-dropped, refs-held, tabled-queued, tabled-unqueued, total-queued, total-unqueued, users-dropped, users-held, waiting-queued, waiting-unqueued}
 
 -- Who is a user is one among the same users.
 pub same-user : (u : ℕ) (us vs : List (ℕ × ℕ)) → keys_of vs ≡ keys_of us → IsTrue (is_user u us) → IsTrue (is_user u vs)
@@ -41,7 +41,7 @@ one-most f g = by (nat_eq f g) where
   by false = omega arith
 
 -- A number is itself once.
-one-itself : (f : ℕ) → one f f ≡ 1
+pub one-itself : (f : ℕ) → one f f ≡ 1
 one-itself f = ap {B = ℕ} (λ b. cond b 1 0) (itself f)
 
 -- A list has a number at most as often as it is long.
@@ -74,6 +74,11 @@ module _ (u : ℕ) where
   pub tabled-held_all : (g : ℕ) (fs : List ℕ) (k : Kept) → (count_of (held_all (Queue u) fs k) g).tabled ≡ (count_of k g).tabled
   tabled-held_all g [] k = refl
   tabled-held_all g (f ∷ fs) k = tabled-held_all g fs (held (Queue u) f k) ∙ tabled-queued u f g k
+
+  -- Nor a place in a backlog more.
+  pub waiting-held_all : (g : ℕ) (fs : List ℕ) (k : Kept) → (count_of (held_all (Queue u) fs k) g).waiting ≡ (count_of k g).waiting
+  waiting-held_all g [] k = refl
+  waiting-held_all g (f ∷ fs) k = waiting-held_all g fs (held (Queue u) f k) ∙ waiting-queued u f g k
 
   -- Each has as many places more in flight.
   pub inflight-held_all : (g : ℕ) (fs : List ℕ) (k : Kept) → (count_of (held_all (Queue u) fs k) g).inflight ≡ (count_of k g).inflight + count_in g fs
@@ -148,6 +153,11 @@ module _ (u : ℕ) where
   pub tabled-dropped_all : (g : ℕ) (fs : List ℕ) (k : Kept) → (count_of (dropped_all (Queue u) fs k) g).tabled ≡ (count_of k g).tabled
   tabled-dropped_all g [] k = refl
   tabled-dropped_all g (f ∷ fs) k = tabled-dropped_all g fs (dropped (Queue u) f k) ∙ tabled-unqueued u f g k
+
+  -- Nor a place in a backlog less.
+  pub waiting-dropped_all : (g : ℕ) (fs : List ℕ) (k : Kept) → (count_of (dropped_all (Queue u) fs k) g).waiting ≡ (count_of k g).waiting
+  waiting-dropped_all g [] k = refl
+  waiting-dropped_all g (f ∷ fs) k = waiting-dropped_all g fs (dropped (Queue u) f k) ∙ waiting-unqueued u f g k
 
   -- Each has as many places less in flight.
   pub inflight-dropped_all : (g : ℕ) (fs : List ℕ) (k : Kept) → CanDropAll u fs k → (count_of (dropped_all (Queue u) fs k) g).inflight + count_in g fs ≡ (count_of k g).inflight

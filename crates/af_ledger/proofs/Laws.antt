@@ -17,7 +17,7 @@ use Rattle.af_ledger.specs.Counted.{uncounted, places_in, more, fewer, IsCounted
 use Rattle.af_ledger.specs.Kept.{Kept, count_in_map, count_of, has_count, refs_of, charge_of, recharged, is_user, with_user, held, dropped}
 use Rattle.af_ledger.specs.declared.count.Count.{Count}
 use Rattle.af_ledger.specs.declared.place.Place.{Place}
-use Rattle.af_ledger.specs.declared.place.Place.TheVariants.{Table, Queue}
+use Rattle.af_ledger.specs.declared.place.Place.TheVariants.{Table, Queue, Backlog}
 
 looked : (m : Map Count) (f g : ℕ) (c : Count) → count_in_map (map.insert m f c) g ≡ cond (nat_eq g f) c (count_in_map m g)
 looked m f g c = ap (λ o. unwrap_or o uncounted) (get-insert nat_cmp_total m f c g ∙ ap (λ b. cond b (Some c) (map.get m g)) (unsigned_tied g f)) ∙ by (nat_eq g f) where
@@ -50,6 +50,7 @@ falls F m f g c h = ap (λ x. F x + one g f) (looked m f g c) ∙ by (nat_eq g f
 pub refs-held : (p : Place) (f g : ℕ) (k : Kept) → refs_of (held p f k) g ≡ refs_of k g + one g f
 refs-held Table f g k = rises places_in k.counts f g (more Table (count_of k f)) (omega arith)
 refs-held (Queue u) f g k = rises places_in k.counts f g (more (Queue u) (count_of k f)) (omega arith)
+refs-held Backlog f g k = rises places_in k.counts f g (more Backlog (count_of k f)) (omega arith)
 
 -- A number of a table more.
 pub tabled-tabled : (f g : ℕ) (k : Kept) → (count_of (held Table f k) g).tabled ≡ (count_of k g).tabled + one g f
@@ -59,6 +60,10 @@ tabled-tabled f g k = rises (λ c. c.tabled) k.counts f g (more Table (count_of 
 pub inflight-tabled : (f g : ℕ) (k : Kept) → (count_of (held Table f k) g).inflight ≡ (count_of k g).inflight
 inflight-tabled f g k = stays (λ c. c.inflight) k.counts f g (more Table (count_of k f)) refl
 
+-- Nor a place in a backlog.
+pub waiting-tabled : (f g : ℕ) (k : Kept) → (count_of (held Table f k) g).waiting ≡ (count_of k g).waiting
+waiting-tabled f g k = stays (λ c. c.waiting) k.counts f g (more Table (count_of k f)) refl
+
 -- A place in a queue more is no number of a table.
 pub tabled-queued : (u f g : ℕ) (k : Kept) → (count_of (held (Queue u) f k) g).tabled ≡ (count_of k g).tabled
 tabled-queued u f g k = stays (λ c. c.tabled) k.counts f g (more (Queue u) (count_of k f)) refl
@@ -67,17 +72,35 @@ tabled-queued u f g k = stays (λ c. c.tabled) k.counts f g (more (Queue u) (cou
 pub inflight-queued : (u f g : ℕ) (k : Kept) → (count_of (held (Queue u) f k) g).inflight ≡ (count_of k g).inflight + one g f
 inflight-queued u f g k = rises (λ c. c.inflight) k.counts f g (more (Queue u) (count_of k f)) refl
 
+-- A place in a queue more is no place in a backlog.
+pub waiting-queued : (u f g : ℕ) (k : Kept) → (count_of (held (Queue u) f k) g).waiting ≡ (count_of k g).waiting
+waiting-queued u f g k = stays (λ c. c.waiting) k.counts f g (more (Queue u) (count_of k f)) refl
+
+-- A place in a backlog more is no number of a table.
+pub tabled-backlogged : (f g : ℕ) (k : Kept) → (count_of (held Backlog f k) g).tabled ≡ (count_of k g).tabled
+tabled-backlogged f g k = stays (λ c. c.tabled) k.counts f g (more Backlog (count_of k f)) refl
+
+-- Nor a place in a queue.
+pub inflight-backlogged : (f g : ℕ) (k : Kept) → (count_of (held Backlog f k) g).inflight ≡ (count_of k g).inflight
+inflight-backlogged f g k = stays (λ c. c.inflight) k.counts f g (more Backlog (count_of k f)) refl
+
+-- A place in a backlog more.
+pub waiting-backlogged : (f g : ℕ) (k : Kept) → (count_of (held Backlog f k) g).waiting ≡ (count_of k g).waiting + one g f
+waiting-backlogged f g k = rises (λ c. c.waiting) k.counts f g (more Backlog (count_of k f)) refl
+
 -- The places that are left.
 left : (p : Place) (f g : ℕ) (k : Kept) → IsCounted p (count_of k f) → places_in (count_in_map (map.insert k.counts f (fewer p (count_of k f))) g) + one g f ≡ refs_of k g
 left p f g k some = falls places_in k.counts f g (fewer p (count_of k f)) (by p some) where
   by : (p : Place) → IsCounted p (count_of k f) → places_in (fewer p (count_of k f)) + 1 ≡ refs_of k f
   by Table h = omega arith
   by (Queue u) h = omega arith
+  by Backlog h = omega arith
 
 -- A place less of f is a reference less to f, and to no other file.
 pub refs-dropped : (p : Place) (f g : ℕ) (k : Kept) → IsCounted p (count_of k f) → refs_of (dropped p f k) g + one g f ≡ refs_of k g
 refs-dropped Table f g k some = left Table f g k some
 refs-dropped (Queue u) f g k some = left (Queue u) f g k some
+refs-dropped Backlog f g k some = left Backlog f g k some
 
 -- Whether the place that goes is the last is seen before and after.
 pub last_left : (p : Place) (f : ℕ) (k new : Kept) → IsCounted p (count_of k f) → new.counts ≡ map.insert k.counts f (fewer p (count_of k f)) → nat_eq (refs_of k f) 1 ≡ nat_eq (refs_of new f) 0
@@ -95,6 +118,10 @@ tabled-untabled f g k some = falls (λ c. c.tabled) k.counts f g (fewer Table (c
 pub inflight-untabled : (f g : ℕ) (k : Kept) → (count_of (dropped Table f k) g).inflight ≡ (count_of k g).inflight
 inflight-untabled f g k = stays (λ c. c.inflight) k.counts f g (fewer Table (count_of k f)) refl
 
+-- Nor a place in a backlog.
+pub waiting-untabled : (f g : ℕ) (k : Kept) → (count_of (dropped Table f k) g).waiting ≡ (count_of k g).waiting
+waiting-untabled f g k = stays (λ c. c.waiting) k.counts f g (fewer Table (count_of k f)) refl
+
 -- A place in a queue less is no number of a table.
 pub tabled-unqueued : (u f g : ℕ) (k : Kept) → (count_of (dropped (Queue u) f k) g).tabled ≡ (count_of k g).tabled
 tabled-unqueued u f g k = stays (λ c. c.tabled) k.counts f g (fewer (Queue u) (count_of k f)) refl
@@ -102,6 +129,22 @@ tabled-unqueued u f g k = stays (λ c. c.tabled) k.counts f g (fewer (Queue u) (
 -- A place in a queue less.
 pub inflight-unqueued : (u f g : ℕ) (k : Kept) → 0 < (count_of k f).inflight → (count_of (dropped (Queue u) f k) g).inflight + one g f ≡ (count_of k g).inflight
 inflight-unqueued u f g k some = falls (λ c. c.inflight) k.counts f g (fewer (Queue u) (count_of k f)) (omega arith)
+
+-- A place in a queue less is no place in a backlog.
+pub waiting-unqueued : (u f g : ℕ) (k : Kept) → (count_of (dropped (Queue u) f k) g).waiting ≡ (count_of k g).waiting
+waiting-unqueued u f g k = stays (λ c. c.waiting) k.counts f g (fewer (Queue u) (count_of k f)) refl
+
+-- A place in a backlog less is no number of a table.
+pub tabled-unbacklogged : (f g : ℕ) (k : Kept) → (count_of (dropped Backlog f k) g).tabled ≡ (count_of k g).tabled
+tabled-unbacklogged f g k = stays (λ c. c.tabled) k.counts f g (fewer Backlog (count_of k f)) refl
+
+-- Nor a place in a queue.
+pub inflight-unbacklogged : (f g : ℕ) (k : Kept) → (count_of (dropped Backlog f k) g).inflight ≡ (count_of k g).inflight
+inflight-unbacklogged f g k = stays (λ c. c.inflight) k.counts f g (fewer Backlog (count_of k f)) refl
+
+-- A place in a backlog less.
+pub waiting-unbacklogged : (f g : ℕ) (k : Kept) → 0 < (count_of k f).waiting → (count_of (dropped Backlog f k) g).waiting + one g f ≡ (count_of k g).waiting
+waiting-unbacklogged f g k some = falls (λ c. c.waiting) k.counts f g (fewer Backlog (count_of k f)) (omega arith)
 
 -- What a user is charged in this list.
 abbrev charge_in : List (ℕ × ℕ) → ℕ → ℕ
@@ -153,10 +196,12 @@ keys-recharged g u us = by (lookup (nat_eq u) us) where
 pub users-held : (p : Place) (f : ℕ) (k : Kept) → keys_of (held p f k).users ≡ keys_of k.users
 users-held Table f k = refl
 users-held (Queue u) f k = keys-recharged (λ n. n + 1) u k.users
+users-held Backlog f k = refl
 
 pub users-dropped : (p : Place) (f : ℕ) (k : Kept) → keys_of (dropped p f k).users ≡ keys_of k.users
 users-dropped Table f k = refl
 users-dropped (Queue u) f k = keys-recharged (λ n. n - 1) u k.users
+users-dropped Backlog f k = refl
 
 -- A user more goes last, if it is new.
 pub users-added : (u : ℕ) (us : List (ℕ × ℕ)) → keys_of (with_user u us) ≡ (if list_any (nat_eq u) (keys_of us) then keys_of us else keys_of us ++ u ∷ [])
@@ -207,11 +252,13 @@ has-change m f g c there = ap is_some (get-insert nat_cmp_total m f c g ∙ ap (
 pub has-held : (p : Place) (f g : ℕ) (k : Kept) → IsTrue (has_count k f) → has_count (held p f k) g ≡ has_count k g
 has-held Table f g k there = has-change k.counts f g _ there
 has-held (Queue u) f g k there = has-change k.counts f g _ there
+has-held Backlog f g k there = has-change k.counts f g _ there
 
 -- Nor does a place less.
 pub has-dropped : (p : Place) (f g : ℕ) (k : Kept) → IsTrue (has_count k f) → has_count (dropped p f k) g ≡ has_count k g
 has-dropped Table f g k there = has-change k.counts f g _ there
 has-dropped (Queue u) f g k there = has-change k.counts f g _ there
+has-dropped Backlog f g k there = has-change k.counts f g _ there
 
 -- What a number is when f is entered: none had it before.
 pub count-entered : (k : Kept) (f g room : ℕ) → has_count k f ≡ false → count_of (record k { counts = map.insert k.counts f uncounted; last = f; room = room }) g ≡ count_of k g
@@ -238,7 +285,8 @@ count-struck k f g room none = ap (λ o. unwrap_or o uncounted) (get-remove nat_
   bare c e =
       let table : 0 ≡ c.tabled = omega (arith, e) in
       let queue : 0 ≡ c.inflight = omega (arith, e) in
-      λ i. record { tabled = table i; inflight = queue i }
+      let backlog : 0 ≡ c.waiting = omega (arith, e) in
+      λ i. record { tabled = table i; inflight = queue i; waiting = backlog i }
 
   by : (b : Bool) → nat_eq g f ≡ b → unwrap_or (cond b None (map.get k.counts g)) uncounted ≡ count_of k g
   by true e = bare (count_of k f) none ∙ sym (ap (count_of k) (eqb-true g f e))

@@ -25,7 +25,7 @@ use Rattle.af_ledger.specs.Kept.{count_in_map, is_waiting}
 use Rattle.af_ledger.specs.Waiting.{AreWaiting}
 use Rattle.af_ledger.specs.declared.count.Count.{Count}
 use Rattle.af_ledger.specs.declared.place.Place.{Place}
-use Rattle.af_ledger.specs.declared.place.Place.TheVariants.{Queue, Table}
+use Rattle.af_ledger.specs.declared.place.Place.TheVariants.{Backlog, Queue, Table}
 use Rattle.af_ledger.proofs.HeldAll.{at-place}
 
 -- What is no key of the list differs from each.
@@ -169,13 +169,15 @@ stranger-waits m k = by (map.get m k) where
 
 -- Who has a place more has one.
 more-some : (p : Place) (c : Count) → nat_eq (places_in (more p c)) 0 ≡ false
-more-some Table c = told_apart (c.tabled + 1 + c.inflight) 0 (λ e. omega (arith, e))
-more-some (Queue u) c = told_apart (c.tabled + (c.inflight + 1)) 0 (λ e. omega (arith, e))
+more-some Table c = told_apart (c.tabled + 1 + c.inflight + c.waiting) 0 (λ e. omega (arith, e))
+more-some (Queue u) c = told_apart (c.tabled + (c.inflight + 1) + c.waiting) 0 (λ e. omega (arith, e))
+more-some Backlog c = told_apart (c.tabled + c.inflight + (c.waiting + 1)) 0 (λ e. omega (arith, e))
 
 -- A place less is one fewer.
 fewer-one : (p : Place) (c : Count) → IsCounted p c → places_in (fewer p c) + 1 ≡ places_in c
 fewer-one Table c h = omega arith
 fewer-one (Queue u) c h = omega arith
+fewer-one Backlog c h = omega arith
 
 -- The numbers of a file that is there change.
 module _ (m n : Map Count) (fs : List ℕ) (files capacity k : ℕ) (p : Place) (h : AreWaiting m fs files capacity) where

@@ -2,32 +2,36 @@
 use Rattle.std.specs.Prelude.{ℕ, ◌+◌, ◌-◌, ◌<◌, ◌^◌}
 use Rattle.af_ledger.specs.declared.count.Count.{Count}
 use Rattle.af_ledger.specs.declared.place.Place.{Place}
-use Rattle.af_ledger.specs.declared.place.Place.TheVariants.{Table, Queue}
+use Rattle.af_ledger.specs.declared.place.Place.TheVariants.{Table, Queue, Backlog}
 
 -- No place holds it (this project's own).
 abbrev pub uncounted : Count
-uncounted = record { tabled = 0; inflight = 0 }
+uncounted = record { tabled = 0; inflight = 0; waiting = 0 }
 
 -- All places that hold it (close(2): the description goes with its last reference).
 abbrev pub places_in : Count → ℕ
-places_in c = c.tabled + c.inflight
+places_in c = c.tabled + c.inflight + c.waiting
 
 -- One place more (this project's own).
 abbrev pub more : Place → Count → Count
 more Table c = record c { tabled = c.tabled + 1 }
 more (Queue u) c = record c { inflight = c.inflight + 1 }
+more Backlog c = record c { waiting = c.waiting + 1 }
 
 -- One place less (this project's own).
 abbrev pub fewer : Place → Count → Count
 fewer Table c = record c { tabled = c.tabled - 1 }
 fewer (Queue u) c = record c { inflight = c.inflight - 1 }
+fewer Backlog c = record c { waiting = c.waiting - 1 }
 
 -- There are few enough of the kind that one more can be counted (this project's own).
 abbrev pub IsCountable : Place → Count → Type 0
 IsCountable Table c = c.tabled < 2 ^ 31
 IsCountable (Queue u) c = c.inflight < 2 ^ 31
+IsCountable Backlog c = c.waiting < 2 ^ 31
 
 -- There is one of the kind (this project's own).
 abbrev pub IsCounted : Place → Count → Type 0
 IsCounted Table c = 0 < c.tabled
 IsCounted (Queue u) c = 0 < c.inflight
+IsCounted Backlog c = 0 < c.waiting

@@ -9,7 +9,7 @@ use Rattle.af_base.specs.Counts.{count_in}
 use Rattle.af_ledger.specs.Counted.{uncounted, places_in, more, fewer, IsCountable, IsCounted}
 use Rattle.af_ledger.specs.declared.count.Count.{Count}
 use Rattle.af_ledger.specs.declared.place.Place.{Place}
-use Rattle.af_ledger.specs.declared.place.Place.TheVariants.{Table, Queue}
+use Rattle.af_ledger.specs.declared.place.Place.TheVariants.{Table, Queue, Backlog}
 
 -- The numbers of each file that was entered and not struck out since, each user with what it is charged, in the order in which they came, what is charged to all together, the last number that was entered, and for how many further files there is room (this project's own).
 pub record Kept : Type 0 where
@@ -67,11 +67,13 @@ freed_by units u k = record k { users = recharged (λ n. n - units) u k.users; t
 abbrev pub charged_more : Place → Kept → Kept
 charged_more Table k = k
 charged_more (Queue u) k = charged_by 1 u k
+charged_more Backlog k = k
 
 -- The unit of charge of a place less (this project's own).
 abbrev pub charged_less : Place → Kept → Kept
 charged_less Table k = k
 charged_less (Queue u) k = freed_by 1 u k
+charged_less Backlog k = k
 
 -- One place more holds f (this project's own).
 abbrev pub held : Place → ℕ → Kept → Kept
@@ -85,11 +87,13 @@ dropped p f k = charged_less p (record k { counts = map.insert k.counts f (fewer
 abbrev pub IsChargeable : Place → Kept → Type 0
 IsChargeable Table k = Unit {0}
 IsChargeable (Queue u) k = IsTrue (is_user u k.users) × (charge_of k u < 2 ^ 63) × (k.total < 2 ^ 63)
+IsChargeable Backlog k = Unit {0}
 
 -- The unit is charged (this project's own).
 abbrev pub IsCharged : Place → Kept → Type 0
 IsCharged Table k = Unit {0}
 IsCharged (Queue u) k = (0 < charge_of k u) × (0 < k.total)
+IsCharged Backlog k = Unit {0}
 
 -- A place more of f can be counted and charged (this project's own).
 abbrev pub CanHold : Place → ℕ → Kept → Type 0

@@ -12,6 +12,8 @@ pub struct Count {
     pub tabled: u32,
     /// Places in queues that hold it.
     pub inflight: u32,
+    /// Places in backlogs that hold it: one where it is an embryo.
+    pub waiting: u32,
 }
 
 impl Count {
@@ -22,6 +24,7 @@ impl Count {
         Count {
             tabled: 0,
             inflight: 0,
+            waiting: 0,
         }
     }
 
@@ -29,7 +32,7 @@ impl Count {
     pub(crate) fn places(self) -> u64
         ensures { result ≡ places_in self }
     {
-        u64::from(self.tabled) + u64::from(self.inflight)
+        u64::from(self.tabled) + u64::from(self.inflight) + u64::from(self.waiting)
     }
 
     /// One place more.
@@ -40,6 +43,7 @@ impl Count {
         match place {
             Place::Table => self.tabled += 1,
             Place::Queue(_) => self.inflight += 1,
+            Place::Backlog => self.waiting += 1,
         }
     }
 
@@ -51,6 +55,7 @@ impl Count {
         match place {
             Place::Table => self.tabled -= 1,
             Place::Queue(_) => self.inflight -= 1,
+            Place::Backlog => self.waiting -= 1,
         }
     }
 }

@@ -38,6 +38,29 @@ fn a_file_comes_and_goes(rt: HostRuntime) -> Result<(), Fail> {
 }
 
 #[test]
+fn an_embryo_is_accepted(rt: HostRuntime) -> Result<(), Fail> {
+    let mut ledger = Ledger::new(rt.alloc());
+    let embryo = FileRef::new(Ino(1), 0);
+    ledger.reserve(1)?;
+    ledger.enter(Ino(1));
+    ledger.hold(Place::Backlog, &embryo);
+    assert!(rt; ledger.next_waiting().is_none());
+    assert_eq!(rt; ledger.refs(Ino(1)), 1);
+    assert_eq!(rt; ledger.tabled(&embryo), 0);
+    assert_eq!(rt; ledger.inflight(Ino(1)), 0);
+    assert_eq!(rt; ledger.total(), 0);
+    ledger.hold(Place::Table, &embryo);
+    assert_eq!(rt; ledger.refs(Ino(1)), 2);
+    ledger.drop_one(Place::Backlog, &embryo);
+    assert_eq!(rt; ledger.refs(Ino(1)), 1);
+    assert_eq!(rt; ledger.tabled(&embryo), 1);
+    assert!(rt; ledger.next_waiting().is_none());
+    ledger.drop_one(Place::Table, &embryo);
+    assert!(rt; ledger.next_waiting().is_some());
+    Ok(())
+}
+
+#[test]
 fn a_user_may_send(rt: HostRuntime) -> Result<(), Fail> {
     let mut ledger = Ledger::new(rt.alloc());
     let (first, second) = (Uid(1000), Uid(7));

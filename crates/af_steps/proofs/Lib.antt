@@ -8,3 +8,5 @@ pub mod Running
 pub mod Made
 pub mod Untabled
 pub mod Looked
+pub mod Connected
+pub mod Naming

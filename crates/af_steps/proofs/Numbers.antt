@@ -93,11 +93,11 @@ module _ (w : World) (p : ℕ) (q : Process) (at : map.get w.processes p ≡ Som
     not-open = subst (λ m. map.get q.table m ≡ None) (is_first 0) (free.free 0 0 (omega (arith, enough)))
 
     -- It is the number that the step names.
-    is-free_at : free_at w p 0 ≡ n
+    pub is-free_at : free_at w p 0 ≡ n
     is-free_at = ap (λ r. slice_index (free_numbers r) 0) is_process ∙ sym (get_or_default_zero (free_numbers q) 0 n (omega (arith, enough))) ∙ is_first n
 
     -- A number is free.
-    not-short : is_short (process_at w p) 1 ≡ false
+    pub not-short : is_short (process_at w p) 1 ≡ false
     not-short = ap (λ r. is_short r 1) is_process ∙ le-ltb (length (free_numbers q)) 1 enough
 
     -- ---- open

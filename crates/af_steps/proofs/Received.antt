@@ -11,11 +11,12 @@ use Rattle.af_base.specs.declared.events.Step.TheVariants as step
 use Rattle.af_base.specs.declared.events.Reply.TheVariants as reply
 use Rattle.af_base.specs.declared.limits.TheConstants.{MAX_BYTES}
 use Rattle.af_base.specs.World.{World, File, Process, Plain, Socket, AsSocket}
+use Rattle.af_base.specs.Names.{is_between}
 use Rattle.af_base.specs.Places.{table_at}
 use Rattle.af_base.specs.Changes.{install_all, with_queue}
 use Rattle.af_base.specs.Table.{lowest_free}
 use Rattle.af_base.specs.Take.{cut, take_from, nothing_taken}
-use Rattle.af_base.specs.Refusals.{first_fit, ino_on, is_between, is_connected, is_hung_up, socket_on, socket_at, socket_of, process_at, refusal}
+use Rattle.af_base.specs.Refusals.{first_fit, ino_on, is_connected, is_hung_up, socket_on, socket_at, socket_of, process_at, refusal}
 use Rattle.af_base.specs.Steps.{taken_on, effect, answer, ProcessStep}
 use Rattle.af_base.specs.Whole.{IsSound}
 use Rattle.af_base.proofs.Free.{AreFree, free-lowest_free}
@@ -27,7 +28,7 @@ use Rattle.af_steps.proofs.Outcomes.{done}
 use Rattle.af_steps.proofs.Refused.{socket-is, tabled}
 
 -- The file of which this is the socket.
-file-is : (w : World) (s : ℕ) (x : Socket) → socket_at w s ≡ Some x → map.get w.files s ≡ Some (AsSocket x)
+pub file-is : (w : World) (s : ℕ) (x : Socket) → socket_at w s ≡ Some x → map.get w.files s ≡ Some (AsSocket x)
 file-is w s x = by (map.get w.files s) where
   by : (o : Option File) → option_and_then socket_of o ≡ Some x → o ≡ Some (AsSocket x)
   by None e = absurd (none_some x e)

@@ -1,27 +1,27 @@
 -- A send's row by its parts: what was looked up, and the tests of each part in turn.
 use Rattle.std.proofs.Common.{◌≡◌, ℕ, ◌+◌, Bool, true, false, List, [], ◌∷◌, ◌++◌, length, nat_eq, refl, sym, ap, ◌∙◌}
-use Rattle.std.specs.Prelude.{Some, None, is_none, is_some, not, unwrap_or, ◌&&◌, ◌||◌, nat_le, nat_lt, if◌then◌else◌}
+use Rattle.std.specs.Prelude.{Option, Some, None, is_none, is_some, not, unwrap_or, ◌&&◌, ◌||◌, nat_le, nat_lt, if◌then◌else◌}
 use Rattle.std.specs.FinMap as map
 use Rattle.std.specs.List.{list_any}
-use Rattle.std.specs.Option.{option_and_then}
+use Rattle.std.specs.Option.{option_and_then, option_map_or}
 use Rattle.af_base.specs.declared.errno.Errno.{Errno}
 use Rattle.af_base.specs.declared.errno.Errno.TheVariants.{EAGAIN, EBADF, EINVAL, EMSGSIZE, ENOBUFS, ENOMEM, ENOTCONN, ENOTSOCK, EPIPE, ESRCH, ETOOMANYREFS}
 use Rattle.af_base.specs.declared.events.Reply.TheVariants as reply
 use Rattle.af_base.specs.declared.events.Step.TheVariants as step
 use Rattle.af_base.specs.declared.limits.TheConstants.{MAX_BYTES, MAX_INFLIGHT, MAX_MESSAGES, SCM_MAX_FD}
-use Rattle.af_base.specs.Places.{queue_at, table_at}
-use Rattle.af_base.specs.World.{Process, Socket, World}
+use Rattle.af_base.specs.Places.{queue_at, queue_of, table_at}
+use Rattle.af_base.specs.World.{AsSocket, File, Plain, Process, Socket, World}
 use Rattle.af_base.specs.Counts.{charged, total}
-use Rattle.af_base.specs.Refusals.{Row, first_fit, ino_on, is_connected, is_hung_up, is_over_limit, no_process, no_socket, peer_of, process_at, refusal, socket_at, socket_on}
+use Rattle.af_base.specs.Refusals.{Row, first_fit, ino_on, is_connected, is_hung_up, is_over_limit, no_process, no_socket, peer_of, process_at, refusal, socket_at, socket_of, socket_on}
 use Rattle.af_base.specs.Steps.{ProcessStep}
-use Rattle.af_base.proofs.Lookups.{none_some}
+use Rattle.af_base.proofs.Lookups.{none_some, some_same}
 use Rattle.af_base.proofs.Moved.{there-table}
 use Rattle.af_base.specs.Refusals.{send_row}
 use Rattle.af_steps.specs.Rows.{parts_row, peer_row}
 use Rattle.af_steps.proofs.Outcomes.{refused, starved}
 
 -- The first of two rows with an error decides.
-goes-on : (rows more : Row) (e : Errno) → first_fit rows ≡ Some e → first_fit (rows ++ more) ≡ Some e
+pub goes-on : (rows more : Row) (e : Errno) → first_fit rows ≡ Some e → first_fit (rows ++ more) ≡ Some e
 goes-on [] more e is = absurd (none_some e is)
 goes-on (r ∷ rs) more e is = by r.0 is (λ k. goes-on rs more e k) where
   by : (b : Bool) → (if b then Some r.1 else first_fit rs) ≡ Some e → (first_fit rs ≡ Some e → first_fit (rs ++ more) ≡ Some e) → (if b then Some r.1 else first_fit (rs ++ more)) ≡ Some e
@@ -29,12 +29,24 @@ goes-on (r ∷ rs) more e is = by r.0 is (λ k. goes-on rs more e k) where
   by false is go = go is
 
 -- Where no test of the first row fits, the second decides.
-passes-on : (rows more : Row) → first_fit rows ≡ None → first_fit (rows ++ more) ≡ first_fit more
+pub passes-on : (rows more : Row) → first_fit rows ≡ None → first_fit (rows ++ more) ≡ first_fit more
 passes-on [] more is = refl
 passes-on (r ∷ rs) more is = by r.0 is (λ k. passes-on rs more k) where
   by : (b : Bool) → (if b then Some r.1 else first_fit rs) ≡ None → (first_fit rs ≡ None → first_fit (rs ++ more) ≡ first_fit more) → (if b then Some r.1 else first_fit (rs ++ more)) ≡ first_fit more
   by true is go = absurd (none_some r.1 (sym is))
   by false is go = go is
+
+-- What a socket has to receive.
+queue-is : (w : World) (s : ℕ) (x : Socket) → socket_at w s ≡ Some x → queue_at w s ≡ x.queue
+queue-is w s x = by (map.get w.files s) where
+  by : (o : Option File) → option_and_then socket_of o ≡ Some x → option_map_or queue_of o [] ≡ x.queue
+  by None e = absurd (none_some x e)
+  by (Some Plain) e = absurd (none_some x e)
+  by (Some (AsSocket y)) e = ap (λ z. z.queue) (some_same y x e)
+
+-- Whether a socket whose queue has so many messages can take no more.
+pub full-is : (w : World) (s n : ℕ) (x : Socket) → socket_at w s ≡ Some x → n ≡ length x.queue → nat_le MAX_MESSAGES (length (queue_at w s)) ≡ nat_le MAX_MESSAGES n
+full-is w s n x found same = ap (nat_le MAX_MESSAGES) (ap length (queue-is w s x found) ∙ sym same)
 
 -- A process that is there, and its number that stands for a socket.
 module _ (w : World) (p on : ℕ) (q : Process) (at : map.get w.processes p ≡ Some q) (ino : ℕ) (is : map.get q.table on ≡ Some ino) (x : Socket) (found : socket_at w ino ≡ Some x) where

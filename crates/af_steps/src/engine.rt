@@ -90,6 +90,11 @@ impl Engine {
             events::Step::Fork => self.fork(pid),
             events::Step::Exit => self.exit(pid),
             events::Step::Pair(kind) => self.pair(pid, *kind),
+            events::Step::Socket(kind) => self.make_socket(pid, *kind),
+            events::Step::Bind { on, name } => self.bind(pid, *on, name),
+            events::Step::Listen { on, backlog } => self.listen(pid, *on, *backlog),
+            events::Step::Connect { on, name } => self.connect(pid, *on, name),
+            events::Step::Accept(on) => self.accept(pid, *on),
             events::Step::Send { on, bytes, attach } => self.send(
                 pid,
                 *on,

@@ -20,7 +20,7 @@ use std::alloc::{AllocError, Global};
 
 impl Engine {
     /// The socket; a plain file and a stranger are none.
-    fn socket(&self, file: &FileRef) -> Option<&Socket>
+    pub(crate) fn socket(&self, file: &FileRef) -> Option<&Socket>
         ensures { option_copied result ≡ socket_at self.now.world file.now }
     {
         self.store.files().get(file)?.socket()

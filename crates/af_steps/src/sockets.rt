@@ -1,10 +1,18 @@
-//! Steps that make sockets.
+//! Steps that make sockets, name them and connect them.
+ghost use Rattle.std.specs.Prelude.{◌≡◌, ◌↔◌, None, Some, IfErr, IsTrue, OnOk};
+ghost use Rattle.std.specs.List.{list_all};
+ghost use Rattle.af_base.specs.Names.{is_name, is_name_byte};
+ghost use Rattle.af_base.specs.Refusals.{first_fit};
 ghost use Rattle.af_steps.specs.Outcome.{Answers};
+ghost use Rattle.af_steps.specs.Rows.{accept_row, bind_row, client_row, listen_row, listener_row};
 
 use crate::engine::Engine;
 use af_base::errno::Errno;
-use af_base::events::{Reply, SockType, Step};
-use af_base::names::Pid;
+use af_base::events::{Reply, SockType, State, Step};
+use af_base::items::Items;
+use af_base::limits::{MAX_BACKLOG, MAX_NAME};
+use af_base::names::{Fd, Pid};
+use af_desc::Socket;
 
 impl Engine {
     /// A process makes two sockets that are connected to each other (socketpair(2)).
@@ -23,4 +31,178 @@ impl Engine {
         self.store.release();
         Ok(Reply::Fds(lower, higher))
     }
+
+    /// A process makes a socket (socket(2)).
+    pub(crate) fn make_socket(&mut self, pid: Pid, kind: SockType) -> Result<Reply, Errno>
+        ensures { Answers self.old pid (Step.Socket kind) result self.new }
+    {
+        let process = self.store.procs().find(pid).ok_or(Errno::ESRCH)?;
+        let fd = process.lowest().ok_or(Errno::EMFILE)?;
+        if self.store.files().is_full(1) {
+            return Err(Errno::ENFILE);
+        }
+        self.store.room_for(pid, 1)?;
+        let file = self.store.make_sock(kind)?;
+        self.store.table_in(pid, fd, file);
+        self.store.release();
+        Ok(Reply::Fd(fd))
+    }
+
+    /// A process gives a socket an abstract name (bind(2); unix(7)).
+    pub(crate) fn bind(&mut self, pid: Pid, on: Fd, name: &Items<u8>) -> Result<Reply, Errno>
+        ensures { Answers self.old pid (Step.Bind on name.now) result self.new }
+    {
+        let process = self.store.procs().find(pid).ok_or(Errno::ESRCH)?;
+        let file = process.lookup(on).ok_or(Errno::EBADF)?;
+        let socket = self.socket(&file).ok_or(Errno::ENOTSOCK)?;
+        check_bind(socket, name.as_slice())?;
+        if self.store.files().named(name).is_some() {
+            return Err(Errno::EADDRINUSE);
+        }
+        self.store.bind(&file, name)?;
+        self.store.release();
+        Ok(Reply::Ok)
+    }
+
+    /// A process lets a socket wait for connections, so many at most (listen(2)).
+    pub(crate) fn listen(&mut self, pid: Pid, on: Fd, backlog: u32) -> Result<Reply, Errno>
+        ensures { Answers self.old pid (Step.Listen on backlog) result self.new }
+    {
+        let process = self.store.procs().find(pid).ok_or(Errno::ESRCH)?;
+        let file = process.lookup(on).ok_or(Errno::EBADF)?;
+        let socket = self.socket(&file).ok_or(Errno::ENOTSOCK)?;
+        check_listen(socket, backlog)?;
+        self.store.listen(&file, backlog)?;
+        self.store.release();
+        Ok(Reply::Ok)
+    }
+
+    /// A process connects a socket to the listener of this name: to an embryo, which waits there to
+    /// be accepted (connect(2)).
+    pub(crate) fn connect(&mut self, pid: Pid, on: Fd, name: &Items<u8>) -> Result<Reply, Errno>
+        ensures { Answers self.old pid (Step.Connect on name.now) result self.new }
+    {
+        let process = self.store.procs().find(pid).ok_or(Errno::ESRCH)?;
+        let file = process.lookup(on).ok_or(Errno::EBADF)?;
+        let client = self.socket(&file).ok_or(Errno::ENOTSOCK)?;
+        check_client(client)?;
+        let listener = self.store.files().named(name).ok_or(Errno::ECONNREFUSED)?;
+        let kind = client.kind();
+        check_listener(self.socket(&listener).unwrap(), kind)?;
+        if self.store.files().is_full(1) {
+            return Err(Errno::ENFILE);
+        }
+        let embryo = self.store.make_embryo(kind, &file)?;
+        self.store.put_embryo(&listener, embryo);
+        self.store.release();
+        Ok(Reply::Ok)
+    }
+
+    /// A process accepts the embryo that waits longest at a listener (accept(2)).
+    pub(crate) fn accept(&mut self, pid: Pid, on: Fd) -> Result<Reply, Errno>
+        ensures { Answers self.old pid (Step.Accept on) result self.new }
+    {
+        let process = self.store.procs().find(pid).ok_or(Errno::ESRCH)?;
+        let file = process.lookup(on).ok_or(Errno::EBADF)?;
+        let socket = self.socket(&file).ok_or(Errno::ENOTSOCK)?;
+        check_accept(socket)?;
+        let fd = process.lowest().ok_or(Errno::EMFILE)?;
+        self.store.room_for(pid, 1)?;
+        self.store.take_embryo(&file, pid, fd);
+        self.store.release();
+        Ok(Reply::Fd(fd))
+    }
+}
+
+/// Whether the socket can have this name, or why not.
+fn check_bind(socket: &Socket, name: &[u8]) -> Result<(), Errno>
+    ensures ok { OnOk result (first_fit (bind_row socket.now name.now) ≡ None) }
+    ensures err { IfErr result (λ e. first_fit (bind_row socket.now name.now) ≡ Some e) }
+{
+    if socket.name().is_some() || !is_idle(socket) || !is_name(name) {
+        return Err(Errno::EINVAL);
+    }
+    Ok(())
+}
+
+/// Whether the socket can wait for so many connections, or why not.
+fn check_listen(socket: &Socket, backlog: u32) -> Result<(), Errno>
+    ensures ok { OnOk result (first_fit (listen_row socket.now backlog) ≡ None) }
+    ensures err { IfErr result (λ e. first_fit (listen_row socket.now backlog) ≡ Some e) }
+{
+    if socket.name().is_none() || !is_idle(socket) || backlog == 0 || backlog > MAX_BACKLOG {
+        return Err(Errno::EINVAL);
+    }
+    Ok(())
+}
+
+/// Whether the socket can connect, or why not.
+fn check_client(socket: &Socket) -> Result<(), Errno>
+    ensures ok { OnOk result (first_fit (client_row socket.now) ≡ None) }
+    ensures err { IfErr result (λ e. first_fit (client_row socket.now) ≡ Some e) }
+{
+    match socket.state() {
+        State::Idle => Ok(()),
+        State::Listening(_) => Err(Errno::EINVAL),
+        State::Connected(_) | State::HungUp => Err(Errno::EISCONN),
+    }
+}
+
+/// Whether a socket of this type can connect to that one, or why not.
+fn check_listener(socket: &Socket, kind: SockType) -> Result<(), Errno>
+    ensures ok { OnOk result (first_fit (listener_row socket.now kind) ≡ None) }
+    ensures err { IfErr result (λ e. first_fit (listener_row socket.now kind) ≡ Some e) }
+{
+    let State::Listening(most) = socket.state() else {
+        return Err(Errno::ECONNREFUSED);
+    };
+    if socket.kind() != kind {
+        return Err(Errno::EPROTOTYPE);
+    }
+    if socket.embryos() >= most as usize {
+        return Err(Errno::EAGAIN);
+    }
+    Ok(())
+}
+
+/// Whether somebody waits at the socket to be accepted, or why not.
+fn check_accept(socket: &Socket) -> Result<(), Errno>
+    ensures ok { OnOk result (first_fit (accept_row socket.now) ≡ None) }
+    ensures err { IfErr result (λ e. first_fit (accept_row socket.now) ≡ Some e) }
+{
+    let State::Listening(_) = socket.state() else {
+        return Err(Errno::EINVAL);
+    };
+    if socket.embryos() == 0 {
+        return Err(Errno::EAGAIN);
+    }
+    Ok(())
+}
+
+/// Whether it was never connected and does not listen.
+fn is_idle(socket: &Socket) -> bool
+    ensures { IsTrue result ↔ (socket.now.state ≡ State.Idle) }
+{
+    matches!(socket.state(), State::Idle)
+}
+
+/// Whether these bytes are a name: 1 to 107 digits, letters, `-`, `.` and `_` (unix(7), sun_path).
+fn is_name(bytes: &[u8]) -> bool
+    ensures { result ≡ is_name bytes.now }
+{
+    !bytes.is_empty() && bytes.len() <= MAX_NAME && are_name_bytes(bytes)
+}
+
+/// Whether a name may have each of these bytes.
+fn are_name_bytes(bytes: &[u8]) -> bool
+    ensures { result ≡ list_all is_name_byte bytes.now }
+{
+    bytes.iter().all(|byte| is_name_byte(*byte))
+}
+
+/// Whether a name may have this byte.
+fn is_name_byte(byte: u8) -> bool
+    ensures { result ≡ is_name_byte byte }
+{
+    byte.is_ascii_alphanumeric() || matches!(byte, b'-' | b'.' | b'_')
 }

@@ -1,13 +1,15 @@
 //! What can be seen of an engine. No view takes memory, but for the plain lists.
-ghost use Rattle.std.specs.Prelude.{◌≡◌, ◌<◌, ℕ, false, IfOk, IfSome, IfNone, length, slice_get};
+ghost use Rattle.std.specs.Prelude.{◌≡◌, ◌<◌, ℕ, false, IfOk, IfSome, IfNone, length, option_copied, slice_get};
 ghost use Rattle.std.specs.FinMap as map;
 ghost use Rattle.af_base.specs.World.{is_live, IsLive};
 ghost use Rattle.af_base.specs.Bare.{bare};
 ghost use Rattle.af_base.specs.Counts.{refs, inflight, charged, total};
+ghost use Rattle.af_base.specs.Whole.{name_at};
 ghost use Rattle.af_steps.specs.Shown.{shown_of};
 
 use crate::engine::Engine;
 use af_base::events::{SockType, State};
+use af_base::items::Items;
 use af_base::listing::Listing;
 use af_base::names::{Ino, Pid, Uid};
 use std::alloc::AllocError;
@@ -17,11 +19,13 @@ use std::alloc::AllocError;
 pub enum FileInfo {
     /// A plain file, of which nothing is known.
     Plain,
-    /// A socket: its type, whom it can talk to, and how many messages it has to receive.
+    /// A socket: its type, whom it can talk to, how many messages it has to receive, and how many
+    /// embryos wait to be accepted.
     Socket {
         kind: SockType,
         state: State,
         messages: usize,
+        embryos: usize,
     },
 }
 
@@ -109,7 +113,17 @@ impl Engine {
             kind: socket.kind(),
             state: socket.state(),
             messages: socket.queue().len(),
+            embryos: socket.embryos(),
         })
+    }
+
+    /// The abstract name of the socket (unix(7)); nothing where it has none, or is no socket.
+    pub fn name(&self, ino: Ino) -> Option<&Items<u8>>
+        ensures { option_copied result ≡ name_at self.now.world ino }
+    {
+        let files = self.store.files();
+        let file = files.find(ino)?;
+        files.get(&file)?.socket()?.name()
     }
 
     /// Plain lists of the tables, queues and backlogs as they stand, and whom each message is charged

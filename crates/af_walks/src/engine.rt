@@ -24,11 +24,12 @@ pub struct Message {
     pub user: Uid,
 }
 
-/// A socket: its type, and whom it can talk to.
+/// A socket: its type, whom it can talk to, and its abstract name.
 #[derive(Drop)]
 pub struct Socket {
     pub kind: SockType,
     pub state: State,
+    pub name: Option<Vec<u8>>,
 }
 
 /// An open file description: a socket, or a plain file, which has nothing to it.
@@ -37,6 +38,8 @@ pub struct File {
     pub socket: Option<Socket>,
     /// What the socket has to receive, the oldest first.
     pub queue: VecDeque<Message>,
+    /// The embryos that wait at the socket to be accepted, the oldest first.
+    pub backlog: VecDeque<Ino>,
 }
 
 impl File {
@@ -48,10 +51,23 @@ impl File {
         }
     }
 
+    /// The abstract name of the socket.
+    pub fn name(&self) -> Option<&[u8]> {
+        let name = self.socket.as_ref()?.name.as_ref()?;
+        Some(name.as_slice())
+    }
+
     /// Whom the socket can talk to from now on.
     pub fn set_state(&mut self, state: State) {
         if let Some(socket) = &mut self.socket {
             socket.state = state;
+        }
+    }
+
+    /// What the socket is called from now on.
+    pub fn set_name(&mut self, name: Vec<u8>) {
+        if let Some(socket) = &mut self.socket {
+            socket.name = Some(name);
         }
     }
 }
@@ -116,7 +132,7 @@ impl Engine {
         self.files.keys().copied().find(|ino| self.refs(*ino) == 0)
     }
 
-    /// A file goes with its queue, and its peer hangs up.
+    /// A file goes with its queue, its backlog and its name, and its peer hangs up.
     fn drop_file(&mut self, ino: Ino) {
         let Some(file) = self.files.remove(&ino) else {
             return;
@@ -133,7 +149,8 @@ impl Engine {
         }
     }
 
-    /// A whole pass of the collector: the queues of all files that are not reached are emptied.
+    /// A whole pass of the collector: the queues and backlogs of all files that are not reached are
+    /// emptied.
     fn pass(&mut self) -> Result<Reply, Errno> {
         let reached = self.reached().map_err(|_| Errno::ENOMEM)?;
         let mut reclaimed: u64 = 0;
@@ -145,6 +162,7 @@ impl Engine {
                 reclaimed = reclaimed.saturating_add(1);
             }
             file.queue.clear();
+            file.backlog.clear();
         }
         self.last_pass = self.last_pass.saturating_add(1).min(MAX_PASS);
         Ok(Reply::Done {
@@ -153,7 +171,7 @@ impl Engine {
         })
     }
 
-    /// The files that a chain of queues leads to from a table.
+    /// The files that a chain of queues and backlogs leads to from a table.
     fn reached(&self) -> Result<BTreeSet<Ino>, AllocError> {
         let mut reached = BTreeSet::new(self.alloc);
         let mut waiting = Vec::new(self.alloc);
@@ -162,7 +180,7 @@ impl Engine {
                 waiting.push(*ino)?;
             }
         }
-        // Bounded only so that it returns: a queue is read once, so what waits runs out.
+        // Bounded only so that it returns: a file is read once, so what waits runs out.
         for _ in 0..usize::MAX {
             let Some(ino) = waiting.pop() else {
                 break;
@@ -175,6 +193,9 @@ impl Engine {
             };
             for message in &file.queue {
                 waiting.extend_from_slice(&message.attached)?;
+            }
+            for embryo in &file.backlog {
+                waiting.push(*embryo)?;
             }
         }
         Ok(reached)

@@ -6,6 +6,7 @@
 #![tactic(auto)]
 
 mod engine;
+mod sockets;
 mod steps;
 mod take;
 mod views;

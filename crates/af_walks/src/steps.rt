@@ -23,6 +23,11 @@ impl Engine {
             Step::Fork => self.fork(pid),
             Step::Exit => self.exit(pid),
             Step::Pair(kind) => self.pair(pid, *kind),
+            Step::Socket(kind) => self.make_socket(pid, *kind),
+            Step::Bind { on, name } => self.bind(pid, *on, name.as_slice()),
+            Step::Listen { on, backlog } => self.listen(pid, *on, *backlog),
+            Step::Connect { on, name } => self.connect(pid, *on, name.as_slice()),
+            Step::Accept(on) => self.accept(pid, *on),
             Step::Send { on, bytes, attach } => {
                 self.send(pid, *on, bytes.as_slice(), attach.as_slice())
             }
@@ -99,24 +104,6 @@ impl Engine {
             Some(_) => Ok(Reply::Ok),
             None => Err(Errno::ESRCH),
         }
-    }
-
-    fn pair(&mut self, pid: Pid, kind: SockType) -> Result<Reply, Errno> {
-        let free = self.free_numbers(pid, 2)?;
-        let [lower, higher] = free.as_slice() else {
-            return Err(Errno::EMFILE);
-        };
-        self.check_room(2)?;
-        let state = State::Idle;
-        let first = self.add_file(Some(Socket { kind, state }))?;
-        let state = State::Connected(first);
-        let second = self.add_file(Some(Socket { kind, state }))?;
-        if let Some(file) = self.files.get_mut(&first) {
-            file.set_state(State::Connected(second));
-        }
-        self.install(pid, *lower, first)?;
-        self.install(pid, *higher, second)?;
-        Ok(Reply::Fds(*lower, *higher))
     }
 
     fn send(&mut self, pid: Pid, on: Fd, bytes: &[u8], attach: &[Fd]) -> Result<Reply, Errno> {
@@ -208,7 +195,7 @@ impl Engine {
     }
 
     /// The lowest free numbers of the process: so many, or all where there are fewer.
-    fn free_numbers(&self, pid: Pid, count: usize) -> Result<Vec<Fd>, Errno> {
+    pub(crate) fn free_numbers(&self, pid: Pid, count: usize) -> Result<Vec<Fd>, Errno> {
         let process = self.process(pid)?;
         (0..process.limit)
             .map(|number| Fd(number))
@@ -219,13 +206,13 @@ impl Engine {
     }
 
     /// The lowest free number of the process.
-    fn lowest_free(&self, pid: Pid) -> Result<Fd, Errno> {
+    pub(crate) fn lowest_free(&self, pid: Pid) -> Result<Fd, Errno> {
         let free = self.free_numbers(pid, 1)?;
         free.first().copied().ok_or(Errno::EMFILE)
     }
 
     /// The number stands for the file from now on.
-    fn install(&mut self, pid: Pid, fd: Fd, ino: Ino) -> Result<(), Errno> {
+    pub(crate) fn install(&mut self, pid: Pid, fd: Fd, ino: Ino) -> Result<(), Errno> {
         if let Some(process) = self.processes.get_mut(&pid) {
             process.table.insert(fd, ino).map_err(|_| Errno::ENOMEM)?;
         }
@@ -233,7 +220,7 @@ impl Engine {
     }
 
     /// Whether so many files more may be made.
-    fn check_room(&self, count: usize) -> Result<(), Errno> {
+    pub(crate) fn check_room(&self, count: usize) -> Result<(), Errno> {
         let live = self.files.len().saturating_add(count);
         let next = self.next_ino.saturating_add(count as u64);
         if live > MAX_FILES || next > MAX_INO + 1 {
@@ -242,18 +229,20 @@ impl Engine {
         Ok(())
     }
 
-    fn add_file(&mut self, socket: Option<Socket>) -> Result<Ino, Errno> {
+    pub(crate) fn add_file(&mut self, socket: Option<Socket>) -> Result<Ino, Errno> {
         let ino = Ino(self.next_ino);
-        let queue = VecDeque::new(self.alloc);
-        self.files
-            .insert(ino, File { socket, queue })
-            .map_err(|_| Errno::ENOMEM)?;
+        let file = File {
+            socket,
+            queue: VecDeque::new(self.alloc),
+            backlog: VecDeque::new(self.alloc),
+        };
+        self.files.insert(ino, file).map_err(|_| Errno::ENOMEM)?;
         self.next_ino = self.next_ino.saturating_add(1);
         Ok(ino)
     }
 
     /// The socket that the number stands for.
-    fn socket_at(&self, pid: Pid, fd: Fd) -> Result<&Socket, Errno> {
+    pub(crate) fn socket_at(&self, pid: Pid, fd: Fd) -> Result<&Socket, Errno> {
         let ino = self.lookup(pid, fd)?;
         let socket = self.files.get(&ino).and_then(|file| file.socket.as_ref());
         socket.ok_or(Errno::ENOTSOCK)

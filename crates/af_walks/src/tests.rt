@@ -1,18 +1,21 @@
 //! Both engines do the same events: all answers are the same, and so is what they show.
+mod meeting;
+mod met;
 mod source;
 
 use crate::Engine;
+use crate::engine::File;
 use af_base::errno::Errno;
-use af_base::events::{Event, Reply, SockType, Step};
 use af_base::names::{Ino, Uid};
+use af_steps::FileInfo;
+use met::{Met, embryos_of, found_by};
 use source::{Kind, Mix, Source};
 use std::alloc::{AllocError, Global};
-use std::collections::BTreeSet;
 use std::process::Abort;
 use std::test::Fail;
 
 /// All kinds of events, and as many sends as receives.
-static USUAL: [Kind; 29] = [
+static USUAL: [Kind; 51] = [
     Kind::Spawn,
     Kind::Fork,
     Kind::Fork,
@@ -28,6 +31,16 @@ static USUAL: [Kind; 29] = [
     Kind::Pair,
     Kind::Pair,
     Kind::Pair,
+    Kind::Pair,
+    Kind::Socket,
+    Kind::Bind,
+    Kind::Bind,
+    Kind::Listen,
+    Kind::Listen,
+    Kind::Connect,
+    Kind::Connect,
+    Kind::Accept,
+    Kind::Accept,
     Kind::Send,
     Kind::Send,
     Kind::Send,
@@ -42,6 +55,18 @@ static USUAL: [Kind; 29] = [
     Kind::Recv,
     Kind::Recv,
     Kind::Recv,
+    Kind::Meet,
+    Kind::Meet,
+    Kind::Meet,
+    Kind::Meet,
+    Kind::Meet,
+    Kind::Meet,
+    Kind::Meet,
+    Kind::Meet,
+    Kind::Meet,
+    Kind::Meet,
+    Kind::Meet,
+    Kind::Meet,
 ];
 
 /// Hardly anything but sends and receives.
@@ -82,121 +107,29 @@ static HOARDING: [Kind; 10] = [
     Kind::Recv,
 ];
 
-/// What a run has met: by this a test knows that it tried what it is for.
-#[derive(Drop)]
-struct Met {
-    done: u32,
-    refused: u32,
-    /// The numbers of the errors.
-    errors: BTreeSet<u8>,
-    /// Files that a receive installed.
-    installed: u64,
-    /// Receives that did not install all that was attached.
-    cut: u64,
-    /// Sockets that passes reclaimed.
-    reclaimed: u64,
-    /// Sends that found a full queue.
-    full: u64,
-    /// Receives of packets that dropped bytes.
-    dropped: u64,
-    /// Receives from streams that left a part of the first message.
-    split: u64,
-    /// Receives from streams that took bytes of more than one message.
-    joined: u64,
-    /// Receives from streams that took less than they asked for and left bytes: files stopped them.
-    stopped: u64,
-}
-
-impl Met {
-    fn nothing(alloc: Global) -> Met {
-        Met {
-            done: 0,
-            refused: 0,
-            errors: BTreeSet::new(alloc),
-            installed: 0,
-            cut: 0,
-            reclaimed: 0,
-            full: 0,
-            dropped: 0,
-            split: 0,
-            joined: 0,
-            stopped: 0,
-        }
-    }
-
-    fn note(&mut self, event: &Event, reply: &Reply) -> Result<(), AllocError> {
-        if let Reply::Refused(errno) = reply {
-            let is_send = matches!(event, Event::Proc(_, Step::Send { .. }));
-            if is_send && *errno == Errno::EAGAIN {
-                self.full = self.full.saturating_add(1);
-            }
-            self.refused = self.refused.saturating_add(1);
-            self.errors.insert(errno.number())?;
-            return Ok(());
-        }
-        self.done = self.done.saturating_add(1);
-        match reply {
-            Reply::Got {
-                fds,
-                trunc,
-                ctrunc,
-                ..
-            } => {
-                self.installed = self.installed.saturating_add(fds.len() as u64);
-                self.cut = self.cut.saturating_add(u64::from(*ctrunc));
-                self.dropped = self.dropped.saturating_add(u64::from(*trunc));
-            }
-            Reply::Done { reclaimed, .. } => {
-                self.reclaimed = self.reclaimed.saturating_add(*reclaimed);
-            }
-            _ => {}
-        }
-        Ok(())
-    }
-
-    /// A receive that found this in a stream had this reply.
-    fn note_stream(&mut self, found: Found, reply: &Reply) {
-        let Reply::Got { bytes, .. } = reply else {
-            return;
-        };
-        let taken = bytes.len();
-        let is_stopped = taken < found.asked && taken < found.all;
-        self.split = self.split.saturating_add(u64::from(taken < found.first));
-        self.joined = self.joined.saturating_add(u64::from(taken > found.first));
-        self.stopped = self.stopped.saturating_add(u64::from(is_stopped));
+/// What the file is.
+fn info_of(file: &File) -> FileInfo {
+    match &file.socket {
+        None => FileInfo::Plain,
+        Some(socket) => FileInfo::Socket {
+            kind: socket.kind,
+            state: socket.state,
+            messages: file.queue.len(),
+            embryos: file.backlog.len(),
+        },
     }
 }
 
-/// What a receive from a stream finds.
-#[derive(Clone, Copy, Drop)]
-struct Found {
-    /// The bytes of the first message.
-    first: usize,
-    /// The bytes of all messages.
-    all: usize,
-    /// The bytes that were asked for.
-    asked: usize,
-}
-
-/// What the event finds, if it receives from a stream in which bytes wait.
-fn found_by(plain: &Engine, event: &Event) -> Option<Found> {
-    let Event::Proc(pid, Step::Recv { on, max_bytes, .. }) = event else {
-        return None;
+/// Whether both show the same of a live file.
+fn same_file(plain: &Engine, kept: &af_steps::Engine, ino: Ino) -> bool {
+    let Some(file) = plain.files.get(&ino) else {
+        return false;
     };
-    let ino = plain.lookup(*pid, *on).ok()?;
-    let file = plain.files.get(&ino)?;
-    if file.socket.as_ref()?.kind != SockType::Stream {
-        return None;
-    }
-    let mut all: usize = 0;
-    for message in &file.queue {
-        all = all.saturating_add(message.bytes.len());
-    }
-    Some(Found {
-        first: file.queue.front()?.bytes.len(),
-        all,
-        asked: *max_bytes as usize,
-    })
+    let name = kept.name(ino).map(|name| name.as_slice());
+    kept.file(ino) == Some(info_of(file))
+        && name == file.name()
+        && plain.refs(ino) == kept.refs(ino)
+        && plain.inflight(ino) == kept.inflight(ino)
 }
 
 /// Whether both have the same live files, held as often.
@@ -210,7 +143,7 @@ fn same_files(plain: &Engine, kept: &af_steps::Engine) -> bool {
         let Some(ino) = next else {
             return true;
         };
-        if plain.refs(ino) != kept.refs(ino) || plain.inflight(ino) != kept.inflight(ino) {
+        if !same_file(plain, kept, ino) {
             return false;
         }
         last = ino;
@@ -252,10 +185,7 @@ fn run(
             );
         }
         source.note(&event, &reply)?;
-        met.note(&event, &reply)?;
-        if let Some(found) = found {
-            met.note_stream(found, &reply);
-        }
+        met.note(&found, &event, &reply, embryos_of(&plain))?;
     }
     assert!(rt;
         same_views(&plain, &kept, mix.last_user),
@@ -285,9 +215,94 @@ fn most_events_are_done(rt: HostRuntime) -> Result<(), Fail> {
             met.installed > 0 && met.cut > 0 && met.reclaimed > 0,
             "seed {seed}"
         );
+        assert!(rt;
+            met.greeted > 0 && met.lost > 0 && met.purged > 0,
+            "seed {seed}: {} greeted, {} lost, {} purged",
+            met.greeted,
+            met.lost,
+            met.purged
+        );
+        for (kind, _) in &ERRORS {
+            assert!(rt; met.has_done(*kind), "seed {seed}: no {kind:?} was done");
+        }
     }
     Ok(())
 }
+
+/// Each kind of event, with the errors that a short run can have.
+static ERRORS: [(Kind, &[Errno]); 16] = [
+    (Kind::Pass, &[]),
+    (Kind::Spawn, &[Errno::ERANGE]),
+    (Kind::Open, &[Errno::ESRCH, Errno::EMFILE]),
+    (Kind::Dup, &[Errno::ESRCH, Errno::EBADF, Errno::EMFILE]),
+    (Kind::Dup2, &[Errno::ESRCH, Errno::EBADF]),
+    (Kind::Close, &[Errno::ESRCH, Errno::EBADF]),
+    (Kind::Fork, &[Errno::ESRCH]),
+    (Kind::Exit, &[Errno::ESRCH]),
+    (Kind::Pair, &[Errno::ESRCH, Errno::EMFILE]),
+    (Kind::Socket, &[Errno::ESRCH, Errno::EMFILE]),
+    (
+        Kind::Bind,
+        &[
+            Errno::ESRCH,
+            Errno::EBADF,
+            Errno::ENOTSOCK,
+            Errno::EINVAL,
+            Errno::EADDRINUSE,
+        ],
+    ),
+    (
+        Kind::Listen,
+        &[Errno::ESRCH, Errno::EBADF, Errno::ENOTSOCK, Errno::EINVAL],
+    ),
+    (
+        Kind::Connect,
+        &[
+            Errno::ESRCH,
+            Errno::EBADF,
+            Errno::ENOTSOCK,
+            Errno::EINVAL,
+            Errno::EISCONN,
+            Errno::ECONNREFUSED,
+            Errno::EPROTOTYPE,
+            Errno::EAGAIN,
+        ],
+    ),
+    (
+        Kind::Accept,
+        &[
+            Errno::ESRCH,
+            Errno::EBADF,
+            Errno::ENOTSOCK,
+            Errno::EINVAL,
+            Errno::EAGAIN,
+            Errno::EMFILE,
+        ],
+    ),
+    (
+        Kind::Send,
+        &[
+            Errno::ESRCH,
+            Errno::EBADF,
+            Errno::ENOTSOCK,
+            Errno::EINVAL,
+            Errno::EMSGSIZE,
+            Errno::ENOTCONN,
+            Errno::EPIPE,
+        ],
+    ),
+    (
+        Kind::Recv,
+        &[
+            Errno::ESRCH,
+            Errno::EBADF,
+            Errno::ENOTSOCK,
+            Errno::EINVAL,
+            Errno::ENOTCONN,
+            Errno::EAGAIN,
+        ],
+    ),
+];
 
 /// No process has more than four numbers, and some have none.
 #[test]
@@ -295,23 +310,11 @@ fn most_events_are_refused(rt: HostRuntime) -> Result<(), Fail> {
     let mix = Mix {
         kinds: &USUAL,
         last_user: 1,
-        limits: &[0, 1, 2, 3, 4, 1_025],
+        limits: &[0, 1, 2, 3, 4, 4, 4, 1_025],
         last_fd: 3,
         most_processes: 5,
     };
-    let errors = [
-        Errno::EBADF,
-        Errno::ENOTSOCK,
-        Errno::EINVAL,
-        Errno::EMFILE,
-        Errno::EAGAIN,
-        Errno::EMSGSIZE,
-        Errno::ETOOMANYREFS,
-        Errno::EPIPE,
-        Errno::ESRCH,
-        Errno::ERANGE,
-    ];
-    let mut all = BTreeSet::new(rt.alloc());
+    let mut all = Met::nothing(rt.alloc());
     for seed in 1..=4 {
         let mut met = run(&rt, rt.alloc(), seed, 2_000, mix)?;
         assert!(rt;
@@ -320,12 +323,18 @@ fn most_events_are_refused(rt: HostRuntime) -> Result<(), Fail> {
             met.done,
             met.refused
         );
-        all.append(&mut met.errors)?;
+        all.join_outcomes(&mut met)?;
     }
-    for errno in errors {
-        assert!(rt; all.contains(&errno.number()), "{errno} was not met");
+    for (kind, errors) in &ERRORS {
+        assert!(rt; all.has_done(*kind), "no {kind:?} was done");
+        assert!(rt; !all.has_refused(*kind, Errno::ENOMEM));
+        for errno in *errors {
+            assert!(rt;
+                all.has_refused(*kind, *errno),
+                "no {kind:?} was refused by {errno}"
+            );
+        }
     }
-    assert!(rt; !all.contains(&Errno::ENOMEM.number()));
     Ok(())
 }
 
@@ -349,6 +358,10 @@ fn messages_are_cut_and_joined(rt: HostRuntime) -> Result<(), Fail> {
             met.joined,
             met.stopped
         );
+        assert!(rt;
+            met.has_refused(Kind::Send, Errno::ETOOMANYREFS),
+            "seed {seed}: no send was refused for what is in flight"
+        );
     }
     Ok(())
 }
@@ -365,7 +378,10 @@ fn queues_fill(rt: HostRuntime) -> Result<(), Fail> {
     };
     for seed in 1..=4 {
         let met = run(&rt, rt.alloc(), seed, 2_000, mix)?;
-        assert!(rt; met.full > 0, "seed {seed}: no queue was full");
+        assert!(rt;
+            met.has_refused(Kind::Send, Errno::EAGAIN),
+            "seed {seed}: no queue was full"
+        );
     }
     Ok(())
 }

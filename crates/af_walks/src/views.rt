@@ -23,9 +23,23 @@ impl Engine {
         self.sum(|message| message.attached.iter().filter(|held| **held == ino).count())
     }
 
+    /// How many places of all backlogs hold the file.
+    fn waiting(&self, ino: Ino) -> u64 {
+        let mut count: u64 = 0;
+        for file in self.files.values() {
+            for embryo in &file.backlog {
+                if *embryo == ino {
+                    count = count.saturating_add(1);
+                }
+            }
+        }
+        count
+    }
+
     /// How many places hold the file.
     pub fn refs(&self, ino: Ino) -> u64 {
-        self.tabled(ino).saturating_add(self.inflight(ino))
+        let held = self.tabled(ino).saturating_add(self.inflight(ino));
+        held.saturating_add(self.waiting(ino))
     }
 
     /// How many places of all queues are charged to the user.

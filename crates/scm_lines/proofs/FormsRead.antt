@@ -5,7 +5,7 @@ use Rattle.af_base.specs.declared.events.Step.{Step}
 use Rattle.af_base.specs.declared.events.Step.TheVariants as step
 use Rattle.af_base.specs.declared.events.Event.TheVariants as event
 use Rattle.scm_lines.specs.Words.{words_of}
-use Rattle.scm_lines.specs.Lines.{close_of, dup2_of, dup_of, form_of, line_of, opened_by, pair_of, privilege_of, process_of, recv_of, send_of, spawn_of, step_of, words_say}
+use Rattle.scm_lines.specs.Lines.{accept_of, bind_of, close_of, connect_of, dup2_of, dup_of, form_of, line_of, listen_of, on_and_name, opened_by, pair_of, privilege_of, process_of, recv_of, send_of, socket_of, spawn_of, step_of, words_say}
 use Rattle.scm_lines.specs.Says.{IsLine, IsNumber, Says, SaysStep}
 use Rattle.scm_lines.specs.declared.keywords.Opening.{Opening}
 use Rattle.scm_lines.specs.declared.keywords.Opening.TheVariants as opening
@@ -19,7 +19,7 @@ use Rattle.scm_lines.proofs.AttachedSays.{attached_read}
 use Rattle.scm_lines.proofs.KeywordLemmas.{Opens, opening_read, type_read}
 
 step_read : (words : List (List ℕ)) (pid : ℕ) (st : Step) → SaysStep words st → process_of pid words ≡ Some (event.Proc pid st)
-unfolding process_of step_of dup_of dup2_of close_of pair_of send_of recv_of
+unfolding process_of step_of dup_of dup2_of close_of pair_of socket_of on_and_name bind_of listen_of connect_of accept_of send_of recv_of
 step_read words pid step.Open e = rw e refl
 step_read words pid (step.Dup fd) (a, (e, n)) = rw (e, number_read a fd n) refl
 step_read words pid (step.Dup2 from to) (a, b, (e, n1, n2)) = rw (e, number_read a from n1, number_read b to n2) refl
@@ -27,6 +27,11 @@ step_read words pid step.Fork e = rw e refl
 step_read words pid step.Exit e = rw e refl
 step_read words pid (step.Close fd) (a, (e, n)) = rw (e, number_read a fd n) refl
 step_read words pid (step.Pair kind) e = rw (e, type_read kind) refl
+step_read words pid (step.Socket kind) e = rw (e, type_read kind) refl
+step_read words pid (step.Bind on name) (a, (e, n)) = rw (e, number_read a on n) refl
+step_read words pid (step.Listen on backlog) (a, b, (e, n1, n2)) = rw (e, number_read a on n1, number_read b backlog n2) refl
+step_read words pid (step.Connect on name) (a, (e, n)) = rw (e, number_read a on n) refl
+step_read words pid (step.Accept fd) (a, (e, n)) = rw (e, number_read a fd n) refl
 step_read words pid (step.Send on bytes attach) (a, b, (items, e, n, payload, attached)) = rw (e, number_read a on n, payload_read b bytes payload, attached_read items attach attached) refl
 step_read words pid (step.Recv on max_bytes max_fds) (a, b, c, (e, n1, n2, n3)) = rw (e, number_read a on n1, number_read b max_bytes n2, number_read c max_fds n3) refl
 

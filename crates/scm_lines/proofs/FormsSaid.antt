@@ -11,13 +11,12 @@ use Rattle.scm_lines.specs.Words.{at_end, word_in, words_of}
 use Rattle.scm_lines.specs.Numbers.{number_in}
 use Rattle.scm_lines.specs.Payload.{payload_of}
 use Rattle.scm_lines.specs.Attached.{attached_of}
-use Rattle.scm_lines.specs.Keywords.{opening_of, type_of, verb_of}
-use Rattle.scm_lines.specs.Lines.{all_printable, close_of, dup2_of, dup_of, form_of, is_comment, line_of, opened_by, pair_of, privilege_of, process_of, recv_of, send_of, spawn_of, step_of, words_say}
+use Rattle.scm_lines.specs.Keywords.{opening_of, type_of, verb_of, verbs}
+use Rattle.scm_lines.specs.Lines.{accept_of, all_printable, bind_of, close_of, connect_of, dup2_of, dup_of, form_of, is_comment, line_of, listen_of, on_and_name, opened_by, pair_of, privilege_of, process_of, recv_of, send_of, socket_of, spawn_of, step_of, words_say}
 use Rattle.scm_lines.specs.Says.{IsLine, IsNumber, Says, SaysStep, type_name}
 use Rattle.scm_lines.specs.declared.keywords.Opening.{Opening}
 use Rattle.scm_lines.specs.declared.keywords.Opening.TheVariants as opening
 use Rattle.scm_lines.specs.declared.keywords.Verb.{Verb}
-use Rattle.scm_lines.specs.declared.keywords.Verb.TheVariants as verb
 use Rattle.scm_lines.specs.declared.line.Line.{Line}
 use Rattle.scm_lines.specs.declared.line.Line.TheVariants as line
 use Rattle.scm_lines.specs.declared.line.Report.TheVariants as report
@@ -26,7 +25,7 @@ use Rattle.scm_lines.proofs.Choices.{allowed, bound, chosen, ended, mapped, same
 use Rattle.scm_lines.proofs.NumberLemmas.{number_first}
 use Rattle.scm_lines.proofs.PayloadSays.{payload_said}
 use Rattle.scm_lines.proofs.AttachedSays.{attached_said}
-use Rattle.scm_lines.proofs.KeywordLemmas.{Opens, opening_said, type_said, verb_name, verb_said}
+use Rattle.scm_lines.proofs.KeywordLemmas.{Holds, Opens, meaning_said, opening_said, type_said}
 
 abbrev onto : List ℕ → List (List ℕ) → List (List ℕ)
 onto word words = word ∷ words
@@ -107,6 +106,63 @@ pair_said words st e =
     let whole : words ≡ type_name kind ∷ [] = word_first words word.0 word.1 e1 ∙ ap (onto word.0) none ∙ ap (λ (w : List ℕ). w ∷ []) (type_said word.0 kind e2) in
     rw (← is) (ap (onto (codes "pair")) whole)
 
+socket_said : (words : List (List ℕ)) (st : Step) → socket_of words ≡ Some st → SaysStep (codes "socket" ∷ words) st
+unfolding socket_of
+socket_said words st e =
+    let (word, (e1, f1)) = bound (word_in words) _ st e in
+    let (kind, (e2, f2)) = bound (type_of word.0) _ st f1 in
+    let (none, is) = ended (step.Socket kind) st word.1 f2 in
+    let whole : words ≡ type_name kind ∷ [] = word_first words word.0 word.1 e1 ∙ ap (onto word.0) none ∙ ap (λ (w : List ℕ). w ∷ []) (type_said word.0 kind e2) in
+    rw (← is) (ap (onto (codes "socket")) whole)
+
+named_said : (words : List (List ℕ)) (on : ℕ) (name : List ℕ) → on_and_name words ≡ Some (on, name) → (a : List ℕ) × ((words ≡ a ∷ name ∷ []) × IsNumber a on)
+unfolding on_and_name
+named_said words on name e =
+    let (first, (e1, f1)) = bound (number_in words) _ (on, name) e in
+    let (word, (e2, f2)) = bound (word_in first.1) _ (on, name) f1 in
+    let (none, is) = ended (first.0, word.0) (on, name) word.1 f2 in
+    let (a, (w1, n1)) = number_first words first.0 first.1 e1 in
+    let same_on : first.0 ≡ on = ap (λ (p : ℕ × List ℕ). p.0) is in
+    let same_name : word.0 ≡ name = ap (λ (p : ℕ × List ℕ). p.1) is in
+    let whole : words ≡ a ∷ name ∷ [] = w1 ∙ ap (onto a) (word_first first.1 word.0 word.1 e2 ∙ ap (onto word.0) none ∙ ap (λ (w : List ℕ). w ∷ []) same_name) in
+    (a, (whole, subst (λ (n : ℕ). IsNumber a n) same_on n1))
+
+bind_said : (words : List (List ℕ)) (st : Step) → bind_of words ≡ Some st → SaysStep (codes "bind" ∷ words) st
+unfolding bind_of
+bind_said words st e =
+    let (said, (e1, f1)) = bound (on_and_name words) _ st e in
+    let (a, (whole, n1)) = named_said words said.0 said.1 e1 in
+    let is : step.Bind said.0 said.1 ≡ st = cc in
+    rw (← is) (a, (ap (onto (codes "bind")) whole, n1))
+
+listen_said : (words : List (List ℕ)) (st : Step) → listen_of words ≡ Some st → SaysStep (codes "listen" ∷ words) st
+unfolding listen_of
+listen_said words st e =
+    let (on, (e1, f1)) = bound (number_in words) _ st e in
+    let (backlog, (e2, f2)) = bound (number_in on.1) _ st f1 in
+    let (a, (w1, n1)) = number_first words on.0 on.1 e1 in
+    let (b, (w2, n2)) = number_first on.1 backlog.0 backlog.1 e2 in
+    let (none, is) = ended (step.Listen on.0 backlog.0) st backlog.1 f2 in
+    let whole : words ≡ a ∷ b ∷ [] = cc in
+    rw (← is) (a, b, (ap (onto (codes "listen")) whole, n1, n2))
+
+connect_said : (words : List (List ℕ)) (st : Step) → connect_of words ≡ Some st → SaysStep (codes "connect" ∷ words) st
+unfolding connect_of
+connect_said words st e =
+    let (said, (e1, f1)) = bound (on_and_name words) _ st e in
+    let (a, (whole, n1)) = named_said words said.0 said.1 e1 in
+    let is : step.Connect said.0 said.1 ≡ st = cc in
+    rw (← is) (a, (ap (onto (codes "connect")) whole, n1))
+
+accept_said : (words : List (List ℕ)) (st : Step) → accept_of words ≡ Some st → SaysStep (codes "accept" ∷ words) st
+unfolding accept_of
+accept_said words st e =
+    let (fd, (e1, f1)) = bound (number_in words) _ st e in
+    let (a, (w1, n1)) = number_first words fd.0 fd.1 e1 in
+    let (none, is) = ended (step.Accept fd.0) st fd.1 f1 in
+    let whole : words ≡ a ∷ [] = w1 ∙ ap (onto a) none in
+    rw (← is) (a, (ap (onto (codes "accept")) whole, n1))
+
 send_said : (words : List (List ℕ)) (st : Step) → send_of words ≡ Some st → SaysStep (codes "send" ∷ words) st
 unfolding send_of
 send_said words st e =
@@ -132,17 +188,33 @@ recv_said words st e =
     let whole : words ≡ a ∷ b ∷ c ∷ [] = cc in
     rw (← is) (a, b, c, (ap (onto (codes "recv")) whole, n1, n2, n3))
 
-step_said : (v : Verb) (words : List (List ℕ)) (st : Step) → step_of v words ≡ Some st → SaysStep (verb_name v ∷ words) st
+-- what holds of a table's first row, before what holds of the others
+infixr 10 ◌▸◌
+◌▸◌ : {A B : Type 0} → A → B → A × B
+first ▸ others = (first, others)
+
+-- what a verb's form reads is said after its word
+abbrev SaysVerb : List ℕ → Verb → Type 0
+SaysVerb word v = (words : List (List ℕ)) (st : Step) → step_of v words ≡ Some st → SaysStep (word ∷ words) st
+
+step_said : Holds SaysVerb verbs
 unfolding step_of
-step_said verb.Open = λ words st e. bare_said (codes "open") words step.Open st refl e
-step_said verb.Dup = dup_said
-step_said verb.Dup2 = dup2_said
-step_said verb.Close = close_said
-step_said verb.Fork = λ words st e. bare_said (codes "fork") words step.Fork st refl e
-step_said verb.Exit = λ words st e. bare_said (codes "exit") words step.Exit st refl e
-step_said verb.Pair = pair_said
-step_said verb.Send = send_said
-step_said verb.Recv = recv_said
+step_said =
+    (λ words st e. bare_said (codes "open") words step.Open st refl e)
+    ▸ dup_said
+    ▸ dup2_said
+    ▸ close_said
+    ▸ (λ words st e. bare_said (codes "fork") words step.Fork st refl e)
+    ▸ (λ words st e. bare_said (codes "exit") words step.Exit st refl e)
+    ▸ pair_said
+    ▸ socket_said
+    ▸ bind_said
+    ▸ listen_said
+    ▸ connect_said
+    ▸ accept_said
+    ▸ send_said
+    ▸ recv_said
+    ▸ tt
 
 -- ---- lines
 
@@ -153,8 +225,8 @@ process_said a pid words ev number e =
     let (v, (e2, f2)) = bound (verb_of word.0) _ ev f1 in
     let (st, (e3, f3)) = bound (step_of v word.1) _ ev f2 in
     let is : event.Proc pid st ≡ ev = cc in
-    let whole : words ≡ verb_name v ∷ word.1 = word_first words word.0 word.1 e1 ∙ ap (λ (w : List ℕ). w ∷ word.1) (verb_said word.0 v e2) in
-    rw (← is) (a, (words, refl, number, subst (λ (ws : List (List ℕ)). SaysStep ws st) (sym whole) (step_said v word.1 st e3)))
+    let says : SaysVerb word.0 v = meaning_said SaysVerb verbs step_said word.0 v e2 in
+    rw (← is) (a, (words, refl, number, subst (λ (ws : List (List ℕ)). SaysStep ws st) (sym (word_first words word.0 word.1 e1)) (says word.1 st e3)))
 
 -- a keyword that stands alone
 alone : (word keyword : List ℕ) (words : List (List ℕ)) (one said : Line) → Says (keyword ∷ []) one → word ≡ keyword → at_end one words ≡ Some said → Says (word ∷ words) said

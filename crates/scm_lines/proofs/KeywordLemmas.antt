@@ -1,17 +1,32 @@
 -- Keywords and their names.
-use Rattle.std.proofs.Common.{◌≡◌, ℕ, List, cond, Option, Some, None, is_some, false, refl, ap, ◌∙◌, inl, inr, subst, codes}
+use Rattle.std.proofs.Common.{◌≡◌, ◌∷◌, [], ℕ, Bool, true, List, cond, Option, Some, None, find, is_some, false, refl, inl, inr, subst, codes}
 use Rattle.std.specs.Str.{bytes_eq}
+use Rattle.std.specs.Option.{option_map}
 use Rattle.af_base.specs.declared.events.SockType.{SockType}
 use Rattle.af_base.specs.declared.events.SockType.TheVariants.{Seqpacket, Stream}
 use Rattle.scm_lines.specs.Numbers.{all_digits, number_of}
-use Rattle.scm_lines.specs.Keywords.{keyword_of, opening_of, type_of, verb_of}
+use Rattle.scm_lines.specs.Keywords.{keyword_of, meaning, opening_of, type_of, types}
 use Rattle.scm_lines.specs.Says.{IsNumber, type_name}
 use Rattle.scm_lines.specs.declared.keywords.Opening.{Opening}
 use Rattle.scm_lines.specs.declared.keywords.Opening.TheVariants as opening
-use Rattle.scm_lines.specs.declared.keywords.Verb.{Verb}
-use Rattle.scm_lines.specs.declared.keywords.Verb.TheVariants as verb
 use Rattle.scm_lines.proofs.Choices.{chosen, mapped, same_word}
 use Rattle.scm_lines.proofs.NumberLemmas.{no_keyword, number_read, number_said}
+
+-- each word of a table stands for something of which this holds
+abbrev pub Holds : {A : Type 0} → (List ℕ → A → Type 0) → List (List ℕ × A) → Type 0
+Holds P [] = Unit {0}
+Holds P (entry ∷ table) = P entry.0 entry.1 × Holds P table
+
+-- so it holds of what a word is found to stand for
+pub meaning_said : {A : Type 0} (P : List ℕ → A → Type 0) (table : List (List ℕ × A)) → Holds P table → (word : List ℕ) (x : A) → meaning table word ≡ Some x → P word x
+meaning_said P [] all word x e = cc
+meaning_said {A} P (entry ∷ table) (first, others) word x e = by_test (bytes_eq entry.0 word) refl e (meaning_said P table others word x)
+  where
+    by_test : (b : Bool) → bytes_eq entry.0 word ≡ b
+        → option_map (λ (e : List ℕ × A). e.1) (cond b (Some entry) (find (λ (e : List ℕ × A). bytes_eq e.0 word) table)) ≡ Some x
+        → (meaning table word ≡ Some x → P word x) → P word x
+    by_test true t e1 later = let is : entry.1 ≡ x = cc in subst (λ (y : A). P word y) is (subst (λ (w : List ℕ). P w entry.1) (same_word entry.0 word t) first)
+    by_test false f e1 later = later e1
 
 -- the word that says an opening
 abbrev pub Opens : List ℕ → Opening → Type 0
@@ -53,54 +68,8 @@ opening_read word (opening.Process pid) number =
     let other : (text : List ℕ) → all_digits text ≡ false → bytes_eq word text ≡ false = λ text letters. no_keyword word text pid number letters in
     rw (other (codes "spawn") refl, other (codes "pass") refl, other (codes "totals") refl, other (codes "check") refl, number_read word pid number) refl
 
--- the word that says a verb
-abbrev pub verb_name : Verb → List ℕ
-verb_name verb.Open = codes "open"
-verb_name verb.Dup = codes "dup"
-verb_name verb.Dup2 = codes "dup2"
-verb_name verb.Close = codes "close"
-verb_name verb.Fork = codes "fork"
-verb_name verb.Exit = codes "exit"
-verb_name verb.Pair = codes "pair"
-verb_name verb.Send = codes "send"
-verb_name verb.Recv = codes "recv"
-
--- this verb, or one of the others
-picked : (word : List ℕ) (one v : Verb) (others : Option Verb) → cond (bytes_eq word (verb_name one)) (Some one) others ≡ Some v → (others ≡ Some v → word ≡ verb_name v) → word ≡ verb_name v
-picked word one v others e else = elim (chosen (bytes_eq word (verb_name one)) _ _ _ e) [
-  | inl (t, e1) ↦ let is : one ≡ v = cc in same_word word (verb_name one) t ∙ ap verb_name is
-  | inr (f, e2) ↦ else e2
-]
-
-none_picked : (word : List ℕ) (v : Verb) → None ≡ Some v → word ≡ verb_name v
-none_picked word v e = cc
-
-pub verb_said : (word : List ℕ) (v : Verb) → verb_of word ≡ Some v → word ≡ verb_name v
-verb_said word v e =
-    picked word verb.Open v _ e (λ e1.
-    picked word verb.Dup v _ e1 (λ e2.
-    picked word verb.Dup2 v _ e2 (λ e3.
-    picked word verb.Close v _ e3 (λ e4.
-    picked word verb.Fork v _ e4 (λ e5.
-    picked word verb.Exit v _ e5 (λ e6.
-    picked word verb.Pair v _ e6 (λ e7.
-    picked word verb.Send v _ e7 (λ e8.
-    picked word verb.Recv v _ e8 (none_picked word v)))))))))
-
--- this type, or one of the others
-typed : (word : List ℕ) (one kind : SockType) (others : Option SockType) → cond (bytes_eq word (type_name one)) (Some one) others ≡ Some kind → (others ≡ Some kind → word ≡ type_name kind) → word ≡ type_name kind
-typed word one kind others e else = elim (chosen (bytes_eq word (type_name one)) _ _ _ e) [
-  | inl (t, e1) ↦ let is : one ≡ kind = cc in same_word word (type_name one) t ∙ ap type_name is
-  | inr (f, e2) ↦ else e2
-]
-
-none_typed : (word : List ℕ) (kind : SockType) → None ≡ Some kind → word ≡ type_name kind
-none_typed word kind e = cc
-
 pub type_said : (word : List ℕ) (kind : SockType) → type_of word ≡ Some kind → word ≡ type_name kind
-type_said word kind e =
-    typed word Stream kind _ e (λ e1.
-    typed word Seqpacket kind _ e1 (none_typed word kind))
+type_said = meaning_said (λ word kind. word ≡ type_name kind) types (refl, (refl, tt))
 
 pub type_read : (kind : SockType) → type_of (type_name kind) ≡ Some kind
 type_read Stream = refl

@@ -65,6 +65,45 @@ pair_of words = do
   sockets ← type_of word.0
   at_end (step.Pair sockets) word.1
 
+-- After socket: the type.
+unfoldable pub socket_of : List (List ℕ) → Option Step
+socket_of words = do
+  word ← word_in words
+  sockets ← type_of word.0
+  at_end (step.Socket sockets) word.1
+
+-- A socket and a name, which may be any word.
+unfoldable pub on_and_name : List (List ℕ) → Option (ℕ × List ℕ)
+on_and_name words = do
+  on ← number_in words
+  name ← word_in on.1
+  at_end (on.0, name.0) name.1
+
+-- After bind: the socket and the name.
+unfoldable pub bind_of : List (List ℕ) → Option Step
+bind_of words = do
+  said ← on_and_name words
+  Some (step.Bind said.0 said.1)
+
+-- After listen: the socket and the room for embryos.
+unfoldable pub listen_of : List (List ℕ) → Option Step
+listen_of words = do
+  on ← number_in words
+  backlog ← number_in on.1
+  at_end (step.Listen on.0 backlog.0) backlog.1
+
+-- After connect: the socket and the name.
+unfoldable pub connect_of : List (List ℕ) → Option Step
+connect_of words = do
+  said ← on_and_name words
+  Some (step.Connect said.0 said.1)
+
+-- After accept: the number.
+unfoldable pub accept_of : List (List ℕ) → Option Step
+accept_of words = do
+  fd ← number_in words
+  at_end (step.Accept fd.0) fd.1
+
 -- After send: the socket, the bytes, and the items.
 unfoldable pub send_of : List (List ℕ) → Option Step
 send_of words = do
@@ -91,6 +130,11 @@ step_of verb.Close words = close_of words
 step_of verb.Fork words = at_end step.Fork words
 step_of verb.Exit words = at_end step.Exit words
 step_of verb.Pair words = pair_of words
+step_of verb.Socket words = socket_of words
+step_of verb.Bind words = bind_of words
+step_of verb.Listen words = listen_of words
+step_of verb.Connect words = connect_of words
+step_of verb.Accept words = accept_of words
 step_of verb.Send words = send_of words
 step_of verb.Recv words = recv_of words
 

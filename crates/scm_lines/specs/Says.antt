@@ -56,7 +56,7 @@ abbrev pub type_name : SockType → List ℕ
 type_name Stream = codes "stream"
 type_name Seqpacket = codes "seqpacket"
 
--- The words after a process's number that say this step.
+-- The words after a process's number that say this step. A name is any word.
 abbrev pub SaysStep : List (List ℕ) → Step → Type 0
 SaysStep words step.Open = words ≡ codes "open" ∷ []
 SaysStep words (step.Dup fd) =
@@ -68,6 +68,15 @@ SaysStep words step.Exit = words ≡ codes "exit" ∷ []
 SaysStep words (step.Close fd) =
     (a : List ℕ) × ((words ≡ codes "close" ∷ a ∷ []) × IsNumber a fd)
 SaysStep words (step.Pair sockets) = words ≡ codes "pair" ∷ type_name sockets ∷ []
+SaysStep words (step.Socket sockets) = words ≡ codes "socket" ∷ type_name sockets ∷ []
+SaysStep words (step.Bind on name) =
+    (a : List ℕ) × ((words ≡ codes "bind" ∷ a ∷ name ∷ []) × IsNumber a on)
+SaysStep words (step.Listen on backlog) =
+    (a b : List ℕ) × ((words ≡ codes "listen" ∷ a ∷ b ∷ []) × IsNumber a on × IsNumber b backlog)
+SaysStep words (step.Connect on name) =
+    (a : List ℕ) × ((words ≡ codes "connect" ∷ a ∷ name ∷ []) × IsNumber a on)
+SaysStep words (step.Accept fd) =
+    (a : List ℕ) × ((words ≡ codes "accept" ∷ a ∷ []) × IsNumber a fd)
 SaysStep words (step.Send on bytes attach) =
     (a b : List ℕ) × ((items : List (List ℕ)) × (words ≡ codes "send" ∷ a ∷ b ∷ items)
     × IsNumber a on × IsPayload b bytes × IsAttached items attach)

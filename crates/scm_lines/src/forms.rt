@@ -1,7 +1,7 @@
 //! The forms of a line: one function for each, over the words after its keyword.
 ghost use Rattle.std.specs.Prelude.{◌≡◌, IfOk};
 ghost use Rattle.scm_lines.specs.Words.{words_of};
-ghost use Rattle.scm_lines.specs.Lines.{privilege_of, spawn_of, dup_of, dup2_of, close_of, pair_of, send_of, recv_of, step_of, process_of, form_of};
+ghost use Rattle.scm_lines.specs.Lines.{privilege_of, spawn_of, dup_of, dup2_of, close_of, pair_of, socket_of, on_and_name, bind_of, listen_of, connect_of, accept_of, send_of, recv_of, step_of, process_of, form_of};
 
 use crate::attached::attached;
 use crate::keywords::{Opening, Verb, opening_named, type_named, verb_named};
@@ -10,6 +10,7 @@ use crate::numbers::number_in;
 use crate::payload::payload;
 use crate::words::{first_word, is_end};
 use af_base::events::{Event, Step};
+use af_base::items::Items;
 use af_base::names::{Fd, Pid, Uid};
 use std::alloc::{AllocError, Global};
 
@@ -77,6 +78,71 @@ fn pair(bytes: &[u8]) -> Option<Step>
     is_end(rest).then_some(Step::Pair(sockets))
 }
 
+/// `P socket TYPE`.
+#[tactic(auto, unfolding(crate::specs::Lines::socket_of))]
+fn socket(bytes: &[u8]) -> Option<Step>
+    ensures { result ≡ socket_of (words_of bytes.now) }
+{
+    let (word, rest) = first_word(bytes)?;
+    let sockets = type_named(word)?;
+    is_end(rest).then_some(Step::Socket(sockets))
+}
+
+/// A socket and a name. Any word is read as a name: the step refuses a bad one.
+#[tactic(auto, unfolding(crate::specs::Lines::on_and_name))]
+fn on_and_name(alloc: Global, bytes: &[u8]) -> Result<Option<(Fd, Items<u8>)>, AllocError>
+    ensures { IfOk result (λ found. found ≡ on_and_name (words_of bytes.now)) }
+{
+    let Some((on, rest)) = number_in(bytes) else {
+        return Ok(None);
+    };
+    let Some((name, rest)) = first_word(rest) else {
+        return Ok(None);
+    };
+    if !is_end(rest) {
+        return Ok(None);
+    }
+    Ok(Some((Fd(on), Items::of(name.to_vec(alloc)?))))
+}
+
+/// `P bind N NAME`.
+#[tactic(auto, unfolding(crate::specs::Lines::bind_of))]
+fn bind(alloc: Global, bytes: &[u8]) -> Result<Option<Step>, AllocError>
+    ensures { IfOk result (λ found. found ≡ bind_of (words_of bytes.now)) }
+{
+    Ok(on_and_name(alloc, bytes)?.map(|(on, name)| Step::Bind { on, name }))
+}
+
+/// `P listen N N`.
+#[tactic(auto, unfolding(crate::specs::Lines::listen_of))]
+fn listen(bytes: &[u8]) -> Option<Step>
+    ensures { result ≡ listen_of (words_of bytes.now) }
+{
+    let (on, rest) = number_in(bytes)?;
+    let (backlog, rest) = number_in(rest)?;
+    is_end(rest).then_some(Step::Listen {
+        on: Fd(on),
+        backlog,
+    })
+}
+
+/// `P connect N NAME`.
+#[tactic(auto, unfolding(crate::specs::Lines::connect_of))]
+fn connect(alloc: Global, bytes: &[u8]) -> Result<Option<Step>, AllocError>
+    ensures { IfOk result (λ found. found ≡ connect_of (words_of bytes.now)) }
+{
+    Ok(on_and_name(alloc, bytes)?.map(|(on, name)| Step::Connect { on, name }))
+}
+
+/// `P accept N`.
+#[tactic(auto, unfolding(crate::specs::Lines::accept_of))]
+fn accept(bytes: &[u8]) -> Option<Step>
+    ensures { result ≡ accept_of (words_of bytes.now) }
+{
+    let (fd, rest) = number_in(bytes)?;
+    is_end(rest).then_some(Step::Accept(Fd(fd)))
+}
+
 /// `P recv N N N`.
 #[tactic(auto, unfolding(crate::specs::Lines::recv_of))]
 fn recv(bytes: &[u8]) -> Option<Step>
@@ -129,6 +195,11 @@ fn step(alloc: Global, verb: Verb, rest: &[u8]) -> Result<Option<Step>, AllocErr
         Verb::Fork => Ok(is_end(rest).then_some(Step::Fork)),
         Verb::Exit => Ok(is_end(rest).then_some(Step::Exit)),
         Verb::Pair => Ok(pair(rest)),
+        Verb::Socket => Ok(socket(rest)),
+        Verb::Bind => bind(alloc, rest),
+        Verb::Listen => Ok(listen(rest)),
+        Verb::Connect => connect(alloc, rest),
+        Verb::Accept => Ok(accept(rest)),
         Verb::Send => send(alloc, rest),
         Verb::Recv => Ok(recv(rest)),
     }

@@ -1,6 +1,6 @@
 //! The words that say which form a line has.
-ghost use Rattle.std.specs.Prelude.{◌≡◌};
-ghost use Rattle.scm_lines.specs.Keywords.{keyword_of, opening_of, verb_of, type_of};
+ghost use Rattle.std.specs.Prelude.{◌≡◌, map};
+ghost use Rattle.scm_lines.specs.Keywords.{keyword_of, meaning, opening_of, verb_of, type_of};
 
 use crate::numbers::number;
 use af_base::events::SockType;
@@ -38,10 +38,57 @@ pub enum Verb {
     Exit,
     /// `pair`
     Pair,
+    /// `socket`
+    Socket,
+    /// `bind`
+    Bind,
+    /// `listen`
+    Listen,
+    /// `connect`
+    Connect,
+    /// `accept`
+    Accept,
     /// `send`
     Send,
     /// `recv`
     Recv,
+}
+
+/// The words that may come after a process's number. The definitions take this table as it is, and
+/// the laws hold it against the table of forms, which spells each word out.
+pub const VERBS: [(&[u8], Verb); 14] = [
+    (b"open", Verb::Open),
+    (b"dup", Verb::Dup),
+    (b"dup2", Verb::Dup2),
+    (b"close", Verb::Close),
+    (b"fork", Verb::Fork),
+    (b"exit", Verb::Exit),
+    (b"pair", Verb::Pair),
+    (b"socket", Verb::Socket),
+    (b"bind", Verb::Bind),
+    (b"listen", Verb::Listen),
+    (b"connect", Verb::Connect),
+    (b"accept", Verb::Accept),
+    (b"send", Verb::Send),
+    (b"recv", Verb::Recv),
+];
+
+/// The types of sockets.
+pub const TYPES: [(&[u8], SockType); 2] = [
+    (b"stream", SockType::Stream),
+    (b"seqpacket", SockType::Seqpacket),
+];
+
+/// What a word stands for in a table of words, each with its meaning.
+fn meaning<T: Copy>(table: &[(&[u8], T)], word: &[u8]) -> Option<T>
+    ensures { result ≡ meaning (map (λ entry. (entry.0.now, entry.1)) table.now) word.now }
+{
+    for entry in table {
+        if entry.0 == word {
+            return Some(entry.1);
+        }
+    }
+    None
 }
 
 /// What a line's first word stands for, if it is a keyword.
@@ -78,45 +125,12 @@ pub fn opening_named(word: &[u8]) -> Option<Opening>
 pub fn verb_named(word: &[u8]) -> Option<Verb>
     ensures { result ≡ verb_of word.now }
 {
-    if word == b"open".as_slice() {
-        return Some(Verb::Open);
-    }
-    if word == b"dup".as_slice() {
-        return Some(Verb::Dup);
-    }
-    if word == b"dup2".as_slice() {
-        return Some(Verb::Dup2);
-    }
-    if word == b"close".as_slice() {
-        return Some(Verb::Close);
-    }
-    if word == b"fork".as_slice() {
-        return Some(Verb::Fork);
-    }
-    if word == b"exit".as_slice() {
-        return Some(Verb::Exit);
-    }
-    if word == b"pair".as_slice() {
-        return Some(Verb::Pair);
-    }
-    if word == b"send".as_slice() {
-        return Some(Verb::Send);
-    }
-    if word == b"recv".as_slice() {
-        return Some(Verb::Recv);
-    }
-    None
+    meaning(&VERBS, word)
 }
 
 /// The type of sockets that a word names.
 pub fn type_named(word: &[u8]) -> Option<SockType>
     ensures { result ≡ type_of word.now }
 {
-    if word == b"stream".as_slice() {
-        return Some(SockType::Stream);
-    }
-    if word == b"seqpacket".as_slice() {
-        return Some(SockType::Seqpacket);
-    }
-    None
+    meaning(&TYPES, word)
 }

@@ -59,7 +59,8 @@ fn is_comment(bytes: &[u8]) -> bool
 ///
 /// `bytes` is the line without its end: the caller takes off the LF, and one CR before it. A line
 /// of more than [`MAX_LINE`] bytes cannot be read, not even a comment. Only `send` takes memory, for
-/// its bytes and its descriptors; where it is refused, the call answers `AllocError`.
+/// its bytes and its descriptors, and `bind` and `connect`, for a name; where it is refused, the call
+/// answers `AllocError`.
 #[tactic(auto, unfolding(crate::specs::Lines::line_of))]
 pub fn line_of(alloc: Global, bytes: &[u8]) -> Result<Option<Line>, AllocError>
     ensures { IfOk result (λ found. found ≡ line_of bytes.now) }

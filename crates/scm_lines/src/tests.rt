@@ -8,13 +8,23 @@ use std::process::Abort;
 use std::test::Fail;
 
 /// Lines that cannot be read.
-const UNREADABLE: [&[u8]; 28] = [
+const UNREADABLE: [&[u8]; 38] = [
     b"spawn 01 4",
     b"spawn 4294967296 4",
     b"spawn 1 4 root",
     b"spawn 1",
     b"1 pair dgram",
     b"1 pair",
+    b"1 socket dgram",
+    b"1 socket stream 0",
+    b"1 bind 0",
+    b"1 bind srv 0",
+    b"1 bind 0 srv srv",
+    b"1 listen 0",
+    b"1 listen 0 4294967296",
+    b"1 connect 0",
+    b"1 connect 0 srv 0",
+    b"1 accept",
     b"1 send 0",
     b"1 send 0 a%2",
     b"1 send 0 a%2G",
@@ -94,6 +104,51 @@ fn steps_with_numbers(rt: HostRuntime) -> Result<(), Fail> {
         max_fds: 8,
     };
     stepped(&rt, b"1 recv 0 10 8", recv)
+}
+
+#[test]
+fn steps_of_listeners(rt: HostRuntime) -> Result<(), Fail> {
+    stepped(&rt, b"1 socket stream", Step::Socket(SockType::Stream))?;
+    stepped(
+        &rt,
+        b"1 socket seqpacket",
+        Step::Socket(SockType::Seqpacket),
+    )?;
+    let listen = Step::Listen {
+        on: Fd(3),
+        backlog: 4_294_967_295,
+    };
+    stepped(&rt, b"1 listen 3 4294967295", listen)?;
+    stepped(&rt, b"1 accept 3", Step::Accept(Fd(3)))
+}
+
+/// The lines that bind socket 3 to this word and connect it there are read.
+fn named<T: Abort + AllocGlobal>(rt: &T, lines: [&[u8]; 2], word: &[u8]) -> Result<(), Fail> {
+    let bind = Step::Bind {
+        on: Fd(3),
+        name: Items::of(word.to_vec(rt.alloc())?),
+    };
+    stepped(rt, lines[0], bind)?;
+    let connect = Step::Connect {
+        on: Fd(3),
+        name: Items::of(word.to_vec(rt.alloc())?),
+    };
+    stepped(rt, lines[1], connect)
+}
+
+#[test]
+fn names(rt: HostRuntime) -> Result<(), Fail> {
+    named(&rt, [b"1 bind 3 srv", b"1 connect 3 srv"], b"srv")?;
+    named(&rt, [b"1 bind 3 7", b"1 connect\t3  7 "], b"7")
+}
+
+#[test]
+fn bad_names_are_read(rt: HostRuntime) -> Result<(), Fail> {
+    named(
+        &rt,
+        [b"1 bind 3 a/b%20*~", b"1 connect 3 a/b%20*~"],
+        b"a/b%20*~",
+    )
 }
 
 /// The line says that these bytes are sent on socket 0, and these descriptors with them.

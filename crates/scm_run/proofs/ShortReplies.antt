@@ -10,7 +10,7 @@ use Rattle.std.proofs.lemmas.List.{length-take}
 use Rattle.af_base.specs.World.{AsSocket, File, Message, Plain, World}
 use Rattle.af_base.specs.Places.{table_at}
 use Rattle.af_base.specs.Table.{free_numbers}
-use Rattle.af_base.specs.Refusals.{is_between, no_socket, process_at, refusal, socket_at, socket_of, socket_on, spawn_refusal, step_row}
+use Rattle.af_base.specs.Refusals.{no_socket, process_at, refusal, socket_at, socket_of, socket_on, spawn_refusal, step_row}
 use Rattle.af_base.specs.Run.{Step as MachineStep}
 use Rattle.af_base.specs.Steps.{Outcome, answer, effect, got_at, needs_no_memory, spawned, taken_on}
 use Rattle.af_base.specs.Take.{has_files, joined, take_from}
@@ -95,6 +95,11 @@ answer-short w p (step.Close n) k fits = tt
 answer-short w p step.Fork k fits = tt
 answer-short w p step.Exit k fits = tt
 answer-short w p (step.Pair kind) k fits = tt
+answer-short w p (step.Socket kind) k fits = tt
+answer-short w p (step.Bind n name) k fits = tt
+answer-short w p (step.Listen n b) k fits = tt
+answer-short w p (step.Connect n name) k fits = tt
+answer-short w p (step.Accept n) k fits = tt
 answer-short w p (step.Send n bytes attach) k fits = tt
 answer-short w p (step.Recv n max_bytes max_fds) k fits = by (nat_eq (length (socket_on w p n).queue) 0) where
   asked : max_bytes ≤ MAX_BYTES

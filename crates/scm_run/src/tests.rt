@@ -1,6 +1,7 @@
 //! Whole runs over memory, streams that fail, and the engine beside the recount.
 mod audits;
 mod lines;
+mod listeners;
 mod many;
 mod plays;
 mod refusals;

@@ -53,6 +53,29 @@ pub fn send(alloc: Global, on: u32, bytes: &[u8], attach: &[u32]) -> Result<Even
     Ok(Event::Proc(Pid(1), step))
 }
 
+/// Process 1 makes a socket.
+fn socket() -> Event {
+    step(1, Step::Socket(SockType::Seqpacket))
+}
+
+/// Process 1 gives a socket this name.
+pub fn bind(alloc: Global, on: u32, name: &[u8]) -> Result<Event, AllocError> {
+    let step = Step::Bind {
+        on: Fd(on),
+        name: Items::of(name.to_vec(alloc)?),
+    };
+    Ok(Event::Proc(Pid(1), step))
+}
+
+/// Process 1 connects a socket to the listener of this name.
+pub fn connect(alloc: Global, on: u32, name: &[u8]) -> Result<Event, AllocError> {
+    let step = Step::Connect {
+        on: Fd(on),
+        name: Items::of(name.to_vec(alloc)?),
+    };
+    Ok(Event::Proc(Pid(1), step))
+}
+
 /// What a receive answers that was not cut.
 pub fn got(alloc: Global, bytes: &[u8], fds: &[u32], ctrunc: bool) -> Result<Reply, AllocError> {
     Ok(Reply::Got {
@@ -86,6 +109,25 @@ impl Bench {
         let mut bench = Bench::new(alloc)?;
         bench.engine.step(&spawn(nofile));
         bench.engine.step(&pair(1));
+        Ok(bench)
+    }
+
+    /// An engine where process 1 has a listener of the name `hub` at 0, and at 1 a socket that is
+    /// connected to an embryo there.
+    pub fn with_listener(alloc: Global) -> Result<Bench, AllocError> {
+        let bind = bind(alloc, 0, b"hub")?;
+        let connect = connect(alloc, 1, b"hub")?;
+        let listen = Step::Listen {
+            on: Fd(0),
+            backlog: 2,
+        };
+        let mut bench = Bench::new(alloc)?;
+        bench.engine.step(&spawn(16));
+        bench.engine.step(&socket());
+        bench.engine.step(&bind);
+        bench.engine.step(&step(1, listen));
+        bench.engine.step(&socket());
+        bench.engine.step(&connect);
         Ok(bench)
     }
 

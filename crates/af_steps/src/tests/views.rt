@@ -11,6 +11,7 @@ fn socket(state: State, messages: usize) -> Option<FileInfo> {
         kind: SockType::Seqpacket,
         state,
         messages,
+        embryos: 0,
     })
 }
 
@@ -52,6 +53,34 @@ fn of_files(rt: HostRuntime) -> Result<(), Fail> {
     assert_eq!(rt; engine.live(), 3);
     assert_eq!(rt; engine.next_after(Ino(1)), Some(Ino(2)));
     assert_eq!(rt; engine.next_after(Ino(3)), None);
+    Ok(())
+}
+
+/// Socket 1 listens, and socket 2 is connected to an embryo there, file 3.
+#[test]
+fn of_a_listener(rt: HostRuntime) -> Result<(), Fail> {
+    let bench = Bench::with_listener(rt.alloc())?;
+    let engine = &bench.engine;
+    let shown = FileInfo::Socket {
+        kind: SockType::Seqpacket,
+        state: State::Listening(2),
+        messages: 0,
+        embryos: 1,
+    };
+    assert_eq!(rt; engine.file(Ino(1)), Some(shown));
+    assert_eq!(rt; engine.file(Ino(2)), socket(State::Connected(Ino(3)), 0));
+    assert_eq!(rt; (engine.refs(Ino(3)), engine.inflight(Ino(3))), (1, 0));
+    assert_eq!(rt; (engine.charged(Uid(1000)), engine.total()), (0, 0));
+    Ok(())
+}
+
+/// The listener has a name, and its embryo has none.
+#[test]
+fn of_names(rt: HostRuntime) -> Result<(), Fail> {
+    let bench = Bench::with_listener(rt.alloc())?;
+    let name = bench.engine.name(Ino(1)).ok_or("it has a name")?;
+    assert!(rt; name.as_slice() == b"hub".as_slice());
+    assert!(rt; bench.engine.name(Ino(3)).is_none());
     Ok(())
 }
 

@@ -1,8 +1,10 @@
 //! A seeded source of events, most of which find what they name.
 ghost use Rattle.std.specs.Prelude.{◌≤◌};
 
+use super::meeting::Meeting;
 use af_base::events::{Event, Reply, SockType, Step};
 use af_base::items::Items;
+use af_base::limits::{MAX_BACKLOG, MAX_NAME};
 use af_base::names::{Fd, Pid, Uid};
 use rand::rngs::SmallRng;
 use rand::seq::IndexedRandom;
@@ -10,7 +12,7 @@ use rand::{RngExt, SeedableRng};
 use std::alloc::{AllocError, Global};
 
 /// What may be drawn. The more often it stands in a list, the more often it comes.
-#[derive(Clone, Copy, Drop)]
+#[derive(Clone, Copy, Debug, PartialEq, Eq, PartialOrd, Ord)]
 pub enum Kind {
     Spawn,
     Open,
@@ -20,10 +22,50 @@ pub enum Kind {
     Fork,
     Exit,
     Pair,
+    Socket,
+    Bind,
+    Listen,
+    Connect,
+    Accept,
     Send,
     Recv,
     Pass,
+    /// The next step of a meeting.
+    Meet,
 }
+
+impl Kind {
+    /// The kind of an event.
+    pub fn of(event: &Event) -> Kind {
+        let step = match event {
+            Event::Spawn { .. } => return Kind::Spawn,
+            Event::Pass => return Kind::Pass,
+            Event::Proc(_, step) => step,
+        };
+        match step {
+            Step::Open => Kind::Open,
+            Step::Dup(_) => Kind::Dup,
+            Step::Dup2(..) => Kind::Dup2,
+            Step::Close(_) => Kind::Close,
+            Step::Fork => Kind::Fork,
+            Step::Exit => Kind::Exit,
+            Step::Pair(_) => Kind::Pair,
+            Step::Socket(_) => Kind::Socket,
+            Step::Bind { .. } => Kind::Bind,
+            Step::Listen { .. } => Kind::Listen,
+            Step::Connect { .. } => Kind::Connect,
+            Step::Accept(_) => Kind::Accept,
+            Step::Send { .. } => Kind::Send,
+            Step::Recv { .. } => Kind::Recv,
+        }
+    }
+}
+
+/// Names; one is as long as a name may be.
+static NAMES: [&[u8]; 5] = [b"a", b"b", b"srv", b"Z-0._z", &[b'x'; MAX_NAME]];
+
+/// Bytes that are no name for their number.
+static NO_NAMES: [&[u8]; 2] = [b"", &[b'x'; MAX_NAME + 1]];
 
 /// What events are drawn.
 #[derive(Clone, Copy, Drop)]
@@ -42,11 +84,14 @@ pub struct Mix {
 /// A source of events.
 #[derive(Drop)]
 pub struct Source {
-    alloc: Global,
-    rng: SmallRng,
+    pub(super) alloc: Global,
+    pub(super) rng: SmallRng,
     mix: Mix,
     /// The processes that live.
     pids: Vec<Pid>,
+    pub(super) meeting: Meeting,
+    /// Whether the last event was a step of the meeting.
+    is_meeting: bool,
 }
 
 impl Source {
@@ -56,6 +101,8 @@ impl Source {
             rng: SmallRng::seed_from_u64(seed),
             mix,
             pids: Vec::new(alloc),
+            meeting: Meeting::new(alloc),
+            is_meeting: false,
         }
     }
 
@@ -69,9 +116,11 @@ impl Source {
         } else {
             drawn.unwrap_or(Kind::Pass)
         };
+        self.is_meeting = kind == Kind::Meet;
         let step = match kind {
             Kind::Spawn => return Ok(self.spawn()),
             Kind::Pass => return Ok(Event::Pass),
+            Kind::Meet => return self.meet(),
             Kind::Open => Step::Open,
             Kind::Dup => Step::Dup(self.fd()),
             Kind::Dup2 => Step::Dup2(self.fd(), self.fd()),
@@ -79,13 +128,27 @@ impl Source {
             Kind::Fork => Step::Fork,
             Kind::Exit => Step::Exit,
             Kind::Pair => Step::Pair(self.kind()),
+            Kind::Socket => Step::Socket(self.kind()),
+            Kind::Bind => Step::Bind {
+                on: self.fd(),
+                name: self.name()?,
+            },
+            Kind::Listen => Step::Listen {
+                on: self.fd(),
+                backlog: self.backlog(),
+            },
+            Kind::Connect => Step::Connect {
+                on: self.fd(),
+                name: self.name()?,
+            },
+            Kind::Accept => Step::Accept(self.fd()),
             Kind::Send => self.send()?,
             Kind::Recv => self.recv(),
         };
         Ok(Event::Proc(self.pid(), step))
     }
 
-    /// Which processes live after this event.
+    /// Which processes live after this event, and how the meeting goes on.
     pub fn note(&mut self, event: &Event, reply: &Reply) -> Result<(), AllocError> {
         if let Reply::Pid(pid) = reply {
             self.pids.push(*pid)?;
@@ -93,25 +156,28 @@ impl Source {
         if let Event::Proc(pid, Step::Exit) = event {
             self.pids.retain(|live| *live != *pid);
         }
+        if self.is_meeting {
+            self.go_on(reply);
+        }
         Ok(())
     }
 
     /// Whether a thing comes that is to come once in so many times.
-    fn is_rare(&mut self, times: u32) -> bool
+    pub(super) fn is_rare(&mut self, times: u32) -> bool
         requires { 1 ≤ times }
     {
         self.rng.random_range(1..=times) == 1
     }
 
     /// A process that lives, and rarely one that does not.
-    fn pid(&mut self) -> Pid {
-        if self.is_rare(100) {
+    pub(super) fn pid(&mut self) -> Pid {
+        if self.is_rare(50) {
             return Pid(0);
         }
         self.pids.choose(&mut self.rng).copied().unwrap_or(Pid(0))
     }
 
-    fn fd(&mut self) -> Fd {
+    pub(super) fn fd(&mut self) -> Fd {
         Fd(self.rng.random_range(..=self.mix.last_fd))
     }
 
@@ -124,11 +190,35 @@ impl Source {
         }
     }
 
-    fn kind(&mut self) -> SockType {
+    pub(super) fn kind(&mut self) -> SockType {
         if self.is_rare(2) {
             SockType::Stream
         } else {
             SockType::Seqpacket
+        }
+    }
+
+    /// One of few names, rarely a byte of any kind, and rarely no byte or a byte too many.
+    pub(super) fn name(&mut self) -> Result<Items<u8>, AllocError> {
+        let names = if self.is_rare(24) {
+            NO_NAMES.as_slice()
+        } else {
+            NAMES.as_slice()
+        };
+        let any: u8 = self.rng.random();
+        if self.is_rare(12) {
+            return Ok(Items::of([any].to_vec(self.alloc)?));
+        }
+        let name = names.choose(&mut self.rng).copied().unwrap_or(b"");
+        Ok(Items::of(name.to_vec(self.alloc)?))
+    }
+
+    /// Up to three, and rarely the most that there may be, or one more.
+    pub(super) fn backlog(&mut self) -> u32 {
+        if self.is_rare(8) {
+            self.rng.random_range(MAX_BACKLOG..=MAX_BACKLOG + 1)
+        } else {
+            self.rng.random_range(..=3u32)
         }
     }
 

@@ -117,6 +117,36 @@ fn much_is_in_flight(rt: HostRuntime) -> Result<(), Fail> {
     Ok(())
 }
 
+/// 128 embryos, each with 64 messages, which carry as many descriptors as may be in flight, go by one
+/// close of their listener.
+#[test]
+fn a_full_listener_goes(rt: HostRuntime) -> Result<(), Fail> {
+    let mut play = Play::new(rt.alloc());
+    play.line("spawn 1000 256 priv", "pid 1")?;
+    play.line("1 socket seqpacket", "fd 0")?;
+    play.line("1 bind 0 hub", "ok")?;
+    play.line("1 listen 0 128", "ok")?;
+    play.line("1 open", "fd 1")?;
+    for fd in 2..130 {
+        writeln!(play.script, "1 socket seqpacket\n1 connect {fd} hub")?;
+        writeln!(play.texts, "fd {fd}\nok")?;
+    }
+    for k in 0..8_192 {
+        let files = if k < 4_144 { "1*253" } else { "" };
+        writeln!(play.script, "1 send {} m {files}", 2 + k / 64)?;
+        writeln!(play.texts, "sent 1")?;
+    }
+    play.line("totals", "user 1000 inflight 1048432")?;
+    play.line("1 close 0", "ok")?;
+    play.line("totals", "user 1000 inflight 0")?;
+    play.line("check", "check ok live 129 garbage 0")?;
+    play.line("1 send 2 m", "EPIPE")?;
+    play.line("1 exit", "ok")?;
+    play.line("check", "check ok live 0 garbage 0")?;
+    prints(&rt, play.script.as_bytes(), play.texts.as_bytes());
+    Ok(())
+}
+
 /// 60,000 sockets, each in the queue of the next and of no other, go by one close. No bound is proved
 /// for the stack.
 #[test]

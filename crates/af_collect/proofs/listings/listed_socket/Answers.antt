@@ -8,7 +8,7 @@ use Rattle.af_base.specs.Bare.{bare_message}
 use Rattle.af_base.specs.Listing.{message_of}
 use Rattle.af_base.specs.declared.events.SockType.TheVariants.{Seqpacket}
 use Rattle.af_base.specs.declared.events.State.TheVariants as state
-use Rattle.af_base.specs.declared.limits.TheConstants.{MAX_MESSAGES, SCM_MAX_FD}
+use Rattle.af_base.specs.declared.limits.TheConstants.{MAX_BACKLOG, MAX_MESSAGES, SCM_MAX_FD}
 use Rattle.af_base.specs.declared.listing.ListedMessage.{ListedMessage}
 use Rattle.af_base.proofs.Making.{made_all, made_more}
 use Rattle.af_collect.proofs.Listed.{held_listed}
@@ -40,11 +40,11 @@ loop-message-preserved c =
 pub returns-clause-shown : goal.returns-clause-shown
 returns-clause-shown c =
     let whole = made_all message_of bare_message c.loop-message.queue.items (deque_iter_rest c.loop-message.message-iterator) (map bare_message c.args.socket.now.queue) (nil_from_length _ c.in-None.ensures.steps.0) c.loop-message.invariant.so_far in
-    let none = c.new.ensures.items ∙ sym c.queue.ensures.alone in
-    λ i. record { kind = Seqpacket; state = state.Idle; name = None; queue = whole i; backlog = none i }
+    λ i. record { kind = Seqpacket; state = state.Idle; name = None; queue = whole i; backlog = c.in_ok-numbers_waiting.ensures i }
 
 pub returns-clause-few : goal.returns-clause-few
 returns-clause-few c =
-    let none : length c.new.result.items ≡ 0 = ap length c.new.ensures.items in
+    let waiting = c.in_ok-numbers_waiting.field-0 in
+    let most : length waiting.items ≤ MAX_BACKLOG = omega (arith, ap length c.in_ok-numbers_waiting.ensures, c.requires) in
     let few : sum_by (λ m. length m.attached.items) c.loop-message.queue.items ≤ MAX_MESSAGES * SCM_MAX_FD = omega (arith, c.loop-message.invariant.few) in
-    omega (arith, held_listed (record { queue = c.loop-message.queue; backlog = c.new.result }), none, few)
+    omega (arith, held_listed (record { queue = c.loop-message.queue; backlog = waiting }), most, few)

@@ -78,3 +78,15 @@ returns-in_default-clause-stopped g c =
     let kept : Consumes (g.R.Read.remaining c.loop.reader.inner) (g.R.Read.remaining c.read.new.self.inner) [] = keeps_none_taken _ _ c.in_default.ensures.bytes in
     let all : Consumes (g.R.Read.remaining c.args.reader.now.inner) (g.R.Read.remaining c.read.new.self.inner) taken = subst (Consumes _ _) (append-nil taken) (Consumes-trans _ _ _ taken [] consumed kept) in
     stops_as_read _ _ _ _ taken c.loop.run all ran c.loop.invariant.2
+
+pub returns-in_err-feed-clause-read : goal.returns-in_err-feed-clause-read
+returns-in_err-feed-clause-read g c =
+    let f = c.in_err-feed.field-0.0 in
+    let fault : c.from_residual-in_err-feed.result ≡ Err f = (let same = err_from_is_err_and c.from_residual-in_err-feed.result c.from_residual-in_err-feed.ensures.1 in same.1 ∙ ap Err same.2) in
+    rw fault (search rules)
+
+pub returns-in_err-feed-clause-write : goal.returns-in_err-feed-clause-write
+returns-in_err-feed-clause-write g c =
+    let f = c.in_err-feed.field-0.0 in
+    let fault : c.from_residual-in_err-feed.result ≡ Err f = (let same = err_from_is_err_and c.from_residual-in_err-feed.result c.from_residual-in_err-feed.ensures.1 in same.1 ∙ ap Err same.2) in
+    rw fault (search rules)

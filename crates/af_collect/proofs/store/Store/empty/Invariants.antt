@@ -1,7 +1,7 @@
 -- What is left to empty is emptied to the same.
-use Rattle.std.proofs.Common.{◌≡◌, length, nat_eq}
+use Rattle.std.proofs.Common.{◌≡◌, nat_eq}
 use Rattle.af_base.specs.Pass.{emptied}
-use Rattle.af_base.specs.Places.{queue_at}
+use Rattle.af_collect.proofs.Shedding.{burden}
 use Rattle.af_collect.proofs.store.Store.empty.Given as goal
 
 abbrev pub invariant-loop : goal.invariant-loop
@@ -11,4 +11,4 @@ invariant-loop l = record {
 }
 
 abbrev pub decreases-loop : goal.decreases-loop
-decreases-loop l = length (queue_at l.self.world l.file)
+decreases-loop l = burden l.self.world

@@ -41,7 +41,7 @@ unwrap-sent-requires c =
     let is = sym (ap option_copied c.unwrap-2.ensures) ∙ c.socket.ensures in
     let x = to w c.args.socket.now c.args.message socket c.push.new.self.files c.in_ok-push.ensures.files in
     let q = c.queue.result.now.messages in
-    last-some c.last.result q x.0.queue c.args.message c.last.ensures.none (queue_found w c.args.socket.now c.args.message socket c.push.new.self.files c.in_ok-push.ensures.files c.unwrap.result.now c.unwrap-2.result.now q at is c.queue.ensures.value)
+    last-some c.last.result q x.0.queue c.args.message c.last.ensures.none (queue_found w c.args.socket.now c.args.message socket c.push.new.self.files c.in_ok-push.ensures.files c.unwrap.result.now c.unwrap-2.result.now q at is c.queue.ensures)
 
 pub hold_all-requires : goal.hold_all-requires
 hold_all-requires c =
@@ -53,7 +53,7 @@ hold_all-requires c =
     let is = sym (ap option_copied c.unwrap-2.ensures) ∙ c.socket.ensures in
     let q = c.queue.result.now.messages in
     let last = subst (λ o. IfSome o (λ z. slice_get q (length q - 1) ≡ Some z.now)) c.unwrap-sent.ensures c.last.ensures.some in
-    let sent = sent_found w c.args.socket.now m socket c.push.new.self.files c.in_ok-push.ensures.files c.unwrap.result.now c.unwrap-2.result.now q c.unwrap-sent.result.now at is c.queue.ensures.value last in
+    let sent = sent_found w c.args.socket.now m socket c.push.new.self.files c.in_ok-push.ensures.files c.unwrap.result.now c.unwrap-2.result.now q c.unwrap-sent.result.now at is c.queue.ensures last in
     let user = known-sender w m.user c.self.inside.ledger (subst (λ (t : Stored). IsOfProcess t.world m.user) back c.requires.user) c.self.invariant.agrees in
     let flying = subst (λ (t : Stored). total t.world + length m.attached ≤ MAX_INFLIGHT) back c.requires.flying in
     let live = subst (λ (t : Stored). (f : ℕ) → Contains m.attached f → IsLive t.world f) back c.requires.live in
@@ -69,7 +69,7 @@ kept c =
     let is = sym (ap option_copied c.unwrap-2.ensures) ∙ c.socket.ensures in
     let q = c.queue.result.now.messages in
     let last = subst (λ o. IfSome o (λ z. slice_get q (length q - 1) ≡ Some z.now)) c.unwrap-sent.ensures c.last.ensures.some in
-    let sent = sent_found (the_view c.self.inside).world c.args.socket.now c.args.message socket c.push.new.self.files c.in_ok-push.ensures.files c.unwrap.result.now c.unwrap-2.result.now q c.unwrap-sent.result.now at is c.queue.ensures.value last in
+    let sent = sent_found (the_view c.self.inside).world c.args.socket.now c.args.message socket c.push.new.self.files c.in_ok-push.ensures.files c.unwrap.result.now c.unwrap-2.result.now q c.unwrap-sent.result.now at is c.queue.ensures last in
     c.hold_all.ensures ∙ (λ i. held_all (Queue ((c.user.ensures ∙ ap (λ x. x.user) sent) i)) ((c.attached.ensures.value ∙ ap (λ x. x.attached) sent) i) c.self.inside.ledger)
 
 -- What the world is then.

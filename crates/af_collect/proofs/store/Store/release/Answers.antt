@@ -6,65 +6,66 @@ use Rattle.af_base.specs.Unheld.{Settles, without}
 use Rattle.af_base.proofs.Placed.{settles-without}
 use Rattle.af_base.proofs.Settling.{settles_none}
 use Rattle.af_collect.specs.Stored.{Stored}
-use Rattle.af_collect.proofs.Shedding.{burden, burden-gone, burden-less, none-popped, settles-popped}
+use Rattle.af_collect.proofs.Losing.{burden-lost, none-held, none-lost, none-silent, settles-lost}
+use Rattle.af_collect.proofs.Shedding.{burden, burden-gone}
 use Rattle.af_collect.proofs.store.Store.release.Goals as goal
 
 pub take_away-requires-clause-live : goal.take_away-requires-clause-live
 take_away-requires-clause-live c =
-    let same = ap (λ (s : Stored). s.world) c.drop_first.ensures.world ∙ none-popped c.loop-file.self.world c.in-Some.file (c.drop_first.ensures.empty c.if-not-drop_first.true) in
+    let same = ap (λ (s : Stored). s.world) c.drop_place.ensures.world ∙ none-lost c.loop-file.self.world c.in-Some.file (c.drop_place.ensures.none c.if-not-drop_place.true) in
     subst (λ v. IsLive v c.in-Some.file) (sym same) c.in-Some.ensures.live
 
 pub take_away-requires-clause-unheld : goal.take_away-requires-clause-unheld
 take_away-requires-clause-unheld c =
-    let same = ap (λ (s : Stored). s.world) c.drop_first.ensures.world ∙ none-popped c.loop-file.self.world c.in-Some.file (c.drop_first.ensures.empty c.if-not-drop_first.true) in
+    let same = ap (λ (s : Stored). s.world) c.drop_place.ensures.world ∙ none-lost c.loop-file.self.world c.in-Some.file (c.drop_place.ensures.none c.if-not-drop_place.true) in
     subst (λ v. refs v c.in-Some.file ≡ 0) (sym same) c.in-Some.ensures.unheld
 
 pub take_away-requires-clause-bare : goal.take_away-requires-clause-bare
 take_away-requires-clause-bare c =
-    let same = ap (λ (s : Stored). s.world) c.drop_first.ensures.world ∙ none-popped c.loop-file.self.world c.in-Some.file (c.drop_first.ensures.empty c.if-not-drop_first.true) in
-    subst (λ v. held_by v c.in-Some.file ≡ []) (sym same) (c.drop_first.ensures.none c.if-not-drop_first.true)
+    let same = ap (λ (s : Stored). s.world) c.drop_place.ensures.world ∙ none-lost c.loop-file.self.world c.in-Some.file (c.drop_place.ensures.none c.if-not-drop_place.true) in
+    subst (λ v. held_by v c.in-Some.file ≡ []) (sym same) (none-held c.loop-file.self.world c.in-Some.file (c.drop_place.ensures.none c.if-not-drop_place.true))
 
 pub take_away-requires-clause-silent : goal.take_away-requires-clause-silent
 take_away-requires-clause-silent c =
-    let same = ap (λ (s : Stored). s.world) c.drop_first.ensures.world ∙ none-popped c.loop-file.self.world c.in-Some.file (c.drop_first.ensures.empty c.if-not-drop_first.true) in
-    subst (λ v. queue_at v c.in-Some.file ≡ []) (sym same) (c.drop_first.ensures.empty c.if-not-drop_first.true)
+    let same = ap (λ (s : Stored). s.world) c.drop_place.ensures.world ∙ none-lost c.loop-file.self.world c.in-Some.file (c.drop_place.ensures.none c.if-not-drop_place.true) in
+    subst (λ v. queue_at v c.in-Some.file ≡ []) (sym same) (none-silent c.loop-file.self.world c.in-Some.file (c.drop_place.ensures.none c.if-not-drop_place.true))
 
-pub loop-file-preserved-then-not-drop_first : goal.loop-file-preserved-then-not-drop_first
-loop-file-preserved-then-not-drop_first c =
+pub loop-file-preserved-then-not-drop_place : goal.loop-file-preserved-then-not-drop_place
+loop-file-preserved-then-not-drop_place c =
     let w = c.loop-file.self.world in
     let f = c.in-Some.file in
-    let none = c.if-not-drop_first.true in
-    let same = ap (λ (s : Stored). s.world) c.drop_first.ensures.world ∙ none-popped w f (c.drop_first.ensures.empty none) in
+    let none = c.if-not-drop_place.true in
+    let same = ap (λ (s : Stored). s.world) c.drop_place.ensures.world ∙ none-lost w f (c.drop_place.ensures.none none) in
     let gone = ap (λ (s : Stored). s.world) c.take_away.ensures ∙ ap (without (nat_eq f)) same in
     record {
       settles = λ end s. c.loop-file.invariant.settles end (settles-without w f c.in-Some.ensures.live c.in-Some.ensures.unheld end (subst (λ x. Settles x end) gone s));
-      rows = ap (λ (s : Stored). s.rows) c.take_away.ensures ∙ ap (λ (s : Stored). s.rows) c.drop_first.ensures.world ∙ c.loop-file.invariant.rows;
+      rows = ap (λ (s : Stored). s.rows) c.take_away.ensures ∙ ap (λ (s : Stored). s.rows) c.drop_place.ensures.world ∙ c.loop-file.invariant.rows;
     }
 
 pub loop-file-preserved : goal.loop-file-preserved
 loop-file-preserved c =
     let w = c.loop-file.self.world in
     let f = c.in-Some.file in
-    let some = c.drop_first.ensures.some c.if-not-drop_first.false in
-    let popped = ap (λ (s : Stored). s.world) c.drop_first.ensures.world in
+    let some = c.drop_place.ensures.some c.if-not-drop_place.false in
+    let popped = ap (λ (s : Stored). s.world) c.drop_place.ensures.world in
     record {
-      settles = λ end s. c.loop-file.invariant.settles end (settles-popped w c.drop_first.new.self.world f popped c.in-Some.ensures.live c.in-Some.ensures.unheld some end s);
-      rows = ap (λ (s : Stored). s.rows) c.drop_first.ensures.world ∙ c.loop-file.invariant.rows;
+      settles = λ end s. c.loop-file.invariant.settles end (settles-lost w c.drop_place.new.self.world f popped c.in-Some.ensures.live c.in-Some.ensures.unheld some end s);
+      rows = ap (λ (s : Stored). s.rows) c.drop_place.ensures.world ∙ c.loop-file.invariant.rows;
     }
 
-pub loop-file-smaller-then-not-drop_first : goal.loop-file-smaller-then-not-drop_first
-loop-file-smaller-then-not-drop_first c =
+pub loop-file-smaller-then-not-drop_place : goal.loop-file-smaller-then-not-drop_place
+loop-file-smaller-then-not-drop_place c =
     let w = c.loop-file.self.world in
     let f = c.in-Some.file in
-    let none = c.if-not-drop_first.true in
-    let same = ap (λ (s : Stored). s.world) c.drop_first.ensures.world ∙ none-popped w f (c.drop_first.ensures.empty none) in
+    let none = c.if-not-drop_place.true in
+    let same = ap (λ (s : Stored). s.world) c.drop_place.ensures.world ∙ none-lost w f (c.drop_place.ensures.none none) in
     let gone = ap (λ (s : Stored). s.world) c.take_away.ensures ∙ ap (without (nat_eq f)) same in
     subst (λ x. burden x < burden w) (sym gone) (burden-gone w f c.in-Some.ensures.live)
 
 pub loop-file-smaller : goal.loop-file-smaller
 loop-file-smaller c =
-    let some = c.drop_first.ensures.some c.if-not-drop_first.false in
-    burden-less c.loop-file.self.world c.drop_first.new.self.world c.in-Some.file (ap (λ (s : Stored). s.world) c.drop_first.ensures.world) some
+    let some = c.drop_place.ensures.some c.if-not-drop_place.false in
+    burden-lost c.loop-file.self.world c.drop_place.new.self.world c.in-Some.file (ap (λ (s : Stored). s.world) c.drop_place.ensures.world) some
 
 pub returns : goal.returns
 returns c = record {

@@ -1,5 +1,7 @@
 use Rattle.std.proofs.Common.{◌<◌, subst, sym, arith}
-use Rattle.af_order.proofs.Keyed.{none_in_place, none_there}
+use Rattle.af_order.proofs.Keyed.{no_values, none_in_place, none_there}
+use Rattle.af_order.specs.Keyed.{values_of}
+use Rattle.af_desc.proofs.Naming.{named-none-yet}
 use Rattle.af_desc.proofs.files.Files.new.Goals as goal
 
 pub invariant_of-result : goal.invariant_of-result
@@ -7,4 +9,5 @@ invariant_of-result c = (
   none_in_place c.new.result.keys c.new-2.result c.new.ensures.keys c.new-2.ensures.empty,
   subst (λ n. n < 1) (sym c.new.ensures.last) (omega arith),
   none_there c.new.result.keys c.new-2.result 0 c.new.ensures.keys,
+  named-none-yet c.new-3.result (values_of c.new.result.keys c.new-2.result) c.new-3.ensures (no_values c.new.result.keys c.new-2.result c.new.ensures.keys),
 )

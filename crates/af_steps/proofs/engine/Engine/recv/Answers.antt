@@ -22,7 +22,7 @@ returns-then-len-eq0 c =
     let stands : map.get q.table c.args.on ≡ Some c.in_ok-file.file = search rules in
     let found : socket_at w c.in_ok-file.file ≡ Some x = search rules in
     let given : first_fit (receive_row x c.args.max_bytes) ≡ None = search rules in
-    let empty : x.queue ≡ [] = no-message x.queue (sym (c.len.ensures.value ∙ ap length c.queue.ensures.value) ∙ c.if-len-eq0.true) in
+    let empty : x.queue ≡ [] = no-message x.queue (sym (c.len.ensures.value ∙ ap length c.queue.ensures) ∙ c.if-len-eq0.true) in
     subst (λ (m : Machine). ProcessStep m.world p (step.Recv c.args.on c.args.max_bytes c.args.max_fds) reply.End m.world × ((m.pass ≡ m.pass) × (m.last_pass ≡ m.last_pass))) c.self.view_is
     (recv-end w p c.args.on q at c.in_ok-file.file stands x found c.args.max_bytes c.args.max_fds empty c.self.invariant.0 given, (refl, refl))
 

@@ -1,6 +1,7 @@
 use Rattle.std.proofs.Common.{rules, ◌≡◌, true, false, length, refl, sym, ap, subst, ◌∙◌, arith}
 use Rattle.std.specs.Prelude.{Some, None, Err, nat_le}
 use Rattle.std.specs.FinMap as map
+use Rattle.std.proofs.lemmas.Bool.{lt-leb}
 use Rattle.af_base.specs.declared.errno.Errno.TheVariants.{EAGAIN, ENOMEM}
 use Rattle.af_base.specs.declared.events.Reply.TheVariants as reply
 use Rattle.af_base.specs.declared.events.Step.TheVariants as step
@@ -14,7 +15,7 @@ use Rattle.af_collect.specs.Stored.{Stored}
 use Rattle.af_base.specs.Refusals.{send_row}
 use Rattle.af_steps.specs.Outcome.{reply_of}
 use Rattle.af_steps.specs.Rows.{parts_row, peer_row}
-use Rattle.af_steps.proofs.Refused.{refused-charge, refused-full, refused-peer, send-fits, send-starved, socket-is}
+use Rattle.af_steps.proofs.Refused.{full-is, refused-charge, refused-full, refused-peer, send-fits, send-starved, socket-is}
 use Rattle.af_steps.proofs.Sent.{sent-done, sent-flying, sent-live}
 use Rattle.af_steps.proofs.engine.Engine.send.Goals as goal
 
@@ -86,7 +87,7 @@ returns-in_err-message c =
     λ i. first_fit (send_row (charged w (sym c.user.ensures i)) (total w) (sym c.limit-limit.ensures.value i) (sym c.is_privileged-privileged.ensures i) (length c.args.attach.now)) in
     let paid = same ∙ c.in_ok-may_send.ensures.ok in
     let to : c.in_ok-peer.peer ≡ peer_of x.state = c.in_ok-peer.ensures.peer in
-    let full : nat_le MAX_MESSAGES (length (queue_at w c.in_ok-peer.peer)) ≡ false = grind arith in
+    let full : nat_le MAX_MESSAGES (length (queue_at w c.in_ok-peer.peer)) ≡ false = full-is w c.in_ok-peer.peer c.len.result c.unwrap.result.now (search rules) (c.len.ensures.value ∙ ap length c.queue.ensures) ∙ lt-leb MAX_MESSAGES c.len.result c.if-len-ge-MAX_MESSAGES.false in
     let error : c.from_residual-in_err-message.result ≡ Err ENOMEM = search rules in
     let said : ProcessStep w p (step.Send c.args.on c.args.bytes.now c.args.attach.now) (reply_of c.from_residual-in_err-message.result) w = subst (λ r. ProcessStep w p (step.Send c.args.on c.args.bytes.now c.args.attach.now) (reply_of r) w) (sym error) (send-starved w p c.args.on q at c.in_ok-file.file stands x found c.args.bytes.now c.args.attach.now given alive paid c.in_ok-peer.peer to full w refl) in
     subst (λ (m : Machine). ProcessStep m.world p (step.Send c.args.on c.args.bytes.now c.args.attach.now) (reply_of c.from_residual-in_err-message.result) m.world × ((m.pass ≡ m.pass) × (m.last_pass ≡ m.last_pass))) c.self.view_is (said, (refl, refl))
@@ -106,7 +107,7 @@ put_msg-requires-clause-live c =
     λ i. first_fit (send_row (charged w (sym c.user.ensures i)) (total w) (sym c.limit-limit.ensures.value i) (sym c.is_privileged-privileged.ensures i) (length c.args.attach.now)) in
     let paid = same ∙ c.in_ok-may_send.ensures.ok in
     let to : c.in_ok-peer.peer ≡ peer_of x.state = c.in_ok-peer.ensures.peer in
-    let full : nat_le MAX_MESSAGES (length (queue_at w c.in_ok-peer.peer)) ≡ false = grind arith in
+    let full : nat_le MAX_MESSAGES (length (queue_at w c.in_ok-peer.peer)) ≡ false = full-is w c.in_ok-peer.peer c.len.result c.unwrap.result.now (search rules) (c.len.ensures.value ∙ ap length c.queue.ensures) ∙ lt-leb MAX_MESSAGES c.len.result c.if-len-ge-MAX_MESSAGES.false in
     let fits = send-fits w p c.args.on q at c.in_ok-file.file stands x found c.args.bytes.now c.args.attach.now given alive paid c.in_ok-peer.peer to full in
     sent-live w p c.args.on c.args.bytes.now c.args.attach.now c.self.invariant.0 fits q at c.in_ok-message.message c.in_ok-message.ensures
 
@@ -125,7 +126,7 @@ put_msg-requires-clause-flying c =
     λ i. first_fit (send_row (charged w (sym c.user.ensures i)) (total w) (sym c.limit-limit.ensures.value i) (sym c.is_privileged-privileged.ensures i) (length c.args.attach.now)) in
     let paid = same ∙ c.in_ok-may_send.ensures.ok in
     let to : c.in_ok-peer.peer ≡ peer_of x.state = c.in_ok-peer.ensures.peer in
-    let full : nat_le MAX_MESSAGES (length (queue_at w c.in_ok-peer.peer)) ≡ false = grind arith in
+    let full : nat_le MAX_MESSAGES (length (queue_at w c.in_ok-peer.peer)) ≡ false = full-is w c.in_ok-peer.peer c.len.result c.unwrap.result.now (search rules) (c.len.ensures.value ∙ ap length c.queue.ensures) ∙ lt-leb MAX_MESSAGES c.len.result c.if-len-ge-MAX_MESSAGES.false in
     let fits = send-fits w p c.args.on q at c.in_ok-file.file stands x found c.args.bytes.now c.args.attach.now given alive paid c.in_ok-peer.peer to full in
     sent-flying w p c.args.on c.args.bytes.now c.args.attach.now c.self.invariant.0 fits q at c.in_ok-message.message c.in_ok-message.ensures
 
@@ -144,7 +145,7 @@ returns-in_err-put_msg c =
     λ i. first_fit (send_row (charged w (sym c.user.ensures i)) (total w) (sym c.limit-limit.ensures.value i) (sym c.is_privileged-privileged.ensures i) (length c.args.attach.now)) in
     let paid = same ∙ c.in_ok-may_send.ensures.ok in
     let to : c.in_ok-peer.peer ≡ peer_of x.state = c.in_ok-peer.ensures.peer in
-    let full : nat_le MAX_MESSAGES (length (queue_at w c.in_ok-peer.peer)) ≡ false = grind arith in
+    let full : nat_le MAX_MESSAGES (length (queue_at w c.in_ok-peer.peer)) ≡ false = full-is w c.in_ok-peer.peer c.len.result c.unwrap.result.now (search rules) (c.len.ensures.value ∙ ap length c.queue.ensures) ∙ lt-leb MAX_MESSAGES c.len.result c.if-len-ge-MAX_MESSAGES.false in
     let error : c.from_residual-in_err-put_msg.result ≡ Err ENOMEM = search rules in
     let kept = ap (λ (s : Stored). s.world) c.in_err-put_msg.ensures.err in
     let said : ProcessStep w p (step.Send c.args.on c.args.bytes.now c.args.attach.now) (reply_of c.from_residual-in_err-put_msg.result) c.put_msg.new.self.world = subst (λ r. ProcessStep w p (step.Send c.args.on c.args.bytes.now c.args.attach.now) (reply_of r) c.put_msg.new.self.world) (sym error) (send-starved w p c.args.on q at c.in_ok-file.file stands x found c.args.bytes.now c.args.attach.now given alive paid c.in_ok-peer.peer to full c.put_msg.new.self.world kept) in
@@ -165,7 +166,7 @@ returns c =
     λ i. first_fit (send_row (charged w (sym c.user.ensures i)) (total w) (sym c.limit-limit.ensures.value i) (sym c.is_privileged-privileged.ensures i) (length c.args.attach.now)) in
     let paid = same ∙ c.in_ok-may_send.ensures.ok in
     let to : c.in_ok-peer.peer ≡ peer_of x.state = c.in_ok-peer.ensures.peer in
-    let full : nat_le MAX_MESSAGES (length (queue_at w c.in_ok-peer.peer)) ≡ false = grind arith in
+    let full : nat_le MAX_MESSAGES (length (queue_at w c.in_ok-peer.peer)) ≡ false = full-is w c.in_ok-peer.peer c.len.result c.unwrap.result.now (search rules) (c.len.ensures.value ∙ ap length c.queue.ensures) ∙ lt-leb MAX_MESSAGES c.len.result c.if-len-ge-MAX_MESSAGES.false in
     let fits = send-fits w p c.args.on q at c.in_ok-file.file stands x found c.args.bytes.now c.args.attach.now given alive paid c.in_ok-peer.peer to full in
     let to_peer = to ∙ ap (λ s. peer_of s.state) (sym (socket-is w p c.args.on q at c.in_ok-file.file stands x found)) in
     let put = ap (λ (s : Stored). s.world) c.in_ok-put_msg.ensures.ok in

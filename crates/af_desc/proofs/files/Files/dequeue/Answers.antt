@@ -1,0 +1,16 @@
+use Rattle.std.proofs.Common.{sym, ap, refl, ◌∙◌}
+use Rattle.std.specs.Option.{option_copied_mut}
+use Rattle.af_order.proofs.Keyed.{write_in_place, write_absent}
+use Rattle.af_base.specs.Changes.{dequeued}
+use Rattle.af_desc.proofs.Naming.{name-changed, named-written}
+use Rattle.af_desc.proofs.files.Files.dequeue.Goals as goal
+
+pub invariant_of-self-2 : goal.invariant_of-self-2
+invariant_of-self-2 c =
+    let was = sym c.key_of.ensures ∙ c.in_ok-key.was in
+    let at = sym c.get_mut.ensures.value ∙ ap option_copied_mut c.in_ok-entry.was in (
+      write_in_place c.self.inside.order.keys c.self.inside.slab c.args.file.now c.in_ok-key.key _ _ c.self.invariant.0 was at refl,
+      c.self.invariant.1,
+      write_absent c.self.inside.order.keys c.self.inside.slab c.args.file.now c.in_ok-key.key _ _ c.self.invariant.0 was at 0 c.self.invariant.2,
+      named-written c.self.inside.names c.self.inside.order.keys c.self.inside.slab c.args.file.now c.in_ok-key.key _ _ c.self.invariant.0 was at (name-changed dequeued (λ s. refl) _ _ c.dequeue.ensures.rest) c.self.invariant.3,
+    )

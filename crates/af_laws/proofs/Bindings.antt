@@ -1,0 +1,116 @@
+-- Names and listeners: who is found by a name, and what a bind and a listen leave as it was.
+use Rattle.std.proofs.Common.{◌≡◌, inl, inr, ℕ, false, not, List, ◌∷◌, ◌++◌, length, refl, sym, ap, ◌∙◌, subst, arith}
+use Rattle.std.specs.Prelude.{Option, Some, None, is_none}
+use Rattle.std.specs.List.{sum_by}
+use Rattle.std.specs.FinMap as map
+use Rattle.std.proofs.lemmas.Bool.{false≢true}
+use Rattle.af_base.specs.declared.errno.Errno.{Errno}
+use Rattle.af_base.specs.declared.errno.Errno.TheVariants.{ESRCH}
+use Rattle.af_base.specs.declared.events.Reply.{Reply}
+use Rattle.af_base.specs.declared.events.Reply.TheVariants as reply
+use Rattle.af_base.specs.declared.events.Step.TheVariants as step
+use Rattle.af_base.specs.World.{AsSocket, Message, Socket, World, is_live}
+use Rattle.af_base.specs.Places.{backlog_of, carried, contents, queue_of}
+use Rattle.af_base.specs.Counts.{charge, count_in, refs, total_of}
+use Rattle.af_base.specs.Names.{named}
+use Rattle.af_base.specs.Unheld.{IsSettled, Settles}
+use Rattle.af_base.specs.Changes.{bound, listening, with_socket}
+use Rattle.af_base.specs.Refusals.{ino_on, refusal, socket_on, step_row}
+use Rattle.af_base.specs.Steps.{Outcome, effect}
+use Rattle.af_base.specs.Whole.{IsSound, name_at}
+use Rattle.af_base.proofs.Connections.{whole-bound}
+use Rattle.af_base.proofs.Moved.{live-changed, there-changed, total-changed}
+use Rattle.af_base.proofs.Named.{name-there, named-none, named-some}
+use Rattle.af_base.proofs.Placed.{settled-counted, settled-held}
+use Rattle.af_base.proofs.Stepped.{none-fits, socket-there}
+use Rattle.af_base.specs.Reached.{BySocket}
+use Rattle.af_laws.proofs.Counting.{holds_in_queue_or_backlog}
+use Rattle.af_laws.proofs.Logs.{ok_is_done, outcome_done}
+use Rattle.af_laws.proofs.Outcomes.{settled_stays}
+use Rattle.af_laws.specs.Connecting.{BindChangesNoCount, BoundSocketsAreFound, EmbryosAreReached, ListenChangesNoCount, NamesFindTheirSockets, SameCounts, WhatEmbryosHoldIsReached}
+
+pub embryos_are_reached : EmbryosAreReached
+embryos_are_reached w s e r h = BySocket s e r ((holds_in_queue_or_backlog w s e).1 (inr h))
+
+pub what_embryos_hold_is_reached : WhatEmbryosHoldIsReached
+what_embryos_hold_is_reached w s e f r h g = BySocket e f (embryos_are_reached w s e r h) g
+
+pub names_find_their_sockets : NamesFindTheirSockets
+names_find_their_sockets w f name whole = (named-some w name f, λ has. by has (named w.files name) refl) where
+  by : name_at w f ≡ Some name → (o : Option ℕ) → named w.files name ≡ o → named w.files name ≡ Some f
+  by has None e = absurd (named-none w name e f has)
+  by has (Some g) e = e ∙ ap Some (whole.names g f name (named-some w name g e) has)
+
+-- a world with the same live files, and as many references to each
+pub settled_alike : (w now : World) → ((f : ℕ) → is_live now f ≡ is_live w f) → ((f : ℕ) → refs now f ≡ refs w f) → IsSettled w → IsSettled now
+settled_alike w now live same settled = settled-counted now (λ f l. let held = settled-held w f settled (sym (live f) ∙ l) in omega (arith, held, same f))
+
+unchanged : (w : World) → SameCounts w w
+unchanged w = record { references = λ f. refl; in_flight = λ f. refl; in_backlogs = λ f. refl; charges = λ u. refl; all = refl }
+
+-- what is settled after a step is its effect
+module _ (now old new : World) (settled : IsSettled now) where
+  is_effect : Settles now new → new ≡ now
+  is_effect t = (settled_stays now new settled).0 t
+
+  -- a step that changes no count, done or refused
+  same_outcome : SameCounts old now → (o : Option Errno) (answer r : Reply) → Outcome o false answer now old r new → SameCounts old new
+  same_outcome same (Some e) answer r h = subst (SameCounts old) (sym h.1) (unchanged old)
+  same_outcome same None answer r (inl h) = subst (SameCounts old) (sym (is_effect h.1)) same
+  same_outcome same None answer r (inr h) = subst (SameCounts old) (sym h.1) (unchanged old)
+
+-- a socket changed, but not in its queue and not in its backlog
+module _ (w : World) (s : ℕ) (g : Socket → Socket) (same_queue : (x : Socket) → (g x).queue ≡ x.queue) (same_backlog : (x : Socket) → (g x).backlog ≡ x.backlog) where
+  abbrev altered : World
+  altered = with_socket w s g
+
+  queues_alike : (F : List Message → ℕ) → total_of (λ y. F (queue_of y)) altered.files ≡ total_of (λ y. F (queue_of y)) w.files
+  queues_alike F = total-changed (λ y. F (queue_of y)) w s g (λ x. ap F (same_queue x))
+
+  refs_alike : (f : ℕ) → refs altered f ≡ refs w f
+  refs_alike f = omega (arith, total-changed (λ y. count_in f (contents y)) w s g (λ x. (λ i. count_in f (carried (same_queue x i) ++ same_backlog x i))))
+
+  alike : SameCounts w altered
+  alike = record {
+    references = refs_alike;
+    in_flight = λ f. queues_alike (λ q. count_in f (carried q));
+    in_backlogs = λ f. total-changed (λ y. count_in f (backlog_of y)) w s g (λ x. ap (count_in f) (same_backlog x));
+    charges = λ u. queues_alike (λ q. sum_by (charge u) q);
+    all = queues_alike (λ q. sum_by (λ m. length m.attached) q);
+  }
+
+  altered_settled : IsSettled w → IsSettled altered
+  altered_settled settled = settled_alike w altered (live-changed w s g) refs_alike settled
+
+pub bind_changes_no_count : BindChangesNoCount
+bind_changes_no_count old new p n name r settled h =
+    same_outcome (effect old p (step.Bind n name)) old new (altered_settled old (ino_on old p n) (bound name) (λ x. refl) (λ x. refl) settled) (alike old (ino_on old p n) (bound name) (λ x. refl) (λ x. refl)) (refusal old p (step.Bind n name)) reply.Ok r h
+
+pub listen_changes_no_count : ListenChangesNoCount
+listen_changes_no_count old new p n b r settled h =
+    same_outcome (effect old p (step.Listen n b)) old new (altered_settled old (ino_on old p n) (listening b) (λ x. refl) (λ x. refl) settled) (alike old (ino_on old p n) (listening b) (λ x. refl) (λ x. refl)) (refusal old p (step.Listen n b)) reply.Ok r h
+
+-- where a test for somebody does not fit, there is nobody
+nobody : (o : Option ℕ) → not (is_none o) ≡ false → o ≡ None
+nobody None e = refl
+nobody (Some f) e = absurd (false≢true (sym e))
+
+-- a bind that nothing refuses
+module _ (w : World) (p n : ℕ) (name : List ℕ) (sound : IsSound w) (fits : refusal w p (step.Bind n name) ≡ None) where
+  abbrev named_world : World
+  named_world = effect w p (step.Bind n name)
+
+  found : named named_world.files name ≡ Some (ino_on w p n)
+  found =
+      let row = (none-fits ((not (map.contains_key w.processes p), ESRCH) ∷ step_row w p (step.Bind n name)) fits).rest in
+      let there = socket-there w p n row.here row.rest.here in
+      let whole = whole-bound w (ino_on w p n) name (named-none w name (nobody (named w.files name) row.rest.rest.rest.here)) sound.whole in
+      let has : name_at named_world (ino_on w p n) ≡ Some name = name-there named_world (ino_on w p n) (Some (AsSocket (bound name (socket_on w p n)))) (there-changed w (ino_on w p n) (bound name) (socket_on w p n) there) in
+      (names_find_their_sockets named_world (ino_on w p n) name whole).1 has
+
+pub bound_sockets_are_found : BoundSocketsAreFound
+bound_sockets_are_found old new p n name sound h =
+    let now = effect old p (step.Bind n name) in
+    let done = outcome_done (refusal old p (step.Bind n name)) false reply.Ok now old reply.Ok new ok_is_done h in
+    let same = is_effect now old new (altered_settled old (ino_on old p n) (bound name) (λ x. refl) (λ x. refl) sound.settled) done.2 in
+    ap (λ w. named w.files name) same ∙ found old p n name sound done.0

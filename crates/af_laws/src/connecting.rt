@@ -1,0 +1,64 @@
+//! Laws of connections: names, listeners, and the embryos that wait in their backlogs.
+ghost use Rattle.af_laws.specs.Connecting.{NamesFindTheirSockets, BoundSocketsAreFound, BindChangesNoCount, ListenChangesNoCount};
+ghost use Rattle.af_laws.specs.Connecting.{ConnectMakesAnEmbryo, ConnectCounts, ConnectChargesNobody, AcceptKeepsReferences, AcceptTakesTheFirstEmbryo, AcceptedNumberIsTheEmbryo};
+ghost use Rattle.af_laws.specs.Connecting.{EmbryosAreReached, WhatEmbryosHoldIsReached};
+
+/// A name finds the socket that has it, and no other.
+pub fn names_find_their_sockets()
+    ensures { NamesFindTheirSockets }
+{}
+
+/// A socket that was bound is found by the name that it was given.
+pub fn bound_sockets_are_found()
+    ensures { BoundSocketsAreFound }
+{}
+
+/// A bind changes no count: a name holds nothing.
+pub fn bind_changes_no_count()
+    ensures { BindChangesNoCount }
+{}
+
+/// A listen changes no count.
+pub fn listen_changes_no_count()
+    ensures { ListenChangesNoCount }
+{}
+
+/// A connect makes a live embryo, of which the listener's backlog is the only place.
+pub fn connect_makes_an_embryo()
+    ensures { ConnectMakesAnEmbryo }
+{}
+
+/// A connect is one reference more to the embryo, and puts nothing in flight.
+pub fn connect_counts()
+    ensures { ConnectCounts }
+{}
+
+/// A connect charges nobody.
+pub fn connect_charges_nobody()
+    ensures { ConnectChargesNobody }
+{}
+
+/// An accept keeps all reference counts, that of the embryo too.
+pub fn accept_keeps_references()
+    ensures { AcceptKeepsReferences }
+{}
+
+/// The first embryo waits no more once it is accepted, and all others wait as before.
+pub fn accept_takes_the_first_embryo()
+    ensures { AcceptTakesTheFirstEmbryo }
+{}
+
+/// The number that an accept answers stands for the first embryo.
+pub fn accepted_number_is_the_embryo()
+    ensures { AcceptedNumberIsTheEmbryo }
+{}
+
+/// An embryo of a listener that is reached is reached.
+pub fn embryos_are_reached()
+    ensures { EmbryosAreReached }
+{}
+
+/// So is what the embryo has to receive, before it is accepted.
+pub fn what_embryos_hold_is_reached()
+    ensures { WhatEmbryosHoldIsReached }
+{}

@@ -1,0 +1,11 @@
+-- Names.
+use Rattle.std.proofs.Common.{◌≡◌, ◌≤◌, ℕ, Bool, ◌&&◌, List, length, sym, ◌∙◌}
+use Rattle.std.specs.Prelude.{nat_le}
+use Rattle.std.specs.List.{list_all}
+use Rattle.std.proofs.lemmas.Bool.{le-leb}
+use Rattle.af_base.specs.declared.limits.TheConstants.{MAX_NAME}
+use Rattle.af_base.specs.Names.{is_name, is_name_byte}
+
+-- Bytes of a right number are a name where each may stand in one.
+pub named-by : (bytes : List ℕ) → 1 ≤ length bytes → length bytes ≤ MAX_NAME → list_all is_name_byte bytes ≡ is_name bytes
+named-by bytes some few = sym (λ i. (le-leb 1 (length bytes) some i && le-leb (length bytes) MAX_NAME few i) && list_all is_name_byte bytes)
