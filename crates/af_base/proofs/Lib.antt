@@ -37,3 +37,4 @@ pub mod Listed
 pub mod Bare
 pub mod Rising
 pub mod Making
+pub mod Gathered

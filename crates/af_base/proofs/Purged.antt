@@ -107,6 +107,5 @@ sound-purges t old new purged k = sound-settles (emptied t old) new purged (whol
 
 -- A sound world is sound after a whole pass, whatever the answer.
 pub sound-pass : (p : Pass) (old new : Machine) (r : Reply) → IsSound old.world → PassesWhole p old r new → IsSound new.world
-sound-pass Idle old new r k (inl h) = sound-purges h.0.test old.world new.world h.0.purged k
-sound-pass Idle old new r k (inr h) = subst (λ m. IsSound m.world) (sym h.1) k
+sound-pass Idle old new r k h = sound-purges h.0.test old.world new.world h.0.purged k
 sound-pass (Running begun spent) old new r k h = subst (λ m. IsSound m.world) (sym h.1) k

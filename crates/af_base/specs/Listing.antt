@@ -1,7 +1,7 @@
 -- The bare world that plain lists of tables and files describe.
-use Rattle.std.specs.Prelude.{ℕ, ◌<◌, ◌^◌, List, [], None, false, map, length}
+use Rattle.std.specs.Prelude.{◌≡◌, ℕ, ◌<◌, ◌^◌, List, [], None, false, map, length}
 use Rattle.std.specs.List.{All, sum_by}
-use Rattle.std.specs.List.Sorted.{IsStrictlyIncreasing}
+use Rattle.std.specs.List.Sorted.{IsNonDecreasing, IsStrictlyIncreasing}
 use Rattle.std.specs.Option.{option_map_or}
 use Rattle.std.specs.FinMap as finmap
 use Rattle.af_base.specs.declared.events.SockType.TheVariants.{Seqpacket}
@@ -11,6 +11,7 @@ use Rattle.af_base.specs.declared.listing.ListedMessage.{ListedMessage}
 use Rattle.af_base.specs.declared.listing.ListedSocket.{ListedSocket}
 use Rattle.af_base.specs.declared.listing.ListedTable.{ListedTable}
 use Rattle.af_base.specs.World.{World, Map, Process, File, Socket, Message, Plain, AsSocket}
+use Rattle.af_base.specs.Counts.{charged, count_in, inflight, refs, total}
 use Rattle.af_base.specs.Places.{contents}
 
 -- The map that a list describes, each item by its key (this project's profile).
@@ -32,6 +33,14 @@ file_of x = option_map_or (λ s. AsSocket (socket_of s)) x.socket Plain
 -- What the numbers of a listed table stand for (open(2)).
 abbrev pub table_of : ListedTable → Map ℕ
 table_of t = keyed (λ n. n.fd) (λ n. n.ino) t.numbers.items
+
+-- The files that the numbers of a listed table stand for, in order, repeats included (open(2)).
+abbrev pub inos_of : ListedTable → List ℕ
+inos_of t = map (λ n. n.ino) t.numbers.items
+
+-- The user whom a message is charged to, once for each file that travels with it (this project's profile).
+abbrev pub payers_of : Message → List ℕ
+payers_of m = map (λ _. m.user) m.attached
 
 -- The process that is listed: its table (this project's profile).
 abbrev pub process_of : ListedTable → Process
@@ -63,3 +72,17 @@ pub record AreTables (tables : List ListedTable) : Type 0 where
 pub record AreFiles (files : List ListedFile) : Type 0 where
   pub inos : IsStrictlyIncreasing (map (λ x. x.ino) files)
   pub few : sum_by (λ x. length (contents (file_of x))) files < 2 ^ 63
+
+-- A list that rises, and that has each number as often as it counts (this project's profile).
+pub record IsTally (counts : ℕ → ℕ) (xs : List ℕ) : Type 0 where
+  pub rising : IsNonDecreasing xs
+  pub each : (f : ℕ) → count_in f xs ≡ counts f
+
+-- The lists of a listing: its tables and files, the file of each place, the file of each place in a queue, and the user whom each of these is charged to (this project's profile).
+pub record AreListed (tables : List ListedTable) (files : List ListedFile) (held queued payers : List ℕ) : Type 0 where
+  pub ordered_tables : AreTables tables
+  pub ordered_files : AreFiles files
+  pub each_held : IsTally (refs (listed tables files)) held
+  pub each_queued : IsTally (inflight (listed tables files)) queued
+  pub all_queued : length queued ≡ total (listed tables files)
+  pub each_payer : IsTally (charged (listed tables files)) payers

@@ -2,7 +2,7 @@
 use Rattle.std.specs.Prelude.{◌≡◌, ◌⊎◌, ◌↔◌, ℕ, ◌+◌, ◌*◌, ◌≤◌, Bool, true, List, [], length, nat_eq, nat_lt, min, if◌then◌else◌, MatchBool, ◌||◌}
 use Rattle.std.specs.List.{list_any, All}
 use Rattle.std.specs.FinMap as map
-use Rattle.af_base.specs.declared.errno.Errno.TheVariants.{EBUSY, EIDLE, EINVAL, ENOMEM}
+use Rattle.af_base.specs.declared.errno.Errno.TheVariants.{EBUSY, EIDLE, EINVAL}
 use Rattle.af_base.specs.declared.events.Reply.{Reply}
 use Rattle.af_base.specs.declared.events.Reply.TheVariants as reply
 use Rattle.af_base.specs.declared.limits.TheConstants.{MAX_BUDGET, MAX_PASS}
@@ -73,9 +73,7 @@ pub record Passes (old : World) (pass : ℕ) (r : Reply) (new : World) : Type 0 
   pub counted : IsGarbageCount old count
   pub answered : r ≡ reply.Done pass count
 
--- A whole pass is asked for: while one runs it is refused, and for now it may be refused for want of memory, and nothing changed (this project's profile).
+-- A whole pass is asked for: while one runs it is refused, and nothing changed (this project's profile).
 abbrev pub PassesWhole : Pass → Machine → Reply → Machine → Type 0
-PassesWhole Idle old r new =
-    (Passes old.world (next_pass old.last_pass) r new.world × (new.pass ≡ Idle) × (new.last_pass ≡ next_pass old.last_pass))
-    ⊎ ((r ≡ reply.Refused ENOMEM) × (new ≡ old))
+PassesWhole Idle old r new = Passes old.world (next_pass old.last_pass) r new.world × (new.pass ≡ Idle) × (new.last_pass ≡ next_pass old.last_pass)
 PassesWhole (Running begun spent) old r new = (r ≡ reply.Refused EBUSY) × (new ≡ old)

@@ -5,6 +5,7 @@
 pub mod equality;
 pub mod errno;
 pub mod events;
+mod gathering;
 pub mod items;
 pub mod limits;
 pub mod listing;

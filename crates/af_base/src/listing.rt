@@ -1,8 +1,12 @@
 //! Plain lists of tables, queues and backlogs: what a recount goes over.
-ghost use Rattle.std.specs.Prelude.{◌≡◌};
+ghost use Rattle.std.specs.Prelude.{◌≡◌, ℕ, IfOk, length};
+ghost use Rattle.std.specs.List.Sorted.{IsNonDecreasing};
+ghost use Rattle.af_base.specs.Counts.{charged, count_in, inflight, refs, total};
 ghost use Rattle.af_base.specs.Listing.{AreTables, AreFiles, processes_of, files_of, listed};
 
+use crate::gathering;
 use crate::names::{Fd, Ino, Pid, Uid};
+use std::alloc::{AllocError, Global};
 use std::marker::Model;
 
 /// An open number of a process, and the file that it stands for.
@@ -51,11 +55,14 @@ pub struct ListedFile {
 }
 
 /// The tables of all processes and all live files, as they stood at one moment. A clause sees it
-/// as a bare world.
+/// as a bare world. Its places are kept sorted beside them, so that a count is a binary search.
 #[derive(Debug, Drop)]
 pub struct Listing {
     tables: Vec<ListedTable>,
     files: Vec<ListedFile>,
+    held: Vec<Ino>,
+    queued: Vec<Ino>,
+    payers: Vec<Uid>,
 }
 
 impl Model for Listing {
@@ -67,22 +74,35 @@ impl Model for Listing {
 
     ghost coded = { Prim.hlevel (codes, map.code) };
 
-    ghost use Rattle.af_base.specs.Listing.{AreTables, AreFiles, listed};
+    ghost use Rattle.af_base.specs.Listing.{AreListed, listed};
 
     ghost view = { λ a. listed a.tables.items a.files.items };
 
-    ghost invariant = { λ a. AreTables a.tables.items × AreFiles a.files.items };
+    ghost invariant = { λ a. AreListed a.tables.items a.files.items a.held.items a.queued.items a.payers.items };
 }
 
 impl Listing {
-    /// A listing of these tables, by rising pid, and these files, by rising inode number. It
-    /// takes no memory.
-    pub fn of(tables: Vec<ListedTable>, files: Vec<ListedFile>) -> Listing
+    /// A listing of these tables, by rising pid, and these files, by rising inode number. What it
+    /// takes memory for is three lists of places, each sorted here once.
+    pub fn of(
+        alloc: Global,
+        tables: Vec<ListedTable>,
+        files: Vec<ListedFile>,
+    ) -> Result<Listing, AllocError>
         requires tables { AreTables tables.items }
         requires files { AreFiles files.items }
-        ensures { result ≡ listed tables.items files.items }
+        ensures { IfOk result (λ l. l ≡ listed tables.items files.items) }
     {
-        Listing { tables, files }
+        let held = gathering::held(alloc, tables.as_slice(), files.as_slice())?;
+        let queued = gathering::queued(alloc, files.as_slice())?;
+        let payers = gathering::payers(alloc, files.as_slice())?;
+        Ok(Listing {
+            tables,
+            files,
+            held,
+            queued,
+            payers,
+        })
     }
 
     /// The tables, by rising pid.
@@ -99,5 +119,33 @@ impl Listing {
         ensures ordered { AreFiles result.now }
     {
         self.files.as_slice()
+    }
+
+    /// The file of each place, in tables, queues and backlogs, rising: a file stands there once for
+    /// each place that holds it.
+    pub fn held(&self) -> &[Ino]
+        ensures rising { IsNonDecreasing result.now }
+        ensures each { (f : ℕ) → count_in f result.now ≡ refs self.now f }
+    {
+        self.held.as_slice()
+    }
+
+    /// The file of each place in a queue, rising: a file stands there once for each such place that
+    /// holds it.
+    pub fn queued(&self) -> &[Ino]
+        ensures rising { IsNonDecreasing result.now }
+        ensures each { (f : ℕ) → count_in f result.now ≡ inflight self.now f }
+        ensures all { length result.now ≡ total self.now }
+    {
+        self.queued.as_slice()
+    }
+
+    /// The user whom each place in a queue is charged to, rising: a user stands there once for each
+    /// file that travels with a message that it sent.
+    pub fn payers(&self) -> &[Uid]
+        ensures rising { IsNonDecreasing result.now }
+        ensures each { (u : ℕ) → count_in u result.now ≡ charged self.now u }
+    {
+        self.payers.as_slice()
     }
 }

@@ -7,14 +7,14 @@
 
 mod workload;
 
-use crate::workload::Workload;
+use crate::workload::{Round, Workload};
 use std::env;
 use std::io::Write;
 use std::process::ExitCode;
 use std::time::Instant;
 
 /// What is measured: so many short runs, each of so many rounds.
-const PLAN: [(Workload, u32, u32); 13] = [
+const PLAN: [(Workload, u32, u32); 15] = [
     (Workload::OpenClose { live: 0 }, 301, 2_000),
     (Workload::OpenClose { live: 1_000 }, 301, 2_000),
     (Workload::OpenClose { live: 10_000 }, 301, 2_000),
@@ -26,6 +26,8 @@ const PLAN: [(Workload, u32, u32); 13] = [
     (Workload::DeepQueue, 301, 10),
     (Workload::Stream { piece: 4_096 }, 301, 10),
     (Workload::Stream { piece: 16 }, 301, 1),
+    (Workload::Connect { names: 1 }, 301, 1_000),
+    (Workload::Connect { names: 10_000 }, 301, 1_000),
     (Workload::Cycle, 301, 10),
     (Workload::Chain { sockets: 60_000 }, 5, 1),
 ];
@@ -59,22 +61,39 @@ fn usage(rt: &HostRuntime) -> ExitCode {
 /// Does so many runs of a workload, and prints the least and the median of what an event took.
 /// Nothing, where memory, the clock or standard output fails, or an event is refused.
 fn measure(rt: &HostRuntime, workload: &Workload, runs: u32, rounds: u32) -> Option<()> {
-    let mut times: Vec<u128> = Vec::new(rt.alloc());
+    let mut times = times_of(rt, workload, runs, rounds)?;
+    times.sort_unstable();
+    let events = u128::from(rounds) * u128::from(workload.events());
+    let least = tenths(*times.first()?, events);
+    let median = tenths(*times.get(times.len() / 2)?, events);
+    say(rt, workload, least, median)
+}
+
+/// What each of so many runs of a workload took, in nanoseconds. Nothing, where memory or the clock
+/// fails, or an event is refused.
+fn times_of(rt: &HostRuntime, workload: &Workload, runs: u32, rounds: u32) -> Option<Vec<u128>> {
+    let mut times = Vec::new(rt.alloc());
     let mut round = workload.prepare(rt.alloc())?;
     for run in 0..runs {
         if run > 0 && workload.is_done_once() {
             round = workload.prepare(rt.alloc())?;
         }
-        let start = Instant::now(rt).ok()?;
-        for _ in 0..rounds {
-            round.go()?;
-        }
-        times.push(start.elapsed(rt).ok()?.as_nanos()).ok()?;
+        times.push(time_of(rt, &mut round, rounds)?).ok()?;
     }
-    times.sort_unstable();
-    let events = u128::from(rounds) * u128::from(workload.events());
-    let least = tenths(*times.first()?, events);
-    let median = tenths(*times.get(times.len() / 2)?, events);
+    Some(times)
+}
+
+/// What so many rounds took, in nanoseconds. Nothing, where the clock fails, or an event is refused.
+fn time_of(rt: &HostRuntime, round: &mut Round, rounds: u32) -> Option<u128> {
+    let start = Instant::now(rt).ok()?;
+    for _ in 0..rounds {
+        round.go()?;
+    }
+    Some(start.elapsed(rt).ok()?.as_nanos())
+}
+
+/// Prints a line, with these tenths of a nanosecond. Nothing, where standard output fails.
+fn say(rt: &HostRuntime, workload: &Workload, least: u128, median: u128) -> Option<()> {
     writeln!(
         rt.stdout(),
         "{workload}: least {}.{} ns, median {}.{} ns",

@@ -25,6 +25,9 @@ pub enum Workload {
     DeepQueue,
     /// 65,536 bytes go into a stream as one message, and come out in pieces of so many.
     Stream { piece: u32 },
+    /// A socket is made, connects to a listener and is accepted there, and both ends are closed, while
+    /// so many names are bound.
+    Connect { names: u32 },
     /// 64 pairs of sockets, each in its own queue, and a pass that collects them.
     Cycle,
     /// So many sockets, each in the queue of the next, go by one close of the last.
@@ -43,6 +46,7 @@ impl Display for Workload {
             Workload::DeepQueue => write!(f, "deepqueue"),
             Workload::Stream { piece: 16 } => write!(f, "drip"),
             Workload::Stream { .. } => write!(f, "stream64k"),
+            Workload::Connect { names } => write!(f, "connectaccept {names}"),
             Workload::Cycle => write!(f, "cycle"),
             Workload::Chain { sockets } => write!(f, "chain{sockets}"),
         }
@@ -58,6 +62,7 @@ impl Workload {
             Workload::PingPong => 3,
             Workload::DeepQueue => 64 + 64 * 5,
             Workload::Stream { piece } => pieces(*piece).saturating_add(1),
+            Workload::Connect { .. } => 5,
             Workload::Cycle => 64 * 5 + 1,
             Workload::Chain { sockets } => *sockets,
         }
@@ -105,7 +110,11 @@ impl Workload {
                 done(engine, &PAIR)?;
                 open_numbers(engine, 4)
             }
-            Workload::Stream { .. } => done(engine, &STREAM).map(|_| ()),
+            Workload::Stream { .. } => done(engine, &STREAM),
+            Workload::Connect { names } => {
+                bind_elsewhere(engine, alloc, names.saturating_sub(1))?;
+                listener(engine, alloc)
+            }
             Workload::Cycle => Some(()),
             Workload::Chain { sockets } => chain(engine, alloc, *sockets),
         }
@@ -123,6 +132,7 @@ impl Workload {
             }
             Workload::DeepQueue => deep_queue(alloc),
             Workload::Stream { piece } => stream(alloc, *piece),
+            Workload::Connect { .. } => connect(alloc),
             Workload::Cycle => cycle(alloc),
             Workload::Chain { sockets } => vec![in alloc; close(end_of(*sockets))].ok(),
         }
@@ -163,6 +173,23 @@ fn stream(alloc: Global, piece: u32) -> Option<Vec<Event>> {
     Some(events)
 }
 
+/// A socket that connects, its other end, and both closed. Nothing, where memory is refused.
+fn connect(alloc: Global) -> Option<Vec<Event>> {
+    let step = Step::Connect {
+        on: Fd(1),
+        name: Items::of(b"hub".to_vec(alloc).ok()?),
+    };
+    let accept = Event::Proc(FIRST, Step::Accept(Fd(0)));
+    vec![in alloc;
+        SOCKET,
+        Event::Proc(FIRST, step),
+        accept,
+        close(1),
+        close(2),
+    ]
+    .ok()
+}
+
 /// 64 pairs, each socket in its own queue and closed, and a pass. Nothing, where memory is refused.
 fn cycle(alloc: Global) -> Option<Vec<Event>> {
     let mut events = Vec::new(alloc);
@@ -189,6 +216,8 @@ const SPAWN: Event = Event::Spawn {
 const OPEN: Event = Event::Proc(FIRST, Step::Open);
 
 const PAIR: Event = Event::Proc(FIRST, Step::Pair(SockType::Seqpacket));
+
+const SOCKET: Event = Event::Proc(FIRST, Step::Socket(SockType::Seqpacket));
 
 const STREAM: Event = Event::Proc(FIRST, Step::Pair(SockType::Stream));
 
@@ -228,10 +257,10 @@ fn send_bytes(on: u32, bytes: Vec<u8>, attached: Vec<Fd>) -> Event {
 }
 
 /// Does an event. Nothing, where it is refused.
-fn done(engine: &mut Engine, event: &Event) -> Option<Reply> {
+fn done(engine: &mut Engine, event: &Event) -> Option<()> {
     match engine.step(event) {
         Reply::Refused(_) => None,
-        reply => Some(reply),
+        _ => Some(()),
     }
 }
 
@@ -250,6 +279,40 @@ fn open_elsewhere(engine: &mut Engine, files: u32) -> Option<()> {
             done(engine, &SPAWN)?;
         }
         done(engine, &Event::Proc(Pid(2 + k / 1_000), Step::Open))?;
+    }
+    Some(())
+}
+
+/// A socket of this name, at a number of a process. Nothing, where an event is refused.
+fn named(engine: &mut Engine, pid: Pid, on: Fd, name: Vec<u8>) -> Option<()> {
+    done(engine, &Event::Proc(pid, Step::Socket(SockType::Seqpacket)))?;
+    let step = Step::Bind {
+        on,
+        name: Items::of(name),
+    };
+    done(engine, &Event::Proc(pid, step))
+}
+
+/// A listener of the first process, at 0. Nothing, where an event is refused.
+fn listener(engine: &mut Engine, alloc: Global) -> Option<()> {
+    named(engine, FIRST, Fd(0), b"hub".to_vec(alloc).ok()?)?;
+    let step = Step::Listen {
+        on: Fd(0),
+        backlog: 16,
+    };
+    done(engine, &Event::Proc(FIRST, step))
+}
+
+/// So many names more, of sockets that other processes hold. Nothing, where one is refused.
+fn bind_elsewhere(engine: &mut Engine, alloc: Global, names: u32) -> Option<()> {
+    for k in 0..names {
+        if k % 1_000 == 0 {
+            done(engine, &SPAWN)?;
+        }
+        let mut name = String::new(alloc);
+        write!(name, "name-{k}").ok()?;
+        let (pid, on) = (Pid(2 + k / 1_000), Fd(k % 1_000));
+        named(engine, pid, on, name.into_bytes())?;
     }
     Some(())
 }
@@ -303,18 +366,30 @@ pub struct Round {
 }
 
 impl Round {
-    /// Does the events once; a child that was forked ends at once. Nothing, where one is refused.
+    /// Does the events once. Nothing, where one is refused.
     pub fn go(&mut self) -> Option<()> {
         if let Some(leap) = &mut self.leap {
             let (pid, fd) = leap.next();
-            done(&mut self.engine, &Event::Proc(pid, Step::Close(fd)))?;
-            done(&mut self.engine, &Event::Proc(pid, Step::Open))?;
+            open_again(&mut self.engine, pid, fd)?;
         }
         for event in &self.events {
-            if let Reply::Pid(child) = done(&mut self.engine, event)? {
-                done(&mut self.engine, &Event::Proc(child, Step::Exit))?;
-            }
+            done_to_its_end(&mut self.engine, event)?;
         }
         Some(())
+    }
+}
+
+/// The process closes the number and opens another file. Nothing, where an event is refused.
+fn open_again(engine: &mut Engine, pid: Pid, fd: Fd) -> Option<()> {
+    done(engine, &Event::Proc(pid, Step::Close(fd)))?;
+    done(engine, &Event::Proc(pid, Step::Open))
+}
+
+/// Does an event; a child that was forked ends at once. Nothing, where one is refused.
+fn done_to_its_end(engine: &mut Engine, event: &Event) -> Option<()> {
+    match engine.step(event) {
+        Reply::Refused(_) => None,
+        Reply::Pid(child) => done(engine, &Event::Proc(child, Step::Exit)),
+        _ => Some(()),
     }
 }

@@ -1,23 +1,6 @@
-pub mod Sheds
-pub mod Recounts
-pub mod Bounds
-pub mod Agreement
-pub mod Exact
-pub mod Shedding
-pub mod Dropped
-pub mod Taken
-pub mod Emptying
+-- Lemmas.
+pub mod Known
 pub mod Marking
-pub mod Walking
+pub mod Sweeping
 pub mod Tabled
-pub mod Unmarked
-pub mod Listed
-pub mod Putting
-pub mod Receiving
-pub mod Filling
-pub mod Joined
-pub mod Losing
-pub mod Holding
-pub mod Altered
-pub mod Connecting
-pub mod Accepting
+pub mod Walking

@@ -1,97 +1,115 @@
--- A walk from the tables on, step by step, and what is marked when nothing waits any more.
-use Rattle.std.proofs.Common.{◌≡◌, ℕ, ◌+◌, ◌*◌, ◌-◌, ◌≤◌, ◌<◌, true, inl, inr, [], ◌∷◌, ◌++◌, length, sym, ap, ◌∙◌, subst, arith, length-append}
-use Rattle.std.specs.List.{Contains, list_any}
-use Rattle.std.specs.List.Sorted.{IsStrictlySortedBy}
-use Rattle.std.specs.Ordering.{nat_cmp, eq_by_cmp}
-use Rattle.std.specs.Cmp.{eq_by_cmp_equiv, nat_cmp_total}
-use Rattle.std.specs.Map.{keys_of}
+-- A walk from the tables on, step by step, and what is marked when nothing is left to scan.
+use Rattle.std.proofs.Common.{◌≡◌, ℕ, ◌+◌, ◌<◌, Bool, true, false, ◌⊎◌, inl, inr, refl, sym, ap, ◌∙◌, subst, cond, nat_eq, arith}
+use Rattle.std.specs.Prelude.{Option, Some, None, is_some, ◌↔◌}
 use Rattle.std.specs.FinMap as map
-use Rattle.std.proofs.lemmas.Bool.{false≢true}
-use Rattle.std.proofs.lemmas.List.Elements.{Contains-append_left, Contains-append_right, Contains-append_cases}
-use Rattle.std.proofs.lemmas.Map.Entries.{length-keys_of}
-use Rattle.std.proofs.lemmas.Map.Keys.{IsDistinct-from_sorted}
-use Rattle.std.proofs.lemmas.Map.Made.{length-le_from_is_member}
+use Rattle.std.specs.Option.{option_map_or}
+use Rattle.std.proofs.lemmas.Bool.{cases_Bool, eqb-true, false≢true}
 use Rattle.af_base.specs.World.{IsLive, World}
 use Rattle.af_base.specs.Places.{Holds, InTable}
 use Rattle.af_base.specs.Reached.{BySocket, ByTable, Reached}
 use Rattle.af_base.specs.Whole.{IsWhole}
-use Rattle.af_base.proofs.Elements.{Contains-first, Contains-none}
-use Rattle.af_collect.specs.Marking.{AreReached, IsWalk, Marked, Marks, NoFile, is_marked}
-use Rattle.af_collect.proofs.Marking.{first_or_later}
+use Rattle.af_base.proofs.Sums.{total-insert}
+use Rattle.af_mark.specs.Marked.{Marked, blackened, is_grey, is_grey_color, is_mark, is_marked, knows}
+use Rattle.af_mark.specs.declared.color.Color.{Color}
+use Rattle.af_mark.specs.declared.color.Color.TheVariants.{Black, Grey, White}
+use Rattle.af_collect.specs.Known.{AreKnown}
+use Rattle.af_collect.specs.Marking.{Adds, CanMark, IsWalk, NoFile, left_to_scan, unscanned}
+use Rattle.af_collect.proofs.Marking.{seen_put, there_put}
 
--- A reached file is live, in a whole world.
-pub reached-live : (w : World) → IsWhole w → (f : ℕ) → Reached w f → IsLive w f
-reached-live w k _ (ByTable f t) = k.tables_live f t
-reached-live w k _ (BySocket s f r h) = k.queues_live s f h
+-- A live file can be marked where the marks know the live files, which are below the bound.
+pub can_live : (w : World) (m : Marked) (f : ℕ) → AreKnown w m → ((g : ℕ) → IsLive w g → g < m.bound) → IsLive w f → CanMark m f
+can_live w m f known below live = (known.known f ∙ live, below f live)
+
+-- The marks know the live files still.
+known_adds : (w : World) (P : ℕ → Type 0) (old now : Marked) → Adds P NoFile old now → AreKnown w old → AreKnown w now
+known_adds w P old now h k = record { known = λ f. h.known f ∙ k.known f; born = let low = k.born in omega (arith, low, h.last) }
+
+-- What is grey is marked.
+grey_marked : (m : Marked) (f : ℕ) → is_grey m f ≡ true → is_marked m f ≡ true
+grey_marked m f = by (map.get m.colors f) where
+  by : (o : Option Color) → option_map_or is_grey_color o false ≡ true → option_map_or is_mark o false ≡ true
+  by None e = absurd (false≢true e)
+  by (Some White) e = absurd (false≢true e)
+  by (Some Grey) e = refl
+  by (Some Black) e = refl
+
+-- And known, and not scanned.
+grey_known : (m : Marked) (f : ℕ) → is_grey m f ≡ true → knows m f ≡ true
+grey_known m f = by (map.get m.colors f) where
+  by : (o : Option Color) → option_map_or is_grey_color o false ≡ true → is_some o ≡ true
+  by None e = absurd (false≢true e)
+  by (Some c) e = refl
+
+grey_unscanned : (m : Marked) (f : ℕ) → is_grey m f ≡ true → option_map_or unscanned (map.get m.colors f) 0 ≡ 1
+grey_unscanned m f = by (map.get m.colors f) where
+  by : (o : Option Color) → option_map_or is_grey_color o false ≡ true → option_map_or unscanned o 0 ≡ 1
+  by None e = absurd (false≢true e)
+  by (Some White) e = absurd (false≢true e)
+  by (Some Grey) e = refl
+  by (Some Black) e = absurd (false≢true e)
 
 -- A walk begins with what tables hold.
-pub walk-begin : (w : World) (m : Marks) → Marked (InTable w) NoFile (record { marked = []; waiting = [] }) m → IsWalk w m
-unfolding IsStrictlySortedBy
-walk-begin w m h = record {
-  rising = h.rising tt;
-  reached = λ f e. elim (h.only f e) [ inl d ↦ absurd (false≢true d) | inr t ↦ ByTable f t ];
-  waiting = λ f c. elim (h.waiting_only f c) [ inl n ↦ absurd (Contains-none f n) | inr e ↦ e ];
+pub walk_begin : (w : World) (old m : Marked) → ((f : ℕ) → is_marked old f ≡ false) → AreKnown w old → ((f : ℕ) → IsLive w f → f < old.bound) → Adds (InTable w) NoFile old m → IsWalk w m
+walk_begin w old m none known below h = record {
+  reached = λ f e. elim (h.only f e) [ inl d ↦ absurd (false≢true (sym (none f) ∙ d)) | inr t ↦ ByTable f t ];
   tables = λ f t. elim (h.has f t) [ inl e ↦ e | inr n ↦ absurd n ];
-  closed = λ s f e _. elim (h.waiting_new s e) [ inl d ↦ absurd (false≢true d) | inr c ↦ inl c ];
+  closed = λ s f e _. elim (h.grey_new s e) [ inl d ↦ absurd (false≢true (sym (none s) ∙ d)) | inr c ↦ inl c ];
+  known = known_adds w (InTable w) old m h known;
+  below = λ f live. let low = below f live in omega (arith, low, h.bound);
 }
 
--- A walk goes on with what one of those that wait holds.
-pub walk-next : (w : World) (old popped now : Marks) (s : ℕ) → IsWalk w old → old.waiting ≡ popped.waiting ++ s ∷ [] → popped.marked ≡ old.marked → Marked (Holds w s) NoFile popped now → IsWalk w now
-walk-next w old popped now s k waits marks h = record {
-  rising = h.rising (subst (IsStrictlySortedBy nat_cmp) (sym marks) k.rising);
-  reached = λ f e. elim (h.only f e) [ inl d ↦ k.reached f (before f d) | inr p ↦ BySocket s f (k.reached s here) p ];
-  waiting = λ f c. elim (h.waiting_only f c) [
-    | inl d ↦ h.kept f (after f (k.waiting f (subst (λ xs. Contains xs f) (sym waits) (Contains-append_left popped.waiting (s ∷ []) f d))))
-    | inr e ↦ e
-  ];
-  tables = λ f t. h.kept f (after f (k.tables f t));
-  closed = λ q f e p. elim (h.waiting_new q e) [
-    | inl d ↦ elim (k.closed q f (before q d) p) [
-      | inl c ↦ elim (Contains-append_cases popped.waiting (s ∷ []) q (subst (λ xs. Contains xs q) waits c)) [
-        | inl x ↦ inl (h.waiting_kept q x)
-        | inr x ↦ elim (first_or_later s [] q x) [
-          | inl same ↦ elim (h.has f (subst (λ z. Holds w z f) same p)) [ inl e ↦ inr e | inr n ↦ absurd n ]
-          | inr n ↦ absurd (Contains-none q n)
-        ]
+module _ (w : World) (old m : Marked) (s : ℕ) (k : IsWalk w old) (grey : is_grey old s ≡ true) (h : Adds (Holds w s) NoFile old m) where
+  abbrev pub now : Marked
+  now = record m { colors = map.insert m.colors s Black }
+
+  still : is_grey m s ≡ true
+  still = h.grey_kept s grey
+
+  -- It is grey still, so it is scanned.
+  pub is_now : blackened s m ≡ now
+  is_now = ap (λ b. cond b (record m { colors = map.insert m.colors s Black }) m) still
+
+  marks : (f : ℕ) → is_marked now f ≡ is_marked m f
+  marks f = seen_put is_mark m.colors s Black f ∙ by (nat_eq f s) refl where
+    by : (b : Bool) → nat_eq f s ≡ b → cond b true (is_marked m f) ≡ is_marked m f
+    by true e = sym (ap (is_marked m) (eqb-true f s e) ∙ grey_marked m s still)
+    by false e = refl
+
+  greys : (f : ℕ) → is_grey now f ≡ cond (nat_eq f s) false (is_grey m f)
+  greys f = seen_put is_grey_color m.colors s Black f
+
+  grey_other : (q : ℕ) → nat_eq q s ≡ false → is_grey m q ≡ true → is_grey now q ≡ true
+  grey_other q e d = greys q ∙ ap (λ b. cond b false (is_grey m q)) e ∙ d
+
+  closed : (q f : ℕ) → is_marked now q ≡ true → Holds w q f → (is_grey now q ≡ true) ⊎ (is_marked now f ≡ true)
+  closed q f e p = elim (cases_Bool (nat_eq q s)) [
+    | inl same ↦ elim (h.has f (subst (λ z. Holds w z f) (eqb-true q s same) p)) [ inl d ↦ inr (marks f ∙ d) | inr n ↦ absurd n ]
+    | inr apart ↦ elim (h.grey_new q (sym (marks q) ∙ e)) [
+      | inl d ↦ elim (k.closed q f d p) [
+        | inl c ↦ inl (grey_other q apart (h.grey_kept q c))
+        | inr c ↦ inr (marks f ∙ h.kept f c)
       ]
-      | inr m ↦ inr (h.kept f (after f m))
+      | inr c ↦ inl (grey_other q apart c)
     ]
-    | inr c ↦ inl c
-  ];
-} where
-  same : (f : ℕ) → is_marked popped f ≡ is_marked old f
-  same f = ap (λ xs. list_any (eq_by_cmp nat_cmp f) xs) marks
+  ]
 
-  before : (f : ℕ) → is_marked popped f ≡ true → is_marked old f ≡ true
-  before f e = sym (same f) ∙ e
+  -- A walk goes on with what one grey file holds, which is scanned then.
+  pub walk_next : IsWalk w now
+  walk_next = record {
+    reached = λ f e. elim (h.only f (sym (marks f) ∙ e)) [ inl d ↦ k.reached f d | inr p ↦ BySocket s f (k.reached s (grey_marked old s grey)) p ];
+    tables = λ f t. marks f ∙ h.kept f (k.tables f t);
+    closed = closed;
+    known = let before = known_adds w (Holds w s) old m h k.known in record { known = λ f. there_put m.colors s Black f (grey_known m s still) ∙ before.known f; born = before.born };
+    below = λ f live. let low = k.below f live in omega (arith, low, h.bound);
+  }
 
-  after : (f : ℕ) → is_marked old f ≡ true → is_marked popped f ≡ true
-  after f e = same f ∙ e
+  -- One file less is left to scan.
+  pub walk_smaller : left_to_scan now < left_to_scan old
+  walk_smaller = let more = total-insert unscanned m.colors s Black in let was = grey_unscanned m s still in let same = h.left in omega (arith, more, was, same)
 
-  here : is_marked old s ≡ true
-  here = k.waiting s (subst (λ xs. Contains xs s) (sym waits) (Contains-append_right popped.waiting (s ∷ []) s (Contains-first s [])))
-
--- No more files are marked than are live.
-pub walk-few : (w : World) (m : Marks) → IsWhole w → IsWalk w m → length m.marked ≤ map.len w.files
-walk-few w m whole k =
-    let few : length m.marked ≤ length (keys_of (map.entries w.files)) = length-le_from_is_member (eq_by_cmp_equiv nat_cmp_total) m.marked (keys_of (map.entries w.files)) (IsDistinct-from_sorted nat_cmp m.marked k.rising)
-    (λ f e. sym (map.contains_key-keys w.files f) ∙ reached-live w whole f (k.reached f e)) in
-    omega (arith, few, length-keys_of (map.entries w.files), map.len-entries w.files)
-
--- How far a walk is: each step lowers it, since a new mark counts twice, and waits once.
-abbrev pub left_to_do : World → Marks → ℕ
-left_to_do w m = 2 * (map.len w.files - length m.marked) + length m.waiting
-
-pub walk-smaller : (w : World) (old popped now : Marks) (s : ℕ) → IsWhole w → IsWalk w now → old.waiting ≡ popped.waiting ++ s ∷ [] → popped.marked ≡ old.marked → Marked (Holds w s) NoFile popped now → left_to_do w now < left_to_do w old
-walk-smaller w old popped now s whole k waits marks h =
-    omega (arith, walk-few w now whole k, h.more, h.balance, ap length marks, ap length waits, length-append popped.waiting (s ∷ []))
-
--- Where nothing waits, exactly the reached files are marked.
-pub walk-end : (w : World) (m now : Marks) → IsWalk w m → m.waiting ≡ [] → now.marked ≡ m.marked → AreReached w now
-walk-end w m now k none marks = record { each = λ f. (λ e. k.reached f (sym (same f) ∙ e), λ r. same f ∙ all f r) } where
-  same : (f : ℕ) → is_marked now f ≡ is_marked m f
-  same f = ap (λ xs. list_any (eq_by_cmp nat_cmp f) xs) marks
-
+-- Where nothing is left to scan, exactly the reached files are marked.
+pub walk_end : (w : World) (m : Marked) → IsWalk w m → ((f : ℕ) → is_grey m f ≡ false) → (f : ℕ) → (is_marked m f ≡ true) ↔ Reached w f
+walk_end w m k none f = (k.reached f, all f) where
   all : (f : ℕ) → Reached w f → is_marked m f ≡ true
   all _ (ByTable f t) = k.tables f t
-  all _ (BySocket s f r h) = elim (k.closed s f (all s r) h) [ inl c ↦ absurd (Contains-none s (subst (λ xs. Contains xs s) none c)) | inr e ↦ e ]
+  all _ (BySocket s f r h) = elim (k.closed s f (all s r) h) [ inl c ↦ absurd (false≢true (sym (none s) ∙ c)) | inr e ↦ e ]

@@ -1,8 +1,4 @@
--- What a store shows, and when the numbers that it keeps are the recounts.
-pub mod Limits
-pub mod Stored
-pub mod Agreement
-pub mod Marking
+-- What a store shows, what its marks know, and what a pass does.
 pub mod Collecting
-pub mod Receiving
-pub mod Losing
+pub mod Known
+pub mod Marking

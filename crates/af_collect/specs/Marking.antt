@@ -1,60 +1,58 @@
--- A walk over the files from the tables on: what is marked, and what is still to be looked at.
-use Rattle.std.specs.Prelude.{◌≡◌, ◌⊎◌, ◌↔◌, ◌≤◌, ℕ, ◌+◌, Bool, true, false, List, length, filter, not, nat_eq}
-use Rattle.std.specs.List.{list_any, count_by, Contains}
-use Rattle.std.specs.List.Sorted.{IsStrictlySortedBy}
+-- Marks that are added, file by file, from the tables on.
+use Rattle.std.specs.Prelude.{◌≡◌, ◌⊎◌, ◌↔◌, ◌<◌, ℕ, Bool, true, false, not, ◌&&◌, if◌then◌else◌}
 use Rattle.std.specs.Option.{option_map_or}
-use Rattle.std.specs.Ordering.{nat_cmp, eq_by_cmp}
 use Rattle.std.specs.FinMap as map
-use Rattle.af_base.specs.World.{World}
-use Rattle.af_base.specs.Places.{InTable, Holds}
-use Rattle.af_base.specs.Reached.{Reached, Garbage, IsGarbageCount, is_socket}
-
--- The marked files, rising, and those of them that are still to be looked at (this project's profile).
-pub record Marks : Type 0 where
-  pub marked : List ℕ
-  pub waiting : List ℕ
-
--- Whether the file is a socket (unix(7)).
-abbrev pub is_socket_at : World → ℕ → Bool
-is_socket_at w f = option_map_or is_socket (map.get w.files f) false
-
--- Whether the file is marked (this project's profile).
-abbrev pub is_marked : Marks → ℕ → Bool
-is_marked m f = list_any (eq_by_cmp nat_cmp f) m.marked
+use Rattle.af_base.specs.World.{IsLive, World, is_live}
+use Rattle.af_base.specs.Counts.{total_of}
+use Rattle.af_base.specs.Places.{Holds, InTable}
+use Rattle.af_base.specs.Reached.{Reached, is_socket}
+use Rattle.af_mark.specs.Marked.{Marked, is_grey, is_marked, knows}
+use Rattle.af_mark.specs.declared.color.Color.{Color}
+use Rattle.af_mark.specs.declared.color.Color.TheVariants.{Black, Grey, White}
+use Rattle.af_collect.specs.Known.{AreKnown}
 
 -- No file at all (this project's profile).
 abbrev pub NoFile : ℕ → Type 0
 NoFile f = ⊥
 
--- Each file of which P holds is marked now, but for those of which Left holds; besides, just those are marked that were. Each new mark waits to be looked at (this project's profile).
-pub record Marked (P Left : ℕ → Type 0) (old now : Marks) : Type 0 where
+-- The file can be marked: it is known, and was born before the pass (this project's profile).
+abbrev pub CanMark : Marked → ℕ → Type 0
+CanMark m f = (knows m f ≡ true) × (f < m.bound)
+
+-- How many of them are not scanned (this project's profile).
+abbrev pub unscanned : Color → ℕ
+unscanned White = 1
+unscanned Grey = 1
+unscanned Black = 0
+
+-- How many known files are not scanned (this project's profile).
+abbrev pub left_to_scan : Marked → ℕ
+left_to_scan m = total_of unscanned m.colors
+
+-- Each file of which P holds is marked now, but for those of which Left holds; besides, just those are marked that were. Each new mark is grey (this project's profile).
+pub record Adds (P Left : ℕ → Type 0) (old now : Marked) : Type 0 where
   pub kept : (f : ℕ) → is_marked old f ≡ true → is_marked now f ≡ true
   pub has : (f : ℕ) → P f → (is_marked now f ≡ true) ⊎ Left f
   pub only : (f : ℕ) → is_marked now f ≡ true → (is_marked old f ≡ true) ⊎ P f
-  pub waiting_kept : (f : ℕ) → Contains old.waiting f → Contains now.waiting f
-  pub waiting_new : (f : ℕ) → is_marked now f ≡ true → (is_marked old f ≡ true) ⊎ Contains now.waiting f
-  pub waiting_only : (f : ℕ) → Contains now.waiting f → Contains old.waiting f ⊎ (is_marked now f ≡ true)
-  pub more : length old.marked ≤ length now.marked
-  pub rising : IsStrictlySortedBy nat_cmp old.marked → IsStrictlySortedBy nat_cmp now.marked
-  pub balance : length now.waiting + length old.marked ≡ length old.waiting + length now.marked
+  pub grey_kept : (f : ℕ) → is_grey old f ≡ true → is_grey now f ≡ true
+  pub grey_new : (f : ℕ) → is_marked now f ≡ true → (is_marked old f ≡ true) ⊎ (is_grey now f ≡ true)
+  pub known : (f : ℕ) → knows now f ≡ knows old f
+  pub bound : now.bound ≡ old.bound
+  pub last : now.last ≡ old.last
+  pub left : left_to_scan now ≡ left_to_scan old
 
--- A walk in the middle: only reached files are marked, all that tables hold are, and what a marked file holds is, where it was looked at (net/unix/garbage.c: from the reachable ones on).
-pub record IsWalk (w : World) (m : Marks) : Type 0 where
-  pub rising : IsStrictlySortedBy nat_cmp m.marked
+-- A walk in the middle: only reached files are marked, all that tables hold are, and what a marked file holds is, unless it is still to be scanned (net/unix/garbage.c: from the reachable ones on).
+pub record IsWalk (w : World) (m : Marked) : Type 0 where
   pub reached : (f : ℕ) → is_marked m f ≡ true → Reached w f
-  pub waiting : (f : ℕ) → Contains m.waiting f → is_marked m f ≡ true
   pub tables : (f : ℕ) → InTable w f → is_marked m f ≡ true
-  pub closed : (s f : ℕ) → is_marked m s ≡ true → Holds w s f → Contains m.waiting s ⊎ (is_marked m f ≡ true)
+  pub closed : (s f : ℕ) → is_marked m s ≡ true → Holds w s f → (is_grey m s ≡ true) ⊎ (is_marked m f ≡ true)
+  pub known : AreKnown w m
+  pub below : (f : ℕ) → IsLive w f → f < m.bound
 
--- Exactly the reached files are marked (net/unix/garbage.c: what a process can still come to).
-pub record AreReached (w : World) (m : Marks) : Type 0 where
-  pub each : (f : ℕ) → (is_marked m f ≡ true) ↔ Reached w f
+-- Whether the file is live, and not marked (this project's profile).
+abbrev pub is_unmarked : Marked → World → ℕ → Bool
+is_unmarked m w f = is_live w f && not (is_marked m f)
 
--- The live files without a mark, rising (this project's profile).
-abbrev pub unmarked : Marks → World → List ℕ
-unmarked m w = filter (λ f. not (is_marked m f)) (map.keys w.files)
-
--- The list has exactly the garbage, and counts its sockets right: each file of it once (net/unix/garbage.c: the cycles that nobody can receive from).
-pub record AreGarbage (w : World) (fs : List ℕ) : Type 0 where
-  pub each : (f : ℕ) → (list_any (nat_eq f) fs ≡ true) ↔ Garbage w f
-  pub counted : IsGarbageCount w (count_by (is_socket_at w) fs)
+-- Whether the file is a socket (unix(7)).
+abbrev pub is_socket_at : World → ℕ → Bool
+is_socket_at w f = option_map_or is_socket (map.get w.files f) false

@@ -1,139 +1,129 @@
-//! A whole pass of the collector: finds the files that no chain of places leads to from a table,
-//! empties their queues and backlogs, and lets go what no place holds then.
-ghost use Rattle.std.specs.Prelude.{◌≡◌, IfOk, OnOk, OnErr, nat_eq};
-ghost use Rattle.std.specs.List.{count_by, list_any};
+//! A whole pass of the collector: marks the files that a chain of places leads to from a table,
+//! empties the queues and backlogs of all others, and lets go what no place holds then.
+ghost use Rattle.std.specs.Prelude.{◌≡◌, ◌↔◌, ◌&&◌, ℕ, true};
+ghost use Rattle.std.specs.FinMap as map;
+ghost use Rattle.std.specs.List.{Contains, count_by};
+ghost use Rattle.af_base.specs.World.{IsLive};
 ghost use Rattle.af_base.specs.Pass.{emptied};
-ghost use Rattle.af_base.specs.Places.{InTable, Holds};
-ghost use Rattle.af_base.specs.Unheld.{IsSettled};
+ghost use Rattle.af_base.specs.Places.{Holds, InTable};
+ghost use Rattle.af_base.specs.Reached.{Reached, is_socket};
 ghost use Rattle.af_base.specs.Whole.{IsSound};
+ghost use Rattle.af_mark.specs.Marked.{is_marked};
 ghost use Rattle.af_collect.specs.Collecting.{Collects};
-ghost use Rattle.af_collect.specs.Marking.{AreGarbage, AreReached, Marked, NoFile, is_socket_at, unmarked};
+ghost use Rattle.af_collect.specs.Known.{AreKnown};
+ghost use Rattle.af_collect.specs.Marking.{Adds, CanMark, IsWalk, NoFile, is_socket_at, is_unmarked};
 
-use crate::marks::Marks;
+use crate::release::release;
 use crate::store::Store;
 use af_base::names::{FileRef, Ino};
-use std::alloc::AllocError;
+use af_hold::Holdings;
+use af_mark::Marks;
 
 impl Store {
-    /// A whole pass over a settled world: all garbage goes, with what nothing but garbage held. It
-    /// answers how many sockets were garbage. On an error nothing has changed.
-    pub fn collect(&mut self) -> Result<u64, AllocError>
-        requires { IsSettled self.old.world }
-        ensures ok { IfOk result (λ n. Collects self.old.world n self.new.world) }
-        ensures sound { OnOk result (IsSound self.new.world) }
-        ensures err { OnErr result (self.new ≡ self.old) }
+    /// A whole pass: all garbage goes, with what nothing but garbage held. It
+    /// answers how many sockets were garbage, and takes no memory.
+    pub fn collect(&mut self) -> u64
+        ensures collects { Collects self.old.world result self.new.world }
+        ensures sound { IsSound self.new.world }
     {
-        let garbage = self.garbage()?;
-        let sockets = self.sockets_among(&garbage);
-        self.empty_all(&garbage);
-        self.release();
-        Ok(sockets)
+        // Live files have numbers below the next one's: that is what a whole world says of them.
+        self.places.is_whole();
+        self.marks.begin(self.places.files().next_ino());
+        mark_tabled(&self.places, &mut self.marks);
+        mark_reached(&self.places, &mut self.marks);
+        let sockets = sweep(&mut self.places, &self.marks);
+        release(&mut self.places, &mut self.marks);
+        sockets
     }
+}
 
-    /// The queues and backlogs of these files are emptied, one after the other.
-    fn empty_all(&mut self, files: &[FileRef])
-        ensures { self.new ≡ record self.old { world = emptied (λ f. list_any (nat_eq f) files.now) self.old.world } }
-    {
-        for file in files {
-            self.empty(file);
+/// Marks all that tables hold: the live files that a number stands for.
+fn mark_tabled(places: &Holdings, marks: &mut Marks)
+    requires { (f : ℕ) → IsLive places.now.world f → CanMark marks.old f }
+    ensures { Adds (InTable places.now.world) NoFile marks.old marks.new }
+{
+    // Tables hold live files: that is what a whole world says of them.
+    places.is_whole();
+    let mut last = Ino(0);
+    while let Some(file) = places.files().next_after(last) {
+        last = file.ino();
+        if places.tabled(&file) == 0 {
+            continue;
+        }
+        marks.shade(&file);
+    }
+}
+
+/// Goes on from what is marked to what that holds, until nothing is left to scan. It looks at each
+/// file once, and goes down a chain of any length without recursion.
+fn mark_reached(places: &Holdings, marks: &mut Marks)
+    requires { IsWalk places.now.world marks.old }
+    ensures reached { (f : ℕ) → (is_marked marks.new f ≡ true) ↔ Reached places.now.world f }
+    ensures known { AreKnown places.now.world marks.new }
+{
+    places.is_whole();
+    while let Some(file) = marks.next_grey() {
+        mark_held(places, &file, marks);
+        marks.scanned(&file);
+    }
+}
+
+/// Marks all that the file holds.
+fn mark_held(places: &Holdings, file: &FileRef, marks: &mut Marks)
+    requires { (f : ℕ) → Holds places.now.world file.now f → CanMark marks.old f }
+    ensures { Adds (Holds places.now.world file.now) NoFile marks.old marks.new }
+{
+    let Some(desc) = places.files().get(file) else {
+        return;
+    };
+    let Some(socket) = desc.socket() else {
+        return;
+    };
+    for message in socket.queue().messages() {
+        mark_all(message.attached(), marks);
+    }
+    let Some(backlog) = socket.backlog() else {
+        return;
+    };
+    for embryo in backlog.files() {
+        marks.shade(embryo);
+    }
+}
+
+/// Marks these files.
+fn mark_all(files: &[FileRef], marks: &mut Marks)
+    requires { (f : ℕ) → Contains files.now f → CanMark marks.old f }
+    ensures { Adds (Contains files.now) NoFile marks.old marks.new }
+{
+    for file in files {
+        marks.shade(file);
+    }
+}
+
+/// Empties each live file without a mark. How many of them are sockets.
+fn sweep(places: &mut Holdings, marks: &Marks) -> u64
+    ensures world { places.new.world ≡ emptied (is_unmarked marks.now places.old.world) places.old.world }
+    ensures rows { places.new.rows ≡ places.old.rows }
+    ensures sockets { result ≡ count_by (λ e. is_socket e.1 && is_unmarked marks.now places.old.world e.0) (map.entries places.old.world.files) }
+{
+    let mut sockets = 0;
+    let mut last = Ino(0);
+    while let Some(file) = places.files().next_after(last) {
+        last = file.ino();
+        if !marks.is_marked(&file) {
+            sockets += u64::from(is_socket(places, &file));
+            places.empty(&file);
         }
     }
+    sockets
+}
 
-    /// All places that a file holds are dropped.
-    fn empty(&mut self, file: &FileRef)
-        ensures { self.new ≡ record self.old { world = emptied (nat_eq file.now) self.old.world } }
-    {
-        while self.drop_place(file) {}
-    }
-
-    /// The live files that no chain of places leads to from a table, rising.
-    fn garbage(&self) -> Result<Vec<FileRef>, AllocError>
-        ensures { IfOk result (λ files. AreGarbage self.now.world files.items) }
-    {
-        let marks = self.reached()?;
-        self.unmarked(&marks)
-    }
-
-    /// The live files without a mark, rising.
-    fn unmarked(&self, marks: &Marks) -> Result<Vec<FileRef>, AllocError>
-        ensures { IfOk result (λ files. files.items ≡ unmarked marks.now self.now.world) }
-    {
-        let mut unmarked = Vec::new(self.alloc);
-        let mut last = Ino(0);
-        while let Some(file) = self.files.next_after(last) {
-            last = file.ino();
-            if marks.is_marked(last) {
-                continue;
-            }
-            unmarked.push(file)?;
-        }
-        Ok(unmarked)
-    }
-
-    /// How many of these files are sockets.
-    fn sockets_among(&self, files: &[FileRef]) -> u64
-        ensures { result ≡ count_by (is_socket_at self.now.world) files.now }
-    {
-        files.iter().filter(|file| self.is_socket(file)).count() as u64
-    }
-
-    /// Whether the file is a socket.
-    fn is_socket(&self, file: &FileRef) -> bool
-        ensures { result ≡ is_socket_at self.now.world file.now }
-    {
-        match self.files.get(file) {
-            Some(desc) => desc.socket().is_some(),
-            None => false,
-        }
-    }
-
-    /// The files that a chain of places leads to from a table. It looks at each of them once, and
-    /// goes down a chain of any length without recursion.
-    fn reached(&self) -> Result<Marks, AllocError>
-        ensures { IfOk result (AreReached self.now.world) }
-    {
-        let mut marks = Marks::new(self.alloc);
-        self.mark_tabled(&mut marks)?;
-        while let Some(file) = marks.next() {
-            self.mark_held(&file, &mut marks)?;
-        }
-        Ok(marks)
-    }
-
-    /// Marks all that tables hold: the live files that a number stands for.
-    fn mark_tabled(&self, marks: &mut Marks) -> Result<(), AllocError>
-        ensures { OnOk result (Marked (InTable self.now.world) NoFile marks.old marks.new) }
-    {
-        let mut last = Ino(0);
-        while let Some(file) = self.files.next_after(last) {
-            last = file.ino();
-            if self.ledger.tabled(&file) == 0 {
-                continue;
-            }
-            marks.mark(&file)?;
-        }
-        Ok(())
-    }
-
-    /// Marks all that the file holds.
-    fn mark_held(&self, file: &FileRef, marks: &mut Marks) -> Result<(), AllocError>
-        ensures { OnOk result (Marked (Holds self.now.world file.now) NoFile marks.old marks.new) }
-    {
-        let Some(desc) = self.files.get(file) else {
-            return Ok(());
-        };
-        let Some(socket) = desc.socket() else {
-            return Ok(());
-        };
-        for message in socket.queue().messages() {
-            marks.mark_all(message.attached())?;
-        }
-        let Some(backlog) = socket.backlog() else {
-            return Ok(());
-        };
-        for embryo in backlog.files() {
-            marks.mark(embryo)?;
-        }
-        Ok(())
+/// Whether the file is a socket.
+fn is_socket(places: &Holdings, file: &FileRef) -> bool
+    ensures { result ≡ is_socket_at places.now.world file.now }
+{
+    match places.files().get(file) {
+        Some(desc) => desc.socket().is_some(),
+        None => false,
     }
 }

@@ -1,14 +1,12 @@
 //! What nothing holds goes, with all that follows: without recursion, and without memory.
-ghost use Rattle.std.specs.Prelude.{◌≡◌, ◌<◌, ℕ, [], IfSome, IfNone, nat_eq};
-ghost use Rattle.af_base.specs.World.{IsLive, World};
-ghost use Rattle.af_base.specs.Counts.{refs};
-ghost use Rattle.af_base.specs.Places.{held_by, queue_at};
-ghost use Rattle.af_base.specs.Unheld.{Settles, without};
-ghost use Rattle.af_base.specs.Whole.{AreMutual, IsSound};
+ghost use Rattle.std.specs.Prelude.{◌≡◌};
+ghost use Rattle.af_base.specs.Unheld.{Settles};
+ghost use Rattle.af_base.specs.Whole.{IsSound};
+ghost use Rattle.af_collect.specs.Known.{AreKnown};
 
 use crate::store::Store;
-use af_base::names::FileRef;
-use af_desc::Files;
+use af_hold::Holdings;
+use af_mark::Marks;
 
 impl Store {
     /// Takes away what nothing holds, one file after another: each place that it held is dropped, its
@@ -18,48 +16,22 @@ impl Store {
         ensures sound { IsSound self.new.world }
         ensures rows { self.new.rows ≡ self.old.rows }
     {
-        while let Some(file) = self.next_waiting() {
-            if !self.drop_place(&file) {
-                self.take_away(&file);
-            }
-        }
-    }
-
-    /// A live file that no place holds, if there is one.
-    fn next_waiting(&self) -> Option<FileRef>
-        ensures live { IfSome result (λ f. IsLive self.now.world f) }
-        ensures unheld { IfSome result (λ f. refs self.now.world f ≡ 0) }
-        ensures none { IfNone result (IsSound self.now.world) }
-    {
-        self.ledger.next_waiting()
-    }
-
-    /// A file that no place holds, and that holds nothing itself, goes, and its peer hangs up.
-    fn take_away(&mut self, file: &FileRef)
-        requires live { IsLive self.old.world file.now }
-        requires unheld { refs self.old.world file.now ≡ 0 }
-        requires bare { held_by self.old.world file.now ≡ [] }
-        requires silent { queue_at self.old.world file.now ≡ [] }
-        ensures { self.new ≡ record self.old { world = without (nat_eq file.now) self.old.world } }
-    {
-        remove(&mut self.files, file);
-        self.ledger.strike_out(file);
+        release(&mut self.places, &mut self.marks);
     }
 }
 
-/// A file goes, and its peer hangs up.
-fn remove(files: &mut Files, file: &FileRef)
-    ensures gone { (w : World) → w.files ≡ files.old.files → AreMutual w → record w { files = files.new.files } ≡ without (nat_eq file.now) w }
-    ensures next { files.new.next ≡ files.old.next }
+/// What no place holds goes, with all that follows, and its marks with it.
+pub fn release(places: &mut Holdings, marks: &mut Marks)
+    requires { AreKnown places.old.world marks.old }
+    ensures settles { Settles places.old.world places.new.world }
+    ensures sound { IsSound places.new.world }
+    ensures rows { places.new.rows ≡ places.old.rows }
+    ensures known { AreKnown places.new.world marks.new }
 {
-    let Some(desc) = files.remove(file) else {
-        return;
-    };
-    let Some(socket) = desc.socket() else {
-        return;
-    };
-    let Some(peer) = socket.peer() else {
-        return;
-    };
-    files.hang_up(&peer);
+    while let Some(file) = places.next_waiting() {
+        if !places.drop_place(&file) {
+            places.take_away(&file);
+            marks.forget(&file);
+        }
+    }
 }

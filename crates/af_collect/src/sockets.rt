@@ -9,15 +9,14 @@ ghost use Rattle.af_base.specs.Changes.{add_file, bound, connected, dequeued, in
 ghost use Rattle.af_base.specs.Counts.{waiting};
 ghost use Rattle.af_base.specs.Refusals.{is_full, room_of, socket_at};
 ghost use Rattle.af_base.specs.Steps.{connected_socket, idle_socket};
-ghost use Rattle.af_collect.specs.Limits.{IsBelowLimit};
-ghost use Rattle.af_collect.specs.Stored.{row_at};
+ghost use Rattle.af_hold.specs.Limits.{IsBelowLimit};
+ghost use Rattle.af_hold.specs.Stored.{row_at};
 
 use crate::store::Store;
 use af_base::events::{SockType, State};
 use af_base::items::Items;
 use af_base::limits::MAX_BACKLOG;
 use af_base::names::{Fd, FileRef, Pid};
-use af_ledger::Place;
 use std::alloc::AllocError;
 
 impl Store {
@@ -29,9 +28,9 @@ impl Store {
         ensures ino { IfOk result (λ ino. ino ≡ self.old.world.next_ino) }
         ensures err { OnErr result (self.new ≡ self.old) }
     {
-        self.ledger.reserve(1)?;
-        let file = self.files.make_sock(kind)?;
-        self.ledger.enter(file.ino());
+        self.marks.reserve(1)?;
+        let file = self.places.make_sock(kind)?;
+        self.marks.born(file.ino());
         Ok(file)
     }
 
@@ -45,9 +44,9 @@ impl Store {
         ensures ino { IfOk result (λ ino. ino ≡ self.old.world.next_ino) }
         ensures err { OnErr result (self.new ≡ self.old) }
     {
-        self.ledger.reserve(1)?;
-        let embryo = self.files.make_embryo(kind, client)?;
-        self.ledger.enter(embryo.ino());
+        self.marks.reserve(1)?;
+        let embryo = self.places.make_embryo(kind, client)?;
+        self.marks.born(embryo.ino());
         Ok(embryo)
     }
 
@@ -60,7 +59,7 @@ impl Store {
         ensures ok { OnOk result (self.new ≡ record self.old { world = with_socket self.old.world socket.now (bound name.now) }) }
         ensures err { OnErr result (self.new ≡ self.old) }
     {
-        self.files.bind(socket, name)
+        self.places.bind(socket, name)
     }
 
     /// A socket that has a name and was never connected waits for connections from now on, so many
@@ -72,7 +71,7 @@ impl Store {
         ensures ok { OnOk result (self.new ≡ record self.old { world = with_socket self.old.world socket.now (listening most) }) }
         ensures err { OnErr result (self.new ≡ self.old) }
     {
-        self.files.listen(socket, most)
+        self.places.listen(socket, most)
     }
 
     /// An embryo into the backlog of a listener that has room for it, last. It takes no memory.
@@ -83,8 +82,7 @@ impl Store {
         requires socket { is_none (socket_at self.old.world listener.now) ≡ false }
         ensures { self.new ≡ record self.old { world = with_socket self.old.world listener.now (queued embryo) } }
     {
-        self.ledger.hold(Place::Backlog, &embryo);
-        self.files.enqueue(listener, embryo);
+        self.places.put_embryo(listener, embryo);
     }
 
     /// The first embryo of a listener out of its backlog and into a table, at a free number for which
@@ -97,10 +95,6 @@ impl Store {
         requires some { 0 < length (backlog_at self.old.world listener.now) }
         ensures { (embryo : ℕ) → slice_get (backlog_at self.old.world listener.now) 0 ≡ Some embryo → self.new ≡ record self.old { world = install (with_socket self.old.world listener.now dequeued) pid fd embryo } }
     {
-        let embryo = self.files.dequeue(listener).unwrap();
-        // Into the table first, so that it does not wait in between.
-        self.ledger.hold(Place::Table, &embryo);
-        self.ledger.drop_one(Place::Backlog, &embryo);
-        self.procs.install(pid, fd, embryo);
+        self.places.take_embryo(listener, pid, fd);
     }
 }

@@ -1,45 +1,41 @@
-//! All that is there: the processes, the files, and the numbers that are kept of them.
+//! All that is there, and beside it which files a pass has marked.
 ghost use Rattle.std.specs.Prelude.{◌≡◌, ◌<◌, ◌≤◌, ◌+◌, ℕ, false, None, Some, IsTrue, IsOk, IfOk, OnOk, OnErr};
 ghost use Rattle.std.specs.FinMap as map;
 ghost use Rattle.af_base.specs.World.{Plain, empty_world};
 ghost use Rattle.af_base.specs.Changes.{add_file, add_process, remove_process};
-ghost use Rattle.af_base.specs.Places.{table_at};
 ghost use Rattle.af_base.specs.Refusals.{is_full, is_crowded, process_at};
 ghost use Rattle.af_base.specs.Steps.{spawned, with_pair};
-ghost use Rattle.af_collect.specs.Stored.{row_at};
+ghost use Rattle.af_hold.specs.Stored.{row_at};
 
-use crate::numbers::{drop_numbers, hold_numbers};
 use af_base::events::SockType;
-use af_base::limits::{MAX_NOFILE, MAX_PID, MAX_PROCESSES};
+use af_base::limits::MAX_NOFILE;
 use af_base::names::{FileRef, Pid, Uid};
-use af_desc::Files;
-use af_ledger::Ledger;
-use af_table::Procs;
+use af_hold::Holdings;
+use af_mark::Marks;
 use std::alloc::{AllocError, Global};
 use std::marker::Model;
 
-/// The processes with their tables, the files, and how many places hold each file.
+/// The processes with their tables, the files, how many places hold each file, and the marks of a
+/// pass.
 #[derive(Drop)]
 pub struct Store {
-    pub(crate) alloc: Global,
-    pub(crate) procs: Procs,
-    pub(crate) files: Files,
-    pub(crate) ledger: Ledger,
+    pub(crate) places: Holdings,
+    pub(crate) marks: Marks,
 }
 
 impl Model for Store {
     ghost use Rattle.std.specs.FinMap as map;
     ghost use Rattle.std.specs.Coded.{codes};
-    ghost use Rattle.af_collect.specs.Stored.{Stored, world_of};
-    ghost use Rattle.af_collect.specs.Agreement.{IsExact};
+    ghost use Rattle.af_hold.specs.Stored.{Stored};
+    ghost use Rattle.af_collect.specs.Known.{AreKnown};
 
     ghost Value = { Stored };
 
     ghost coded = { Prim.hlevel (codes, map.code) };
 
-    ghost view = { λ a. record { world = world_of a.procs a.files a.ledger; rows = a.procs.rows } };
+    ghost view = { λ a. a.places };
 
-    ghost invariant = { λ a. IsExact (world_of a.procs a.files a.ledger) a.ledger };
+    ghost invariant = { λ a. AreKnown a.places.world a.marks };
 }
 
 impl Store {
@@ -48,10 +44,8 @@ impl Store {
         ensures { result.world ≡ empty_world }
     {
         Store {
-            alloc,
-            procs: Procs::new(alloc),
-            files: Files::new(alloc),
-            ledger: Ledger::new(alloc),
+            places: Holdings::new(alloc),
+            marks: Marks::new(alloc),
         }
     }
 
@@ -63,9 +57,7 @@ impl Store {
         ensures pid { IfOk result (λ pid. pid ≡ self.old.world.next_pid) }
         ensures err { OnErr result (self.new ≡ self.old) }
     {
-        self.procs.room_to_spawn()?;
-        self.ledger.add_user(uid)?;
-        Ok(self.procs.spawn(uid, limit, privileged))
+        self.places.spawn(uid, limit, privileged)
     }
 
     /// Room to take so many numbers of the process into use. Where its row is as long as its limit,
@@ -76,7 +68,7 @@ impl Store {
         ensures none { count ≡ 0 → IsOk result }
         ensures ready { (process_at self.old.world pid).limit ≤ row_at self.old pid → IsOk result }
     {
-        self.procs.room_for(pid, count)
+        self.places.room_for(pid, count)
     }
 
     /// A plain file more, which waits for its first place: without one, `release` takes it away. On
@@ -87,9 +79,9 @@ impl Store {
         ensures ino { IfOk result (λ ino. ino ≡ self.old.world.next_ino) }
         ensures err { OnErr result (self.new ≡ self.old) }
     {
-        self.ledger.reserve(1)?;
-        let file = self.files.make_plain()?;
-        self.ledger.enter(file.ino());
+        self.marks.reserve(1)?;
+        let file = self.places.make_plain()?;
+        self.marks.born(file.ino());
         Ok(file)
     }
 
@@ -101,10 +93,10 @@ impl Store {
         ensures inos { IfOk result (λ both. (both.0 ≡ self.old.world.next_ino) × (both.1 ≡ self.old.world.next_ino + 1)) }
         ensures err { OnErr result (self.new ≡ self.old) }
     {
-        self.ledger.reserve(2)?;
-        let (first, second) = self.files.make_two(kind)?;
-        self.ledger.enter(first.ino());
-        self.ledger.enter(second.ino());
+        self.marks.reserve(2)?;
+        let (first, second) = self.places.make_two(kind)?;
+        self.marks.born(first.ino());
+        self.marks.born(second.ino());
         Ok((first, second))
     }
 
@@ -117,25 +109,20 @@ impl Store {
         ensures pid { IfOk result (λ child. child ≡ self.old.world.next_pid) }
         ensures err { OnErr result (self.new ≡ self.old) }
     {
-        let child = self.procs.copy_for_fork(pid)?;
-        hold_numbers(&mut self.ledger, &child);
-        Ok(self.procs.add(child))
+        self.places.copy_for_fork(pid)
     }
 
     /// A process goes, and all its numbers are free. It takes no memory.
     pub fn remove_process(&mut self, pid: Pid)
         ensures { self.new.world ≡ remove_process self.old.world pid }
     {
-        let Some(process) = self.procs.remove(pid) else {
-            return;
-        };
-        drop_numbers(&mut self.ledger, &process);
+        self.places.remove_process(pid);
     }
 
     /// Whether there can be no further process.
     pub fn is_crowded(&self) -> bool
         ensures { result ≡ is_crowded self.now.world }
     {
-        self.procs.count() >= MAX_PROCESSES || self.procs.next_pid().0 > MAX_PID
+        self.places.is_crowded()
     }
 }

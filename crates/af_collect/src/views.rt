@@ -1,13 +1,16 @@
-//! The parts of a store, lent for reading, and the numbers that it keeps. None takes memory.
-ghost use Rattle.std.specs.Prelude.{◌≡◌, IfErr, None, OnOk, Some, length, slice_get};
+//! The parts, lent for reading, and the numbers that are kept. None takes memory.
+ghost use Rattle.std.specs.Prelude.{◌≡◌, IfErr, IfOk, None, OnOk, Some, length, slice_get};
+ghost use Rattle.af_base.specs.Bare.{bare};
 ghost use Rattle.af_base.specs.Counts.{charged, inflight, refs, total};
 ghost use Rattle.af_base.specs.Refusals.{first_fit, send_row};
 
 use crate::store::Store;
 use af_base::errno::Errno;
+use af_base::listing::Listing;
 use af_base::names::{Ino, Uid};
 use af_desc::Files;
 use af_table::Procs;
+use std::alloc::AllocError;
 
 impl Store {
     /// The processes with their tables.
@@ -16,7 +19,7 @@ impl Store {
         ensures next { result.now.next_pid ≡ self.now.world.next_pid }
         ensures rows { result.now.rows ≡ self.now.rows }
     {
-        &self.procs
+        self.places.procs()
     }
 
     /// The files.
@@ -24,49 +27,49 @@ impl Store {
         ensures files { result.now.files ≡ self.now.world.files }
         ensures next { result.now.next ≡ self.now.world.next_ino }
     {
-        &self.files
+        self.places.files()
     }
 
     /// How many places hold the file; none holds a stranger.
     pub fn refs(&self, ino: Ino) -> u64
         ensures { result ≡ refs self.now.world ino }
     {
-        self.ledger.refs(ino)
+        self.places.refs(ino)
     }
 
     /// How many places in queues hold the file.
     pub fn inflight(&self, ino: Ino) -> u64
         ensures { result ≡ inflight self.now.world ino }
     {
-        self.ledger.inflight(ino)
+        self.places.inflight(ino)
     }
 
     /// How many places in queues are charged to the user.
     pub fn charged(&self, user: Uid) -> u64
         ensures { result ≡ charged self.now.world user }
     {
-        self.ledger.charged(user)
+        self.places.charged(user)
     }
 
     /// How many places in queues there are.
     pub fn total(&self) -> u64
         ensures { result ≡ total self.now.world }
     {
-        self.ledger.total()
+        self.places.total()
     }
 
     /// How many users there are: a user stays when its last process is gone.
     pub fn users(&self) -> usize
         ensures { result ≡ length self.now.world.users }
     {
-        self.ledger.users()
+        self.places.users()
     }
 
     /// The i-th user, from 0, in the order of their first process; nothing past the last.
     pub fn user_at(&self, i: usize) -> Option<Uid>
         ensures { result ≡ slice_get self.now.world.users i }
     {
-        self.ledger.user_at(i)
+        self.places.user_at(i)
     }
 
     /// Whether a user may send so many files by a process of this limit and privilege, or why not
@@ -81,6 +84,14 @@ impl Store {
         ensures ok { OnOk result (first_fit (send_row (charged self.now.world uid) (total self.now.world) limit privileged files) ≡ None) }
         ensures err { IfErr result (λ e. first_fit (send_row (charged self.now.world uid) (total self.now.world) limit privileged files) ≡ Some e) }
     {
-        self.ledger.may_send(uid, limit, privileged, files)
+        self.places.may_send(uid, limit, privileged, files)
+    }
+
+    /// Plain lists of the tables, queues and backlogs as they stand, and whom each message is charged
+    /// to; no bytes, states, names or limits. The error says that memory was refused.
+    pub fn listing(&self) -> Result<Listing, AllocError>
+        ensures { IfOk result (λ l. l ≡ bare self.now.world) }
+    {
+        self.places.listing()
     }
 }

@@ -162,7 +162,7 @@ abbrev after : Machine
 after = record { world = collected; pass = Idle; last_pass = 1 }
 
 passes : PassesWhole Idle (machine closed) (reply.Done 1 1) after
-passes = inl (record { test = nat_eq 1; is_garbage = only_one; purged = purged; count = 1; counted = one_counted; answered = refl }, refl, refl)
+passes = (record { test = nat_eq 1; is_garbage = only_one; purged = purged; count = 1; counted = one_counted; answered = refl }, refl, refl)
 
 pub cycle_is_collected : CycleIsCollected
 cycle_is_collected = (machine closed, after, cycle_runs, passes, facts)

@@ -29,7 +29,7 @@ module _ (p q : ℕ → Bool) (weaker : (x : ℕ) → q x ≡ true → p x ≡ t
   not_more (x ∷ xs) = omega (arith, sum_by-cons (λ y. cond {A = ℕ} (q y) 1 0) x xs, sum_by-cons (λ y. cond {A = ℕ} (p y) 1 0) x xs, one_less x, not_more xs)
 
   module _ (f : ℕ) (passes : p f ≡ true) (fails : q f ≡ false) where
-    fewer : (xs : List ℕ) → Contains xs f → count_by q xs < count_by p xs
+    pub fewer : (xs : List ℕ) → Contains xs f → count_by q xs < count_by p xs
     fewer [] h = absurd (omega (arith, h.1))
     fewer (x ∷ xs) h = elim (Contains-append_cases (x ∷ []) xs f h) [
       | inl a ↦
@@ -86,7 +86,7 @@ settles_within (suc n) ks w among few = elim (unplaced_or_not w ks) [
 ]
 
 -- what is live is among the keys
-among_keys : (w : World) (f : ℕ) → IsLive w f → Contains (map.keys w.files) f
+pub among_keys : (w : World) (f : ℕ) → IsLive w f → Contains (map.keys w.files) f
 among_keys w f live = found (map.keys w.files) (sym (map.contains_key-keys w.files f) ∙ live) where
   found : (ks : List ℕ) → list_any (eq_by_cmp nat_cmp f) ks ≡ true → Contains ks f
   found [] e = absurd (false≢true e)

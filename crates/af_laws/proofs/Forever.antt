@@ -66,8 +66,7 @@ outcome_next now old new grows o frugal answer r h = by o frugal h where
   by None false (inr h) = same h.1
 
 pass_next : (p : Pass) (old new : Machine) (r : Reply) → PassesWhole p old r new → old.world.next_ino ≤ new.world.next_ino
-pass_next Idle old new r (inl h) = omega (arith, ap (λ w. w.next_ino) h.0.purged.2)
-pass_next Idle old new r (inr h) = omega (arith, ap (λ m. m.world.next_ino) h.1)
+pass_next Idle old new r h = omega (arith, ap (λ w. w.next_ino) h.0.purged.2)
 pass_next (Running begun spent) old new r h = omega (arith, ap (λ m. m.world.next_ino) h.1)
 
 event_next : (old new : Machine) (e : Event) (r : Reply) → MachineStep old e r new → old.world.next_ino ≤ new.world.next_ino

@@ -1,6 +1,7 @@
 pub mod Outcomes
 pub mod Single
 pub mod Counting
+pub mod Deciding
 pub mod Sender
 pub mod Lowest
 pub mod Takes

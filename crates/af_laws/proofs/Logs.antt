@@ -1,5 +1,7 @@
 -- Each event has a reply, the reply tells the machine, and runs come apart as they were joined.
-use Rattle.std.proofs.Common.{◌≡◌, inl, inr, ℕ, Bool, true, false, List, [], ◌∷◌, ◌++◌, refl, sym, ap, ◌∙◌, subst, cond}
+use Rattle.std.proofs.Common.{◌≡◌, inl, inr, ℕ, Bool, true, false, ◌&&◌, List, [], ◌∷◌, ◌++◌, refl, sym, ap, ◌∙◌, subst, cond}
+use Rattle.std.specs.List.{count_by}
+use Rattle.std.specs.FinMap as map
 use Rattle.std.specs.Prelude.{Option, Some, None}
 use Rattle.std.specs.Cmp.{both_ways}
 use Rattle.std.proofs.lemmas.Bool.{false≢true}
@@ -15,14 +17,16 @@ use Rattle.af_base.specs.World.{World}
 use Rattle.af_base.specs.Unheld.{Settles}
 use Rattle.af_base.specs.Refusals.{refusal, spawn_refusal}
 use Rattle.af_base.specs.Steps.{Outcome, answer, effect, needs_no_memory, spawned}
-use Rattle.af_base.specs.Pass.{Idle, Machine, Pass, Passes, PassesWhole, Purges, Running, emptied}
+use Rattle.af_base.specs.Pass.{Idle, Machine, Pass, Passes, PassesWhole, Purges, Running, emptied, next_pass}
+use Rattle.af_base.specs.Reached.{is_socket}
 use Rattle.af_base.specs.Run.{Entry, Run, fresh}
 use Rattle.af_base.proofs.Runs.{run-append}
-use Rattle.af_base.specs.Whole.{IsSound}
+use Rattle.af_base.specs.Whole.{IsSound, IsWhole}
 use Rattle.af_base.proofs.Purged.{sound-pass}
 use Rattle.af_base.proofs.Settling.{settles_once}
 use Rattle.af_base.proofs.Sound.{fresh_sound}
 use Rattle.af_base.proofs.Stepped.{sound-spawn, sound-step}
+use Rattle.af_laws.proofs.Deciding.{garbage_decided}
 use Rattle.af_laws.proofs.Existing.{settles_to_some}
 use Rattle.af_laws.specs.Running.{EventsHaveReplies, EventsKeepSound, FreshIsSound, LeavesNoChoice, LogDetermines, RefusedChangesNothing, RepliesDetermine, RunsAreSound, RunsJoin}
 
@@ -32,10 +36,17 @@ outcome_some (Some e) frugal answer now old = (reply.Refused e, old, (refl, refl
 outcome_some None true answer now old = let s = settles_to_some now in (answer, s.0, (refl, s.1))
 outcome_some None false answer now old = let s = settles_to_some now in (answer, s.0, inl (refl, s.1))
 
--- a whole pass may be refused
-pass_some : (p : Pass) (old : Machine) → (r : Reply) × (new : Machine) × PassesWhole p old r new
-pass_some Idle old = (reply.Refused ENOMEM, old, inr (refl, refl))
-pass_some (Running begun spent) old = (reply.Refused EBUSY, old, (refl, refl))
+-- a whole pass is refused, or done: its garbage can be told
+pass_some : (p : Pass) (old : Machine) → IsWhole old.world → (r : Reply) × (new : Machine) × PassesWhole p old r new
+pass_some Idle old whole =
+    let g = garbage_decided old.world whole in
+    let s = settles_to_some (emptied g.0 old.world) in
+    let count = count_by (λ e. is_socket e.1 && g.0 e.0) (map.entries old.world.files) in (
+      reply.Done (next_pass old.last_pass) count,
+      record { world = s.0; pass = Idle; last_pass = next_pass old.last_pass },
+      (record { test = g.0; is_garbage = g.1; purged = s.1; count = count; counted = (g.0, g.1, refl); answered = refl }, refl, refl),
+    )
+pass_some (Running begun spent) old whole = (reply.Refused EBUSY, old, (refl, refl))
 
 abbrev with_world : Machine → World → Machine
 with_world m w = record m { world = w }
@@ -47,7 +58,7 @@ events_have_replies old (event.Spawn uid nofile privileged) sound =
 events_have_replies old (event.Proc p s) sound =
     let o = outcome_some (refusal old.world p s) (needs_no_memory s) (answer old.world p s) (effect old.world p s) old.world in
     (o.0, with_world old o.1, (o.2, (refl, refl)))
-events_have_replies old event.Pass sound = pass_some old.pass old
+events_have_replies old event.Pass sound = pass_some old.pass old sound.whole
 
 -- whether the reply is a refusal
 pub is_refused : Reply → Bool
@@ -108,10 +119,7 @@ passes_one w a b n r s x y =
 
 pass_one : (p : Pass) (old a b : Machine) (r : Reply) → PassesWhole p old r a → PassesWhole p old r b → a ≡ b
 unfolding is_refused
-pass_one Idle old a b r (inl x) (inl y) = same_machine a b (passes_one old.world a.world b.world _ r r x.0 y.0) (x.1 ∙ sym y.1) (x.2 ∙ sym y.2)
-pass_one Idle old a b r (inl x) (inr y) = absurd (false≢true (sym (ap is_refused x.0.answered) ∙ ap is_refused y.0))
-pass_one Idle old a b r (inr x) (inl y) = absurd (false≢true (sym (ap is_refused y.0.answered) ∙ ap is_refused x.0))
-pass_one Idle old a b r (inr x) (inr y) = x.1 ∙ sym y.1
+pass_one Idle old a b r x y = same_machine a b (passes_one old.world a.world b.world _ r r x.0 y.0) (x.1 ∙ sym y.1) (x.2 ∙ sym y.2)
 pass_one (Running begun spent) old a b r x y = x.1 ∙ sym y.1
 
 pub replies_determine : RepliesDetermine
@@ -147,8 +155,7 @@ outcome_refused answer given now old new error None false (inr h) = h.1
 
 pass_refused : (p : Pass) (old new : Machine) (error : Errno) → PassesWhole p old (reply.Refused error) new → new ≡ old
 unfolding is_refused
-pass_refused Idle old new error (inl h) = absurd (false≢true (sym (ap is_refused h.0.answered)))
-pass_refused Idle old new error (inr h) = h.1
+pass_refused Idle old new error h = absurd (false≢true (sym (ap is_refused h.0.answered)))
 pass_refused (Running begun spent) old new error h = h.1
 
 pub refused_changes_nothing : RefusedChangesNothing

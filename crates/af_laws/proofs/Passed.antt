@@ -5,7 +5,7 @@ use Rattle.std.specs.Option.{option_map_or}
 use Rattle.std.specs.FinMap as map
 use Rattle.std.proofs.lemmas.Bool.{false≢true}
 use Rattle.af_base.specs.declared.errno.Errno.{Errno}
-use Rattle.af_base.specs.declared.errno.Errno.TheVariants.{EBUSY, ENOMEM}
+use Rattle.af_base.specs.declared.errno.Errno.TheVariants.{EBUSY}
 use Rattle.af_base.specs.declared.events.Reply.{Reply}
 use Rattle.af_base.specs.declared.events.Reply.TheVariants as reply
 use Rattle.af_base.specs.World.{AsSocket, File, IsLive, Plain, World}
@@ -77,8 +77,7 @@ spares_all : (old new : Machine) → new ≡ old → Spares old.world new.world
 spares_all old new e = subst (λ m. Spares old.world m.world) (sym e) (record { tables = refl; live = λ f r l. l; queues = λ f r. refl; backlogs = λ f r. refl })
 
 spares_by : (p : Pass) (old new : Machine) (r : Reply) → PassesWhole p old r new → Spares old.world new.world
-spares_by Idle old new r (inl h) = spared old.world new.world h.0.test h.0.is_garbage h.0.purged
-spares_by Idle old new r (inr h) = spares_all old new h.1
+spares_by Idle old new r h = spared old.world new.world h.0.test h.0.is_garbage h.0.purged
 spares_by (Running begun spent) old new r h = spares_all old new h.1
 
 pub pass_spares_the_reached : PassSparesTheReached
@@ -89,16 +88,14 @@ done_refused : (pass count : ℕ) (e : Errno) → reply.Done pass count ≡ repl
 done_refused pass count e d = cc
 
 leaves_by : (p : Pass) (old new : Machine) (pass count : ℕ) → PassesWhole p old (reply.Done pass count) new → (f : ℕ) → ¬ (Garbage new.world f)
-leaves_by Idle old new pass count (inl h) = none_left old.world new.world h.0.test h.0.is_garbage h.0.purged
-leaves_by Idle old new pass count (inr h) = absurd (done_refused pass count ENOMEM h.0)
+leaves_by Idle old new pass count h = none_left old.world new.world h.0.test h.0.is_garbage h.0.purged
 leaves_by (Running begun spent) old new pass count h = absurd (done_refused pass count EBUSY h.0)
 
 pub pass_leaves_no_garbage : PassLeavesNoGarbage
 pass_leaves_no_garbage old new pass count h = leaves_by old.pass old new pass count h
 
 releases_by : (p : Pass) (old new : Machine) (pass count : ℕ) → PassesWhole p old (reply.Done pass count) new → (f : ℕ) → Garbage old.world f → ¬ (IsLive new.world f)
-releases_by Idle old new pass count (inl h) = released old.world new.world h.0.test h.0.is_garbage h.0.purged
-releases_by Idle old new pass count (inr h) = absurd (done_refused pass count ENOMEM h.0)
+releases_by Idle old new pass count h = released old.world new.world h.0.test h.0.is_garbage h.0.purged
 releases_by (Running begun spent) old new pass count h = absurd (done_refused pass count EBUSY h.0)
 
 pub pass_releases_its_garbage : PassReleasesItsGarbage

@@ -405,8 +405,7 @@ step_reaches_no_garbage old new p s r whole h f live =
     numbered_leads old new (process_step_leads old new p s r whole h) f (whole.files_numbered f live)
 
 pass_leads : (p : Pass) (old new : Machine) (r : Reply) → PassesWhole p old r new → Leads old.world new.world
-pass_leads Idle old new r (inl h) f d = inl ((purging_keeps_reached old.world new.world h.0.test (λ g e. (h.0.is_garbage g).0 e) h.0.purged f).1 d)
-pass_leads Idle old new r (inr h) f d = inl (subst (λ m. Reached m.world f) h.1 d)
+pass_leads Idle old new r h f d = inl ((purging_keeps_reached old.world new.world h.0.test (λ g e. (h.0.is_garbage g).0 e) h.0.purged f).1 d)
 pass_leads (Running begun spent) old new r h f d = inl (subst (λ m. Reached m.world f) h.1 d)
 
 pub event_leads : (old new : Machine) (e : Event) (r : Reply) → IsWhole old.world → MachineStep old e r new → Leads old.world new.world

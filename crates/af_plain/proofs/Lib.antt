@@ -1,6 +1,5 @@
-pub mod Adding
-pub mod Queues
-pub mod Wholes
 pub mod Agreeing
+pub mod Counting
+pub mod Finding
 pub mod Marking
 pub mod Searching

@@ -12,7 +12,7 @@ use Rattle.std.proofs.lemmas.List.Elements.{Contains-append_cases, Contains-appe
 use Rattle.std.proofs.lemmas.List.Sums.{sum_by-cons}
 use Rattle.af_base.proofs.Elements.{Contains-first, Contains-none, Contains-rest}
 use Rattle.af_base.proofs.Lookups.{same_or_not}
-use Rattle.af_plain.specs.Marking.{Marks, left}
+use Rattle.af_plain.specs.Marking.{Marks}
 use Rattle.af_plain.specs.declared.reach.Marking.{Marking}
 
 -- What is in a list of one.

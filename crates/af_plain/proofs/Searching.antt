@@ -2,7 +2,7 @@
 use Rattle.std.proofs.Common.{◌≡◌, ◌<◌, ℕ, ◌+◌, Bool, true, false, ◌⊎◌, inl, inr, List, [], ◌∷◌, ◌++◌, length, take, get_or, map, refl, sym, ap, ◌∙◌, subst, cond, nat_eq}
 use Rattle.std.specs.Prelude.{Some, option_map, ◌↔◌, is_some, not}
 use Rattle.std.specs.Option.{option_map_or}
-use Rattle.std.specs.List.{Contains, sum_by, flat_map, find, filter}
+use Rattle.std.specs.List.{Contains, flat_map, find, filter}
 use Rattle.std.specs.Ordering.{nat_cmp}
 use Rattle.std.specs.BTreeSet as tree
 use Rattle.std.specs.BTreeSet.{BTreeSet}
@@ -17,29 +17,23 @@ use Rattle.std.proofs.lemmas.Map.Lookups.{exact_unsigned}
 use Rattle.std.proofs.lemmas.Map.Views.{btree_set_contains_iff}
 use Rattle.af_base.specs.World.{World, is_live}
 use Rattle.af_base.specs.Places.{Holds, InTable, contents, held_by}
-use Rattle.af_base.specs.Counts.{count_in, tabled}
-use Rattle.af_base.specs.Listing.{AreFiles, AreTables, file_of, files_of, processes_of}
+use Rattle.af_base.specs.Counts.{count_in, one, tabled, total_of}
+use Rattle.af_base.specs.Listing.{AreFiles, AreTables, file_of, files_of, inos_of, processes_of}
 use Rattle.af_base.specs.Reached.{BySocket, ByTable, Garbage, Reached}
 use Rattle.af_base.specs.declared.listing.ListedFile.{ListedFile}
 use Rattle.af_base.specs.declared.listing.ListedTable.{ListedTable}
 use Rattle.af_base.proofs.Elements.{Contains-first, Contains-later, Contains-none, Contains-rest}
 use Rattle.af_base.proofs.Lookups.{same_or_not}
 use Rattle.af_base.proofs.Held.{Contains-count, InTable-tabled, count-Contains, tabled-InTable}
-use Rattle.af_base.proofs.Listed.{keyed-get, sum_by-mapped}
-use Rattle.af_plain.proofs.Queues.{count_flat}
-use Rattle.af_plain.proofs.Wholes.{numbers_of, tabled_is}
+use Rattle.af_base.proofs.Listed.{keyed-get}
+use Rattle.af_base.proofs.Gathered.{count_tabled}
 use Rattle.af_plain.specs.Marking.{IsListOf, Marks, held_in}
 use Rattle.af_plain.specs.declared.reach.Marking.{Marking}
-
--- The files that the numbers of a table stand for.
-abbrev pub inos_of : ListedTable → List ℕ
-inos_of t = map (λ n. n.ino) t.numbers.items
 
 -- What the tables of a list hold is what tables of its world hold.
 pub tabled_listed : (w : World) (tables : List ListedTable) → w.processes ≡ processes_of tables → AreTables tables → (f : ℕ) → Contains (flat_map inos_of tables) f ↔ InTable w f
 tabled_listed w tables is ordered f =
-    let one_table : (t : ListedTable) → count_in f (inos_of t) ≡ numbers_of f t = λ t. sum_by-mapped (λ g. cond (nat_eq f g) 1 0) (λ n. n.ino) t.numbers.items in
-    let counted : count_in f (flat_map inos_of tables) ≡ tabled w f = count_flat f inos_of tables ∙ (λ i. sum_by (λ t. one_table t i) tables) ∙ sym (tabled_is f w tables is ordered) in
+    let counted : count_in f (flat_map inos_of tables) ≡ tabled w f = count_tabled tables [] ordered f ∙ sym (ap (total_of (λ p. total_of (λ g. one f g) p.table)) is) in
     (λ h. InTable-tabled w f (subst (λ n. 0 < n) counted (count-Contains f (flat_map inos_of tables) h)), λ t. Contains-count f (flat_map inos_of tables) (subst (λ n. 0 < n) (sym counted) (tabled-InTable w f t)))
 
 -- All that the files of a list hold.

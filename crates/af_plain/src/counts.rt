@@ -1,72 +1,58 @@
-//! The recounts over a whole listing. None takes memory, and a stranger's number is 0.
-ghost use Rattle.std.specs.Prelude.{◌≡◌, ◌<◌, ◌^◌};
-ghost use Rattle.af_base.specs.Counts.{refs, inflight, charged, total, total_of, count_in, tabled};
-ghost use Rattle.af_base.specs.Places.{contents};
+//! The recounts over a whole listing: binary searches in its sorted places, and how many these are.
+//! None takes memory, and a stranger's number is 0.
+ghost use Rattle.std.specs.Prelude.{◌≡◌};
+ghost use Rattle.std.specs.List.Sorted.{IsNonDecreasing};
+ghost use Rattle.af_base.specs.Counts.{refs, inflight, charged, total, count_in};
 
-use crate::walks::{carried_at, charged_at, held_at, inflight_at, numbers_for};
 use af_base::listing::Listing;
 use af_base::names::{Ino, Uid};
 
-/// How many numbers of all tables stand for the file.
-fn recount_tabled(listing: &Listing, ino: Ino) -> u64
-    ensures value { result ≡ tabled listing.now ino }
-    ensures bound { result < 2 ^ 63 }
+/// How often the file is in the list, which rises.
+fn times(sorted: &[Ino], ino: Ino) -> u64
+    requires { IsNonDecreasing sorted.now }
+    ensures { result ≡ count_in ino sorted.now }
 {
-    let mut sum = 0;
-    for table in listing.tables() {
-        sum += numbers_for(table, ino);
-    }
-    sum
+    let number = ino.0;
+    let from = sorted.partition_point(|other| other.0 < number);
+    let to = sorted.partition_point(|other| other.0 <= number);
+    (to - from) as u64
 }
 
-/// How many places of all queues and backlogs hold the file.
-fn recount_held(listing: &Listing, ino: Ino) -> u64
-    ensures value { result ≡ total_of (λ x. count_in ino (contents x)) listing.now.files }
-    ensures bound { result < 2 ^ 63 }
+/// How often the user is in the list, which rises.
+fn times_charged(sorted: &[Uid], user: Uid) -> u64
+    requires { IsNonDecreasing sorted.now }
+    ensures { result ≡ count_in user sorted.now }
 {
-    let mut sum = 0;
-    for file in listing.files() {
-        sum += held_at(file, ino);
-    }
-    sum
+    let number = user.0;
+    let from = sorted.partition_point(|other| other.0 < number);
+    let to = sorted.partition_point(|other| other.0 <= number);
+    (to - from) as u64
 }
 
 /// How many places hold the file, in tables, queues and backlogs: its reference count.
 pub fn recount_refs(listing: &Listing, ino: Ino) -> u64
     ensures { result ≡ refs listing.now ino }
 {
-    recount_tabled(listing, ino) + recount_held(listing, ino)
+    times(listing.held(), ino)
 }
 
 /// How many places of all queues hold the file: its in-flight count.
 pub fn recount_inflight(listing: &Listing, ino: Ino) -> u64
     ensures { result ≡ inflight listing.now ino }
 {
-    let mut sum = 0;
-    for file in listing.files() {
-        sum += inflight_at(file, ino);
-    }
-    sum
+    times(listing.queued(), ino)
 }
 
 /// How many places of all queues are in messages of the user: what it is charged.
 pub fn recount_user(listing: &Listing, user: Uid) -> u64
     ensures { result ≡ charged listing.now user }
 {
-    let mut sum = 0;
-    for file in listing.files() {
-        sum += charged_at(file, user);
-    }
-    sum
+    times_charged(listing.payers(), user)
 }
 
 /// How many places all queues have: the charge of all users together.
 pub fn recount_total(listing: &Listing) -> u64
     ensures { result ≡ total listing.now }
 {
-    let mut sum = 0;
-    for file in listing.files() {
-        sum += carried_at(file);
-    }
-    sum
+    listing.queued().len() as u64
 }

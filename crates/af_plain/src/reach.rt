@@ -5,7 +5,7 @@ ghost use Rattle.std.specs.List.{Contains, filter, find};
 ghost use Rattle.std.specs.Ordering.{nat_cmp};
 ghost use Rattle.std.specs.Option.{option_copied};
 ghost use Rattle.std.specs.BTreeSet as tree;
-ghost use Rattle.af_base.specs.Listing.{file_of};
+ghost use Rattle.af_base.specs.Listing.{AreFiles, file_of};
 ghost use Rattle.af_base.specs.Places.{contents, InTable};
 ghost use Rattle.af_base.specs.Reached.{Reached, Garbage};
 ghost use Rattle.af_plain.specs.Marking.{held_in, Marks, IsListOf};
@@ -78,6 +78,7 @@ impl Marking {
 
     /// The file is looked at: what it holds is found.
     fn look_at(&mut self, files: &[ListedFile], ino: Ino) -> Result<(), AllocError>
+        requires { AreFiles files.now }
         ensures { OnOk result (Marks self.old self.new (held_in files.now ino)) }
     {
         let Some(file) = listed_at(files, ino) else {
@@ -89,9 +90,13 @@ impl Marking {
 
 /// The file of that number.
 fn listed_at(files: &[ListedFile], ino: Ino) -> Option<&ListedFile>
+    requires { AreFiles files.now }
     ensures { option_copied result ≡ find (λ x. nat_eq ino x.ino) files.now }
 {
-    files.iter().find(|file| file.ino == ino)
+    match files.binary_search_by_key(&ino.0, |file| file.ino.0) {
+        Ok(at) => Some(&files[at]),
+        Err(_) => None,
+    }
 }
 
 /// All files that a chain of places leads to.

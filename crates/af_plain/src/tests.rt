@@ -57,7 +57,7 @@ fn crossed(alloc: Global) -> Result<Listing, AllocError> {
         },
         socket(alloc, 5, &[], &[])?,
     ]?;
-    Ok(Listing::of(tables, files))
+    Listing::of(alloc, tables, files)
 }
 
 #[test]

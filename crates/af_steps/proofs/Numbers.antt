@@ -20,7 +20,7 @@ use Rattle.af_base.proofs.Free.{AreFree, free-free_numbers}
 use Rattle.af_base.proofs.Lookups.{some_same}
 use Rattle.af_base.proofs.Moved.{there-table}
 use Rattle.af_base.proofs.Settling.{settles_none}
-use Rattle.af_collect.specs.Limits.{IsBelowLimit}
+use Rattle.af_hold.specs.Limits.{IsBelowLimit}
 use Rattle.af_steps.proofs.Outcomes.{done, starved}
 use Rattle.af_steps.proofs.Paired.{passes}
 

@@ -11,7 +11,7 @@ use Rattle.af_base.specs.Changes.{install, uninstall}
 use Rattle.af_base.proofs.Lookups.{insert-here, insert-other, remove-here, remove-other, same_or_not}
 use Rattle.af_base.proofs.Moved.{there-table}
 use Rattle.af_base.proofs.Trees.{insert_same}
-use Rattle.af_collect.proofs.Joined.{insert_twice}
+use Rattle.af_hold.proofs.Joined.{insert_twice}
 
 -- What is not there need not be removed.
 remove-none : {X : Type 0} (m : Map X) (k : ℕ) → map.get m k ≡ None → map.remove m k ≡ m

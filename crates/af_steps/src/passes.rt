@@ -13,7 +13,7 @@ impl Engine {
     pub(crate) fn pass(&mut self) -> Result<Reply, Errno>
         ensures { PassesWhole self.old.pass self.old (reply_of result) self.new }
     {
-        let reclaimed = self.store.collect()?;
+        let reclaimed = self.store.collect();
         self.last_pass = (self.last_pass + 1).min(MAX_PASS);
         Ok(Reply::Done {
             pass: self.last_pass,

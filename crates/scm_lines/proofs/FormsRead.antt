@@ -54,6 +54,7 @@ words_read words (line.Event (event.Spawn uid nofile false)) (a, b, (w, m, n)) =
 words_read words (line.Event (event.Spawn uid nofile true)) (a, b, (w, m, n)) = rw (w, spawn_read a b uid nofile (codes "priv" ∷ []) true m n refl) refl
 words_read words (line.Event (event.Proc pid st)) (a, (others, w, number, says)) = rw (w, process_read a others pid st number says) refl
 words_read words (line.Event event.Pass) w = rw (w, alone_read (codes "pass") opening.Pass (line.Event event.Pass) refl refl) refl
+words_read words (line.Report report.Table) w = rw (w, alone_read (codes "table") opening.Table (line.Report report.Table) refl refl) refl
 words_read words (line.Report report.Totals) w = rw (w, alone_read (codes "totals") opening.Totals (line.Report report.Totals) refl refl) refl
 words_read words (line.Report report.Check) w = rw (w, alone_read (codes "check") opening.Check (line.Report report.Check) refl refl) refl
 

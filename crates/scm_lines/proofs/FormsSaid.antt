@@ -239,6 +239,7 @@ opened_said word opening.Spawn words said opens e =
     let (ev, (e1, is)) = mapped line.Event (spawn_of words) said e in
     rw (opens, ← is) (spawn_said words ev e1)
 opened_said word opening.Pass words said opens e = alone word (codes "pass") words (line.Event event.Pass) said refl opens e
+opened_said word opening.Table words said opens e = alone word (codes "table") words (line.Report report.Table) said refl opens e
 opened_said word opening.Totals words said opens e = alone word (codes "totals") words (line.Report report.Totals) said refl opens e
 opened_said word opening.Check words said opens e = alone word (codes "check") words (line.Report report.Check) said refl opens e
 opened_said word (opening.Process pid) words said opens e =

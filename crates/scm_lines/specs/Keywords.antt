@@ -18,6 +18,7 @@ abbrev pub keyword_of : List ℕ → Option Opening
 keyword_of word =
     if bytes_eq word (codes "spawn") then Some opening.Spawn
     else if bytes_eq word (codes "pass") then Some opening.Pass
+    else if bytes_eq word (codes "table") then Some opening.Table
     else if bytes_eq word (codes "totals") then Some opening.Totals
     else if bytes_eq word (codes "check") then Some opening.Check
     else None

@@ -150,6 +150,7 @@ process_of pid words = do
 abbrev pub opened_by : Opening → List (List ℕ) → Option Line
 opened_by opening.Spawn words = option_map line.Event (spawn_of words)
 opened_by opening.Pass words = at_end (line.Event event.Pass) words
+opened_by opening.Table words = at_end (line.Report report.Table) words
 opened_by opening.Totals words = at_end (line.Report report.Totals) words
 opened_by opening.Check words = at_end (line.Report report.Check) words
 opened_by (opening.Process pid) words = option_map line.Event (process_of pid words)

@@ -93,6 +93,7 @@ Says words (line.Event (event.Spawn uid nofile true)) =
 Says words (line.Event (event.Proc pid does)) =
     (a : List ℕ) × ((others : List (List ℕ)) × (words ≡ a ∷ others) × IsNumber a pid × SaysStep others does)
 Says words (line.Event event.Pass) = words ≡ codes "pass" ∷ []
+Says words (line.Report report.Table) = words ≡ codes "table" ∷ []
 Says words (line.Report report.Totals) = words ≡ codes "totals" ∷ []
 Says words (line.Report report.Check) = words ≡ codes "check" ∷ []
 

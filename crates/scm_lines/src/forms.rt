@@ -233,6 +233,7 @@ pub fn form(alloc: Global, word: &[u8], rest: &[u8]) -> Result<Option<Line>, All
     Ok(match opening {
         Opening::Spawn => spawn(rest).map(|event| Line::Event(event)),
         Opening::Pass => is_end(rest).then_some(Line::Event(Event::Pass)),
+        Opening::Table => is_end(rest).then_some(Line::Report(Report::Table)),
         Opening::Totals => is_end(rest).then_some(Line::Report(Report::Totals)),
         Opening::Check => is_end(rest).then_some(Line::Report(Report::Check)),
         Opening::Process(pid) => process(alloc, pid, rest)?.map(|event| Line::Event(event)),

@@ -13,6 +13,8 @@ pub enum Opening {
     Spawn,
     /// `pass`
     Pass,
+    /// `table`
+    Table,
     /// `totals`
     Totals,
     /// `check`
@@ -100,6 +102,9 @@ fn keyword_named(word: &[u8]) -> Option<Opening>
     }
     if word == b"pass".as_slice() {
         return Some(Opening::Pass);
+    }
+    if word == b"table".as_slice() {
+        return Some(Opening::Table);
     }
     if word == b"totals".as_slice() {
         return Some(Opening::Totals);

@@ -13,6 +13,8 @@ pub const MAX_LINE: usize = 262_144;
 /// What may be asked about the state at a line. A report is no event, and changes nothing.
 #[derive(Clone, Copy, Debug, PartialEq, Eq)]
 pub enum Report {
+    /// What each live file is, what holds it, and what it has to give.
+    Table,
     /// How many descriptors of each user are in flight.
     Totals,
     /// How many files are live, how many of them are garbage, and whether all counts that are kept

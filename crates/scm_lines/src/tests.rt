@@ -84,6 +84,7 @@ fn spawn_lines(rt: HostRuntime) -> Result<(), Fail> {
 #[test]
 fn words_that_stand_alone(rt: HostRuntime) -> Result<(), Fail> {
     said(&rt, b"\tpass ", Line::Event(Event::Pass))?;
+    said(&rt, b"table", Line::Report(Report::Table))?;
     said(&rt, b"totals", Line::Report(Report::Totals))?;
     said(&rt, b"check", Line::Report(Report::Check))
 }

@@ -126,8 +126,7 @@ outcome-short now old new answer r None false short (inr h) = subst IsShort (sym
 
 -- What a whole pass answers.
 pass-short : (p : Pass) (old new : Machine) (r : Reply) → PassesWhole p old r new → IsShort r
-pass-short Idle old new r (inl h) = subst IsShort (sym h.0.answered) tt
-pass-short Idle old new r (inr h) = subst IsShort (sym h.0) tt
+pass-short Idle old new r h = subst IsShort (sym h.0.answered) tt
 pass-short (Running begun spent) old new r h = subst IsShort (sym h.0) tt
 
 -- What any event is answered with.

@@ -2,15 +2,12 @@
 //!
 //! A caller wants [`run::run_script`] and [`fault::RunFault`]. Each line is read by `scm_lines`,
 //! done by an engine of `af_steps` (`line`), and its text, of a reply (`text`) or of a report
-//! (`report`), is made whole and gathered: it is written before the next read (`gather`). A check is
-//! printed only where the kept numbers were compared with a recount (`agreed`).
+//! (`af_report`), is made whole and gathered: it is written before the next read (`gather`).
 #![tactic(auto)]
 
-mod agreed;
 pub mod fault;
 mod gather;
 mod line;
-mod report;
 pub mod run;
 #[cfg(test)]
 mod tests;

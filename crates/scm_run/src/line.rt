@@ -10,15 +10,26 @@ ghost use Rattle.scm_run.specs.declared.text.TheConstants.{MAX_REPLY_LINE};
 
 use crate::fault::RunFault;
 use crate::gather::make_room;
-use crate::report::push_report;
 use crate::text::push_reply;
 use af_base::errno::Errno;
 use af_base::events::Reply;
+use af_report::{check, table, totals};
 use af_steps::Engine;
 use scm_lines::line::{Line, Report, line_of};
 use scm_watched::watched::Watched;
-use std::alloc::Global;
+use std::alloc::{AllocError, Global};
 use std::io::Write;
+
+/// The text of a report.
+fn report_text(alloc: Global, engine: &Engine, report: Report) -> Result<Vec<u8>, AllocError>
+    ensures { IfOk result (λ text. IsReportText engine.now.world report text.items) }
+{
+    match report {
+        Report::Table => table(alloc, engine),
+        Report::Totals => totals(alloc, engine),
+        Report::Check => check(alloc, engine),
+    }
+}
 
 /// Appends the text of a report, whole, or the line `ENOMEM` where memory for it was refused.
 fn answer_report(alloc: Global, engine: &Engine, report: Report, text: &mut Vec<u8>)
@@ -26,9 +37,9 @@ fn answer_report(alloc: Global, engine: &Engine, report: Report, text: &mut Vec<
     ensures { (line : List ℕ) × (text.new.items ≡ text.old.items ++ line)
         × (IsReportText engine.now.world report line ⊎ (line ≡ reply_line (reply.Refused ENOMEM))) }
 {
-    let mut whole = String::new(alloc);
-    let made = push_report(alloc, &mut whole, engine, report);
-    if made.is_ok() && text.extend_from_slice(whole.as_bytes()).is_ok() {
+    if let Ok(whole) = report_text(alloc, engine, report)
+        && text.extend_from_slice(whole.as_slice()).is_ok()
+    {
         return;
     }
     push_reply(text, &Reply::Refused(Errno::ENOMEM)).unwrap();

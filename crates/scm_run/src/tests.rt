@@ -1,5 +1,4 @@
-//! Whole runs over memory, streams that fail, and the engine beside the recount.
-mod audits;
+//! Whole runs over memory, and streams that fail.
 mod lines;
 mod listeners;
 mod many;
@@ -8,3 +7,4 @@ mod refusals;
 mod rows;
 mod runs;
 mod streams;
+mod tables;

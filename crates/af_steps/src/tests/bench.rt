@@ -54,8 +54,14 @@ pub fn send(alloc: Global, on: u32, bytes: &[u8], attach: &[u32]) -> Result<Even
 }
 
 /// Process 1 makes a socket.
-fn socket() -> Event {
+pub fn socket() -> Event {
     step(1, Step::Socket(SockType::Seqpacket))
+}
+
+/// Process 1 makes its socket 0 a listener.
+pub fn listen(backlog: u32) -> Event {
+    let listen = Step::Listen { on: Fd(0), backlog };
+    step(1, listen)
 }
 
 /// Process 1 gives a socket this name.
@@ -117,15 +123,11 @@ impl Bench {
     pub fn with_listener(alloc: Global) -> Result<Bench, AllocError> {
         let bind = bind(alloc, 0, b"hub")?;
         let connect = connect(alloc, 1, b"hub")?;
-        let listen = Step::Listen {
-            on: Fd(0),
-            backlog: 2,
-        };
         let mut bench = Bench::new(alloc)?;
         bench.engine.step(&spawn(16));
         bench.engine.step(&socket());
         bench.engine.step(&bind);
-        bench.engine.step(&step(1, listen));
+        bench.engine.step(&listen(2));
         bench.engine.step(&socket());
         bench.engine.step(&connect);
         Ok(bench)

@@ -3,34 +3,50 @@ use super::bench::{Bench, spawn, step};
 use af_base::errno::Errno;
 use af_base::events::{Reply, Step};
 use af_base::names::{Fd, Ino};
+use std::process::Abort;
 use std::test::Fail;
 
-#[test]
-fn files_run_out(rt: HostRuntime) -> Result<(), Fail> {
-    let mut bench = Bench::new(rt.alloc())?;
+/// A process opens files until its table is full.
+fn fills_its_table(rt: &impl Abort, bench: &mut Bench, pid: u32) {
+    let event = step(pid, Step::Open);
+    for fd in 0..1_024 {
+        assert!(rt; bench.does(&event, &Reply::Fd(Fd(fd))));
+    }
+}
+
+/// 64 processes have all files, and a 65th gets none.
+fn takes_all_files(rt: &impl Abort, bench: &mut Bench) {
     for _ in 0..65 {
         bench.engine.step(&spawn(1_024));
     }
     for pid in 1..=64 {
-        let event = step(pid, Step::Open);
-        for fd in 0..1_024 {
-            assert!(rt; bench.does(&event, &Reply::Fd(Fd(fd))));
-        }
+        fills_its_table(rt, bench, pid);
     }
     assert_eq!(rt; bench.engine.live(), 65_536);
     assert!(rt; bench.refuses(&step(65, Step::Open), Errno::ENFILE));
+}
+
+#[test]
+fn files_run_out(rt: HostRuntime) -> Result<(), Fail> {
+    let mut bench = Bench::new(rt.alloc())?;
+    takes_all_files(&rt, &mut bench);
     Ok(())
+}
+
+/// Number 0 is opened and closed so often, and then opened once more.
+fn opens_and_closes(rt: &impl Abort, bench: &mut Bench, rounds: u32) {
+    for _ in 0..rounds {
+        assert!(rt; bench.opens(0));
+        assert!(rt; bench.closes(0));
+    }
+    assert!(rt; bench.opens(0));
 }
 
 #[test]
 fn many_lives(rt: HostRuntime) -> Result<(), Fail> {
     let mut bench = Bench::new(rt.alloc())?;
     bench.engine.step(&spawn(1));
-    for _ in 0..100_000 {
-        assert!(rt; bench.opens(0));
-        assert!(rt; bench.closes(0));
-    }
-    assert!(rt; bench.opens(0));
+    opens_and_closes(&rt, &mut bench, 100_000);
     assert_eq!(rt; bench.engine.next_after(Ino(0)), Some(Ino(100_001)));
     assert_eq!(rt; bench.engine.live(), 1);
     Ok(())

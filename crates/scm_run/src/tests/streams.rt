@@ -1,22 +1,34 @@
-//! Readers and writers that fail, or do little at a time.
+//! Readers and writers that do little at a time, and fail.
 use std::io;
 use std::io::{ErrorKind, Read, Write};
 
-/// A reader that gives at most `at_once` bytes a call, and fails after so many calls.
-#[derive(Drop)]
-pub struct FailingReader<'a> {
-    pub bytes: &'a [u8],
+/// How many bytes a stream gives or takes a call, at most, and after how many calls it fails.
+#[derive(Clone, Copy)]
+pub struct Pace {
     pub at_once: usize,
     pub calls: usize,
 }
 
-impl Read for FailingReader<'_> {
+/// The pace of a stream that never fails and takes what there is.
+pub const AMPLE: Pace = Pace {
+    at_once: usize::MAX,
+    calls: usize::MAX,
+};
+
+/// A reader of this pace.
+#[derive(Drop)]
+pub struct PacedReader<'a> {
+    pub bytes: &'a [u8],
+    pub pace: Pace,
+}
+
+impl Read for PacedReader<'_> {
     fn read(&mut self, buf: &mut [u8]) -> io::Result<usize> {
-        if self.calls == 0 {
+        if self.pace.calls == 0 {
             return Err(io::Error::from(ErrorKind::BrokenPipe));
         }
-        self.calls -= 1;
-        let count = self.at_once.min(buf.len()).min(self.bytes.len());
+        self.pace.calls -= 1;
+        let count = self.pace.at_once.min(buf.len()).min(self.bytes.len());
         let (front, rest) = self.bytes.split_at(count);
         buf[..count].copy_from_slice(front);
         self.bytes = rest;
@@ -24,42 +36,22 @@ impl Read for FailingReader<'_> {
     }
 }
 
-/// A writer that takes at most `at_once` bytes a call, and fails after so many calls.
+/// A writer of this pace, and what it took.
 #[derive(Drop)]
-pub struct FailingWriter {
+pub struct PacedWriter {
     pub held: Vec<u8>,
-    pub at_once: usize,
-    pub calls: usize,
+    pub pace: Pace,
 }
 
-impl Write for FailingWriter {
+impl Write for PacedWriter {
     fn write(&mut self, buf: &[u8]) -> io::Result<usize> {
-        if self.calls == 0 {
+        if self.pace.calls == 0 {
             return Err(io::Error::from(ErrorKind::BrokenPipe));
         }
-        self.calls -= 1;
-        let count = self.at_once.min(buf.len());
+        self.pace.calls -= 1;
+        let count = self.pace.at_once.min(buf.len());
         self.held.extend_from_slice(&buf[..count])?;
         Ok(count)
-    }
-
-    fn flush(&mut self) -> io::Result<()> {
-        Ok(())
-    }
-}
-
-/// A writer that takes all that it is given, and counts its calls.
-#[derive(Drop)]
-pub struct CountingWriter {
-    pub held: Vec<u8>,
-    pub calls: usize,
-}
-
-impl Write for CountingWriter {
-    fn write(&mut self, buf: &[u8]) -> io::Result<usize> {
-        self.calls = self.calls.wrapping_add(1);
-        self.held.extend_from_slice(buf)?;
-        Ok(buf.len())
     }
 
     fn flush(&mut self) -> io::Result<()> {

@@ -1,7 +1,7 @@
 use Rattle.std.proofs.Common.{◌≡◌, sym, ap, arith}
 use Rattle.std.specs.Prelude.{None}
 use Rattle.af_base.specs.Places.{table_at}
-use Rattle.af_collect.specs.Stored.{Stored}
+use Rattle.af_hold.specs.Stored.{Stored}
 use Rattle.af_steps.proofs.Untabled.{uninstall-free}
 use Rattle.af_steps.proofs.tables.vacate.Goals as goal
 

@@ -1,15 +1,14 @@
-use Rattle.std.proofs.Common.{◌≡◌, None, refl, sym, ap, subst}
-use Rattle.af_base.specs.Names.{named}
-use Rattle.af_collect.specs.Stored.{Stored}
-use Rattle.af_collect.specs.contracts.store.Store.{the_view}
-use Rattle.af_collect.proofs.Altered.{exact-bound}
-use Rattle.af_collect.proofs.Exact.{by-result, exact-same, world-is}
+use Rattle.std.proofs.Common.{◌≡◌, ◌<◌, refl, sym, ap, ◌∙◌, subst}
+use Rattle.af_hold.specs.Stored.{Stored}
+use Rattle.af_hold.proofs.Exact.{by-result}
+use Rattle.af_base.specs.Changes.{bound, with_socket}
+use Rattle.af_collect.proofs.Known.{known_is, known_socket}
 use Rattle.af_collect.proofs.store.Store.bind.Goals as goal
 
 pub invariant_of-self : goal.invariant_of-self
 invariant_of-self c =
-    let w = (the_view c.self.inside).world in
-    let free = subst (λ (t : Stored). named t.world.files c.args.name.now ≡ None) (sym c.self.view_is) c.requires.free in
-    by-result c.bind.result c.bind.ensures.files c.bind.ensures.files c.bind.ensures.err
-    (λ done _. exact-same _ _ _ _ (world-is _ _ refl done c.bind.ensures.next refl refl) refl (exact-bound w c.args.socket.now c.args.name.now c.self.inside.ledger c.requires.name free c.self.invariant))
-    (λ same. exact-same _ w _ _ (ap (λ fs. record w { files = fs.files; next_ino = fs.next }) same) refl c.self.invariant)
+    let w = c.self.inside.places.world in
+    let m = c.self.inside.marks in
+    by-result c.bind.result c.bind.ensures.ok c.bind.ensures.ok c.bind.ensures.err
+    (λ done _. known_is c.bind.new.self.world (with_socket w c.args.socket.now (bound c.args.name.now)) m (ap (λ (s : Stored). s.world) done) (known_socket w c.args.socket.now (bound c.args.name.now) m c.self.invariant))
+    (λ same. known_is c.bind.new.self.world w m (ap (λ (s : Stored). s.world) same) c.self.invariant)

@@ -1,22 +1,14 @@
-use Rattle.std.proofs.Common.{◌≡◌, refl, sym, ap, subst}
-use Rattle.std.specs.Prelude.{IfSome}
-use Rattle.af_base.specs.declared.events.State.TheVariants as state
-use Rattle.af_base.specs.Refusals.{socket_at}
-use Rattle.af_collect.specs.Stored.{Stored}
-use Rattle.af_collect.specs.contracts.store.Store.{the_view}
-use Rattle.af_collect.proofs.Altered.{exact-listening, idle-alone}
-use Rattle.af_collect.proofs.Exact.{by-result, exact-same, world-is}
+use Rattle.std.proofs.Common.{◌≡◌, ◌<◌, refl, sym, ap, ◌∙◌, subst}
+use Rattle.af_hold.specs.Stored.{Stored}
+use Rattle.af_hold.proofs.Exact.{by-result}
+use Rattle.af_base.specs.Changes.{listening, with_socket}
+use Rattle.af_collect.proofs.Known.{known_is, known_socket}
 use Rattle.af_collect.proofs.store.Store.listen.Goals as goal
-
-pub listen-requires-clause-nobody : goal.listen-requires-clause-nobody
-listen-requires-clause-nobody c =
-    let w = (the_view c.self.inside).world in
-    idle-alone w c.args.socket.now c.self.invariant.within (subst (λ (t : Stored). IfSome (socket_at t.world c.args.socket.now) (λ x. x.state ≡ state.Idle)) (sym c.self.view_is) c.requires.idle)
 
 pub invariant_of-self : goal.invariant_of-self
 invariant_of-self c =
-    let w = (the_view c.self.inside).world in
-    let idle = subst (λ (t : Stored). IfSome (socket_at t.world c.args.socket.now) (λ x. x.state ≡ state.Idle)) (sym c.self.view_is) c.requires.idle in
-    by-result c.listen.result c.listen.ensures.files c.listen.ensures.files c.listen.ensures.err
-    (λ done _. exact-same _ _ _ _ (world-is _ _ refl done c.listen.ensures.next refl refl) refl (exact-listening w c.args.socket.now c.args.most c.self.inside.ledger idle c.requires.few c.self.invariant))
-    (λ same. exact-same _ w _ _ (ap (λ fs. record w { files = fs.files; next_ino = fs.next }) same) refl c.self.invariant)
+    let w = c.self.inside.places.world in
+    let m = c.self.inside.marks in
+    by-result c.listen.result c.listen.ensures.ok c.listen.ensures.ok c.listen.ensures.err
+    (λ done _. known_is c.listen.new.self.world (with_socket w c.args.socket.now (listening c.args.most)) m (ap (λ (s : Stored). s.world) done) (known_socket w c.args.socket.now (listening c.args.most) m c.self.invariant))
+    (λ same. known_is c.listen.new.self.world w m (ap (λ (s : Stored). s.world) same) c.self.invariant)

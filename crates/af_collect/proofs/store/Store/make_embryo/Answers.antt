@@ -1,29 +1,16 @@
-use Rattle.std.proofs.Common.{◌≡◌, false, refl, sym, ap, ◌∙◌, subst}
-use Rattle.std.specs.Prelude.{IfSome, is_none, unwrap_or}
-use Rattle.std.specs.FinMap as map
-use Rattle.std.specs.Map.{keys_of}
-use Rattle.std.specs.Option.{option_and_then}
-use Rattle.af_base.specs.declared.events.State.TheVariants as state
-use Rattle.af_base.specs.Refusals.{is_full, no_socket, socket_at, socket_of}
-use Rattle.af_ledger.specs.Counted.{uncounted}
-use Rattle.af_ledger.specs.Kept.{Kept}
-use Rattle.af_collect.specs.Stored.{Stored}
-use Rattle.af_collect.specs.contracts.store.Store.{the_view}
-use Rattle.af_collect.proofs.Connecting.{exact-embryo}
-use Rattle.af_collect.proofs.Exact.{exact-same, world-is}
-use Rattle.af_collect.proofs.Putting.{is-socket}
+use Rattle.std.proofs.Common.{◌≡◌, ◌<◌, refl, sym, ap, ◌∙◌, subst}
+use Rattle.af_hold.specs.Stored.{Stored}
+use Rattle.af_hold.proofs.Exact.{by-result}
+use Rattle.af_base.specs.World.{AsSocket}
+use Rattle.af_base.specs.Changes.{add_file, connected}
+use Rattle.af_base.specs.Steps.{connected_socket}
+use Rattle.af_collect.proofs.Known.{known_born, known_is, known_socket}
 use Rattle.af_collect.proofs.store.Store.make_embryo.Goals as goal
 
 pub invariant_of-self-2 : goal.invariant_of-self-2
 invariant_of-self-2 c =
-    let w = (the_view c.self.inside).world in
-    let client = c.args.client.now in
-    let back = sym c.self.view_is in
-    let fits = subst (λ (t : Stored). is_full t.world 1 ≡ false) back c.requires.room in
-    let at = is-socket w client (subst (λ (t : Stored). is_none (socket_at t.world client) ≡ false) back c.requires.socket) in
-    let alone = subst (λ (t : Stored). IfSome (socket_at t.world client) (λ x. x.state ≡ state.Idle)) back c.requires.idle in
-    let idle = subst (λ o. IfSome (option_and_then socket_of o) (λ x. x.state ≡ state.Idle)) at alone in
-    let ino = c.ino.ensures ∙ c.in_ok-embryo.ensures.ino in
-    let kept = c.enter.ensures.entered ∙ (λ i. record (c.reserve.ensures.same i) { counts = map.insert (c.reserve.ensures.same i).counts (ino i) uncounted; last = ino i; room = c.enter.new.self.room }) in
-    exact-same _ _ _ _ (world-is _ _ refl c.in_ok-embryo.ensures.files c.in_ok-embryo.ensures.next refl (ap {A = Kept} (λ k. keys_of k.users) kept)) kept
-    (exact-embryo w client c.args.kind (unwrap_or (socket_at w client) no_socket) c.self.inside.ledger c.enter.new.self.room at idle fits c.self.invariant)
+    let w = c.self.inside.places.world in
+    let x = AsSocket (connected_socket c.args.kind c.args.client.now) in
+    known_is _ _ c.born.new.self (ap (λ (s : Stored). s.world) c.in_ok-embryo.ensures.ok)
+    (known_socket (add_file w x) c.args.client.now (connected w.next_ino) c.born.new.self
+    (known_born w x c.self.inside.marks c.reserve.new.self c.born.new.self c.ino.result c.reserve.ensures.same c.born.ensures.born (c.ino.ensures ∙ c.in_ok-embryo.ensures.ino) c.self.invariant))

@@ -1,18 +1,12 @@
-use Rattle.std.proofs.Common.{◌≡◌, false, refl, sym, ap, ◌∙◌, subst}
-use Rattle.std.specs.FinMap as map
-use Rattle.std.specs.Map.{keys_of}
-use Rattle.af_base.specs.Refusals.{is_full}
-use Rattle.af_ledger.specs.Counted.{uncounted}
-use Rattle.af_ledger.specs.Kept.{Kept}
-use Rattle.af_collect.specs.Stored.{Stored}
-use Rattle.af_collect.specs.contracts.store.Store.{the_view}
-use Rattle.af_collect.proofs.Exact.{exact-plain, exact-same, world-is}
+use Rattle.std.proofs.Common.{◌≡◌, ◌<◌, refl, sym, ap, ◌∙◌, subst}
+use Rattle.af_hold.specs.Stored.{Stored}
+use Rattle.af_hold.proofs.Exact.{by-result}
+use Rattle.af_base.specs.World.{Plain}
+use Rattle.af_collect.proofs.Known.{known_born, known_is}
 use Rattle.af_collect.proofs.store.Store.make_plain.Goals as goal
 
 pub invariant_of-self-2 : goal.invariant_of-self-2
 invariant_of-self-2 c =
-    let w = (the_view c.self.inside).world in
-    let fits = subst (λ (s : Stored). is_full s.world 1 ≡ false) (sym c.self.view_is) c.requires in
-    let kept = c.enter.ensures.entered ∙ (λ i. record (c.reserve.ensures.same i) { counts = map.insert (c.reserve.ensures.same i).counts ((c.ino.ensures ∙ c.in_ok-file.ensures.ino) i) uncounted; last = (c.ino.ensures ∙ c.in_ok-file.ensures.ino) i; room = c.enter.new.self.room }) in
-    exact-same _ _ _ _ (world-is _ _ refl c.in_ok-file.ensures.files c.in_ok-file.ensures.next refl (ap {A = Kept} (λ k. keys_of k.users) kept)) kept
-    (exact-plain w c.self.inside.ledger c.enter.new.self.room fits c.self.invariant)
+    let w = c.self.inside.places.world in
+    known_is _ _ c.born.new.self (ap (λ (s : Stored). s.world) c.in_ok-file.ensures.ok)
+    (known_born w Plain c.self.inside.marks c.reserve.new.self c.born.new.self c.ino.result c.reserve.ensures.same c.born.ensures.born (c.ino.ensures ∙ c.in_ok-file.ensures.ino) c.self.invariant)

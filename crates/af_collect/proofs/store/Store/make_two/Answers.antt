@@ -1,19 +1,17 @@
-use Rattle.std.proofs.Common.{◌≡◌, arith, false, refl, sym, ap, ◌∙◌, subst}
-use Rattle.std.specs.FinMap as map
-use Rattle.std.specs.Map.{keys_of}
-use Rattle.af_base.specs.Refusals.{is_full}
-use Rattle.af_ledger.specs.Counted.{uncounted}
-use Rattle.af_ledger.specs.Kept.{Kept}
-use Rattle.af_collect.specs.Stored.{Stored}
-use Rattle.af_collect.specs.contracts.store.Store.{the_view}
-use Rattle.af_collect.proofs.Exact.{exact-pair, exact-same, world-is}
+use Rattle.std.proofs.Common.{◌≡◌, ◌<◌, refl, sym, ap, ◌∙◌, subst}
+use Rattle.af_hold.specs.Stored.{Stored}
+use Rattle.af_hold.proofs.Exact.{by-result}
+use Rattle.std.proofs.Common.{◌+◌}
+use Rattle.af_base.specs.World.{AsSocket}
+use Rattle.af_base.specs.Changes.{add_file}
+use Rattle.af_base.specs.Steps.{connected_socket}
+use Rattle.af_collect.proofs.Known.{known_born, known_is}
 use Rattle.af_collect.proofs.store.Store.make_two.Goals as goal
 
 pub invariant_of-self-2 : goal.invariant_of-self-2
 invariant_of-self-2 c =
-    let w = (the_view c.self.inside).world in
-    let fits = subst (λ (s : Stored). is_full s.world 2 ≡ false) (sym c.self.view_is) c.requires in
-    let one = c.enter.ensures.entered ∙ (λ i. record (c.reserve.ensures.same i) { counts = map.insert (c.reserve.ensures.same i).counts ((c.ino.ensures ∙ c.in_ok-first.ensures.first) i) uncounted; last = (c.ino.ensures ∙ c.in_ok-first.ensures.first) i; room = c.enter.new.self.room }) in
-    let kept = c.enter-2.ensures.entered ∙ (λ i. record (one i) { counts = map.insert (one i).counts ((c.ino-2.ensures ∙ c.in_ok-first.ensures.second) i) uncounted; last = (c.ino-2.ensures ∙ c.in_ok-first.ensures.second) i; room = c.enter-2.new.self.room }) in
-    exact-same _ _ _ _ (world-is _ _ refl c.in_ok-first.ensures.files (c.in_ok-first.ensures.next ∙ omega arith) refl (ap {A = Kept} (λ k. keys_of k.users) kept)) kept
-    (exact-pair w c.args.kind c.self.inside.ledger c.enter.new.self.room c.enter-2.new.self.room fits c.self.invariant)
+    let w = c.self.inside.places.world in
+    let x = AsSocket (connected_socket c.args.kind (w.next_ino + 1)) in
+    known_is _ _ c.born-2.new.self (ap (λ (s : Stored). s.world) c.in_ok-first.ensures.ok)
+    (known_born (add_file w x) (AsSocket (connected_socket c.args.kind w.next_ino)) c.born.new.self c.born.new.self c.born-2.new.self c.ino-2.result refl c.born-2.ensures.born (c.ino-2.ensures ∙ c.in_ok-first.ensures.inos.1)
+    (known_born w x c.self.inside.marks c.reserve.new.self c.born.new.self c.ino.result c.reserve.ensures.same c.born.ensures.born (c.ino.ensures ∙ c.in_ok-first.ensures.inos.0) c.self.invariant))

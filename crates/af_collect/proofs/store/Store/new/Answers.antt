@@ -1,6 +1,5 @@
-use Rattle.std.proofs.Common.{rules, refl}
-use Rattle.af_collect.proofs.Exact.{exact-empty, exact-same}
+use Rattle.af_collect.proofs.Known.{known_empty, known_is}
 use Rattle.af_collect.proofs.store.Store.new.Goals as goal
 
 pub invariant_of-result : goal.invariant_of-result
-invariant_of-result c = exact-same _ _ _ _ (search rules) refl (exact-empty c.new-3.result c.new-3.ensures.counts c.new-3.ensures.users c.new-3.ensures.total c.new-3.ensures.last)
+invariant_of-result c = known_is _ _ c.new-2.result c.new.ensures (known_empty c.new-2.result c.new-2.ensures.colors c.new-2.ensures.last)

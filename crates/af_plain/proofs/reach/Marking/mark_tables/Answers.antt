@@ -1,6 +1,7 @@
 use Rattle.std.specs.List.{flat_map}
 use Rattle.af_plain.proofs.Marking.{marks-end, marks-more}
-use Rattle.af_plain.proofs.Searching.{inos_of, tabled_listed}
+use Rattle.af_base.specs.Listing.{inos_of}
+use Rattle.af_plain.proofs.Searching.{tabled_listed}
 use Rattle.af_plain.proofs.reach.Marking.mark_tables.Goals as goal
 
 pub loop-table-preserved : goal.loop-table-preserved

@@ -10,7 +10,7 @@ use Rattle.af_base.specs.Refusals.{first_fit, socket_at}
 use Rattle.af_base.specs.Steps.{ProcessStep, first_embryo}
 use Rattle.af_base.specs.Table.{free_numbers}
 use Rattle.af_base.specs.World.{World}
-use Rattle.af_collect.specs.Stored.{Stored}
+use Rattle.af_hold.specs.Stored.{Stored}
 use Rattle.af_steps.specs.Outcome.{reply_of}
 use Rattle.af_steps.specs.Rows.{accept_row}
 use Rattle.af_steps.proofs.Connected.{accept-done, accept-starved, first-waits, some-waits}

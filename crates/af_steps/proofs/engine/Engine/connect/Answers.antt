@@ -11,7 +11,7 @@ use Rattle.af_base.specs.Pass.{Idle, Machine}
 use Rattle.af_base.specs.Refusals.{first_fit, room_of, socket_at}
 use Rattle.af_base.specs.Steps.{ProcessStep}
 use Rattle.af_base.specs.World.{Socket}
-use Rattle.af_collect.specs.Stored.{Stored}
+use Rattle.af_hold.specs.Stored.{Stored}
 use Rattle.af_steps.specs.Outcome.{reply_of}
 use Rattle.af_steps.specs.Rows.{client_row, listener_row}
 use Rattle.af_steps.proofs.Connected.{embryo-live, embryo-new, listener-is, listener-stays, room-left, some-by, two-sockets}

@@ -7,7 +7,7 @@ use Rattle.af_base.specs.World.{IsLive, World}
 use Rattle.af_base.specs.Changes.{install, uninstall}
 use Rattle.af_base.specs.Pass.{Idle, Machine}
 use Rattle.af_base.specs.Steps.{ProcessStep}
-use Rattle.af_collect.specs.Stored.{Stored}
+use Rattle.af_hold.specs.Stored.{Stored}
 use Rattle.af_steps.proofs.Numbers.{moved-done, on_table, same-done, same-free, same-limit, same-there}
 use Rattle.af_steps.proofs.Untabled.{install-uninstalled, less, less-at, less-free}
 use Rattle.af_steps.proofs.engine.Engine.dup2.Goals as goal

@@ -5,7 +5,7 @@ use Rattle.af_base.specs.Table.{free_numbers}
 use Rattle.af_base.specs.World.{AsSocket, World}
 use Rattle.af_base.specs.Changes.{add_file}
 use Rattle.af_base.specs.Steps.{idle_socket}
-use Rattle.af_collect.specs.Stored.{Stored, row_at}
+use Rattle.af_hold.specs.Stored.{Stored, row_at}
 use Rattle.af_steps.proofs.Made.{added-live}
 use Rattle.af_steps.proofs.Numbers.{least-low, not-open, room-below, same-free, same-limit}
 use Rattle.af_steps.proofs.engine.Engine.make_socket.Goals as goal

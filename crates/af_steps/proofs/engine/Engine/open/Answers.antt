@@ -4,7 +4,7 @@ use Rattle.std.specs.FinMap as map
 use Rattle.af_base.specs.Table.{free_numbers}
 use Rattle.af_base.specs.World.{Plain, World}
 use Rattle.af_base.specs.Changes.{add_file}
-use Rattle.af_collect.specs.Stored.{Stored, row_at}
+use Rattle.af_hold.specs.Stored.{Stored, row_at}
 use Rattle.af_steps.proofs.Made.{added-live}
 use Rattle.af_steps.proofs.Numbers.{least-low, not-open, room-below, same-free, same-limit}
 use Rattle.af_steps.proofs.engine.Engine.open.Goals as goal

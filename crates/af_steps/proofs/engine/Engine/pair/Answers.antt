@@ -5,7 +5,7 @@ use Rattle.af_base.specs.Steps.{with_pair}
 use Rattle.af_base.specs.Table.{lowest_free}
 use Rattle.af_base.specs.World.{IsLive, World}
 use Rattle.af_base.proofs.Moved.{there-install}
-use Rattle.af_collect.specs.Stored.{Stored, row_at}
+use Rattle.af_hold.specs.Stored.{Stored, row_at}
 use Rattle.af_steps.proofs.Made.{first-live, second-live}
 use Rattle.af_steps.proofs.Numbers.{room-below, same-free, same-limit, same-there}
 use Rattle.af_steps.proofs.Paired.{both-lowest, first-below, first-free, second-below, second-left}

@@ -5,8 +5,8 @@ use Rattle.af_steps.proofs.engine.Engine.pass.Goals as goal
 
 pub returns : goal.returns
 returns c =
-    let n = c.in_ok-reclaimed.reclaimed in
-    let k = c.in_ok-reclaimed.ensures.ok in
+    let n = c.collect-reclaimed.result in
+    let k = c.collect-reclaimed.ensures.collects in
     let next : c.min-self-inside.result ≡ next_pass c.self.inside.last_pass = c.min-self-inside.ensures in
-    subst (λ (m : Machine). PassesWhole m.pass m (reply.Done c.min-self-inside.result n) (record { world = c.collect.new.self.world; pass = Idle; last_pass = c.min-self-inside.result })) c.self.view_is
-    (inl (record { test = k.test; is_garbage = k.is_garbage; purged = k.purged; count = n; counted = k.counted; answered = ap (λ l. reply.Done l n) next }, refl, next))
+    subst (λ (m : Machine). PassesWhole m.pass m (reply.Done c.min-self-inside.result n) (record { world = c.collect-reclaimed.new.self.world; pass = Idle; last_pass = c.min-self-inside.result })) c.self.view_is
+    (record { test = k.test; is_garbage = k.is_garbage; purged = k.purged; count = n; counted = k.counted; answered = ap (λ l. reply.Done l n) next }, refl, next)

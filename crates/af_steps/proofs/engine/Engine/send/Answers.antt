@@ -11,7 +11,7 @@ use Rattle.af_base.specs.Pass.{Idle, Machine}
 use Rattle.af_base.specs.Places.{queue_at}
 use Rattle.af_base.specs.Refusals.{first_fit, peer_of, socket_at}
 use Rattle.af_base.specs.Steps.{ProcessStep}
-use Rattle.af_collect.specs.Stored.{Stored}
+use Rattle.af_hold.specs.Stored.{Stored}
 use Rattle.af_base.specs.Refusals.{send_row}
 use Rattle.af_steps.specs.Outcome.{reply_of}
 use Rattle.af_steps.specs.Rows.{parts_row, peer_row}

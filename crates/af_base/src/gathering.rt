@@ -1,0 +1,115 @@
+//! The places of plain lists, gathered and sorted: in such a list a binary search counts.
+ghost use Rattle.std.specs.Prelude.{◌≡◌, ◌++◌, [], IfOk, OnOk, length};
+ghost use Rattle.std.specs.List.{flat_map};
+ghost use Rattle.af_base.specs.Counts.{refs, inflight, charged, total};
+ghost use Rattle.af_base.specs.Listing.{AreFiles, AreTables, IsTally, file_of, inos_of, listed, message_of, payers_of};
+ghost use Rattle.af_base.specs.Places.{carried, contents, queue_of};
+
+use crate::listing::{ListedFile, ListedMessage, ListedTable};
+use crate::names::{Ino, Uid};
+use std::alloc::{AllocError, Global};
+
+/// The files that the numbers of the table stand for go last.
+fn push_inos(inos: &mut Vec<Ino>, table: &ListedTable) -> Result<(), AllocError>
+    ensures { OnOk result (inos.new.items ≡ inos.old.items ++ inos_of table.now) }
+{
+    for number in &table.numbers {
+        inos.push(number.ino)?;
+    }
+    Ok(())
+}
+
+/// What travels in the queue of the file goes last.
+fn push_carried(inos: &mut Vec<Ino>, file: &ListedFile) -> Result<(), AllocError>
+    ensures { OnOk result (inos.new.items ≡ inos.old.items ++ carried (queue_of (file_of file.now))) }
+{
+    let Some(socket) = &file.socket else {
+        return Ok(());
+    };
+    for message in &socket.queue {
+        inos.extend_from_slice(message.attached.as_slice())?;
+    }
+    Ok(())
+}
+
+/// What the file holds goes last.
+fn push_contents(inos: &mut Vec<Ino>, file: &ListedFile) -> Result<(), AllocError>
+    ensures { OnOk result (inos.new.items ≡ inos.old.items ++ contents (file_of file.now)) }
+{
+    push_carried(inos, file)?;
+    let Some(socket) = &file.socket else {
+        return Ok(());
+    };
+    inos.extend_from_slice(socket.backlog.as_slice())
+}
+
+/// The user whom the message is charged to goes last, once for each file that travels with it.
+fn push_payer(payers: &mut Vec<Uid>, message: &ListedMessage) -> Result<(), AllocError>
+    ensures { OnOk result (payers.new.items ≡ payers.old.items ++ payers_of (message_of message.now)) }
+{
+    for _ino in &message.attached {
+        payers.push(message.user)?;
+    }
+    Ok(())
+}
+
+/// The users whom the queue of the file is charged to go last, once for each place.
+fn push_payers(payers: &mut Vec<Uid>, file: &ListedFile) -> Result<(), AllocError>
+    ensures { OnOk result (payers.new.items ≡ payers.old.items ++ flat_map payers_of (queue_of (file_of file.now))) }
+{
+    let Some(socket) = &file.socket else {
+        return Ok(());
+    };
+    for message in &socket.queue {
+        push_payer(payers, message)?;
+    }
+    Ok(())
+}
+
+/// The file of each place, rising.
+pub fn held(
+    alloc: Global,
+    tables: &[ListedTable],
+    files: &[ListedFile],
+) -> Result<Vec<Ino>, AllocError>
+    requires tables { AreTables tables.now }
+    requires files { AreFiles files.now }
+    ensures { IfOk result (λ xs. IsTally (refs (listed tables.now files.now)) xs.items) }
+{
+    let mut held = Vec::new(alloc);
+    for table in tables {
+        push_inos(&mut held, table)?;
+    }
+    for file in files {
+        push_contents(&mut held, file)?;
+    }
+    held.sort_unstable();
+    Ok(held)
+}
+
+/// The file of each place in a queue, rising.
+pub fn queued(alloc: Global, files: &[ListedFile]) -> Result<Vec<Ino>, AllocError>
+    requires { AreFiles files.now }
+    ensures each { IfOk result (λ xs. IsTally (inflight (listed [] files.now)) xs.items) }
+    ensures all { IfOk result (λ xs. length xs.items ≡ total (listed [] files.now)) }
+{
+    let mut queued = Vec::new(alloc);
+    for file in files {
+        push_carried(&mut queued, file)?;
+    }
+    queued.sort_unstable();
+    Ok(queued)
+}
+
+/// The user whom each place in a queue is charged to, rising.
+pub fn payers(alloc: Global, files: &[ListedFile]) -> Result<Vec<Uid>, AllocError>
+    requires { AreFiles files.now }
+    ensures { IfOk result (λ xs. IsTally (charged (listed [] files.now)) xs.items) }
+{
+    let mut payers = Vec::new(alloc);
+    for file in files {
+        push_payers(&mut payers, file)?;
+    }
+    payers.sort_unstable();
+    Ok(payers)
+}

@@ -1,0 +1,133 @@
+-- What a place more and a place less ask for, where the numbers that are kept are the recounts.
+use Rattle.std.proofs.Common.{◌≡◌, ◌<◌, ◌≤◌, ℕ, zero, suc, ◌+◌, ◌*◌, Bool, true, false, inl, inr, List, [], ◌∷◌, drop, length, refl, sym, ap, ◌∙◌, cond, nat_eq, arith}
+use Rattle.std.specs.Prelude.{Option, Some, None, IsTrue, is_some}
+use Rattle.std.specs.List.{Contains, sum_by}
+use Rattle.std.specs.FinMap as map
+use Rattle.std.proofs.lemmas.Bool.{cases_lt}
+use Rattle.std.proofs.lemmas.List.Sums.{sum_by-cons}
+use Rattle.af_base.specs.declared.limits.TheConstants.{MAX_INFLIGHT, MAX_NOFILE, MAX_PROCESSES}
+use Rattle.af_base.specs.World.{AsSocket, Map, Message, Process, Socket, World}
+use Rattle.af_base.specs.Places.{carried, queue_of, table_at}
+use Rattle.af_base.specs.Counts.{charge, charged, count_in, inflight, one, tabled, total, total_of}
+use Rattle.af_base.specs.Whole.{IsWithin}
+use Rattle.af_base.proofs.Held.{tabled-InTable}
+use Rattle.af_base.proofs.Lookups.{none_some, not_same, remove-here, remove-other, same_or_not, itself}
+use Rattle.af_base.proofs.Places.{count-append, inflight-left}
+use Rattle.af_base.proofs.Sums.{total-remove}
+use Rattle.af_base.proofs.Totals.{total-below, total-most}
+use Rattle.af_base.proofs.Within.{total-left}
+use Rattle.af_ledger.specs.Kept.{CanDrop, CanDropAll, CanHold, CanHoldAll, Kept, count_of, has_count, is_user}
+use Rattle.af_ledger.specs.declared.place.Place.TheVariants.{Backlog, Table}
+use Rattle.af_ledger.proofs.HeldAll.{count-length, one-itself}
+use Rattle.af_hold.specs.Agreement.{Agrees}
+use Rattle.af_hold.proofs.Recounts.{charged-shed, waiting-dequeued}
+use Rattle.af_hold.proofs.Sheds.{Sheds}
+
+-- A number is another at most once.
+pub one-most : (f g : ℕ) → one f g ≤ 1
+one-most f g = by (nat_eq f g) where
+  by : (b : Bool) → cond b 1 0 ≤ 1
+  by true = omega arith
+  by false = omega arith
+
+-- All numbers of the map are below n.
+abbrev AreBelow : ℕ → Map ℕ → Type 0
+AreBelow n m = (i x : ℕ) → map.get m i ≡ Some x → i < n
+
+-- What is said of maps with numbers below n is said of those with n too, with one more.
+low_step : (F : ℕ → ℕ) → ((x : ℕ) → F x ≤ 1) → (n : ℕ) → ((m : Map ℕ) → AreBelow n m → total_of F m ≤ n) → (m : Map ℕ) → AreBelow (suc n) m → total_of F m ≤ suc n
+low_step F few n rest m low = by (map.get m n) refl where
+  below : (i : ℕ) → ¬ (i ≡ n) → i < suc n → i < n
+  below i apart less = elim (cases_lt i n) [ inl y ↦ y | inr y ↦ absurd (apart (omega (arith, y, less))) ]
+
+  by : (o : Option ℕ) → map.get m n ≡ o → total_of F m ≤ suc n
+  by None e =
+      let all = rest m (λ i x is. below i (λ same. none_some x (sym e ∙ ap (map.get m) (sym same) ∙ is)) (low i x is)) in
+      omega (arith, all)
+  by (Some v) e =
+      let all = rest (map.remove m n) (λ i x is. elim (same_or_not i n) [
+        | inl same ↦ absurd (none_some x (sym (remove-here m n) ∙ ap (map.get (map.remove m n)) (sym same) ∙ is))
+        | inr apart ↦ below i (not_same i n apart) (low i x (sym (remove-other m n i apart) ∙ is))
+      ]) in
+      omega (arith, all, few v, total-remove F m n v e)
+
+-- A map whose numbers are all below n adds up to at most n, with at most one each.
+total-low : (F : ℕ → ℕ) → ((x : ℕ) → F x ≤ 1) → (n : ℕ) (m : Map ℕ) → AreBelow n m → total_of F m ≤ n
+total-low F few zero m low =
+    let most : total_of F m ≤ map.len m * 0 = total-most F 0 m (λ i x is. let none = low i x is in absurd (omega (arith, none))) in
+    omega (arith, most)
+total-low F few (suc n) m low = low_step F few n (λ m low. total-low F few n m low) m low
+
+-- All tables together have few numbers that stand for a file.
+pub tabled-most : (w : World) (f : ℕ) (k : Kept) → IsWithin w → Agrees w k → (count_of k f).tabled ≤ MAX_PROCESSES * MAX_NOFILE
+tabled-most w f k within agrees =
+    let most : tabled w f ≤ map.len w.processes * MAX_NOFILE = total-most (λ q. total_of (one f) q.table) MAX_NOFILE w.processes each in
+    let few = within.process_count in
+    let same = agrees.tabled f in
+    omega (arith, most, few, same) where
+      each : (p : ℕ) (q : Process) → map.get w.processes p ≡ Some q → total_of (one f) q.table ≤ MAX_NOFILE
+      each p q at =
+          let fits = within.processes p q at in
+          let low = total-low (one f) (one-most f) q.limit q.table (λ i x is. fits.numbers i (ap is_some is)) in
+          let limit = fits.limit in
+          omega (arith, low, limit)
+
+-- A number of a table more of f can be counted.
+pub can-hold-table : (w : World) (f : ℕ) (k : Kept) → IsWithin w → Agrees w k → CanHold Table f k
+can-hold-table w f k within agrees = (let most = tabled-most w f k within agrees in omega (arith, most), tt)
+
+-- A queue has a file in at most as many places as it has places.
+carried-most : (f : ℕ) (q : List Message) → count_in f (carried q) ≤ sum_by (λ m. length m.attached) q
+carried-most f [] = omega arith
+carried-most f (m ∷ q) = omega (arith, count-append f m.attached (carried q), count-length f m.attached, carried-most f q, sum_by-cons (λ m. length m.attached) m q)
+
+-- A queue charges a user for at most as many places as it has.
+charge-most : (u : ℕ) (q : List Message) → sum_by (charge u) q ≤ sum_by (λ m. length m.attached) q
+charge-most u [] = omega arith
+charge-most u (m ∷ q) = omega (arith, by (nat_eq u m.user), charge-most u q, sum_by-cons (charge u) m q, sum_by-cons (λ m. length m.attached) m q) where
+  by : (b : Bool) → cond b (length m.attached) 0 ≤ length m.attached
+  by true = omega arith
+  by false = omega arith
+
+-- A file is in flight at most as often as there are queue places.
+inflight-total : (w : World) (f : ℕ) → inflight w f ≤ total w
+inflight-total w f = total-below (λ x. count_in f (carried (queue_of x))) (λ x. sum_by (λ m. length m.attached) (queue_of x)) w.files w.files (λ i x is. (x, is, carried-most f (queue_of x)))
+
+-- A user is charged for at most as many queue places as there are.
+charged-total : (w : World) (u : ℕ) → charged w u ≤ total w
+charged-total w u = total-below (λ x. sum_by (charge u) (queue_of x)) (λ x. sum_by (λ m. length m.attached) (queue_of x)) w.files w.files (λ i x is. (x, is, charge-most u (queue_of x)))
+
+-- A message that all queues have room for can be counted and charged.
+pub can-hold-all : (w : World) (m : Message) (k : Kept) → IsWithin w → total w + length m.attached ≤ MAX_INFLIGHT → IsTrue (is_user m.user k.users) → ((f : ℕ) → Contains m.attached f → IsTrue (has_count k f)) → Agrees w k → CanHoldAll m.user m.attached k
+can-hold-all w m k within room user known agrees = record {
+  known = known;
+  countable = λ f. let same = agrees.inflight f in omega (arith, room, same, inflight-total w f);
+  user = user;
+  charge = let same = agrees.charged m.user in omega (arith, room, same, charged-total w m.user);
+  total = let same = agrees.total in omega (arith, room, same);
+}
+
+-- A number of a table that stands for f is counted.
+pub can-drop-table : (w : World) (p n f : ℕ) (k : Kept) → table_at w p n ≡ Some f → Agrees w k → CanDrop Table f k
+can-drop-table w p n f k is agrees =
+    let some = tabled-InTable w f (p, n, is) in
+    let same = agrees.tabled f in
+    (omega (arith, some, same), tt)
+
+-- The first embryo of a backlog is counted.
+pub can-drop-backlog : (w : World) (s f : ℕ) (x : Socket) (k : Kept) → map.get w.files s ≡ Some (AsSocket x) → x.backlog ≡ f ∷ drop 1 x.backlog → Agrees w k → CanDrop Backlog f k
+can-drop-backlog w s f x k at first agrees =
+    let same = agrees.waiting f in
+    let mine = one-itself f in
+    (omega (arith, same, mine, waiting-dequeued w s f f x at first), tt)
+
+-- A message taken of a queue is counted and charged.
+pub can-drop-all : (w : World) (s : ℕ) (m : Message) (rest : List Message) (x : Socket) (k : Kept) → map.get w.files s ≡ Some (AsSocket x) → Sheds x.queue m rest → Agrees w k → CanDropAll m.user m.attached k
+can-drop-all w s m rest x k at shed agrees = record {
+  counted = λ f. let same = agrees.inflight f in omega (arith, same, inflight-left w s m.attached rest f x at shed.leaves.carried);
+  charge =
+      let same = agrees.charged m.user in
+      let mine : charge m.user m ≡ length m.attached = ap {B = ℕ} (λ b. cond b (length m.attached) 0) (itself m.user) in
+      omega (arith, same, mine, charged-shed w s m rest m.user x at shed);
+  total = let same = agrees.total in omega (arith, same, total-left w s x m.attached rest at shed.leaves);
+}

@@ -1,0 +1,6 @@
+use Rattle.std.proofs.Common.{rules, refl}
+use Rattle.af_hold.proofs.Exact.{exact-empty, exact-same}
+use Rattle.af_hold.proofs.holdings.Holdings.new.Goals as goal
+
+pub invariant_of-result : goal.invariant_of-result
+invariant_of-result c = exact-same _ _ _ _ (search rules) refl (exact-empty c.new-3.result c.new-3.ensures.counts c.new-3.ensures.users c.new-3.ensures.total c.new-3.ensures.last)

@@ -1,0 +1,18 @@
+use Rattle.std.proofs.Common.{◌≡◌, ◌≤◌, ◌-◌, ℕ}
+use Rattle.std.specs.Prelude.{Some}
+use Rattle.std.specs.FinMap as map
+use Rattle.af_base.specs.World.{World}
+use Rattle.af_base.specs.declared.limits.TheConstants.{MAX_NOFILE}
+use Rattle.af_hold.specs.Agreement.{IsExact}
+use Rattle.af_hold.proofs.Joined.{Leaving}
+use Rattle.af_hold.proofs.numbers.drop_numbers.Given as goal
+
+abbrev pub invariant-loop-fd : goal.invariant-loop-fd
+invariant-loop-fd l = record {
+  leaving : (w : World) (pid : ℕ) → map.get w.processes pid ≡ Some l.process.process → IsExact w l.fn.ledger → Leaving w pid l.process.process l.from l.ledger;
+  counts : l.ledger ≡ record l.fn.ledger { counts = l.ledger.counts };
+  low : l.from ≤ MAX_NOFILE;
+}
+
+abbrev pub decreases-loop-fd : goal.decreases-loop-fd
+decreases-loop-fd l = MAX_NOFILE - l.from

@@ -1,0 +1,74 @@
+use Rattle.std.proofs.Common.{rules, ◌≡◌, ◌<◌, ◌+◌, ◌∷◌, ◌^◌, ℕ, [], length, map, arith, refl, ap, sym, ◌∙◌, subst, inl, inr}
+use Rattle.std.specs.Prelude.{IsTrue}
+use Rattle.std.specs.List.{All, Contains, zip}
+use Rattle.std.proofs.lemmas.List.Elements.{All-head, All-rest}
+use Rattle.af_base.specs.World.{Map}
+use Rattle.af_base.specs.Changes.{change_at, installed}
+use Rattle.af_base.proofs.Elements.{Contains-first, Contains-later}
+use Rattle.af_ledger.specs.Kept.{Kept, count_of, has_count, held_all}
+use Rattle.af_ledger.specs.declared.place.Place.TheVariants.{Table}
+use Rattle.af_ledger.proofs.Laws.{has-held, tabled-tabled}
+use Rattle.af_table.specs.Procs.{row_in}
+use Rattle.af_hold.specs.Stored.{filled}
+use Rattle.af_hold.proofs.Bounds.{one-most}
+use Rattle.af_hold.proofs.Filling.{no-files, no-numbers}
+use Rattle.af_hold.proofs.places.table_in_all.Goals as goal
+
+pub loop-fd-init : goal.loop-fd-init
+loop-fd-init c =
+    let fds : c.into_iter-fd-iterator.result.a.rest.now ≡ c.args.fds.now = search rules in
+    let files : c.into_iter-fd-iterator.result.b.rest.now ≡ c.args.files.now = search rules in
+    record {
+      processes = λ i. filled c.args.procs.now.processes c.args.pid (zip (fds i) (files i));
+      kept = λ i. held_all Table (map (λ e. e.1) (zip (fds i) (files i))) c.args.ledger.now;
+      rows = refl;
+      next = refl;
+      row = subst (All (λ n. n < row_in c.args.procs.now.rows c.args.pid)) (sym fds) c.requires.row;
+      known = λ f h. c.requires.known f (subst (λ l. Contains l f) files h);
+      fits = λ f. subst (λ l. (count_of c.args.ledger.now f).tabled + length l < 2 ^ 31) (sym files) (c.requires.fits f);
+    }
+
+pub hold-requires-clause-known : goal.hold-requires-clause-known
+hold-requires-clause-known c = c.loop-fd.invariant.known c.in-Some.file.now (subst (λ l. Contains l c.in-Some.file.now) (sym c.in-Some.ensures.steps.1) (Contains-first c.in-Some.file.now c.next.new.self.b.rest.now))
+
+pub hold-requires-clause-fits : goal.hold-requires-clause-fits
+hold-requires-clause-fits c = let fits = c.loop-fd.invariant.fits c.in-Some.file.now in (omega (arith, fits), tt)
+
+pub install-requires : goal.install-requires
+install-requires c =
+    let low = λ (n : ℕ). n < row_in c.loop-fd.procs.rows c.args.pid in
+    All-head low _ _ (subst (All low) c.in-Some.ensures.steps.0 c.loop-fd.invariant.row)
+
+pub loop-fd-preserved : goal.loop-fd-preserved
+loop-fd-preserved c =
+    let k = c.loop-fd.invariant in
+    let n = c.in-Some.fd.now in
+    let f = c.in-Some.file.now in
+    let steps = c.in-Some.ensures.steps in
+    let ns = c.next.new.self.a.rest.now in
+    let fs = c.next.new.self.b.rest.now in
+    let low = λ (m : ℕ). m < row_in c.loop-fd.procs.rows c.args.pid in
+    let first = k.known f (subst (λ l. Contains l f) (sym steps.1) (Contains-first f fs)) in
+    record {
+      processes = ap (λ P. filled P c.args.pid (zip ns fs)) (c.install.ensures.processes ∙ ap (λ x. change_at (installed n x) c.loop-fd.procs.processes c.args.pid) c.again.ensures) ∙ sym (λ i. filled c.loop-fd.procs.processes c.args.pid (zip (steps.0 i) (steps.1 i))) ∙ k.processes;
+      kept = ap (held_all Table (map (λ e. e.1) (zip ns fs))) c.hold.ensures ∙ sym (λ i. held_all Table (map (λ e. e.1) (zip (steps.0 i) (steps.1 i))) c.loop-fd.ledger) ∙ k.kept;
+      rows = c.install.ensures.rows ∙ k.rows;
+      next = c.install.ensures.next ∙ k.next;
+      row = subst (λ (r : Map ℕ). All (λ m. m < row_in r c.args.pid) ns) (sym c.install.ensures.rows) (All-rest low n ns (n ∷ ns) refl (subst (All low) steps.0 k.row));
+      known = λ g h. subst (λ l. IsTrue (has_count l g)) (sym c.hold.ensures) (has-held Table f g c.loop-fd.ledger first ∙ k.known g (subst (λ l. Contains l g) (sym steps.1) (Contains-later f fs g h)));
+      fits = λ g. let fits = k.fits g in omega (arith, fits, ap (λ (l : Kept). (count_of l g).tabled) c.hold.ensures, tabled-tabled f g c.loop-fd.ledger, one-most g f, ap length steps.1);
+    }
+
+pub returns : goal.returns
+returns c =
+    let k = c.loop-fd.invariant in
+    let none = elim c.in-None.ensures.steps as (λ _. zip c.loop-fd.fd-iterator.a.rest.now c.loop-fd.fd-iterator.b.rest.now ≡ []) [
+      | inl h ↦ no-numbers _ c.loop-fd.fd-iterator.b.rest.now h.1.0
+      | inr h ↦ no-files c.loop-fd.fd-iterator.a.rest.now _ h.1.0
+    ] in
+    record {
+      processes = sym (ap (filled c.loop-fd.procs.processes c.args.pid) none) ∙ k.processes;
+      rows = k.rows;
+      next = k.next;
+      kept = sym (ap (λ es. held_all Table (map (λ e. e.1) es) c.loop-fd.ledger) none) ∙ k.kept;
+    }

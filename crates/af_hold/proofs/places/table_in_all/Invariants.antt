@@ -1,0 +1,23 @@
+-- What is left to install leads to where all together leads.
+use Rattle.std.proofs.Common.{◌≡◌, ◌<◌, ◌+◌, ◌^◌, ℕ, length, map}
+use Rattle.std.specs.Prelude.{IsTrue}
+use Rattle.std.specs.List.{All, Contains, zip}
+use Rattle.af_ledger.specs.Kept.{count_of, has_count, held_all}
+use Rattle.af_ledger.specs.declared.place.Place.TheVariants.{Table}
+use Rattle.af_table.specs.Procs.{row_in}
+use Rattle.af_hold.specs.Stored.{filled}
+use Rattle.af_hold.proofs.places.table_in_all.Given as goal
+
+abbrev pub invariant-loop-fd : goal.invariant-loop-fd
+invariant-loop-fd l =
+    let ns = l.fd-iterator.a.rest.now in
+    let fs = l.fd-iterator.b.rest.now in
+    record {
+      processes : filled l.procs.processes l.pid (zip ns fs) ≡ filled l.initial.procs.processes l.pid (zip l.fds l.files);
+      kept : held_all Table (map (λ e. e.1) (zip ns fs)) l.ledger ≡ held_all Table (map (λ e. e.1) (zip l.fds l.files)) l.initial.ledger;
+      rows : l.procs.rows ≡ l.initial.procs.rows;
+      next : l.procs.next_pid ≡ l.initial.procs.next_pid;
+      row : All (λ n. n < row_in l.procs.rows l.pid) ns;
+      known : (f : ℕ) → Contains fs f → IsTrue (has_count l.ledger f);
+      fits : (f : ℕ) → (count_of l.ledger f).tabled + length fs < 2 ^ 31;
+    }

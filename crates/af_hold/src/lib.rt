@@ -1,0 +1,16 @@
+//! Processes, files and the numbers that are kept of them, always in step: which places hold which
+//! files.
+//!
+//! Places come and go by the calls of `places` and `sockets`, by whole processes (`copy_for_fork` and
+//! `remove_process`), and by no other. A file that lost its last place waits until it is taken away.
+#![tactic(auto)]
+
+mod holdings;
+mod listings;
+mod numbers;
+mod places;
+mod release;
+mod sockets;
+mod views;
+
+pub use holdings::Holdings;

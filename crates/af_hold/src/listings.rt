@@ -1,0 +1,105 @@
+//! Plain lists of all that holds a file, for a recount that shares no walk with the engine.
+ghost use Rattle.std.specs.Prelude.{◌≡◌, ◌≤◌, ◌*◌, ◌+◌, Some, IfOk, length, option_map};
+ghost use Rattle.std.specs.FinMap as map;
+ghost use Rattle.af_base.specs.World as world;
+ghost use Rattle.af_base.specs.Places.{contents};
+ghost use Rattle.af_base.specs.Bare.{bare, bare_file, bare_socket};
+ghost use Rattle.af_base.specs.Listing.{processes_of, files_of, file_of, socket_of, AreTables, AreFiles};
+
+use crate::holdings::Holdings;
+use af_base::limits::{MAX_BACKLOG, MAX_MESSAGES, SCM_MAX_FD};
+use af_base::listing::{ListedFile, ListedMessage, ListedSocket, ListedTable, Listing};
+use af_base::names::{FileRef, Ino};
+use af_desc::Socket;
+use std::alloc::{AllocError, Global};
+
+impl Holdings {
+    /// Plain lists of the tables, queues and backlogs as they stand, and whom each message is charged
+    /// to; no bytes, states, names or limits. The error says that memory was refused.
+    pub fn listing(&self) -> Result<Listing, AllocError>
+        ensures { IfOk result (λ l. l ≡ bare self.now.world) }
+    {
+        let tables = self.listed_tables()?;
+        let files = self.listed_files()?;
+        Listing::of(self.alloc, tables, files)
+    }
+
+    /// The tables, by rising pid.
+    fn listed_tables(&self) -> Result<Vec<ListedTable>, AllocError>
+        ensures shown { IfOk result (λ tables. processes_of tables.items ≡ (bare self.now.world).processes) }
+        ensures ordered { IfOk result (λ tables. AreTables tables.items) }
+    {
+        let mut tables = Vec::new(self.alloc);
+        for pid in &self.procs.pids()? {
+            tables.push(self.procs.listed(*pid)?)?;
+        }
+        Ok(tables)
+    }
+
+    /// The live files, by rising inode number.
+    fn listed_files(&self) -> Result<Vec<ListedFile>, AllocError>
+        ensures shown { IfOk result (λ files. files_of files.items ≡ (bare self.now.world).files) }
+        ensures ordered { IfOk result (λ files. AreFiles files.items) }
+    {
+        let mut files = Vec::new(self.alloc);
+        let mut last = Ino(0);
+        while let Some(file) = self.files.next_after(last) {
+            last = file.ino();
+            files.push(self.listed_file(&file)?)?;
+        }
+        Ok(files)
+    }
+
+    /// A live file, with what it has to receive and who waits at it.
+    fn listed_file(&self, file: &FileRef) -> Result<ListedFile, AllocError>
+        requires { world.IsLive self.now.world file.now }
+        ensures ino { IfOk result (λ x. x.ino ≡ file.now) }
+        ensures shown { IfOk result (λ x. Some (file_of x) ≡ option_map bare_file (map.get self.now.world.files file.now)) }
+        ensures few { IfOk result (λ x. length (contents (file_of x)) ≤ MAX_MESSAGES * SCM_MAX_FD + MAX_BACKLOG) }
+    {
+        let socket = match self.files.get(file).unwrap().socket() {
+            Some(socket) => Some(listed_socket(self.alloc, socket)?),
+            None => None,
+        };
+        Ok(ListedFile {
+            ino: file.ino(),
+            socket,
+        })
+    }
+}
+
+/// What a socket has to receive and who waits at it, as plain lists.
+fn listed_socket(alloc: Global, socket: &Socket) -> Result<ListedSocket, AllocError>
+    requires { length socket.now.backlog ≤ MAX_BACKLOG }
+    ensures shown { IfOk result (λ s. socket_of s ≡ bare_socket socket.now) }
+    ensures few { IfOk result (λ s. length (contents (world.AsSocket (socket_of s))) ≤ MAX_MESSAGES * SCM_MAX_FD + MAX_BACKLOG) }
+{
+    let mut queue = Vec::new(alloc);
+    for message in socket.queue().messages() {
+        queue.push(ListedMessage {
+            attached: numbers_of(alloc, message.attached())?,
+            user: message.user(),
+        })?;
+    }
+    Ok(ListedSocket {
+        queue,
+        backlog: numbers_waiting(alloc, socket)?,
+    })
+}
+
+/// The numbers of the embryos that wait at a socket.
+fn numbers_waiting(alloc: Global, socket: &Socket) -> Result<Vec<Ino>, AllocError>
+    ensures { IfOk result (λ inos. inos.items ≡ socket.now.backlog) }
+{
+    let Some(backlog) = socket.backlog() else {
+        return Ok(Vec::new(alloc));
+    };
+    backlog.files().iter().map(|file| file.ino()).collect(alloc)
+}
+
+/// The numbers of these files.
+fn numbers_of(alloc: Global, files: &[FileRef]) -> Result<Vec<Ino>, AllocError>
+    ensures { IfOk result (λ inos. inos.items ≡ files.now) }
+{
+    files.iter().map(|file| file.ino()).collect(alloc)
+}

@@ -1,0 +1,106 @@
+//! Sockets that are made, named, made to listen and connected, and the embryos that wait to be
+//! accepted. Each call is one change of the world, and keeps the numbers in step with it.
+ghost use Rattle.std.specs.Prelude.{◌≡◌, ◌<◌, ◌≤◌, ℕ, None, Some, IsTrue, IfOk, IfSome, OnOk, OnErr, length, false, is_none, slice_get, true};
+ghost use Rattle.std.specs.FinMap as finmap;
+ghost use Rattle.af_base.specs.World as world;
+ghost use Rattle.af_base.specs.Names.{is_name, named};
+ghost use Rattle.af_base.specs.Places.{backlog_at, table_at};
+ghost use Rattle.af_base.specs.Changes.{add_file, bound, connected, dequeued, install, listening, queued, with_socket};
+ghost use Rattle.af_base.specs.Counts.{waiting};
+ghost use Rattle.af_base.specs.Refusals.{is_full, room_of, socket_at};
+ghost use Rattle.af_base.specs.Steps.{connected_socket, idle_socket};
+ghost use Rattle.af_hold.specs.Limits.{IsBelowLimit};
+ghost use Rattle.af_hold.specs.Stored.{row_at};
+
+use crate::holdings::Holdings;
+use af_base::events::{SockType, State};
+use af_base::items::Items;
+use af_base::limits::MAX_BACKLOG;
+use af_base::names::{Fd, FileRef, Pid};
+use af_ledger::Place;
+use std::alloc::AllocError;
+
+impl Holdings {
+    /// A socket more that was never connected, which waits for its first place (socket(2)). On an
+    /// error nothing has changed.
+    pub fn make_sock(&mut self, kind: SockType) -> Result<FileRef, AllocError>
+        requires { is_full self.old.world 1 ≡ false }
+        ensures ok { OnOk result (self.new ≡ record self.old { world = add_file self.old.world (world.AsSocket (idle_socket kind)) }) }
+        ensures ino { IfOk result (λ ino. ino ≡ self.old.world.next_ino) }
+        ensures err { OnErr result (self.new ≡ self.old) }
+    {
+        self.ledger.reserve(1)?;
+        let file = self.files.make_sock(kind)?;
+        self.ledger.enter(file.ino());
+        Ok(file)
+    }
+
+    /// An embryo: a socket more, and this client, which was never connected, are connected to each
+    /// other (connect(2)). It waits for its place in a backlog. On an error nothing has changed.
+    pub fn make_embryo(&mut self, kind: SockType, client: &FileRef) -> Result<FileRef, AllocError>
+        requires room { is_full self.old.world 1 ≡ false }
+        requires socket { is_none (socket_at self.old.world client.now) ≡ false }
+        requires idle { IfSome (socket_at self.old.world client.now) (λ s. s.state ≡ State.Idle) }
+        ensures ok { OnOk result (self.new ≡ record self.old { world = with_socket (add_file self.old.world (world.AsSocket (connected_socket kind client.now))) client.now (connected self.old.world.next_ino) }) }
+        ensures ino { IfOk result (λ ino. ino ≡ self.old.world.next_ino) }
+        ensures err { OnErr result (self.new ≡ self.old) }
+    {
+        self.ledger.reserve(1)?;
+        let embryo = self.files.make_embryo(kind, client)?;
+        self.ledger.enter(embryo.ino());
+        Ok(embryo)
+    }
+
+    /// A socket that has no name and never listened has this one from now on, which is nobody's
+    /// (bind(2)). On an error nothing has changed.
+    pub fn bind(&mut self, socket: &FileRef, name: &Items<u8>) -> Result<(), AllocError>
+        requires nameless { IfSome (socket_at self.old.world socket.now) (λ s. s.name ≡ None) }
+        requires name { is_name name.now ≡ true }
+        requires free { named self.old.world.files name.now ≡ None }
+        ensures ok { OnOk result (self.new ≡ record self.old { world = with_socket self.old.world socket.now (bound name.now) }) }
+        ensures err { OnErr result (self.new ≡ self.old) }
+    {
+        self.files.bind(socket, name)
+    }
+
+    /// A socket that has a name and was never connected waits for connections from now on, so many
+    /// at most (listen(2)). On an error nothing has changed.
+    pub fn listen(&mut self, socket: &FileRef, most: u32) -> Result<(), AllocError>
+        requires named { IfSome (socket_at self.old.world socket.now) (λ s. is_none s.name ≡ false) }
+        requires idle { IfSome (socket_at self.old.world socket.now) (λ s. s.state ≡ State.Idle) }
+        requires few { most ≤ MAX_BACKLOG }
+        ensures ok { OnOk result (self.new ≡ record self.old { world = with_socket self.old.world socket.now (listening most) }) }
+        ensures err { OnErr result (self.new ≡ self.old) }
+    {
+        self.files.listen(socket, most)
+    }
+
+    /// An embryo into the backlog of a listener that has room for it, last. It takes no memory.
+    pub fn put_embryo(&mut self, listener: &FileRef, embryo: FileRef)
+        requires live { world.IsLive self.old.world embryo }
+        requires new { waiting self.old.world embryo ≡ 0 }
+        requires room { IfSome (socket_at self.old.world listener.now) (λ s. length s.backlog < room_of s.state) }
+        requires socket { is_none (socket_at self.old.world listener.now) ≡ false }
+        ensures { self.new ≡ record self.old { world = with_socket self.old.world listener.now (queued embryo) } }
+    {
+        self.ledger.hold(Place::Backlog, &embryo);
+        self.files.enqueue(listener, embryo);
+    }
+
+    /// The first embryo of a listener out of its backlog and into a table, at a free number for which
+    /// there is room (accept(2)). It takes no memory.
+    pub fn take_embryo(&mut self, listener: &FileRef, pid: Pid, fd: Fd)
+        requires there { IsTrue (finmap.contains_key self.old.world.processes pid) }
+        requires row { fd < row_at self.old pid }
+        requires limit { IsBelowLimit self.old.world pid fd }
+        requires free { table_at self.old.world pid fd ≡ None }
+        requires some { 0 < length (backlog_at self.old.world listener.now) }
+        ensures { (embryo : ℕ) → slice_get (backlog_at self.old.world listener.now) 0 ≡ Some embryo → self.new ≡ record self.old { world = install (with_socket self.old.world listener.now dequeued) pid fd embryo } }
+    {
+        let embryo = self.files.dequeue(listener).unwrap();
+        // Into the table first, so that it does not wait in between.
+        self.ledger.hold(Place::Table, &embryo);
+        self.ledger.drop_one(Place::Backlog, &embryo);
+        self.procs.install(pid, fd, embryo);
+    }
+}

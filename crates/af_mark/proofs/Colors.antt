@@ -1,0 +1,172 @@
+-- The colours behind marks, as marks come, change and go.
+use Rattle.std.proofs.Common.{◌≡◌, ◌≤◌, ◌<◌, ℕ, ◌+◌, Bool, true, false, List, [], ◌∷◌, refl, sym, ap, ◌∙◌, subst, cond, map, nat_eq, arith, inl, inr, ⊎_elim}
+use Rattle.std.specs.Prelude.{Option, Some, None, is_some, option_map}
+use Rattle.std.specs.Option.{option_map_or}
+use Rattle.std.specs.Ordering.{eq_by_cmp, nat_cmp}
+use Rattle.std.specs.Cmp.{nat_cmp_total, unsigned_tied}
+use Rattle.std.specs.FinMap as finmap
+use Rattle.std.specs.FinMap.{get-insert, get-remove, get-empty, same_map, nat_cmp-IsAntisymmetric}
+use Rattle.slab.specs.Slab.{Slab}
+use Rattle.std.proofs.lemmas.Bool.{cases_lt, eq-eqb, eqb-true, false≢true}
+use Rattle.af_base.specs.Changes.{change_at}
+use Rattle.af_base.specs.World.{Map}
+use Rattle.af_base.proofs.Lookups.{none_some, not_same, some_same, told_apart}
+use Rattle.af_base.proofs.Stepping.{get-change_at}
+use Rattle.af_order.specs.Keyed.{value_at, values_of}
+use Rattle.af_order.specs.declared.entry.Entry.{Entry}
+use Rattle.af_order.proofs.Keyed.{looked}
+use Rattle.af_mark.specs.Grey.{AreUpTo, color_in, colors_in, placed, washed}
+use Rattle.af_mark.specs.Marked.{Marked}
+use Rattle.af_mark.specs.declared.color.Color.{Color}
+use Rattle.af_mark.specs.declared.color.Color.TheVariants.{White}
+use Rattle.af_mark.specs.declared.grey.Mark.{Mark}
+
+module _ (e : ℕ) where
+  -- The entry of a colour.
+  abbrev entry : ℕ × Mark → ℕ × Color
+  entry x = (x.0, color_in e x.1)
+
+  -- The colour that is found is that of the mark that is found.
+  found : (es : List (ℕ × Mark)) (q : ℕ) → finmap.find nat_cmp q (map entry es) ≡ option_map (color_in e) (finmap.find nat_cmp q es)
+  found [] q = refl
+  found (x ∷ es) q = ap (cond (eq_by_cmp nat_cmp q x.0) (Some (color_in e x.1))) (found es q) ∙ by (eq_by_cmp nat_cmp q x.0) where
+    by : (b : Bool) → cond b (Some (color_in e x.1)) (option_map (color_in e) (finmap.find nat_cmp q es)) ≡ option_map (color_in e) (cond b (Some x.1) (finmap.find nat_cmp q es))
+    by true = refl
+    by false = refl
+
+  -- The colour of a file is that of its mark.
+  pub color_get : (m : Map Mark) (q : ℕ) → finmap.get (colors_in e m) q ≡ option_map (color_in e) (finmap.get m q)
+  color_get m q = finmap.get-from_entries nat_cmp_total (map entry (finmap.entries m)) q ∙ found (finmap.entries m) q ∙ ap (option_map (color_in e)) (sym (finmap.get-entries m q))
+
+  -- Who has a mark has a colour.
+  pub color_known : (m : Map Mark) (q : ℕ) → finmap.contains_key (colors_in e m) q ≡ finmap.contains_key m q
+  color_known m q = ap is_some (color_get m q) ∙ by (finmap.get m q) where
+    by : (o : Option Mark) → is_some (option_map (color_in e) o) ≡ is_some o
+    by None = refl
+    by (Some x) = refl
+
+  -- A mark that is put in is a colour that is put in.
+  pub color_put : (m : Map Mark) (f : ℕ) (x : Mark) → colors_in e (finmap.insert m f x) ≡ finmap.insert (colors_in e m) f (color_in e x)
+  color_put m f x = same_map nat_cmp_total nat_cmp-IsAntisymmetric _ _ (λ q.
+      color_get (finmap.insert m f x) q ∙ ap (option_map (color_in e)) (get-insert nat_cmp_total m f x q) ∙ by q (eq_by_cmp nat_cmp q f)
+      ∙ sym (get-insert nat_cmp_total (colors_in e m) f (color_in e x) q ∙ ap (cond (eq_by_cmp nat_cmp q f) (Some (color_in e x))) (color_get m q))) where
+        by : (q : ℕ) (b : Bool) → option_map (color_in e) (cond b (Some x) (finmap.get m q)) ≡ cond b (Some (color_in e x)) (option_map (color_in e) (finmap.get m q))
+        by q true = refl
+        by q false = refl
+
+  -- A mark that is taken out is a colour that is taken out.
+  pub color_taken : (m : Map Mark) (f : ℕ) → colors_in e (finmap.remove m f) ≡ finmap.remove (colors_in e m) f
+  color_taken m f = same_map nat_cmp_total nat_cmp-IsAntisymmetric _ _ (λ q.
+      color_get (finmap.remove m f) q ∙ ap (option_map (color_in e)) (get-remove nat_cmp_total m f q) ∙ by q (eq_by_cmp nat_cmp q f)
+      ∙ sym (get-remove nat_cmp_total (colors_in e m) f q ∙ ap (cond (eq_by_cmp nat_cmp q f) None) (color_get m q))) where
+        by : (q : ℕ) (b : Bool) → option_map (color_in e) (cond b None (finmap.get m q)) ≡ cond b None (option_map (color_in e) (finmap.get m q))
+        by q true = refl
+        by q false = refl
+
+  -- No mark, no colour.
+  pub no_colors : (m : Map Mark) → m ≡ finmap.empty → colors_in e m ≡ finmap.empty
+  no_colors m none = same_map nat_cmp_total nat_cmp-IsAntisymmetric _ _ (λ q. color_get m q ∙ ap (option_map (color_in e)) (ap (λ m. finmap.get m q) none ∙ get-empty nat_cmp q) ∙ sym (get-empty nat_cmp q))
+
+  -- Beside a mark its place is noted: no colour changes.
+  pub color_noted : (m : Map Mark) (f at : ℕ) → colors_in e (change_at (placed at) m f) ≡ colors_in e m
+  color_noted m f at = same_map nat_cmp_total nat_cmp-IsAntisymmetric _ _ (λ q.
+      color_get (change_at (placed at) m f) q ∙ ap (option_map (color_in e)) (get-change_at (placed at) m f q) ∙ by (eq_by_cmp nat_cmp q f) (finmap.get m q) ∙ sym (color_get m q)) where
+        by : (b : Bool) (o : Option Mark) → option_map (color_in e) (option_map (λ x. cond b (placed at x) x) o) ≡ option_map (color_in e) o
+        by b None = refl
+        by true (Some x) = refl
+        by false (Some x) = refl
+
+  -- A mark of this pass or of an earlier one is put in.
+  pub upto_put : (m : Map Mark) (f : ℕ) (x : Mark) → x.epoch ≤ e → AreUpTo e m → AreUpTo e (finmap.insert m f x)
+  upto_put m f x low h q y at = by (nat_eq q f) (sym (get-insert nat_cmp_total m f x q ∙ ap (λ b. cond b (Some x) (finmap.get m q)) (unsigned_tied q f)) ∙ at) where
+    by : (b : Bool) → cond b (Some x) (finmap.get m q) ≡ Some y → y.epoch ≤ e
+    by true is = subst (λ z. z.epoch ≤ e) (some_same x y is) low
+    by false is = h q y is
+
+  -- A mark is taken out.
+  pub upto_taken : (m : Map Mark) (f : ℕ) → AreUpTo e m → AreUpTo e (finmap.remove m f)
+  upto_taken m f h q y at = by (nat_eq q f) (sym (get-remove nat_cmp_total m f q ∙ ap (λ b. cond b None (finmap.get m q)) (unsigned_tied q f)) ∙ at) where
+    by : (b : Bool) → cond b None (finmap.get m q) ≡ Some y → y.epoch ≤ e
+    by true is = absurd (none_some y is)
+    by false is = h q y is
+
+  -- A mark's place is noted.
+  pub upto_noted : (m : Map Mark) (f at : ℕ) → AreUpTo e m → AreUpTo e (change_at (placed at) m f)
+  upto_noted m f at h q y is = by (eq_by_cmp nat_cmp q f) (finmap.get m q) refl (sym (get-change_at (placed at) m f q) ∙ is) where
+    by : (b : Bool) (o : Option Mark) → finmap.get m q ≡ o → option_map (λ x. cond b (placed at x) x) o ≡ Some y → y.epoch ≤ e
+    by b None was is = absurd (none_some y is)
+    by true (Some x) was is = subst (λ z. z.epoch ≤ e) (some_same (placed at x) y is) (h q x was)
+    by false (Some x) was is = subst (λ z. z.epoch ≤ e) (some_same x y is) (h q x was)
+
+  -- There is none.
+  pub upto_none : (m : Map Mark) → m ≡ finmap.empty → AreUpTo e m
+  upto_none m none q y at = absurd (none_some y (sym (ap (λ m. finmap.get m q) none ∙ get-empty nat_cmp q) ∙ at))
+
+  -- A mark of this pass has its colour.
+  pub color_now : (x : Mark) → x.epoch ≡ e → color_in e x ≡ x.color
+  color_now x this = ap (λ b. cond b x.color White) (eq-eqb x.epoch e this)
+
+  -- No other colour than its own shows.
+  pub color_white : (x : Mark) → x.color ≡ White → color_in e x ≡ White
+  color_white x white = by (nat_eq x.epoch e) where
+    by : (b : Bool) → cond b x.color White ≡ White
+    by true = white
+    by false = refl
+
+-- In the next pass all marks are of earlier ones.
+pub unmarked_next : (e : ℕ) (m : Map Mark) (f : ℕ) → AreUpTo e m → finmap.get (colors_in (e + 1) m) f ≡ option_map (λ x. White) (finmap.get m f)
+unmarked_next e m f h = color_get (e + 1) m f ∙ by (finmap.get m f) refl where
+  by : (o : Option Mark) → finmap.get m f ≡ o → option_map (color_in (e + 1)) o ≡ option_map (λ x. White) o
+  by None is = refl
+  by (Some x) is = let low = h f x is in ap (λ b. Some (cond b x.color White)) (told_apart x.epoch (e + 1) (λ same. omega (arith, low, same)))
+
+-- Who has a mark has one when some mark was changed.
+pub known_changed : (g : Mark → Mark) (m : Map Mark) (f q : ℕ) → finmap.contains_key (change_at g m f) q ≡ finmap.contains_key m q
+known_changed g m f q = ap is_some (get-change_at g m f q) ∙ by (finmap.get m q) where
+  by : (o : Option Mark) → is_some (option_map (λ x. cond (eq_by_cmp nat_cmp q f) (g x) x) o) ≡ is_some o
+  by None = refl
+  by (Some x) = refl
+
+-- The marks up to the next number are of no pass.
+pub washed_next : (m : Map Mark) (last n : ℕ) → ((f : ℕ) (x : Mark) → f ≤ last → finmap.get m f ≡ Some x → x.epoch ≤ 0) → ((q : ℕ) → last < q → q < n → finmap.contains_key m q ≡ false)
+    → (f : ℕ) (x : Mark) → f ≤ n → finmap.get (change_at washed m n) f ≡ Some x → x.epoch ≤ 0
+washed_next m last n low none f y upto is = by (nat_eq f n) refl (finmap.get m f) refl (sym (get-change_at washed m n f ∙ ap (λ b. option_map (λ x. cond b (washed x) x) (finmap.get m f)) (unsigned_tied f n)) ∙ is) where
+  old : (x : Mark) → nat_eq f n ≡ false → finmap.get m f ≡ Some x → x.epoch ≤ 0
+  old x apart was = elim (cases_lt last f) [
+    | inl above ↦ absurd (false≢true (sym (none f above (let not = not_same f n apart in ⊎_elim (λ low. low) (λ le. absurd (not (omega (arith, le, upto)))) (cases_lt f n))) ∙ ap is_some was))
+    | inr le ↦ low f x le was
+  ]
+
+  by : (b : Bool) → nat_eq f n ≡ b → (o : Option Mark) → finmap.get m f ≡ o → option_map (λ x. cond b (washed x) x) o ≡ Some y → y.epoch ≤ 0
+  by b same None was is = absurd (none_some y is)
+  by true same (Some x) was is = subst (λ z. z.epoch ≤ 0) (some_same (washed x) y is) (omega arith)
+  by false apart (Some x) was is = subst (λ z. z.epoch ≤ 0) (some_same x y is) (old x apart was)
+
+-- The mark of number 0 is of no pass.
+pub washed_first : (m : Map Mark) (f : ℕ) (x : Mark) → f ≤ 0 → finmap.get (change_at washed m 0) f ≡ Some x → x.epoch ≤ 0
+washed_first m f y low is = by (finmap.get m f) (sym (get-change_at washed m 0 f ∙ ap (λ b. option_map (λ x. cond b (washed x) x) (finmap.get m f)) (unsigned_tied f 0 ∙ eq-eqb f 0 (omega (arith, low)))) ∙ is) where
+  by : (o : Option Mark) → option_map washed o ≡ Some y → y.epoch ≤ 0
+  by None is = absurd (none_some y is)
+  by (Some x) is = subst (λ z. z.epoch ≤ 0) (some_same (washed x) y is) (omega arith)
+
+-- Who has no key has no mark.
+pub keyless : (keys : Map ℕ) (s : Slab (Entry Mark)) (q : ℕ) → finmap.contains_key keys q ≡ false → finmap.contains_key (values_of keys s) q ≡ false
+keyless keys s q none = ap is_some (looked keys s q) ∙ by (finmap.get keys q) none where
+  by : (o : Option ℕ) → is_some o ≡ false → is_some (option_map_or (value_at s) o None) ≡ false
+  by None none = refl
+  by (Some k) none = absurd (false≢true (sym none))
+
+-- The marks of earlier passes are of this one or earlier.
+pub upto_next : (e n : ℕ) (m : Map Mark) → e ≤ n → AreUpTo e m → AreUpTo n m
+upto_next e n m le h f x is = let low = h f x is in omega (arith, low, le)
+
+-- Marks up to the last number are all.
+pub washed_all : (m : Map Mark) (last : ℕ) → ((f : ℕ) (x : Mark) → f ≤ last → finmap.get m f ≡ Some x → x.epoch ≤ 0) → ((q : ℕ) → last < q → finmap.contains_key m q ≡ false) → AreUpTo 0 m
+washed_all m last low none f x is = elim (cases_lt last f) [
+  | inl above ↦ absurd (false≢true (sym (none f above) ∙ ap is_some is))
+  | inr le ↦ low f x le is
+]
+
+-- Two that agree in all are one.
+pub same_marked : (a b : Marked) → a.colors ≡ b.colors → a.bound ≡ b.bound → a.last ≡ b.last → a.room ≡ b.room → a ≡ b
+same_marked a b colors bound last room = λ i. record { colors = colors i; bound = bound i; last = last i; room = room i }

@@ -1,0 +1,3 @@
+-- Lemmas.
+pub mod Colors
+pub mod Greys

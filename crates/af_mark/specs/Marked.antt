@@ -1,0 +1,50 @@
+-- What is known of each file's mark.
+use Rattle.std.specs.Prelude.{ℕ, ◌&&◌, Bool, true, false, not, nat_lt, unwrap_or, if◌then◌else◌}
+use Rattle.std.specs.FinMap as map
+use Rattle.std.specs.Option.{option_map_or}
+use Rattle.af_base.specs.World.{Map}
+use Rattle.af_mark.specs.declared.color.Color.{Color}
+use Rattle.af_mark.specs.declared.color.Color.TheVariants.{Black, Grey, White}
+
+-- The colour of each file that was born and not forgotten since, the bound of the pass, the last number that was born, and for how many further files there is room (this project's own).
+pub record Marked : Type 0 where
+  pub colors : Map Color
+  pub bound : ℕ
+  pub last : ℕ
+  pub room : ℕ
+
+-- Whether it is marked (this project's own).
+abbrev pub is_mark : Color → Bool
+is_mark White = false
+is_mark Grey = true
+is_mark Black = true
+
+-- Whether it is marked and not scanned yet (this project's own).
+abbrev pub is_grey_color : Color → Bool
+is_grey_color White = false
+is_grey_color Grey = true
+is_grey_color Black = false
+
+-- Whether f is known: it was born, and not forgotten since (this project's own).
+abbrev pub knows : Marked → ℕ → Bool
+knows m f = map.contains_key m.colors f
+
+-- Whether f is marked; a stranger is not (this project's own).
+abbrev pub is_marked : Marked → ℕ → Bool
+is_marked m f = option_map_or is_mark (map.get m.colors f) false
+
+-- Whether f is grey: marked, and not scanned yet (this project's own).
+abbrev pub is_grey : Marked → ℕ → Bool
+is_grey m f = option_map_or is_grey_color (map.get m.colors f) false
+
+-- Whether f is known and not marked (this project's own).
+abbrev pub is_white : Marked → ℕ → Bool
+is_white m f = knows m f && not (is_marked m f)
+
+-- f is grey where it was born before the pass and not marked (this project's own).
+abbrev pub shaded : ℕ → Marked → Marked
+shaded f m = if nat_lt f m.bound && is_white m f then record m { colors = map.insert m.colors f Grey } else m
+
+-- f was scanned, where it was grey (this project's own).
+abbrev pub blackened : ℕ → Marked → Marked
+blackened f m = if is_grey m f then record m { colors = map.insert m.colors f Black } else m

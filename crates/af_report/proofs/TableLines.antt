@@ -1,0 +1,78 @@
+-- Columns that are joined, and lines behind each other.
+use Rattle.std.proofs.Common.{◌≡◌, ℕ, List, [], ◌∷◌, ◌++◌, Option, Some, None, length, refl, sym, ap, ◌∙◌, append_assoc, append-nil}
+use Rattle.std.specs.List.{flat_map}
+use Rattle.std.specs.FinMap as map
+use Rattle.af_base.specs.Whole.{name_at}
+use Rattle.af_base.specs.World.{AsSocket, File, Plain, Socket, World}
+use Rattle.af_base.specs.declared.events.SockType.{SockType}
+use Rattle.af_base.specs.declared.events.State.{State}
+use Rattle.af_steps.specs.Shown.{shown_of}
+use Rattle.af_steps.specs.declared.views.FileInfo.TheVariants as shown
+use Rattle.af_report.specs.Table.{columns, file_line, joined, name_of, name_text}
+
+-- ---- columns
+
+-- Columns with a space behind each, and others.
+pub joined_on : (columns : List (List ℕ)) (next : List ℕ) (others : List (List ℕ)) → joined (columns ++ [] ∷ []) ++ joined (next ∷ others) ≡ joined (columns ++ next ∷ others)
+joined_on [] next others = refl
+joined_on (column ∷ []) next others = append_assoc column (32 ∷ []) (joined (next ∷ others))
+joined_on (column ∷ other ∷ columns) next others =
+    append_assoc column (32 ∷ joined (other ∷ (columns ++ [] ∷ []))) (joined (next ∷ others))
+    ∙ ap (λ rest. column ++ 32 ∷ rest) (joined_on (other ∷ columns) next others)
+
+-- They were appended, and then the others.
+pub appended_on : (columns : List (List ℕ)) (next : List ℕ) (others : List (List ℕ)) (old mid new : List ℕ)
+    → mid ≡ old ++ joined (columns ++ [] ∷ []) → new ≡ mid ++ joined (next ∷ others) → new ≡ old ++ joined (columns ++ next ∷ others)
+appended_on columns next others old mid new first then =
+    then ∙ ap (λ text. text ++ joined (next ∷ others)) first
+    ∙ append_assoc old (joined (columns ++ [] ∷ [])) (joined (next ∷ others))
+    ∙ ap (λ text. old ++ text) (joined_on columns next others)
+
+-- A column was appended with the space behind it, and then the others.
+pub column_on : (column next : List ℕ) (others : List (List ℕ)) (old mid new : List ℕ)
+    → mid ≡ old ++ (column ++ 32 ∷ []) → new ≡ mid ++ joined (next ∷ others) → new ≡ old ++ joined (column ∷ next ∷ others)
+column_on column next others = appended_on (column ∷ []) next others
+
+-- The columns, the name, and the end of the line.
+pub line_made : (columns : List (List ℕ)) (name front old mid named new : List ℕ)
+    → front ≡ joined (columns ++ [] ∷ []) → mid ≡ old ++ front → named ≡ mid ++ name → new ≡ named ++ 10 ∷ [] → new ≡ old ++ (joined (columns ++ name ∷ []) ++ 10 ∷ [])
+line_made columns name front old mid named new is first second third =
+    third ∙ ap (λ text. text ++ 10 ∷ []) (appended_on columns name [] old mid named (first ∙ ap (λ text. old ++ text) is) second)
+    ∙ append_assoc old (joined (columns ++ name ∷ [])) (10 ∷ [])
+
+-- ---- what is shown of a file
+
+-- What shows as a plain file is one.
+pub shows_plain : (x : File) → shown_of (Some x) ≡ Some shown.Plain → x ≡ Plain
+shows_plain Plain e = refl
+shows_plain (AsSocket s) e = cc
+
+-- What shows as a socket is one, with what is shown.
+pub shows_socket : (x : File) (kind : SockType) (state : State) (messages embryos : ℕ) → shown_of (Some x) ≡ Some (shown.Socket kind state messages embryos)
+    → (s : Socket) × (x ≡ AsSocket s) × (s.kind ≡ kind) × (s.state ≡ state) × (length s.queue ≡ messages) × (length s.backlog ≡ embryos)
+shows_socket Plain kind state messages embryos e = cc
+shows_socket (AsSocket s) kind state messages embryos e = (s, refl, cc, cc, cc, cc)
+
+-- The name of a file that is live.
+pub name_shown : (w : World) (f : ℕ) (x : File) → map.get w.files f ≡ Some x → name_text (name_at w f) ≡ name_of x
+name_shown w f Plain at = rw at refl
+name_shown w f (AsSocket s) at = rw at refl
+
+-- ---- lines
+
+-- The line of a file of a world.
+abbrev pub line : World → ℕ × File → List ℕ
+line w entry = file_line w entry.0 entry.1
+
+-- One line more is written.
+pub line_more : (w : World) (text more whole : List ℕ) (entry : ℕ × File) (old rest : List (ℕ × File)) → old ≡ entry ∷ rest → more ≡ text ++ line w entry
+    → text ++ flat_map (line w) old ≡ whole → more ++ flat_map (line w) rest ≡ whole
+line_more w text more whole entry old rest next is so =
+    ap (λ t. t ++ flat_map (line w) rest) is
+    ∙ append_assoc text (line w entry) (flat_map (line w) rest)
+    ∙ ap (λ es. text ++ flat_map (line w) es) (sym next)
+    ∙ so
+
+-- No file is left.
+pub lines_done : (w : World) (text whole : List ℕ) (left : List (ℕ × File)) → left ≡ [] → text ++ flat_map (line w) left ≡ whole → text ≡ whole
+lines_done w text whole left none so = sym (append-nil text) ∙ ap (λ es. text ++ flat_map (line w) es) (sym none) ∙ so

@@ -1,0 +1,16 @@
+-- Each number that was kept so far is its recount, and the files so far are kept.
+use Rattle.std.proofs.Common.{◌≡◌, ◌++◌, length, map}
+use Rattle.std.specs.FinMap as finmap
+use Rattle.std.specs.List.{All}
+use Rattle.af_plain.specs.Agreement.{IsFileRecount}
+use Rattle.af_base.proofs.Rising.{above}
+use Rattle.af_report.proofs.recount.kept_files.Given as goal
+
+abbrev pub invariant-loop-ino : goal.invariant-loop-ino
+invariant-loop-ino l = record {
+  recounts : All (IsFileRecount l.engine.world) l.files.items;
+  so_far : map (λ k. k.ino) l.files.items ++ map (λ e. e.0) (above l.last (finmap.entries l.engine.world.files)) ≡ finmap.keys l.engine.world.files;
+}
+
+abbrev pub decreases-loop-ino : goal.decreases-loop-ino
+decreases-loop-ino l = length (above l.last (finmap.entries l.engine.world.files))

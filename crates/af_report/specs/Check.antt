@@ -1,0 +1,15 @@
+-- The text of a check: what an independent recount says.
+use Rattle.std.specs.Prelude.{◌≡◌, ℕ, List, [], ◌∷◌, ◌++◌, length, codes}
+use Rattle.std.specs.Fmt.{decimal}
+use Rattle.std.specs.FinMap as map
+use Rattle.af_base.specs.World.{World}
+use Rattle.af_base.specs.Reached.{Garbage}
+use Rattle.af_plain.specs.Marking.{IsListOf}
+
+-- How many files are live, and how many of them are garbage (this project's profile).
+abbrev pub check_text : ℕ → ℕ → List ℕ
+check_text live lost = codes "check ok live " ++ (decimal live ++ (codes " garbage " ++ (decimal lost ++ 10 ∷ [])))
+
+-- The text of a check: the live files are counted, and a list that has each garbage file once (this project's profile).
+abbrev pub IsCheckText : World → List ℕ → Type 0
+IsCheckText w text = (lost : List ℕ) × IsListOf (Garbage w) lost × (text ≡ check_text (map.len w.files) (length lost))

@@ -1,0 +1,94 @@
+-- The text of a table: a header, and a line for each live file.
+use Rattle.std.specs.Prelude.{ℕ, ◌-◌, List, [], ◌∷◌, ◌++◌, Option, Some, None, codes, length, replicate}
+use Rattle.std.specs.List.{flat_map}
+use Rattle.std.specs.FinMap as map
+use Rattle.std.specs.Fmt.{char_count, decimal}
+use Rattle.af_base.specs.Counts.{inflight, refs}
+use Rattle.af_base.specs.Places.{backlog_of, queue_of}
+use Rattle.af_base.specs.World.{AsSocket, File, Plain, World}
+use Rattle.af_base.specs.declared.events.SockType.{SockType}
+use Rattle.af_base.specs.declared.events.SockType.TheVariants.{Seqpacket, Stream}
+use Rattle.af_base.specs.declared.events.State.{State}
+use Rattle.af_base.specs.declared.events.State.TheVariants as state
+
+-- ---- columns (this project's profile)
+
+-- A number at the right of its column, in full where it is wider.
+abbrev pub right : ℕ → ℕ → List ℕ
+right width n = replicate (width - length (decimal n)) 32 ++ decimal n
+
+-- A word at the left of its column, in full where it is wider.
+abbrev pub left : ℕ → List ℕ → List ℕ
+left width word = word ++ replicate (width - char_count word) 32
+
+-- Columns are joined by one space.
+abbrev pub joined : List (List ℕ) → List ℕ
+joined [] = []
+joined (column ∷ []) = column
+joined (column ∷ next ∷ others) = column ++ 32 ∷ joined (next ∷ others)
+
+-- ---- what they say of a file (this project's profile)
+
+-- The word for a type of sockets.
+abbrev pub type_word : SockType → List ℕ
+type_word Stream = codes "stream"
+type_word Seqpacket = codes "seqpacket"
+
+-- The word for whom a socket can talk to.
+abbrev pub state_word : State → List ℕ
+state_word state.Idle = codes "idle"
+state_word (state.Listening most) = codes "listening"
+state_word (state.Connected peer) = codes "connected"
+state_word state.HungUp = codes "hungup"
+
+-- The live peer of a socket, or 0.
+abbrev pub peer_number : State → ℕ
+peer_number state.Idle = 0
+peer_number (state.Listening most) = 0
+peer_number (state.Connected peer) = peer
+peer_number state.HungUp = 0
+
+-- What a file is.
+abbrev pub kind_of : File → List ℕ
+kind_of Plain = codes "plain"
+kind_of (AsSocket s) = type_word s.kind
+
+-- Whom it can talk to, if it is a socket.
+abbrev pub state_of : File → List ℕ
+state_of Plain = codes "-"
+state_of (AsSocket s) = state_word s.state
+
+-- Its live peer, or 0.
+abbrev pub peer_of : File → ℕ
+peer_of Plain = 0
+peer_of (AsSocket s) = peer_number s.state
+
+-- `@` and a name, or `-` where there is none.
+abbrev pub name_text : Option (List ℕ) → List ℕ
+name_text None = codes "-"
+name_text (Some name) = 64 ∷ name
+
+-- Its abstract name, if it has one.
+abbrev pub name_of : File → List ℕ
+name_of Plain = codes "-"
+name_of (AsSocket s) = name_text s.name
+
+-- ---- lines
+
+-- The columns of a file: its number, its two counts, what it is, whom it can talk to, how many messages and embryos wait, its peer and its name (this project's profile).
+abbrev pub columns : World → ℕ → File → List (List ℕ)
+columns w f x =
+    right 8 f ∷ right 7 (refs w f) ∷ right 7 (inflight w f) ∷ left 9 (kind_of x) ∷ left 9 (state_of x)
+    ∷ right 4 (length (queue_of x)) ∷ right 4 (length (backlog_of x)) ∷ right 8 (peer_of x) ∷ name_of x ∷ []
+
+-- The line of a file.
+abbrev pub file_line : World → ℕ → File → List ℕ
+file_line w f x = joined (columns w f x) ++ 10 ∷ []
+
+-- The line above all others (this project's profile).
+abbrev pub header : List ℕ
+header = codes "   inode    refs     fly kind      state     msgs wait     peer name" ++ 10 ∷ []
+
+-- The header, and the line of each live file by rising number.
+abbrev pub table_text : World → List ℕ
+table_text w = header ++ flat_map (λ entry. file_line w entry.0 entry.1) (map.entries w.files)

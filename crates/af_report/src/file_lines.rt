@@ -1,0 +1,50 @@
+//! A line for each live file.
+ghost use Rattle.std.specs.Prelude.{◌≡◌, ◌++◌, Some, IfOk, OnOk};
+ghost use Rattle.std.specs.FinMap as map;
+ghost use Rattle.af_base.specs.World.{File, IsLive};
+ghost use Rattle.af_report.specs.Table.{file_line, table_text};
+
+use crate::columns::{push_counts, push_file, push_name};
+use af_base::names::Ino;
+use af_steps::Engine;
+use std::alloc::{AllocError, Global};
+
+/// The line above all others.
+const HEADER: &[u8] = b"   inode    refs     fly kind      state     msgs wait     peer name\n";
+
+/// Appends the line of a live file. What stands in `columns` before goes.
+fn push_line(
+    text: &mut Vec<u8>,
+    columns: &mut String,
+    engine: &Engine,
+    ino: Ino,
+) -> Result<(), AllocError>
+    requires { IsLive engine.now.world ino }
+    ensures { (x : File) → map.get engine.now.world.files ino ≡ Some x → OnOk result (text.new.items ≡ text.old.items ++ file_line engine.now.world ino x) }
+{
+    columns.clear();
+    push_counts(columns, ino, engine.refs(ino), engine.inflight(ino))?;
+    push_file(columns, engine, ino)?;
+    text.extend_from_slice(columns.as_bytes())?;
+    push_name(text, engine.name(ino))?;
+    text.push(b'\n')?;
+    Ok(())
+}
+
+/// The table: a header, and a line for each live file by rising inode number. It says how many places
+/// hold the file and how many of these are in queues, what it is, whom it can talk to, how many
+/// messages and embryos wait at it, its live peer, and its abstract name (unix(7)).
+pub fn table(alloc: Global, engine: &Engine) -> Result<Vec<u8>, AllocError>
+    ensures { IfOk result (λ text. text.items ≡ table_text engine.now.world) }
+{
+    // No file has the number 0: that is what a sound world says of it.
+    engine.is_sound();
+    let mut text = HEADER.to_vec(alloc)?;
+    let mut columns = String::new(alloc);
+    let mut last = Ino(0);
+    while let Some(ino) = engine.next_after(last) {
+        push_line(&mut text, &mut columns, engine, ino)?;
+        last = ino;
+    }
+    Ok(text)
+}
