@@ -1,16 +1,19 @@
 -- A world with some queues emptied stays whole and within the limits, and one purged stays sound.
-use Rattle.std.proofs.Common.{◌≡◌, ◌≤◌, ℕ, Bool, true, false, inl, inr, [], length, refl, sym, ap, ◌∙◌, subst, arith}
-use Rattle.std.specs.Prelude.{Option, Some, None, option_map, if◌then◌else◌}
+use Rattle.std.proofs.Common.{◌≡◌, ◌≤◌, ℕ, Bool, true, false, ◌||◌, ◌⊎◌, inl, inr, [], length, refl, sym, ap, ◌∙◌, subst, arith}
+use Rattle.std.specs.Prelude.{Option, Some, None, MatchBool, nat_eq, nat_lt, option_map, if◌then◌else◌}
 use Rattle.std.specs.Option.{option_map_or}
 use Rattle.std.specs.List.{sum_by}
 use Rattle.std.specs.FinMap as map
+use Rattle.af_base.specs.declared.errno.Errno.TheVariants.{EINVAL}
 use Rattle.af_base.specs.declared.events.Reply.{Reply}
+use Rattle.af_base.specs.declared.events.Reply.TheVariants as reply
 use Rattle.af_base.specs.declared.events.State.TheVariants as state
+use Rattle.af_base.specs.declared.limits.TheConstants.{MAX_BUDGET}
 use Rattle.af_base.specs.World.{AsSocket, File, Plain, Socket, World}
 use Rattle.af_base.specs.Places.{backlog_of, queue_of}
 use Rattle.af_base.specs.Counts.{count_in, total_of}
 use Rattle.af_base.specs.Refusals.{socket_of}
-use Rattle.af_base.specs.Pass.{Idle, Machine, Pass, PassesWhole, Purges, Running, emptied, empty_file}
+use Rattle.af_base.specs.Pass.{Begins, GoesOn, Idle, Machine, Pass, PassesWhole, Purges, Running, Slices, emptied, empty_file}
 use Rattle.af_base.specs.Whole.{IsSocketWithin, IsSound, IsWhole, IsWithin, state_at, state_of}
 use Rattle.af_base.proofs.Elements.{Contains-none}
 use Rattle.af_base.proofs.Lookups.{none_some, some_same}
@@ -104,6 +107,28 @@ module _ (t : ℕ → Bool) (w : World) where
 -- A sound world, purged, is sound.
 pub sound-purges : (t : ℕ → Bool) (old new : World) → Purges t old new → IsSound old → IsSound new
 sound-purges t old new purged k = sound-settles (emptied t old) new purged (whole-emptied t old k.whole) (within-emptied t old k.within)
+
+-- A sound world is sound after a begin, whatever the answer.
+pub sound-begins : (p : Pass) (old new : Machine) (r : Reply) → IsSound old.world → Begins p old r new → IsSound new.world
+sound-begins Idle old new r k h = subst (λ m. IsSound m.world) (sym h.1) k
+sound-begins (Running begun spent) old new r k h = subst (λ m. IsSound m.world) (sym h.1) k
+
+-- A slice of a pass that runs is refused, and nothing changed; or it is made.
+pub slice-by : (begun : World) (spent b : ℕ) (old new : Machine) (r : Reply) → GoesOn (Running begun spent) old b r new
+    → ((r ≡ reply.Refused EINVAL) × (new ≡ old)) ⊎ (Slices begun old.world spent b old.last_pass r new.world new.pass × (new.last_pass ≡ old.last_pass))
+slice-by begun spent b old new r h = by (nat_eq b 0 || nat_lt MAX_BUDGET b) h where
+  by : (c : Bool) → MatchBool c ((r ≡ reply.Refused EINVAL) × (new ≡ old)) (Slices begun old.world spent b old.last_pass r new.world new.pass × (new.last_pass ≡ old.last_pass))
+      → ((r ≡ reply.Refused EINVAL) × (new ≡ old)) ⊎ (Slices begun old.world spent b old.last_pass r new.world new.pass × (new.last_pass ≡ old.last_pass))
+  by true x = inl x
+  by false x = inr x
+
+-- A sound world is sound after a slice, whatever the answer.
+pub sound-slice : (p : Pass) (old new : Machine) (b : ℕ) (r : Reply) → IsSound old.world → GoesOn p old b r new → IsSound new.world
+sound-slice Idle old new b r k h = subst (λ m. IsSound m.world) (sym h.1) k
+sound-slice (Running begun spent) old new b r k h = elim (slice-by begun spent b old new r h) [
+  | inl refused ↦ subst (λ m. IsSound m.world) (sym refused.1) k
+  | inr made ↦ sound-purges _ old.world new.world made.0.purged k
+]
 
 -- A sound world is sound after a whole pass, whatever the answer.
 pub sound-pass : (p : Pass) (old new : Machine) (r : Reply) → IsSound old.world → PassesWhole p old r new → IsSound new.world

@@ -87,12 +87,16 @@ event_same (event.Spawn x z t) (event.Spawn y w u) e =
     let k = both _ _ h.1 in
     λ i. event.Spawn (eqb-true x y h.0 i) (eqb-true z w k.0 i) ((booleans_Decides t u).0 k.1 i)
 event_same (event.Proc x s) (event.Proc y t) e = let h = both _ _ e in λ i. event.Proc (eqb-true x y h.0 i) (step_same s t h.1 i)
+event_same event.Begin event.Begin e = refl
+event_same (event.Slice x) (event.Slice y) e = ap event.Slice (eqb-true x y e)
 event_same event.Pass event.Pass e = refl
 event_same a b e = absurd (false≢true e)
 
 pub event_itself : (a : Event) → event_eq.ghosts.eq a a ≡ true
 event_itself (event.Spawn x z t) = each _ _ (number_itself x) (each _ _ (number_itself z) ((booleans_Decides t t).1 refl))
 event_itself (event.Proc x s) = each _ _ (number_itself x) (step_itself s)
+event_itself event.Begin = refl
+event_itself (event.Slice x) = number_itself x
 event_itself event.Pass = refl
 
 pub reply_same : (a b : Reply) → reply_eq.ghosts.eq a b ≡ true → a ≡ b

@@ -86,6 +86,10 @@ pub enum Event {
     },
     /// A process makes a step.
     Proc(Pid, Step),
+    /// The collector begins a pass, which slices go on with.
+    Begin,
+    /// The collector goes on with the pass that runs, by at most so many units.
+    Slice(u32),
     /// The collector makes a whole pass.
     Pass,
 }
@@ -114,9 +118,9 @@ pub enum Reply {
     },
     /// Nothing is left to receive, and the peer is gone.
     End,
-    /// A pass of the collector began; no event begins one yet.
+    /// A pass of the collector began: its number.
     Started(u64),
-    /// The pass goes on; no event asks for a slice yet.
+    /// The pass goes on.
     Working,
     /// The pass is over, and so many sockets were reclaimed.
     Done {

@@ -5,8 +5,10 @@
 //! else is answered with a line of usage and the status 2.
 #![tactic(auto)]
 
+mod passes;
 mod workload;
 
+use crate::passes::{Slices, time_of_pass, times_of_begins};
 use crate::workload::{Round, Workload};
 use std::env;
 use std::io::Write;
@@ -14,7 +16,7 @@ use std::process::ExitCode;
 use std::time::Instant;
 
 /// What is measured: so many short runs, each of so many rounds.
-const PLAN: [(Workload, u32, u32); 15] = [
+const PLAN: [(Workload, u32, u32); 16] = [
     (Workload::OpenClose { live: 0 }, 301, 2_000),
     (Workload::OpenClose { live: 1_000 }, 301, 2_000),
     (Workload::OpenClose { live: 10_000 }, 301, 2_000),
@@ -28,6 +30,7 @@ const PLAN: [(Workload, u32, u32); 15] = [
     (Workload::Stream { piece: 16 }, 301, 1),
     (Workload::Connect { names: 1 }, 301, 1_000),
     (Workload::Connect { names: 10_000 }, 301, 1_000),
+    (Workload::Slices, 301, 1_000),
     (Workload::Cycle, 301, 10),
     (Workload::Chain { sockets: 60_000 }, 5, 1),
 ];
@@ -49,7 +52,45 @@ fn main(rt: HostRuntime) -> ExitCode {
             return ExitCode::from(1);
         }
     }
+    if measure_passes(&rt).is_none() {
+        let _ = eprintln!(rt; "af_bench: a pass could not be measured");
+        return ExitCode::from(1);
+    }
     ExitCode::from(0)
+}
+
+/// What a begin costs with few files and with many, and what slices cost. Nothing, where memory, the
+/// clock or standard output fails, or an event is refused.
+fn measure_passes(rt: &HostRuntime) -> Option<()> {
+    for files in [1_000, 60_000] {
+        let times = times_of_begins(rt, files, 301)?;
+        say_begins(rt, files, times.as_slice())?;
+    }
+    say_slices(rt, &time_of_pass(rt, 15_000, 64)?)
+}
+
+/// Prints a line on the begins that took these times, the least first. Nothing, where there are none
+/// or standard output fails.
+fn say_begins(rt: &HostRuntime, files: u32, times: &[u128]) -> Option<()> {
+    let (least, median) = (*times.first()?, *times.get(times.len() / 2)?);
+    writeln!(
+        rt.stdout(),
+        "begin {files}: least {least} ns, median {median} ns"
+    )
+    .ok()
+}
+
+/// Prints a line on the slices of a pass. Nothing, where standard output fails.
+fn say_slices(rt: &HostRuntime, slices: &Slices) -> Option<()> {
+    let unit = tenths(slices.all, u128::from(slices.count) * 64);
+    let longest = slices.longest;
+    writeln!(
+        rt.stdout(),
+        "biggc: {}.{} ns a unit, longest slice {longest} ns",
+        unit / 10,
+        unit % 10
+    )
+    .ok()
 }
 
 /// Says how the program is called.

@@ -28,6 +28,8 @@ pub enum Workload {
     /// A socket is made, connects to a listener and is accepted there, and both ends are closed, while
     /// so many names are bound.
     Connect { names: u32 },
+    /// A descriptor is sent, received and closed, with a slice of eight units after each.
+    Slices,
     /// 64 pairs of sockets, each in its own queue, and a pass that collects them.
     Cycle,
     /// So many sockets, each in the queue of the next, go by one close of the last.
@@ -47,6 +49,7 @@ impl Display for Workload {
             Workload::Stream { piece: 16 } => write!(f, "drip"),
             Workload::Stream { .. } => write!(f, "stream64k"),
             Workload::Connect { names } => write!(f, "connectaccept {names}"),
+            Workload::Slices => write!(f, "slices"),
             Workload::Cycle => write!(f, "cycle"),
             Workload::Chain { sockets } => write!(f, "chain{sockets}"),
         }
@@ -63,6 +66,7 @@ impl Workload {
             Workload::DeepQueue => 64 + 64 * 5,
             Workload::Stream { piece } => pieces(*piece).saturating_add(1),
             Workload::Connect { .. } => 5,
+            Workload::Slices => 6,
             Workload::Cycle => 64 * 5 + 1,
             Workload::Chain { sockets } => *sockets,
         }
@@ -90,6 +94,7 @@ impl Workload {
             engine,
             events,
             leap,
+            is_sliced: matches!(self, Workload::Slices),
         })
     }
 
@@ -105,6 +110,11 @@ impl Workload {
             Workload::PingPong => {
                 done(engine, &PAIR)?;
                 open_numbers(engine, 1)
+            }
+            Workload::Slices => {
+                done(engine, &PAIR)?;
+                open_numbers(engine, 1)?;
+                done(engine, &Event::Begin)
             }
             Workload::DeepQueue => {
                 done(engine, &PAIR)?;
@@ -127,7 +137,7 @@ impl Workload {
             Workload::OpenAny { .. } => Some(Vec::new(alloc)),
             Workload::Dup2 => vec![in alloc; Event::Proc(FIRST, Step::Dup2(Fd(0), Fd(1)))].ok(),
             Workload::ForkExit => vec![in alloc; Event::Proc(FIRST, Step::Fork)].ok(),
-            Workload::PingPong => {
+            Workload::PingPong | Workload::Slices => {
                 vec![in alloc; send(alloc, 0, &[Fd(2)])?, receive(1), close(3)].ok()
             }
             Workload::DeepQueue => deep_queue(alloc),
@@ -205,9 +215,9 @@ fn cycle(alloc: Global) -> Option<Vec<Event>> {
 }
 
 /// The process whose events are measured.
-const FIRST: Pid = Pid(1);
+pub const FIRST: Pid = Pid(1);
 
-const SPAWN: Event = Event::Spawn {
+pub const SPAWN: Event = Event::Spawn {
     uid: Uid(1000),
     nofile: 1_024,
     privileged: true,
@@ -236,12 +246,12 @@ fn receive_up_to(on: u32, max_bytes: u32) -> Event {
     Event::Proc(FIRST, step)
 }
 
-fn close(fd: u32) -> Event {
+pub fn close(fd: u32) -> Event {
     Event::Proc(FIRST, Step::Close(Fd(fd)))
 }
 
 /// One byte, and what these numbers stand for. Nothing, where memory is refused.
-fn send(alloc: Global, on: u32, attached: &[Fd]) -> Option<Event> {
+pub fn send(alloc: Global, on: u32, attached: &[Fd]) -> Option<Event> {
     let bytes = [b'a'].to_vec(alloc).ok()?;
     Some(send_bytes(on, bytes, attached.to_vec(alloc).ok()?))
 }
@@ -257,7 +267,7 @@ fn send_bytes(on: u32, bytes: Vec<u8>, attached: Vec<Fd>) -> Event {
 }
 
 /// Does an event. Nothing, where it is refused.
-fn done(engine: &mut Engine, event: &Event) -> Option<()> {
+pub fn done(engine: &mut Engine, event: &Event) -> Option<()> {
     match engine.step(event) {
         Reply::Refused(_) => None,
         _ => Some(()),
@@ -273,7 +283,7 @@ fn open_numbers(engine: &mut Engine, count: u32) -> Option<()> {
 }
 
 /// So many files more, held by other processes. Nothing, where one is refused.
-fn open_elsewhere(engine: &mut Engine, files: u32) -> Option<()> {
+pub fn open_elsewhere(engine: &mut Engine, files: u32) -> Option<()> {
     for k in 0..files {
         if k % 1_000 == 0 {
             done(engine, &SPAWN)?;
@@ -363,6 +373,8 @@ pub struct Round {
     engine: Engine,
     events: Vec<Event>,
     leap: Option<Leap>,
+    /// Whether a slice comes after each event.
+    is_sliced: bool,
 }
 
 impl Round {
@@ -374,9 +386,26 @@ impl Round {
         }
         for event in &self.events {
             done_to_its_end(&mut self.engine, event)?;
+            if self.is_sliced {
+                slice_or_begin(&mut self.engine)?;
+            }
         }
         Some(())
     }
+}
+
+/// A slice of eight units; where the pass is done with it, another begins. Nothing, where none runs.
+fn slice_or_begin(engine: &mut Engine) -> Option<()> {
+    match slice(engine, 8) {
+        Reply::Working => Some(()),
+        Reply::Done { .. } => done(engine, &Event::Begin),
+        _ => None,
+    }
+}
+
+/// A slice of at most so many units.
+pub fn slice(engine: &mut Engine, budget: u32) -> Reply {
+    engine.step(&Event::Slice(budget))
 }
 
 /// The process closes the number and opens another file. Nothing, where an event is refused.

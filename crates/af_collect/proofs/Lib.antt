@@ -1,6 +1,4 @@
--- Lemmas.
-pub mod Known
-pub mod Marking
-pub mod Sweeping
-pub mod Tabled
-pub mod Walking
+-- What each change owes to the pass: what is lost is shaded before, and all that is kept is kept.
+pub mod Losing
+pub mod Placed
+pub mod Passing

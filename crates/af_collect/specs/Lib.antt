@@ -1,4 +1,3 @@
--- What a store shows, what its marks know, and what a pass does.
+-- What a store shows, what its parts keep, and what a whole pass does.
 pub mod Collecting
-pub mod Known
-pub mod Marking
+pub mod Shown

@@ -1,14 +1,16 @@
 //! The store: all that is there, and the collector beside it.
 //!
 //! Places that hold files come and go by the calls of `places` and `sockets`, by whole processes
-//! (`copy_for_fork` and `remove_process`), and by `release` and `collect`, and by no other.
+//! (`copy_for_fork` and `remove_process`), and by `release`, `slice` and `collect`, and by no other.
 #![tactic(auto)]
 
-mod collector;
+mod parts;
+mod passes;
 mod places;
-mod release;
+mod shading;
 mod sockets;
 mod store;
+mod units;
 mod views;
 
 pub use store::Store;

@@ -13,7 +13,8 @@ ghost use Rattle.af_base.specs.Table.{lowest_free};
 ghost use Rattle.af_base.specs.Whole.{IsMessageWithin};
 ghost use Rattle.af_hold.specs.Limits.{IsBelowLimit, IsOfProcess};
 ghost use Rattle.af_hold.specs.Receiving.{taken_at};
-ghost use Rattle.af_hold.specs.Stored.{row_at};
+ghost use Rattle.af_pass.specs.Keeping.{Spares};
+ghost use Rattle.af_collect.specs.Shown.{room_at};
 ghost use Rattle.af_desc.specs.Filed.{received_of};
 
 use crate::store::Store;
@@ -26,13 +27,14 @@ impl Store {
     /// A live file into a table, at a free number for which there is room. It takes no memory.
     pub fn table_in(&mut self, pid: Pid, fd: Fd, file: FileRef)
         requires there { IsTrue (finmap.contains_key self.old.world.processes pid) }
-        requires row { fd < row_at self.old pid }
+        requires row { fd < room_at self.old pid }
         requires limit { IsBelowLimit self.old.world pid fd }
         requires free { table_at self.old.world pid fd ≡ None }
         requires live { world.IsLive self.old.world file }
+        requires spared { Spares self.old.pass file }
         ensures { self.new ≡ record self.old { world = install self.old.world pid fd file } }
     {
-        self.places.table_in(pid, fd, file);
+        self.parts.places.table_in(pid, fd, file);
     }
 
     /// An open number of a process is free from now on. It takes no memory.
@@ -40,13 +42,15 @@ impl Store {
         requires { is_none (table_at self.old.world pid fd) ≡ false }
         ensures { self.new ≡ record self.old { world = uninstall self.old.world pid fd } }
     {
-        self.places.table_out(pid, fd);
+        self.parts.shade_number(pid, fd);
+        self.parts.places.table_out(pid, fd);
     }
 
     /// A message into the queue of a socket, last. It carries live files, and each of these places is
     /// charged to its user, who is the user of a process. On an error nothing has changed.
     pub fn put_msg(&mut self, socket: &FileRef, message: Msg) -> Result<(), AllocError>
         requires live { (f : ℕ) → Contains message.attached f → world.IsLive self.old.world f }
+        requires spared { (f : ℕ) → Contains message.attached f → Spares self.old.pass f }
         requires user { IsOfProcess self.old.world message.user }
         requires within { IsMessageWithin message }
         requires flying { total self.old.world + length message.attached ≤ MAX_INFLIGHT }
@@ -55,7 +59,7 @@ impl Store {
         ensures ok { OnOk result (self.new ≡ record self.old { world = push_message self.old.world socket.now message }) }
         ensures err { OnErr result (self.new ≡ self.old) }
     {
-        self.places.put_msg(socket, message)
+        self.parts.places.put_msg(socket, message)
     }
 
     /// What a receive of at most `max` bytes takes out of a queue (recvmsg(2)): its first files come
@@ -69,14 +73,19 @@ impl Store {
         fds: &[Fd],
     ) -> Result<Taken, AllocError>
         requires some { 0 < max }
+        requires spared { Spares self.old.pass socket.now }
         requires socket { is_none (socket_at self.old.world socket.now) ≡ false }
         requires there { IsTrue (finmap.contains_key self.old.world.processes pid) }
         requires free { (k : ℕ) × (fds.now ≡ lowest_free k (process_at self.old.world pid)) }
-        requires row { All (λ n. n < row_at self.old pid) fds.now }
+        requires row { All (λ n. n < room_at self.old pid) fds.now }
         ensures taken { IfOk result (λ t. t ≡ received_of (socket_at self.old.world socket.now) max) }
         ensures world { OnOk result (self.new ≡ record self.old { world = install_all (with_queue self.old.world socket.now (taken_at self.old.world socket.now max).rest) pid (zip fds.now (taken_at self.old.world socket.now max).attached) }) }
         ensures err { OnErr result (self.new ≡ self.old) }
     {
-        self.places.take_msg(socket, max, pid, fds)
+        // Messages have bytes: that is what a world within the limits says of them.
+        self.parts.places.is_whole();
+        let taken = self.parts.places.take_msg(socket, max, pid, fds)?;
+        self.parts.shade_taken(taken.attached());
+        Ok(taken)
     }
 }

@@ -10,7 +10,8 @@ ghost use Rattle.af_base.specs.Counts.{waiting};
 ghost use Rattle.af_base.specs.Refusals.{is_full, room_of, socket_at};
 ghost use Rattle.af_base.specs.Steps.{connected_socket, idle_socket};
 ghost use Rattle.af_hold.specs.Limits.{IsBelowLimit};
-ghost use Rattle.af_hold.specs.Stored.{row_at};
+ghost use Rattle.af_pass.specs.Keeping.{Spares};
+ghost use Rattle.af_collect.specs.Shown.{room_at};
 
 use crate::store::Store;
 use af_base::events::{SockType, State};
@@ -26,11 +27,14 @@ impl Store {
         requires { is_full self.old.world 1 ≡ false }
         ensures ok { OnOk result (self.new ≡ record self.old { world = add_file self.old.world (world.AsSocket (idle_socket kind)) }) }
         ensures ino { IfOk result (λ ino. ino ≡ self.old.world.next_ino) }
+        ensures spared { IfOk result (λ ino. Spares self.new.pass ino) }
         ensures err { OnErr result (self.new ≡ self.old) }
     {
-        self.marks.reserve(1)?;
-        let file = self.places.make_sock(kind)?;
-        self.marks.born(file.ino());
+        // Files' numbers are below the next one: that is what a whole world says of them.
+        self.parts.places.is_whole();
+        self.parts.marks.reserve(1)?;
+        let file = self.parts.places.make_sock(kind)?;
+        self.parts.marks.born(file.ino());
         Ok(file)
     }
 
@@ -42,11 +46,13 @@ impl Store {
         requires idle { IfSome (socket_at self.old.world client.now) (λ s. s.state ≡ State.Idle) }
         ensures ok { OnOk result (self.new ≡ record self.old { world = with_socket (add_file self.old.world (world.AsSocket (connected_socket kind client.now))) client.now (connected self.old.world.next_ino) }) }
         ensures ino { IfOk result (λ ino. ino ≡ self.old.world.next_ino) }
+        ensures spared { IfOk result (λ ino. Spares self.new.pass ino) }
         ensures err { OnErr result (self.new ≡ self.old) }
     {
-        self.marks.reserve(1)?;
-        let embryo = self.places.make_embryo(kind, client)?;
-        self.marks.born(embryo.ino());
+        self.parts.places.is_whole();
+        self.parts.marks.reserve(1)?;
+        let embryo = self.parts.places.make_embryo(kind, client)?;
+        self.parts.marks.born(embryo.ino());
         Ok(embryo)
     }
 
@@ -59,7 +65,7 @@ impl Store {
         ensures ok { OnOk result (self.new ≡ record self.old { world = with_socket self.old.world socket.now (bound name.now) }) }
         ensures err { OnErr result (self.new ≡ self.old) }
     {
-        self.places.bind(socket, name)
+        self.parts.places.bind(socket, name)
     }
 
     /// A socket that has a name and was never connected waits for connections from now on, so many
@@ -71,30 +77,33 @@ impl Store {
         ensures ok { OnOk result (self.new ≡ record self.old { world = with_socket self.old.world socket.now (listening most) }) }
         ensures err { OnErr result (self.new ≡ self.old) }
     {
-        self.places.listen(socket, most)
+        self.parts.places.listen(socket, most)
     }
 
     /// An embryo into the backlog of a listener that has room for it, last. It takes no memory.
     pub fn put_embryo(&mut self, listener: &FileRef, embryo: FileRef)
         requires live { world.IsLive self.old.world embryo }
+        requires spared { Spares self.old.pass embryo }
         requires new { waiting self.old.world embryo ≡ 0 }
         requires room { IfSome (socket_at self.old.world listener.now) (λ s. length s.backlog < room_of s.state) }
         requires socket { is_none (socket_at self.old.world listener.now) ≡ false }
         ensures { self.new ≡ record self.old { world = with_socket self.old.world listener.now (queued embryo) } }
     {
-        self.places.put_embryo(listener, embryo);
+        self.parts.places.put_embryo(listener, embryo);
     }
 
     /// The first embryo of a listener out of its backlog and into a table, at a free number for which
     /// there is room (accept(2)). It takes no memory.
     pub fn take_embryo(&mut self, listener: &FileRef, pid: Pid, fd: Fd)
         requires there { IsTrue (finmap.contains_key self.old.world.processes pid) }
-        requires row { fd < row_at self.old pid }
+        requires row { fd < room_at self.old pid }
         requires limit { IsBelowLimit self.old.world pid fd }
         requires free { table_at self.old.world pid fd ≡ None }
         requires some { 0 < length (backlog_at self.old.world listener.now) }
+        requires spared { Spares self.old.pass listener.now }
         ensures { (embryo : ℕ) → slice_get (backlog_at self.old.world listener.now) 0 ≡ Some embryo → self.new ≡ record self.old { world = install (with_socket self.old.world listener.now dequeued) pid fd embryo } }
     {
-        self.places.take_embryo(listener, pid, fd);
+        self.parts.shade_embryo(listener);
+        self.parts.places.take_embryo(listener, pid, fd);
     }
 }

@@ -1,51 +1,68 @@
-//! All that is there, and beside it which files a pass has marked.
+//! All that is there, and beside it the pass that runs.
 ghost use Rattle.std.specs.Prelude.{◌≡◌, ◌<◌, ◌≤◌, ◌+◌, ℕ, false, None, Some, IsTrue, IsOk, IfOk, OnOk, OnErr};
 ghost use Rattle.std.specs.FinMap as map;
 ghost use Rattle.af_base.specs.World.{Plain, empty_world};
 ghost use Rattle.af_base.specs.Changes.{add_file, add_process, remove_process};
+ghost use Rattle.af_base.specs.Pass.{Idle};
 ghost use Rattle.af_base.specs.Refusals.{is_full, is_crowded, process_at};
 ghost use Rattle.af_base.specs.Steps.{spawned, with_pair};
-ghost use Rattle.af_hold.specs.Stored.{row_at};
+ghost use Rattle.af_pass.specs.Keeping.{Spares};
+ghost use Rattle.af_collect.specs.Shown.{room_at};
 
+use crate::parts::Parts;
 use af_base::events::SockType;
 use af_base::limits::MAX_NOFILE;
 use af_base::names::{FileRef, Pid, Uid};
 use af_hold::Holdings;
 use af_mark::Marks;
+use af_pass::{Progress, Stage};
 use std::alloc::{AllocError, Global};
 use std::marker::Model;
+use std::snapshot::Snapshot;
 
-/// The processes with their tables, the files, how many places hold each file, and the marks of a
-/// pass.
+/// The processes with their tables, the files, how many places hold each file, and the pass of the
+/// collector, if one runs.
 #[derive(Drop)]
 pub struct Store {
-    pub(crate) places: Holdings,
-    pub(crate) marks: Marks,
+    pub(crate) parts: Parts,
 }
 
 impl Model for Store {
     ghost use Rattle.std.specs.FinMap as map;
     ghost use Rattle.std.specs.Coded.{codes};
-    ghost use Rattle.af_hold.specs.Stored.{Stored};
-    ghost use Rattle.af_collect.specs.Known.{AreKnown};
+    ghost use Rattle.af_pass.specs.Keeping.{pass_of};
+    ghost use Rattle.af_collect.specs.Shown.{AreKept, Shown};
 
-    ghost Value = { Stored };
+    ghost Value = { Shown };
 
     ghost coded = { Prim.hlevel (codes, map.code) };
 
-    ghost view = { λ a. a.places };
+    ghost view = { λ s. record { world = s.parts.places.world; rows = s.parts.places.rows; pass = pass_of s.parts.progress.stage s.parts.begun.value.world s.parts.progress.looked; looked = s.parts.progress.looked } };
 
-    ghost invariant = { λ a. AreKnown a.places.world a.marks };
+    ghost invariant = { λ s. AreKept s.parts };
 }
 
 impl Store {
     /// Nothing at all. It takes no memory.
     pub fn new(alloc: Global) -> Store
-        ensures { result.world ≡ empty_world }
+        ensures world { result.world ≡ empty_world }
+        ensures pass { result.pass ≡ Idle }
     {
+        let places = Holdings::new(alloc);
+        let begun = Snapshot::of(&places);
         Store {
-            places: Holdings::new(alloc),
-            marks: Marks::new(alloc),
+            parts: Parts {
+                places,
+                marks: Marks::new(alloc),
+                begun,
+                progress: Progress {
+                    stage: Stage::Resting,
+                    visited: 0,
+                    swept: 0,
+                    looked: 0,
+                    reclaimed: 0,
+                },
+            },
         }
     }
 
@@ -54,21 +71,25 @@ impl Store {
         requires limit { limit ≤ MAX_NOFILE }
         requires room { is_crowded self.old.world ≡ false }
         ensures ok { OnOk result (self.new.world ≡ spawned self.old.world uid limit privileged) }
+        ensures pass { self.new.pass ≡ self.old.pass }
         ensures pid { IfOk result (λ pid. pid ≡ self.old.world.next_pid) }
         ensures err { OnErr result (self.new ≡ self.old) }
     {
-        self.places.spawn(uid, limit, privileged)
+        // Pids are below the next one: that is what a whole world says of them.
+        self.parts.places.is_whole();
+        self.parts.places.spawn(uid, limit, privileged)
     }
 
     /// Room to take so many numbers of the process into use. Where its row is as long as its limit,
     /// or none is to come, it needs no memory.
     pub fn room_for(&mut self, pid: Pid, count: usize) -> Result<(), AllocError>
         ensures world { self.new.world ≡ self.old.world }
-        ensures row { OnOk result (0 < count → (process_at self.old.world pid).limit ≤ row_at self.new pid) }
+        ensures pass { self.new.pass ≡ self.old.pass }
+        ensures row { OnOk result (0 < count → (process_at self.old.world pid).limit ≤ room_at self.new pid) }
         ensures none { count ≡ 0 → IsOk result }
-        ensures ready { (process_at self.old.world pid).limit ≤ row_at self.old pid → IsOk result }
+        ensures ready { (process_at self.old.world pid).limit ≤ room_at self.old pid → IsOk result }
     {
-        self.places.room_for(pid, count)
+        self.parts.places.room_for(pid, count)
     }
 
     /// A plain file more, which waits for its first place: without one, `release` takes it away. On
@@ -77,11 +98,14 @@ impl Store {
         requires { is_full self.old.world 1 ≡ false }
         ensures ok { OnOk result (self.new ≡ record self.old { world = add_file self.old.world Plain }) }
         ensures ino { IfOk result (λ ino. ino ≡ self.old.world.next_ino) }
+        ensures spared { IfOk result (λ ino. Spares self.new.pass ino) }
         ensures err { OnErr result (self.new ≡ self.old) }
     {
-        self.marks.reserve(1)?;
-        let file = self.places.make_plain()?;
-        self.marks.born(file.ino());
+        // Files' numbers are below the next one: that is what a whole world says of them.
+        self.parts.places.is_whole();
+        self.parts.marks.reserve(1)?;
+        let file = self.parts.places.make_plain()?;
+        self.parts.marks.born(file.ino());
         Ok(file)
     }
 
@@ -91,12 +115,14 @@ impl Store {
         requires { is_full self.old.world 2 ≡ false }
         ensures ok { OnOk result (self.new ≡ record self.old { world = with_pair self.old.world kind }) }
         ensures inos { IfOk result (λ both. (both.0 ≡ self.old.world.next_ino) × (both.1 ≡ self.old.world.next_ino + 1)) }
+        ensures spared { IfOk result (λ both. Spares self.new.pass both.0 × Spares self.new.pass both.1) }
         ensures err { OnErr result (self.new ≡ self.old) }
     {
-        self.marks.reserve(2)?;
-        let (first, second) = self.places.make_two(kind)?;
-        self.marks.born(first.ino());
-        self.marks.born(second.ino());
+        self.parts.places.is_whole();
+        self.parts.marks.reserve(2)?;
+        let (first, second) = self.parts.places.make_two(kind)?;
+        self.parts.marks.born(first.ino());
+        self.parts.marks.born(second.ino());
         Ok((first, second))
     }
 
@@ -106,23 +132,27 @@ impl Store {
         requires there { IsTrue (map.contains_key self.old.world.processes pid) }
         requires room { is_crowded self.old.world ≡ false }
         ensures ok { OnOk result (self.new.world ≡ add_process self.old.world (process_at self.old.world pid)) }
+        ensures pass { self.new.pass ≡ self.old.pass }
         ensures pid { IfOk result (λ child. child ≡ self.old.world.next_pid) }
         ensures err { OnErr result (self.new ≡ self.old) }
     {
-        self.places.copy_for_fork(pid)
+        self.parts.places.is_whole();
+        self.parts.places.copy_for_fork(pid)
     }
 
     /// A process goes, and all its numbers are free. It takes no memory.
     pub fn remove_process(&mut self, pid: Pid)
-        ensures { self.new.world ≡ remove_process self.old.world pid }
+        ensures world { self.new.world ≡ remove_process self.old.world pid }
+        ensures pass { self.new.pass ≡ self.old.pass }
     {
-        self.places.remove_process(pid);
+        self.parts.shade_table(pid);
+        self.parts.places.remove_process(pid);
     }
 
     /// Whether there can be no further process.
     pub fn is_crowded(&self) -> bool
         ensures { result ≡ is_crowded self.now.world }
     {
-        self.places.is_crowded()
+        self.parts.places.is_crowded()
     }
 }

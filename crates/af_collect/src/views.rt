@@ -1,8 +1,10 @@
 //! The parts, lent for reading, and the numbers that are kept. None takes memory.
-ghost use Rattle.std.specs.Prelude.{◌≡◌, IfErr, IfOk, None, OnOk, Some, length, slice_get};
+ghost use Rattle.std.specs.Prelude.{◌≡◌, ℕ, IfErr, IfOk, None, OnOk, Some, length, slice_get};
 ghost use Rattle.af_base.specs.Bare.{bare};
 ghost use Rattle.af_base.specs.Counts.{charged, inflight, refs, total};
+ghost use Rattle.af_base.specs.Places.{InTable};
 ghost use Rattle.af_base.specs.Refusals.{first_fit, send_row};
+ghost use Rattle.af_pass.specs.Keeping.{Spares};
 
 use crate::store::Store;
 use af_base::errno::Errno;
@@ -19,7 +21,15 @@ impl Store {
         ensures next { result.now.next_pid ≡ self.now.world.next_pid }
         ensures rows { result.now.rows ≡ self.now.rows }
     {
-        self.places.procs()
+        self.parts.places.procs()
+    }
+
+    /// What a table holds is no garbage of the begin of a pass that runs.
+    pub fn is_spared(&self)
+        ensures { (f : ℕ) → InTable self.now.world f → Spares self.now.pass f }
+    {
+        // The invariant says it: it is enough to look at a field.
+        let _parts = &self.parts;
     }
 
     /// The files.
@@ -27,49 +37,49 @@ impl Store {
         ensures files { result.now.files ≡ self.now.world.files }
         ensures next { result.now.next ≡ self.now.world.next_ino }
     {
-        self.places.files()
+        self.parts.places.files()
     }
 
     /// How many places hold the file; none holds a stranger.
     pub fn refs(&self, ino: Ino) -> u64
         ensures { result ≡ refs self.now.world ino }
     {
-        self.places.refs(ino)
+        self.parts.places.refs(ino)
     }
 
     /// How many places in queues hold the file.
     pub fn inflight(&self, ino: Ino) -> u64
         ensures { result ≡ inflight self.now.world ino }
     {
-        self.places.inflight(ino)
+        self.parts.places.inflight(ino)
     }
 
     /// How many places in queues are charged to the user.
     pub fn charged(&self, user: Uid) -> u64
         ensures { result ≡ charged self.now.world user }
     {
-        self.places.charged(user)
+        self.parts.places.charged(user)
     }
 
     /// How many places in queues there are.
     pub fn total(&self) -> u64
         ensures { result ≡ total self.now.world }
     {
-        self.places.total()
+        self.parts.places.total()
     }
 
     /// How many users there are: a user stays when its last process is gone.
     pub fn users(&self) -> usize
         ensures { result ≡ length self.now.world.users }
     {
-        self.places.users()
+        self.parts.places.users()
     }
 
     /// The i-th user, from 0, in the order of their first process; nothing past the last.
     pub fn user_at(&self, i: usize) -> Option<Uid>
         ensures { result ≡ slice_get self.now.world.users i }
     {
-        self.places.user_at(i)
+        self.parts.places.user_at(i)
     }
 
     /// Whether a user may send so many files by a process of this limit and privilege, or why not
@@ -84,7 +94,7 @@ impl Store {
         ensures ok { OnOk result (first_fit (send_row (charged self.now.world uid) (total self.now.world) limit privileged files) ≡ None) }
         ensures err { IfErr result (λ e. first_fit (send_row (charged self.now.world uid) (total self.now.world) limit privileged files) ≡ Some e) }
     {
-        self.places.may_send(uid, limit, privileged, files)
+        self.parts.places.may_send(uid, limit, privileged, files)
     }
 
     /// Plain lists of the tables, queues and backlogs as they stand, and whom each message is charged
@@ -92,6 +102,6 @@ impl Store {
     pub fn listing(&self) -> Result<Listing, AllocError>
         ensures { IfOk result (λ l. l ≡ bare self.now.world) }
     {
-        self.places.listing()
+        self.parts.places.listing()
     }
 }

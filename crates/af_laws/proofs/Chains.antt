@@ -11,9 +11,9 @@ use Rattle.std.proofs.lemmas.List.Elements.{Contains-append_cases, Contains-appe
 use Rattle.af_base.specs.World.{AsSocket, File, IsLive, Map, Message, Plain, Process, Socket, World}
 use Rattle.af_base.specs.Places.{Holds, carried, contents, held_by, table_at}
 use Rattle.af_base.specs.Unheld.{Goes, Settles, without}
-use Rattle.af_base.specs.Reached.{ByTable, BySocket, Garbage, Reached}
+use Rattle.af_base.specs.Reached.{ByTable, BySocket, Reached}
 use Rattle.af_base.specs.Changes.{file_with, install, push_message, with_table}
-use Rattle.af_base.specs.Pass.{emptied}
+use Rattle.af_base.specs.Pass.{Purges, emptied}
 use Rattle.af_base.proofs.Lookups.{none_some}
 use Rattle.af_base.proofs.Places.{carried-push}
 use Rattle.af_base.proofs.Purging.{from_emptied, to_emptied}
@@ -62,10 +62,11 @@ module _ (w new : World) (t : Settles w new) where
 pub settling_keeps_reached : SettlingKeepsReached
 settling_keeps_reached w new t f = (reached_after w new t f, reached_before w new t f)
 
-module _ (w : World) (test : ℕ → Bool) (garbage : (f : ℕ) → test f ≡ true → Garbage w f) where
+-- nothing of what is emptied is reached
+module _ (w : World) (test : ℕ → Bool) (apart : (f : ℕ) → test f ≡ true → ¬ (Reached w f)) where
   pub not_emptied : (s : ℕ) → Reached w s → test s ≡ false
   not_emptied s r = elim (cases_Bool (test s)) [
-    | inl e ↦ absurd ((garbage s e).1 r)
+    | inl e ↦ absurd (apart s e r)
     | inr e ↦ e
   ]
 
@@ -73,13 +74,14 @@ module _ (w : World) (test : ℕ → Bool) (garbage : (f : ℕ) → test f ≡ t
   reached_emptied _ (ByTable f h) = ByTable f h
   reached_emptied _ (BySocket s f r h) = BySocket s f (reached_emptied s r) (to_emptied test w s f (not_emptied s r) h)
 
-  emptied_reached : (f : ℕ) → Reached (emptied test w) f → Reached w f
-  emptied_reached = places_keep_reached (emptied test w) w (λ g h. h, λ s g h. (from_emptied test w s g h).1)
+-- to purge any files makes nothing reached that was not
+pub purging_reaches_nothing : (w new : World) (test : ℕ → Bool) → Purges test w new → (f : ℕ) → Reached new f → Reached w f
+purging_reaches_nothing w new test t f r = places_keep_reached (emptied test w) w (λ g h. h, λ s g h. (from_emptied test w s g h).1) f (reached_before (emptied test w) new t f r)
 
 pub purging_keeps_reached : PurgingKeepsReached
 purging_keeps_reached w new test garbage t f = (
-  λ r. reached_after (emptied test w) new t f (reached_emptied w test garbage f r),
-  λ r. emptied_reached w test garbage f (reached_before (emptied test w) new t f r),
+  λ r. reached_after (emptied test w) new t f (reached_emptied w test (λ g e. (garbage g e).1) f r),
+  purging_reaches_nothing w new test t f,
 )
 
 -- what the tables have after one was changed

@@ -16,9 +16,10 @@ use Rattle.af_base.specs.Reached.{Reached}
 use Rattle.af_base.specs.Changes.{add_process, install, install_all, with_queue}
 use Rattle.af_base.specs.Refusals.{ino_on, refusal, spawn_refusal}
 use Rattle.af_base.specs.Steps.{Outcome, answer, effect, got_at, needs_no_memory, spawned, taken_on}
-use Rattle.af_base.specs.Pass.{Idle, Machine, Pass, PassesWhole, Running}
+use Rattle.af_base.specs.Pass.{Begins, GoesOn, Idle, Machine, Pass, PassesWhole, Running}
 use Rattle.af_base.specs.Run.{Entry, Run, Step as MachineStep}
 use Rattle.af_base.specs.Whole.{IsSound}
+use Rattle.af_base.proofs.Purged.{slice-by}
 use Rattle.af_laws.proofs.Unreached.{event_leads, numbered_leads}
 use Rattle.af_laws.proofs.Logs.{events_keep_sound}
 use Rattle.af_laws.specs.Reaching.{GarbageIsNeverReached}
@@ -69,12 +70,26 @@ pass_next : (p : Pass) (old new : Machine) (r : Reply) → PassesWhole p old r n
 pass_next Idle old new r h = omega (arith, ap (λ w. w.next_ino) h.0.purged.2)
 pass_next (Running begun spent) old new r h = omega (arith, ap (λ m. m.world.next_ino) h.1)
 
-event_next : (old new : Machine) (e : Event) (r : Reply) → MachineStep old e r new → old.world.next_ino ≤ new.world.next_ino
+-- a begin and a slice give no number
+begin_next : (p : Pass) (old new : Machine) (r : Reply) → Begins p old r new → old.world.next_ino ≤ new.world.next_ino
+begin_next Idle old new r h = omega (arith, ap (λ m. m.world.next_ino) h.1)
+begin_next (Running begun spent) old new r h = omega (arith, ap (λ m. m.world.next_ino) h.1)
+
+slice_next : (p : Pass) (old new : Machine) (b : ℕ) (r : Reply) → GoesOn p old b r new → old.world.next_ino ≤ new.world.next_ino
+slice_next Idle old new b r h = omega (arith, ap (λ m. m.world.next_ino) h.1)
+slice_next (Running begun spent) old new b r h = elim (slice-by begun spent b old new r h) [
+  | inl refused ↦ omega (arith, ap (λ m. m.world.next_ino) refused.1)
+  | inr made ↦ omega (arith, ap (λ w. w.next_ino) made.0.purged.2)
+]
+
+pub event_next : (old new : Machine) (e : Event) (r : Reply) → MachineStep old e r new → old.world.next_ino ≤ new.world.next_ino
 event_next old new (event.Spawn uid nofile privileged) r h =
     let same : old.world.next_ino ≤ (spawned old.world uid nofile privileged).next_ino = omega (arith, same_user (add_process old.world (record { user = uid; limit = nofile; privileged = privileged; table = map.empty })) uid (list_any (nat_eq uid) old.world.users)) in
     outcome_next (spawned old.world uid nofile privileged) old.world new.world same (spawn_refusal old.world nofile) false (reply.Pid old.world.next_pid) r h.0
 event_next old new (event.Proc p s) r h =
     outcome_next (effect old.world p s) old.world new.world (effect_next old.world p s) (refusal old.world p s) (needs_no_memory s) (answer old.world p s) r h.0
+event_next old new event.Begin r h = begin_next old.pass old new r h
+event_next old new (event.Slice b) r h = slice_next old.pass old new b r h
 event_next old new event.Pass r h = pass_next old.pass old new r h
 
 never : (old new : Machine) (log : List Entry) → IsSound old.world → Run old log new → (f : ℕ) → f < old.world.next_ino → ¬ (Reached old.world f) → ¬ (Reached new.world f)

@@ -13,6 +13,8 @@ pub mod Unreached
 pub mod Existing
 pub mod Logs
 pub mod Forever
+pub mod Begun
+pub mod Slices
 pub mod Bindings
 pub mod Accepts
 pub mod TakeRows

@@ -1,34 +1,35 @@
 -- Each event has a reply, the reply tells the machine, and runs come apart as they were joined.
-use Rattle.std.proofs.Common.{◌≡◌, inl, inr, ℕ, Bool, true, false, ◌&&◌, List, [], ◌∷◌, ◌++◌, refl, sym, ap, ◌∙◌, subst, cond}
-use Rattle.std.specs.List.{count_by}
+use Rattle.std.proofs.Common.{◌≡◌, inl, inr, ℕ, ◌+◌, ◌*◌, ◌≤◌, Bool, true, false, ◌&&◌, ◌||◌, List, [], ◌∷◌, ◌++◌, refl, sym, ap, ◌∙◌, subst, cond, arith}
+use Rattle.std.specs.List.{count_by, list_any}
 use Rattle.std.specs.FinMap as map
-use Rattle.std.specs.Prelude.{Option, Some, None}
+use Rattle.std.specs.Prelude.{Option, Some, None, MatchBool, nat_eq, nat_lt}
 use Rattle.std.specs.Cmp.{both_ways}
 use Rattle.std.proofs.lemmas.Bool.{false≢true}
-use Rattle.std.proofs.lemmas.List.Elements.{All-head, All-tail}
+use Rattle.std.proofs.lemmas.List.Elements.{All-head, All-nil, All-tail}
 use Rattle.af_base.specs.declared.errno.Errno.{Errno}
-use Rattle.af_base.specs.declared.errno.Errno.TheVariants.{EBUSY, ENOMEM}
+use Rattle.af_base.specs.declared.errno.Errno.TheVariants.{EBUSY, EIDLE, EINVAL, ENOMEM}
 use Rattle.af_base.specs.declared.events.Event.TheVariants as event
 use Rattle.af_base.specs.declared.events.Reply.{Reply}
 use Rattle.af_base.specs.declared.events.Reply.TheVariants as reply
 use Rattle.af_base.specs.declared.events.Step.{Step as ProcStep}
 use Rattle.af_base.specs.declared.events.Step.TheVariants as step
+use Rattle.af_base.specs.declared.limits.TheConstants.{MAX_BUDGET}
 use Rattle.af_base.specs.World.{World}
 use Rattle.af_base.specs.Unheld.{Settles}
 use Rattle.af_base.specs.Refusals.{refusal, spawn_refusal}
 use Rattle.af_base.specs.Steps.{Outcome, answer, effect, needs_no_memory, spawned}
-use Rattle.af_base.specs.Pass.{Idle, Machine, Pass, Passes, PassesWhole, Purges, Running, emptied, next_pass}
-use Rattle.af_base.specs.Reached.{is_socket}
+use Rattle.af_base.specs.Pass.{Begins, GoesOn, Idle, Machine, Pass, Passes, PassesWhole, Purges, Running, Slices, emptied, next_pass}
+use Rattle.af_base.specs.Reached.{Garbage, is_socket}
 use Rattle.af_base.specs.Run.{Entry, Run, fresh}
 use Rattle.af_base.proofs.Runs.{run-append}
 use Rattle.af_base.specs.Whole.{IsSound, IsWhole}
-use Rattle.af_base.proofs.Purged.{sound-pass}
+use Rattle.af_base.proofs.Purged.{slice-by, sound-begins, sound-pass, sound-slice}
 use Rattle.af_base.proofs.Settling.{settles_once}
 use Rattle.af_base.proofs.Sound.{fresh_sound}
 use Rattle.af_base.proofs.Stepped.{sound-spawn, sound-step}
 use Rattle.af_laws.proofs.Deciding.{garbage_decided}
 use Rattle.af_laws.proofs.Existing.{settles_to_some}
-use Rattle.af_laws.specs.Running.{EventsHaveReplies, EventsKeepSound, FreshIsSound, LeavesNoChoice, LogDetermines, RefusedChangesNothing, RepliesDetermine, RunsAreSound, RunsJoin}
+use Rattle.af_laws.specs.Running.{EventsHaveReplies, EventsKeepSound, FreshIsSound, HasBudget, LeavesNoChoice, LogDetermines, RefusedChangesNothing, RepliesDetermine, RunsAreSound, RunsJoin}
 
 -- an outcome there is
 outcome_some : (o : Option Errno) (frugal : Bool) (answer : Reply) (now old : World) → (r : Reply) × (new : World) × Outcome o frugal answer now old r new
@@ -48,17 +49,45 @@ pass_some Idle old whole =
     )
 pass_some (Running begun spent) old whole = (reply.Refused EBUSY, old, (refl, refl))
 
+-- a pass that is to begin begins, or is refused
+begin_some : (p : Pass) (old : Machine) → (r : Reply) × (new : Machine) × Begins p old r new
+begin_some Idle old = (reply.Started (next_pass old.last_pass), record old { pass = Running old.world 0; last_pass = next_pass old.last_pass }, (refl, refl))
+begin_some (Running begun spent) old = (reply.Refused EBUSY, old, (refl, refl))
+
+-- a slice within the budgets may empty nothing, and go on
+slice_some : (p : Pass) (old : Machine) (b : ℕ) → HasBudget p b → (r : Reply) × (new : Machine) × GoesOn p old b r new
+slice_some Idle old b has = (reply.Refused EIDLE, old, (refl, refl))
+slice_some (Running begun spent) old b has = by (nat_eq b 0 || nat_lt MAX_BUDGET b) refl where
+  s : (new : World) × Purges (λ f. list_any (nat_eq f) []) old.world new
+  s = settles_to_some (emptied (λ f. list_any (nat_eq f) []) old.world)
+
+  after : Machine
+  after = record old { world = s.0; pass = Running begun (spent + b) }
+
+  within : (nat_eq b 0 || nat_lt MAX_BUDGET b) ≡ false → spent + b ≤ 3 * map.len begun.files
+  within e = elim has [
+    | inl out ↦ absurd (false≢true (sym e ∙ out))
+    | inr low ↦ low
+  ]
+
+  by : (c : Bool) → (nat_eq b 0 || nat_lt MAX_BUDGET b) ≡ c
+      → (r : Reply) × (new : Machine) × MatchBool c ((r ≡ reply.Refused EINVAL) × (new ≡ old)) (Slices begun old.world spent b old.last_pass r new.world new.pass × (new.last_pass ≡ old.last_pass))
+  by true e = (reply.Refused EINVAL, old, (refl, refl))
+  by false e = (reply.Working, after, (record { emptied_files = []; few = omega arith; of_garbage = All-nil (Garbage begun); purged = s.1; answered = inl (refl, refl, within e) }, refl))
+
 abbrev with_world : Machine → World → Machine
 with_world m w = record m { world = w }
 
 pub events_have_replies : EventsHaveReplies
-events_have_replies old (event.Spawn uid nofile privileged) sound =
+events_have_replies old (event.Spawn uid nofile privileged) sound answered =
     let o = outcome_some (spawn_refusal old.world nofile) false (reply.Pid old.world.next_pid) (spawned old.world uid nofile privileged) old.world in
     (o.0, with_world old o.1, (o.2, (refl, refl)))
-events_have_replies old (event.Proc p s) sound =
+events_have_replies old (event.Proc p s) sound answered =
     let o = outcome_some (refusal old.world p s) (needs_no_memory s) (answer old.world p s) (effect old.world p s) old.world in
     (o.0, with_world old o.1, (o.2, (refl, refl)))
-events_have_replies old event.Pass sound = pass_some old.pass old sound.whole
+events_have_replies old event.Begin sound answered = begin_some old.pass old
+events_have_replies old (event.Slice b) sound answered = slice_some old.pass old b answered
+events_have_replies old event.Pass sound answered = pass_some old.pass old sound.whole
 
 -- whether the reply is a refusal
 pub is_refused : Reply → Bool
@@ -122,12 +151,19 @@ unfolding is_refused
 pass_one Idle old a b r x y = same_machine a b (passes_one old.world a.world b.world _ r r x.0 y.0) (x.1 ∙ sym y.1) (x.2 ∙ sym y.2)
 pass_one (Running begun spent) old a b r x y = x.1 ∙ sym y.1
 
+-- a begin, with its reply, leads to one machine
+begin_one : (p : Pass) (old a b : Machine) (r : Reply) → Begins p old r a → Begins p old r b → a ≡ b
+begin_one Idle old a b r x y = x.1 ∙ sym y.1
+begin_one (Running begun spent) old a b r x y = x.1 ∙ sym y.1
+
 pub replies_determine : RepliesDetermine
 unfolding is_refused
 replies_determine old a b (event.Spawn uid nofile privileged) r none x y =
     same_machine a b (outcome_one (reply.Pid old.world.next_pid) refl (spawned old.world uid nofile privileged) old.world a.world b.world r (spawn_refusal old.world nofile) false x.0 y.0) (x.1.0 ∙ sym y.1.0) (x.1.1 ∙ sym y.1.1)
 replies_determine old a b (event.Proc p s) r none x y =
     same_machine a b (outcome_one (answer old.world p s) (answers old.world p s) (effect old.world p s) old.world a.world b.world r (refusal old.world p s) (needs_no_memory s) x.0 y.0) (x.1.0 ∙ sym y.1.0) (x.1.1 ∙ sym y.1.1)
+replies_determine old a b event.Begin r none x y = begin_one old.pass old a b r x y
+replies_determine old a b (event.Slice n) r none x y = absurd none
 replies_determine old a b event.Pass r none x y = pass_one old.pass old a b r x y
 
 pub ok_is_done : is_refused reply.Ok ≡ false
@@ -158,12 +194,32 @@ unfolding is_refused
 pass_refused Idle old new error h = absurd (false≢true (sym (ap is_refused h.0.answered)))
 pass_refused (Running begun spent) old new error h = h.1
 
+-- a begin that is refused changes nothing
+begin_refused : (p : Pass) (old new : Machine) (error : Errno) → Begins p old (reply.Refused error) new → new ≡ old
+unfolding is_refused
+begin_refused Idle old new error h = absurd (false≢true (sym (ap is_refused h.0)))
+begin_refused (Running begun spent) old new error h = h.1
+
+-- nor does a slice that is
+slice_refused : (p : Pass) (old new : Machine) (b : ℕ) (error : Errno) → GoesOn p old b (reply.Refused error) new → new ≡ old
+unfolding is_refused
+slice_refused Idle old new b error h = h.1
+slice_refused (Running begun spent) old new b error h = elim (slice-by begun spent b old new (reply.Refused error) h) [
+  | inl refused ↦ refused.1
+  | inr made ↦ elim made.0.answered [
+    | inl works ↦ absurd (false≢true (sym (ap is_refused works.0)))
+    | inr done ↦ absurd (false≢true (sym (ap is_refused done.2)))
+  ]
+]
+
 pub refused_changes_nothing : RefusedChangesNothing
 unfolding is_refused
 refused_changes_nothing old new (event.Spawn uid nofile privileged) error h =
     same_machine new old (outcome_refused (reply.Pid old.world.next_pid) refl (spawned old.world uid nofile privileged) old.world new.world error (spawn_refusal old.world nofile) false h.0) h.1.0 h.1.1
 refused_changes_nothing old new (event.Proc p s) error h =
     same_machine new old (outcome_refused (answer old.world p s) (answers old.world p s) (effect old.world p s) old.world new.world error (refusal old.world p s) (needs_no_memory s) h.0) h.1.0 h.1.1
+refused_changes_nothing old new event.Begin error h = begin_refused old.pass old new error h
+refused_changes_nothing old new (event.Slice b) error h = slice_refused old.pass old new b error h
 refused_changes_nothing old new event.Pass error h = pass_refused old.pass old new error h
 
 pub log_determines : LogDetermines
@@ -187,6 +243,8 @@ fresh_is_sound = fresh_sound
 pub events_keep_sound : EventsKeepSound
 events_keep_sound old new (event.Spawn uid nofile privileged) r sound h = sound-spawn old.world uid nofile privileged r new.world sound h.0
 events_keep_sound old new (event.Proc p s) r sound h = sound-step old.world p s r new.world sound h.0
+events_keep_sound old new event.Begin r sound h = sound-begins old.pass old new r sound h
+events_keep_sound old new (event.Slice b) r sound h = sound-slice old.pass old new b r sound h
 events_keep_sound old new event.Pass r sound h = sound-pass old.pass old new r sound h
 
 run_sound : (old new : Machine) (log : List Entry) → IsSound old.world → Run old log new → IsSound new.world

@@ -1,5 +1,5 @@
 -- What a whole pass leaves as it was, and that it leaves no garbage: neither that of its beginning nor any other.
-use Rattle.std.proofs.Common.{◌≡◌, ℕ, Bool, true, false, not, inl, inr, [], refl, sym, ap, ◌∙◌, subst, cond}
+use Rattle.std.proofs.Common.{◌≡◌, ℕ, Bool, true, false, not, [], refl, sym, ap, ◌∙◌, subst, cond}
 use Rattle.std.specs.Prelude.{◌↔◌, Option, Some, None, is_some, option_map, if◌then◌else◌}
 use Rattle.std.specs.Option.{option_map_or}
 use Rattle.std.specs.FinMap as map
@@ -18,22 +18,19 @@ use Rattle.af_base.proofs.Settling.{get-without, live-without, stays}
 use Rattle.af_laws.proofs.Chains.{holder_live, not_emptied, not_gone, purging_keeps_reached, reached_emptied}
 use Rattle.af_laws.specs.Purging.{PassLeavesNoGarbage, PassReleasesItsGarbage, PassSparesTheReached, Spares}
 
--- a world whose garbage is purged
-module _ (old new : World) (test : ℕ → Bool) (garbage : (f : ℕ) → (test f ≡ true) ↔ Garbage old f) (purged : Purges test old new) where
-  is_garbage : (f : ℕ) → test f ≡ true → Garbage old f
-  is_garbage f e = (garbage f).0 e
-
+-- a world of which some is purged, and nothing that is reached
+module _ (old new : World) (test : ℕ → Bool) (apart : (f : ℕ) → test f ≡ true → ¬ (Reached old f)) (purged : Purges test old new) where
   -- what is reached is what it was, but for a peer that has hung up
   same_file : (f : ℕ) → Reached old f → map.get new.files f ≡ option_map (file_without purged.0) (map.get old.files f)
   same_file f r =
       ap (λ w. map.get w.files f) purged.2 ∙ get-without purged.0 (emptied test old) f
-      ∙ ap (λ b. cond (not b) (option_map (file_without purged.0) (map.get (emptied test old).files f)) None) (not_gone (emptied test old) new purged f (reached_emptied old test is_garbage f r))
-      ∙ ap (option_map (file_without purged.0)) (get-emptied test old f ∙ ap (λ b. option_map (λ x. if b then empty_file x else x) (map.get old.files f)) (not_emptied old test is_garbage f r) ∙ whole (map.get old.files f)) where
+      ∙ ap (λ b. cond (not b) (option_map (file_without purged.0) (map.get (emptied test old).files f)) None) (not_gone (emptied test old) new purged f (reached_emptied old test apart f r))
+      ∙ ap (option_map (file_without purged.0)) (get-emptied test old f ∙ ap (λ b. option_map (λ x. if b then empty_file x else x) (map.get old.files f)) (not_emptied old test apart f r) ∙ whole (map.get old.files f)) where
         whole : (o : Option File) → option_map (λ x. if false then empty_file x else x) o ≡ o
         whole None = refl
         whole (Some x) = refl
 
-  spared : Spares old new
+  pub spared : Spares old new
   spared = record {
     tables = ap (λ w. w.processes) purged.2;
     live = λ f r l. ap is_some (same_file f r) ∙ live (map.get old.files f) ∙ l;
@@ -54,6 +51,11 @@ module _ (old new : World) (test : ℕ → Bool) (garbage : (f : ℕ) → (test 
     backlog (Some Plain) = refl
     backlog (Some (AsSocket s)) = refl
 
+-- a world whose garbage is purged
+module _ (old new : World) (test : ℕ → Bool) (garbage : (f : ℕ) → (test f ≡ true) ↔ Garbage old f) (purged : Purges test old new) where
+  is_garbage : (f : ℕ) → test f ≡ true → Garbage old f
+  is_garbage f e = (garbage f).0 e
+
   -- only garbage holds garbage, and that was emptied
   goes : (f : ℕ) → Garbage old f → Unheld (emptied test old) f
   goes f g = Goes f (live-emptied test old f ∙ g.0) (λ t. g.1 (ByTable f t)) (λ s h.
@@ -66,18 +68,18 @@ module _ (old new : World) (test : ℕ → Bool) (garbage : (f : ℕ) → (test 
       let left = stays _ _ (sym (ap (λ w. is_some (map.get w.files f)) purged.2 ∙ live-without purged.0 (emptied test old) f) ∙ l) in
       (left.0, sym (live-emptied test old f) ∙ left.1)
 
-  released : (f : ℕ) → Garbage old f → ¬ (IsLive new f)
+  pub released : (f : ℕ) → Garbage old f → ¬ (IsLive new f)
   released f g l = false≢true (sym (stayed f l).0 ∙ (purged.1 f).1 (goes f g))
 
   none_left : (f : ℕ) → ¬ (Garbage new f)
   none_left f g = released f ((stayed f g.0).1, λ r. g.1 ((purging_keeps_reached old new test is_garbage purged f).0 r)) g.0
 
 -- where nothing changes
-spares_all : (old new : Machine) → new ≡ old → Spares old.world new.world
+pub spares_all : (old new : Machine) → new ≡ old → Spares old.world new.world
 spares_all old new e = subst (λ m. Spares old.world m.world) (sym e) (record { tables = refl; live = λ f r l. l; queues = λ f r. refl; backlogs = λ f r. refl })
 
 spares_by : (p : Pass) (old new : Machine) (r : Reply) → PassesWhole p old r new → Spares old.world new.world
-spares_by Idle old new r h = spared old.world new.world h.0.test h.0.is_garbage h.0.purged
+spares_by Idle old new r h = spared old.world new.world h.0.test (λ f e. ((h.0.is_garbage f).0 e).1) h.0.purged
 spares_by (Running begun spent) old new r h = spares_all old new h.1
 
 pub pass_spares_the_reached : PassSparesTheReached

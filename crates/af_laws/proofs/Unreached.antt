@@ -26,7 +26,7 @@ use Rattle.af_base.specs.Changes.{add_file, add_process, bound, connected, deque
 use Rattle.af_base.specs.Refusals.{ino_named, ino_on, no_socket, peer_of, process_at, refusal, socket_at, socket_named, socket_of, socket_on, spawn_refusal, step_row}
 use Rattle.af_base.specs.Take.{cut, has_files, take_from}
 use Rattle.af_base.specs.Steps.{Outcome, ProcessStep, SpawnStep, answer, connected_socket, effect, first_embryo, free_at, got_at, idle_socket, needs_no_memory, spawned, taken_on, with_embryo}
-use Rattle.af_base.specs.Pass.{Idle, Machine, Pass, PassesWhole, Running}
+use Rattle.af_base.specs.Pass.{Begins, GoesOn, Idle, Machine, Pass, PassesWhole, Running}
 use Rattle.af_base.specs.Run.{Step as MachineStep}
 use Rattle.af_base.specs.Whole.{IsWhole}
 use Rattle.af_base.proofs.Settling.{none_in}
@@ -36,9 +36,10 @@ use Rattle.af_base.proofs.Embryos.{Contains-dropped}
 use Rattle.af_base.proofs.Ended.{tabled-remove}
 use Rattle.af_base.proofs.Lookups.{insert-here, insert-other, none_some, same_or_not, some_same}
 use Rattle.af_base.proofs.Moved.{held-changed, table-there, tabled-install, tabled-uninstall, there-holds, there-table}
+use Rattle.af_base.proofs.Purged.{slice-by}
 use Rattle.af_base.proofs.Stepped.{NoneFits, attached-tabled, none-fits, process-there}
 use Rattle.af_base.proofs.Takes.{either_none, find-here, find-later, up_to}
-use Rattle.af_laws.proofs.Chains.{held_or_sent, holder_live, purging_keeps_reached, reached_before}
+use Rattle.af_laws.proofs.Chains.{held_or_sent, holder_live, purging_keeps_reached, purging_reaches_nothing, reached_before}
 use Rattle.af_laws.proofs.Takes.{packet_keeps_files}
 use Rattle.af_laws.specs.Reaching.{GarbageStaysOutOfReach, SpawnReachesNoGarbage, StepReachesNoGarbage}
 
@@ -408,9 +409,24 @@ pass_leads : (p : Pass) (old new : Machine) (r : Reply) → PassesWhole p old r 
 pass_leads Idle old new r h f d = inl ((purging_keeps_reached old.world new.world h.0.test (λ g e. (h.0.is_garbage g).0 e) h.0.purged f).1 d)
 pass_leads (Running begun spent) old new r h f d = inl (subst (λ m. Reached m.world f) h.1 d)
 
+-- a begin leaves the world
+begin_leads : (p : Pass) (old new : Machine) (r : Reply) → Begins p old r new → Leads old.world new.world
+begin_leads Idle old new r h f d = inl (subst (λ m. Reached m.world f) h.1 d)
+begin_leads (Running begun spent) old new r h f d = inl (subst (λ m. Reached m.world f) h.1 d)
+
+-- a slice purges, which makes nothing reached
+slice_leads : (p : Pass) (old new : Machine) (b : ℕ) (r : Reply) → GoesOn p old b r new → Leads old.world new.world
+slice_leads Idle old new b r h f d = inl (subst (λ m. Reached m.world f) h.1 d)
+slice_leads (Running begun spent) old new b r h f d = elim (slice-by begun spent b old new r h) [
+  | inl refused ↦ inl (subst (λ m. Reached m.world f) refused.1 d)
+  | inr made ↦ inl (purging_reaches_nothing old.world new.world _ made.0.purged f d)
+]
+
 pub event_leads : (old new : Machine) (e : Event) (r : Reply) → IsWhole old.world → MachineStep old e r new → Leads old.world new.world
 event_leads old new (event.Spawn uid nofile privileged) r whole h = spawn_step_leads old.world new.world uid nofile privileged r whole h.0
 event_leads old new (event.Proc p s) r whole h = process_step_leads old.world new.world p s r whole h.0
+event_leads old new event.Begin r whole h = begin_leads old.pass old new r h
+event_leads old new (event.Slice b) r whole h = slice_leads old.pass old new b r h
 event_leads old new event.Pass r whole h = pass_leads old.pass old new r h
 
 pub garbage_stays_out_of_reach : GarbageStaysOutOfReach

@@ -1,15 +1,20 @@
 -- Laws of purging: queues emptied, and then what goes.
-use Rattle.std.specs.Prelude.{◌≡◌, ℕ, Bool, ◌||◌, []}
+use Rattle.std.specs.Prelude.{◌≡◌, ℕ, Bool, ◌||◌, List, [], ◌∷◌, ◌++◌}
+use Rattle.std.specs.List.{All}
 use Rattle.std.specs.Option.{option_map_or}
 use Rattle.std.specs.FinMap as map
+use Rattle.af_base.specs.declared.events.Event.{Event}
 use Rattle.af_base.specs.declared.events.Event.TheVariants as event
 use Rattle.af_base.specs.declared.events.Reply.{Reply}
 use Rattle.af_base.specs.declared.events.Reply.TheVariants as reply
+use Rattle.af_base.specs.declared.limits.TheConstants.{MAX_BUDGET}
 use Rattle.af_base.specs.World.{World, IsLive}
 use Rattle.af_base.specs.Places.{backlog_of, queue_at}
 use Rattle.af_base.specs.Reached.{Garbage, Reached}
-use Rattle.af_base.specs.Pass.{Machine, Purges}
-use Rattle.af_base.specs.Run.{Step}
+use Rattle.af_base.specs.Pass.{Machine, Purges, Running}
+use Rattle.af_base.specs.Run.{Entry, Run, Step, fresh}
+use Rattle.af_base.specs.Unheld.{IsSettled}
+use Rattle.af_base.specs.Whole.{IsSound}
 
 -- To purge some files and then others is to purge all of them at once.
 abbrev pub PurgesBoth : Type 0
@@ -37,3 +42,34 @@ PassLeavesNoGarbage = (old new : Machine) (pass count : ℕ) → Step old event.
 -- A whole pass that is done has released all that was garbage at its beginning: none of it is live.
 abbrev pub PassReleasesItsGarbage : Type 0
 PassReleasesItsGarbage = (old new : Machine) (pass count : ℕ) → Step old event.Pass (reply.Done pass count) new → (f : ℕ) → Garbage old.world f → ¬ (IsLive new.world f)
+
+-- A whole pass has one outcome: one reply, and one machine.
+abbrev pub PassHasOneOutcome : Type 0
+PassHasOneOutcome = (old new other : Machine) (r s : Reply) → Step old event.Pass r new → Step old event.Pass s other → (r ≡ s) × (new ≡ other)
+
+-- The event is a slice.
+abbrev pub IsSlice : Event → Type 0
+IsSlice (event.Spawn uid nofile privileged) = ⊥
+IsSlice (event.Proc p s) = ⊥
+IsSlice event.Begin = ⊥
+IsSlice (event.Slice b) = Unit {0}
+IsSlice event.Pass = ⊥
+
+-- A begin, and slices with no steps between them, the last of them done, are a whole pass, however they are cut: it may have the same reply, and lead to the same machine.
+abbrev pub SlicesAreAPass : Type 0
+SlicesAreAPass = (old new : Machine) (slices : List Entry) (started b pass count : ℕ) → IsSettled old.world → All (λ e. IsSlice e.0) slices
+    → Run old ((event.Begin, reply.Started started) ∷ slices ++ (event.Slice b, reply.Done pass count) ∷ []) new → Step old event.Pass (reply.Done pass count) new
+
+-- And a whole pass that is done is a begin and one slice of the largest budget.
+abbrev pub PassIsOneSlice : Type 0
+PassIsOneSlice = (old new : Machine) (pass count : ℕ) → IsSound old.world → Step old event.Pass (reply.Done pass count) new
+    → Run old ((event.Begin, reply.Started pass) ∷ (event.Slice MAX_BUDGET, reply.Done pass count) ∷ []) new
+
+-- While no garbage of the begin is reached, a slice spares what is reached, whatever the answer.
+abbrev pub SlicesSpareTheReached : Type 0
+SlicesSpareTheReached = (old new : Machine) (begun : World) (spent b : ℕ) (r : Reply) → old.pass ≡ Running begun spent → ((f : ℕ) → Garbage begun f → ¬ (Reached old.world f))
+    → Step old (event.Slice b) r new → Spares old.world new.world
+
+-- While a pass runs, no garbage of its begin is reached, whatever processes do between its slices.
+abbrev pub BegunGarbageIsNeverReached : Type 0
+BegunGarbageIsNeverReached = (m : Machine) (log : List Entry) (begun : World) (spent : ℕ) → Run fresh log m → m.pass ≡ Running begun spent → (f : ℕ) → Garbage begun f → ¬ (Reached m.world f)

@@ -1,24 +1,41 @@
 -- Laws of steps and of runs.
-use Rattle.std.specs.Prelude.{◌≡◌, ◌↔◌, List, ◌++◌}
+use Rattle.std.specs.Prelude.{◌≡◌, ◌≤◌, ◌⊎◌, ◌↔◌, ◌+◌, ◌*◌, ◌||◌, ℕ, IsTrue, List, ◌++◌, nat_eq, nat_lt}
 use Rattle.std.specs.List.{All}
+use Rattle.std.specs.FinMap as map
 use Rattle.af_base.specs.declared.events.Event.{Event}
 use Rattle.af_base.specs.declared.events.Event.TheVariants as event
 use Rattle.af_base.specs.declared.errno.Errno.{Errno}
 use Rattle.af_base.specs.declared.events.Reply.{Reply}
 use Rattle.af_base.specs.declared.events.Reply.TheVariants as reply
-use Rattle.af_base.specs.Pass.{Machine}
+use Rattle.af_base.specs.declared.limits.TheConstants.{MAX_BUDGET}
+use Rattle.af_base.specs.Pass.{Idle, Machine, Pass, Running}
 use Rattle.af_base.specs.Run.{Entry, Run, Step, fresh}
 use Rattle.af_base.specs.Whole.{IsSound}
 use Rattle.af_base.specs.World.{empty_world}
 
--- From every machine whose world is sound each event has a reply and leads somewhere.
-abbrev pub EventsHaveReplies : Type 0
-EventsHaveReplies = (old : Machine) (e : Event) → IsSound old.world → (r : Reply) × (new : Machine) × Step old e r new
+-- A slice of this budget is refused, or may go on: no pass runs, or the budget is out of range, or with it the budgets are within three times the files of the begin (this project's profile).
+abbrev pub HasBudget : Pass → ℕ → Type 0
+HasBudget Idle b = Unit {0}
+HasBudget (Running begun spent) b = IsTrue (nat_eq b 0 || nat_lt MAX_BUDGET b) ⊎ (spent + b ≤ 3 * map.len begun.files)
 
--- The event, with its reply, leaves nothing to choose. Every event that is served is such a one; a slice of a pass is none, since which garbage it empties is the collector's choice (this project's profile).
+-- The event is no slice whose budgets are spent: such a slice is done or has no reply, since a collector that wasted the slices before may have garbage left (this project's profile).
+abbrev pub IsAnswered : Pass → Event → Type 0
+IsAnswered p (event.Spawn uid nofile privileged) = Unit {0}
+IsAnswered p (event.Proc pid s) = Unit {0}
+IsAnswered p event.Begin = Unit {0}
+IsAnswered p (event.Slice b) = HasBudget p b
+IsAnswered p event.Pass = Unit {0}
+
+-- From every machine whose world is sound each event, but a slice whose budgets are spent, has a reply and leads somewhere.
+abbrev pub EventsHaveReplies : Type 0
+EventsHaveReplies = (old : Machine) (e : Event) → IsSound old.world → IsAnswered old.pass e → (r : Reply) × (new : Machine) × Step old e r new
+
+-- The event, with its reply, leaves nothing to choose. A slice of a pass does: which files it empties, and when the pass is done, is the collector's choice (this project's profile).
 abbrev pub LeavesNoChoice : Event → Type 0
 LeavesNoChoice (event.Spawn uid nofile privileged) = Unit {0}
 LeavesNoChoice (event.Proc p s) = Unit {0}
+LeavesNoChoice event.Begin = Unit {0}
+LeavesNoChoice (event.Slice b) = ⊥
 LeavesNoChoice event.Pass = Unit {0}
 
 -- An event that leaves nothing to choose leads, with its reply, to one machine.

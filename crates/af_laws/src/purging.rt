@@ -1,5 +1,6 @@
 //! Laws of purging: queues emptied, and then what goes.
-ghost use Rattle.af_laws.specs.Purging.{PurgesBoth, PurgesInAnyOrder, PassSparesTheReached, PassLeavesNoGarbage, PassReleasesItsGarbage};
+ghost use Rattle.af_laws.specs.Purging.{PurgesBoth, PurgesInAnyOrder, PassSparesTheReached, PassLeavesNoGarbage, PassReleasesItsGarbage, PassHasOneOutcome};
+ghost use Rattle.af_laws.specs.Purging.{SlicesAreAPass, PassIsOneSlice, SlicesSpareTheReached, BegunGarbageIsNeverReached};
 
 /// To purge some files and then others is to purge all of them at once.
 pub fn purges_both()
@@ -24,4 +25,30 @@ pub fn pass_leaves_no_garbage()
 /// A whole pass that is done has released all that was garbage at its beginning.
 pub fn pass_releases_its_garbage()
     ensures { PassReleasesItsGarbage }
+{}
+
+/// A whole pass has one outcome: one reply, and one machine.
+pub fn pass_has_one_outcome()
+    ensures { PassHasOneOutcome }
+{}
+
+/// A begin, and slices with no steps between them, the last of them done, are a whole pass.
+pub fn slices_are_a_pass()
+    ensures { SlicesAreAPass }
+{}
+
+/// A whole pass that is done is a begin and one slice of the largest budget.
+pub fn pass_is_one_slice()
+    ensures { PassIsOneSlice }
+{}
+
+/// A slice changes no table, and no queue or backlog of what is reached, while no garbage of the
+/// begin is.
+pub fn slices_spare_the_reached()
+    ensures { SlicesSpareTheReached }
+{}
+
+/// While a pass runs, no garbage of its begin is reached.
+pub fn begun_garbage_is_never_reached()
+    ensures { BegunGarbageIsNeverReached }
 {}

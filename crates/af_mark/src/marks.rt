@@ -106,6 +106,13 @@ impl Marks {
         self.bound = bound.0;
     }
 
+    /// The bound of the pass: files from this number on were born since it began.
+    pub fn bound(&self) -> Ino
+        ensures { result ≡ self.now.bound }
+    {
+        Ino(self.bound)
+    }
+
     /// A file is marked, and is to be scanned, if it was born before the pass and is not marked. It
     /// takes no memory.
     pub fn shade(&mut self, file: &FileRef)

@@ -10,3 +10,4 @@ pub mod Untabled
 pub mod Looked
 pub mod Connected
 pub mod Naming
+pub mod Collecting

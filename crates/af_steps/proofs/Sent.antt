@@ -11,7 +11,7 @@ use Rattle.af_base.specs.declared.events.State.TheVariants as state
 use Rattle.af_base.specs.declared.events.Step.TheVariants as step
 use Rattle.af_base.specs.declared.limits.TheConstants.{MAX_BYTES, MAX_INFLIGHT, MAX_MESSAGES, SCM_MAX_FD}
 use Rattle.af_base.specs.World.{IsLive, Message, Process, World}
-use Rattle.af_base.specs.Places.{queue_at, table_at}
+use Rattle.af_base.specs.Places.{InTable, queue_at, table_at}
 use Rattle.af_base.specs.Counts.{total}
 use Rattle.af_base.specs.Changes.{push_message}
 use Rattle.af_base.specs.Refusals.{ino_on, no_process, peer_of, process_at, refusal, socket_at, socket_of, socket_on, step_row}
@@ -41,11 +41,15 @@ module _ (w : World) (p on : ℕ) (bytes attach : List ℕ) (sound : IsSound w) 
   carries = ap (λ g. filter_map g attach) (λ i n. sym (there-table w p n q at) i)
 
   module _ (m : Message) (is : m ≡ sent) where
-    -- It carries live files.
-    pub sent-live : (f : ℕ) → Contains m.attached f → IsLive w f
-    sent-live f h =
+    -- It carries files that stand in the table of who sends it.
+    pub sent-tabled : (f : ℕ) → Contains m.attached f → InTable w f
+    sent-tabled f h =
         let tabled = attached-tabled w p attach f (subst (λ fs. Contains fs f) (ap (λ (x : Message). x.attached) is ∙ carries) h) in
-        sound.whole.tables_live f (p, tabled.0, tabled.1)
+        (p, tabled.0, tabled.1)
+
+    -- So they are live.
+    pub sent-live : (f : ℕ) → Contains m.attached f → IsLive w f
+    sent-live f h = sound.whole.tables_live f (sent-tabled f h)
 
     -- Its limits are kept.
     pub sent-within : IsMessageWithin m

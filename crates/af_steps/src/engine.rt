@@ -26,7 +26,7 @@ impl Model for Engine {
     ghost use Rattle.std.specs.FinMap as map;
     ghost use Rattle.std.specs.Coded.{codes};
     ghost use Rattle.std.specs.Prelude.{◌≤◌};
-    ghost use Rattle.af_base.specs.Pass.{Machine, Idle};
+    ghost use Rattle.af_base.specs.Pass.{Machine};
     ghost use Rattle.af_base.specs.Whole.{IsSound};
     ghost use Rattle.af_base.specs.declared.limits.TheConstants.{MAX_PASS};
 
@@ -34,7 +34,7 @@ impl Model for Engine {
 
     ghost coded = { Prim.hlevel (codes, map.code) };
 
-    ghost view = { λ e. record { world = e.store.world; pass = Idle; last_pass = e.last_pass } };
+    ghost view = { λ e. record { world = e.store.world; pass = e.store.pass; last_pass = e.last_pass } };
 
     ghost invariant = { λ e. IsSound e.store.world × (e.last_pass ≤ MAX_PASS) };
 }
@@ -74,6 +74,8 @@ impl Engine {
                 privileged,
             } => self.start(*uid, *nofile, *privileged),
             Event::Proc(pid, step) => self.step_of(*pid, step),
+            Event::Begin => self.begin(),
+            Event::Slice(budget) => self.slice(*budget),
             Event::Pass => self.pass(),
         })
     }

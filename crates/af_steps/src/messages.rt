@@ -48,6 +48,7 @@ impl Engine {
             return Err(Errno::EAGAIN);
         }
         let message = message(self.alloc, process, bytes, attach)?;
+        self.store.is_spared();
         self.store.put_msg(&peer, message)?;
         self.store.release();
         Ok(Reply::Sent(bytes.len() as u32))
@@ -75,6 +76,7 @@ impl Engine {
         let max = max_bytes as usize;
         let files = socket.queue().reach(socket.kind(), max);
         let fds = process.lowest_free(self.alloc, files.min(max_fds as usize))?;
+        self.store.is_spared();
         self.store.room_for(pid, fds.len())?;
         let taken = self.store.take_msg(&file, max, pid, &fds)?;
         self.store.release();

@@ -107,6 +107,7 @@ impl Engine {
         let socket = self.socket(&file).ok_or(Errno::ENOTSOCK)?;
         check_accept(socket)?;
         let fd = process.lowest().ok_or(Errno::EMFILE)?;
+        self.store.is_spared();
         self.store.room_for(pid, 1)?;
         self.store.take_embryo(&file, pid, fd);
         self.store.release();

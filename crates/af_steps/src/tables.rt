@@ -49,6 +49,7 @@ impl Engine {
         let process = self.store.procs().find(pid).ok_or(Errno::ESRCH)?;
         let file = process.lookup(from).ok_or(Errno::EBADF)?;
         let fd = process.lowest().ok_or(Errno::EMFILE)?;
+        self.store.is_spared();
         self.store.room_for(pid, 1)?;
         self.store.table_in(pid, fd, file);
         self.store.release();
@@ -68,6 +69,7 @@ impl Engine {
         if to.0 >= process.limit() {
             return Err(Errno::EBADF);
         }
+        self.store.is_spared();
         self.store.room_for(pid, 1)?;
         vacate(&mut self.store, pid, to);
         self.store.table_in(pid, to, file);

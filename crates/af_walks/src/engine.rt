@@ -106,6 +106,8 @@ impl Engine {
                 privileged,
             } => self.spawn(*uid, *nofile, *privileged),
             Event::Proc(pid, step) => self.step_of(*pid, step),
+            // Walks have whole passes alone: which files a slice empties is the other engine's choice.
+            Event::Begin | Event::Slice(_) => Err(Errno::EINVAL),
             Event::Pass => self.pass(),
         };
         match answer {

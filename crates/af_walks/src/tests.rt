@@ -1,6 +1,7 @@
 //! Both engines do the same events: all answers are the same, and so is what they show.
 mod meeting;
 mod met;
+mod slices;
 mod source;
 
 use crate::Engine;

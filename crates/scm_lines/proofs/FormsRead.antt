@@ -5,7 +5,7 @@ use Rattle.af_base.specs.declared.events.Step.{Step}
 use Rattle.af_base.specs.declared.events.Step.TheVariants as step
 use Rattle.af_base.specs.declared.events.Event.TheVariants as event
 use Rattle.scm_lines.specs.Words.{words_of}
-use Rattle.scm_lines.specs.Lines.{accept_of, bind_of, close_of, connect_of, dup2_of, dup_of, form_of, line_of, listen_of, on_and_name, opened_by, pair_of, privilege_of, process_of, recv_of, send_of, socket_of, spawn_of, step_of, words_say}
+use Rattle.scm_lines.specs.Lines.{accept_of, bind_of, close_of, connect_of, dup2_of, dup_of, form_of, line_of, listen_of, on_and_name, opened_by, pair_of, privilege_of, process_of, recv_of, send_of, slice_of, socket_of, spawn_of, step_of, words_say}
 use Rattle.scm_lines.specs.Says.{IsLine, IsNumber, Says, SaysStep}
 use Rattle.scm_lines.specs.declared.keywords.Opening.{Opening}
 use Rattle.scm_lines.specs.declared.keywords.Opening.TheVariants as opening
@@ -40,6 +40,10 @@ spawn_read : (a b : List ℕ) (uid nofile : ℕ) (rest : List (List ℕ)) (p : B
 unfolding form_of spawn_of
 spawn_read a b uid nofile rest p m n e = rw (number_read a uid m, number_read b nofile n, e) refl
 
+slice_read : (a : List ℕ) (budget : ℕ) → IsNumber a budget → form_of (codes "slice") (a ∷ []) ≡ Some (line.Event (event.Slice budget))
+unfolding form_of slice_of
+slice_read a budget n = rw (number_read a budget n) refl
+
 process_read : (a : List ℕ) (others : List (List ℕ)) (pid : ℕ) (st : Step) → IsNumber a pid → SaysStep others st → form_of a others ≡ Some (line.Event (event.Proc pid st))
 unfolding form_of
 process_read a others pid st number says = rw (opening_read a (opening.Process pid) number, step_read others pid st says) refl
@@ -53,6 +57,8 @@ words_read words line.Silence says = rw says refl
 words_read words (line.Event (event.Spawn uid nofile false)) (a, b, (w, m, n)) = rw (w, spawn_read a b uid nofile [] false m n refl) refl
 words_read words (line.Event (event.Spawn uid nofile true)) (a, b, (w, m, n)) = rw (w, spawn_read a b uid nofile (codes "priv" ∷ []) true m n refl) refl
 words_read words (line.Event (event.Proc pid st)) (a, (others, w, number, says)) = rw (w, process_read a others pid st number says) refl
+words_read words (line.Event event.Begin) w = rw (w, alone_read (codes "begin") opening.Begin (line.Event event.Begin) refl refl) refl
+words_read words (line.Event (event.Slice budget)) (a, (w, n)) = rw (w, slice_read a budget n) refl
 words_read words (line.Event event.Pass) w = rw (w, alone_read (codes "pass") opening.Pass (line.Event event.Pass) refl refl) refl
 words_read words (line.Report report.Table) w = rw (w, alone_read (codes "table") opening.Table (line.Report report.Table) refl refl) refl
 words_read words (line.Report report.Totals) w = rw (w, alone_read (codes "totals") opening.Totals (line.Report report.Totals) refl refl) refl

@@ -12,7 +12,7 @@ use Rattle.scm_lines.specs.Numbers.{number_in}
 use Rattle.scm_lines.specs.Payload.{payload_of}
 use Rattle.scm_lines.specs.Attached.{attached_of}
 use Rattle.scm_lines.specs.Keywords.{opening_of, type_of, verb_of, verbs}
-use Rattle.scm_lines.specs.Lines.{accept_of, all_printable, bind_of, close_of, connect_of, dup2_of, dup_of, form_of, is_comment, line_of, listen_of, on_and_name, opened_by, pair_of, privilege_of, process_of, recv_of, send_of, socket_of, spawn_of, step_of, words_say}
+use Rattle.scm_lines.specs.Lines.{accept_of, all_printable, bind_of, close_of, connect_of, dup2_of, dup_of, form_of, is_comment, line_of, listen_of, on_and_name, opened_by, pair_of, privilege_of, process_of, recv_of, send_of, slice_of, socket_of, spawn_of, step_of, words_say}
 use Rattle.scm_lines.specs.Says.{IsLine, IsNumber, Says, SaysStep, type_name}
 use Rattle.scm_lines.specs.declared.keywords.Opening.{Opening}
 use Rattle.scm_lines.specs.declared.keywords.Opening.TheVariants as opening
@@ -59,6 +59,15 @@ spawn_said words ev e =
           let is : ev ≡ event.Spawn uid.0 nofile.0 true = cc in
           rw is (a, b, (ap (onto (codes "spawn")) whole, n1, n2))
     ]
+
+slice_said : (words : List (List ℕ)) (ev : Event) → slice_of words ≡ Some ev → Says (codes "slice" ∷ words) (line.Event ev)
+unfolding slice_of
+slice_said words ev e =
+    let (budget, (e1, f1)) = bound (number_in words) _ ev e in
+    let (a, (w1, n1)) = number_first words budget.0 budget.1 e1 in
+    let (none, is) = ended (event.Slice budget.0) ev budget.1 f1 in
+    let whole : words ≡ a ∷ [] = w1 ∙ ap (onto a) none in
+    rw (← is) (a, (ap (onto (codes "slice")) whole, n1))
 
 -- ---- steps
 
@@ -238,6 +247,10 @@ opened_said : (word : List ℕ) (o : Opening) (words : List (List ℕ)) (said : 
 opened_said word opening.Spawn words said opens e =
     let (ev, (e1, is)) = mapped line.Event (spawn_of words) said e in
     rw (opens, ← is) (spawn_said words ev e1)
+opened_said word opening.Begin words said opens e = alone word (codes "begin") words (line.Event event.Begin) said refl opens e
+opened_said word opening.Slice words said opens e =
+    let (ev, (e1, is)) = mapped line.Event (slice_of words) said e in
+    rw (opens, ← is) (slice_said words ev e1)
 opened_said word opening.Pass words said opens e = alone word (codes "pass") words (line.Event event.Pass) said refl opens e
 opened_said word opening.Table words said opens e = alone word (codes "table") words (line.Report report.Table) said refl opens e
 opened_said word opening.Totals words said opens e = alone word (codes "totals") words (line.Report report.Totals) said refl opens e

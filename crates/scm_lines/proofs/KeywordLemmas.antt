@@ -31,6 +31,8 @@ meaning_said {A} P (entry ∷ table) (first, others) word x e = by_test (bytes_e
 -- the word that says an opening
 abbrev pub Opens : List ℕ → Opening → Type 0
 Opens word opening.Spawn = word ≡ codes "spawn"
+Opens word opening.Begin = word ≡ codes "begin"
+Opens word opening.Slice = word ≡ codes "slice"
 Opens word opening.Pass = word ≡ codes "pass"
 Opens word opening.Table = word ≡ codes "table"
 Opens word opening.Totals = word ≡ codes "totals"
@@ -50,10 +52,12 @@ none_opened word o e = cc
 keyword_said : (word : List ℕ) (o : Opening) → keyword_of word ≡ Some o → Opens word o
 keyword_said word o e =
     opened word (codes "spawn") opening.Spawn o _ (λ w. w) e (λ e1.
-    opened word (codes "pass") opening.Pass o _ (λ w. w) e1 (λ e2.
-    opened word (codes "table") opening.Table o _ (λ w. w) e2 (λ e3.
-    opened word (codes "totals") opening.Totals o _ (λ w. w) e3 (λ e4.
-    opened word (codes "check") opening.Check o _ (λ w. w) e4 (none_opened word o)))))
+    opened word (codes "begin") opening.Begin o _ (λ w. w) e1 (λ e2.
+    opened word (codes "slice") opening.Slice o _ (λ w. w) e2 (λ e3.
+    opened word (codes "pass") opening.Pass o _ (λ w. w) e3 (λ e4.
+    opened word (codes "table") opening.Table o _ (λ w. w) e4 (λ e5.
+    opened word (codes "totals") opening.Totals o _ (λ w. w) e5 (λ e6.
+    opened word (codes "check") opening.Check o _ (λ w. w) e6 (none_opened word o)))))))
 
 pub opening_said : (word : List ℕ) (o : Opening) → opening_of word ≡ Some o → Opens word o
 opening_said word o e = elim (chosen (is_some (keyword_of word)) _ _ _ e) [
@@ -63,13 +67,15 @@ opening_said word o e = elim (chosen (is_some (keyword_of word)) _ _ _ e) [
 
 pub opening_read : (word : List ℕ) (o : Opening) → Opens word o → opening_of word ≡ Some o
 opening_read word opening.Spawn e = rw e refl
+opening_read word opening.Begin e = rw e refl
+opening_read word opening.Slice e = rw e refl
 opening_read word opening.Pass e = rw e refl
 opening_read word opening.Table e = rw e refl
 opening_read word opening.Totals e = rw e refl
 opening_read word opening.Check e = rw e refl
 opening_read word (opening.Process pid) number =
     let other : (text : List ℕ) → all_digits text ≡ false → bytes_eq word text ≡ false = λ text letters. no_keyword word text pid number letters in
-    rw (other (codes "spawn") refl, other (codes "pass") refl, other (codes "table") refl, other (codes "totals") refl, other (codes "check") refl, number_read word pid number) refl
+    rw (other (codes "spawn") refl, other (codes "begin") refl, other (codes "slice") refl, other (codes "pass") refl, other (codes "table") refl, other (codes "totals") refl, other (codes "check") refl, number_read word pid number) refl
 
 pub type_said : (word : List ℕ) (kind : SockType) → type_of word ≡ Some kind → word ≡ type_name kind
 type_said = meaning_said (λ word kind. word ≡ type_name kind) types (refl, (refl, tt))

@@ -17,6 +17,8 @@ meaning table word = option_map (λ entry. entry.1) (find (λ entry. bytes_eq en
 abbrev pub keyword_of : List ℕ → Option Opening
 keyword_of word =
     if bytes_eq word (codes "spawn") then Some opening.Spawn
+    else if bytes_eq word (codes "begin") then Some opening.Begin
+    else if bytes_eq word (codes "slice") then Some opening.Slice
     else if bytes_eq word (codes "pass") then Some opening.Pass
     else if bytes_eq word (codes "table") then Some opening.Table
     else if bytes_eq word (codes "totals") then Some opening.Totals

@@ -39,6 +39,12 @@ spawn_of words = do
   privileged ← privilege_of nofile.1
   Some (event.Spawn uid.0 nofile.0 privileged)
 
+-- After slice: the budget.
+unfoldable pub slice_of : List (List ℕ) → Option Event
+slice_of words = do
+  budget ← number_in words
+  at_end (event.Slice budget.0) budget.1
+
 -- After dup: the number.
 unfoldable pub dup_of : List (List ℕ) → Option Step
 dup_of words = do
@@ -149,6 +155,8 @@ process_of pid words = do
 -- What an opening and the words after it say.
 abbrev pub opened_by : Opening → List (List ℕ) → Option Line
 opened_by opening.Spawn words = option_map line.Event (spawn_of words)
+opened_by opening.Begin words = at_end (line.Event event.Begin) words
+opened_by opening.Slice words = option_map line.Event (slice_of words)
 opened_by opening.Pass words = at_end (line.Event event.Pass) words
 opened_by opening.Table words = at_end (line.Report report.Table) words
 opened_by opening.Totals words = at_end (line.Report report.Totals) words

@@ -92,6 +92,8 @@ Says words (line.Event (event.Spawn uid nofile true)) =
     (a b : List ℕ) × ((words ≡ codes "spawn" ∷ a ∷ b ∷ codes "priv" ∷ []) × IsNumber a uid × IsNumber b nofile)
 Says words (line.Event (event.Proc pid does)) =
     (a : List ℕ) × ((others : List (List ℕ)) × (words ≡ a ∷ others) × IsNumber a pid × SaysStep others does)
+Says words (line.Event event.Begin) = words ≡ codes "begin" ∷ []
+Says words (line.Event (event.Slice budget)) = (a : List ℕ) × ((words ≡ codes "slice" ∷ a ∷ []) × IsNumber a budget)
 Says words (line.Event event.Pass) = words ≡ codes "pass" ∷ []
 Says words (line.Report report.Table) = words ≡ codes "table" ∷ []
 Says words (line.Report report.Totals) = words ≡ codes "totals" ∷ []

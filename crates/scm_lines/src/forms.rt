@@ -1,7 +1,7 @@
 //! The forms of a line: one function for each, over the words after its keyword.
 ghost use Rattle.std.specs.Prelude.{◌≡◌, IfOk};
 ghost use Rattle.scm_lines.specs.Words.{words_of};
-ghost use Rattle.scm_lines.specs.Lines.{privilege_of, spawn_of, dup_of, dup2_of, close_of, pair_of, socket_of, on_and_name, bind_of, listen_of, connect_of, accept_of, send_of, recv_of, step_of, process_of, form_of};
+ghost use Rattle.scm_lines.specs.Lines.{privilege_of, spawn_of, slice_of, dup_of, dup2_of, close_of, pair_of, socket_of, on_and_name, bind_of, listen_of, connect_of, accept_of, send_of, recv_of, step_of, process_of, form_of};
 
 use crate::attached::attached;
 use crate::keywords::{Opening, Verb, opening_named, type_named, verb_named};
@@ -38,6 +38,15 @@ fn spawn(bytes: &[u8]) -> Option<Event>
         nofile,
         privileged,
     })
+}
+
+/// `slice N`.
+#[tactic(auto, unfolding(crate::specs::Lines::slice_of))]
+fn slice(bytes: &[u8]) -> Option<Event>
+    ensures { result ≡ slice_of (words_of bytes.now) }
+{
+    let (budget, rest) = number_in(bytes)?;
+    is_end(rest).then_some(Event::Slice(budget))
 }
 
 /// `P dup N`.
@@ -232,6 +241,8 @@ pub fn form(alloc: Global, word: &[u8], rest: &[u8]) -> Result<Option<Line>, All
     };
     Ok(match opening {
         Opening::Spawn => spawn(rest).map(|event| Line::Event(event)),
+        Opening::Begin => is_end(rest).then_some(Line::Event(Event::Begin)),
+        Opening::Slice => slice(rest).map(|event| Line::Event(event)),
         Opening::Pass => is_end(rest).then_some(Line::Event(Event::Pass)),
         Opening::Table => is_end(rest).then_some(Line::Report(Report::Table)),
         Opening::Totals => is_end(rest).then_some(Line::Report(Report::Totals)),

@@ -11,6 +11,10 @@ use af_base::names::Pid;
 pub enum Opening {
     /// `spawn`
     Spawn,
+    /// `begin`
+    Begin,
+    /// `slice`
+    Slice,
     /// `pass`
     Pass,
     /// `table`
@@ -99,6 +103,12 @@ fn keyword_named(word: &[u8]) -> Option<Opening>
 {
     if word == b"spawn".as_slice() {
         return Some(Opening::Spawn);
+    }
+    if word == b"begin".as_slice() {
+        return Some(Opening::Begin);
+    }
+    if word == b"slice".as_slice() {
+        return Some(Opening::Slice);
     }
     if word == b"pass".as_slice() {
         return Some(Opening::Pass);

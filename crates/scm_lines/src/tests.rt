@@ -8,7 +8,7 @@ use std::process::Abort;
 use std::test::Fail;
 
 /// Lines that cannot be read.
-const UNREADABLE: [&[u8]; 38] = [
+const UNREADABLE: [&[u8]; 41] = [
     b"spawn 01 4",
     b"spawn 4294967296 4",
     b"spawn 1 4 root",
@@ -43,7 +43,10 @@ const UNREADABLE: [&[u8]; 38] = [
     b"pass 1",
     b"totals 1",
     b"check all",
-    b"begin",
+    b"begin 1",
+    b"slice",
+    b"slice 01",
+    b"slice 1 2",
     b"1 close 0\r",
     b"\x0C",
     b"1 close \xFF",
@@ -84,9 +87,16 @@ fn spawn_lines(rt: HostRuntime) -> Result<(), Fail> {
 #[test]
 fn words_that_stand_alone(rt: HostRuntime) -> Result<(), Fail> {
     said(&rt, b"\tpass ", Line::Event(Event::Pass))?;
+    said(&rt, b"begin", Line::Event(Event::Begin))?;
     said(&rt, b"table", Line::Report(Report::Table))?;
     said(&rt, b"totals", Line::Report(Report::Totals))?;
     said(&rt, b"check", Line::Report(Report::Check))
+}
+
+#[test]
+fn slices_with_a_budget(rt: HostRuntime) -> Result<(), Fail> {
+    said(&rt, b"slice 65536", Line::Event(Event::Slice(65_536)))?;
+    said(&rt, b"slice 0", Line::Event(Event::Slice(0)))
 }
 
 #[test]

@@ -1,23 +1,24 @@
 -- What a step answers is no longer than a receive can make it.
-use Rattle.std.proofs.Common.{◌≡◌, ◌≤◌, ℕ, ◌+◌, Bool, true, false, not, inl, inr, List, [], ◌∷◌, length, min, refl, sym, ◌∙◌, subst, cond, arith, nat_eq}
-use Rattle.std.specs.Prelude.{Option, Some, None, ◌&&◌, nat_le, nat_lt, if◌then◌else◌}
+use Rattle.std.proofs.Common.{◌≡◌, ◌≤◌, ℕ, ◌+◌, ◌*◌, ◌||◌, ◌⊎◌, Bool, true, false, not, inl, inr, List, [], ◌∷◌, length, min, refl, sym, ◌∙◌, subst, cond, arith, nat_eq}
+use Rattle.std.specs.Prelude.{MatchBool, Option, Some, None, ◌&&◌, nat_le, nat_lt, if◌then◌else◌}
 use Rattle.std.specs.List.{Contains, find}
 use Rattle.std.specs.Option.{option_and_then}
 use Rattle.std.specs.Prelude.{unwrap_or}
 use Rattle.std.specs.FinMap as map
 use Rattle.std.proofs.lemmas.Bool.{false≢true, leb-true}
 use Rattle.std.proofs.lemmas.List.{length-take}
-use Rattle.af_base.specs.World.{AsSocket, File, Message, Plain, World}
+use Rattle.af_base.specs.World.{AsSocket, File, IsLive, Message, Plain, World}
 use Rattle.af_base.specs.Places.{table_at}
 use Rattle.af_base.specs.Table.{free_numbers}
 use Rattle.af_base.specs.Refusals.{no_socket, process_at, refusal, socket_at, socket_of, socket_on, spawn_refusal, step_row}
 use Rattle.af_base.specs.Run.{Step as MachineStep}
 use Rattle.af_base.specs.Steps.{Outcome, answer, effect, got_at, needs_no_memory, spawned, taken_on}
 use Rattle.af_base.specs.Take.{has_files, joined, take_from}
-use Rattle.af_base.specs.Pass.{Idle, Machine, Pass, PassesWhole, Running}
+use Rattle.af_base.specs.Pass.{Begins, GoesOn, Idle, Machine, Pass, PassesWhole, Running, Slices}
+use Rattle.af_base.specs.Reached.{Garbage, IsGarbageCount}
 use Rattle.af_base.specs.Whole.{IsMessageWithin, IsSound, IsWithin}
 use Rattle.af_base.specs.declared.errno.Errno.{Errno}
-use Rattle.af_base.specs.declared.errno.Errno.TheVariants.{ESRCH}
+use Rattle.af_base.specs.declared.errno.Errno.TheVariants.{EINVAL, ESRCH}
 use Rattle.af_base.specs.declared.events.Event.{Event}
 use Rattle.af_base.specs.declared.events.Event.TheVariants as event
 use Rattle.af_base.specs.declared.events.Reply.{Reply}
@@ -26,7 +27,7 @@ use Rattle.af_base.specs.declared.events.SockType.{SockType}
 use Rattle.af_base.specs.declared.events.SockType.TheVariants.{Seqpacket, Stream}
 use Rattle.af_base.specs.declared.events.Step.{Step}
 use Rattle.af_base.specs.declared.events.Step.TheVariants as step
-use Rattle.af_base.specs.declared.limits.TheConstants.{MAX_BYTES, SCM_MAX_FD}
+use Rattle.af_base.specs.declared.limits.TheConstants.{MAX_BUDGET, MAX_BYTES, SCM_MAX_FD}
 use Rattle.af_base.proofs.Elements.{Contains-first, Contains-later, Contains-none}
 use Rattle.af_base.proofs.Lookups.{none_some, some_same}
 use Rattle.af_base.proofs.Stepped.{none-fits}
@@ -124,6 +125,26 @@ outcome-short now old new answer r None true short h = subst IsShort (sym h.0) (
 outcome-short now old new answer r None false short (inl h) = subst IsShort (sym h.0) (short refl)
 outcome-short now old new answer r None false short (inr h) = subst IsShort (sym h.0) tt
 
+-- What the begin of a pass answers.
+begin-short : (p : Pass) (old new : Machine) (r : Reply) → Begins p old r new → IsShort r
+begin-short Idle old new r h = subst IsShort (sym h.0) tt
+begin-short (Running begun spent) old new r h = subst IsShort (sym h.0) tt
+
+-- What a slice answers that goes on.
+goes-short : (begun old new : World) (spent b pass : ℕ) (r : Reply) (after : Pass) → Slices begun old spent b pass r new after → IsShort r
+goes-short begun old new spent b pass r after h = by h.answered where
+  by : ((r ≡ reply.Working) × (after ≡ Running begun (spent + b)) × (spent + b ≤ 3 * map.len begun.files)) ⊎ ((n : ℕ) × IsGarbageCount begun n × (r ≡ reply.Done pass n) × (after ≡ Idle) × ((f : ℕ) → Garbage begun f → ¬ (IsLive new f))) → IsShort r
+  by (inl w) = subst IsShort (sym w.0) tt
+  by (inr d) = subst IsShort (sym d.2) tt
+
+-- What a slice answers.
+slice-short : (p : Pass) (old new : Machine) (b : ℕ) (r : Reply) → GoesOn p old b r new → IsShort r
+slice-short Idle old new b r h = subst IsShort (sym h.0) tt
+slice-short (Running begun spent) old new b r h = by (nat_eq b 0 || nat_lt MAX_BUDGET b) h where
+  by : (out : Bool) → MatchBool out ((r ≡ reply.Refused EINVAL) × (new ≡ old)) (Slices begun old.world spent b old.last_pass r new.world new.pass × (new.last_pass ≡ old.last_pass)) → IsShort r
+  by true k = subst IsShort (sym k.0) tt
+  by false k = goes-short begun old.world new.world spent b old.last_pass r new.pass k.0
+
 -- What a whole pass answers.
 pass-short : (p : Pass) (old new : Machine) (r : Reply) → PassesWhole p old r new → IsShort r
 pass-short Idle old new r h = subst IsShort (sym h.0.answered) tt
@@ -135,4 +156,6 @@ step-short old new (event.Spawn uid nofile privileged) r sound h =
     outcome-short (spawned old.world uid nofile privileged) old.world new.world (reply.Pid old.world.next_pid) r (spawn_refusal old.world nofile) false (λ none. tt) h.0
 step-short old new (event.Proc p s) r sound h =
     outcome-short (effect old.world p s) old.world new.world (answer old.world p s) r (refusal old.world p s) (needs_no_memory s) (answer-short old.world p s sound.within) h.0
+step-short old new event.Begin r sound h = begin-short old.pass old new r h
+step-short old new (event.Slice b) r sound h = slice-short old.pass old new b r h
 step-short old new event.Pass r sound h = pass-short old.pass old new r h

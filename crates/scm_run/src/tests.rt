@@ -6,5 +6,6 @@ mod plays;
 mod refusals;
 mod rows;
 mod runs;
+mod slices;
 mod streams;
 mod tables;

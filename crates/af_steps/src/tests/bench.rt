@@ -97,6 +97,11 @@ fn numbers(alloc: Global, fds: &[u32]) -> Result<Items<Fd>, AllocError> {
     Ok(Items::of(fds))
 }
 
+/// What the engine answers to an event. A test looks at that and no further, so this promises nothing.
+pub fn answer(engine: &mut Engine, event: &Event) -> Reply {
+    engine.step(event)
+}
+
 /// An engine, and how events go there.
 #[derive(Drop)]
 pub struct Bench {
@@ -113,8 +118,8 @@ impl Bench {
     /// An engine where process 1 has a pair at 0 and 1, and this limit.
     pub fn with_pair(alloc: Global, nofile: u32) -> Result<Bench, AllocError> {
         let mut bench = Bench::new(alloc)?;
-        bench.engine.step(&spawn(nofile));
-        bench.engine.step(&pair(1));
+        answer(&mut bench.engine, &spawn(nofile));
+        answer(&mut bench.engine, &pair(1));
         Ok(bench)
     }
 
@@ -124,18 +129,23 @@ impl Bench {
         let bind = bind(alloc, 0, b"hub")?;
         let connect = connect(alloc, 1, b"hub")?;
         let mut bench = Bench::new(alloc)?;
-        bench.engine.step(&spawn(16));
-        bench.engine.step(&socket());
-        bench.engine.step(&bind);
-        bench.engine.step(&listen(2));
-        bench.engine.step(&socket());
-        bench.engine.step(&connect);
+        answer(&mut bench.engine, &spawn(16));
+        answer(&mut bench.engine, &socket());
+        answer(&mut bench.engine, &bind);
+        answer(&mut bench.engine, &listen(2));
+        answer(&mut bench.engine, &socket());
+        answer(&mut bench.engine, &connect);
         Ok(bench)
+    }
+
+    /// How many files the pass has looked at.
+    pub fn looked(&self) -> u64 {
+        self.engine.store.looked()
     }
 
     /// Whether the event has this reply.
     pub fn does(&mut self, event: &Event, reply: &Reply) -> bool {
-        self.engine.step(event) == *reply
+        answer(&mut self.engine, event) == *reply
     }
 
     /// Whether the event is refused so.
@@ -156,7 +166,7 @@ impl Bench {
     /// Whether process 1 sends these bytes and descriptors.
     pub fn sends(&mut self, on: u32, bytes: &[u8], attach: &[u32]) -> Result<bool, AllocError> {
         let event = send(self.alloc, on, bytes, attach)?;
-        match self.engine.step(&event) {
+        match answer(&mut self.engine, &event) {
             Reply::Sent(count) => Ok(count as usize == bytes.len()),
             _ => Ok(false),
         }

@@ -1,6 +1,6 @@
 //! One allocation refused, the Nth, by `rt try --test --fail-alloc N`.
 use super::bench::{
-    Bench, bind, close, connect, got, listen, pair, recv, send, socket, spawn, step,
+    Bench, answer, bind, close, connect, got, listen, pair, recv, send, socket, spawn, step,
 };
 use crate::Engine;
 use af_base::errno::Errno;
@@ -24,7 +24,11 @@ fn shown(engine: &Engine) -> [(u64, u64); 5] {
 fn may_grow(event: &Event) -> bool {
     !matches!(
         event,
-        Event::Pass | Event::Proc(_, Step::Close(_)) | Event::Proc(_, Step::Exit)
+        Event::Begin
+            | Event::Slice(_)
+            | Event::Pass
+            | Event::Proc(_, Step::Close(_))
+            | Event::Proc(_, Step::Exit)
     )
 }
 
@@ -32,10 +36,10 @@ fn may_grow(event: &Event) -> bool {
 /// nothing had changed.
 fn done(rt: &impl Abort, engine: &mut Engine, event: Event, reply: Reply) {
     let before = shown(engine);
-    let first = engine.step(&event);
+    let first = answer(engine, &event);
     if may_grow(&event) && first == Reply::Refused(Errno::ENOMEM) {
         assert!(rt; shown(engine) == before);
-        assert!(rt; engine.step(&event) == reply);
+        assert!(rt; answer(engine, &event) == reply);
     } else {
         assert!(rt; first == reply);
     }
@@ -153,12 +157,12 @@ fn down_without_memory(rt: HostRuntime) {
     if let Ok(mut engine) = Engine::new(alloc)
         && with_two_pairs(&rt, alloc, &mut engine).is_ok()
     {
-        assert!(rt; engine.step(&step(1, Step::Exit)) == Reply::Ok);
+        assert!(rt; answer(&mut engine, &step(1, Step::Exit)) == Reply::Ok);
         let taken = Reply::Done {
             pass: 1,
             reclaimed: 2,
         };
-        assert!(rt; engine.step(&Event::Pass) == taken);
+        assert!(rt; answer(&mut engine, &Event::Pass) == taken);
         assert_eq!(rt; engine.live(), 0);
     }
 }

@@ -1,5 +1,5 @@
 //! Each view, before and after events.
-use super::bench::{Bench, spawn_as};
+use super::bench::{Bench, answer, spawn_as};
 use crate::{Engine, FileInfo};
 use af_base::events::{SockType, State};
 use af_base::names::{Ino, Pid, Uid};
@@ -55,7 +55,7 @@ fn shows_users(rt: &impl Abort, engine: &Engine) {
 fn of_users(rt: HostRuntime) -> Result<(), Fail> {
     let mut engine = Engine::new(rt.alloc())?;
     for uid in [7, 5, 7] {
-        engine.step(&spawn_as(uid, 0));
+        answer(&mut engine, &spawn_as(uid, 0));
     }
     shows_users(&rt, &engine);
     Ok(())

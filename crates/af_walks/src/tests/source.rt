@@ -39,7 +39,7 @@ impl Kind {
     pub fn of(event: &Event) -> Kind {
         let step = match event {
             Event::Spawn { .. } => return Kind::Spawn,
-            Event::Pass => return Kind::Pass,
+            Event::Begin | Event::Slice(_) | Event::Pass => return Kind::Pass,
             Event::Proc(_, step) => step,
         };
         match step {

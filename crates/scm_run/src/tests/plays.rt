@@ -63,3 +63,17 @@ pub fn run_over<T: Abort + AllocGlobal>(
     assert_eq!(rt; output.failed(), end == Err(RunFault::Write));
     end
 }
+
+/// What a script prints that is run to its end over ample streams.
+pub fn output_of<T: Abort + AllocGlobal>(rt: &T, script: &[u8]) -> Result<Vec<u8>, Fail> {
+    let mut input = Watched::new(PacedReader {
+        bytes: script,
+        pace: AMPLE,
+    });
+    let mut output = Watched::new(PacedWriter {
+        held: Vec::new(rt.alloc()),
+        pace: AMPLE,
+    });
+    assert!(rt; run_script(rt.alloc(), &mut input, &mut output).is_ok());
+    Ok(output.inner().held.as_slice().to_vec(rt.alloc())?)
+}

@@ -1,34 +1,56 @@
-use Rattle.std.proofs.Common.{◌≡◌, ◌<◌, ℕ, refl, sym, ap, ◌∙◌, subst, arith}
-use Rattle.af_base.specs.World.{IsLive, World}
-use Rattle.af_base.specs.Pass.{emptied}
-use Rattle.af_base.specs.Unheld.{Settles}
-use Rattle.af_base.proofs.Purging.{live-emptied}
+use Rattle.std.proofs.Common.{◌+◌, ℕ, ◌∙◌, ap, subst, sym}
+use Rattle.af_base.specs.declared.limits.TheConstants.{MAX_BUDGET}
+use Rattle.af_base.specs.World.{IsLive}
+use Rattle.af_base.specs.Reached.{Garbage, IsGarbageCount}
+use Rattle.af_base.specs.Whole.{IsSound}
 use Rattle.af_hold.specs.Stored.{Stored}
-use Rattle.af_collect.specs.Collecting.{Collects}
-use Rattle.af_collect.specs.Marking.{is_unmarked}
-use Rattle.af_collect.proofs.Known.{known_begun, known_is, known_same}
-use Rattle.af_collect.proofs.Marking.{unmarked_garbage}
-use Rattle.af_collect.proofs.Walking.{walk_begin}
+use Rattle.af_pass.specs.Keeping.{is_running}
+use Rattle.af_pass.specs.Purged.{ArePurged}
+use Rattle.af_pass.proofs.Purging.{purged_join, purged_none, purged_whole}
+use Rattle.af_collect.specs.Shown.{Shown}
 use Rattle.af_collect.proofs.store.Store.collect.Goals as goal
 
-pub mark_reached-requires : goal.mark_reached-requires
-mark_reached-requires c =
-    let w = c.self.inside.places.world in
-    let bound = c.begin.ensures.bound ∙ c.next_ino.ensures ∙ c.files.ensures.next in
-    walk_begin w c.begin.new.self c.mark_tabled.new.marks c.begin.ensures.unmarked (known_begun w c.self.inside.marks c.begin.new.self c.begin.ensures.known c.begin.ensures.last c.self.invariant)
-    (λ f live. let low = c.is_whole.ensures.whole.files_numbered f live in omega (arith, low, bound)) c.mark_tabled.ensures
+-- Nothing is purged yet.
+pub loop-init : goal.loop-init
+loop-init c =
+    let w = c.args.self.now.world in
+    let e = c.begin.ensures in
+    let was = ap (λ (s : Shown). s.world) c.self.view_is in
+    let same = ap (λ (s : Stored). s.world) e.places ∙ was in
+    record {
+      kept = e.kept;
+      running = ap is_running e.stage;
+      sound = subst IsSound (sym same) c.requires.sound;
+      begun = ap (λ (s : Stored). s.world) e.begun ∙ was;
+      purged = (0, subst (λ v. ArePurged w w v 0) (sym same) (purged_none w 0 c.requires.sound.settled));
+    }
 
-pub release-requires : goal.release-requires
-release-requires c =
-    let w = c.self.inside.places.world in
-    let t = is_unmarked c.mark_reached.new.marks w in
-    known_is _ (emptied t w) c.mark_reached.new.marks c.sweep-sockets.ensures.world (known_same (emptied t w) w c.mark_reached.new.marks (live-emptied t w) refl c.mark_reached.ensures.known)
+-- What these units purged comes to what was purged before.
+pub loop-preserved : goal.loop-preserved
+loop-preserved c =
+    let w = c.args.self.now.world in
+    let b = c.loop.self-inside.parts.places.world in
+    let d = c.units.new.self.places.world in
+    let i = c.loop.invariant in
+    let u = c.units.ensures in
+    record {
+      kept = u.kept;
+      running = u.running;
+      sound = u.sound;
+      begun = ap (λ s. s.value.world) u.begun ∙ i.begun;
+      purged = (i.purged.0 + MAX_BUDGET, purged_join w b d i.purged.0 MAX_BUDGET i.purged.1 (subst (λ v. ArePurged v b d MAX_BUDGET) i.begun u.purged));
+    }
 
+-- The pass is over: no garbage of its begin is left, and all that was purged is garbage of it.
 pub returns-clause-collects : goal.returns-clause-collects
 returns-clause-collects c =
-    let w = c.self.inside.places.world in
-    let t = is_unmarked c.mark_reached.new.marks w in
-    let is = unmarked_garbage w c.mark_reached.new.marks c.mark_reached.ensures.reached in
-    let purged = subst (λ v. Settles v c.release.new.places.world) c.sweep-sockets.ensures.world c.release.ensures.settles in
-    subst (λ (s : Stored). Collects s.world c.sweep-sockets.result c.release.new.places.world) c.self.view_is
-    (record { test = t; is_garbage = is; purged = purged; counted = (t, is, c.sweep-sockets.ensures.sockets) })
+    let w = c.args.self.now.world in
+    let b = c.loop.self-inside.parts.places.world in
+    let d = c.units.new.self.places.world in
+    let i = c.loop.invariant in
+    let u = c.units.ensures in
+    let over = c.loop-test.false in
+    let gone = subst (λ v. (f : ℕ) → Garbage v f → ¬ (IsLive d f)) i.begun (u.gone over) in
+    let count = subst (λ v. IsGarbageCount v c.units.new.self.progress.reclaimed) i.begun (u.counted over) in
+    let all = purged_join w b d i.purged.0 MAX_BUDGET i.purged.1 (subst (λ v. ArePurged v b d MAX_BUDGET) i.begun u.purged) in
+    record { test = count.0; is_garbage = count.1; purged = purged_whole d (i.purged.0 + MAX_BUDGET) count.0 all u.sound.settled gone count.1; counted = count }

@@ -1,17 +1,27 @@
-use Rattle.std.proofs.Common.{◌≡◌, ◌<◌, refl, sym, ap, ◌∙◌, subst}
-use Rattle.af_hold.specs.Stored.{Stored}
-use Rattle.af_hold.proofs.Exact.{by-result}
-use Rattle.std.proofs.Common.{◌+◌}
+use Rattle.std.proofs.Common.{◌+◌, ◌∙◌, refl, subst, sym}
 use Rattle.af_base.specs.World.{AsSocket}
-use Rattle.af_base.specs.Changes.{add_file}
 use Rattle.af_base.specs.Steps.{connected_socket}
-use Rattle.af_collect.proofs.Known.{known_born, known_is}
+use Rattle.af_hold.specs.Stored.{Stored}
+use Rattle.af_pass.specs.Keeping.{IsKept}
+use Rattle.af_pass.proofs.Born.{below-add_file}
+use Rattle.af_collect.proofs.Placed.{kept_made, kept_room}
 use Rattle.af_collect.proofs.store.Store.make_two.Goals as goal
+
+pub invariant_of-self : goal.invariant_of-self
+invariant_of-self c = kept_room c.reserve.new.self c.reserve.ensures.same c.self.invariant
+
+pub invariant_of-self-in_err-first : goal.invariant_of-self-in_err-first
+invariant_of-self-in_err-first c =
+    let p = c.self.inside.parts in
+    subst (λ (s : Stored). IsKept s.world p.begun.value.world c.reserve.new.self p.progress) (sym c.in_err-first.ensures.err) (kept_room c.reserve.new.self c.reserve.ensures.same c.self.invariant)
 
 pub invariant_of-self-2 : goal.invariant_of-self-2
 invariant_of-self-2 c =
-    let w = c.self.inside.places.world in
-    let x = AsSocket (connected_socket c.args.kind (w.next_ino + 1)) in
-    known_is _ _ c.born-2.new.self (ap (λ (s : Stored). s.world) c.in_ok-first.ensures.ok)
-    (known_born (add_file w x) (AsSocket (connected_socket c.args.kind w.next_ino)) c.born.new.self c.born.new.self c.born-2.new.self c.ino-2.result refl c.born-2.ensures.born (c.ino-2.ensures ∙ c.in_ok-first.ensures.inos.1)
-    (known_born w x c.self.inside.marks c.reserve.new.self c.born.new.self c.ino.result c.reserve.ensures.same c.born.ensures.born (c.ino.ensures ∙ c.in_ok-first.ensures.inos.0) c.self.invariant))
+    let p = c.self.inside.parts in
+    let w = p.places.world in
+    let roomy = kept_room c.reserve.new.self c.reserve.ensures.same c.self.invariant in
+    let numbered = c.is_whole.ensures.whole.files_numbered in
+    let first = AsSocket (connected_socket c.args.kind (w.next_ino + 1)) in
+    subst (λ (s : Stored). IsKept s.world p.begun.value.world c.born-2.new.self p.progress) (sym c.in_ok-first.ensures.ok)
+    (kept_made (AsSocket (connected_socket c.args.kind w.next_ino)) c.born-2.new.self c.ino-2.result refl (below-add_file w first numbered) (c.ino-2.ensures ∙ c.in_ok-first.ensures.inos.1) c.born-2.ensures.new c.born-2.ensures.born
+    (kept_made first c.born.new.self c.ino.result refl numbered (c.ino.ensures ∙ c.in_ok-first.ensures.inos.0) c.born.ensures.new c.born.ensures.born roomy))

@@ -1,14 +1,25 @@
-use Rattle.std.proofs.Common.{◌≡◌, ◌<◌, refl, sym, ap, ◌∙◌, subst}
+use Rattle.std.proofs.Common.{ℕ, subst, sym}
+use Rattle.std.specs.List.{Contains}
+use Rattle.af_base.specs.Changes.{pushed}
+use Rattle.af_mark.specs.Marked.{is_marked}
 use Rattle.af_hold.specs.Stored.{Stored}
 use Rattle.af_hold.proofs.Exact.{by-result}
-use Rattle.af_base.specs.Changes.{push_message, pushed}
-use Rattle.af_collect.proofs.Known.{known_is, known_socket}
+use Rattle.af_pass.specs.Keeping.{IsKept, Spares, below}
+use Rattle.af_pass.proofs.Sockets.{covers_push, moves_push}
+use Rattle.af_pass.proofs.Spared.{spared_running}
+use Rattle.af_collect.specs.Shown.{Shown}
+use Rattle.af_collect.proofs.Placed.{kept_socket}
 use Rattle.af_collect.proofs.store.Store.put_msg.Goals as goal
 
 pub invariant_of-self : goal.invariant_of-self
 invariant_of-self c =
-    let w = c.self.inside.places.world in
-    let m = c.self.inside.marks in
+    let p = c.self.inside.parts in
+    let w = p.places.world in
+    let begun = p.begun.value.world in
+    let s = c.args.socket.now in
+    let m = c.args.message in
+    let keeps = λ (v : Stored). IsKept v.world begun p.marks p.progress in
+    let spared = subst (λ (v : Shown). (f : ℕ) → Contains m.attached f → Spares v.pass f) (sym c.self.view_is) c.requires.spared in
     by-result c.put_msg.result c.put_msg.ensures.ok c.put_msg.ensures.ok c.put_msg.ensures.err
-    (λ done _. known_is c.put_msg.new.self.world (push_message w c.args.socket.now c.args.message) m (ap (λ (s : Stored). s.world) done) (known_socket w c.args.socket.now (pushed c.args.message) m c.self.invariant))
-    (λ same. known_is c.put_msg.new.self.world w m (ap (λ (s : Stored). s.world) same) c.self.invariant)
+    (λ done _. subst keeps (sym done) (kept_socket s (pushed m) (λ e. moves_push begun w s m (λ f h. spared_running p.progress.stage begun p.progress.looked f e (spared f h))) (λ _. covers_push begun w s m (is_marked p.marks) (below p.progress.visited)) c.self.invariant))
+    (λ same. subst keeps (sym same) c.self.invariant)

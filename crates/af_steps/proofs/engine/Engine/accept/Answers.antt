@@ -4,17 +4,18 @@ use Rattle.std.specs.FinMap as map
 use Rattle.af_base.specs.declared.errno.Errno.TheVariants.{ENOMEM}
 use Rattle.af_base.specs.declared.events.Reply.TheVariants as reply
 use Rattle.af_base.specs.declared.events.Step.TheVariants as step
-use Rattle.af_base.specs.Pass.{Idle, Machine}
+use Rattle.af_base.specs.Pass.{Machine}
 use Rattle.af_base.specs.Places.{backlog_at}
 use Rattle.af_base.specs.Refusals.{first_fit, socket_at}
 use Rattle.af_base.specs.Steps.{ProcessStep, first_embryo}
 use Rattle.af_base.specs.Table.{free_numbers}
 use Rattle.af_base.specs.World.{World}
-use Rattle.af_hold.specs.Stored.{Stored}
+use Rattle.af_collect.specs.Shown.{Shown}
+use Rattle.af_pass.specs.Keeping.{Spares}
 use Rattle.af_steps.specs.Outcome.{reply_of}
 use Rattle.af_steps.specs.Rows.{accept_row}
 use Rattle.af_steps.proofs.Connected.{accept-done, accept-starved, first-waits, some-waits}
-use Rattle.af_steps.proofs.Numbers.{is-free_at, least-low, not-short, not-open, room-below, same-free, same-limit}
+use Rattle.af_steps.proofs.Numbers.{is-free_at, least-low, not-short, not-open, on_table, room-below, same-free, same-limit}
 use Rattle.af_steps.proofs.engine.Engine.accept.Goals as goal
 
 pub take_embryo-requires-clause-row : goal.take_embryo-requires-clause-row
@@ -59,7 +60,7 @@ returns-in_err-room_for c =
     let v = c.room_for.new.self.world in
     let said : ProcessStep w p (step.Accept c.args.on) (reply_of c.from_residual-in_err-room_for.result) v = subst (λ r. ProcessStep w p (step.Accept c.args.on) (reply_of r) v) (sym error)
     (accept-starved w p c.args.on q at c.in_ok-file.file stands x found given (not-short w p q at c.in_ok-fd.fd least) v c.room_for.ensures.world) in
-    subst (λ (m : Machine). ProcessStep m.world p (step.Accept c.args.on) (reply_of c.from_residual-in_err-room_for.result) v × ((Idle ≡ m.pass) × (c.self.inside.last_pass ≡ m.last_pass))) c.self.view_is (said, (refl, refl))
+    subst (λ (m : Machine). ProcessStep m.world p (step.Accept c.args.on) (reply_of c.from_residual-in_err-room_for.result) v × ((c.room_for.new.self.pass ≡ m.pass) × (c.self.inside.last_pass ≡ m.last_pass))) c.self.view_is (said, (c.room_for.ensures.pass, refl))
 
 pub take_embryo-requires-clause-some : goal.take_embryo-requires-clause-some
 take_embryo-requires-clause-some c =
@@ -89,6 +90,15 @@ returns c =
     let before = c.room_for.new.self.world in
     let f = c.in_ok-file.file in
     let first : slice_get (backlog_at before f) 0 ≡ Some (first_embryo w p c.args.on) = ap (λ v. slice_get (backlog_at v f) 0) c.room_for.ensures.world ∙ first-waits w p c.args.on q at f stands x found given in
-    let put = ap (λ (s : Stored). s.world) (c.take_embryo.ensures (first_embryo w p c.args.on) first) in
+    let put = ap (λ (s : Shown). s.world) (c.take_embryo.ensures (first_embryo w p c.args.on) first) in
     let said = accept-done w p c.args.on q at f stands x found given free n before c.take_embryo.new.self.world c.release.new.self.world (is-free_at w p q at n least) c.room_for.ensures.world put c.release.ensures.settles in
-    subst (λ (m : Machine). ProcessStep m.world p (step.Accept c.args.on) (reply.Fd n) c.release.new.self.world × ((Idle ≡ m.pass) × (c.self.inside.last_pass ≡ m.last_pass))) c.self.view_is (said, (refl, refl))
+    subst (λ (m : Machine). ProcessStep m.world p (step.Accept c.args.on) (reply.Fd n) c.release.new.self.world × ((c.release.new.self.pass ≡ m.pass) × (c.self.inside.last_pass ≡ m.last_pass))) c.self.view_is (said, (c.release.ensures.pass ∙ ap (λ (s : Shown). s.pass) (c.take_embryo.ensures (first_embryo w p c.args.on) first) ∙ c.room_for.ensures.pass, refl))
+
+pub take_embryo-requires-clause-spared : goal.take_embryo-requires-clause-spared
+take_embryo-requires-clause-spared c =
+    let w = c.self.inside.store.world in
+    let p = c.args.pid in
+    let q = c.in_ok-process.process.now.process in
+    let at : map.get w.processes p ≡ Some q = search rules in
+    let stands : map.get q.table c.args.on ≡ Some c.in_ok-file.file = search rules in
+    subst (λ s. Spares s c.in_ok-file.file) (sym c.room_for.ensures.pass) (c.is_spared.ensures c.in_ok-file.file (p, c.args.on, on_table w p q at c.args.on ∙ stands))

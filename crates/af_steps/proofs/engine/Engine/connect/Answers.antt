@@ -11,7 +11,7 @@ use Rattle.af_base.specs.Pass.{Idle, Machine}
 use Rattle.af_base.specs.Refusals.{first_fit, room_of, socket_at}
 use Rattle.af_base.specs.Steps.{ProcessStep}
 use Rattle.af_base.specs.World.{Socket}
-use Rattle.af_hold.specs.Stored.{Stored}
+use Rattle.af_collect.specs.Shown.{Shown}
 use Rattle.af_steps.specs.Outcome.{reply_of}
 use Rattle.af_steps.specs.Rows.{client_row, listener_row}
 use Rattle.af_steps.proofs.Connected.{embryo-live, embryo-new, listener-is, listener-stays, room-left, some-by, two-sockets}
@@ -31,12 +31,12 @@ unwrap-requires c =
 pub put_embryo-requires-clause-live : goal.put_embryo-requires-clause-live
 put_embryo-requires-clause-live c =
     let w = c.self.inside.store.world in
-    embryo-live w c.self.invariant.0.whole c.kind-kind.result c.in_ok-file.file c.make_embryo.new.self.world (ap (λ (s : Stored). s.world) c.in_ok-embryo.ensures.ok) c.in_ok-embryo.embryo c.in_ok-embryo.ensures.ino
+    embryo-live w c.self.invariant.0.whole c.kind-kind.result c.in_ok-file.file c.make_embryo.new.self.world (ap (λ (s : Shown). s.world) c.in_ok-embryo.ensures.ok) c.in_ok-embryo.embryo c.in_ok-embryo.ensures.ino
 
 pub put_embryo-requires-clause-new : goal.put_embryo-requires-clause-new
 put_embryo-requires-clause-new c =
     let w = c.self.inside.store.world in
-    embryo-new w c.self.invariant.0.whole c.kind-kind.result c.in_ok-file.file c.make_embryo.new.self.world (ap (λ (s : Stored). s.world) c.in_ok-embryo.ensures.ok) c.in_ok-embryo.embryo c.in_ok-embryo.ensures.ino
+    embryo-new w c.self.invariant.0.whole c.kind-kind.result c.in_ok-file.file c.make_embryo.new.self.world (ap (λ (s : Shown). s.world) c.in_ok-embryo.ensures.ok) c.in_ok-embryo.embryo c.in_ok-embryo.ensures.ino
 
 pub put_embryo-requires-clause-room : goal.put_embryo-requires-clause-room
 put_embryo-requires-clause-room c =
@@ -53,7 +53,7 @@ put_embryo-requires-clause-room c =
     let heard : socket_at w g ≡ Some l = search rules in
     let quiet : first_fit (client_row x) ≡ None = search rules in
     let ready : first_fit (listener_row l x.kind) ≡ None = search rules in
-    let stays = listener-stays w c.self.invariant.0.whole c.kind-kind.result c.in_ok-file.file c.make_embryo.new.self.world (ap (λ (s : Stored). s.world) c.in_ok-embryo.ensures.ok) g l (two-sockets w c.in_ok-file.file g x l x.kind found heard quiet ready) heard in
+    let stays = listener-stays w c.self.invariant.0.whole c.kind-kind.result c.in_ok-file.file c.make_embryo.new.self.world (ap (λ (s : Shown). s.world) c.in_ok-embryo.ensures.ok) g l (two-sockets w c.in_ok-file.file g x l x.kind found heard quiet ready) heard in
     subst (λ o. IfSome o (λ (s : Socket). length s.backlog < room_of s.state)) (sym stays) (room-left l x.kind ready)
 
 pub put_embryo-requires-clause-socket : goal.put_embryo-requires-clause-socket
@@ -71,5 +71,5 @@ put_embryo-requires-clause-socket c =
     let heard : socket_at w g ≡ Some l = search rules in
     let quiet : first_fit (client_row x) ≡ None = search rules in
     let ready : first_fit (listener_row l x.kind) ≡ None = search rules in
-    let stays = listener-stays w c.self.invariant.0.whole c.kind-kind.result c.in_ok-file.file c.make_embryo.new.self.world (ap (λ (s : Stored). s.world) c.in_ok-embryo.ensures.ok) g l (two-sockets w c.in_ok-file.file g x l x.kind found heard quiet ready) heard in
+    let stays = listener-stays w c.self.invariant.0.whole c.kind-kind.result c.in_ok-file.file c.make_embryo.new.self.world (ap (λ (s : Shown). s.world) c.in_ok-embryo.ensures.ok) g l (two-sockets w c.in_ok-file.file g x l x.kind found heard quiet ready) heard in
     ap is_none stays

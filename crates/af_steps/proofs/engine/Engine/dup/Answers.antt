@@ -3,6 +3,7 @@ use Rattle.std.specs.Prelude.{Some, slice_get}
 use Rattle.std.specs.FinMap as map
 use Rattle.af_base.specs.Table.{free_numbers}
 use Rattle.af_base.specs.World.{IsLive, World}
+use Rattle.af_pass.specs.Keeping.{Spares}
 use Rattle.af_steps.proofs.Numbers.{least-low, not-open, on_table, room-below, same-free, same-limit}
 use Rattle.af_steps.proofs.engine.Engine.dup.Goals as goal
 
@@ -41,3 +42,12 @@ table_in-requires-clause-live c =
     let at : map.get w.processes p ≡ Some q = search rules in
     let stands : map.get q.table c.args.from ≡ Some c.in_ok-file.file = search rules in
     subst (λ v. IsLive v c.in_ok-file.file) (sym c.room_for.ensures.world) (c.self.invariant.0.whole.tables_live c.in_ok-file.file (p, c.args.from, on_table w p q at c.args.from ∙ stands))
+
+pub table_in-requires-clause-spared : goal.table_in-requires-clause-spared
+table_in-requires-clause-spared c =
+    let w = c.self.inside.store.world in
+    let p = c.args.pid in
+    let q = c.in_ok-process.process.now.process in
+    let at : map.get w.processes p ≡ Some q = search rules in
+    let stands : map.get q.table c.args.from ≡ Some c.in_ok-file.file = search rules in
+    subst (λ s. Spares s c.in_ok-file.file) (sym c.room_for.ensures.pass) (c.is_spared.ensures c.in_ok-file.file (p, c.args.from, on_table w p q at c.args.from ∙ stands))

@@ -5,9 +5,10 @@ use Rattle.af_base.specs.declared.events.Reply.TheVariants as reply
 use Rattle.af_base.specs.declared.events.Step.TheVariants as step
 use Rattle.af_base.specs.World.{IsLive, World}
 use Rattle.af_base.specs.Changes.{install, uninstall}
-use Rattle.af_base.specs.Pass.{Idle, Machine}
+use Rattle.af_base.specs.Pass.{Machine}
 use Rattle.af_base.specs.Steps.{ProcessStep}
-use Rattle.af_hold.specs.Stored.{Stored}
+use Rattle.af_collect.specs.Shown.{Shown}
+use Rattle.af_pass.specs.Keeping.{Spares}
 use Rattle.af_steps.proofs.Numbers.{moved-done, on_table, same-done, same-free, same-limit, same-there}
 use Rattle.af_steps.proofs.Untabled.{install-uninstalled, less, less-at, less-free}
 use Rattle.af_steps.proofs.engine.Engine.dup2.Goals as goal
@@ -30,7 +31,7 @@ table_in-requires-clause-there c =
     let q = c.in_ok-process.process.now.process in
     let at : map.get w.processes p ≡ Some q = search rules in
     let v = c.vacate.new.store.world in
-    let vacant : v ≡ uninstall w p c.args.to = ap (λ (s : Stored). s.world) c.vacate.ensures ∙ ap (λ x. uninstall x p c.args.to) c.room_for.ensures.world in
+    let vacant : v ≡ uninstall w p c.args.to = ap (λ (s : Shown). s.world) c.vacate.ensures ∙ ap (λ x. uninstall x p c.args.to) c.room_for.ensures.world in
     let same = ap (λ (x : World). x.processes) vacant in
     same-there (uninstall w p c.args.to) p (less w p c.args.to q at) (less-at w p c.args.to q at) v same
 
@@ -41,7 +42,7 @@ table_in-requires-clause-limit c =
     let q = c.in_ok-process.process.now.process in
     let at : map.get w.processes p ≡ Some q = search rules in
     let v = c.vacate.new.store.world in
-    let vacant : v ≡ uninstall w p c.args.to = ap (λ (s : Stored). s.world) c.vacate.ensures ∙ ap (λ x. uninstall x p c.args.to) c.room_for.ensures.world in
+    let vacant : v ≡ uninstall w p c.args.to = ap (λ (s : Shown). s.world) c.vacate.ensures ∙ ap (λ x. uninstall x p c.args.to) c.room_for.ensures.world in
     let same = ap (λ (x : World). x.processes) vacant in
     let low : c.args.to < q.limit = omega (arith, c.if-to-limit.false, c.limit.ensures.value) in
     same-limit (uninstall w p c.args.to) p (less w p c.args.to q at) (less-at w p c.args.to q at) v same c.args.to low
@@ -53,7 +54,7 @@ table_in-requires-clause-free c =
     let q = c.in_ok-process.process.now.process in
     let at : map.get w.processes p ≡ Some q = search rules in
     let v = c.vacate.new.store.world in
-    let vacant : v ≡ uninstall w p c.args.to = ap (λ (s : Stored). s.world) c.vacate.ensures ∙ ap (λ x. uninstall x p c.args.to) c.room_for.ensures.world in
+    let vacant : v ≡ uninstall w p c.args.to = ap (λ (s : Shown). s.world) c.vacate.ensures ∙ ap (λ x. uninstall x p c.args.to) c.room_for.ensures.world in
     let same = ap (λ (x : World). x.processes) vacant in
     same-free (uninstall w p c.args.to) p (less w p c.args.to q at) (less-at w p c.args.to q at) v same c.args.to (less-free w p c.args.to q at)
 
@@ -64,7 +65,7 @@ table_in-requires-clause-live c =
     let q = c.in_ok-process.process.now.process in
     let at : map.get w.processes p ≡ Some q = search rules in
     let v = c.vacate.new.store.world in
-    let vacant : v ≡ uninstall w p c.args.to = ap (λ (s : Stored). s.world) c.vacate.ensures ∙ ap (λ x. uninstall x p c.args.to) c.room_for.ensures.world in
+    let vacant : v ≡ uninstall w p c.args.to = ap (λ (s : Shown). s.world) c.vacate.ensures ∙ ap (λ x. uninstall x p c.args.to) c.room_for.ensures.world in
     let same = ap (λ (x : World). x.processes) vacant in
     let stands : map.get q.table c.args.from ≡ Some c.in_ok-file.file = search rules in
     subst (λ x. IsLive x c.in_ok-file.file) (sym vacant) (c.self.invariant.0.whole.tables_live c.in_ok-file.file (p, c.args.from, on_table w p q at c.args.from ∙ stands))
@@ -81,6 +82,17 @@ returns c =
     let v = c.room_for.new.self.world in
     let there : map.get v.processes p ≡ Some q = ap (λ (x : World). map.get x.processes p) c.room_for.ensures.world ∙ at in
     let placed : c.table_in.new.self.world ≡ install v p c.args.to c.in_ok-file.file =
-    ap (λ (s : Stored). s.world) c.table_in.ensures ∙ ap (λ (s : Stored). install s.world p c.args.to c.in_ok-file.file) c.vacate.ensures ∙ install-uninstalled v p c.args.to q there c.in_ok-file.file in
+    ap (λ (s : Shown). s.world) c.table_in.ensures ∙ ap (λ (s : Shown). install s.world p c.args.to c.in_ok-file.file) c.vacate.ensures ∙ install-uninstalled v p c.args.to q there c.in_ok-file.file in
     let moved = moved-done w p q at c.args.from c.args.to c.in_ok-file.file stands other low v c.table_in.new.self.world c.release.new.self.world c.room_for.ensures.world placed c.release.ensures.settles in
-    subst (λ (m : Machine). ProcessStep m.world p (step.Dup2 c.args.from c.args.to) (reply.Fd c.args.to) c.release.new.self.world × ((Idle ≡ m.pass) × (c.self.inside.last_pass ≡ m.last_pass))) c.self.view_is (moved, (refl, refl))
+    let runs_on = c.release.ensures.pass ∙ ap (λ (s : Shown). s.pass) c.table_in.ensures ∙ ap (λ (s : Shown). s.pass) c.vacate.ensures ∙ c.room_for.ensures.pass in
+    subst (λ (m : Machine). ProcessStep m.world p (step.Dup2 c.args.from c.args.to) (reply.Fd c.args.to) c.release.new.self.world × ((c.release.new.self.pass ≡ m.pass) × (c.self.inside.last_pass ≡ m.last_pass))) c.self.view_is (moved, (runs_on, refl))
+
+pub table_in-requires-clause-spared : goal.table_in-requires-clause-spared
+table_in-requires-clause-spared c =
+    let w = c.self.inside.store.world in
+    let p = c.args.pid in
+    let q = c.in_ok-process.process.now.process in
+    let at : map.get w.processes p ≡ Some q = search rules in
+    let stands : map.get q.table c.args.from ≡ Some c.in_ok-file.file = search rules in
+    let same = ap (λ (s : Shown). s.pass) c.vacate.ensures ∙ c.room_for.ensures.pass in
+    subst (λ s. Spares s c.in_ok-file.file) (sym same) (c.is_spared.ensures c.in_ok-file.file (p, c.args.from, on_table w p q at c.args.from ∙ stands))

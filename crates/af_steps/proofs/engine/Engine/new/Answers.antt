@@ -4,4 +4,4 @@ use Rattle.af_base.proofs.Sound.{fresh_sound}
 use Rattle.af_steps.proofs.engine.Engine.new.Goals as goal
 
 pub invariant_of-result : goal.invariant_of-result
-invariant_of-result c = (subst IsSound (sym c.new.ensures) fresh_sound, omega arith)
+invariant_of-result c = (subst IsSound (sym c.new.ensures.world) fresh_sound, omega arith)

@@ -5,7 +5,7 @@ use Rattle.af_base.specs.Steps.{with_pair}
 use Rattle.af_base.specs.Table.{lowest_free}
 use Rattle.af_base.specs.World.{IsLive, World}
 use Rattle.af_base.proofs.Moved.{there-install}
-use Rattle.af_hold.specs.Stored.{Stored, row_at}
+use Rattle.af_collect.specs.Shown.{Shown, room_at}
 use Rattle.af_steps.proofs.Made.{first-live, second-live}
 use Rattle.af_steps.proofs.Numbers.{room-below, same-free, same-limit, same-there}
 use Rattle.af_steps.proofs.Paired.{both-lowest, first-below, first-free, second-below, second-left}
@@ -23,7 +23,7 @@ table_in-requires-clause-row c =
     let two = both-lowest q n m lowest in
     let row = c.in_ok-room_for.ensures.row (omega arith) in
     let low = room-below w p q at n _ (first-below w p c.args.kind q n m at two) row in
-    let kept = ap (λ (s : Stored). row_at s p) c.in_ok-first.ensures.ok in
+    let kept = ap (λ (s : Shown). room_at s p) c.in_ok-first.ensures.ok in
     omega (arith, low, kept)
 
 pub table_in-requires-clause-limit : goal.table_in-requires-clause-limit
@@ -38,7 +38,7 @@ table_in-requires-clause-limit c =
     let two = both-lowest q n m lowest in
     let v = c.make_two.new.self.world in
     let f = c.in_ok-first.first in
-    let is = ap (λ (s : Stored). s.world) c.in_ok-first.ensures.ok in
+    let is = ap (λ (s : Shown). s.world) c.in_ok-first.ensures.ok in
     let same = ap (λ (x : World). x.processes) (is ∙ ap (λ x. with_pair x c.args.kind) c.room_for.ensures.world) in
     same-limit w p q at v same n (first-below w p c.args.kind q n m at two)
 
@@ -54,7 +54,7 @@ table_in-requires-clause-free c =
     let two = both-lowest q n m lowest in
     let v = c.make_two.new.self.world in
     let f = c.in_ok-first.first in
-    let is = ap (λ (s : Stored). s.world) c.in_ok-first.ensures.ok in
+    let is = ap (λ (s : Shown). s.world) c.in_ok-first.ensures.ok in
     let same = ap (λ (x : World). x.processes) (is ∙ ap (λ x. with_pair x c.args.kind) c.room_for.ensures.world) in
     same-free w p q at v same n (first-free w p c.args.kind q n m at two)
 
@@ -66,7 +66,7 @@ table_in-requires-clause-live c =
     let at : map.get w.processes p ≡ Some q = search rules in
     let v = c.make_two.new.self.world in
     let f = c.in_ok-first.first in
-    let is = ap (λ (s : Stored). s.world) c.in_ok-first.ensures.ok in
+    let is = ap (λ (s : Shown). s.world) c.in_ok-first.ensures.ok in
     let same = ap (λ (x : World). x.processes) (is ∙ ap (λ x. with_pair x c.args.kind) c.room_for.ensures.world) in
     first-live c.room_for.new.self.world c.args.kind v f is c.in_ok-first.ensures.inos.0
 
@@ -82,10 +82,10 @@ table_in-requires-2-clause-there c =
     let two = both-lowest q n m lowest in
     let v = c.make_two.new.self.world in
     let f = c.in_ok-first.first in
-    let is = ap (λ (s : Stored). s.world) c.in_ok-first.ensures.ok in
+    let is = ap (λ (s : Shown). s.world) c.in_ok-first.ensures.ok in
     let same = ap (λ (x : World). x.processes) (is ∙ ap (λ x. with_pair x c.args.kind) c.room_for.ensures.world) in
     let u = c.table_in.new.self.world in
-    let put = ap (λ (s : Stored). s.world) c.table_in.ensures in
+    let put = ap (λ (s : Shown). s.world) c.table_in.ensures in
     let there = ap (λ (x : World). map.get x.processes p) put ∙ there-install v p n f q (ap (λ ps. map.get ps p) same ∙ at) in
     same-there u p (record q { table = map.insert q.table n f }) there u refl
 
@@ -101,7 +101,7 @@ table_in-requires-2-clause-row c =
     let two = both-lowest q n m lowest in
     let row = c.in_ok-room_for.ensures.row (omega arith) in
     let low = room-below w p q at m _ (second-below w p c.args.kind q n m at two) row in
-    let kept = ap (λ (s : Stored). row_at s p) c.table_in.ensures ∙ ap (λ (s : Stored). row_at s p) c.in_ok-first.ensures.ok in
+    let kept = ap (λ (s : Shown). room_at s p) c.table_in.ensures ∙ ap (λ (s : Shown). room_at s p) c.in_ok-first.ensures.ok in
     omega (arith, low, kept)
 
 pub table_in-requires-2-clause-limit : goal.table_in-requires-2-clause-limit
@@ -116,10 +116,10 @@ table_in-requires-2-clause-limit c =
     let two = both-lowest q n m lowest in
     let v = c.make_two.new.self.world in
     let f = c.in_ok-first.first in
-    let is = ap (λ (s : Stored). s.world) c.in_ok-first.ensures.ok in
+    let is = ap (λ (s : Shown). s.world) c.in_ok-first.ensures.ok in
     let same = ap (λ (x : World). x.processes) (is ∙ ap (λ x. with_pair x c.args.kind) c.room_for.ensures.world) in
     let u = c.table_in.new.self.world in
-    let put = ap (λ (s : Stored). s.world) c.table_in.ensures in
+    let put = ap (λ (s : Shown). s.world) c.table_in.ensures in
     let there = ap (λ (x : World). map.get x.processes p) put ∙ there-install v p n f q (ap (λ ps. map.get ps p) same ∙ at) in
     same-limit u p (record q { table = map.insert q.table n f }) there u refl m (second-below w p c.args.kind q n m at two)
 
@@ -135,10 +135,10 @@ table_in-requires-2-clause-free c =
     let two = both-lowest q n m lowest in
     let v = c.make_two.new.self.world in
     let f = c.in_ok-first.first in
-    let is = ap (λ (s : Stored). s.world) c.in_ok-first.ensures.ok in
+    let is = ap (λ (s : Shown). s.world) c.in_ok-first.ensures.ok in
     let same = ap (λ (x : World). x.processes) (is ∙ ap (λ x. with_pair x c.args.kind) c.room_for.ensures.world) in
     let u = c.table_in.new.self.world in
-    let put = ap (λ (s : Stored). s.world) c.table_in.ensures in
+    let put = ap (λ (s : Shown). s.world) c.table_in.ensures in
     let there = ap (λ (x : World). map.get x.processes p) put ∙ there-install v p n f q (ap (λ ps. map.get ps p) same ∙ at) in
     same-free u p (record q { table = map.insert q.table n f }) there u refl m (second-left w p c.args.kind q n m at two f)
 
@@ -150,7 +150,7 @@ table_in-requires-2-clause-live c =
     let at : map.get w.processes p ≡ Some q = search rules in
     let v = c.make_two.new.self.world in
     let f = c.in_ok-first.first in
-    let is = ap (λ (s : Stored). s.world) c.in_ok-first.ensures.ok in
+    let is = ap (λ (s : Shown). s.world) c.in_ok-first.ensures.ok in
     let same = ap (λ (x : World). x.processes) (is ∙ ap (λ x. with_pair x c.args.kind) c.room_for.ensures.world) in
-    let put = ap (λ (s : Stored). s.world) c.table_in.ensures in
+    let put = ap (λ (s : Shown). s.world) c.table_in.ensures in
     subst (λ x. IsLive x c.in_ok-first.second) (sym put) (second-live c.room_for.new.self.world c.args.kind v c.in_ok-first.second is c.in_ok-first.ensures.inos.1)

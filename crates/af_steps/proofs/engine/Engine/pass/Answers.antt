@@ -1,12 +1,16 @@
-use Rattle.std.proofs.Common.{◌≡◌, inl, refl, ap, subst}
+use Rattle.std.proofs.Common.{◌≡◌, ap, subst, sym, ◌∙◌}
 use Rattle.af_base.specs.declared.events.Reply.TheVariants as reply
-use Rattle.af_base.specs.Pass.{Idle, Machine, PassesWhole, next_pass}
+use Rattle.af_base.specs.Pass.{Machine, PassesWhole, next_pass}
+use Rattle.af_pass.specs.Keeping.{runs}
+use Rattle.af_steps.proofs.Collecting.{pass_done}
 use Rattle.af_steps.proofs.engine.Engine.pass.Goals as goal
 
 pub returns : goal.returns
 returns c =
     let n = c.collect-reclaimed.result in
     let k = c.collect-reclaimed.ensures.collects in
-    let next : c.min-self-inside.result ≡ next_pass c.self.inside.last_pass = c.min-self-inside.ensures in
-    subst (λ (m : Machine). PassesWhole m.pass m (reply.Done c.min-self-inside.result n) (record { world = c.collect-reclaimed.new.self.world; pass = Idle; last_pass = c.min-self-inside.result })) c.self.view_is
-    (record { test = k.test; is_garbage = k.is_garbage; purged = k.purged; count = n; counted = k.counted; answered = ap (λ l. reply.Done l n) next }, refl, next)
+    let next : c.next_pass-self-inside.result ≡ next_pass c.self.inside.last_pass = c.next_pass-self-inside.ensures in
+    let after : Machine = record { world = c.collect-reclaimed.new.self.world; pass = c.collect-reclaimed.new.self.pass; last_pass = c.next_pass-self-inside.result } in
+    subst (λ (m : Machine). PassesWhole m.pass m (reply.Done c.next_pass-self-inside.result n) after) c.self.view_is
+    (pass_done c.self.inside.store.pass _ after (reply.Done c.next_pass-self-inside.result n) (sym c.is_passing.ensures ∙ c.if-is_passing.false)
+    (record { test = k.test; is_garbage = k.is_garbage; purged = k.purged; count = n; counted = k.counted; answered = ap (λ l. reply.Done l n) next }) c.collect-reclaimed.ensures.pass next)

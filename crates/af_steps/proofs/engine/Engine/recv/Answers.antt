@@ -8,7 +8,8 @@ use Rattle.af_base.specs.Refusals.{first_fit, socket_at}
 use Rattle.af_base.specs.Steps.{ProcessStep}
 use Rattle.af_base.specs.Table.{lowest_free}
 use Rattle.af_steps.specs.Rows.{receive_row}
-use Rattle.af_steps.proofs.Numbers.{is_process}
+use Rattle.af_pass.specs.Keeping.{Spares}
+use Rattle.af_steps.proofs.Numbers.{is_process, on_table}
 use Rattle.af_steps.proofs.Received.{no-message, numbers-below, recv-end}
 use Rattle.af_steps.proofs.engine.Engine.recv.Goals as goal
 
@@ -37,3 +38,12 @@ take_msg-requires-clause-row c =
     numbers-below q c.deref.result.now c.min.result _ lowest (λ some.
     let most = c.in_ok-room_for.ensures.row (omega (arith, some, c.deref.ensures.len, c.len.ensures)) in
     omega (arith, most, same))
+
+pub take_msg-requires-clause-spared : goal.take_msg-requires-clause-spared
+take_msg-requires-clause-spared c =
+    let w = c.self.inside.store.world in
+    let p = c.args.pid in
+    let q = c.in_ok-process.process.now.process in
+    let at : map.get w.processes p ≡ Some q = search rules in
+    let stands : map.get q.table c.args.on ≡ Some c.in_ok-file.file = search rules in
+    subst (λ s. Spares s c.in_ok-file.file) (sym c.room_for.ensures.pass) (c.is_spared.ensures c.in_ok-file.file (p, c.args.on, on_table w p q at c.args.on ∙ stands))

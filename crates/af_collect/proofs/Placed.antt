@@ -1,0 +1,117 @@
+-- Each change of places, and each file more, keeps what is kept.
+use Rattle.std.proofs.Common.{◌≡◌, ◌<◌, ℕ, Bool, true, false, List, [], ◌∷◌, ◌++◌, nat_eq, refl, sym, ap, ◌∙◌, subst, arith}
+use Rattle.std.specs.Prelude.{Some, IsTrue, is_some, length, slice_get, if◌then◌else◌}
+use Rattle.std.specs.List.{Contains, list_any, zip}
+use Rattle.std.specs.FinMap as map
+use Rattle.std.proofs.lemmas.Bool.{false≢true}
+use Rattle.std.proofs.lemmas.List.Elements.{Contains-append_left}
+use Rattle.af_base.specs.World.{AsSocket, File, IsLive, Socket, World}
+use Rattle.af_base.specs.Changes.{add_file, add_process, install_all, with_queue, with_socket}
+use Rattle.af_base.specs.Places.{Holds, carried, contents}
+use Rattle.af_base.specs.Reached.{Garbage}
+use Rattle.af_base.specs.Refusals.{process_at}
+use Rattle.af_base.specs.Steps.{spawned}
+use Rattle.af_base.specs.Table.{lowest_free}
+use Rattle.af_base.specs.Take.{take_from}
+use Rattle.af_base.specs.Whole.{IsWhole}
+use Rattle.af_base.proofs.Lookups.{insert-other, told_apart}
+use Rattle.af_base.proofs.Moved.{live-changed, there-holds}
+use Rattle.af_base.proofs.Takes.{AreWithin, leaves-taken}
+use Rattle.af_hold.proofs.Exact.{install-filled}
+use Rattle.af_mark.specs.Marked.{Marked, is_marked, knows}
+use Rattle.af_mark.specs.declared.color.Color.TheVariants.{White}
+use Rattle.af_pass.specs.declared.Stage.{Stage}
+use Rattle.af_pass.specs.declared.Stage.TheVariants.{Marking, Resting, Sweeping}
+use Rattle.af_pass.specs.declared.Progress.{Progress}
+use Rattle.af_pass.specs.Since.{Covers, Moves}
+use Rattle.af_pass.specs.Keeping.{IsKept, IsRunning, Spares, below, is_marking, is_running, pass_of, shaded_all, shaded_in}
+use Rattle.af_pass.proofs.Born.{AreFilesBelow, covers_add_file, moves_add_file}
+use Rattle.af_pass.proofs.Keeping.{in_marking, in_sweeping, kept_born, kept_moves, kept_shaded_all}
+use Rattle.af_pass.proofs.Known.{known_made, known_marks}
+use Rattle.af_pass.proofs.Marked.{grey_born, marked_born}
+use Rattle.af_pass.proofs.Placing.{covers_install_lowest, covers_itself, moves_install_files, moves_itself}
+use Rattle.af_pass.proofs.Sockets.{covers_receive, moves_receive}
+use Rattle.af_pass.proofs.Spared.{held_spared, marking_runs, spared_running}
+use Rattle.af_collect.proofs.Losing.{marked_there}
+
+-- A list that is not empty has a first.
+pub first_of : (xs : List ℕ) → 0 < length xs → (x : ℕ) × (slice_get xs 0 ≡ Some x)
+first_of [] some = absurd (omega (arith, some))
+first_of (x ∷ xs) some = (x, refl)
+
+-- A process started changes no file.
+pub files_spawned : (w : World) (uid nofile : ℕ) (privileged : Bool) → ((spawned w uid nofile privileged).files ≡ w.files) × ((spawned w uid nofile privileged).next_ino ≡ w.next_ino)
+files_spawned w uid nofile privileged = by (add_process w (record { user = uid; limit = nofile; privileged = privileged; table = map.empty })) (list_any (nat_eq uid) w.users) where
+  by : (v : World) (b : Bool) → ((if b then v else record v { users = v.users ++ uid ∷ [] }).files ≡ v.files) × ((if b then v else record v { users = v.users ++ uid ∷ [] }).next_ino ≡ v.next_ino)
+  by v true = (refl, refl)
+  by v false = (refl, refl)
+
+-- What is taken out of a socket was held by it.
+taken_held : (w : World) (s max : ℕ) (x : Socket) → map.get w.files s ≡ Some (AsSocket x) → AreWithin x.queue → (f : ℕ) → Contains (take_from x.kind x.queue max).attached f → Holds w s f
+taken_held w s max x at within f h =
+    let t = take_from x.kind x.queue max in
+    there-holds w s f (AsSocket x) at (Contains-append_left (carried x.queue) x.backlog f
+    (subst (λ xs. Contains xs f) (leaves-taken x.kind x.queue max within).carried (Contains-append_left t.attached (carried t.rest) f h)))
+
+module _ {w begun : World} {m : Marked} {c : Progress} where
+  -- Room for more marks keeps what is kept.
+  pub kept_room : (n : Marked) → n ≡ record m { room = n.room } → IsKept w begun m c → IsKept w begun n c
+  kept_room n e k =
+      let o : Marked = record m { room = n.room } in
+      subst (λ o. IsKept w begun o c) (sym e) (kept_born m o c (known_marks w m o (λ f. refl) refl k.known) refl refl refl (omega arith) (λ f l _. l) (λ _. moves_itself begun w) (λ _. covers_itself begun w (is_marked m) (below c.visited)) k)
+
+  -- A change of tables keeps what is kept.
+  pub kept_tables : (v : World) → v.files ≡ w.files → v.next_ino ≡ w.next_ino → (is_running c.stage ≡ true → Moves begun w v) → (is_marking c.stage ≡ true → Covers begun w v (is_marked m) (below c.visited)) → IsKept w begun m c → IsKept v begun m c
+  kept_tables v files next moves covers k = kept_moves m c (omega (arith, next)) (λ f. ap (λ fs. map.contains_key fs f) files) moves covers k
+
+  -- A change of a socket keeps what is kept.
+  pub kept_socket : (s : ℕ) (g : Socket → Socket) → (is_running c.stage ≡ true → Moves begun w (with_socket w s g)) → (is_marking c.stage ≡ true → Covers begun w (with_socket w s g) (is_marked m) (below c.visited)) → IsKept w begun m c → IsKept (with_socket w s g) begun m c
+  kept_socket s g moves covers k = kept_moves m c (omega arith) (live-changed w s g) moves covers k
+
+  -- Where a pass runs, the files of its begin have numbers that the next file does not have.
+  begun_below : IsKept w begun m c → is_running c.stage ≡ true → AreFilesBelow begun w.next_ino
+  begun_below k e = by c.stage refl e where
+    low : IsRunning w begun m c → AreFilesBelow begun w.next_ino
+    low r f l = let a = r.since.below f l in let b = r.low in omega (arith, a, b)
+
+    by : (s : Stage) → c.stage ≡ s → is_running s ≡ true → AreFilesBelow begun w.next_ino
+    by Resting d e = absurd (false≢true e)
+    by Marking d e = low (in_marking d k).running
+    by Sweeping d e = low (in_sweeping d k).running
+
+  -- A file more, which holds nothing and is born, keeps what is kept.
+  pub kept_made : (x : File) (n : Marked) (ino : ℕ) → contents x ≡ [] → AreFilesBelow w w.next_ino → ino ≡ w.next_ino → knows m ino ≡ false → n ≡ record m { colors = map.insert m.colors ino White; last = ino; room = n.room }
+      → IsKept w begun m c → IsKept (add_file w x) begun n c
+  kept_made x n ino empty numbered is new born k =
+      kept_born m n c (known_made w x m n ino is born k.known) (marked_born m n ino n.room new born) (grey_born m n ino n.room new born) (ap (λ o. o.bound) born) (omega arith)
+      (λ f l low. sym (ap is_some (insert-other w.files w.next_ino x f (told_apart f w.next_ino (λ e. omega (arith, e, low))))) ∙ l)
+      (λ e. moves_add_file w x begun empty (begun_below k e)) (λ _. covers_add_file w x begun (is_marked m) (below c.visited) numbered) k
+
+  -- What is taken out of a queue is shaded where marking goes on.
+  kept_shaded_in : (fs : List ℕ) → ((f : ℕ) → Contains fs f → IsLive w f × (is_running c.stage ≡ true → ¬ (Garbage begun f))) → IsKept w begun m c → IsKept w begun (shaded_in c.stage fs m) c
+  kept_shaded_in fs each k = by (is_marking c.stage) refl where
+    by : (b : Bool) → is_marking c.stage ≡ b → IsKept w begun (if b then shaded_all fs m else m) c
+    by true e = kept_shaded_all fs m c e (λ f h. ((each f h).0, (each f h).1 (marking_runs c.stage e))) k
+    by false e = k
+
+module _ {w begun : World} {m : Marked} {c : Progress} where
+  module _ (whole : IsWhole w) (s max : ℕ) (x : Socket) (at : map.get w.files s ≡ Some (AsSocket x)) (within : AreWithin x.queue) where
+    -- What is taken out of the queue of a spared socket is shaded where marking goes on, and comes into a table at the lowest free numbers: that keeps what is kept.
+    pub kept_taken : (n p : ℕ) (ns : List ℕ) → Spares (pass_of c.stage begun n) s → IsTrue (map.contains_key w.processes p) → (k : ℕ) × (ns ≡ lowest_free k (process_at w p)) → IsKept w begun m c
+        → IsKept (install_all (with_queue w s (take_from x.kind x.queue max).rest) p (zip ns (take_from x.kind x.queue max).attached)) begun (shaded_in c.stage (take_from x.kind x.queue max).attached m) c
+    kept_taken n p ns spared there lowest k =
+        let t = take_from x.kind x.queue max in
+        let o = shaded_in c.stage t.attached m in
+        let v = with_queue w s t.rest in
+        let held = taken_held w s max x at within in
+        let none : (f : ℕ) → Contains t.attached f → is_running c.stage ≡ true → ¬ (Garbage begun f) = λ f h e. spared_running c.stage begun n f e (held_spared n s f k (held f h) spared) in
+        let live : (f : ℕ) → Contains t.attached f → IsLive w f = λ f h. whole.queues_live s f (held f h) in
+        let marked : (f : ℕ) → Contains t.attached f → is_marking c.stage ≡ true → IsLive begun f → is_marked o f ≡ true = λ f h e b.
+        ap (λ a. is_marked (if a then shaded_all t.attached m else m) f) e ∙ marked_there t.attached f e h (live f h) k b in
+        let left : IsKept v begun o c = kept_socket s (λ y. record y { queue = t.rest })
+        (λ e. moves_receive begun w s x max at within)
+        (λ e. covers_receive begun w s x max at within (is_marked o) (below c.visited) (λ f h. (marked f h e, none f h (marking_runs c.stage e))))
+        (kept_shaded_in t.attached (λ f h. (live f h, none f h)) k) in
+        let filled = install-filled v p (zip ns t.attached) in
+        kept_tables (install_all v p (zip ns t.attached)) (ap (λ (y : World). y.files) filled) (ap (λ (y : World). y.next_ino) filled)
+        (λ e. moves_install_files begun v p ns t.attached (λ f h. none f h e)) (λ e. covers_install_lowest begun v p ns t.attached (is_marked o) (below c.visited) there lowest) left

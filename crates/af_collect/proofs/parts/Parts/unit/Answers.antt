@@ -1,0 +1,21 @@
+use Rattle.std.proofs.Common.{◌≡◌, ap, sym, subst, ◌∙◌}
+use Rattle.af_base.specs.Reached.{IsGarbageCount}
+use Rattle.af_pass.specs.Purged.{ArePurged}
+use Rattle.af_pass.proofs.Purging.{purged_none}
+use Rattle.af_collect.proofs.parts.Parts.unit.Goals as goal
+use Rattle.af_collect.proofs.parts.Parts.unit.Goals.{else-is_marking-via-then-is_marking+else-mark_on, else-is_marking-via-else-is_marking}
+
+-- Marking purges nothing.
+pub returns-then-mark_on-clause-purged : goal.returns-then-mark_on-clause-purged
+returns-then-mark_on-clause-purged c =
+    let now = c.args.self.now in
+    subst (λ s. ArePurged now.begun.value.world now.places.world s.world 1) (sym c.mark_on.ensures.places) (purged_none now.places.world 1 c.requires.sound.settled)
+
+-- Where marking has ended, its begin is the same still.
+pub returns-clause-counted : goal.returns-clause-counted
+returns-clause-counted c = λ over.
+    let begun : c.else-is_marking.self.begun ≡ c.args.self.now.begun = elim c.else-is_marking.branch [
+      | else-is_marking-via-then-is_marking+else-mark_on w ↦ ap (λ p. p.begun) w.self-is ∙ w.mark_on.ensures.begun
+      | else-is_marking-via-else-is_marking w ↦ ap (λ p. p.begun) w.self-is
+    ] in
+    subst (λ s. IsGarbageCount s.value.world c.sweep_on.new.self.progress.reclaimed) begun (c.sweep_on.ensures.counted over)

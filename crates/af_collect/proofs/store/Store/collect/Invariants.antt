@@ -1,0 +1,20 @@
+-- The pass that began with this world runs, and what it purged so far is garbage of it.
+use Rattle.std.proofs.Common.{◌≡◌, ◌-◌, ◌*◌, ℕ, true}
+use Rattle.std.specs.FinMap as map
+use Rattle.af_base.specs.Whole.{IsSound}
+use Rattle.af_pass.specs.Keeping.{is_running}
+use Rattle.af_pass.specs.Purged.{ArePurged}
+use Rattle.af_collect.specs.Shown.{AreKept}
+use Rattle.af_collect.proofs.store.Store.collect.Given as goal
+
+abbrev pub invariant-loop : goal.invariant-loop
+invariant-loop l = record {
+  kept : AreKept l.self-inside.parts;
+  running : is_running l.self-inside.parts.progress.stage ≡ true;
+  sound : IsSound l.self-inside.parts.places.world;
+  begun : l.self-inside.parts.begun.value.world ≡ l.fn.self.world;
+  purged : (n : ℕ) × ArePurged l.fn.self.world l.fn.self.world l.self-inside.parts.places.world n;
+}
+
+abbrev pub decreases-loop : goal.decreases-loop
+decreases-loop l = 3 * map.len l.fn.self.world.files - l.self-inside.parts.progress.looked

@@ -1,0 +1,20 @@
+use Rattle.std.proofs.Common.{◌∙◌, ap, subst}
+use Rattle.af_base.specs.declared.events.Reply.TheVariants as reply
+use Rattle.af_base.specs.Pass.{Idle, Slices}
+use Rattle.af_pass.proofs.Slicing.{slices_done}
+use Rattle.af_collect.specs.Shown.{Shown}
+use Rattle.af_collect.proofs.Passing.{seen_begun}
+use Rattle.af_collect.proofs.store.Store.slice.Goals as goal
+
+-- The pass is over: no garbage of its begin is left.
+pub returns-clause-does : goal.returns-clause-does
+returns-clause-does c = λ begun spent pass e.
+    let p = c.self.inside.parts in
+    let b = p.begun.value.world in
+    let v = c.units.new.self.places.world in
+    let n = c.units.new.self.progress.reclaimed in
+    let u = c.units.ensures in
+    let is = seen_begun p.progress.stage b begun p.progress.looked spent (ap (λ (s : Shown). s.pass) c.self.view_is ∙ e) in
+    subst (λ (s : Shown). Slices begun s.world spent c.args.budget pass (reply.Done pass n) v Idle) c.self.view_is
+    (subst (λ x. Slices x p.places.world spent c.args.budget pass (reply.Done pass n) v Idle) is
+    (slices_done b b p.places.world v spent 0 c.args.budget pass n u.purged (u.gone c.if-not-units.false) (u.counted c.if-not-units.false)))

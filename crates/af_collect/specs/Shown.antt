@@ -1,0 +1,29 @@
+-- What a store shows, and what its parts keep.
+use Rattle.std.specs.Prelude.{ℕ, Option, None, Some}
+use Rattle.af_base.specs.declared.events.Reply.{Reply}
+use Rattle.af_base.specs.declared.events.Reply.TheVariants as reply
+use Rattle.af_base.specs.Pass.{Pass}
+use Rattle.af_base.specs.World.{Map, World}
+use Rattle.af_table.specs.Procs.{row_in}
+use Rattle.af_pass.specs.Keeping.{IsKept}
+use Rattle.af_collect.specs.declared.parts.Parts.{Parts}
+
+-- The world, below which number each table has room, the pass that runs, and how many files were looked at since it began (this project's profile).
+pub record Shown : Type 0 where
+  pub world : World
+  pub rows : Map ℕ
+  pub pass : Pass
+  pub looked : ℕ
+
+-- Below which number process p has room: below none, where there is no such process (this project's profile).
+abbrev pub room_at : Shown → ℕ → ℕ
+room_at s p = row_in s.rows p
+
+-- All that is kept of a pass, of these parts.
+abbrev pub AreKept : Parts → Type 0
+AreKept p = IsKept p.places.world p.begun.value.world p.marks p.progress
+
+-- The reply to a slice: the pass goes on, or it is done, and so many sockets were garbage.
+abbrev pub slice_reply : ℕ → Option ℕ → Reply
+slice_reply pass None = reply.Working
+slice_reply pass (Some n) = reply.Done pass n

@@ -1,0 +1,179 @@
+//! The holdings, the marks, and how far a pass is: what each change of one owes to the others.
+ghost use Rattle.std.specs.Prelude.{◌≡◌, ℕ, Some, [], true, nat_eq, slice_get};
+ghost use Rattle.af_base.specs.World.{IsLive};
+ghost use Rattle.af_base.specs.Counts.{refs};
+ghost use Rattle.af_base.specs.Places.{backlog_at, held_by, queue_at, table_at};
+ghost use Rattle.af_base.specs.Reached.{Garbage};
+ghost use Rattle.af_base.specs.Unheld.{Settles, without};
+ghost use Rattle.af_base.specs.Whole.{IsSound};
+ghost use Rattle.af_pass.specs.Keeping.{counted, first_held, is_counted, is_marking, is_running, shaded_all, shaded_in};
+ghost use Rattle.af_mark.specs.Marked.{is_marked};
+ghost use Rattle.af_collect.specs.Shown.{AreKept};
+
+use crate::shading::{is_socket, shade_all, shade_embryo, shade_first};
+use af_base::names::{Fd, FileRef, Pid};
+use af_hold::Holdings;
+use af_mark::Marks;
+use af_pass::{Progress, Stage};
+use std::snapshot::Snapshot;
+
+/// The holdings with the marks of a pass, what they were when it began (for contracts alone), and how
+/// far it is.
+#[derive(Drop)]
+pub struct Parts {
+    pub places: Holdings,
+    pub marks: Marks,
+    pub begun: Snapshot<Holdings>,
+    pub progress: Progress,
+}
+
+impl Parts {
+    /// Whether marking goes on.
+    pub fn is_marking(&self) -> bool
+        ensures { result ≡ is_marking self.now.progress.stage }
+    {
+        matches!(self.progress.stage, Stage::Marking)
+    }
+
+    /// Whether a pass runs.
+    pub fn is_running(&self) -> bool
+        ensures { result ≡ is_running self.now.progress.stage }
+    {
+        !matches!(self.progress.stage, Stage::Resting)
+    }
+
+    /// Takes away what nothing holds, one file after another, and its mark with it. Where marking goes
+    /// on, what a file loses is marked first; where sweeping does, the garbage that goes is counted.
+    pub fn release(&mut self)
+        requires kept { AreKept self.old }
+        ensures kept { AreKept self.new }
+        ensures settles { Settles self.old.places.world self.new.places.world }
+        ensures sound { IsSound self.new.places.world }
+        ensures rows { self.new.places.rows ≡ self.old.places.rows }
+        ensures begun { self.new.begun ≡ self.old.begun }
+        ensures progress { self.new.progress ≡ record self.old.progress { reclaimed = self.new.progress.reclaimed } }
+    {
+        while let Some(file) = self.places.next_waiting() {
+            // What a file holds is live: that is what a whole world says of places.
+            self.places.is_whole();
+            self.shade_first(&file);
+            if !self.places.drop_place(&file) {
+                self.take_away(&file);
+            }
+        }
+    }
+
+    /// Marks what a number is about to lose, where marking goes on.
+    pub fn shade_number(&mut self, pid: Pid, fd: Fd)
+        requires kept { AreKept self.old }
+        ensures kept { AreKept self.new }
+        ensures frame { self.new ≡ record self.old { marks = self.new.marks } }
+        ensures marked { is_marking self.old.progress.stage ≡ true → (f : ℕ) → table_at self.old.places.world pid fd ≡ Some f → IsLive self.old.begun.value.world f → is_marked self.new.marks f ≡ true }
+    {
+        if !self.is_marking() {
+            return;
+        }
+        if let Some(file) = self.places.procs().lookup(pid, fd) {
+            // Tables hold live files: that is what a whole world says of them.
+            self.places.is_whole();
+            self.marks.shade(&file);
+        }
+    }
+
+    /// Marks what a process is about to lose, where marking goes on.
+    pub fn shade_table(&mut self, pid: Pid)
+        requires kept { AreKept self.old }
+        ensures kept { AreKept self.new }
+        ensures frame { self.new ≡ record self.old { marks = self.new.marks } }
+        ensures marked { is_marking self.old.progress.stage ≡ true → (n f : ℕ) → table_at self.old.places.world pid n ≡ Some f → IsLive self.old.begun.value.world f → is_marked self.new.marks f ≡ true }
+    {
+        if !self.is_marking() {
+            return;
+        }
+        // Tables hold live files: that is what a whole world says of them.
+        self.places.is_whole();
+        let mut next = Fd(0);
+        while let Some((fd, file)) = self.places.procs().next_open(pid, next) {
+            self.marks.shade(&file);
+            next = Fd(fd.0 + 1);
+        }
+    }
+
+    /// Marks the embryo that a listener is about to lose, where marking goes on.
+    pub fn shade_embryo(&mut self, listener: &FileRef)
+        requires kept { AreKept self.old }
+        requires spared { is_running self.old.progress.stage ≡ true → ¬ (Garbage self.old.begun.value.world listener.now) }
+        ensures kept { AreKept self.new }
+        ensures frame { self.new ≡ record self.old { marks = self.new.marks } }
+        ensures marked { is_marking self.old.progress.stage ≡ true → (f : ℕ) → slice_get (backlog_at self.old.places.world listener.now) 0 ≡ Some f → IsLive self.old.begun.value.world f → is_marked self.new.marks f ≡ true }
+    {
+        if self.is_marking() {
+            // Backlogs hold live files: that is what a whole world says of them.
+            self.places.is_whole();
+            shade_embryo(&self.places, listener, &mut self.marks);
+        }
+    }
+
+    /// Marks what was taken out of a queue, where marking goes on.
+    pub fn shade_taken(&mut self, files: &[FileRef])
+        ensures { self.new ≡ record self.old { marks = shaded_in self.old.progress.stage files.now self.old.marks } }
+    {
+        if self.is_marking() {
+            shade_all(files, &mut self.marks);
+        }
+    }
+
+    /// Marks what a file that nothing holds is about to lose, where marking goes on.
+    fn shade_first(&mut self, file: &FileRef)
+        requires kept { AreKept self.old }
+        requires live { IsLive self.old.places.world file.now }
+        requires unheld { refs self.old.places.world file.now ≡ 0 }
+        ensures kept { AreKept self.new }
+        ensures frame { self.new ≡ record self.old { marks = self.new.marks } }
+        ensures marked { is_marking self.old.progress.stage ≡ true → self.new.marks ≡ shaded_all (first_held self.old.places.world file.now) self.old.marks }
+    {
+        if self.is_marking() {
+            // What a file holds is live: that is what a whole world says of places.
+            self.places.is_whole();
+            shade_first(&self.places, file, &mut self.marks);
+        }
+    }
+
+    /// Takes away a file that nothing holds, and that holds nothing.
+    fn take_away(&mut self, file: &FileRef)
+        requires kept { AreKept self.old }
+        requires live { IsLive self.old.places.world file.now }
+        requires unheld { refs self.old.places.world file.now ≡ 0 }
+        requires bare { held_by self.old.places.world file.now ≡ [] }
+        requires silent { queue_at self.old.places.world file.now ≡ [] }
+        ensures kept { AreKept self.new }
+        ensures places { self.new.places ≡ record self.old.places { world = without (nat_eq file.now) self.old.places.world } }
+        ensures begun { self.new.begun ≡ self.old.begun }
+        ensures progress { self.new.progress ≡ record self.old.progress { reclaimed = self.new.progress.reclaimed } }
+    {
+        self.tally(file);
+        self.places.take_away(file);
+        self.marks.forget(file);
+    }
+
+    /// Counts a file as reclaimed, where it is to be.
+    fn tally(&mut self, file: &FileRef)
+        requires kept { AreKept self.old }
+        ensures { self.new ≡ record self.old { progress = counted self.old.places.world self.old.marks file.now self.old.progress } }
+    {
+        if self.is_counted(file) {
+            self.progress.reclaimed += 1;
+        }
+    }
+
+    /// Whether the file counts as reclaimed when it goes: while sweeping goes on, and it is an unmarked
+    /// socket that was there when the pass began.
+    fn is_counted(&self, file: &FileRef) -> bool
+        ensures { result ≡ is_counted self.now.places.world self.now.marks self.now.progress file.now }
+    {
+        matches!(self.progress.stage, Stage::Sweeping)
+            && is_socket(&self.places, file)
+            && file.ino() < self.marks.bound()
+            && !self.marks.is_marked(file)
+    }
+}

@@ -1,0 +1,80 @@
+//! A pass of the collector: it begins, goes on by slices, and is done; or all of it at once.
+ghost use Rattle.std.specs.Prelude.{◌≡◌, ◌≤◌, ◌+◌, ℕ, false, true};
+ghost use Rattle.af_base.specs.World.{World};
+ghost use Rattle.af_base.specs.Pass.{Idle, Running, Slices};
+ghost use Rattle.af_base.specs.Unheld.{Settles};
+ghost use Rattle.af_base.specs.Whole.{IsSound};
+ghost use Rattle.af_pass.specs.Keeping.{runs};
+ghost use Rattle.af_collect.specs.Collecting.{Collects};
+ghost use Rattle.af_collect.specs.Shown.{slice_reply};
+
+use crate::store::Store;
+use af_base::limits::MAX_BUDGET;
+use af_pass::Stage;
+
+impl Store {
+    /// Whether a pass runs.
+    pub fn is_passing(&self) -> bool
+        ensures { result ≡ runs self.now.pass }
+    {
+        self.parts.is_running()
+    }
+
+    /// How many files were visited, scanned and swept since the last pass began.
+    pub fn looked(&self) -> u64
+        ensures { result ≡ self.now.looked }
+    {
+        self.parts.progress.looked
+    }
+
+    /// A pass begins, over the world as it stands. It costs the same however many files there are.
+    pub fn begin(&mut self)
+        requires idle { runs self.old.pass ≡ false }
+        requires sound { IsSound self.old.world }
+        ensures { self.new ≡ record self.old { pass = Running self.old.world 0; looked = 0 } }
+    {
+        self.parts.begin();
+    }
+
+    /// The pass goes on by at most so many units, each of which visits, scans or sweeps one file. Where
+    /// it is done, how many sockets were garbage when it began.
+    pub fn slice(&mut self, budget: u32) -> Option<u64>
+        requires running { runs self.old.pass ≡ true }
+        requires sound { IsSound self.old.world }
+        ensures does { (begun : World) (spent pass : ℕ) → self.old.pass ≡ Running begun spent → Slices begun self.old.world spent budget pass (slice_reply pass result) self.new.world self.new.pass }
+        ensures sound { IsSound self.new.world }
+        ensures looked { self.new.looked ≤ self.old.looked + budget }
+    {
+        if !self.parts.units(budget) {
+            return None;
+        }
+        self.parts.progress.stage = Stage::Resting;
+        Some(self.parts.progress.reclaimed)
+    }
+
+    /// A whole pass: it begins, and goes on until it is done. How many sockets were garbage.
+    pub fn collect(&mut self) -> u64
+        requires idle { runs self.old.pass ≡ false }
+        requires sound { IsSound self.old.world }
+        ensures collects { Collects self.old.world result self.new.world }
+        ensures sound { IsSound self.new.world }
+        ensures pass { self.new.pass ≡ Idle }
+    {
+        self.parts.begin();
+        while !self.parts.units(MAX_BUDGET) {}
+        self.parts.progress.stage = Stage::Resting;
+        self.parts.progress.reclaimed
+    }
+
+    /// Takes away what no place holds, one file after another: each place that it held is dropped, its
+    /// peer hangs up, and what thereby lost its last place waits in turn.
+    pub fn release(&mut self)
+        ensures settles { Settles self.old.world self.new.world }
+        ensures sound { IsSound self.new.world }
+        ensures rows { self.new.rows ≡ self.old.rows }
+        ensures pass { self.new.pass ≡ self.old.pass }
+        ensures looked { self.new.looked ≡ self.old.looked }
+    {
+        self.parts.release();
+    }
+}

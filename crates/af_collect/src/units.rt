@@ -1,0 +1,219 @@
+//! A pass, unit by unit: a file is visited, scanned or swept.
+ghost use Rattle.std.specs.Prelude.{◌≡◌, ◌<◌, ◌≤◌, ◌+◌, ℕ, true, false, IfSome, IfNone};
+ghost use Rattle.af_base.specs.World.{IsLive, is_live};
+ghost use Rattle.af_base.specs.Reached.{Garbage, IsGarbageCount};
+ghost use Rattle.af_base.specs.Whole.{IsSound};
+ghost use Rattle.af_mark.specs.Marked.{is_grey};
+ghost use Rattle.af_pass.specs.declared.Stage.TheVariants as stage;
+ghost use Rattle.af_pass.specs.Keeping.{is_running, shaded_tabled};
+ghost use Rattle.af_pass.specs.Purged.{ArePurged};
+ghost use Rattle.af_collect.specs.Shown.{AreKept};
+
+use crate::parts::Parts;
+use crate::shading::shade_held;
+use af_base::names::{FileRef, Ino};
+use af_pass::{Progress, Stage};
+use std::snapshot::Snapshot;
+
+impl Parts {
+    /// A pass begins, over the files that are there. It costs the same however many there are.
+    pub fn begin(&mut self)
+        requires kept { AreKept self.old }
+        requires sound { IsSound self.old.places.world }
+        ensures kept { AreKept self.new }
+        ensures places { self.new.places ≡ self.old.places }
+        ensures begun { self.new.begun.value ≡ self.old.places }
+        ensures stage { self.new.progress.stage ≡ stage.Marking }
+        ensures looked { self.new.progress.looked ≡ 0 }
+    {
+        self.marks.begin(self.places.files().next_ino());
+        self.begun = Snapshot::of(&self.places);
+        self.progress = Progress {
+            stage: Stage::Marking,
+            visited: 0,
+            swept: 0,
+            looked: 0,
+            reclaimed: 0,
+        };
+    }
+
+    /// As many units as the budget has. Whether the pass was over before: then no garbage of its begin
+    /// is left, and the number of reclaimed sockets is the number of those that were garbage.
+    pub fn units(&mut self, budget: u32) -> bool
+        requires kept { AreKept self.old }
+        requires running { is_running self.old.progress.stage ≡ true }
+        requires sound { IsSound self.old.places.world }
+        ensures kept { AreKept self.new }
+        ensures running { is_running self.new.progress.stage ≡ true }
+        ensures sound { IsSound self.new.places.world }
+        ensures rows { self.new.places.rows ≡ self.old.places.rows }
+        ensures begun { self.new.begun ≡ self.old.begun }
+        ensures purged { ArePurged self.old.begun.value.world self.old.places.world self.new.places.world budget }
+        ensures looked { self.new.progress.looked ≤ self.old.progress.looked + budget }
+        ensures working { result ≡ false → self.new.progress.looked ≡ self.old.progress.looked + budget }
+        ensures gone { result ≡ true → (f : ℕ) → Garbage self.old.begun.value.world f → ¬ (IsLive self.new.places.world f) }
+        ensures counted { result ≡ true → IsGarbageCount self.old.begun.value.world self.new.progress.reclaimed }
+    {
+        for _ in 0..budget {
+            if !self.unit() {
+                return true;
+            }
+        }
+        false
+    }
+
+    /// One unit, unless the pass is over.
+    fn unit(&mut self) -> bool
+        requires kept { AreKept self.old }
+        requires running { is_running self.old.progress.stage ≡ true }
+        requires sound { IsSound self.old.places.world }
+        ensures kept { AreKept self.new }
+        ensures running { is_running self.new.progress.stage ≡ true }
+        ensures sound { IsSound self.new.places.world }
+        ensures rows { self.new.places.rows ≡ self.old.places.rows }
+        ensures begun { self.new.begun ≡ self.old.begun }
+        ensures purged { ArePurged self.old.begun.value.world self.old.places.world self.new.places.world 1 }
+        ensures went { result ≡ true → self.new.progress.looked ≡ self.old.progress.looked + 1 }
+        ensures still { result ≡ false → self.new.progress.looked ≡ self.old.progress.looked }
+        ensures gone { result ≡ false → (f : ℕ) → Garbage self.old.begun.value.world f → ¬ (IsLive self.new.places.world f) }
+        ensures counted { result ≡ false → IsGarbageCount self.old.begun.value.world self.new.progress.reclaimed }
+    {
+        if self.is_marking() && self.mark_on() {
+            return true;
+        }
+        self.sweep_on()
+    }
+
+    /// One unit of marking, unless nothing is left to visit or scan: then sweeping begins.
+    fn mark_on(&mut self) -> bool
+        requires kept { AreKept self.old }
+        requires marking { self.old.progress.stage ≡ stage.Marking }
+        requires sound { IsSound self.old.places.world }
+        ensures kept { AreKept self.new }
+        ensures places { self.new.places ≡ self.old.places }
+        ensures begun { self.new.begun ≡ self.old.begun }
+        ensures went { result ≡ true → (self.new.progress.looked ≡ self.old.progress.looked + 1) × (self.new.progress.stage ≡ stage.Marking) }
+        ensures over { result ≡ false → (self.new.progress.looked ≡ self.old.progress.looked) × (self.new.progress.stage ≡ stage.Sweeping) }
+    {
+        if let Some(file) = self.next_from(self.progress.visited) {
+            self.visit(&file);
+            return true;
+        }
+        if let Some(file) = self.marks.next_grey() {
+            self.scan(&file);
+            return true;
+        }
+        self.progress.visited = self.marks.bound().0;
+        self.progress.stage = Stage::Sweeping;
+        false
+    }
+
+    /// One unit of sweeping, unless all is swept.
+    fn sweep_on(&mut self) -> bool
+        requires kept { AreKept self.old }
+        requires sweeping { self.old.progress.stage ≡ stage.Sweeping }
+        requires sound { IsSound self.old.places.world }
+        ensures kept { AreKept self.new }
+        ensures sound { IsSound self.new.places.world }
+        ensures rows { self.new.places.rows ≡ self.old.places.rows }
+        ensures begun { self.new.begun ≡ self.old.begun }
+        ensures stage { self.new.progress.stage ≡ stage.Sweeping }
+        ensures purged { ArePurged self.old.begun.value.world self.old.places.world self.new.places.world 1 }
+        ensures went { result ≡ true → self.new.progress.looked ≡ self.old.progress.looked + 1 }
+        ensures still { result ≡ false → self.new.progress.looked ≡ self.old.progress.looked }
+        ensures gone { result ≡ false → (f : ℕ) → Garbage self.old.begun.value.world f → ¬ (IsLive self.new.places.world f) }
+        ensures counted { result ≡ false → IsGarbageCount self.old.begun.value.world self.new.progress.reclaimed }
+    {
+        let Some(file) = self.next_from(self.progress.swept) else {
+            return false;
+        };
+        self.sweep(&file);
+        true
+    }
+
+    /// The live file with the least number from this one on, of those that the pass goes over.
+    fn next_from(&self, from: u64) -> Option<FileRef>
+        ensures live { IfSome result (λ f. IsLive self.now.places.world f) }
+        ensures within { IfSome result (λ f. (from ≤ f) × (f < self.now.marks.bound)) }
+        ensures least { IfSome result (λ f. (g : ℕ) → from ≤ g → g < f → is_live self.now.places.world g ≡ false) }
+        ensures none { IfNone result ((g : ℕ) → from ≤ g → g < self.now.marks.bound → is_live self.now.places.world g ≡ false) }
+    {
+        let file = self.places.files().next_after(Ino(from.saturating_sub(1)))?;
+        if file.ino() >= self.marks.bound() {
+            return None;
+        }
+        Some(file)
+    }
+
+    /// A file is visited: it is marked if a table holds it.
+    fn visit(&mut self, file: &FileRef)
+        requires kept { AreKept self.old }
+        requires marking { self.old.progress.stage ≡ stage.Marking }
+        requires live { IsLive self.old.places.world file.now }
+        requires within { (self.old.progress.visited ≤ file.now) × (file.now < self.old.marks.bound) }
+        requires least { (g : ℕ) → self.old.progress.visited ≤ g → g < file.now → is_live self.old.places.world g ≡ false }
+        ensures kept { AreKept self.new }
+        ensures places { self.new.places ≡ self.old.places }
+        ensures begun { self.new.begun ≡ self.old.begun }
+        ensures progress { self.new.progress ≡ record self.old.progress { visited = file.now + 1; looked = self.old.progress.looked + 1 } }
+    {
+        // Files' numbers are below the next one: that is what a whole world says of them.
+        self.places.is_whole();
+        self.shade_tabled(file);
+        self.progress.visited = file.ino().0 + 1;
+        self.progress.looked += 1;
+    }
+
+    /// A file is marked if a table holds it.
+    fn shade_tabled(&mut self, file: &FileRef)
+        ensures frame { self.new ≡ record self.old { marks = self.new.marks } }
+        ensures marks { self.new.marks ≡ shaded_tabled self.old.places.world file.now self.old.marks }
+    {
+        if self.places.tabled(file) > 0 {
+            self.marks.shade(file);
+        }
+    }
+
+    /// A marked file is scanned: all that it holds is marked.
+    fn scan(&mut self, file: &FileRef)
+        requires kept { AreKept self.old }
+        requires marking { self.old.progress.stage ≡ stage.Marking }
+        requires grey { is_grey self.old.marks file.now ≡ true }
+        ensures kept { AreKept self.new }
+        ensures places { self.new.places ≡ self.old.places }
+        ensures begun { self.new.begun ≡ self.old.begun }
+        ensures progress { self.new.progress ≡ record self.old.progress { looked = self.old.progress.looked + 1 } }
+    {
+        // What a file holds is live: that is what a whole world says of places.
+        self.places.is_whole();
+        shade_held(&self.places, file, &mut self.marks);
+        self.marks.scanned(file);
+        self.progress.looked += 1;
+    }
+
+    /// A file is swept: if it is not marked, its queue and its backlog are emptied, and what nothing
+    /// holds then goes.
+    fn sweep(&mut self, file: &FileRef)
+        requires kept { AreKept self.old }
+        requires sweeping { self.old.progress.stage ≡ stage.Sweeping }
+        requires sound { IsSound self.old.places.world }
+        requires live { IsLive self.old.places.world file.now }
+        requires within { (self.old.progress.swept ≤ file.now) × (file.now < self.old.marks.bound) }
+        requires least { (g : ℕ) → self.old.progress.swept ≤ g → g < file.now → is_live self.old.places.world g ≡ false }
+        ensures kept { AreKept self.new }
+        ensures sound { IsSound self.new.places.world }
+        ensures rows { self.new.places.rows ≡ self.old.places.rows }
+        ensures begun { self.new.begun ≡ self.old.begun }
+        ensures stage { self.new.progress.stage ≡ stage.Sweeping }
+        ensures looked { self.new.progress.looked ≡ self.old.progress.looked + 1 }
+        ensures purged { ArePurged self.old.begun.value.world self.old.places.world self.new.places.world 1 }
+    {
+        self.progress.swept = file.ino().0 + 1;
+        self.progress.looked += 1;
+        if self.marks.is_marked(file) {
+            return;
+        }
+        self.places.empty(file);
+        self.release();
+    }
+}
