@@ -2,21 +2,24 @@
 use Rattle.std.proofs.Common.{◌≡◌, ℕ, Bool, true, false, not, [], refl, sym, ap, ◌∙◌, subst, cond}
 use Rattle.std.specs.Prelude.{◌↔◌, Option, Some, None, is_some, option_map, if◌then◌else◌}
 use Rattle.std.specs.Option.{option_map_or}
+use Rattle.std.specs.Cmp.{nat_cmp_total}
 use Rattle.std.specs.FinMap as map
+use Rattle.std.specs.Ordering.{nat_cmp}
 use Rattle.std.proofs.lemmas.Bool.{false≢true}
 use Rattle.af_base.specs.declared.errno.Errno.{Errno}
 use Rattle.af_base.specs.declared.errno.Errno.TheVariants.{EBUSY}
 use Rattle.af_base.specs.declared.events.Reply.{Reply}
 use Rattle.af_base.specs.declared.events.Reply.TheVariants as reply
-use Rattle.af_base.specs.World.{AsSocket, File, IsLive, Plain, World}
-use Rattle.af_base.specs.Places.{backlog_of, queue_of}
+use Rattle.af_base.specs.World.{AsSocket, File, IsLive, Map, Plain, Process, World}
+use Rattle.af_base.specs.Places.{backlog_of, number_in, queue_of}
 use Rattle.af_base.specs.Unheld.{Goes, Unheld, file_without}
 use Rattle.af_base.specs.Reached.{ByTable, BySocket, Garbage, Reached}
 use Rattle.af_base.specs.Pass.{Idle, Machine, Pass, PassesWhole, Purges, Running, emptied, empty_file}
+use Rattle.af_base.proofs.Lookups.{none_some}
 use Rattle.af_base.proofs.Purging.{from_emptied, get-emptied, live-emptied}
 use Rattle.af_base.proofs.Settling.{get-without, live-without, stays}
 use Rattle.af_laws.proofs.Chains.{holder_live, not_emptied, not_gone, purging_keeps_reached, reached_emptied}
-use Rattle.af_laws.specs.Purging.{PassLeavesNoGarbage, PassReleasesItsGarbage, PassSparesTheReached, Spares}
+use Rattle.af_laws.specs.Purging.{PassLeavesNoGarbage, PassReleasesItsGarbage, PassSparesTheReached, PassWithoutProcessesLeavesNothing, Spares}
 
 -- a world of which some is purged, and nothing that is reached
 module _ (old new : World) (test : ℕ → Bool) (apart : (f : ℕ) → test f ≡ true → ¬ (Reached old f)) (purged : Purges test old new) where
@@ -102,3 +105,26 @@ releases_by (Running begun spent) old new pass count h = absurd (done_refused pa
 
 pub pass_releases_its_garbage : PassReleasesItsGarbage
 pass_releases_its_garbage old new pass count h = releases_by old.pass old new pass count h
+
+-- Where there are no processes, no table has a file.
+no_number : (processes : Map Process) → map.len processes ≡ 0 → (p n : ℕ) → number_in processes p n ≡ None
+no_number processes none p n = ap (λ (o : Option Process). option_map_or (λ q. map.get q.table n) o None) (ap (λ (m : Map Process). map.get m p) (map.empty_of_len processes none) ∙ map.get-empty nat_cmp p)
+
+-- Without processes no chain begins.
+none_reached : (w : World) → map.len w.processes ≡ 0 → (f : ℕ) → Reached w f → ⊥
+none_reached w none _ (ByTable f t) = none_some f (sym (no_number w.processes none t.0 t.1) ∙ t.2)
+none_reached w none _ (BySocket s f r h) = none_reached w none s r
+
+-- A map that has no key is empty.
+no_key : {X : Type 0} (m : Map X) → ((k : ℕ) → map.contains_key m k ≡ true → ⊥) → map.len m ≡ 0
+no_key {X} m none =
+    ap (λ (x : Map X). map.len x) (map.same_map nat_cmp_total map.nat_cmp-IsAntisymmetric m map.empty (λ k. get_none (map.get m k) (none k) ∙ sym (map.get-empty nat_cmp k))) ∙ map.len-empty nat_cmp X
+  where
+    get_none : (o : Option X) → (is_some o ≡ true → ⊥) → o ≡ None
+    get_none None bad = refl
+    get_none (Some x) bad = absurd (bad refl)
+
+pub pass_without_processes_leaves_nothing : PassWithoutProcessesLeavesNothing
+pass_without_processes_leaves_nothing old new pass count none done =
+    let tables = (pass_spares_the_reached old new (reply.Done pass count) done).tables in
+    no_key new.world.files (λ f live. pass_leaves_no_garbage old new pass count done f (live, none_reached new.world (ap (λ (m : Map Process). map.len m) tables ∙ none) f))

@@ -43,6 +43,10 @@ PassLeavesNoGarbage = (old new : Machine) (pass count : ℕ) → Step old event.
 abbrev pub PassReleasesItsGarbage : Type 0
 PassReleasesItsGarbage = (old new : Machine) (pass count : ℕ) → Step old event.Pass (reply.Done pass count) new → (f : ℕ) → Garbage old.world f → ¬ (IsLive new.world f)
 
+-- A whole pass that is done on a world without processes leaves no file.
+abbrev pub PassWithoutProcessesLeavesNothing : Type 0
+PassWithoutProcessesLeavesNothing = (old new : Machine) (pass count : ℕ) → map.len old.world.processes ≡ 0 → Step old event.Pass (reply.Done pass count) new → map.len new.world.files ≡ 0
+
 -- A whole pass has one outcome: one reply, and one machine.
 abbrev pub PassHasOneOutcome : Type 0
 PassHasOneOutcome = (old new other : Machine) (r s : Reply) → Step old event.Pass r new → Step old event.Pass s other → (r ≡ s) × (new ≡ other)

@@ -1,5 +1,5 @@
 //! Laws of purging: queues emptied, and then what goes.
-ghost use Rattle.af_laws.specs.Purging.{PurgesBoth, PurgesInAnyOrder, PassSparesTheReached, PassLeavesNoGarbage, PassReleasesItsGarbage, PassHasOneOutcome};
+ghost use Rattle.af_laws.specs.Purging.{PurgesBoth, PurgesInAnyOrder, PassSparesTheReached, PassLeavesNoGarbage, PassReleasesItsGarbage, PassHasOneOutcome, PassWithoutProcessesLeavesNothing};
 ghost use Rattle.af_laws.specs.Purging.{SlicesAreAPass, PassIsOneSlice, SlicesSpareTheReached, BegunGarbageIsNeverReached};
 
 /// To purge some files and then others is to purge all of them at once.
@@ -25,6 +25,11 @@ pub fn pass_leaves_no_garbage()
 /// A whole pass that is done has released all that was garbage at its beginning.
 pub fn pass_releases_its_garbage()
     ensures { PassReleasesItsGarbage }
+{}
+
+/// A whole pass that is done on a world without processes leaves no file.
+pub fn pass_without_processes_leaves_nothing()
+    ensures { PassWithoutProcessesLeavesNothing }
 {}
 
 /// A whole pass has one outcome: one reply, and one machine.
