@@ -299,6 +299,9 @@ impl Ledger {
         requires { CanHoldAll user files.now self.old }
         ensures { self.new ≡ held_all (Place.Queue user) files.now self.old }
     {
+        if files.is_empty() {
+            return;
+        }
         self.charge(user, files.len() as u64);
         for file in files {
             self.raise(&Place::Queue(user), file);
@@ -311,6 +314,9 @@ impl Ledger {
         requires { CanDropAll user files.now self.old }
         ensures { self.new ≡ dropped_all (Place.Queue user) files.now self.old }
     {
+        if files.is_empty() {
+            return;
+        }
         self.free(user, files.len() as u64);
         for file in files {
             self.lower(&Place::Queue(user), file);

@@ -35,7 +35,8 @@ enum Place {
 /// dead row; the live ones are packed a few at a time, so that no event pays for many.
 #[derive(Drop)]
 pub struct Order {
-    /// The rows that were moved here, rising. All are below the live ones of `rows`.
+    /// The rows that were moved here, rising. All are below the live ones of `rows`. There is always
+    /// room here for as many as there are `rows`, so that packing needs no memory.
     packed: Vec<Row>,
     /// The other rows, rising.
     rows: Vec<Row>,
@@ -48,7 +49,7 @@ pub struct Order {
 }
 
 impl Model for Order {
-    ghost use Rattle.std.specs.Prelude.{◌-◌, ◌++◌, vec_capacity, length};
+    ghost use Rattle.std.specs.Prelude.{◌-◌, ◌≤◌, ◌++◌, min, vec_capacity, length};
     ghost use Rattle.std.specs.FinMap as map;
     ghost use Rattle.std.specs.Coded.{codes};
     ghost use Rattle.af_order.specs.Ordered.{Ordered};
@@ -58,9 +59,9 @@ impl Model for Order {
 
     ghost coded = { Prim.hlevel (codes, map.code) };
 
-    ghost view = { λ a. record { keys = live_of (a.packed.items ++ a.rows.items); last = a.last; room = vec_capacity a.rows - length a.rows.items } };
+    ghost view = { λ a. record { keys = live_of (a.packed.items ++ a.rows.items); last = a.last; room = min (vec_capacity a.packed) (vec_capacity a.rows) - length a.rows.items } };
 
-    ghost invariant = { λ a. AreRows a.packed.items a.rows.items a.read a.last };
+    ghost invariant = { λ a. AreRows a.packed.items a.rows.items a.read a.last × (length a.packed.items ≤ a.read) × (length a.rows.items ≤ vec_capacity a.packed) };
 }
 
 impl Order {
@@ -78,15 +79,20 @@ impl Order {
         }
     }
 
-    /// Room for so many numbers more: then `push` needs no memory for them. Nothing else changes,
-    /// also on an error.
+    /// Room for so many numbers more, and for packing them: then neither `push` nor `pack` needs
+    /// memory for them. Nothing else changes, also on an error.
     pub fn reserve(&mut self, numbers: usize) -> Result<(), AllocError>
         ensures same { self.new ≡ record self.old { room = self.new.room } }
         ensures ok { OnOk result (numbers ≤ self.new.room) }
         ensures room { self.old.room ≤ self.new.room }
         ensures succeeds { numbers ≤ self.old.room → IsOk result }
     {
-        self.rows.reserve(numbers)
+        self.rows.reserve(numbers)?;
+        let wanted = self.rows.len().saturating_add(numbers);
+        if wanted <= self.packed.capacity() {
+            return Ok(());
+        }
+        self.packed.reserve(wanted - self.packed.len())
     }
 
     /// A number more, above all others that there were, with its key. It answers its place, which
@@ -156,14 +162,14 @@ impl Order {
     }
 
     /// One small step of packing, where one is due: dead rows leave, and at most one live row moves.
-    /// It answers that row's key and its new place, which `remove` takes as a hint. Where memory for
-    /// it is refused there is no packing.
+    /// It answers that row's key and its new place, which `remove` takes as a hint. It takes no
+    /// memory.
     pub fn pack(&mut self) -> Option<(usize, usize)>
         ensures keys { self.new.keys ≡ self.old.keys }
         ensures last { self.new.last ≡ self.old.last }
         ensures room { self.old.room ≤ self.new.room }
     {
-        if self.read == 0 && !self.begin() {
+        if self.read == 0 && !self.is_due() {
             return None;
         }
         if self.finish() {
@@ -173,29 +179,18 @@ impl Order {
         self.step()
     }
 
-    /// Whether a packing is worth its while, and has the memory that it takes.
-    fn begin(&mut self) -> bool
-        ensures keys { self.new.keys ≡ self.old.keys }
-        ensures last { self.new.last ≡ self.old.last }
-        ensures room { self.old.room ≤ self.new.room }
-    {
-        self.dead >= LEAST_DEAD
-            && self.dead > self.rows.len() / 2
-            && self.packed.reserve(self.rows.capacity()).is_ok()
+    /// Whether a packing is worth its while.
+    fn is_due(&self) -> bool {
+        self.dead >= LEAST_DEAD && self.dead > self.rows.len() / 2
     }
 
-    /// Where all rows were read, the packed ones take their place, unless that would lessen the room.
-    /// Whether they did.
+    /// Where all rows were read, the packed ones take their place. Whether they did.
     fn finish(&mut self) -> bool
         ensures keys { self.new.keys ≡ self.old.keys }
         ensures last { self.new.last ≡ self.old.last }
         ensures room { self.old.room ≤ self.new.room }
     {
         if self.read < self.rows.len() {
-            return false;
-        }
-        let room = self.rows.capacity() - self.rows.len();
-        if self.packed.reserve(room).is_err() {
             return false;
         }
         mem::swap(&mut self.packed, &mut self.rows);
@@ -232,9 +227,7 @@ impl Order {
             return None;
         };
         let at = self.packed.len();
-        if self.packed.push(row).is_err() {
-            return None;
-        }
+        self.packed.push_reserved(row);
         self.rows[self.read].key = None;
         self.read += 1;
         self.dead = self.dead.saturating_add(1);

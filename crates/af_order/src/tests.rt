@@ -1,113 +1,108 @@
-//! Numbers come and go by the thousand, beside a plain map.
+//! What no clause says: that memory is enough where there is some, that rows are packed, and how
+//! little the newest number leaves behind.
 ghost use Rattle.std.specs.Prelude.{◌≡◌, ◌<◌, OnOk};
+ghost use Rattle.af_order.specs.Keyed.{AreInPlace};
 
-use crate::Order;
-use af_base::names::Ino;
+use crate::{Entry, Order, put, reserve, take};
+use af_base::names::{FileRef, Ino};
+use slab::Slab;
 use std::alloc::AllocError;
-use std::collections::BTreeMap;
 use std::test::Fail;
 
-/// A number comes, after a little packing, under itself as its key; the plain map has its place. How
-/// many rows moved.
-fn come(
-    order: &mut Order,
-    places: &mut BTreeMap<u64, usize>,
-    number: u64,
-) -> Result<usize, AllocError>
-    requires { order.old.last < number }
-    ensures { OnOk result (order.new.last ≡ number) }
+/// How many values come.
+const MANY: u64 = 5_000;
+
+/// A value comes, once there is room for it.
+#[tactic(auto, using(crate::proofs::Keyed::comes_and_goes))]
+fn come(order: &mut Order, slab: &mut Slab<Entry<u64>>, number: u64) -> Result<(), AllocError>
+    requires place { AreInPlace order.old.keys slab.old }
+    requires above { order.old.last < number }
+    ensures place { AreInPlace order.new.keys slab.new }
+    ensures last { OnOk result (order.new.last ≡ number) }
 {
-    order.reserve(1)?;
-    let mut moved: usize = 0;
-    for _ in 0..4 {
-        let Some((key, at)) = order.pack() else {
-            break;
-        };
-        moved = moved.saturating_add(1);
-        if let Some(place) = places.get_mut(&(key as u64)) {
-            *place = at;
-        }
-    }
-    let at = order.push(Ino(number), number as usize);
-    places.insert(number, at)?;
-    Ok(moved)
-}
-
-/// A number goes, if it is there, by this place. Whether the order and the map say the same.
-fn go(order: &mut Order, places: &mut BTreeMap<u64, usize>, number: u64, at: usize) -> bool
-    ensures { order.new.last ≡ order.old.last }
-{
-    let key = order.remove(Ino(number), at);
-    key == places.remove(&number).map(|_| number as usize)
-}
-
-/// Whether the numbers of the order are those of the map, each with its key.
-fn agree(order: &Order, places: &BTreeMap<u64, usize>) -> bool {
-    let mut last = Ino(0);
-    for (number, _) in places {
-        let Some(file) = order.next_after(last) else {
-            return false;
-        };
-        if file.ino() != Ino(*number) || order.key_of(file.ino()) != Some(file.key()) {
-            return false;
-        }
-        last = file.ino();
-    }
-    order.next_after(last).is_none()
-}
-
-#[test]
-fn a_number_comes_and_goes(rt: HostRuntime) -> Result<(), Fail> {
-    let mut order = Order::new(rt.alloc());
-    order.reserve(2)?;
-    let first = order.push(Ino(3), 30);
-    let second = order.push(Ino(5), 50);
-    assert_eq!(rt; order.key_of(Ino(3)), Some(30));
-    assert_eq!(rt; order.key_of(Ino(4)), None);
-    assert_eq!(rt; order.next_after(Ino(3)).map(|file| file.key()), Some(50));
-    assert_eq!(rt; order.remove(Ino(3), first), Some(30));
-    assert_eq!(rt; order.remove(Ino(3), first), None);
-    assert_eq!(rt; order.remove(Ino(5), second), Some(50));
-    assert!(rt; order.next_after(Ino(0)).is_none());
-    assert!(rt; order.pack().is_none());
+    reserve(order, slab, 1)?;
+    put(order, slab, Ino(number), number);
     Ok(())
 }
 
-/// Most numbers go soon, one in seven stays long; some go by a wrong place. Each packing in turn is
-/// seen from within, since the two are compared all along.
+/// The value of a number goes, by a key under which it hardly ever stands. Whether it was there.
+fn go(order: &mut Order, slab: &mut Slab<Entry<u64>>, number: u64) -> bool
+    requires place { AreInPlace order.old.keys slab.old }
+    ensures place { AreInPlace order.new.keys slab.new }
+    ensures last { order.new.last ≡ order.old.last }
+{
+    take(order, slab, &FileRef::new(Ino(number), 3)) == Some(number)
+}
+
+/// Thousands of values come. Each seventh stays; the others go soon, so that most rows are dead and
+/// packing goes on all along. How many went.
+fn come_and_go(order: &mut Order, slab: &mut Slab<Entry<u64>>) -> Result<u64, AllocError>
+    requires place { AreInPlace order.old.keys slab.old }
+    requires first { order.old.last ≡ 0 }
+    ensures place { AreInPlace order.new.keys slab.new }
+{
+    let mut gone: u64 = 0;
+    for number in 1..MANY {
+        come(order, slab, number)?;
+        let recent = number.saturating_sub(5);
+        if recent % 7 != 0 && go(order, slab, recent) {
+            gone = gone.saturating_add(1);
+        }
+    }
+    Ok(gone)
+}
+
+/// How many rows a packing still moves, where all go but one in 49.
+fn pack_the_rest(order: &mut Order, slab: &mut Slab<Entry<u64>>) -> usize
+    requires place { AreInPlace order.old.keys slab.old }
+{
+    for number in 1..MANY {
+        if number % 49 != 0 {
+            go(order, slab, number);
+        }
+    }
+    let mut moved: usize = 0;
+    for _ in 0..MANY {
+        if order.pack().is_some() {
+            moved = moved.saturating_add(1);
+        }
+    }
+    moved
+}
+
+/// Under `rt try --test --fail-alloc N` the Nth allocation is refused: it is one of a reservation,
+/// which answers so, and none of a `put`, which could not.
 #[test]
 fn thousands_come_and_go(rt: HostRuntime) -> Result<(), Fail> {
     let mut order = Order::new(rt.alloc());
-    let mut places = BTreeMap::new(rt.alloc());
-    let mut moved: usize = 0;
-    for number in 1..5_000 {
-        moved = moved.saturating_add(come(&mut order, &mut places, number)?);
-        let recent = number.saturating_sub(5);
-        let at = places.get(&recent).copied().unwrap_or(3);
-        assert!(rt; recent % 7 == 0 || go(&mut order, &mut places, recent, at));
-        let wrong = (number % 50) as usize;
-        assert!(rt; go(&mut order, &mut places, number / 3, wrong));
-        assert!(rt; number % 64 != 0 || agree(&order, &places));
-    }
-    assert!(rt; agree(&order, &places));
-    assert!(rt; moved > 1_000);
-    for number in 1..5_000 {
-        let at = places.get(&number).copied().unwrap_or(0);
-        assert!(rt; go(&mut order, &mut places, number, at));
-    }
-    assert!(rt; agree(&order, &places));
+    let mut slab = Slab::new(rt.alloc());
+    let gone = come_and_go(&mut order, &mut slab)?;
+    assert_eq!(rt; gone, 4_281);
+    assert!(rt; pack_the_rest(&mut order, &mut slab) > 50);
+    assert_eq!(rt;
+        order.next_after(Ino(49)).map(|file| file.ino()),
+        Some(Ino(98))
+    );
     Ok(())
+}
+
+/// Each number comes and goes before the next comes. The last place that one had.
+fn one_at_a_time(order: &mut Order) -> Result<usize, AllocError>
+    requires first { order.old.last ≡ 0 }
+{
+    let mut last = 0;
+    for number in 1..MANY {
+        order.reserve(1)?;
+        last = order.push(Ino(number), 7);
+        order.remove(Ino(number), last);
+    }
+    Ok(last)
 }
 
 /// The newest number leaves nothing behind: its place is the first again.
 #[test]
 fn the_newest_leaves_nothing(rt: HostRuntime) -> Result<(), Fail> {
     let mut order = Order::new(rt.alloc());
-    for number in 1..2_000 {
-        order.reserve(1)?;
-        let at = order.push(Ino(number), 7);
-        assert_eq!(rt; at, 0);
-        assert_eq!(rt; order.remove(Ino(number), at), Some(7));
-    }
+    assert_eq!(rt; one_at_a_time(&mut order)?, 0);
     Ok(())
 }

@@ -29,12 +29,17 @@ check => check ok live 1 garbage 0
 }
 
 #[test]
-fn of_a_plain_file(rt: HostRuntime) -> Result<(), Fail> {
+fn of_a_plain_file_and_a_new_socket(rt: HostRuntime) -> Result<(), Fail> {
     let rows = "
 spawn 1000 3 => pid 1
 1 open => fd 0
 1 send 0 *0 => ENOTSOCK
 1 recv 0 0 0 => ENOTSOCK
+1 socket stream => fd 1
+1 send 1 *0 => EINVAL
+1 send 1 x => ENOTCONN
+1 recv 1 0 0 => EINVAL
+1 recv 1 1 0 => ENOTCONN
 ";
     plays(&rt, rows)
 }

@@ -1,4 +1,4 @@
-use Rattle.std.proofs.Common.{◌≡◌, ◌+◌, sym, ap, subst, refl, ◌∙◌}
+use Rattle.std.proofs.Common.{sym, ap, refl, ◌∙◌}
 use Rattle.std.specs.FinMap as map
 use Rattle.af_order.proofs.Keyed.{put_values, put_in_place}
 use Rattle.af_order.proofs.entry.put.Goals as goal

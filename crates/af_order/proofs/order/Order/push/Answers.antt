@@ -1,4 +1,4 @@
-use Rattle.std.proofs.Common.{◌<◌, ◌++◌, ◌∙◌, sym, ap, subst}
+use Rattle.std.proofs.Common.{rules, arith, ◌<◌, ◌++◌, ◌∙◌, sym, ap, subst}
 use Rattle.std.specs.FinMap as map
 use Rattle.af_order.specs.Rows.{live_of, AreRows}
 use Rattle.af_order.proofs.Moves.{new_number, push_keys, push_rows}
@@ -6,15 +6,16 @@ use Rattle.af_order.proofs.order.Order.push.Goals as goal
 
 pub invariant_of-self : goal.invariant_of-self
 invariant_of-self c =
-    let h = c.self.invariant in
+    let h = c.self.invariant.0 in
     let above : c.self.inside.last < c.args.ino = subst (λ a. a.last < c.args.ino) (sym c.self.view_is) c.requires.above in
     let kept = push_rows c.self.inside.packed.items c.self.inside.rows.items c.self.inside.read c.self.inside.last h c.args.ino c.args.key above in
-    subst (λ rows. AreRows c.self.inside.packed.items rows c.self.inside.read c.ino.inside.0) (sym c.push_reserved.ensures.items)
-    (subst (AreRows c.self.inside.packed.items _ c.self.inside.read) (sym c.ino.view_is) kept)
+    let rows_kept = subst (λ rows. AreRows c.self.inside.packed.items rows c.self.inside.read c.ino.inside.0) (sym c.push_reserved.ensures.items)
+    (subst (AreRows c.self.inside.packed.items _ c.self.inside.read) (sym c.ino.view_is) kept) in
+    (rows_kept, c.self.invariant.1, search (rules, arith))
 
 pub returns-clause-keys : goal.returns-clause-keys
 returns-clause-keys c =
-    let h = c.self.invariant in
+    let h = c.self.invariant.0 in
     let above : c.self.inside.last < c.args.ino = subst (λ a. a.last < c.args.ino) (sym c.self.view_is) c.requires.above in
     ap (λ rows. live_of (c.self.inside.packed.items ++ rows)) c.push_reserved.ensures.items
     ∙ push_keys c.self.inside.packed.items c.self.inside.rows.items c.self.inside.read c.self.inside.last h c.args.ino c.args.key above
@@ -22,7 +23,7 @@ returns-clause-keys c =
 
 pub returns-clause-new : goal.returns-clause-new
 returns-clause-new c =
-    let h = c.self.invariant in
+    let h = c.self.invariant.0 in
     let above : c.self.inside.last < c.args.ino = subst (λ a. a.last < c.args.ino) (sym c.self.view_is) c.requires.above in
     ap (λ a. map.get a.keys c.args.ino) (sym c.self.view_is)
     ∙ new_number c.self.inside.packed.items c.self.inside.rows.items c.self.inside.read c.self.inside.last h c.args.ino c.args.key above

@@ -1,4 +1,4 @@
-use Rattle.std.proofs.Common.{◌≡◌, ◌++◌, [], ◌∷◌, ◌∙◌, length, sym, ap, subst, arith}
+use Rattle.std.proofs.Common.{rules, ◌≡◌, ◌++◌, [], ◌∷◌, ◌∙◌, length, sym, ap, subst, arith}
 use Rattle.std.specs.Prelude.{Some}
 use Rattle.std.specs.FinMap as map
 use Rattle.std.proofs.lemmas.List.{length_push}
@@ -23,11 +23,12 @@ last_row c =
     last_is c.take_last.new.self.items c.take_last.result c.args.ino c.in-Some-Waiting.at (live_last c) at
 
 whole : (c : goal.After-take_last) → AreRows c.self.inside.packed.items (c.take_last.new.self.items ++ c.take_last.result ∷ []) c.self.inside.read c.self.inside.last
-whole c = subst (λ rows. AreRows c.self.inside.packed.items rows c.self.inside.read c.self.inside.last) c.take_last.ensures.items c.self.invariant
+whole c = subst (λ rows. AreRows c.self.inside.packed.items rows c.self.inside.read c.self.inside.last) c.take_last.ensures.items c.self.invariant.0
 
 pub invariant_of-self : goal.invariant_of-self
 invariant_of-self c =
-    pop_rows c.self.inside.packed.items c.take_last.new.self.items c.take_last.result c.self.inside.read c.self.inside.last (live_last c).0 (whole c) (ap (λ r. r.key) (last_row c))
+    let popped = pop_rows c.self.inside.packed.items c.take_last.new.self.items c.take_last.result c.self.inside.read c.self.inside.last (live_last c).0 (whole c) (ap (λ r. r.key) (last_row c)) in
+    (popped, c.self.invariant.1, search (rules, arith))
 
 pub returns-then-at-len-clause-value : goal.returns-then-at-len-clause-value
 returns-then-at-len-clause-value c =
@@ -50,18 +51,19 @@ waiting c = subst (λ rows. IsLiveAt rows c.args.ino c.in-Some-Waiting.at) c.der
 pub invariant_of-self-in-Some-Waiting : goal.invariant_of-self-in-Some-Waiting
 invariant_of-self-in-Some-Waiting c =
     let number = read_number c.self.inside.rows.items c.args.ino c.in-Some-Waiting.at c.index_mut.result.now (waiting c) c.index_mut.ensures.value in
-    mark_waiting_rows c.self.inside.packed.items c.self.inside.rows.items c.self.inside.read c.self.inside.last c.self.invariant c.args.ino c.in-Some-Waiting.at (waiting c) (record { ino = c.index_mut.result.now.ino; key = c.take.new.self }) number c.take.ensures.after
+    let marked = mark_waiting_rows c.self.inside.packed.items c.self.inside.rows.items c.self.inside.read c.self.inside.last c.self.invariant.0 c.args.ino c.in-Some-Waiting.at (waiting c) (record { ino = c.index_mut.result.now.ino; key = c.take.new.self }) number c.take.ensures.after in
+    (marked, c.self.invariant.1, search (rules, arith))
 
 pub returns-else-at-len-clause-value : goal.returns-else-at-len-clause-value
 returns-else-at-len-clause-value c =
     c.take.ensures.value ∙ read_key c.self.inside.rows.items c.args.ino c.in-Some-Waiting.at c.index_mut.result.now (waiting c) c.index_mut.ensures.value
-    ∙ waiting_key c.self.inside.packed.items c.self.inside.rows.items c.self.inside.read c.self.inside.last c.self.invariant c.args.ino c.in-Some-Waiting.at (waiting c)
+    ∙ waiting_key c.self.inside.packed.items c.self.inside.rows.items c.self.inside.read c.self.inside.last c.self.invariant.0 c.args.ino c.in-Some-Waiting.at (waiting c)
     ∙ ap (λ a. map.get a.keys c.args.ino) c.self.view_is
 
 pub returns-else-at-len-clause-keys : goal.returns-else-at-len-clause-keys
 returns-else-at-len-clause-keys c =
     let number = read_number c.self.inside.rows.items c.args.ino c.in-Some-Waiting.at c.index_mut.result.now (waiting c) c.index_mut.ensures.value in
-    mark_waiting c.self.inside.packed.items c.self.inside.rows.items c.self.inside.read c.self.inside.last c.self.invariant c.args.ino c.in-Some-Waiting.at (waiting c) (record { ino = c.index_mut.result.now.ino; key = c.take.new.self }) number c.take.ensures.after
+    mark_waiting c.self.inside.packed.items c.self.inside.rows.items c.self.inside.read c.self.inside.last c.self.invariant.0 c.args.ino c.in-Some-Waiting.at (waiting c) (record { ino = c.index_mut.result.now.ino; key = c.take.new.self }) number c.take.ensures.after
     ∙ ap (λ a. map.remove a.keys c.args.ino) c.self.view_is
 
 -- It is live among the packed ones.
@@ -71,16 +73,17 @@ packed c = subst (λ rows. IsLiveAt rows c.args.ino c.in-Some-Packed.at) c.deref
 pub invariant_of-self-in-Some-Packed : goal.invariant_of-self-in-Some-Packed
 invariant_of-self-in-Some-Packed c =
     let number = read_number c.self.inside.packed.items c.args.ino c.in-Some-Packed.at c.index_mut-in-Some-Packed.result.now (packed c) c.index_mut-in-Some-Packed.ensures.value in
-    mark_packed_rows c.self.inside.packed.items c.self.inside.rows.items c.self.inside.read c.self.inside.last c.self.invariant c.args.ino c.in-Some-Packed.at (packed c) (record { ino = c.index_mut-in-Some-Packed.result.now.ino; key = c.take-in-Some-Packed.new.self }) number c.take-in-Some-Packed.ensures.after
+    let marked = mark_packed_rows c.self.inside.packed.items c.self.inside.rows.items c.self.inside.read c.self.inside.last c.self.invariant.0 c.args.ino c.in-Some-Packed.at (packed c) (record { ino = c.index_mut-in-Some-Packed.result.now.ino; key = c.take-in-Some-Packed.new.self }) number c.take-in-Some-Packed.ensures.after in
+    (marked, search (rules, arith), search (rules, arith))
 
 pub returns-in-Some-Packed-clause-value : goal.returns-in-Some-Packed-clause-value
 returns-in-Some-Packed-clause-value c =
     c.take-in-Some-Packed.ensures.value ∙ read_key c.self.inside.packed.items c.args.ino c.in-Some-Packed.at c.index_mut-in-Some-Packed.result.now (packed c) c.index_mut-in-Some-Packed.ensures.value
-    ∙ packed_key c.self.inside.packed.items c.self.inside.rows.items c.self.inside.read c.self.inside.last c.self.invariant c.args.ino c.in-Some-Packed.at (packed c)
+    ∙ packed_key c.self.inside.packed.items c.self.inside.rows.items c.self.inside.read c.self.inside.last c.self.invariant.0 c.args.ino c.in-Some-Packed.at (packed c)
     ∙ ap (λ a. map.get a.keys c.args.ino) c.self.view_is
 
 pub returns-in-Some-Packed-clause-keys : goal.returns-in-Some-Packed-clause-keys
 returns-in-Some-Packed-clause-keys c =
     let number = read_number c.self.inside.packed.items c.args.ino c.in-Some-Packed.at c.index_mut-in-Some-Packed.result.now (packed c) c.index_mut-in-Some-Packed.ensures.value in
-    mark_packed c.self.inside.packed.items c.self.inside.rows.items c.self.inside.read c.self.inside.last c.self.invariant c.args.ino c.in-Some-Packed.at (packed c) (record { ino = c.index_mut-in-Some-Packed.result.now.ino; key = c.take-in-Some-Packed.new.self }) number c.take-in-Some-Packed.ensures.after
+    mark_packed c.self.inside.packed.items c.self.inside.rows.items c.self.inside.read c.self.inside.last c.self.invariant.0 c.args.ino c.in-Some-Packed.at (packed c) (record { ino = c.index_mut-in-Some-Packed.result.now.ino; key = c.take-in-Some-Packed.new.self }) number c.take-in-Some-Packed.ensures.after
     ∙ ap (λ a. map.remove a.keys c.args.ino) c.self.view_is

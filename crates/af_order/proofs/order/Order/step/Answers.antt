@@ -1,5 +1,5 @@
 use Rattle.std.proofs.Common.{rules, ◌≡◌, ◌<◌, ◌+◌, ◌++◌, [], ◌∷◌, ◌∙◌, length, set, refl, sym, ap, subst, arith}
-use Rattle.std.specs.Prelude.{Some, None, if◌then◌else◌}
+use Rattle.std.specs.Prelude.{Some, None}
 use Rattle.af_order.specs.declared.order.Row.{Row}
 use Rattle.af_order.specs.Rows.{live_of, AreRows, IsLiveAt}
 use Rattle.af_order.proofs.Searches.{read_here, read_number, row_is}
@@ -14,20 +14,20 @@ live c =
     (c.in-Some.key, l, row_is c.self.inside.rows.items c.self.inside.read c.in-Some.key c.index-row.result.now is c.in-Some.is)
 
 -- It went to the end of the packed ones.
-pushed : (c : goal.After-self-3-1) → c.push.new.self.items ≡ c.self.inside.packed.items ++ record { ino = c.index-row.result.now.ino; key = Some (live c).0 } ∷ []
+pushed : (c : goal.After-self-3-1) → c.push_reserved.new.self.items ≡ c.self.inside.packed.items ++ record { ino = c.index-row.result.now.ino; key = Some (live c).0 } ∷ []
 unfolding live
 pushed c =
-    c.push.ensures.items
-    ∙ ap (λ b. if b then c.self.inside.packed.items ++ c.index-row.result.now ∷ [] else c.self.inside.packed.items) c.if-is_err.ensures.negation
+    c.push_reserved.ensures.items
     ∙ ap (λ o. c.self.inside.packed.items ++ record { ino = c.index-row.result.now.ino; key = o } ∷ []) c.in-Some.is
 
-pub invariant_of-self-2 : goal.invariant_of-self-2
-invariant_of-self-2 c =
+pub invariant_of-self : goal.invariant_of-self
+invariant_of-self c =
     let x = live c in
     let dead : Row = record { ino = c.index_mut.result.now.ino; key = None } in
     let number = read_number c.self.inside.rows.items c.index-row.result.now.ino c.self.inside.read c.index_mut.result.now x c.index_mut.ensures.value in
-    subst (λ xs. AreRows xs (set c.self.inside.rows.items c.self.inside.read dead) (c.self.inside.read + 1) c.self.inside.last) (sym (pushed c))
-    (move_rows c.self.inside.packed.items c.self.inside.rows.items c.self.inside.read c.self.inside.last c.self.invariant c.index-row.result.now.ino x dead number refl)
+    let moved = subst (λ xs. AreRows xs (set c.self.inside.rows.items c.self.inside.read dead) (c.self.inside.read + 1) c.self.inside.last) (sym (pushed c))
+    (move_rows c.self.inside.packed.items c.self.inside.rows.items c.self.inside.read c.self.inside.last c.self.invariant.0 c.index-row.result.now.ino x dead number refl) in
+    (moved, search (rules, arith), search (rules, arith))
 
 pub returns-clause-keys : goal.returns-clause-keys
 returns-clause-keys c =
@@ -35,5 +35,5 @@ returns-clause-keys c =
     let dead : Row = record { ino = c.index_mut.result.now.ino; key = None } in
     let number = read_number c.self.inside.rows.items c.index-row.result.now.ino c.self.inside.read c.index_mut.result.now x c.index_mut.ensures.value in
     ap (λ xs. live_of (xs ++ set c.self.inside.rows.items c.self.inside.read dead)) (pushed c)
-    ∙ move_keys c.self.inside.packed.items c.self.inside.rows.items c.self.inside.read c.self.inside.last c.self.invariant c.index-row.result.now.ino x dead number refl
+    ∙ move_keys c.self.inside.packed.items c.self.inside.rows.items c.self.inside.read c.self.inside.last c.self.invariant.0 c.index-row.result.now.ino x dead number refl
     ∙ ap (λ a. a.keys) c.self.view_is
