@@ -1,4 +1,4 @@
-//! Worked reports, and the engine beside the recount. More of them are tests of `scm_run`, as text.
+//! Worked reports, and the engine beside the recount. More of them are cases of `scm_cases`.
 use crate::{check, table, totals};
 use af_base::events::{Event, Reply, SockType, Step};
 use af_base::items::Items;

@@ -1,11 +1,5 @@
-//! Whole runs over memory, and streams that fail.
+//! What no case of `scm_cases` can show: streams that fail, and scripts that are long or no text.
+mod faults;
 mod lines;
-mod listeners;
-mod many;
-mod plays;
-mod refusals;
-mod rows;
-mod runs;
-mod slices;
+mod long;
 mod streams;
-mod tables;

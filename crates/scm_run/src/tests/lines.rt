@@ -1,55 +1,48 @@
-//! Lines that can be read, and lines that cannot.
-use super::plays::{ends, prints};
+//! Lines that are too long to be cases, and bytes that are no text.
+use super::streams::{AMPLE, Pace, run_over};
 use crate::fault::RunFault;
+use scm_lines::line::MAX_LINE;
 use std::alloc::AllocGlobal;
 use std::process::Abort;
+use std::test::Fail;
 
-#[test]
-fn reports_of_nothing(rt: HostRuntime) {
-    ends(
-        &rt,
-        b"totals\ncheck\n\tpass \r\n",
-        b"check ok live 0 garbage 0\npass 1 reclaimed 0\n",
-        Ok(1),
-    );
-}
-
-/// The first line cannot be read.
-fn is_unreadable<T: Abort + AllocGlobal>(rt: &T, script: &[u8]) {
-    ends(rt, script, b"", Err(RunFault::Unreadable(1)));
-}
-
-#[test]
-fn cannot_read_these_lines(rt: HostRuntime) {
-    is_unreadable(&rt, b"spawn 01 4\n");
-    is_unreadable(&rt, b"spawn 4294967296 4\n");
-    is_unreadable(&rt, b"spawn 1 4 root\n");
-    is_unreadable(&rt, b"spawn 1\n");
-    is_unreadable(&rt, b"1 pair dgram\n");
-    is_unreadable(&rt, b"1 send 0\n");
-    is_unreadable(&rt, b"1 send 0 a%2\n");
-    is_unreadable(&rt, b"1 send 0 a%2G\n");
-    is_unreadable(&rt, b"1 send 0 *65538\n");
-    is_unreadable(&rt, b"1 send 0 a 0*0\n");
-    is_unreadable(&rt, b"1 send 0 a 0*1024 0\n");
-    is_unreadable(&rt, b"1 close 0 0\n");
-    is_unreadable(&rt, b"pass\r\r\n");
+/// A line as long as a line may be, with this behind it, ends a run so.
+fn after_a_long_line<T: Abort + AllocGlobal>(
+    rt: &T,
+    ending: &[u8],
+    end: Result<u64, RunFault>,
+) -> Result<(), Fail> {
+    let mut line = vec![in rt.alloc(); b' '; MAX_LINE]?;
+    line.extend_from_slice(ending)?;
+    assert_eq!(rt; run_over(rt, line.as_slice(), b"", AMPLE, AMPLE), end);
+    Ok(())
 }
 
 #[test]
-fn reads_these_lines(rt: HostRuntime) {
-    prints(&rt, b"spawn 4294967295 0", b"pid 1\n");
-    prints(&rt, b"\tspawn 1 4 \r\n", b"pid 1\n");
-    prints(&rt, b"1 send 0 a 0*1024", b"ESRCH\n");
-    prints(&rt, b"#\xff\n1 close 0\n", b"ESRCH\n");
+fn the_longest_line(rt: HostRuntime) -> Result<(), Fail> {
+    after_a_long_line(&rt, b"", Ok(0))?;
+    after_a_long_line(&rt, b"\n", Ok(0))?;
+    after_a_long_line(&rt, b"\r\n", Ok(0))?;
+    after_a_long_line(&rt, b" ", Err(RunFault::Unreadable(1)))?;
+    after_a_long_line(&rt, b" \r\n", Err(RunFault::Unreadable(1)))?;
+    after_a_long_line(&rt, b"\r \n", Err(RunFault::Unreadable(1)))
 }
 
+/// A line that is too long is refused before it is read whole.
 #[test]
-fn stops_at_an_unknown_first_word(rt: HostRuntime) {
-    ends(
-        &rt,
-        b"pass\nwalk 2\n",
-        b"pass 1 reclaimed 0\n",
-        Err(RunFault::Unreadable(2)),
-    );
+fn refuses_a_long_line_at_once(rt: HostRuntime) -> Result<(), Fail> {
+    let line = vec![in rt.alloc(); b'x'; MAX_LINE + 1]?;
+    for (at_once, calls) in [(1, MAX_LINE + 1), (4_096, MAX_LINE / 4_096 + 1)] {
+        let reading = Pace { at_once, calls };
+        let end = run_over(&rt, line.as_slice(), b"", reading, AMPLE);
+        assert_eq!(rt; end, Err(RunFault::Unreadable(1)));
+    }
+    Ok(())
+}
+
+/// A comment may have bytes that are no text.
+#[test]
+fn bytes_of_a_comment(rt: HostRuntime) {
+    let end = run_over(&rt, b"#\xff\n1 close 0\n#\xff", b"ESRCH\n", AMPLE, AMPLE);
+    assert_eq!(rt; end, Ok(1));
 }

@@ -1,6 +1,11 @@
-//! Readers and writers that do little at a time, and fail.
+//! Readers and writers that do little at a time, and fail; and runs over them.
+use crate::fault::RunFault;
+use crate::run::run_script;
+use scm_watched::watched::Watched;
+use std::alloc::AllocGlobal;
 use std::io;
 use std::io::{ErrorKind, Read, Write};
+use std::process::Abort;
 
 /// How many bytes a stream gives or takes a call, at most, and after how many calls it fails.
 #[derive(Clone, Copy)]
@@ -57,4 +62,28 @@ impl Write for PacedWriter {
     fn flush(&mut self) -> io::Result<()> {
         Ok(())
     }
+}
+
+/// Runs the script over streams of this pace. It writes this, and just the stream that ended the run
+/// is one that failed.
+pub fn run_over<T: Abort + AllocGlobal>(
+    rt: &T,
+    script: &[u8],
+    texts: &[u8],
+    reading: Pace,
+    writing: Pace,
+) -> Result<u64, RunFault> {
+    let mut input = Watched::new(PacedReader {
+        bytes: script,
+        pace: reading,
+    });
+    let mut output = Watched::new(PacedWriter {
+        held: Vec::new(rt.alloc()),
+        pace: writing,
+    });
+    let end = run_script(rt.alloc(), &mut input, &mut output);
+    assert!(rt; output.inner().held.as_slice() == texts);
+    assert_eq!(rt; input.failed(), end == Err(RunFault::Read));
+    assert_eq!(rt; output.failed(), end == Err(RunFault::Write));
+    end
 }

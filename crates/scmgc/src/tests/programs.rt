@@ -51,52 +51,8 @@ fn run(alloc: Global, words: &[&str], script: &[u8]) -> Result<Answer, AllocErro
     })
 }
 
-/// A cycle of one socket, whose descriptor is received again.
-const SCRIPT: &[u8] = b"spawn 1000 16
-1 pair seqpacket
-1 send 1 hi 0
-1 recv 0 10 8
-1 close 0
-1 close 2
-1 send 1 x
-";
-
-#[test]
-fn runs_a_script(rt: HostRuntime) -> Result<(), Fail> {
-    let all = run(rt.alloc(), ["scmgc", "run"].as_slice(), SCRIPT)?;
-    assert_eq!(rt; all.status, 0);
-    assert_eq!(rt;
-        all.output.as_slice(),
-        b"pid 1\nfds 0 1\nsent 2\ngot hi fds 2\nok\nok\nEPIPE\n".as_slice()
-    );
-    assert_eq!(rt; all.errors.as_slice(), b"".as_slice());
-    Ok(())
-}
-
-#[test]
-fn runs_an_empty_script(rt: HostRuntime) -> Result<(), Fail> {
-    let all = run(rt.alloc(), ["scmgc", "run"].as_slice(), b"".as_slice())?;
-    assert_eq!(rt; all.status, 0);
-    assert_eq!(rt; all.output.as_slice(), b"".as_slice());
-    assert_eq!(rt; all.errors.as_slice(), b"".as_slice());
-    Ok(())
-}
-
-#[test]
-fn names_the_line_that_cannot_be_read(rt: HostRuntime) -> Result<(), Fail> {
-    let all = run(
-        rt.alloc(),
-        ["scmgc", "run"].as_slice(),
-        b"spawn 1000 16\n1 pai".as_slice(),
-    )?;
-    assert_eq!(rt; all.status, 2);
-    assert_eq!(rt; all.output.as_slice(), b"pid 1\n".as_slice());
-    assert_eq!(rt;
-        all.errors.as_slice(),
-        b"scmgc: line 2 cannot be read\n".as_slice()
-    );
-    Ok(())
-}
+/// One line, and so one reply.
+const SCRIPT: &[u8] = b"spawn 1000 16\n";
 
 #[test]
 fn reads_a_script_cut_anywhere(rt: HostRuntime) -> Result<(), Fail> {

@@ -1,0 +1,25 @@
+//! A case: a name and a script.
+ghost use Rattle.std.specs.Prelude.{◌≡◌, ◌==◌};
+ghost use Rattle.std.specs.List.{after_first, before_first};
+
+/// What stands before the name of each case: the end of a line, and the beginning of the next.
+pub const BEFORE_NAME: &str = "\n== ";
+
+/// A case of a list.
+#[derive(Clone, Copy, Debug)]
+pub struct Case<'a> {
+    pub name: &'a str,
+    pub script: &'a str,
+}
+
+impl<'a> Case<'a> {
+    /// The case that stands in a list behind `BEFORE_NAME`: its first line is the name, and the rest
+    /// is the script.
+    pub fn of(text: &'a str) -> Self
+        ensures name { result.name.now ≡ before_first (λ b. b == 10) text.now }
+        ensures script { result.script.now ≡ after_first (λ b. b == 10) text.now }
+    {
+        let (name, script) = text.split_once('\n').unwrap_or((text, ""));
+        Case { name, script }
+    }
+}

@@ -1,0 +1,42 @@
+//! Runs a list of scripts, each from the fresh machine, and writes what they answer.
+//!
+//! Standard input is a list of cases. A line that begins with `== ` names a case, and the lines behind
+//! it, up to the next such line, are its script. What stands before the first name is a note.
+//! Standard output has the note, and for each case its name line, what its script answers and, where
+//! the script stopped, a line that begins with `-- ` and says why.
+#![tactic(auto)]
+
+mod case;
+
+use crate::case::{BEFORE_NAME, Case};
+use scm_run::run::run_script;
+use scm_watched::watched::Watched;
+use std::alloc::Global;
+use std::io;
+use std::io::{BufWriter, Write};
+
+fn main(rt: HostRuntime) -> io::Result<()> {
+    let list = io::read_to_string(rt.alloc(), rt.stdin())?;
+    let mut output = BufWriter::new(rt.alloc(), rt.stdout())?;
+    let mut parts = list.split(BEFORE_NAME);
+    if let Some(note) = parts.next() {
+        write!(output, "{note}")?;
+    }
+    for part in parts {
+        let case = Case::of(part);
+        writeln!(output, "{BEFORE_NAME}{}", case.name)?;
+        play(rt.alloc(), case.script, &mut output)?;
+    }
+    output.flush()
+}
+
+/// Runs a script, and writes what it answers and, where it stopped, why.
+fn play<W: Write>(alloc: Global, script: &str, output: &mut W) -> io::Result<()> {
+    let mut input = Watched::new(script.as_bytes());
+    let mut watched = Watched::new(&mut *output);
+    let end = run_script(alloc, &mut input, &mut watched);
+    if let Err(fault) = end {
+        writeln!(output, "-- {fault}")?;
+    }
+    Ok(())
+}
