@@ -1,0 +1,3 @@
+-- Lemmas.
+pub mod Own
+pub mod Words

@@ -1,0 +1,3 @@
+-- The workload of a race, as this project's profile has it.
+pub mod Table
+pub mod Script
