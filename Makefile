@@ -1,13 +1,19 @@
 # make          build the program
-# make run      run the example script
-# make test     the gate: every proof from nothing, the wrong bodies, the tests
+# make try      play the example script unproved: a minute after a fresh clone
+# make run      play the example script by the proved program
+# make check    before a commit: prove what has changed and all above it, and play the cases
+# make test     the gate: every proof from nothing, the tests, the cases, the wrong bodies
 # make bench    nanoseconds for each event, over named workloads
 # make install  put the program below PREFIX
+# make clean    remove all that was built, and the work that checks keep
 
 PROGRAM := crates/scmgc/out/scmgc
 PREFIX ?= /usr/local
 
 all: build
+
+try:
+	cd crates/scmgc && rt try -- run < ../../examples/cycle.script
 
 # An empty script does nothing; asking for its run proves, builds and links the program.
 build:
@@ -16,8 +22,13 @@ build:
 run: build
 	$(PROGRAM) run < examples/cycle.script
 
+check:
+	rt all check
+	cd crates/scm_cases && rt run < stdin | cmp - stdout
+
+# Where the time went, crate by crate, stands in out/times.md after it.
 test:
-	rt ci
+	tools/gate-times out/times.md tools/gate
 
 bench:
 	cd crates/af_bench && rt run
@@ -27,6 +38,6 @@ install: build
 	install -D $(PROGRAM) $(DESTDIR)$(PREFIX)/bin/scmgc
 
 clean:
-	rm -rf crates/*/out
+	rm -rf out crates/*/out
 
-.PHONY: all build run test bench install clean
+.PHONY: all try build run check test bench install clean

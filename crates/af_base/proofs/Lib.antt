@@ -26,6 +26,7 @@ pub mod Within
 pub mod Opened
 pub mod Connections
 pub mod Ended
+pub mod Limited
 pub mod Replaced
 pub mod Sound
 pub mod Stepped

@@ -61,6 +61,11 @@ step_same (step.Recv x z t) (step.Recv y w u) e =
     let h = both _ _ e in
     let k = both _ _ h.1 in
     λ i. step.Recv (eqb-true x y h.0 i) (eqb-true z w k.0 i) (eqb-true t u k.1 i)
+step_same (step.Peek x z t) (step.Peek y w u) e =
+    let h = both _ _ e in
+    let k = both _ _ h.1 in
+    λ i. step.Peek (eqb-true x y h.0 i) (eqb-true z w k.0 i) (eqb-true t u k.1 i)
+step_same (step.Limit x) (step.Limit y) e = ap step.Limit (eqb-true x y e)
 step_same a b e = absurd (false≢true e)
 
 pub step_itself : (a : Step) → step_eq.ghosts.eq a a ≡ true
@@ -80,6 +85,8 @@ step_itself (step.Connect x z) = each _ _ (number_itself x) (list_itself z)
 step_itself (step.Accept x) = number_itself x
 step_itself (step.Send x z t) = each _ _ (number_itself x) (each _ _ (list_itself z) (list_itself t))
 step_itself (step.Recv x z t) = each _ _ (number_itself x) (each _ _ (number_itself z) (number_itself t))
+step_itself (step.Peek x z t) = each _ _ (number_itself x) (each _ _ (number_itself z) (number_itself t))
+step_itself (step.Limit x) = number_itself x
 
 pub event_same : (a b : Event) → event_eq.ghosts.eq a b ≡ true → a ≡ b
 event_same (event.Spawn x z t) (event.Spawn y w u) e =

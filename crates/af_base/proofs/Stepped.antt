@@ -32,14 +32,15 @@ use Rattle.af_base.proofs.Opened.{blank-idle, blank-plain, whole-opened, within-
 use Rattle.af_base.proofs.Connections.{live-embryo, whole-accepted, whole-bound, whole-embryo, whole-listening, within-accepted, within-bound, within-embryo, within-listening}
 use Rattle.af_base.proofs.Named.{named-none}
 use Rattle.af_base.proofs.Ended.{whole-remove_process, within-remove_process}
+use Rattle.af_base.proofs.Limited.{whole-limited, within-limited}
 use Rattle.af_base.proofs.Pairs.{whole-paired}
 use Rattle.af_base.proofs.Same.{both}
 use Rattle.af_base.proofs.Sound.{sound-settles}
 use Rattle.af_base.proofs.Trees.{insert_same}
 use Rattle.af_base.proofs.Born.{whole-add_process, whole-spawned}
 use Rattle.af_base.proofs.Takes.{leaves-taken}
-use Rattle.af_base.proofs.Whole.{not_connected, whole-install, whole-push, whole-take, whole-uninstall}
-use Rattle.af_base.proofs.Within.{neither, socket_same, within-add_process, within-install, within-paired, within-push, within-spawned, within-take, within-uninstall}
+use Rattle.af_base.proofs.Whole.{live-taken, not_connected, whole-install, whole-install_all, whole-push, whole-take, whole-uninstall}
+use Rattle.af_base.proofs.Within.{below-most, neither, socket_same, within-add_process, within-install, within-install_all, within-paired, within-push, within-spawned, within-take, within-uninstall}
 
 -- A test that does not fit, and what follows it.
 pub record Passed (test : Bool) (Rest : Type 0) : Type 0 where
@@ -159,9 +160,11 @@ fits-pair w p kind k at row =
     let two = ltb-false (length (free_numbers (process_at w p))) 2 row.here in
     (whole-paired w kind p (free_at w p 0) (free_at w p 1) k.0, within-paired w kind p (free_at w p 0) (free_at w p 1) (process_at w p) k.1 row.rest.here at (free.low 0 0 (omega (arith, two))) (free.low 1 0 (omega (arith, two))))
 
--- The lowest free number of a process that has one is below its limit.
-lowest-below : (w : World) (p : ℕ) → is_short (process_at w p) 1 ≡ false → free_at w p 0 < (process_at w p).limit
-lowest-below w p some = (free-free_numbers (process_at w p)).low 0 0 (let one = ltb-false (length (free_numbers (process_at w p))) 1 some in omega (arith, one))
+-- The lowest free number of a process that has one is below the largest limit.
+lowest-below : (w : World) (p : ℕ) → IsWithin w → map.get w.processes p ≡ Some (process_at w p) → is_short (process_at w p) 1 ≡ false → free_at w p 0 < MAX_NOFILE
+lowest-below w p k at some =
+    let one = ltb-false (length (free_numbers (process_at w p))) 1 some in
+    below-most w p (free_at w p 0) (process_at w p) k at ((free-free_numbers (process_at w p)).low 0 0 (omega (arith, one)))
 
 -- What a number stands for is live.
 live-on : (w : World) (p n : ℕ) → IsWhole w → is_none (table_at w p n) ≡ false → IsLive w (ino_on w p n)
@@ -174,14 +177,14 @@ live-on w p n k = by (table_at w p n) refl where
 fits-open : (w : World) (p : ℕ) → Fits w → map.get w.processes p ≡ Some (process_at w p) → NoneFits (step_row w p step.Open) → Fits (effect w p step.Open)
 fits-open w p k at row = (
   whole-opened w Plain blank-plain p (free_at w p 0) refl k.0,
-  within-install (add_file w Plain) p (free_at w p 0) w.next_ino (process_at w p) (within-plain w k.1 row.rest.here) at (lowest-below w p row.here),
+  within-install (add_file w Plain) p (free_at w p 0) w.next_ino (within-plain w k.1 row.rest.here) (lowest-below w p k.1 at row.here),
 )
 
 -- A socket more fits.
 fits-socket : (w : World) (p : ℕ) (kind : SockType) → Fits w → map.get w.processes p ≡ Some (process_at w p) → NoneFits (step_row w p (step.Socket kind)) → Fits (effect w p (step.Socket kind))
 fits-socket w p kind k at row = (
   whole-opened w (AsSocket (idle_socket kind)) (blank-idle kind) p (free_at w p 0) refl k.0,
-  within-install (add_file w (AsSocket (idle_socket kind))) p (free_at w p 0) w.next_ino (process_at w p) (within-blank w (idle_socket kind) k.1 row.rest.here refl refl refl refl) at (lowest-below w p row.here),
+  within-install (add_file w (AsSocket (idle_socket kind))) p (free_at w p 0) w.next_ino (within-blank w (idle_socket kind) k.1 row.rest.here refl refl refl refl) (lowest-below w p k.1 at row.here),
 )
 
 -- A socket that got a name fits.
@@ -232,7 +235,7 @@ fits-accept w p n k at row =
     let waits = row.rest.rest.rest in
     let live = live-embryo w f (first_embryo w p n) s k.0 there (first-waits s.backlog waits.here) in (
       whole-install (with_socket w f dequeued) p (free_at w p 0) (first_embryo w p n) (whole-accepted w f s there k.0) (live-changed w f dequeued (first_embryo w p n) ∙ live),
-      within-install (with_socket w f dequeued) p (free_at w p 0) (first_embryo w p n) (process_at w p) (within-accepted w f s k.1 there) at (lowest-below w p waits.rest.here),
+      within-install (with_socket w f dequeued) p (free_at w p 0) (first_embryo w p n) (within-accepted w f s k.1 there) (lowest-below w p k.1 at waits.rest.here),
     ) where
       first-waits : (fs : List ℕ) → nat_eq (length fs) 0 ≡ false → Contains fs (unwrap_or (slice_get fs 0) 0)
       first-waits [] e = absurd (false≢true (sym e))
@@ -240,14 +243,14 @@ fits-accept w p n k at row =
 
 -- A number more for what one stands for fits.
 fits-dup : (w : World) (p n : ℕ) → Fits w → map.get w.processes p ≡ Some (process_at w p) → NoneFits (step_row w p (step.Dup n)) → Fits (effect w p (step.Dup n))
-fits-dup w p n k at row = (whole-install w p (free_at w p 0) (ino_on w p n) k.0 (live-on w p n k.0 row.here), within-install w p (free_at w p 0) (ino_on w p n) (process_at w p) k.1 at (lowest-below w p row.rest.here))
+fits-dup w p n k at row = (whole-install w p (free_at w p 0) (ino_on w p n) k.0 (live-on w p n k.0 row.here), within-install w p (free_at w p 0) (ino_on w p n) k.1 (lowest-below w p k.1 at row.rest.here))
 
 -- A number in place of another fits.
 fits-dup2 : (w : World) (p n m : ℕ) → Fits w → map.get w.processes p ≡ Some (process_at w p) → NoneFits (step_row w p (step.Dup2 n m)) → Fits (effect w p (step.Dup2 n m))
 fits-dup2 w p n m k at row = by (nat_eq m n) row.rest.here where
   by : (b : Bool) → (not b && nat_le (process_at w p).limit m) ≡ false → Fits (if b then w else install w p m (ino_on w p n))
   by true e = k
-  by false e = (whole-install w p m (ino_on w p n) k.0 (live-on w p n k.0 row.here), within-install w p m (ino_on w p n) (process_at w p) k.1 at (leb-false (process_at w p).limit m e))
+  by false e = (whole-install w p m (ino_on w p n) k.0 (live-on w p n k.0 row.here), within-install w p m (ino_on w p n) k.1 (below-most w p m (process_at w p) k.1 at (leb-false (process_at w p).limit m e)))
 
 -- A child fits.
 fits-fork : (w : World) (p : ℕ) → Fits w → map.get w.processes p ≡ Some (process_at w p) → NoneFits (step_row w p step.Fork) → Fits (effect w p step.Fork)
@@ -294,6 +297,17 @@ fits-recv w p n max_bytes max_fds k at row =
     let ns = lowest_free (min (length taken.attached) max_fds) (process_at w p) in
     (whole-take w (ino_on w p n) s taken.attached taken.rest p ns k.0 there left, within-take w (ino_on w p n) s taken.attached taken.rest p (process_at w p) ns k.1 there left at free)
 
+-- What was looked at fits, with the numbers that it was installed at.
+fits-peek : (w : World) (p n max_bytes max_fds : ℕ) → Fits w → map.get w.processes p ≡ Some (process_at w p) → NoneFits (step_row w p (step.Peek n max_bytes max_fds)) → Fits (effect w p (step.Peek n max_bytes max_fds))
+fits-peek w p n max_bytes max_fds k at row =
+    let s = socket_on w p n in
+    let there = socket-there w p n row.here row.rest.here in
+    let taken = take_from s.kind s.queue max_bytes in
+    let left = leaves-taken s.kind s.queue max_bytes (k.1.sockets (ino_on w p n) s there).messages in
+    let free = free-lowest_free (min (length taken.attached) max_fds) (process_at w p) in
+    let ns = lowest_free (min (length taken.attached) max_fds) (process_at w p) in
+    (whole-install_all w p ns taken.attached k.0 (live-taken w (ino_on w p n) s taken.attached taken.rest k.0 there left), within-install_all w p (process_at w p) ns taken.attached k.1 at free)
+
 -- What a step that nothing refuses leaves is whole and within the limits, before it settles.
 pub fits-effect : (w : World) (p : ℕ) (s : Step) → IsWhole w → IsWithin w → refusal w p s ≡ None → IsWhole (effect w p s) × IsWithin (effect w p s)
 fits-effect w p s whole within none =
@@ -314,6 +328,8 @@ fits-effect w p s whole within none =
       by (step.Accept n) at e = fits-accept w p n (whole, within) at e
       by (step.Send n bytes attach) at e = fits-send w p n bytes attach (whole, within) e
       by (step.Recv n max_bytes max_fds) at e = fits-recv w p n max_bytes max_fds (whole, within) at e
+      by (step.Peek n max_bytes max_fds) at e = fits-peek w p n max_bytes max_fds (whole, within) at e
+      by (step.Limit n) at e = (whole-limited w p n whole, within-limited w p n within (ltb-false MAX_NOFILE n e.here))
 
 -- An outcome whose effect fits leaves the world sound.
 outcome-sound : (o : Option Errno) (frugal : Bool) (a : Reply) (w old : World) (r : Reply) (new : World) → IsSound old → (o ≡ None → Fits w) → Outcome o frugal a w old r new → IsSound new

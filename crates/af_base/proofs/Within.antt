@@ -45,9 +45,13 @@ len-insert_most m k v = omega (arith, total-insert (λ y. 1) m k v, total-count 
 pub socket_same : (x y : Socket) → AsSocket x ≡ AsSocket y → x ≡ y
 socket_same x y e = some_same x y (ap socket_of e)
 
--- A number taken into use, below the limit.
-pub within-install : (w : World) (p n f : ℕ) (q : Process) → IsWithin w → map.get w.processes p ≡ Some q → n < q.limit → IsWithin (install w p n f)
-within-install w p n f q k at low = record {
+-- What is below the limit of a process is below the largest one.
+pub below-most : (w : World) (p n : ℕ) (q : Process) → IsWithin w → map.get w.processes p ≡ Some q → n < q.limit → n < MAX_NOFILE
+below-most w p n q k at low = let fits = k.processes p q at in let most = fits.limit in omega (arith, low, most)
+
+-- A number taken into use, below the largest limit.
+pub within-install : (w : World) (p n f : ℕ) → IsWithin w → n < MAX_NOFILE → IsWithin (install w p n f)
+within-install w p n f k low = record {
   process_count = let same = len-change_at install_here w.processes p in let few = k.process_count in omega (arith, same, few);
   file_count = k.file_count;
   flying = k.flying;
@@ -57,15 +61,13 @@ within-install w p n f q k at low = record {
       let was = changed-was install_here w.processes p r y is in
       let before = k.processes r was.0 was.1 in
       elim was.2 [
-        | inl z ↦
-            let here : was.0 ≡ q = some_same was.0 q (sym was.1 ∙ ap (map.get w.processes) z.0 ∙ at) in
-            subst IsProcessWithin (sym z.1) (record {
-              limit = before.limit;
-              numbers = λ m l. elim (same_or_not m n) [
-                | inl same ↦ subst (λ c. c < was.0.limit) (sym same) (subst (λ c. n < c.limit) (sym here) low)
-                | inr apart ↦ before.numbers m (ap is_some (sym (insert-other was.0.table n f m apart)) ∙ l)
-              ];
-            })
+        | inl z ↦ subst IsProcessWithin (sym z.1) (record {
+          limit = before.limit;
+          numbers = λ m l. elim (same_or_not m n) [
+            | inl same ↦ omega (arith, same, low)
+            | inr apart ↦ before.numbers m (ap is_some (sym (insert-other was.0.table n f m apart)) ∙ l)
+          ];
+        })
         | inr z ↦ subst IsProcessWithin (sym z) before
       ];
   sockets = k.sockets;
@@ -104,7 +106,7 @@ pub within-install_all : (w : World) (p : ℕ) (q : Process) (ns fs : List ℕ) 
 within-install_all w p q [] fs k at free = k
 within-install_all w p q (n ∷ ns) [] k at free = k
 within-install_all w p q (n ∷ ns) (f ∷ fs) k at free =
-    within-install_all (install w p n f) p (record q { table = map.insert q.table n f }) ns fs (within-install w p n f q k at (first-low q n ns free)) (there-install w p n f q at) (rest-free q n ns f free)
+    within-install_all (install w p n f) p (record q { table = map.insert q.table n f }) ns fs (within-install w p n f k (below-most w p n q k at (first-low q n ns free))) (there-install w p n f q at) (rest-free q n ns f free)
 
 -- A socket changed within its limits, and the queue places of all within theirs.
 pub within-changed : (w : World) (s : ℕ) (g : Socket → Socket) → IsWithin w → ((x : Socket) → map.get w.files s ≡ Some (AsSocket x) → IsSocketWithin (g x)) → total (with_socket w s g) ≤ MAX_INFLIGHT → IsWithin (with_socket w s g)
@@ -253,8 +255,8 @@ within-pair w kind k room =
 pub within-paired : (w : World) (kind : SockType) (p n m : ℕ) (q : Process) → IsWithin w → is_full w 2 ≡ false → map.get w.processes p ≡ Some q → n < q.limit → m < q.limit
     → IsWithin (install (install (with_pair w kind) p n w.next_ino) p m (w.next_ino + 1))
 within-paired w kind p n m q k room at low low_too =
-    within-install (install (with_pair w kind) p n w.next_ino) p m (w.next_ino + 1) (record q { table = map.insert q.table n w.next_ino })
-    (within-install (with_pair w kind) p n w.next_ino q (within-pair w kind k room) at low) (there-install (with_pair w kind) p n w.next_ino q at) low_too
+    within-install (install (with_pair w kind) p n w.next_ino) p m (w.next_ino + 1)
+    (within-install (with_pair w kind) p n w.next_ino (within-pair w kind k room) (below-most w p n q k at low)) (below-most w p m q k at low_too)
 
 -- Who has hung up has room for as many embryos: none.
 same_room : (gone : ℕ → Bool) (t : State) → room_of (state_without gone t) ≡ room_of t

@@ -84,6 +84,14 @@ queued f s = record s { backlog = s.backlog ++ f ∷ [] }
 abbrev pub dequeued : Socket → Socket
 dequeued s = record s { backlog = drop 1 s.backlog }
 
+-- A process with this limit on its descriptors; its table stays as it is (setrlimit(2), RLIMIT_NOFILE).
+abbrev pub limited : ℕ → Process → Process
+limited n q = record q { limit = n }
+
+-- Process p with this limit (setrlimit(2), RLIMIT_NOFILE).
+abbrev pub set_limit : World → ℕ → ℕ → World
+set_limit w p n = with_process w p (limited n)
+
 -- Process p is gone, and its table with it (_exit(2)).
 abbrev pub remove_process : World → ℕ → World
 remove_process w p = record w { processes = map.remove w.processes p }

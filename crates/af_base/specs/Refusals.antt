@@ -145,7 +145,18 @@ spawn_row w nofile = (nat_lt MAX_NOFILE nofile, ERANGE) ∷ (is_crowded w, EAGAI
 abbrev pub is_beyond : World → ℕ → ℕ → ℕ → Bool
 is_beyond w p n m = not (nat_eq m n) && nat_le (process_at w p).limit m
 
--- Why a step of a process that is there is refused: open(2), dup(2), dup2(2), close(2), fork(2), _exit(2), socketpair(2), socket(2), bind(2), listen(2), connect(2), accept(2), sendmsg(2), recvmsg(2), but for want of memory.
+-- Why a receive of at most so many bytes is refused, whether it takes or only looks (recvmsg(2), MSG_PEEK).
+abbrev pub recv_row : World → ℕ → ℕ → ℕ → Row
+recv_row w p n max_bytes =
+    let s = socket_on w p n in
+    (is_none (table_at w p n), EBADF)
+    ∷ (is_none (socket_at w (ino_on w p n)), ENOTSOCK)
+    ∷ (not (is_between 1 MAX_BYTES max_bytes), EINVAL)
+    ∷ (not (is_connected s.state), ENOTCONN)
+    ∷ (nat_eq (length s.queue) 0 && not (is_hung_up s.state), EAGAIN)
+    ∷ []
+
+-- Why a step of a process that is there is refused: open(2), dup(2), dup2(2), close(2), fork(2), _exit(2), socketpair(2), socket(2), bind(2), listen(2), connect(2), accept(2), sendmsg(2), recvmsg(2), setrlimit(2), but for want of memory.
 abbrev pub step_row : World → ℕ → Step → Row
 step_row w p step.Open = (is_short (process_at w p) 1, EMFILE) ∷ (is_full w 1, ENFILE) ∷ []
 step_row w p (step.Dup n) = (is_none (table_at w p n), EBADF) ∷ (is_short (process_at w p) 1, EMFILE) ∷ []
@@ -201,14 +212,9 @@ step_row w p (step.Send n bytes attach) =
     ∷ (nat_lt MAX_INFLIGHT (total w + length attach), ENOBUFS)
     ∷ (nat_le MAX_MESSAGES (length (queue_at w (peer_of s.state))), EAGAIN)
     ∷ []
-step_row w p (step.Recv n max_bytes max_fds) =
-    let s = socket_on w p n in
-    (is_none (table_at w p n), EBADF)
-    ∷ (is_none (socket_at w (ino_on w p n)), ENOTSOCK)
-    ∷ (not (is_between 1 MAX_BYTES max_bytes), EINVAL)
-    ∷ (not (is_connected s.state), ENOTCONN)
-    ∷ (nat_eq (length s.queue) 0 && not (is_hung_up s.state), EAGAIN)
-    ∷ []
+step_row w p (step.Recv n max_bytes max_fds) = recv_row w p n max_bytes
+step_row w p (step.Peek n max_bytes max_fds) = recv_row w p n max_bytes
+step_row w p (step.Limit n) = (nat_lt MAX_NOFILE n, ERANGE) ∷ []
 
 -- The error with which a process cannot start, if there is one but want of memory.
 abbrev pub spawn_refusal : World → ℕ → Option Errno

@@ -12,7 +12,7 @@ use Rattle.af_base.specs.declared.events.Reply.{Reply}
 use Rattle.af_base.specs.declared.events.Reply.TheVariants as reply
 use Rattle.af_base.specs.World.{World, Socket, Plain, AsSocket}
 use Rattle.af_base.specs.Places.{table_at}
-use Rattle.af_base.specs.Changes.{dequeued, add_file, add_process, add_user, bound, connected, install, install_all, listening, push_message, queued, remove_process, uninstall, with_queue, with_socket}
+use Rattle.af_base.specs.Changes.{dequeued, add_file, add_process, add_user, bound, connected, install, install_all, listening, push_message, queued, remove_process, set_limit, uninstall, with_queue, with_socket}
 use Rattle.af_base.specs.Table.{free_numbers, lowest_free}
 use Rattle.af_base.specs.Take.{Taken, take_from}
 use Rattle.af_base.specs.Unheld.{Settles}
@@ -54,7 +54,16 @@ got_at w p n max_bytes max_fds = lowest_free (min (length (taken_on w p n max_by
 abbrev pub spawned : World → ℕ → ℕ → Bool → World
 spawned w uid nofile privileged = add_user (add_process w (record { user = uid; limit = nofile; privileged = privileged; table = map.empty })) uid
 
--- The world after the places were changed, which is then settled, where nothing refuses the step (open(2), dup(2), dup2(2), close(2), fork(2), _exit(2), socketpair(2), socket(2), bind(2), listen(2), connect(2), accept(2), sendmsg(2), recvmsg(2)).
+-- What a receive answers: no bytes, End, where the peer is gone and nothing is left (recvmsg(2)).
+abbrev pub received : World → ℕ → ℕ → ℕ → ℕ → Reply
+received w p n max_bytes max_fds =
+    let taken = taken_on w p n max_bytes in
+    let got = got_at w p n max_bytes max_fds in
+    if nat_eq (length (socket_on w p n).queue) 0
+    then reply.End
+    else reply.Got taken.bytes got taken.trunc (nat_lt (length got) (length taken.attached))
+
+-- The world after the places were changed, which is then settled, where nothing refuses the step (open(2), dup(2), dup2(2), close(2), fork(2), _exit(2), socketpair(2), socket(2), bind(2), listen(2), connect(2), accept(2), sendmsg(2), recvmsg(2), setrlimit(2)).
 abbrev pub effect : World → ℕ → Step → World
 effect w p step.Open = install (add_file w Plain) p (free_at w p 0) w.next_ino
 effect w p (step.Dup n) = install w p (free_at w p 0) (ino_on w p n)
@@ -73,8 +82,10 @@ effect w p (step.Send n bytes attach) =
 effect w p (step.Recv n max_bytes max_fds) =
     let taken = taken_on w p n max_bytes in
     install_all (with_queue w (ino_on w p n) taken.rest) p (zip (got_at w p n max_bytes max_fds) taken.attached)
+effect w p (step.Peek n max_bytes max_fds) = install_all w p (zip (got_at w p n max_bytes max_fds) (taken_on w p n max_bytes).attached)
+effect w p (step.Limit n) = set_limit w p n
 
--- The answer, where nothing refuses the step (recvmsg(2): no bytes, End, where the peer is gone and nothing is left).
+-- The answer, where nothing refuses the step: a peek answers what a receive would (recvmsg(2), MSG_PEEK).
 abbrev pub answer : World → ℕ → Step → Reply
 answer w p step.Open = reply.Fd (free_at w p 0)
 answer w p (step.Dup n) = reply.Fd (free_at w p 0)
@@ -89,18 +100,16 @@ answer w p (step.Listen n b) = reply.Ok
 answer w p (step.Connect n name) = reply.Ok
 answer w p (step.Accept n) = reply.Fd (free_at w p 0)
 answer w p (step.Send n bytes attach) = reply.Sent (length bytes)
-answer w p (step.Recv n max_bytes max_fds) =
-    let taken = taken_on w p n max_bytes in
-    let got = got_at w p n max_bytes max_fds in
-    if nat_eq (length (socket_on w p n).queue) 0
-    then reply.End
-    else reply.Got taken.bytes got taken.trunc (nat_lt (length got) (length taken.attached))
+answer w p (step.Recv n max_bytes max_fds) = received w p n max_bytes max_fds
+answer w p (step.Peek n max_bytes max_fds) = received w p n max_bytes max_fds
+answer w p (step.Limit n) = reply.Ok
 
--- Whether the step never needs memory: a close, an exit, and a number put in place of itself (dup2(2): nothing is done; this project's profile).
+-- Whether the step never needs memory: a close, an exit, a changed limit, and a number put in place of itself (dup2(2): nothing is done; this project's profile).
 abbrev pub needs_no_memory : Step → Bool
 needs_no_memory (step.Dup2 n m) = nat_eq m n
 needs_no_memory (step.Close n) = true
 needs_no_memory step.Exit = true
+needs_no_memory (step.Limit n) = true
 needs_no_memory s = false
 
 -- The outcome of a step: refused by an error and nothing changed; or answered, and the changed world settled; or, where the step may need memory, refused for want of it and nothing changed (this project's profile).

@@ -43,10 +43,10 @@ pub record IsWhole (w : World) : Type 0 where
   pub names : (f g : ℕ) (name : List ℕ) → name_at w f ≡ Some name → name_at w g ≡ Some name → f ≡ g
   pub embryos : (f : ℕ) → waiting w f ≤ 1
 
--- A process within its limit, and the limit within its own (this project's profile).
+-- A process whose limit is within its own, and whose open numbers are below the largest one. A number may be at or above the limit where that was lowered (setrlimit(2), RLIMIT_NOFILE; this project's profile).
 pub record IsProcessWithin (q : Process) : Type 0 where
   pub limit : q.limit ≤ MAX_NOFILE
-  pub numbers : (n : ℕ) → IsTrue (map.contains_key q.table n) → n < q.limit
+  pub numbers : (n : ℕ) → IsTrue (map.contains_key q.table n) → n < MAX_NOFILE
 
 -- A message within the limits (unix(7), SCM_RIGHTS).
 pub record IsMessageWithin (m : Message) : Type 0 where

@@ -73,6 +73,15 @@ pub enum Step {
         max_bytes: u32,
         max_fds: u32,
     },
+    /// recvmsg(2) with MSG_PEEK: what a receive would take is copied, and the queue stays as it is.
+    Peek {
+        on: Fd,
+        max_bytes: u32,
+        max_fds: u32,
+    },
+    /// setrlimit(2) of the limit on descriptors (RLIMIT_NOFILE): from now on it is this. There is no
+    /// hard limit, and what is open stays open.
+    Limit(u32),
 }
 
 /// What may happen.
@@ -107,13 +116,13 @@ pub enum Reply {
     Ok,
     /// So many bytes were sent.
     Sent(u32),
-    /// What a receive took, and where its descriptors were installed.
+    /// What a receive took or a peek saw, and where its descriptors were installed.
     Got {
         bytes: Items<u8>,
         fds: Items<Fd>,
         /// Bytes of the message were dropped (MSG_TRUNC).
         trunc: bool,
-        /// Descriptors of the message were closed (MSG_CTRUNC).
+        /// Descriptors of the message were not installed (MSG_CTRUNC).
         ctrunc: bool,
     },
     /// Nothing is left to receive, and the peer is gone.

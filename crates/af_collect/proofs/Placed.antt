@@ -6,7 +6,7 @@ use Rattle.std.specs.FinMap as map
 use Rattle.std.proofs.lemmas.Bool.{false≢true}
 use Rattle.std.proofs.lemmas.List.Elements.{Contains-append_left}
 use Rattle.af_base.specs.World.{AsSocket, File, IsLive, Socket, World}
-use Rattle.af_base.specs.Changes.{add_file, add_process, install_all, with_queue, with_socket}
+use Rattle.af_base.specs.Changes.{add_file, add_process, install_all, set_limit, with_queue, with_socket}
 use Rattle.af_base.specs.Places.{Holds, carried, contents}
 use Rattle.af_base.specs.Reached.{Garbage}
 use Rattle.af_base.specs.Refusals.{process_at}
@@ -29,7 +29,7 @@ use Rattle.af_pass.proofs.Born.{AreFilesBelow, covers_add_file, moves_add_file}
 use Rattle.af_pass.proofs.Keeping.{in_marking, in_sweeping, kept_born, kept_moves, kept_shaded_all}
 use Rattle.af_pass.proofs.Known.{known_made, known_marks}
 use Rattle.af_pass.proofs.Marked.{grey_born, marked_born}
-use Rattle.af_pass.proofs.Placing.{covers_install_lowest, covers_itself, moves_install_files, moves_itself}
+use Rattle.af_pass.proofs.Placing.{covers_install_lowest, covers_itself, covers_limited, moves_install_files, moves_itself, moves_limited}
 use Rattle.af_pass.proofs.Sockets.{covers_receive, moves_receive}
 use Rattle.af_pass.proofs.Spared.{held_spared, marking_runs, spared_running}
 use Rattle.af_collect.proofs.Losing.{marked_there}
@@ -95,7 +95,21 @@ module _ {w begun : World} {m : Marked} {c : Progress} where
     by false e = k
 
 module _ {w begun : World} {m : Marked} {c : Progress} where
+  -- Another limit of a process keeps what is kept.
+  pub kept_limited : (p n : ℕ) → IsKept w begun m c → IsKept (set_limit w p n) begun m c
+  kept_limited p n k = kept_tables (set_limit w p n) refl refl (λ _. moves_limited begun w p n) (λ _. covers_limited begun w p n (is_marked m) (below c.visited)) k
+
   module _ (whole : IsWhole w) (s max : ℕ) (x : Socket) (at : map.get w.files s ≡ Some (AsSocket x)) (within : AreWithin x.queue) where
+    -- What is seen in the queue of a spared socket, which stays as it is, comes into a table at the lowest free numbers: that keeps what is kept.
+    pub kept_peeked : (n p : ℕ) (ns : List ℕ) → Spares (pass_of c.stage begun n) s → IsTrue (map.contains_key w.processes p) → (k : ℕ) × (ns ≡ lowest_free k (process_at w p)) → IsKept w begun m c
+        → IsKept (install_all w p (zip ns (take_from x.kind x.queue max).attached)) begun m c
+    kept_peeked n p ns spared there lowest k =
+        let t = take_from x.kind x.queue max in
+        let none : (f : ℕ) → Contains t.attached f → is_running c.stage ≡ true → ¬ (Garbage begun f) = λ f h e. spared_running c.stage begun n f e (held_spared n s f k (taken_held w s max x at within f h) spared) in
+        let filled = install-filled w p (zip ns t.attached) in
+        kept_tables (install_all w p (zip ns t.attached)) (ap (λ (y : World). y.files) filled) (ap (λ (y : World). y.next_ino) filled)
+        (λ e. moves_install_files begun w p ns t.attached (λ f h. none f h e)) (λ e. covers_install_lowest begun w p ns t.attached (is_marked m) (below c.visited) there lowest) k
+
     -- What is taken out of the queue of a spared socket is shaded where marking goes on, and comes into a table at the lowest free numbers: that keeps what is kept.
     pub kept_taken : (n p : ℕ) (ns : List ℕ) → Spares (pass_of c.stage begun n) s → IsTrue (map.contains_key w.processes p) → (k : ℕ) × (ns ≡ lowest_free k (process_at w p)) → IsKept w begun m c
         → IsKept (install_all (with_queue w s (take_from x.kind x.queue max).rest) p (zip ns (take_from x.kind x.queue max).attached)) begun (shaded_in c.stage (take_from x.kind x.queue max).attached m) c

@@ -2,7 +2,7 @@
 ghost use Rattle.std.specs.Prelude.{◌≡◌, ◌<◌, ◌≤◌, ◌+◌, ℕ, false, None, Some, IsTrue, IsOk, IfOk, OnOk, OnErr};
 ghost use Rattle.std.specs.FinMap as map;
 ghost use Rattle.af_base.specs.World.{Plain, empty_world};
-ghost use Rattle.af_base.specs.Changes.{add_file, add_process, remove_process};
+ghost use Rattle.af_base.specs.Changes.{add_file, add_process, remove_process, set_limit};
 ghost use Rattle.af_base.specs.Pass.{Idle};
 ghost use Rattle.af_base.specs.Refusals.{is_full, is_crowded, process_at};
 ghost use Rattle.af_base.specs.Steps.{spawned, with_pair};
@@ -78,6 +78,15 @@ impl Store {
         // Pids are below the next one: that is what a whole world says of them.
         self.parts.places.is_whole();
         self.parts.places.spawn(uid, limit, privileged)
+    }
+
+    /// A process has this limit on its descriptors from now on (setrlimit(2), RLIMIT_NOFILE); no number
+    /// of it is closed. It takes no memory.
+    pub fn set_limit(&mut self, pid: Pid, limit: u32)
+        requires { limit ≤ MAX_NOFILE }
+        ensures { self.new ≡ record self.old { world = set_limit self.old.world pid limit } }
+    {
+        self.parts.places.set_limit(pid, limit);
     }
 
     /// Room to take so many numbers of the process into use. Where its row is as long as its limit,

@@ -13,6 +13,7 @@ ghost use Rattle.af_base.specs.Whole.{IsMessageWithin};
 ghost use Rattle.af_desc.specs.Filed.{is_full, is_live, name_of, with_pair, hung_up, popped, received_from, received_of, socket_in};
 
 use crate::desc::Desc;
+use crate::socket::Socket;
 use af_base::events::SockType;
 use af_base::items::Items;
 use af_base::limits::{MAX_FILES, MAX_INO, MAX_MESSAGES};
@@ -241,6 +242,25 @@ impl Files {
             return Ok(());
         };
         entry.value.push(message)
+    }
+
+    /// The socket of this number; a plain file and a stranger are none.
+    fn socket(&self, file: &FileRef) -> Option<&Socket>
+        ensures { option_copied result ≡ socket_in self.now.files file.now }
+    {
+        self.get(file)?.socket()
+    }
+
+    /// A copy of what a receive of at most so many bytes would take out of the queue of that socket
+    /// (recvmsg(2), MSG_PEEK): nothing, where it is a plain file or a stranger.
+    pub fn peek(&self, file: &FileRef, max: usize) -> Result<Taken, AllocError>
+        requires { 0 < max }
+        ensures { IfOk result (λ t. t ≡ received_of (socket_in self.now.files file.now) max) }
+    {
+        match self.socket(file) {
+            Some(socket) => socket.peek(max),
+            None => Ok(Taken::nothing(self.alloc)),
+        }
     }
 
     /// What a receive of at most so many bytes takes out of the queue of that socket (recvmsg(2)):

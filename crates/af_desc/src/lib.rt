@@ -9,6 +9,3 @@ mod socket;
 pub use desc::Desc;
 pub use files::Files;
 pub use socket::Socket;
-
-#[cfg(test)]
-mod tests;

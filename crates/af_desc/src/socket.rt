@@ -224,6 +224,14 @@ impl Socket {
         Ok(())
     }
 
+    /// A copy of what a receive of at most so many bytes would take (recvmsg(2), MSG_PEEK).
+    pub(crate) fn peek(&self, max: usize) -> Result<Taken, AllocError>
+        requires { 0 < max }
+        ensures { IfOk result (λ t. t ≡ received self.now.kind self.now.queue max) }
+    {
+        self.queue.peek(self.kind, max)
+    }
+
     /// What a receive of at most so many bytes takes (recvmsg(2)). On an error nothing has changed.
     pub(crate) fn take(&mut self, max: usize) -> Result<Taken, AllocError>
         requires { 0 < max }

@@ -3,6 +3,7 @@ use Rattle.std.proofs.Common.{◌≡◌, ◌<◌, ℕ, ◌∷◌, drop, sym, sub
 use Rattle.std.specs.Prelude.{Option, None, Some, IfSome}
 use Rattle.std.specs.FinMap as map
 use Rattle.std.specs.List.{Contains}
+use Rattle.af_base.specs.declared.limits.TheConstants.{MAX_NOFILE}
 use Rattle.af_base.specs.World.{AsSocket, IsLive, Process, Socket, World}
 use Rattle.af_base.specs.Places.{backlog_at}
 use Rattle.af_base.specs.Changes.{dequeued, install, with_socket}
@@ -32,5 +33,5 @@ module _ (w : World) (s f : ℕ) (x : Socket) (k : Kept) (at : map.get w.files s
     can-drop-first = can-drop-backlog (install w p n f) s f x (held Table f k) at first (agrees-install w p n f q k there free h.agrees)
 
     -- It comes into the table, and leaves the backlog.
-    pub exact-accepted : n < q.limit → IsExact (install (with_socket w s dequeued) p n f) (dropped Backlog f (held Table f k))
+    pub exact-accepted : n < MAX_NOFILE → IsExact (install (with_socket w s dequeued) p n f) (dropped Backlog f (held Table f k))
     exact-accepted low = exact-dequeued (install w p n f) s f x (held Table f k) at first (exact-install w p n f q k there free low live-first h)

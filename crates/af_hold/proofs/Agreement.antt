@@ -8,7 +8,7 @@ use Rattle.std.specs.Ordering.{nat_cmp}
 use Rattle.af_base.specs.World.{AsSocket, File, Message, Plain, Process, Socket, World, empty_world}
 use Rattle.af_base.specs.Places.{backlog_of, carried, contents, queue_of, table_at}
 use Rattle.af_base.specs.Counts.{charge, count_in, one, total_of, waiting}
-use Rattle.af_base.specs.Changes.{add_file, add_process, add_user, dequeued, install, installed, push_message, pushed, remove_process, taken_out, uninstall, with_process, with_queue, with_socket}
+use Rattle.af_base.specs.Changes.{add_file, add_process, add_user, dequeued, install, installed, limited, push_message, pushed, remove_process, set_limit, taken_out, uninstall, with_process, with_queue, with_socket}
 use Rattle.af_base.specs.Steps.{spawned}
 use Rattle.af_base.specs.Unheld.{without}
 use Rattle.af_base.specs.Whole.{IsWhole}
@@ -16,6 +16,7 @@ use Rattle.af_base.proofs.Born.{fresh_process, refs-add_process, total-empty}
 use Rattle.af_base.proofs.Dropped.{refs-without, same_queue, total-without}
 use Rattle.af_base.proofs.Embryos.{waiting-changed}
 use Rattle.af_base.proofs.Held.{tabled-InTable}
+use Rattle.af_base.proofs.Limited.{count-limited, refs-limited}
 use Rattle.af_base.proofs.Lookups.{changed-was, insert-here, insert-other, none_some, remove-here, remove-other, same_or_not, some_same}
 use Rattle.af_base.proofs.Moved.{table-there, there-table, total-changed}
 use Rattle.af_base.proofs.Pairs.{refs-add_file}
@@ -219,6 +220,18 @@ agrees-add_user w u k a = by (list_any (nat_eq u) w.users) where
 pub agrees-spawned : (w : World) (uid nofile : ℕ) (privileged : Bool) (k : Kept) → IsWhole w → Agrees w k → Agrees (spawned w uid nofile privileged) (record k { users = with_user uid k.users })
 agrees-spawned w uid nofile privileged k whole a =
     agrees-add_user _ uid _ (agrees-add_process w _ (record k { users = with_user uid k.users }) whole refl (user-added uid k.users) (agrees-with_user w uid k a))
+
+-- Another limit of a process changes no place.
+pub agrees-limited : (w : World) (p n : ℕ) (k : Kept) → Agrees w k → Agrees (set_limit w p n) k
+agrees-limited w p n k a = record {
+  refs = λ f. a.refs f ∙ sym (refs-limited w p n f);
+  tabled = λ f. a.tabled f ∙ sym (count-limited w p n f);
+  inflight = a.inflight;
+  waiting = a.waiting;
+  charged = a.charged;
+  total = a.total;
+  known = known-changed w p (limited n) k.users (λ q. refl) a.known;
+}
 
 -- A process that goes with an empty table takes no place along.
 pub agrees-remove_process : (w : World) (p : ℕ) (k : Kept) → ((n : ℕ) → table_at w p n ≡ None) → Agrees w k → Agrees (remove_process w p) k

@@ -68,9 +68,7 @@ tabled-most w f k within agrees =
       each : (p : ℕ) (q : Process) → map.get w.processes p ≡ Some q → total_of (one f) q.table ≤ MAX_NOFILE
       each p q at =
           let fits = within.processes p q at in
-          let low = total-low (one f) (one-most f) q.limit q.table (λ i x is. fits.numbers i (ap is_some is)) in
-          let limit = fits.limit in
-          omega (arith, low, limit)
+          total-low (one f) (one-most f) MAX_NOFILE q.table (λ i x is. fits.numbers i (ap is_some is))
 
 -- A number of a table more of f can be counted.
 pub can-hold-table : (w : World) (f : ℕ) (k : Kept) → IsWithin w → Agrees w k → CanHold Table f k

@@ -13,7 +13,7 @@ use Rattle.af_base.specs.declared.limits.TheConstants.{MAX_INFLIGHT, MAX_MESSAGE
 use Rattle.af_base.specs.World.{AsSocket, File, IsLive, Map, Message, Plain, Process, Socket, World, empty_world, is_live}
 use Rattle.af_base.specs.Places.{contents, queue_of, table_at}
 use Rattle.af_base.specs.Counts.{refs, total}
-use Rattle.af_base.specs.Changes.{add_file, add_process, add_user, dequeued, install, install_all, push_message, pushed, remove_process, uninstall, with_queue, with_socket}
+use Rattle.af_base.specs.Changes.{add_file, add_process, add_user, dequeued, install, install_all, push_message, pushed, remove_process, set_limit, uninstall, with_queue, with_socket}
 use Rattle.af_base.specs.Refusals.{is_crowded, is_full}
 use Rattle.af_base.specs.Steps.{connected_socket, spawned, with_pair}
 use Rattle.af_base.specs.Unheld.{without}
@@ -23,6 +23,7 @@ use Rattle.af_base.proofs.Connections.{live-embryo, whole-accepted, within-accep
 use Rattle.af_base.proofs.Elements.{Contains-first, Contains-later}
 use Rattle.af_base.proofs.Ended.{whole-remove_process, within-remove_process}
 use Rattle.af_base.proofs.Free.{AreFree, first-free, first-low, rest-free}
+use Rattle.af_base.proofs.Limited.{whole-limited, within-limited}
 use Rattle.af_base.proofs.Lookups.{insert-other, itself, not_same, told_apart}
 use Rattle.af_base.proofs.Moved.{live-changed, there-install}
 use Rattle.af_base.proofs.Opened.{whole-plain, within-plain}
@@ -31,7 +32,7 @@ use Rattle.af_base.proofs.Placed.{settled-counted}
 use Rattle.af_base.proofs.Settling.{live-without}
 use Rattle.af_base.proofs.Sound.{fresh_sound}
 use Rattle.af_base.proofs.Whole.{whole-install, whole-left, whole-push, whole-uninstall, whole-unheld}
-use Rattle.af_base.proofs.Within.{within-install, within-left, within-pair, within-push, within-spawned, within-uninstall, within-without}
+use Rattle.af_base.proofs.Within.{below-most, within-install, within-left, within-pair, within-push, within-spawned, within-uninstall, within-without}
 use Rattle.af_ledger.specs.Counted.{places_in, uncounted}
 use Rattle.af_ledger.specs.Kept.{Kept, charged_less, charged_more, dropped, dropped_all, has_count, held, held_all, is_user, is_waiting, with_user}
 use Rattle.af_ledger.specs.declared.count.Count.{Count}
@@ -41,7 +42,7 @@ use Rattle.af_ledger.proofs.HeldAll.{has-dropped_all, has-held_all}
 use Rattle.af_ledger.proofs.Laws.{has-dropped, has-entered, has-held, has-struck, users-held}
 use Rattle.af_hold.specs.Agreement.{IsExact}
 use Rattle.af_hold.specs.Stored.{filled}
-use Rattle.af_hold.proofs.Agreement.{agrees-dequeued, agrees-empty, agrees-entered, agrees-gone, agrees-install, agrees-new_file, agrees-push, agrees-remove_process, agrees-shed, agrees-spawned, agrees-struck, agrees-uninstall}
+use Rattle.af_hold.proofs.Agreement.{agrees-dequeued, agrees-empty, agrees-entered, agrees-gone, agrees-install, agrees-limited, agrees-new_file, agrees-push, agrees-remove_process, agrees-shed, agrees-spawned, agrees-struck, agrees-uninstall}
 use Rattle.af_hold.proofs.Bounds.{can-drop-all}
 use Rattle.af_hold.proofs.Sheds.{Sheds}
 
@@ -86,6 +87,16 @@ exact-spawned w uid nofile privileged k room low h = record {
   by f true = refl
   by f false = refl
 
+-- A process with another limit.
+pub exact-limited : (w : World) (p n : ℕ) (k : Kept) → n ≤ MAX_NOFILE → IsExact w k → IsExact (set_limit w p n) k
+exact-limited w p n k low h = record {
+  whole = whole-limited w p n h.whole;
+  within = within-limited w p n h.within low;
+  agrees = agrees-limited w p n k h.agrees;
+  counted = h.counted;
+  entered = h.entered;
+}
+
 -- A process that goes with an empty table.
 pub exact-removed : (w : World) (p : ℕ) (k : Kept) → ((n : ℕ) → table_at w p n ≡ None) → IsExact w k → IsExact (remove_process w p) k
 exact-removed w p k empty h = record {
@@ -97,10 +108,10 @@ exact-removed w p k empty h = record {
 }
 
 -- A free number taken into use for a live file.
-pub exact-install : (w : World) (p n f : ℕ) (q : Process) (k : Kept) → finmap.get w.processes p ≡ Some q → finmap.get q.table n ≡ None → n < q.limit → IsLive w f → IsExact w k → IsExact (install w p n f) (held Table f k)
+pub exact-install : (w : World) (p n f : ℕ) (q : Process) (k : Kept) → finmap.get w.processes p ≡ Some q → finmap.get q.table n ≡ None → n < MAX_NOFILE → IsLive w f → IsExact w k → IsExact (install w p n f) (held Table f k)
 exact-install w p n f q k at free low live h = record {
   whole = whole-install w p n f h.whole live;
-  within = within-install w p n f q h.within at low;
+  within = within-install w p n f h.within low;
   agrees = agrees-install w p n f q k at free h.agrees;
   counted = λ g. has-held Table f g k (h.counted f ∙ live) ∙ h.counted g;
   entered = h.entered;
@@ -242,7 +253,7 @@ exact-install_all w p q [] fs k at free live h = h
 exact-install_all w p q (n ∷ ns) [] k at free live h = h
 exact-install_all w p q (n ∷ ns) (f ∷ fs) k at free live h =
     exact-install_all (install w p n f) p (record q { table = finmap.insert q.table n f }) ns fs (held Table f k) (there-install w p n f q at) (rest-free q n ns f free) (λ g c. live g (Contains-later f fs g c))
-    (exact-install w p n f q k at (first-free q n ns free) (first-low q n ns free) (live f (Contains-first f fs)) h)
+    (exact-install w p n f q k at (first-free q n ns free) (below-most w p n q h.within at (first-low q n ns free)) (live f (Contains-first f fs)) h)
 
 -- Files that are put into a table change the processes alone.
 pub install-filled : (w : World) (p : ℕ) (es : List (ℕ × ℕ)) → install_all w p es ≡ record w { processes = filled w.processes p es }

@@ -50,7 +50,8 @@ module _ (w : World) (s n : ℕ) (k : Kept) (h : IsExact w k) (some : 0 < n) (so
   received-live = live-taken w s from m.attached rest h.whole (is-socket w s socket) shed.leaves
 
   module _ (p : ℕ) (ns : List ℕ) (there : IsTrue (finmap.contains_key w.processes p)) (lowest : (j : ℕ) × (ns ≡ lowest_free j (process_at w p))) where
-    exact-tabled : IsExact (tabled w p ns m.attached) (counted k ns m.attached)
+    -- With its files in the table all is exact.
+    pub exact-tabled : IsExact (tabled w p ns m.attached) (counted k ns m.attached)
     exact-tabled = exact-filled w p (process_at w p) ns m.attached k (process-there w p (ap not there)) (subst (AreFree (process_at w p)) (sym lowest.1) (free-lowest_free lowest.0 (process_at w p))) received-live h
 
     -- With its files in the table, its places in the queue can go.

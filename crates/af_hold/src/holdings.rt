@@ -2,7 +2,7 @@
 ghost use Rattle.std.specs.Prelude.{◌≡◌, ◌<◌, ◌≤◌, ◌+◌, ℕ, false, None, Some, IsTrue, IsOk, IfOk, OnOk, OnErr};
 ghost use Rattle.std.specs.FinMap as map;
 ghost use Rattle.af_base.specs.World.{Plain, empty_world};
-ghost use Rattle.af_base.specs.Changes.{add_file, add_process, remove_process};
+ghost use Rattle.af_base.specs.Changes.{add_file, add_process, remove_process, set_limit};
 ghost use Rattle.af_base.specs.Places.{table_at};
 ghost use Rattle.af_base.specs.Refusals.{is_full, is_crowded, process_at};
 ghost use Rattle.af_base.specs.Steps.{spawned, with_pair};
@@ -66,6 +66,15 @@ impl Holdings {
         self.procs.room_to_spawn()?;
         self.ledger.add_user(uid)?;
         Ok(self.procs.spawn(uid, limit, privileged))
+    }
+
+    /// A process has this limit on its descriptors from now on (setrlimit(2), RLIMIT_NOFILE); no number
+    /// of it is closed. It takes no memory.
+    pub fn set_limit(&mut self, pid: Pid, limit: u32)
+        requires { limit ≤ MAX_NOFILE }
+        ensures { self.new ≡ record self.old { world = set_limit self.old.world pid limit } }
+    {
+        self.procs.set_limit(pid, limit);
     }
 
     /// Room to take so many numbers of the process into use. Where its row is as long as its limit,

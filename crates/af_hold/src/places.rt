@@ -126,6 +126,30 @@ impl Holdings {
         Ok(taken)
     }
 
+    /// What a receive of at most `max` bytes would take out of a queue, which stays as it is
+    /// (recvmsg(2), MSG_PEEK): its first files come into a table too, at these numbers, which are the
+    /// lowest free ones. Memory is taken before anything changes: on an error nothing has changed.
+    pub fn peek_msg(
+        &mut self,
+        socket: &FileRef,
+        max: usize,
+        pid: Pid,
+        fds: &[Fd],
+    ) -> Result<Taken, AllocError>
+        requires some { 0 < max }
+        requires socket { is_none (socket_at self.old.world socket.now) ≡ false }
+        requires there { IsTrue (finmap.contains_key self.old.world.processes pid) }
+        requires free { (k : ℕ) × (fds.now ≡ lowest_free k (process_at self.old.world pid)) }
+        requires row { All (λ n. n < row_at self.old pid) fds.now }
+        ensures seen { IfOk result (λ t. t ≡ received_of (socket_at self.old.world socket.now) max) }
+        ensures world { OnOk result (self.new ≡ record self.old { world = install_all self.old.world pid (zip fds.now (taken_at self.old.world socket.now max).attached) }) }
+        ensures err { OnErr result (self.new ≡ self.old) }
+    {
+        let seen = self.files.peek(socket, max)?;
+        table_in_all(&mut self.procs, &mut self.ledger, pid, fds, seen.attached());
+        Ok(seen)
+    }
+
     /// The first message of a queue goes, and its places with it. Whether there was one. It takes no
     /// memory.
     fn drop_first(&mut self, file: &FileRef) -> bool

@@ -51,6 +51,8 @@ effect_next w p (step.Connect n name) = omega arith
 effect_next w p (step.Accept n) = omega arith
 effect_next w p (step.Send n bytes attach) = omega arith
 effect_next w p (step.Recv n max_bytes max_fds) = omega (arith, same_next (with_queue w (ino_on w p n) (taken_on w p n max_bytes).rest) p (zip (got_at w p n max_bytes max_fds) (taken_on w p n max_bytes).attached))
+effect_next w p (step.Peek n max_bytes max_fds) = omega (arith, same_next w p (zip (got_at w p n max_bytes max_fds) (taken_on w p n max_bytes).attached))
+effect_next w p (step.Limit n) = omega arith
 
 outcome_next : (now old new : World) → old.next_ino ≤ now.next_ino → (o : Option Errno) (frugal : Bool) (answer r : Reply) → Outcome o frugal answer now old r new → old.next_ino ≤ new.next_ino
 outcome_next now old new grows o frugal answer r h = by o frugal h where

@@ -20,3 +20,4 @@ pub mod Accepts
 pub mod TakeRows
 pub mod Cycle
 pub mod Collected
+pub mod Peeked

@@ -103,6 +103,12 @@ is_refused (reply.Started n) = false
 is_refused reply.Working = false
 is_refused (reply.Done n m) = false
 
+-- what a receive answers is none
+either : (b : Bool) (bytes fds : List ℕ) (trunc ctrunc : Bool) → is_refused (cond b reply.End (reply.Got bytes fds trunc ctrunc)) ≡ false
+unfolding is_refused
+either true bytes fds trunc ctrunc = refl
+either false bytes fds trunc ctrunc = refl
+
 -- an answer is none
 answers : (w : World) (p : ℕ) (s : ProcStep) → is_refused (answer w p s) ≡ false
 unfolding is_refused
@@ -119,10 +125,9 @@ answers w p (step.Listen n b) = refl
 answers w p (step.Connect n name) = refl
 answers w p (step.Accept n) = refl
 answers w p (step.Send n bytes attach) = refl
-answers w p (step.Recv n max_bytes max_fds) = either _ _ _ _ _ where
-  either : (b : Bool) (bytes fds : List ℕ) (trunc ctrunc : Bool) → is_refused (cond b reply.End (reply.Got bytes fds trunc ctrunc)) ≡ false
-  either true bytes fds trunc ctrunc = refl
-  either false bytes fds trunc ctrunc = refl
+answers w p (step.Recv n max_bytes max_fds) = either _ _ _ _ _
+answers w p (step.Peek n max_bytes max_fds) = either _ _ _ _ _
+answers w p (step.Limit n) = refl
 
 module _ (answer : Reply) (given : is_refused answer ≡ false) (now old a b : World) (r : Reply) where
   apart : (e : Errno) → r ≡ answer → r ≡ reply.Refused e → ⊥

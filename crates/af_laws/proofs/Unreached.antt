@@ -22,7 +22,7 @@ use Rattle.af_base.specs.World.{AsSocket, File, Message, Plain, Process, Socket,
 use Rattle.af_base.specs.Places.{Holds, InTable, carried, contents, table_at}
 use Rattle.af_base.specs.Unheld.{Settles}
 use Rattle.af_base.specs.Reached.{ByTable, BySocket, Reached}
-use Rattle.af_base.specs.Changes.{add_file, add_process, bound, connected, dequeued, file_with, install, install_all, listening, queued, uninstall, with_queue, with_socket}
+use Rattle.af_base.specs.Changes.{add_file, add_process, bound, connected, dequeued, file_with, install, install_all, listening, queued, uninstall, with_queue, with_socket, set_limit}
 use Rattle.af_base.specs.Refusals.{ino_named, ino_on, no_socket, peer_of, process_at, refusal, socket_at, socket_named, socket_of, socket_on, spawn_refusal, step_row}
 use Rattle.af_base.specs.Take.{cut, has_files, take_from}
 use Rattle.af_base.specs.Steps.{Outcome, ProcessStep, SpawnStep, answer, connected_socket, effect, first_embryo, free_at, got_at, idle_socket, needs_no_memory, spawned, taken_on, with_embryo}
@@ -34,6 +34,7 @@ use Rattle.af_base.proofs.Stepping.{get-change_at, held-with_socket}
 use Rattle.af_base.proofs.Elements.{Contains-first}
 use Rattle.af_base.proofs.Embryos.{Contains-dropped}
 use Rattle.af_base.proofs.Ended.{tabled-remove}
+use Rattle.af_base.proofs.Limited.{tabled-limited}
 use Rattle.af_base.proofs.Lookups.{insert-here, insert-other, none_some, same_or_not, some_same}
 use Rattle.af_base.proofs.Moved.{held-changed, table-there, tabled-install, tabled-uninstall, there-holds, there-table}
 use Rattle.af_base.proofs.Purged.{slice-by}
@@ -246,6 +247,20 @@ module _ (w : World) (whole : IsWhole w) where
     receive_leads : Leads w (effect w p (step.Recv n max_bytes max_fds))
     receive_leads = reached_or_new w (effect w p (step.Recv n max_bytes max_fds)) whole tables holders
 
+    seen_tables : (f : ℕ) → InTable (install_all w p given) f → Reached w f ⊎ IsNew w f
+    seen_tables f t = elim (in_table_or_installed w p f (got_at w p n max_bytes max_fds) (taken_on w p n max_bytes).attached t) [
+      | inl s ↦ inl (ByTable f s)
+      | inr h ↦ inl (within f (Contains-append_left _ _ f h))
+    ]
+
+    -- what is looked at is reached already
+    peek_leads : Leads w (effect w p (step.Peek n max_bytes max_fds))
+    peek_leads = reached_or_new w (effect w p (step.Peek n max_bytes max_fds)) whole seen_tables (λ s f h. inl (subst (λ fs. Contains (option_map_or contents (map.get fs s) []) f) (files-install_all w p given) h))
+
+  -- another limit
+  limit_leads : (p n : ℕ) → Leads w (effect w p (step.Limit n))
+  limit_leads p n = reached_or_new w (set_limit w p n) whole (λ f t. inl (ByTable f (tabled-limited w p n f t))) (λ s f h. inl h)
+
   module _ (p : ℕ) (kind : SockType) where
     abbrev a : ℕ
     a = w.next_ino
@@ -344,6 +359,8 @@ module _ (w : World) (whole : IsWhole w) where
         by (step.Accept n) at e = accept_leads p n e.rest.rest.rest.here
         by (step.Send n bytes attach) at e = send_leads p n bytes attach
         by (step.Recv n max_bytes max_fds) at e = receive_leads p n max_bytes max_fds
+        by (step.Peek n max_bytes max_fds) at e = peek_leads p n max_bytes max_fds
+        by (step.Limit n) at e = limit_leads p n
 
   module _ (uid nofile : ℕ) (privileged : Bool) where
     abbrev pub started : Process

@@ -8,3 +8,4 @@ pub mod Running
 pub mod Rows
 pub mod Stepping
 pub mod Connecting
+pub mod Peeking

@@ -4,6 +4,7 @@
 
 pub mod connecting;
 pub mod numbering;
+pub mod peeking;
 pub mod places;
 pub mod purging;
 pub mod reaching;

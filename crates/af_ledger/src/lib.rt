@@ -9,6 +9,3 @@ mod place;
 pub use count::Count;
 pub use ledger::Ledger;
 pub use place::Place;
-
-#[cfg(test)]
-mod tests;

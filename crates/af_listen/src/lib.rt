@@ -7,6 +7,3 @@ mod names;
 
 pub use backlog::Backlog;
 pub use names::Names;
-
-#[cfg(test)]
-mod tests;

@@ -7,6 +7,3 @@ mod marks;
 
 pub use color::Color;
 pub use marks::Marks;
-
-#[cfg(test)]
-mod tests;

@@ -6,6 +6,3 @@ mod order;
 
 pub use entry::{Entry, key_of, put, reserve, take};
 pub use order::Order;
-
-#[cfg(test)]
-mod tests;

@@ -138,6 +138,7 @@ impl Order {
     }
 
     /// The key of the number, if it is there: a binary search.
+    #[cold]
     pub fn key_of(&self, ino: Ino) -> Option<usize>
         ensures { result ≡ map.get self.now.keys ino }
     {

@@ -10,13 +10,14 @@ use Rattle.std.proofs.lemmas.Bool.{eq-eqb}
 use Rattle.af_base.specs.World.{IsLive, Map, Process, World}
 use Rattle.af_base.specs.Places.{InTable, held_in, table_at}
 use Rattle.af_base.specs.Reached.{Garbage, is_socket}
-use Rattle.af_base.specs.Changes.{add_process, add_user, change_at, install, install_all, remove_process, uninstall, with_table}
+use Rattle.af_base.specs.Changes.{add_process, add_user, change_at, install, install_all, remove_process, set_limit, uninstall, with_table}
 use Rattle.af_base.specs.Refusals.{process_at}
 use Rattle.af_base.specs.Table.{lowest_free}
 use Rattle.af_base.specs.Steps.{spawned}
 use Rattle.af_base.proofs.Elements.{Contains-first, Contains-later, Contains-none}
 use Rattle.af_base.proofs.Ended.{tabled-remove}
 use Rattle.af_base.proofs.Free.{AreFree, first-free, free-lowest_free, rest-free}
+use Rattle.af_base.proofs.Limited.{table_at-limited, tabled-limited}
 use Rattle.af_base.proofs.Lookups.{insert-here, insert-other, none_some, remove-other, same_or_not, some_same}
 use Rattle.af_base.proofs.Moved.{table-there, tabled-install, tabled-uninstall, there-install, there-table}
 use Rattle.af_base.proofs.Stepped.{process-there}
@@ -126,6 +127,14 @@ covers_uninstall begun w p n marked visited was = covers_tables begun w (uninsta
       | inl same ↦ inr (was f (there-table w p n r at ∙ ap (map.get r.table) (sym same) ∙ is) l)
       | inr apart ↦ inl (remove-other r.table n m apart ∙ is)
     ]) t)
+
+-- Another limit of a process.
+pub moves_limited : (begun w : World) (p n : ℕ) → Moves begun w (set_limit w p n)
+moves_limited begun w p n = moves_tables begun w (set_limit w p n) refl (λ f t. inl (tabled-limited w p n f t))
+
+-- By it nothing is lost.
+pub covers_limited : (begun w : World) (p n : ℕ) (marked visited : ℕ → Bool) → Covers begun w (set_limit w p n) marked visited
+covers_limited begun w p n marked visited = covers_tables begun w (set_limit w p n) marked visited refl (λ f l t. inl (t.0, t.1, table_at-limited w p n t.0 t.1 ∙ t.2))
 
 -- A process gone.
 pub moves_remove_process : (begun w : World) (p : ℕ) → Moves begun w (remove_process w p)

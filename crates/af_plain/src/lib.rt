@@ -11,6 +11,3 @@ mod reach;
 pub use agreement::{Kept, KeptFile, KeptUser, agrees};
 pub use counts::{recount_inflight, recount_refs, recount_total, recount_user};
 pub use reach::{garbage, reached};
-
-#[cfg(test)]
-mod tests;

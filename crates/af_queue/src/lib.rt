@@ -8,6 +8,3 @@ mod taken;
 pub use message::{Attached, Msg};
 pub use queue::Queue;
 pub use taken::Taken;
-
-#[cfg(test)]
-mod tests;

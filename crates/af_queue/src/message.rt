@@ -1,12 +1,12 @@
 //! A message in a queue.
-ghost use Rattle.std.specs.Prelude.{◌≡◌, ◌≤◌, ◌<◌, [], length, drop, take, nat_lt};
+ghost use Rattle.std.specs.Prelude.{◌≡◌, ◌≤◌, ◌<◌, [], IfOk, length, drop, take, nat_lt};
 ghost use Rattle.smallvec.specs.SmallVec.{small_vec_len};
 
 use crate::taken::Taken;
 use af_base::limits::SCM_MAX_FD;
 use af_base::names::{FileRef, Uid};
 use smallvec::SmallVec;
-use std::alloc::Global;
+use std::alloc::{AllocError, Global};
 use std::marker::Model;
 use std::mem;
 
@@ -88,6 +88,27 @@ impl Msg {
     {
         self.begin += bytes;
         mem::replace(&mut self.attached, SmallVec::new(alloc))
+    }
+
+    /// The files that travel with it, once more. Up to four need no memory.
+    pub(crate) fn copy_attached(&self, alloc: Global) -> Result<Attached, AllocError>
+        ensures value { IfOk result (λ files. files.items ≡ self.now.attached) }
+        ensures bound { IfOk result (λ files. small_vec_len files ≤ SCM_MAX_FD) }
+    {
+        let mut files = SmallVec::with_capacity(alloc, self.attached().len())?;
+        for file in self.attached() {
+            files.push(file.again())?;
+        }
+        Ok(files)
+    }
+
+    /// A copy of what a receive of at most so many bytes takes of it as a packet.
+    pub(crate) fn peek(&self, alloc: Global, max: usize) -> Result<Taken, AllocError>
+        ensures { IfOk result (λ t. t ≡ record { message = record self.now { bytes = take max self.now.bytes }; trunc = nat_lt max (length self.now.bytes) }) }
+    {
+        let bytes = self.bytes()[..max.min(self.len())].to_vec(alloc)?;
+        let attached = self.copy_attached(alloc)?;
+        Ok(Taken::new(bytes, attached, self.user(), self.len() > max))
     }
 
     /// It as a receive of at most so many bytes takes it whole. It takes no memory.

@@ -1,5 +1,5 @@
 //! Messages, first in, first out.
-ghost use Rattle.std.specs.Prelude.{◌≡◌, ◌≤◌, ◌<◌, ◌+◌, ◌-◌, ◌++◌, ◌∷◌, [], IfSome, IfNone, IfOk, OnOk, OnErr, IsOk, Some, length, take, drop, slice_get};
+ghost use Rattle.std.specs.Prelude.{◌≡◌, ◌≤◌, ◌<◌, ◌+◌, ◌-◌, ◌++◌, ◌∷◌, [], IfSome, IfNone, IfOk, OnOk, OnErr, IsOk, Some, length, take, drop, slice_get, option_copied};
 ghost use Rattle.std.specs.Option.{option_map_or};
 ghost use Rattle.smallvec.specs.SmallVec.{small_vec_len};
 ghost use Rattle.af_base.specs.Take.{cut, joined, take_from, take_stream};
@@ -134,6 +134,56 @@ impl Queue {
             SockType::Stream => self.take_stream(max),
             SockType::Seqpacket => Ok(self.take_packet(max)),
         }
+    }
+
+    /// A copy of what a receive of at most so many bytes would take (recvmsg(2), MSG_PEEK); the queue
+    /// stays as it is. The copy is all that it takes memory for.
+    pub fn peek(&self, kind: SockType, max: usize) -> Result<Taken, AllocError>
+        requires { 0 < max }
+        ensures { IfOk result (λ t. t ≡ received kind self.now.messages max) }
+    {
+        match kind {
+            SockType::Stream => self.peek_stream(max),
+            SockType::Seqpacket => self.peek_packet(max),
+        }
+    }
+
+    /// A copy of the first message, cut to so many bytes.
+    fn peek_packet(&self, max: usize) -> Result<Taken, AllocError>
+        ensures { IfOk result (λ t. t ≡ received SockType.Seqpacket self.now.messages max) }
+    {
+        match self.messages.front() {
+            Some(message) => message.peek(self.alloc, max),
+            None => Ok(Taken::nothing(self.alloc)),
+        }
+    }
+
+    /// A copy of the bytes that a receive takes of a stream, and of the files that come with the last.
+    fn peek_stream(&self, max: usize) -> Result<Taken, AllocError>
+        requires { 0 < max }
+        ensures { IfOk result (λ t. t ≡ received SockType.Stream self.now.messages max) }
+    {
+        let (count, _) = self.span(max);
+        let bytes = self.copy(count)?;
+        let (attached, user) = match self.message_with(count) {
+            Some(last) => (last.copy_attached(self.alloc)?, last.user()),
+            None => (SmallVec::new(self.alloc), Uid(0)),
+        };
+        Ok(Taken::new(bytes, attached, user, false))
+    }
+
+    /// The message that has this byte, counted from 1.
+    fn message_with(&self, byte: usize) -> Option<&Msg>
+        ensures { option_copied result ≡ message_at byte self.now.messages }
+    {
+        let mut left = byte;
+        for message in &self.messages {
+            if left <= message.len() {
+                return Some(message);
+            }
+            left -= message.len();
+        }
+        None
     }
 
     /// A packet: the first message, cut to so many bytes.

@@ -13,6 +13,3 @@ mod user_lines;
 pub use file_lines::table;
 pub use recount::check;
 pub use user_lines::totals;
-
-#[cfg(test)]
-mod tests;

@@ -80,6 +80,15 @@ module _ (w : World) (p n : ℕ) (q : Process) (at : map.get w.processes p ≡ S
   pub recv-end : IsSound w → first_fit (receive_row x bytes) ≡ None → ProcessStep w p (step.Recv n bytes fds) reply.End w
   recv-end sound given = done w p (step.Recv n bytes fds) w w reply.End (fits given) answered_end ended (settles_none w sound.settled)
 
+  -- Nothing is there to be seen, and nothing changes.
+  unseen : effect w p (step.Peek n bytes fds) ≡ w
+  unseen =
+      (λ i. install_all w p (zip (lowest_free (min (length (none_taken i).attached) fds) (process_at w p)) (none_taken i).attached))
+      ∙ ap (λ l. install_all w p l) (no_pairs (lowest_free (min 0 fds) (process_at w p)))
+
+  pub peek-end : IsSound w → first_fit (receive_row x bytes) ≡ None → ProcessStep w p (step.Peek n bytes fds) reply.End w
+  peek-end sound given = done w p (step.Peek n bytes fds) w w reply.End (fits given) answered_end unseen (settles_none w sound.settled)
+
 -- A queue of no length has no message.
 pub no-message : {A : Type 0} (q : List A) → length q ≡ 0 → q ≡ []
 no-message [] e = refl

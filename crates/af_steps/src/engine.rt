@@ -108,6 +108,12 @@ impl Engine {
                 max_bytes,
                 max_fds,
             } => self.recv(pid, *on, *max_bytes, *max_fds),
+            events::Step::Peek {
+                on,
+                max_bytes,
+                max_fds,
+            } => self.peek(pid, *on, *max_bytes, *max_fds),
+            events::Step::Limit(nofile) => self.limit(pid, *nofile),
         }
     }
 

@@ -13,6 +13,3 @@ mod views;
 
 pub use engine::{Engine, RunStopped};
 pub use views::FileInfo;
-
-#[cfg(test)]
-mod tests;

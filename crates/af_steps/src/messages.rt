@@ -82,6 +82,38 @@ impl Engine {
         self.store.release();
         Ok(got(taken, fds))
     }
+
+    /// A process sees what a receive would take, which stays in the queue (recvmsg(2), MSG_PEEK).
+    /// Descriptors that are installed stand in a table and in the queue then, and the others in the
+    /// queue alone. A second peek sees the same.
+    pub(crate) fn peek(
+        &mut self,
+        pid: Pid,
+        on: Fd,
+        max_bytes: u32,
+        max_fds: u32,
+    ) -> Result<Reply, Errno>
+        ensures { Answers self.old pid (Step.Peek on max_bytes max_fds) result self.new }
+    {
+        let process = self.store.procs().find(pid).ok_or(Errno::ESRCH)?;
+        let file = process.lookup(on).ok_or(Errno::EBADF)?;
+        let socket = self.socket(&file).ok_or(Errno::ENOTSOCK)?;
+        check_receive(socket, max_bytes)?;
+        if socket.queue().len() == 0 {
+            return Ok(Reply::End);
+        }
+        let max = max_bytes as usize;
+        let count = socket
+            .queue()
+            .reach(socket.kind(), max)
+            .min(max_fds as usize);
+        let fds = process.lowest_free(self.alloc, count)?;
+        self.store.is_spared();
+        self.store.room_for(pid, fds.len())?;
+        let seen = self.store.peek_msg(&file, max, pid, &fds)?;
+        self.store.release();
+        Ok(got(seen, fds))
+    }
 }
 
 /// Whether a process may send these bytes with these numbers, or why not.
@@ -163,7 +195,7 @@ fn files_at(alloc: Global, process: &Process, fds: &[Fd]) -> Result<Attached, Al
     Ok(files)
 }
 
-/// The answer to a receive of this, whose first files were installed at these numbers.
+/// The answer to a receive or a peek of this, whose first files were installed at these numbers.
 fn got(taken: Taken, fds: Vec<Fd>) -> Reply
     ensures { result ≡ Reply.Got taken.message.bytes fds.items taken.trunc (nat_lt (length fds.items) (length taken.message.attached)) }
 {

@@ -101,6 +101,20 @@ impl Engine {
         Ok(Reply::Pid(child))
     }
 
+    /// A process has another limit on its descriptors (setrlimit(2), RLIMIT_NOFILE). What is open stays
+    /// open, also at or above the limit. It takes no memory.
+    pub(crate) fn limit(&mut self, pid: Pid, nofile: u32) -> Result<Reply, Errno>
+        ensures { Answers self.old pid (Step.Limit nofile) result self.new }
+    {
+        self.store.procs().find(pid).ok_or(Errno::ESRCH)?;
+        if nofile > MAX_NOFILE {
+            return Err(Errno::ERANGE);
+        }
+        self.store.set_limit(pid, nofile);
+        self.store.release();
+        Ok(Reply::Ok)
+    }
+
     /// A process ends, and all its numbers are closed (_exit(2)). It takes no memory.
     pub(crate) fn exit(&mut self, pid: Pid) -> Result<Reply, Errno>
         ensures { Answers self.old pid Step.Exit result self.new }

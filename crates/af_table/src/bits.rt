@@ -22,7 +22,6 @@ impl Bits {
     }
 
     /// Whether the number is taken. None beyond the largest limit is.
-    #[inline]
     pub fn has(&self, n: u32) -> bool
         ensures { result ≡ is_taken self.now.words n }
     {
@@ -31,7 +30,6 @@ impl Bits {
     }
 
     /// The number is taken from now on.
-    #[inline]
     pub fn set(&mut self, n: u32)
         requires { n < MAX_NOFILE }
         ensures { (q : ℕ) → is_taken self.new.words q ≡ (if nat_eq q n then true else is_taken self.old.words q) }
@@ -40,7 +38,6 @@ impl Bits {
     }
 
     /// The number is free from now on.
-    #[inline]
     pub fn clear(&mut self, n: u32)
         requires { n < MAX_NOFILE }
         ensures { (q : ℕ) → is_taken self.new.words q ≡ (if nat_eq q n then false else is_taken self.old.words q) }
@@ -50,7 +47,6 @@ impl Bits {
 
     /// The least number from `from` on and below `end` that is taken, or that is free. It looks at
     /// each word once, and at none beyond.
-    #[inline]
     pub fn next(&self, from: u32, end: u32, taken: bool) -> Option<u32>
         requires { end ≤ MAX_NOFILE }
         ensures found { IfSome result (λ n. is_taken self.now.words n ≡ taken) }
@@ -84,7 +80,6 @@ impl Bits {
 }
 
 /// The least place of a word from this one on whose bit is as wanted.
-#[inline]
 #[tactic(auto, using(crate::proofs::Words::places))]
 fn place_from(word: u64, from: u32, set: bool) -> Option<u32>
     requires { from < 64 }
@@ -98,7 +93,6 @@ fn place_from(word: u64, from: u32, set: bool) -> Option<u32>
 }
 
 /// The least place of a word from this one on whose bit is set.
-#[inline]
 #[tactic(auto, using(crate::proofs::Words::places))]
 fn set_place_from(word: u64, from: u32) -> Option<u32>
     requires { from < 64 }

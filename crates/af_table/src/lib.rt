@@ -9,6 +9,3 @@ mod procs;
 
 pub use process::Process;
 pub use procs::{Procs, Who};
-
-#[cfg(test)]
-mod tests;

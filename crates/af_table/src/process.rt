@@ -1,7 +1,7 @@
 //! A process with its table.
 ghost use Rattle.std.specs.Prelude.{◌≡◌, ℕ, ◌+◌, ◌≤◌, ◌<◌, [], ◌∷◌, length, slice_get, IfSome, IfNone, IfOk, OnOk, OnErr, IsOk};
 ghost use Rattle.std.specs.FinMap as map;
-ghost use Rattle.af_base.specs.Changes.{installed, taken_out};
+ghost use Rattle.af_base.specs.Changes.{installed, limited, taken_out};
 ghost use Rattle.af_base.specs.Table.{free_numbers, lowest_free};
 ghost use Rattle.af_table.specs.Free.{free_from};
 
@@ -93,7 +93,6 @@ impl Process {
     }
 
     /// What the number stands for; nothing where it is free.
-    #[inline]
     #[tactic(auto, using(crate::proofs::Tables::table_changes))]
     pub fn lookup(&self, fd: Fd) -> Option<FileRef>
         ensures { result ≡ map.get self.now.process.table fd }
@@ -121,8 +120,16 @@ impl Process {
         self.slots.resize_with(limit, || FileRef::new(Ino(0), 0))
     }
 
-    /// The number, for which there is room, stands for the file from now on.
+    /// Its limit is this from now on. What is open stays open, also at or above the limit.
     #[inline]
+    pub(crate) fn set_limit(&mut self, limit: u32)
+        requires { limit ≤ MAX_NOFILE }
+        ensures { self.new ≡ record self.old { process = limited limit self.old.process } }
+    {
+        self.limit = limit;
+    }
+
+    /// The number, for which there is room, stands for the file from now on.
     #[tactic(auto, using(crate::proofs::Tables::table_changes))]
     pub(crate) fn install(&mut self, fd: Fd, file: FileRef)
         requires { fd < self.old.row }
@@ -133,7 +140,6 @@ impl Process {
     }
 
     /// The number is free from now on. It answers what the number stood for.
-    #[inline]
     #[tactic(auto, using(crate::proofs::Tables::table_changes))]
     pub(crate) fn take_out(&mut self, fd: Fd) -> Option<FileRef>
         ensures value { result ≡ map.get self.old.process.table fd }

@@ -1,7 +1,7 @@
 //! The processes by pid.
 ghost use Rattle.std.specs.Prelude.{◌≡◌, ℕ, ◌+◌, ◌≤◌, ◌<◌, [], ◌∷◌, length, slice_get, IsTrue, IfSome, IfNone, IfOk, OnOk, OnErr, OnSome, IsOk};
 ghost use Rattle.std.specs.FinMap as map;
-ghost use Rattle.af_base.specs.Changes.{change_at, installed, taken_out};
+ghost use Rattle.af_base.specs.Changes.{change_at, installed, limited, taken_out};
 ghost use Rattle.af_base.specs.Places.{number_in};
 ghost use Rattle.af_base.specs.Refusals.{process_in};
 ghost use Rattle.af_base.specs.Table.{free_numbers, lowest_free};
@@ -78,7 +78,6 @@ impl Procs {
     }
 
     /// The process of that pid; nothing of a stranger.
-    #[inline]
     #[tactic(auto, using(crate::proofs::Parts::part_changes))]
     pub fn find(&self, pid: Pid) -> Option<&Process>
         ensures there { IfSome result (λ p. map.get self.now.processes pid ≡ Some p.now.process) }
@@ -244,9 +243,26 @@ impl Procs {
         process.make_room()
     }
 
+    /// The process has this limit on its descriptors from now on (setrlimit(2), RLIMIT_NOFILE): free
+    /// numbers are below it. A lower one closes nothing. It takes no memory.
+    #[inline]
+    #[tactic(auto, using(crate::proofs::Parts::part_changes))]
+    pub fn set_limit(&mut self, pid: Pid, limit: u32)
+        requires { limit ≤ MAX_NOFILE }
+        ensures processes { self.new.processes ≡ change_at (limited limit) self.old.processes pid }
+        ensures rows { self.new.rows ≡ self.old.rows }
+        ensures next { self.new.next_pid ≡ self.old.next_pid }
+        ensures room { self.new.room ≡ self.old.room }
+    {
+        let Some(index) = self.hints.found(&self.processes, pid) else {
+            return;
+        };
+        let (_, process) = self.processes.pair_mut(index);
+        process.set_limit(limit);
+    }
+
     /// The number of the process, for which there is room, stands for the file from now on,
     /// whatever it stood for. It takes no memory.
-    #[inline]
     #[tactic(auto, using(crate::proofs::Parts::part_changes))]
     pub fn install(&mut self, pid: Pid, fd: Fd, file: FileRef)
         requires { fd < row_in self.old.rows pid }
@@ -264,7 +280,6 @@ impl Procs {
 
     /// The number of the process is free from now on. It answers what the number stood for, which
     /// is nothing where it was free already, and nothing of a stranger. It takes no memory.
-    #[inline]
     #[tactic(auto, using(crate::proofs::Parts::part_changes))]
     pub fn take_out(&mut self, pid: Pid, fd: Fd) -> Option<FileRef>
         ensures value { result ≡ number_in self.old.processes pid fd }

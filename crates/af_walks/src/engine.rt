@@ -1,83 +1,69 @@
-//! What there is, and what goes after each event.
+//! What there is, as plain lists, and what goes after each event.
 
 use af_base::errno::Errno;
 use af_base::events::{Event, Reply, SockType, State};
 use af_base::limits::MAX_PASS;
 use af_base::names::{Fd, Ino, Pid, Uid};
-use std::alloc::{AllocError, Global};
-use std::collections::{BTreeMap, BTreeSet, VecDeque};
+use std::alloc::Global;
 
-/// A process, and what its open numbers stand for.
-#[derive(Drop)]
+/// A process.
+#[derive(Clone, Copy, Drop)]
 pub struct Process {
+    pub pid: Pid,
     pub user: Uid,
     pub limit: u32,
     pub privileged: bool,
-    pub table: BTreeMap<Fd, Ino>,
 }
 
-/// A message: its bytes, the files that travel with it, and who is charged for them.
+/// An open number of a process, and the file that it stands for.
+#[derive(Clone, Copy, Drop)]
+pub struct Number {
+    pub pid: Pid,
+    pub fd: Fd,
+    pub ino: Ino,
+}
+
+/// An open file description.
+#[derive(Drop)]
+pub struct File {
+    pub ino: Ino,
+    /// The type of a socket; a plain file has none.
+    pub kind: Option<SockType>,
+    /// Whom a socket can talk to; a plain file is idle.
+    pub state: State,
+    /// The abstract name of a socket, and no byte where it has none.
+    pub name: Vec<u8>,
+}
+
+/// A message that waits at a socket: its bytes, the files that travel with it, and who is charged
+/// for them.
 #[derive(Drop)]
 pub struct Message {
+    pub at: Ino,
     pub bytes: Vec<u8>,
     pub attached: Vec<Ino>,
     pub user: Uid,
 }
 
-/// A socket: its type, whom it can talk to, and its abstract name.
-#[derive(Drop)]
-pub struct Socket {
-    pub kind: SockType,
-    pub state: State,
-    pub name: Option<Vec<u8>>,
-}
-
-/// An open file description: a socket, or a plain file, which has nothing to it.
-#[derive(Drop)]
-pub struct File {
-    pub socket: Option<Socket>,
-    /// What the socket has to receive, the oldest first.
-    pub queue: VecDeque<Message>,
-    /// The embryos that wait at the socket to be accepted, the oldest first.
-    pub backlog: VecDeque<Ino>,
-}
-
-impl File {
-    /// Whom the socket is connected to.
-    fn peer(&self) -> Option<Ino> {
-        match self.socket.as_ref()?.state {
-            State::Connected(peer) => Some(peer),
-            _ => None,
-        }
-    }
-
-    /// The abstract name of the socket.
-    pub fn name(&self) -> Option<&[u8]> {
-        let name = self.socket.as_ref()?.name.as_ref()?;
-        Some(name.as_slice())
-    }
-
-    /// Whom the socket can talk to from now on.
-    pub fn set_state(&mut self, state: State) {
-        if let Some(socket) = &mut self.socket {
-            socket.state = state;
-        }
-    }
-
-    /// What the socket is called from now on.
-    pub fn set_name(&mut self, name: Vec<u8>) {
-        if let Some(socket) = &mut self.socket {
-            socket.name = Some(name);
-        }
-    }
+/// A socket that waits at a listener to be accepted.
+#[derive(Clone, Copy, Drop)]
+pub struct Embryo {
+    pub at: Ino,
+    pub ino: Ino,
 }
 
 /// A machine that does one event after another.
 #[derive(Drop)]
 pub struct Engine {
     pub(crate) alloc: Global,
-    pub(crate) processes: BTreeMap<Pid, Process>,
-    pub(crate) files: BTreeMap<Ino, File>,
+    pub(crate) processes: Vec<Process>,
+    pub(crate) numbers: Vec<Number>,
+    /// The live files by rising number.
+    pub(crate) files: Vec<File>,
+    /// What waits in all queues. What came first stands first.
+    pub(crate) messages: Vec<Message>,
+    /// What waits in all backlogs. What came first stands first.
+    pub(crate) embryos: Vec<Embryo>,
     pub(crate) next_pid: u32,
     pub(crate) next_ino: u64,
     /// The number of the last pass, 0 before the first.
@@ -89,8 +75,11 @@ impl Engine {
     pub fn new(alloc: Global) -> Engine {
         Engine {
             alloc,
-            processes: BTreeMap::new(alloc),
-            files: BTreeMap::new(alloc),
+            processes: Vec::new(alloc),
+            numbers: Vec::new(alloc),
+            files: Vec::new(alloc),
+            messages: Vec::new(alloc),
+            embryos: Vec::new(alloc),
             next_pid: 1,
             next_ino: 1,
             last_pass: 0,
@@ -99,23 +88,27 @@ impl Engine {
 
     /// Does one event.
     pub fn step(&mut self, event: &Event) -> Reply {
-        let answer = match event {
+        match self.answer(event) {
+            Ok(reply) => {
+                self.settle();
+                reply
+            }
+            Err(errno) => Reply::Refused(errno),
+        }
+    }
+
+    fn answer(&mut self, event: &Event) -> Result<Reply, Errno> {
+        match event {
             Event::Spawn {
                 uid,
                 nofile,
                 privileged,
             } => self.spawn(*uid, *nofile, *privileged),
             Event::Proc(pid, step) => self.step_of(*pid, step),
-            // Walks have whole passes alone: which files a slice empties is the other engine's choice.
+            // Walks have whole passes alone: which files a slice empties is the other engine's
+            // choice.
             Event::Begin | Event::Slice(_) => Err(Errno::EINVAL),
-            Event::Pass => self.pass(),
-        };
-        match answer {
-            Ok(reply) => {
-                self.settle();
-                reply
-            }
-            Err(errno) => Reply::Refused(errno),
+            Event::Pass => Ok(self.pass()),
         }
     }
 
@@ -131,75 +124,84 @@ impl Engine {
 
     /// A file that no place holds.
     fn unheld(&self) -> Option<Ino> {
-        self.files.keys().copied().find(|ino| self.refs(*ino) == 0)
+        for file in &self.files {
+            if self.refs(file.ino) == 0 {
+                return Some(file.ino);
+            }
+        }
+        None
     }
 
     /// A file goes with its queue, its backlog and its name, and its peer hangs up.
-    fn drop_file(&mut self, ino: Ino) {
-        let Some(file) = self.files.remove(&ino) else {
-            return;
-        };
-        if let Some(peer) = file.peer() {
-            self.hang_up(peer);
-        }
-    }
-
-    /// The peer of the socket is gone.
-    fn hang_up(&mut self, ino: Ino) {
-        if let Some(file) = self.files.get_mut(&ino) {
-            file.set_state(State::HungUp);
+    fn drop_file(&mut self, gone: Ino) {
+        self.files.retain(|file| file.ino != gone);
+        self.messages.retain(|message| message.at != gone);
+        self.embryos.retain(|embryo| embryo.at != gone);
+        for file in &mut self.files {
+            if file.state == State::Connected(gone) {
+                file.state = State::HungUp;
+            }
         }
     }
 
     /// A whole pass of the collector: the queues and backlogs of all files that are not reached are
     /// emptied.
-    fn pass(&mut self) -> Result<Reply, Errno> {
-        let reached = self.reached().map_err(|_| Errno::ENOMEM)?;
+    fn pass(&mut self) -> Reply {
+        let reached = self.reached();
         let mut reclaimed: u64 = 0;
-        for (ino, file) in self.files.iter_mut() {
-            if reached.contains(ino) {
-                continue;
-            }
-            if file.socket.is_some() {
+        for file in &self.files {
+            if file.kind.is_some() && !reached.contains(&file.ino) {
                 reclaimed = reclaimed.saturating_add(1);
             }
-            file.queue.clear();
-            file.backlog.clear();
         }
+        self.messages
+            .retain(|message| reached.contains(&message.at));
+        self.embryos.retain(|embryo| reached.contains(&embryo.at));
         self.last_pass = self.last_pass.saturating_add(1).min(MAX_PASS);
-        Ok(Reply::Done {
+        Reply::Done {
             pass: self.last_pass,
             reclaimed,
-        })
+        }
     }
 
-    /// The files that a chain of queues and backlogs leads to from a table.
-    fn reached(&self) -> Result<BTreeSet<Ino>, AllocError> {
-        let mut reached = BTreeSet::new(self.alloc);
-        let mut waiting = Vec::new(self.alloc);
-        for process in self.processes.values() {
-            for ino in process.table.values() {
-                waiting.push(*ino)?;
-            }
+    /// The files that a chain of queues and backlogs leads to from a table: a chain has no more
+    /// links than there are files.
+    fn reached(&self) -> Vec<Ino> {
+        let mut reached = Vec::new(self.alloc);
+        for number in &self.numbers {
+            reach(&mut reached, number.ino);
         }
-        // Bounded only so that it returns: a file is read once, so what waits runs out.
-        for _ in 0..usize::MAX {
-            let Some(ino) = waiting.pop() else {
-                break;
-            };
-            if !reached.insert(ino)? {
-                continue;
-            }
-            let Some(file) = self.files.get(&ino) else {
-                continue;
-            };
-            for message in &file.queue {
-                waiting.extend_from_slice(&message.attached)?;
-            }
-            for embryo in &file.backlog {
-                waiting.push(*embryo)?;
-            }
+        for _ in 0..self.files.len() {
+            self.reach_next(&mut reached);
         }
-        Ok(reached)
+        reached
     }
+
+    /// What waits at files that are reached is reached.
+    fn reach_next(&self, reached: &mut Vec<Ino>) {
+        for message in &self.messages {
+            if reached.contains(&message.at) {
+                for ino in &message.attached {
+                    reach(reached, *ino);
+                }
+            }
+        }
+        for embryo in &self.embryos {
+            if reached.contains(&embryo.at) {
+                reach(reached, embryo.ino);
+            }
+        }
+    }
+}
+
+/// The file is in the list of those that are reached.
+fn reach(reached: &mut Vec<Ino>, ino: Ino) {
+    if !reached.contains(&ino) {
+        add(reached, ino);
+    }
+}
+
+/// The item goes last into the list.
+pub fn add<T: Drop>(list: &mut Vec<T>, item: T) {
+    let _ = list.push(item);
 }

@@ -1,7 +1,6 @@
 //! The steps of processes. Tests stand in the order in which they are answered.
 
-use crate::engine::{Engine, File, Message, Process, Socket};
-use crate::take::Taken;
+use crate::engine::{Engine, File, Message, Number, Process, add};
 use af_base::errno::Errno;
 use af_base::events::{Reply, SockType, State, Step};
 use af_base::items::Items;
@@ -10,7 +9,6 @@ use af_base::limits::{
     SCM_MAX_FD,
 };
 use af_base::names::{Fd, Ino, Pid, Uid};
-use std::collections::{BTreeMap, VecDeque};
 
 impl Engine {
     /// A step of a process.
@@ -35,7 +33,13 @@ impl Engine {
                 on,
                 max_bytes,
                 max_fds,
-            } => self.recv(pid, *on, *max_bytes, *max_fds),
+            } => self.recv(pid, *on, *max_bytes, *max_fds as usize),
+            Step::Peek {
+                on,
+                max_bytes,
+                max_fds,
+            } => self.peek(pid, *on, *max_bytes, *max_fds as usize),
+            Step::Limit(limit) => self.limit(pid, *limit),
         }
     }
 
@@ -44,66 +48,71 @@ impl Engine {
         if limit > MAX_NOFILE {
             return Err(Errno::ERANGE);
         }
-        self.add_process(Process {
-            user,
-            limit,
-            privileged,
-            table: BTreeMap::new(self.alloc),
-        })
+        let pid = self.add_process(user, limit, privileged)?;
+        Ok(Reply::Pid(pid))
     }
 
     fn open(&mut self, pid: Pid) -> Result<Reply, Errno> {
-        let fd = self.lowest_free(pid)?;
+        let fd = self.lowest_free(pid, 0)?;
         self.check_room(1)?;
-        let ino = self.add_file(None)?;
-        self.install(pid, fd, ino)?;
+        let ino = self.add_file(None, State::Idle);
+        self.install(pid, fd, ino);
         Ok(Reply::Fd(fd))
     }
 
     fn dup(&mut self, pid: Pid, from: Fd) -> Result<Reply, Errno> {
         let ino = self.lookup(pid, from)?;
-        let fd = self.lowest_free(pid)?;
-        self.install(pid, fd, ino)?;
+        let fd = self.lowest_free(pid, 0)?;
+        self.install(pid, fd, ino);
         Ok(Reply::Fd(fd))
     }
 
     fn dup2(&mut self, pid: Pid, from: Fd, to: Fd) -> Result<Reply, Errno> {
         let ino = self.lookup(pid, from)?;
-        if to.0 >= self.process(pid)?.limit {
+        if to != from && to.0 >= self.process(pid)?.limit {
             return Err(Errno::EBADF);
         }
-        self.install(pid, to, ino)?;
+        self.install(pid, to, ino);
         Ok(Reply::Fd(to))
     }
 
     fn close(&mut self, pid: Pid, fd: Fd) -> Result<Reply, Errno> {
         self.lookup(pid, fd)?;
-        if let Some(process) = self.processes.get_mut(&pid) {
-            process.table.remove(&fd);
-        }
+        self.free(pid, fd);
         Ok(Reply::Ok)
     }
 
     fn fork(&mut self, pid: Pid) -> Result<Reply, Errno> {
         let parent = self.process(pid)?;
-        let mut table = BTreeMap::new(self.alloc);
-        for (fd, ino) in &parent.table {
-            table.insert(*fd, *ino).map_err(|_| Errno::ENOMEM)?;
+        let child = self.add_process(parent.user, parent.limit, parent.privileged)?;
+        for index in 0..self.numbers.len() {
+            if let Some(number) = self.numbers.get(index).copied()
+                && number.pid == pid
+            {
+                self.install(child, number.fd, number.ino);
+            }
         }
-        let child = Process {
-            user: parent.user,
-            limit: parent.limit,
-            privileged: parent.privileged,
-            table,
-        };
-        self.add_process(child)
+        Ok(Reply::Pid(child))
     }
 
     fn exit(&mut self, pid: Pid) -> Result<Reply, Errno> {
-        match self.processes.remove(&pid) {
-            Some(_) => Ok(Reply::Ok),
-            None => Err(Errno::ESRCH),
+        self.process(pid)?;
+        self.processes.retain(|process| process.pid != pid);
+        self.numbers.retain(|number| number.pid != pid);
+        Ok(Reply::Ok)
+    }
+
+    fn limit(&mut self, pid: Pid, limit: u32) -> Result<Reply, Errno> {
+        self.process(pid)?;
+        if limit > MAX_NOFILE {
+            return Err(Errno::ERANGE);
         }
+        for process in &mut self.processes {
+            if process.pid == pid {
+                process.limit = limit;
+            }
+        }
+        Ok(Reply::Ok)
     }
 
     fn send(&mut self, pid: Pid, on: Fd, bytes: &[u8], attach: &[Fd]) -> Result<Reply, Errno> {
@@ -114,109 +123,128 @@ impl Engine {
         if bytes.len() > MAX_BYTES {
             return Err(Errno::EMSGSIZE);
         }
-        let mut attached = Vec::new(self.alloc);
         for fd in attach {
-            let ino = self.lookup(pid, *fd)?;
-            attached.push(ino).map_err(|_| Errno::ENOMEM)?;
+            self.lookup(pid, *fd)?;
         }
         let peer = match state {
             State::Idle | State::Listening(_) => return Err(Errno::ENOTCONN),
             State::HungUp => return Err(Errno::EPIPE),
             State::Connected(peer) => peer,
         };
-        self.check_charge(pid, attached.len())?;
+        let user = self.charged_user(pid, attach.len() as u64)?;
+        if self.queued(peer) >= MAX_MESSAGES {
+            return Err(Errno::EAGAIN);
+        }
         let message = Message {
-            bytes: bytes.to_vec(self.alloc).map_err(|_| Errno::ENOMEM)?,
-            attached,
-            user: self.process(pid)?.user,
+            at: peer,
+            bytes: bytes.to_vec(self.alloc)?,
+            attached: self.files_at(pid, attach),
+            user,
         };
-        self.push(peer, message)?;
+        add(&mut self.messages, message);
         Ok(Reply::Sent(bytes.len() as u32))
     }
 
-    fn recv(&mut self, pid: Pid, on: Fd, max_bytes: u32, max_fds: u32) -> Result<Reply, Errno> {
-        let socket = self.socket_at(pid, on)?;
-        let (kind, state) = (socket.kind, socket.state);
-        if max_bytes == 0 || max_bytes as usize > MAX_BYTES {
-            return Err(Errno::EINVAL);
-        }
-        if matches!(state, State::Idle | State::Listening(_)) {
-            return Err(Errno::ENOTCONN);
-        }
-        let ino = self.lookup(pid, on)?;
-        let taken = self.take(ino, kind, max_bytes as usize);
-        let Some(taken) = taken.map_err(|_| Errno::ENOMEM)? else {
-            return match state {
+    fn recv(&mut self, pid: Pid, on: Fd, max: u32, max_fds: usize) -> Result<Reply, Errno> {
+        let (ino, kind) = self.receiver(pid, on, max as usize)?;
+        if self.queued(ino) == 0 {
+            return match self.socket_at(pid, on)?.state {
                 State::HungUp => Ok(Reply::End),
                 _ => Err(Errno::EAGAIN),
             };
-        };
-        let Taken {
-            bytes,
-            attached,
-            trunc,
-        } = taken;
-        let fds = self.free_numbers(pid, attached.len().min(max_fds as usize))?;
-        for (fd, ino) in fds.iter().zip(&attached) {
-            self.install(pid, *fd, *ino)?;
         }
-        let ctrunc = attached.len() > fds.len();
+        let taken = self.take(ino, kind, max as usize);
+        let fds = self.install_free(pid, &taken.attached, max_fds);
         Ok(Reply::Got {
-            bytes: Items::of(bytes),
+            ctrunc: taken.attached.len() > fds.len(),
+            bytes: Items::of(taken.bytes),
             fds: Items::of(fds),
-            trunc,
-            ctrunc,
+            trunc: taken.trunc,
         })
+    }
+
+    /// A receive whose messages are put back as they were, before what nothing holds goes.
+    fn peek(&mut self, pid: Pid, on: Fd, max: u32, max_fds: usize) -> Result<Reply, Errno> {
+        let kept = self.messages_again()?;
+        let reply = self.recv(pid, on, max, max_fds)?;
+        self.messages = kept;
+        Ok(reply)
     }
 }
 
 /// What the steps share.
 impl Engine {
-    fn process(&self, pid: Pid) -> Result<&Process, Errno> {
-        self.processes.get(&pid).ok_or(Errno::ESRCH)
+    pub(crate) fn process(&self, pid: Pid) -> Result<Process, Errno> {
+        for process in &self.processes {
+            if process.pid == pid {
+                return Ok(*process);
+            }
+        }
+        Err(Errno::ESRCH)
     }
 
-    fn add_process(&mut self, process: Process) -> Result<Reply, Errno> {
+    fn add_process(&mut self, user: Uid, limit: u32, privileged: bool) -> Result<Pid, Errno> {
         if self.processes.len() >= MAX_PROCESSES || self.next_pid > MAX_PID {
             return Err(Errno::EAGAIN);
         }
         let pid = Pid(self.next_pid);
-        self.processes
-            .insert(pid, process)
-            .map_err(|_| Errno::ENOMEM)?;
+        let process = Process {
+            pid,
+            user,
+            limit,
+            privileged,
+        };
+        add(&mut self.processes, process);
         self.next_pid = self.next_pid.saturating_add(1);
-        Ok(Reply::Pid(pid))
+        Ok(pid)
     }
 
     /// What the number of the process stands for.
     pub fn lookup(&self, pid: Pid, fd: Fd) -> Result<Ino, Errno> {
-        let table = &self.process(pid)?.table;
-        table.get(&fd).copied().ok_or(Errno::EBADF)
+        self.process(pid)?;
+        for number in &self.numbers {
+            if number.pid == pid && number.fd == fd {
+                return Ok(number.ino);
+            }
+        }
+        Err(Errno::EBADF)
     }
 
-    /// The lowest free numbers of the process: so many, or all where there are fewer.
-    pub(crate) fn free_numbers(&self, pid: Pid, count: usize) -> Result<Vec<Fd>, Errno> {
-        let process = self.process(pid)?;
-        (0..process.limit)
-            .map(|number| Fd(number))
-            .filter(|fd| !process.table.contains_key(fd))
-            .take(count)
-            .collect(self.alloc)
-            .map_err(|_| Errno::ENOMEM)
-    }
-
-    /// The lowest free number of the process.
-    pub(crate) fn lowest_free(&self, pid: Pid) -> Result<Fd, Errno> {
-        let free = self.free_numbers(pid, 1)?;
-        free.first().copied().ok_or(Errno::EMFILE)
+    /// The lowest free number of the process from this one on.
+    pub(crate) fn lowest_free(&self, pid: Pid, from: u32) -> Result<Fd, Errno> {
+        for number in from..self.process(pid)?.limit {
+            if self.lookup(pid, Fd(number)).is_err() {
+                return Ok(Fd(number));
+            }
+        }
+        Err(Errno::EMFILE)
     }
 
     /// The number stands for the file from now on.
-    pub(crate) fn install(&mut self, pid: Pid, fd: Fd, ino: Ino) -> Result<(), Errno> {
-        if let Some(process) = self.processes.get_mut(&pid) {
-            process.table.insert(fd, ino).map_err(|_| Errno::ENOMEM)?;
+    pub(crate) fn install(&mut self, pid: Pid, fd: Fd, ino: Ino) {
+        self.free(pid, fd);
+        add(&mut self.numbers, Number { pid, fd, ino });
+    }
+
+    /// The number is free from now on.
+    pub(crate) fn free(&mut self, pid: Pid, fd: Fd) {
+        self.numbers
+            .retain(|number| number.pid != pid || number.fd != fd);
+    }
+
+    /// The first of the files, so many at most, get the lowest free numbers, as long as there are
+    /// any.
+    fn install_free(&mut self, pid: Pid, files: &[Ino], most: usize) -> Vec<Fd> {
+        let mut fds = Vec::new(self.alloc);
+        for ino in files {
+            if fds.len() < most
+                && let Ok(fd) = self.lowest_free(pid, 0)
+            {
+                self.install(pid, fd, *ino);
+                add(&mut fds, fd);
+            }
         }
-        Ok(())
+        fds
     }
 
     /// Whether so many files more may be made.
@@ -229,46 +257,63 @@ impl Engine {
         Ok(())
     }
 
-    pub(crate) fn add_file(&mut self, socket: Option<Socket>) -> Result<Ino, Errno> {
+    pub(crate) fn add_file(&mut self, kind: Option<SockType>, state: State) -> Ino {
         let ino = Ino(self.next_ino);
+        let name = Vec::new(self.alloc);
         let file = File {
-            socket,
-            queue: VecDeque::new(self.alloc),
-            backlog: VecDeque::new(self.alloc),
+            ino,
+            kind,
+            state,
+            name,
         };
-        self.files.insert(ino, file).map_err(|_| Errno::ENOMEM)?;
+        add(&mut self.files, file);
         self.next_ino = self.next_ino.saturating_add(1);
-        Ok(ino)
+        ino
     }
 
     /// The socket that the number stands for.
-    pub(crate) fn socket_at(&self, pid: Pid, fd: Fd) -> Result<&Socket, Errno> {
+    pub(crate) fn socket_at(&self, pid: Pid, fd: Fd) -> Result<&File, Errno> {
         let ino = self.lookup(pid, fd)?;
-        let socket = self.files.get(&ino).and_then(|file| file.socket.as_ref());
-        socket.ok_or(Errno::ENOTSOCK)
+        match self.file(ino) {
+            Some(file) if file.kind.is_some() => Ok(file),
+            _ => Err(Errno::ENOTSOCK),
+        }
     }
 
-    /// Whether the process may send so many files.
-    fn check_charge(&self, pid: Pid, count: usize) -> Result<(), Errno> {
+    /// The socket from which so many bytes may be received, and its type.
+    fn receiver(&self, pid: Pid, on: Fd, max: usize) -> Result<(Ino, SockType), Errno> {
+        let socket = self.socket_at(pid, on)?;
+        if max == 0 || max > MAX_BYTES {
+            return Err(Errno::EINVAL);
+        }
+        if matches!(socket.state, State::Idle | State::Listening(_)) {
+            return Err(Errno::ENOTCONN);
+        }
+        let kind = socket.kind.ok_or(Errno::ENOTSOCK)?;
+        Ok((socket.ino, kind))
+    }
+
+    /// Who is charged for so many files, where the process may send them.
+    fn charged_user(&self, pid: Pid, count: u64) -> Result<Uid, Errno> {
         let process = self.process(pid)?;
         let is_over = self.charged(process.user) > u64::from(process.limit);
         if count > 0 && is_over && !process.privileged {
             return Err(Errno::ETOOMANYREFS);
         }
-        if self.total().saturating_add(count as u64) > MAX_INFLIGHT {
+        if self.total().saturating_add(count) > MAX_INFLIGHT {
             return Err(Errno::ENOBUFS);
         }
-        Ok(())
+        Ok(process.user)
     }
 
-    /// The message goes last into the queue of the socket.
-    fn push(&mut self, ino: Ino, message: Message) -> Result<(), Errno> {
-        let Some(file) = self.files.get_mut(&ino) else {
-            return Err(Errno::EPIPE);
-        };
-        if file.queue.len() >= MAX_MESSAGES {
-            return Err(Errno::EAGAIN);
+    /// What open numbers of the process stand for.
+    fn files_at(&self, pid: Pid, fds: &[Fd]) -> Vec<Ino> {
+        let mut files = Vec::new(self.alloc);
+        for fd in fds {
+            if let Ok(ino) = self.lookup(pid, *fd) {
+                add(&mut files, ino);
+            }
         }
-        file.queue.push_back(message).map_err(|_| Errno::ENOMEM)
+        files
     }
 }

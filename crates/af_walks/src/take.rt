@@ -1,10 +1,9 @@
-//! What a receive takes, written as the manual tells it: all bytes are joined, and then cut.
+//! What a receive takes.
 
 use crate::engine::{Engine, Message};
 use af_base::events::SockType;
 use af_base::names::Ino;
 use std::alloc::{AllocError, Global};
-use std::collections::VecDeque;
 use std::mem;
 
 /// What a receive takes.
@@ -14,90 +13,65 @@ pub struct Taken {
     pub attached: Vec<Ino>,
     /// Bytes were dropped.
     pub trunc: bool,
+    /// Nothing more is taken.
+    is_done: bool,
+}
+
+impl Taken {
+    fn nothing(alloc: Global) -> Taken {
+        Taken {
+            bytes: Vec::new(alloc),
+            attached: Vec::new(alloc),
+            trunc: false,
+            is_done: false,
+        }
+    }
+
+    /// Takes the first bytes of a message, and its files with the first of them. The rest of a
+    /// packet is dropped. Files end a receive from a stream, with the message that had them.
+    fn add(&mut self, message: &mut Message, kind: SockType, max: usize) {
+        let wanted = max.saturating_sub(self.bytes.len());
+        let count = wanted.min(message.bytes.len());
+        if let Ok(rest) = message.bytes.split_off(count) {
+            let _ = self.bytes.append(&mut message.bytes);
+            self.trunc = kind == SockType::Seqpacket && !rest.is_empty();
+            message.bytes = rest;
+        }
+        mem::swap(&mut self.attached, &mut message.attached);
+        self.is_done = kind == SockType::Seqpacket
+            || !self.attached.is_empty()
+            || self.bytes.len() >= max;
+        if kind == SockType::Seqpacket {
+            message.bytes.clear();
+        }
+    }
 }
 
 impl Engine {
-    /// What a receive of at most so many bytes takes from the socket, if a message waits in it.
-    pub fn take(
-        &mut self,
-        ino: Ino,
-        kind: SockType,
-        max: usize,
-    ) -> Result<Option<Taken>, AllocError> {
-        let Some(file) = self.files.get_mut(&ino) else {
-            return Ok(None);
-        };
-        match kind {
-            SockType::Seqpacket => Ok(take_packet(&mut file.queue, max)),
-            SockType::Stream if file.queue.is_empty() => Ok(None),
-            SockType::Stream => Ok(Some(take_stream(self.alloc, &mut file.queue, max)?)),
+    /// What a receive of at most so many bytes, at least one, takes from the socket. Messages of
+    /// which no byte is left go.
+    pub fn take(&mut self, ino: Ino, kind: SockType, max: usize) -> Taken {
+        let mut taken = Taken::nothing(self.alloc);
+        for message in &mut self.messages {
+            if message.at == ino && !taken.is_done {
+                taken.add(message, kind, max);
+            }
         }
+        self.messages.retain(|message| !message.bytes.is_empty());
+        taken
     }
-}
 
-/// The first message. The bytes of it that are too many are dropped.
-fn take_packet(queue: &mut VecDeque<Message>, max: usize) -> Option<Taken> {
-    let Message {
-        mut bytes,
-        attached,
-        ..
-    } = queue.pop_front()?;
-    let trunc = bytes.len() > max;
-    bytes.truncate(max);
-    Some(Taken {
-        bytes,
-        attached,
-        trunc,
-    })
-}
-
-/// The first bytes, but none behind the first message with files, which come with its first byte.
-fn take_stream(
-    alloc: Global,
-    queue: &mut VecDeque<Message>,
-    max: usize,
-) -> Result<Taken, AllocError> {
-    let (mut joined, begin, end) = join(alloc, queue)?;
-    let count = max.min(end);
-    let mut attached = Vec::new(alloc);
-    let mut rest = VecDeque::new(alloc);
-    let mut start: usize = 0;
-    for _ in 0..queue.len() {
-        let Some(mut message) = queue.pop_front() else {
-            break;
-        };
-        let stop = start.saturating_add(message.bytes.len());
-        let left = joined.get(start.max(count)..stop).unwrap_or(&[]);
-        message.bytes = left.to_vec(alloc)?;
-        if count > begin && attached.is_empty() {
-            mem::swap(&mut attached, &mut message.attached);
+    /// All messages, once more.
+    pub fn messages_again(&self) -> Result<Vec<Message>, AllocError> {
+        let mut messages = Vec::new(self.alloc);
+        for message in &self.messages {
+            messages.push(Message {
+                at: message.at,
+                bytes: message.bytes.to_vec(self.alloc)?,
+                attached: message.attached.to_vec(self.alloc)?,
+                user: message.user,
+            })?;
         }
-        if !message.bytes.is_empty() {
-            rest.push_back(message)?;
-        }
-        start = stop;
+        Ok(messages)
     }
-    *queue = rest;
-    joined.truncate(count);
-    Ok(Taken {
-        bytes: joined,
-        attached,
-        trunc: false,
-    })
-}
-
-/// The bytes of all messages, and where the first message with files begins and ends in them. Where
-/// there is none, both are the end of all.
-fn join(alloc: Global, queue: &VecDeque<Message>) -> Result<(Vec<u8>, usize, usize), AllocError> {
-    let mut joined = Vec::new(alloc);
-    let mut files = None;
-    for message in queue {
-        let begin = joined.len();
-        joined.extend_from_slice(&message.bytes)?;
-        if files.is_none() && !message.attached.is_empty() {
-            files = Some((begin, joined.len()));
-        }
-    }
-    let (begin, end) = files.unwrap_or((joined.len(), joined.len()));
-    Ok((joined, begin, end))
 }

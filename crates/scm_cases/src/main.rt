@@ -9,8 +9,8 @@
 mod case;
 
 use crate::case::{BEFORE_NAME, Case};
-use scm_run::run::run_script;
-use scm_watched::watched::Watched;
+use scm_run::run_script;
+use scm_watched::Watched;
 use std::alloc::Global;
 use std::io;
 use std::io::{BufWriter, Write};

@@ -12,7 +12,7 @@ use Rattle.scm_lines.specs.Numbers.{number_in}
 use Rattle.scm_lines.specs.Payload.{payload_of}
 use Rattle.scm_lines.specs.Attached.{attached_of}
 use Rattle.scm_lines.specs.Keywords.{opening_of, type_of, verb_of, verbs}
-use Rattle.scm_lines.specs.Lines.{accept_of, all_printable, bind_of, close_of, connect_of, dup2_of, dup_of, form_of, is_comment, line_of, listen_of, on_and_name, opened_by, pair_of, privilege_of, process_of, recv_of, send_of, slice_of, socket_of, spawn_of, step_of, words_say}
+use Rattle.scm_lines.specs.Lines.{accept_of, all_printable, bind_of, close_of, connect_of, dup2_of, dup_of, form_of, is_comment, limit_of, line_of, listen_of, on_and_name, opened_by, pair_of, peek_of, privilege_of, process_of, recv_of, send_of, slice_of, socket_of, spawn_of, step_of, version_of, words_say}
 use Rattle.scm_lines.specs.Says.{IsLine, IsNumber, Says, SaysStep, type_name}
 use Rattle.scm_lines.specs.declared.keywords.Opening.{Opening}
 use Rattle.scm_lines.specs.declared.keywords.Opening.TheVariants as opening
@@ -197,6 +197,28 @@ recv_said words st e =
     let whole : words ≡ a ∷ b ∷ c ∷ [] = cc in
     rw (← is) (a, b, c, (ap (onto (codes "recv")) whole, n1, n2, n3))
 
+peek_said : (words : List (List ℕ)) (st : Step) → peek_of words ≡ Some st → SaysStep (codes "peek" ∷ words) st
+unfolding peek_of
+peek_said words st e =
+    let (on, (e1, f1)) = bound (number_in words) _ st e in
+    let (max_bytes, (e2, f2)) = bound (number_in on.1) _ st f1 in
+    let (max_fds, (e3, f3)) = bound (number_in max_bytes.1) _ st f2 in
+    let (a, (w1, n1)) = number_first words on.0 on.1 e1 in
+    let (b, (w2, n2)) = number_first on.1 max_bytes.0 max_bytes.1 e2 in
+    let (c, (w3, n3)) = number_first max_bytes.1 max_fds.0 max_fds.1 e3 in
+    let (none, is) = ended (step.Peek on.0 max_bytes.0 max_fds.0) st max_fds.1 f3 in
+    let whole : words ≡ a ∷ b ∷ c ∷ [] = cc in
+    rw (← is) (a, b, c, (ap (onto (codes "peek")) whole, n1, n2, n3))
+
+limit_said : (words : List (List ℕ)) (st : Step) → limit_of words ≡ Some st → SaysStep (codes "limit" ∷ words) st
+unfolding limit_of
+limit_said words st e =
+    let (nofile, (e1, f1)) = bound (number_in words) _ st e in
+    let (a, (w1, n1)) = number_first words nofile.0 nofile.1 e1 in
+    let (none, is) = ended (step.Limit nofile.0) st nofile.1 f1 in
+    let whole : words ≡ a ∷ [] = w1 ∙ ap (onto a) none in
+    rw (← is) (a, (ap (onto (codes "limit")) whole, n1))
+
 -- what holds of a table's first row, before what holds of the others
 infixr 10 ◌▸◌
 ◌▸◌ : {A B : Type 0} → A → B → A × B
@@ -223,9 +245,19 @@ step_said =
     ▸ accept_said
     ▸ send_said
     ▸ recv_said
+    ▸ peek_said
+    ▸ limit_said
     ▸ tt
 
 -- ---- lines
+
+-- What follows version, where it can be read, is 2 alone.
+version_said : (words : List (List ℕ)) (said : Line) → version_of words ≡ Some said → Says (codes "version" ∷ words) said
+version_said [] said e = cc
+version_said (word ∷ words) said e =
+    let (test, same) = allowed (bytes_eq word (codes "2")) (at_end line.Version2 words) said e in
+    let (none, is) = ended line.Version2 said words same in
+    rw (← is) (ap (onto (codes "version")) (ap (onto word) none ∙ ap (λ (w : List ℕ). w ∷ []) (same_word word (codes "2") test)))
 
 process_said : (a : List ℕ) (pid : ℕ) (words : List (List ℕ)) (ev : Event) → IsNumber a pid → process_of pid words ≡ Some ev → Says (a ∷ words) (line.Event ev)
 unfolding process_of
@@ -255,6 +287,7 @@ opened_said word opening.Pass words said opens e = alone word (codes "pass") wor
 opened_said word opening.Table words said opens e = alone word (codes "table") words (line.Report report.Table) said refl opens e
 opened_said word opening.Totals words said opens e = alone word (codes "totals") words (line.Report report.Totals) said refl opens e
 opened_said word opening.Check words said opens e = alone word (codes "check") words (line.Report report.Check) said refl opens e
+opened_said word opening.Version words said opens e = rw opens (version_said words said e)
 opened_said word (opening.Process pid) words said opens e =
     let (ev, (e1, is)) = mapped line.Event (process_of pid words) said e in
     rw (← is) (process_said word pid words ev opens e1)

@@ -37,6 +37,7 @@ Opens word opening.Pass = word ≡ codes "pass"
 Opens word opening.Table = word ≡ codes "table"
 Opens word opening.Totals = word ≡ codes "totals"
 Opens word opening.Check = word ≡ codes "check"
+Opens word opening.Version = word ≡ codes "version"
 Opens word (opening.Process pid) = IsNumber word pid
 
 -- this keyword, or one of the others
@@ -57,7 +58,8 @@ keyword_said word o e =
     opened word (codes "pass") opening.Pass o _ (λ w. w) e3 (λ e4.
     opened word (codes "table") opening.Table o _ (λ w. w) e4 (λ e5.
     opened word (codes "totals") opening.Totals o _ (λ w. w) e5 (λ e6.
-    opened word (codes "check") opening.Check o _ (λ w. w) e6 (none_opened word o)))))))
+    opened word (codes "check") opening.Check o _ (λ w. w) e6 (λ e7.
+    opened word (codes "version") opening.Version o _ (λ w. w) e7 (none_opened word o))))))))
 
 pub opening_said : (word : List ℕ) (o : Opening) → opening_of word ≡ Some o → Opens word o
 opening_said word o e = elim (chosen (is_some (keyword_of word)) _ _ _ e) [
@@ -73,9 +75,10 @@ opening_read word opening.Pass e = rw e refl
 opening_read word opening.Table e = rw e refl
 opening_read word opening.Totals e = rw e refl
 opening_read word opening.Check e = rw e refl
+opening_read word opening.Version e = rw e refl
 opening_read word (opening.Process pid) number =
     let other : (text : List ℕ) → all_digits text ≡ false → bytes_eq word text ≡ false = λ text letters. no_keyword word text pid number letters in
-    rw (other (codes "spawn") refl, other (codes "begin") refl, other (codes "slice") refl, other (codes "pass") refl, other (codes "table") refl, other (codes "totals") refl, other (codes "check") refl, number_read word pid number) refl
+    rw (other (codes "spawn") refl, other (codes "begin") refl, other (codes "slice") refl, other (codes "pass") refl, other (codes "table") refl, other (codes "totals") refl, other (codes "check") refl, other (codes "version") refl, number_read word pid number) refl
 
 pub type_said : (word : List ℕ) (kind : SockType) → type_of word ≡ Some kind → word ≡ type_name kind
 type_said = meaning_said (λ word kind. word ≡ type_name kind) types (refl, (refl, tt))

@@ -9,3 +9,4 @@ pub mod AttachedSays
 pub mod KeywordLemmas
 pub mod FormsSaid
 pub mod FormsRead
+pub mod VersionsRead

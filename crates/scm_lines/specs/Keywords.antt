@@ -23,6 +23,7 @@ keyword_of word =
     else if bytes_eq word (codes "table") then Some opening.Table
     else if bytes_eq word (codes "totals") then Some opening.Totals
     else if bytes_eq word (codes "check") then Some opening.Check
+    else if bytes_eq word (codes "version") then Some opening.Version
     else None
 
 -- What the first word of a line stands for: a keyword, or else a process by its number.

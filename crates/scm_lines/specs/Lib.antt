@@ -6,3 +6,4 @@ pub mod Attached
 pub mod Keywords
 pub mod Lines
 pub mod Says
+pub mod Versions

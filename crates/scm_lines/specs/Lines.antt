@@ -127,6 +127,25 @@ recv_of words = do
   max_fds ← number_in max_bytes.1
   at_end (step.Recv on.0 max_bytes.0 max_fds.0) max_fds.1
 
+-- After peek: the socket, the most bytes, and the most descriptors.
+unfoldable pub peek_of : List (List ℕ) → Option Step
+peek_of words = do
+  on ← number_in words
+  max_bytes ← number_in on.1
+  max_fds ← number_in max_bytes.1
+  at_end (step.Peek on.0 max_bytes.0 max_fds.0) max_fds.1
+
+-- After limit: the limit.
+unfoldable pub limit_of : List (List ℕ) → Option Step
+limit_of words = do
+  nofile ← number_in words
+  at_end (step.Limit nofile.0) nofile.1
+
+-- After version: 2 alone.
+abbrev pub version_of : List (List ℕ) → Option Line
+version_of [] = None
+version_of (word ∷ words) = if bytes_eq word (codes "2") then at_end line.Version2 words else None
+
 -- The step that a verb and the words after it say.
 unfoldable pub step_of : Verb → List (List ℕ) → Option Step
 step_of verb.Open words = at_end step.Open words
@@ -143,6 +162,8 @@ step_of verb.Connect words = connect_of words
 step_of verb.Accept words = accept_of words
 step_of verb.Send words = send_of words
 step_of verb.Recv words = recv_of words
+step_of verb.Peek words = peek_of words
+step_of verb.Limit words = limit_of words
 
 -- What a process does, by the words after its number.
 unfoldable pub process_of : ℕ → List (List ℕ) → Option Event
@@ -161,6 +182,7 @@ opened_by opening.Pass words = at_end (line.Event event.Pass) words
 opened_by opening.Table words = at_end (line.Report report.Table) words
 opened_by opening.Totals words = at_end (line.Report report.Totals) words
 opened_by opening.Check words = at_end (line.Report report.Check) words
+opened_by opening.Version words = version_of words
 opened_by (opening.Process pid) words = option_map line.Event (process_of pid words)
 
 -- What a line says that begins with this word.

@@ -82,10 +82,15 @@ SaysStep words (step.Send on bytes attach) =
     × IsNumber a on × IsPayload b bytes × IsAttached items attach)
 SaysStep words (step.Recv on max_bytes max_fds) =
     (a b c : List ℕ) × ((words ≡ codes "recv" ∷ a ∷ b ∷ c ∷ []) × IsNumber a on × IsNumber b max_bytes × IsNumber c max_fds)
+SaysStep words (step.Peek on max_bytes max_fds) =
+    (a b c : List ℕ) × ((words ≡ codes "peek" ∷ a ∷ b ∷ c ∷ []) × IsNumber a on × IsNumber b max_bytes × IsNumber c max_fds)
+SaysStep words (step.Limit nofile) =
+    (a : List ℕ) × ((words ≡ codes "limit" ∷ a ∷ []) × IsNumber a nofile)
 
 -- The words of a line that says this.
 abbrev pub Says : List (List ℕ) → Line → Type 0
 Says words line.Silence = words ≡ []
+Says words line.Version2 = words ≡ codes "version" ∷ codes "2" ∷ []
 Says words (line.Event (event.Spawn uid nofile false)) =
     (a b : List ℕ) × ((words ≡ codes "spawn" ∷ a ∷ b ∷ []) × IsNumber a uid × IsNumber b nofile)
 Says words (line.Event (event.Spawn uid nofile true)) =

@@ -1,7 +1,7 @@
 //! The forms of a line: one function for each, over the words after its keyword.
 ghost use Rattle.std.specs.Prelude.{◌≡◌, IfOk};
 ghost use Rattle.scm_lines.specs.Words.{words_of};
-ghost use Rattle.scm_lines.specs.Lines.{privilege_of, spawn_of, slice_of, dup_of, dup2_of, close_of, pair_of, socket_of, on_and_name, bind_of, listen_of, connect_of, accept_of, send_of, recv_of, step_of, process_of, form_of};
+ghost use Rattle.scm_lines.specs.Lines.{privilege_of, spawn_of, slice_of, dup_of, dup2_of, close_of, pair_of, socket_of, on_and_name, bind_of, listen_of, connect_of, accept_of, send_of, recv_of, peek_of, limit_of, version_of, step_of, process_of, form_of};
 
 use crate::attached::attached;
 use crate::keywords::{Opening, Verb, opening_named, type_named, verb_named};
@@ -167,6 +167,40 @@ fn recv(bytes: &[u8]) -> Option<Step>
     })
 }
 
+/// `P peek N N N`, of version 2.
+#[tactic(auto, unfolding(crate::specs::Lines::peek_of))]
+fn peek(bytes: &[u8]) -> Option<Step>
+    ensures { result ≡ peek_of (words_of bytes.now) }
+{
+    let (on, rest) = number_in(bytes)?;
+    let (max_bytes, rest) = number_in(rest)?;
+    let (max_fds, rest) = number_in(rest)?;
+    is_end(rest).then_some(Step::Peek {
+        on: Fd(on),
+        max_bytes,
+        max_fds,
+    })
+}
+
+/// `P limit N`, of version 2.
+#[tactic(auto, unfolding(crate::specs::Lines::limit_of))]
+fn limit(bytes: &[u8]) -> Option<Step>
+    ensures { result ≡ limit_of (words_of bytes.now) }
+{
+    let (nofile, rest) = number_in(bytes)?;
+    is_end(rest).then_some(Step::Limit(nofile))
+}
+
+/// `version 2`: no other version is to be named.
+fn version(bytes: &[u8]) -> Option<Line>
+    ensures { result ≡ version_of (words_of bytes.now) }
+{
+    match first_word(bytes) {
+        Some((b"2", rest)) if is_end(rest) => Some(Line::Version2),
+        _ => None,
+    }
+}
+
 /// `P send N BYTES` and then items.
 #[tactic(auto, unfolding(crate::specs::Lines::send_of))]
 fn send(alloc: Global, bytes: &[u8]) -> Result<Option<Step>, AllocError>
@@ -211,6 +245,8 @@ fn step(alloc: Global, verb: Verb, rest: &[u8]) -> Result<Option<Step>, AllocErr
         Verb::Accept => Ok(accept(rest)),
         Verb::Send => send(alloc, rest),
         Verb::Recv => Ok(recv(rest)),
+        Verb::Peek => Ok(peek(rest)),
+        Verb::Limit => Ok(limit(rest)),
     }
 }
 
@@ -247,6 +283,7 @@ pub fn form(alloc: Global, word: &[u8], rest: &[u8]) -> Result<Option<Line>, All
         Opening::Table => is_end(rest).then_some(Line::Report(Report::Table)),
         Opening::Totals => is_end(rest).then_some(Line::Report(Report::Totals)),
         Opening::Check => is_end(rest).then_some(Line::Report(Report::Check)),
+        Opening::Version => version(rest),
         Opening::Process(pid) => process(alloc, pid, rest)?.map(|event| Line::Event(event)),
     })
 }

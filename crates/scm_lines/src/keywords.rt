@@ -23,6 +23,8 @@ pub enum Opening {
     Totals,
     /// `check`
     Check,
+    /// `version`
+    Version,
     /// A process, by its number.
     Process(Pid),
 }
@@ -58,11 +60,15 @@ pub enum Verb {
     Send,
     /// `recv`
     Recv,
+    /// `peek`, of version 2
+    Peek,
+    /// `limit`, of version 2
+    Limit,
 }
 
 /// The words that may come after a process's number. The definitions take this table as it is, and
 /// the laws hold it against the table of forms, which spells each word out.
-pub const VERBS: [(&[u8], Verb); 14] = [
+pub const VERBS: [(&[u8], Verb); 16] = [
     (b"open", Verb::Open),
     (b"dup", Verb::Dup),
     (b"dup2", Verb::Dup2),
@@ -77,6 +83,8 @@ pub const VERBS: [(&[u8], Verb); 14] = [
     (b"accept", Verb::Accept),
     (b"send", Verb::Send),
     (b"recv", Verb::Recv),
+    (b"peek", Verb::Peek),
+    (b"limit", Verb::Limit),
 ];
 
 /// The types of sockets.
@@ -121,6 +129,9 @@ fn keyword_named(word: &[u8]) -> Option<Opening>
     }
     if word == b"check".as_slice() {
         return Some(Opening::Check);
+    }
+    if word == b"version".as_slice() {
+        return Some(Opening::Version);
     }
     None
 }

@@ -1,8 +1,11 @@
-//! What is read of a line is what the table of forms says, each way.
-ghost use Rattle.std.specs.Prelude.{◌≡◌, List, ℕ, Some};
+//! What is read of a line is what the table of forms says, each way; and what version 1 has.
+ghost use Rattle.std.specs.Prelude.{◌≡◌, List, ℕ, Some, true};
 ghost use Rattle.scm_lines.specs.Lines.{line_of};
 ghost use Rattle.scm_lines.specs.Says.{IsLine};
+ghost use Rattle.scm_lines.specs.Versions.{is_of_first, read_in};
 ghost use Rattle.scm_lines.specs.declared.line.Line.{Line};
+ghost use Rattle.scm_lines.specs.declared.version.Version.{Version};
+ghost use Rattle.scm_lines.specs.declared.version.Version.TheVariants as version;
 
 /// What is read of a line is what the table says.
 pub fn what_is_read_is_said()
@@ -12,4 +15,14 @@ pub fn what_is_read_is_said()
 /// What the table says is read.
 pub fn what_is_said_is_read()
     ensures { (bytes : List ℕ) (said : Line) → IsLine bytes said → line_of bytes ≡ Some said }
+{}
+
+/// A line of version 1 is read the same in any script.
+pub fn version_1_is_read_in_any()
+    ensures { (v : Version) (bytes : List ℕ) (said : Line) → is_of_first said ≡ true → line_of bytes ≡ Some said → read_in v bytes ≡ Some said }
+{}
+
+/// A script of version 1 has no other line.
+pub fn version_1_has_no_other()
+    ensures { (bytes : List ℕ) (said : Line) → read_in version.First bytes ≡ Some said → is_of_first said ≡ true }
 {}

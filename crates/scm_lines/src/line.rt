@@ -27,6 +27,8 @@ pub enum Report {
 pub enum Line {
     /// Nothing: it has no words, or is a comment.
     Silence,
+    /// `version 2`: the script is of that version. It is no event, and has no answer.
+    Version2,
     /// An event.
     Event(Event),
     /// A report is wanted.
@@ -57,7 +59,8 @@ fn is_comment(bytes: &[u8]) -> bool
     false
 }
 
-/// What a line says, or `None` where it cannot be read.
+/// What a line says in some version, or `None` where it cannot be read in any;
+/// [`crate::version::read_in`] asks the version too.
 ///
 /// `bytes` is the line without its end: the caller takes off the LF, and one CR before it. A line
 /// of more than [`MAX_LINE`] bytes cannot be read, not even a comment. Only `send` takes memory, for

@@ -8,7 +8,9 @@ use Rattle.std.proofs.lemmas.List.Splits.{slice_split_at, slice_split_none}
 use Rattle.std.proofs.lemmas.List.Elements.{All-append, All-nil, All-cons, All-from_get_or}
 use Rattle.std.proofs.lemmas.Grind.{common_steps}
 use Rattle.memchr.specs.Find.{IsFirstByte, is_byte}
-use Rattle.scm_lines.specs.Lines.{line_of}
+use Rattle.scm_lines.specs.Lines.{line_of, ◌>>=◌}
+use Rattle.scm_lines.specs.Versions.{has_line, read_in}
+use Rattle.scm_lines.specs.declared.version.Version.{Version}
 use Rattle.scm_lines.specs.declared.line.TheConstants.{MAX_LINE}
 use Rattle.scm_run.specs.Progress.{may_fit}
 use Rattle.scm_run.specs.Script.{IsCut, NoFeed, ended_by_feed}
@@ -126,6 +128,10 @@ long_line : (bytes : List ℕ) → MAX_LINE < length bytes → line_of bytes ≡
 unfolding line_of
 long_line bytes h = grind (arith, common_steps)
 
+-- nor can it in any version
+long_read : (v : Version) (bytes : List ℕ) → MAX_LINE < length bytes → read_in v bytes ≡ None
+long_read v bytes h = ap (λ o. o >>= λ said. cond (has_line v said) (Some said) None) (long_line bytes h)
+
 strip_long : (line : List ℕ) → 262145 < length line → MAX_LINE < length (strip_carriage_return line)
 strip_long line h = grind (arith, common_steps)
 
@@ -144,22 +150,22 @@ long_stripped bad [] over = rw (append-nil bad) (past_limit bad over)
 long_stripped bad (a ∷ x) over = strip_long (bad ++ a ∷ x) (omega (arith, long_bare bad over, length-append bad (a ∷ x)))
 
 -- the line that begins so cannot be read
-pub long_first : (bad more : List ℕ) → NoFeed bad → may_fit bad ≡ false
-    → (line : List ℕ) × ((others : List (List ℕ)) × ((lines (bad ++ more) ≡ line ∷ others) × (line_of line ≡ None)))
-long_first bad more none over =
+pub long_first : (v : Version) (bad more : List ℕ) → NoFeed bad → may_fit bad ≡ false
+    → (line : List ℕ) × ((others : List (List ℕ)) × ((lines (bad ++ more) ≡ line ∷ others) × (read_in v line ≡ None)))
+long_first v bad more none over =
     let (x, (free, end)) = first_cut more in
     let joined : NoFeed (bad ++ x) = All-append (λ c. (c == 10) ≡ false) bad x none free in
     let size : length (bad ++ x) ≡ length bad + length x = length-append bad x in
     let big : MAX_LINE < length (bad ++ x) = omega (arith, size, long_bare bad over) in
     elim end [
-      | inl h ↦ (bad ++ x, ([], (ap (λ m. lines (bad ++ m)) h ∙ last_line (bad ++ x) joined (omega arith), long_line (bad ++ x) big)))
+      | inl h ↦ (bad ++ x, ([], (ap (λ m. lines (bad ++ m)) h ∙ last_line (bad ++ x) joined (omega arith), long_read v (bad ++ x) big)))
       | inr (r, h) ↦ (
         strip_carriage_return (bad ++ x),
         (
           lines r,
           (
             ap (λ m. lines (bad ++ m)) h ∙ ap lines (sym (append_assoc bad x (10 ∷ r))) ∙ line-front (bad ++ x) r joined,
-            long_line (strip_carriage_return (bad ++ x)) (long_stripped bad x over),
+            long_read v (strip_carriage_return (bad ++ x)) (long_stripped bad x over),
           ),
         ),
       )

@@ -7,10 +7,8 @@ use Rattle.std.proofs.KnownBytes.{Appends-trans, Appends-nil}
 use Rattle.std.proofs.lemmas.List.Elements.{All-nil}
 use Rattle.std.proofs.lemmas.List.{take_at, take_all, map-append, length-map}
 use Rattle.scm_watched.specs.Watched.{AppendsFront}
-use Rattle.scm_lines.specs.Lines.{line_of}
-use Rattle.af_base.specs.Pass.{Machine}
-use Rattle.af_base.specs.Run.{fresh}
-use Rattle.scm_run.specs.Script.{FaultAt, LineText, NoFeed, RanFirst, RanToEnd, RanToUnreadable, RunText, StopsBy, Tells, Wrote, WroteFirst, ended_by_feed, is_read_fault, RanAsRead}
+use Rattle.scm_lines.specs.Versions.{read_in}
+use Rattle.scm_run.specs.Script.{FaultAt, LineText, NoFeed, Point, RanFirst, RanToEnd, RanToUnreadable, RunText, StopsBy, Tells, Wrote, WroteFirst, ended_by_feed, first_point, is_read_fault, RanAsRead}
 use Rattle.scm_run.specs.Gather.{Moves, Settles}
 use Rattle.scm_run.specs.Line.{LineDone, LineStops}
 use Rattle.scm_run.specs.Progress.{FaultIn, Halts, Progress, Ran, RanAll, Runs, TooLong, Waits, may_fit}
@@ -19,7 +17,7 @@ use Rattle.scm_run.specs.declared.fault.RunFault.TheVariants as fault
 use Rattle.scm_run.proofs.LinesLemmas.{all_lines, cut_end, cut_more, firsts, front_lines, last_line, line_at, long_first, slice_get_at}
 
 -- a run goes on by one line
-pub RunText-more : (old mid new : Machine) (script : List (List ℕ)) (events k : ℕ) (text out bytes : List ℕ)
+pub RunText-more : (old mid new : Point) (script : List (List ℕ)) (events k : ℕ) (text out bytes : List ℕ)
     → RunText old script events text mid → LineText mid bytes k out new → RunText old (script ++ bytes ∷ []) (events + k) (text ++ out) new
 RunText-more old mid new [] events k text out bytes (none, empty, same) does =
     (new, k, out, 0, [], subst (λ w. LineText w bytes k out new) same does, (refl, refl, refl), rw none (omega arith), rw empty (sym (append-nil out)))
@@ -102,7 +100,7 @@ fault_later taken bs before last f h = λ more. subst (λ l. FaultAt l before la
 
 -- The same, with other bytes on the line that goes on.
 abbrev pub longer : Progress → List ℕ → Progress
-longer old bs = record { machine = old.machine; pending = old.pending ++ bs; gathered = old.gathered; events = old.events; done = old.done }
+longer old bs = record { point = old.point; pending = old.pending ++ bs; gathered = old.gathered; events = old.events; done = old.done }
 
 pub ran_more : (taken bs : List ℕ) (before after : Option (List ℕ)) (old : Progress) → Ran taken before after old → NoFeed bs → Ran (taken ++ bs) before after (longer old bs)
 ran_more taken bs before after old ran none = record {
@@ -111,16 +109,16 @@ ran_more taken bs before after old ran none = record {
   wrote = ran.wrote;
 }
 
-pub end_ok : (taken : List ℕ) (before mid after : Option (List ℕ)) (old : Progress) (left : List ℕ) (k : ℕ) (machine : Machine) → Ran taken before mid old
-    → LineDone old.machine (strip_carriage_return old.pending) old.gathered left mid after k machine
-    → Ran (taken ++ 10 ∷ []) before after (record { machine = machine; pending = []; gathered = left; events = old.events + k; done = old.done + 1 })
-end_ok taken before mid after old left k machine ran done =
+pub end_ok : (taken : List ℕ) (before mid after : Option (List ℕ)) (old : Progress) (left : List ℕ) (k : ℕ) (point : Point) → Ran taken before mid old
+    → LineDone old.point (strip_carriage_return old.pending) old.gathered left mid after k point
+    → Ran (taken ++ 10 ∷ []) before after (record { point = point; pending = []; gathered = left; events = old.events + k; done = old.done + 1 })
+end_ok taken before mid after old left k point ran done =
     let whole = ran.runs.whole in
     let front = done.moves.front in
     let text : (ran.written ++ front) ++ left ≡ (ran.written ++ old.gathered) ++ done.text =
     ap (λ l. (ran.written ++ front) ++ l) done.behind ∙ sym (append_assoc (ran.written ++ front) done.kept done.text)
     ∙ ap (λ l. l ++ done.text) (moved ran.written old.gathered done.kept mid after done.moves) in
-    let more : RunText fresh (map strip_carriage_return whole ++ strip_carriage_return old.pending ∷ []) (old.events + k) ((ran.written ++ old.gathered) ++ done.text) machine =
+    let more : RunText first_point (map strip_carriage_return whole ++ strip_carriage_return old.pending ∷ []) (old.events + k) ((ran.written ++ old.gathered) ++ done.text) point =
     RunText-more _ _ _ _ _ _ _ _ _ ran.runs.runs done.does in
     record {
       written = ran.written ++ front;
@@ -140,8 +138,8 @@ run_some taken text before last old run wrote = λ more. record {
   events = old.events;
   all = record {
     text = text;
-    machine = old.machine;
-    runs = subst (λ ls. RunText fresh ls old.events text old.machine) (sym (firsts taken run.whole old.pending more (length run.whole) run.cut refl)) run.runs;
+    point = old.point;
+    runs = subst (λ ls. RunText first_point ls old.events text old.point) (sym (firsts taken run.whole old.pending more (length run.whole) run.cut refl)) run.runs;
     wrote = wrote;
   };
 }
@@ -153,13 +151,13 @@ run_cut taken text before last old run wrote = λ more. record {
   beginning = record {
     events = old.events;
     text = text;
-    machine = old.machine;
-    runs = subst (λ ls. RunText fresh ls old.events text old.machine) (sym (firsts taken run.whole old.pending more (length run.whole) run.cut refl)) run.runs;
+    point = old.point;
+    runs = subst (λ ls. RunText first_point ls old.events text old.point) (sym (firsts taken run.whole old.pending more (length run.whole) run.cut refl)) run.runs;
     wrote = wrote;
   };
 }
 
-run_bad : (taken text : List ℕ) (before last : Option (List ℕ)) (old : Progress) → Runs taken text old → line_of (strip_carriage_return old.pending) ≡ None → Appends before last text
+run_bad : (taken text : List ℕ) (before last : Option (List ℕ)) (old : Progress) → Runs taken text old → read_in old.point.version (strip_carriage_return old.pending) ≡ None → Appends before last text
     → FaultIn (taken ++ 10 ∷ []) before last (fault.Unreadable (old.done + 1))
 run_bad taken text before last old run bad wrote = λ more.
     let one : old.done + 1 - 1 ≡ length run.whole = omega (arith, run.counted) in
@@ -171,15 +169,15 @@ run_bad taken text before last old run bad wrote = λ more.
       unreadable = bad;
       all = record {
         text = text;
-        machine = old.machine;
-        runs = subst (λ ls. RunText fresh ls old.events text old.machine)
+        point = old.point;
+        runs = subst (λ ls. RunText first_point ls old.events text old.point)
             (sym (ap (λ l. take (old.done + 1 - 1) (lines l)) (append_assoc taken (10 ∷ []) more) ∙ firsts taken run.whole old.pending (10 ∷ more) (old.done + 1 - 1) run.cut one)) run.runs;
         wrote = wrote;
       };
     }
 
 -- nothing was taken
-pub ran_nothing : (before : Option (List ℕ)) → Ran [] before before (record { machine = fresh; pending = []; gathered = []; events = 0; done = 0 })
+pub ran_nothing : (before : Option (List ℕ)) → Ran [] before before (record { point = first_point; pending = []; gathered = []; events = 0; done = 0 })
 ran_nothing before = record {
   written = [];
   runs = record {
@@ -204,7 +202,7 @@ ran_refused taken bs before mid old ran =
 
 -- the line that ends here was not done
 pub end_stops : (taken : List ℕ) (before mid after : Option (List ℕ)) (old : Progress) (left : List ℕ) (f : RunFault) → Ran taken before mid old
-    → LineStops (strip_carriage_return old.pending) (old.done + 1) old.gathered left mid after f
+    → LineStops old.point.version (strip_carriage_return old.pending) (old.done + 1) old.gathered left mid after f
     → Halts (FaultIn (taken ++ 10 ∷ []) before) before after left f
 end_stops taken before mid after old left (fault.Unreadable n) ran (number, bad, m) = waits (FaultIn (taken ++ 10 ∷ []) before) before mid after ran.written old.gathered left (fault.Unreadable n) ran.wrote m
     (λ last a. subst (λ k. FaultIn (taken ++ 10 ∷ []) before last (fault.Unreadable k)) (sym number) (run_bad taken _ before last old ran.runs bad a))
@@ -224,15 +222,15 @@ whole_line (b ∷ old) new back line begun empty some none =
     some (rw joined (omega (arith, length-append (b ∷ old) back))) ∙ joined
 
 -- a line that was begun ends after these bytes
-pub end_ok_after : (taken back : List ℕ) (before mid after : Option (List ℕ)) (old : Progress) (left : List ℕ) (k : ℕ) (machine : Machine) → NoFeed back → Ran taken before mid old
-    → LineDone old.machine (strip_carriage_return (old.pending ++ back)) old.gathered left mid after k machine
-    → Ran (taken ++ ended_by_feed back) before after (record { machine = machine; pending = []; gathered = left; events = old.events + k; done = old.done + 1 })
-end_ok_after taken back before mid after old left k machine free ran done =
-    subst (λ t. Ran t before after (record { machine = machine; pending = []; gathered = left; events = old.events + k; done = old.done + 1 })) (append_assoc taken back (10 ∷ []))
-    (end_ok (taken ++ back) before mid after (longer old back) left k machine (ran_more taken back before mid old ran free) done)
+pub end_ok_after : (taken back : List ℕ) (before mid after : Option (List ℕ)) (old : Progress) (left : List ℕ) (k : ℕ) (point : Point) → NoFeed back → Ran taken before mid old
+    → LineDone old.point (strip_carriage_return (old.pending ++ back)) old.gathered left mid after k point
+    → Ran (taken ++ ended_by_feed back) before after (record { point = point; pending = []; gathered = left; events = old.events + k; done = old.done + 1 })
+end_ok_after taken back before mid after old left k point free ran done =
+    subst (λ t. Ran t before after (record { point = point; pending = []; gathered = left; events = old.events + k; done = old.done + 1 })) (append_assoc taken back (10 ∷ []))
+    (end_ok (taken ++ back) before mid after (longer old back) left k point (ran_more taken back before mid old ran free) done)
 
 pub end_stops_after : (taken back : List ℕ) (before mid after : Option (List ℕ)) (old : Progress) (left : List ℕ) (f : RunFault) → NoFeed back → Ran taken before mid old
-    → LineStops (strip_carriage_return (old.pending ++ back)) (old.done + 1) old.gathered left mid after f
+    → LineStops old.point.version (strip_carriage_return (old.pending ++ back)) (old.done + 1) old.gathered left mid after f
     → Halts (FaultIn (taken ++ ended_by_feed back) before) before after left f
 end_stops_after taken back before mid after old left f free ran stops =
     subst (λ t. Halts (FaultIn t before) before after left f) (append_assoc taken back (10 ∷ []))
@@ -262,7 +260,7 @@ keep_stops rest bytes front first now begun old new (Err f) joined ran h = λ ta
 run_long : (taken text : List ℕ) (before last : Option (List ℕ)) (old : Progress) → Runs taken text old → may_fit old.pending ≡ false → Appends before last text
     → FaultIn taken before last (fault.Unreadable (old.done + 1))
 run_long taken text before last old run over wrote = λ more.
-    let (line, (others, (e, unread))) = long_first old.pending more run.cut.open_end over in
+    let (line, (others, (e, unread))) = long_first old.point.version old.pending more run.cut.open_end over in
     let first = map strip_carriage_return run.whole in
     let n = old.done + 1 - 1 in
     let one : n ≡ length run.whole = omega (arith, run.counted) in
@@ -275,8 +273,8 @@ run_long taken text before last old run over wrote = λ more.
       unreadable = unread;
       all = record {
         text = text;
-        machine = old.machine;
-        runs = subst (λ ls. RunText fresh ls old.events text old.machine) (sym (firsts taken run.whole old.pending more n run.cut one)) run.runs;
+        point = old.point;
+        runs = subst (λ ls. RunText first_point ls old.events text old.point) (sym (firsts taken run.whole old.pending more n run.cut one)) run.runs;
         wrote = wrote;
       };
     }
@@ -293,7 +291,7 @@ ran_too_long taken before mid old fault.Memory h ran over = ran_stops taken befo
 -- ---- what is gathered is written
 
 pub ran_out : (taken : List ℕ) (before mid after : Option (List ℕ)) (old : Progress) → Ran taken before mid old → Appends mid after old.gathered
-    → Ran taken before after (record { machine = old.machine; pending = old.pending; gathered = []; events = old.events; done = old.done })
+    → Ran taken before after (record { point = old.point; pending = old.pending; gathered = []; events = old.events; done = old.done })
 ran_out taken before mid after old ran wrote = record {
   written = ran.written ++ old.gathered;
   runs = record { whole = ran.runs.whole; cut = ran.runs.cut; runs = rw (append-nil (ran.written ++ old.gathered)) ran.runs.runs; counted = ran.runs.counted };
@@ -315,10 +313,10 @@ finish_lines : (taken text : List ℕ) (old : Progress) → (run : Runs taken te
 finish_lines taken text old run some =
     all_lines taken run.whole old.pending run.cut ∙ ap (λ l. map strip_carriage_return run.whole ++ l) (last_line old.pending run.cut.open_end some)
 
-pub finish_ok : (taken : List ℕ) (before mid after : Option (List ℕ)) (old : Progress) (left : List ℕ) (k n : ℕ) (machine : Machine) → Ran taken before mid old → 0 < length old.pending
-    → LineDone old.machine old.pending old.gathered left mid after k machine
-    → RanAll taken before after (record { machine = machine; pending = old.pending; gathered = left; events = old.events + k; done = n })
-finish_ok taken before mid after old left k n machine ran some done =
+pub finish_ok : (taken : List ℕ) (before mid after : Option (List ℕ)) (old : Progress) (left : List ℕ) (k n : ℕ) (point : Point) → Ran taken before mid old → 0 < length old.pending
+    → LineDone old.point old.pending old.gathered left mid after k point
+    → RanAll taken before after (record { point = point; pending = old.pending; gathered = left; events = old.events + k; done = n })
+finish_ok taken before mid after old left k n point ran some done =
     let front = done.moves.front in
     let text : (ran.written ++ front) ++ left ≡ (ran.written ++ old.gathered) ++ done.text =
     ap (λ l. (ran.written ++ front) ++ l) done.behind ∙ sym (append_assoc (ran.written ++ front) done.kept done.text)
@@ -334,7 +332,7 @@ here : (taken : List ℕ) (before last : Option (List ℕ)) (f : RunFault) → F
 here taken before last f h = subst (λ t. FaultAt t before last f) (append-nil taken) (h [])
 
 finish_bad : (taken text : List ℕ) (before last : Option (List ℕ)) (old : Progress) → Runs taken text old → 0 < length old.pending
-    → line_of old.pending ≡ None → Appends before last text → FaultAt taken before last (fault.Unreadable (old.done + 1))
+    → read_in old.point.version old.pending ≡ None → Appends before last text → FaultAt taken before last (fault.Unreadable (old.done + 1))
 finish_bad taken text before last old run some unread wrote =
     let first = map strip_carriage_return run.whole in
     let n = old.done + 1 - 1 in
@@ -349,8 +347,8 @@ finish_bad taken text before last old run some unread wrote =
       unreadable = unread;
       all = record {
         text = text;
-        machine = old.machine;
-        runs = subst (λ ls. RunText fresh ls old.events text old.machine) (sym (ap (take n) all ∙ take_at first (old.pending ∷ []) n (sym sum))) run.runs;
+        point = old.point;
+        runs = subst (λ ls. RunText first_point ls old.events text old.point) (sym (ap (take n) all ∙ take_at first (old.pending ∷ []) n (sym sum))) run.runs;
         wrote = wrote;
       };
     }
@@ -366,7 +364,7 @@ finish_still taken before mid old ran = finish_refused taken before mid mid old 
 
 -- the last line was not done
 pub finish_stops : (taken : List ℕ) (before mid after : Option (List ℕ)) (old : Progress) (left : List ℕ) (f : RunFault) → Ran taken before mid old → 0 < length old.pending
-    → LineStops old.pending (old.done + 1) old.gathered left mid after f → Halts (FaultAt taken before) before after left f
+    → LineStops old.point.version old.pending (old.done + 1) old.gathered left mid after f → Halts (FaultAt taken before) before after left f
 finish_stops taken before mid after old left (fault.Unreadable n) ran some (number, bad, m) = waits (FaultAt taken before) before mid after ran.written old.gathered left (fault.Unreadable n) ran.wrote m
     (λ last a. subst (λ k. FaultAt taken before last (fault.Unreadable k)) (sym number) (finish_bad taken _ before last old ran.runs some bad a))
     (λ last a. here taken before last fault.Write (run_cut taken _ before last old ran.runs a))
@@ -379,7 +377,7 @@ finish_stops taken before mid after old left fault.Memory ran some m = finish_re
 pub all_out : (taken : List ℕ) (before mid after : Option (List ℕ)) (old : Progress) → RanAll taken before mid old → Appends mid after old.gathered → Wrote (lines taken) old.events before after
 all_out taken before mid after old ran wrote = record {
   text = ran.written ++ old.gathered;
-  machine = old.machine;
+  point = old.point;
   runs = ran.runs;
   wrote = Appends-trans before mid after ran.written old.gathered ran.wrote wrote;
 }
@@ -393,8 +391,8 @@ all_part taken before mid after old ran part =
       beginning = record {
         events = old.events;
         text = ran.written ++ old.gathered;
-        machine = old.machine;
-        runs = subst (λ ls. RunText fresh ls old.events (ran.written ++ old.gathered) old.machine) (sym all) ran.runs;
+        point = old.point;
+        runs = subst (λ ls. RunText first_point ls old.events (ran.written ++ old.gathered) old.point) (sym all) ran.runs;
         wrote = Appends-front before mid after ran.written old.gathered ran.wrote part;
       };
     }
@@ -422,7 +420,7 @@ pub nothing_ran : (input : List ℕ) (before : Option (List ℕ)) → RanFirst i
 nothing_ran input before = record {
   count = 0;
   events = 0;
-  all = record { text = []; machine = fresh; runs = (refl, refl, refl); wrote = Appends-nil before };
+  all = record { text = []; point = first_point; runs = (refl, refl, refl); wrote = Appends-nil before };
 }
 
 pub stops_in : (told left before after : Option (List ℕ)) (bytes : List ℕ) (f : RunFault) → is_read_fault {A = ℕ} (Err f) ≡ false → Consumes told left bytes
@@ -468,7 +466,7 @@ stops_as_read told left before after taken state consumed ran none =
       events = state.events;
       consumed = consumed;
       cut = run.cut;
-      all = record { text = text; machine = state.machine; runs = run.runs; wrote = wrote };
+      all = record { text = text; point = state.point; runs = run.runs; wrote = wrote };
     }
 
 -- A reader that keeps its bytes has given none.

@@ -10,9 +10,9 @@ use Rattle.std.proofs.lemmas.List.{length-take}
 use Rattle.af_base.specs.World.{AsSocket, File, IsLive, Message, Plain, World}
 use Rattle.af_base.specs.Places.{table_at}
 use Rattle.af_base.specs.Table.{free_numbers}
-use Rattle.af_base.specs.Refusals.{no_socket, process_at, refusal, socket_at, socket_of, socket_on, spawn_refusal, step_row}
+use Rattle.af_base.specs.Refusals.{no_socket, process_at, recv_row, refusal, socket_at, socket_of, socket_on, spawn_refusal}
 use Rattle.af_base.specs.Run.{Step as MachineStep}
-use Rattle.af_base.specs.Steps.{Outcome, answer, effect, got_at, needs_no_memory, spawned, taken_on}
+use Rattle.af_base.specs.Steps.{Outcome, answer, effect, got_at, needs_no_memory, received, spawned, taken_on}
 use Rattle.af_base.specs.Take.{has_files, joined, take_from}
 use Rattle.af_base.specs.Pass.{Begins, GoesOn, Idle, Machine, Pass, PassesWhole, Running, Slices}
 use Rattle.af_base.specs.Reached.{Garbage, IsGarbageCount}
@@ -30,7 +30,7 @@ use Rattle.af_base.specs.declared.events.Step.TheVariants as step
 use Rattle.af_base.specs.declared.limits.TheConstants.{MAX_BUDGET, MAX_BYTES, SCM_MAX_FD}
 use Rattle.af_base.proofs.Elements.{Contains-first, Contains-later, Contains-none}
 use Rattle.af_base.proofs.Lookups.{none_some, some_same}
-use Rattle.af_base.proofs.Stepped.{none-fits}
+use Rattle.af_base.proofs.Stepped.{NoneFits, none-fits}
 use Rattle.af_base.proofs.Takes.{before, find-here, find-later, up_to}
 use Rattle.af_base.proofs.Within.{neither}
 use Rattle.scm_run.specs.Text.{IsShort}
@@ -87,6 +87,22 @@ second true true e = refl
 second true false e = absurd (false≢true (sym e))
 second false b e = absurd (false≢true (sym e))
 
+-- What a receive answers, whether it takes or only looks.
+received-short : (w : World) (p n max_bytes max_fds : ℕ) → IsWithin w → NoneFits (recv_row w p n max_bytes) → IsShort (received w p n max_bytes max_fds)
+received-short w p n max_bytes max_fds k row = by (nat_eq (length (socket_on w p n).queue) 0) where
+  asked : max_bytes ≤ MAX_BYTES
+  asked = leb-true max_bytes MAX_BYTES (second (nat_le 1 max_bytes) (nat_le max_bytes MAX_BYTES) row.rest.rest.here)
+
+  taken : (length (taken_on w p n max_bytes).bytes ≤ MAX_BYTES) × (length (taken_on w p n max_bytes).attached ≤ SCM_MAX_FD)
+  taken = taken-within (socket_on w p n).kind (socket_on w p n).queue max_bytes asked (queue-within w p n k)
+
+  few : length (got_at w p n max_bytes max_fds) ≤ SCM_MAX_FD
+  few = let most = taken.1 in omega (arith, most, length-take (min (length (taken_on w p n max_bytes).attached) max_fds) (free_numbers (process_at w p)))
+
+  by : (b : Bool) → IsShort (if b then reply.End else reply.Got (taken_on w p n max_bytes).bytes (got_at w p n max_bytes max_fds) (taken_on w p n max_bytes).trunc (nat_lt (length (got_at w p n max_bytes max_fds)) (length (taken_on w p n max_bytes).attached)))
+  by true = tt
+  by false = (taken.0, few)
+
 -- What is answered where nothing refuses the step.
 answer-short : (w : World) (p : ℕ) (s : Step) → IsWithin w → refusal w p s ≡ None → IsShort (answer w p s)
 answer-short w p step.Open k fits = tt
@@ -102,21 +118,9 @@ answer-short w p (step.Listen n b) k fits = tt
 answer-short w p (step.Connect n name) k fits = tt
 answer-short w p (step.Accept n) k fits = tt
 answer-short w p (step.Send n bytes attach) k fits = tt
-answer-short w p (step.Recv n max_bytes max_fds) k fits = by (nat_eq (length (socket_on w p n).queue) 0) where
-  asked : max_bytes ≤ MAX_BYTES
-  asked =
-      let row = none-fits ((not (map.contains_key w.processes p), ESRCH) ∷ step_row w p (step.Recv n max_bytes max_fds)) fits in
-      leb-true max_bytes MAX_BYTES (second (nat_le 1 max_bytes) (nat_le max_bytes MAX_BYTES) row.rest.rest.rest.here)
-
-  taken : (length (taken_on w p n max_bytes).bytes ≤ MAX_BYTES) × (length (taken_on w p n max_bytes).attached ≤ SCM_MAX_FD)
-  taken = taken-within (socket_on w p n).kind (socket_on w p n).queue max_bytes asked (queue-within w p n k)
-
-  few : length (got_at w p n max_bytes max_fds) ≤ SCM_MAX_FD
-  few = let most = taken.1 in omega (arith, most, length-take (min (length (taken_on w p n max_bytes).attached) max_fds) (free_numbers (process_at w p)))
-
-  by : (b : Bool) → IsShort (if b then reply.End else reply.Got (taken_on w p n max_bytes).bytes (got_at w p n max_bytes max_fds) (taken_on w p n max_bytes).trunc (nat_lt (length (got_at w p n max_bytes max_fds)) (length (taken_on w p n max_bytes).attached)))
-  by true = tt
-  by false = (taken.0, few)
+answer-short w p (step.Recv n max_bytes max_fds) k fits = received-short w p n max_bytes max_fds k (none-fits ((not (map.contains_key w.processes p), ESRCH) ∷ recv_row w p n max_bytes) fits).rest
+answer-short w p (step.Peek n max_bytes max_fds) k fits = received-short w p n max_bytes max_fds k (none-fits ((not (map.contains_key w.processes p), ESRCH) ∷ recv_row w p n max_bytes) fits).rest
+answer-short w p (step.Limit n) k fits = tt
 
 -- What an outcome answers.
 outcome-short : (now old new : World) (answer r : Reply) (o : Option Errno) (frugal : Bool) → (o ≡ None → IsShort answer) → Outcome o frugal answer now old r new → IsShort r

@@ -3,16 +3,14 @@ use Rattle.std.specs.Prelude.{◌≡◌, ℕ, ◌+◌, nat_le, List, ◌++◌, O
 use Rattle.std.specs.Str.Lines.{lines, strip_carriage_return}
 use Rattle.std.specs.Io.KnownBytes.{Appends}
 use Rattle.scm_watched.specs.Watched.{AppendsFront}
-use Rattle.af_base.specs.Pass.{Machine}
-use Rattle.af_base.specs.Run.{fresh}
 use Rattle.scm_lines.specs.declared.line.TheConstants.{MAX_LINE}
-use Rattle.scm_run.specs.Script.{IsCut, RunText, FaultAt}
+use Rattle.scm_run.specs.Script.{IsCut, Point, RunText, FaultAt, first_point}
 use Rattle.scm_run.specs.declared.fault.RunFault.{RunFault}
 use Rattle.scm_run.specs.declared.fault.RunFault.TheVariants as fault
 
--- The machine, the bytes after the last line feed, the text that is not written yet, and how many events and lines were done (this project's own).
+-- Where the script stands, the bytes after the last line feed, the text that is not written yet, and how many events and lines were done (this project's own).
 pub record Progress : Type 0 where
-  pub machine : Machine
+  pub point : Point
   pub pending : List ℕ
   pub gathered : List ℕ
   pub events : ℕ
@@ -22,7 +20,7 @@ pub record Progress : Type 0 where
 pub record Runs (taken text : List ℕ) (state : Progress) : Type 0 where
   pub whole : List (List ℕ)
   pub cut : IsCut taken whole state.pending
-  pub runs : RunText fresh (map strip_carriage_return whole) state.events text state.machine
+  pub runs : RunText first_point (map strip_carriage_return whole) state.events text state.point
   pub counted : state.done ≡ length whole
 
 -- These bytes were taken, the whole lines in them were run, and their text was written but for what is gathered (this project's own).
@@ -34,7 +32,7 @@ pub record Ran (taken : List ℕ) (before after : Option (List ℕ)) (state : Pr
 -- All lines of this input were run, and their text was written but for what is gathered (this project's own).
 pub record RanAll (input : List ℕ) (before after : Option (List ℕ)) (state : Progress) : Type 0 where
   pub written : List ℕ
-  pub runs : RunText fresh (lines input) state.events (written ++ state.gathered) state.machine
+  pub runs : RunText first_point (lines input) state.events (written ++ state.gathered) state.point
   pub wrote : Appends before after written
 
 -- A line that begins with these bytes may be short enough, the one carriage return at its end left out (this project's own).

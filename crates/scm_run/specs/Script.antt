@@ -11,9 +11,11 @@ use Rattle.af_base.specs.Run.{fresh, Step}
 use Rattle.af_base.specs.declared.errno.Errno.TheVariants.{ENOMEM}
 use Rattle.af_base.specs.declared.events.Reply.{Reply}
 use Rattle.af_base.specs.declared.events.Reply.TheVariants as reply
-use Rattle.scm_lines.specs.Lines.{line_of}
+use Rattle.scm_lines.specs.Versions.{read_in, version_after}
 use Rattle.scm_lines.specs.declared.line.Line.{Line}
 use Rattle.scm_lines.specs.declared.line.Line.TheVariants as line
+use Rattle.scm_lines.specs.declared.version.Version.{Version}
+use Rattle.scm_lines.specs.declared.version.Version.TheVariants as version
 use Rattle.scm_watched.specs.Watched.{AppendsFront}
 use Rattle.scm_run.specs.Text.{reply_line}
 use Rattle.scm_run.specs.Report.{IsReportText}
@@ -22,38 +24,49 @@ use Rattle.scm_run.specs.declared.fault.RunFault.TheVariants as fault
 
 -- ---- the text of a run
 
--- Silence does nothing; an event is one step of the machine, and its text is the reply's line; a report changes nothing, and its text speaks of the world at that point, or is the line of ENOMEM.
+-- Silence and a version do nothing; an event is one step of the machine, and its text is the reply's line; a report changes nothing, and its text speaks of the world at that point, or is the line of ENOMEM.
 abbrev pub Does : Machine → Line → ℕ → List ℕ → Machine → Type 0
 Does old line.Silence events text new = (events ≡ 0) × (text ≡ []) × (new ≡ old)
+Does old line.Version2 events text new = (events ≡ 0) × (text ≡ []) × (new ≡ old)
 Does old (line.Event event) events text new = (events ≡ 1) × ((reply : Reply) × Step old event reply new × (text ≡ reply_line reply))
 Does old (line.Report report) events text new = (events ≡ 0) × (IsReportText old.world report text ⊎ (text ≡ reply_line (reply.Refused ENOMEM))) × (new ≡ old)
 
--- The bytes of a line can be read, and what they say leads from old to new, does so many events and has this text.
-pub record LineText (old : Machine) (bytes : List ℕ) (events : ℕ) (text : List ℕ) (new : Machine) : Type 0 where
+-- Where a script stands between two lines: the machine, and what its lines so far say of its version.
+pub record Point : Type 0 where
+  pub machine : Machine
+  pub version : Version
+
+-- Where it begins: the fresh machine, and no version yet.
+abbrev pub first_point : Point
+first_point = record { machine = fresh; version = version.Unsaid }
+
+-- The bytes of a line can be read at this point, and what they say leads from old to new, does so many events and has this text.
+pub record LineText (old : Point) (bytes : List ℕ) (events : ℕ) (text : List ℕ) (new : Point) : Type 0 where
   pub says : Line
-  pub read : line_of bytes ≡ Some says
-  pub does : Does old says events text new
+  pub read : read_in old.version bytes ≡ Some says
+  pub does : Does old.machine says events text new.machine
+  pub version : new.version ≡ version_after old.version says
 
 -- These lines, one after another, can be read, lead from old to new, do so many events and have this text.
-abbrev pub RunText : Machine → List (List ℕ) → ℕ → List ℕ → Machine → Type 0
+abbrev pub RunText : Point → List (List ℕ) → ℕ → List ℕ → Point → Type 0
 RunText old [] events text new = (events ≡ 0) × (text ≡ []) × (new ≡ old)
 RunText old (bytes ∷ others) events text new =
-    (mid : Machine) × (first : ℕ) × (written : List ℕ) × (more : ℕ) × (rest : List ℕ)
+    (mid : Point) × (first : ℕ) × (written : List ℕ) × (more : ℕ) × (rest : List ℕ)
     × LineText old bytes first written mid × RunText mid others more rest new × (events ≡ first + more) × (text ≡ written ++ rest)
 
--- The writer was given the text of a run of these lines from the fresh machine.
+-- The writer was given the text of a run of these lines from the first point.
 pub record Wrote (script : List (List ℕ)) (events : ℕ) (before after : Option (List ℕ)) : Type 0 where
   pub text : List ℕ
-  pub machine : Machine
-  pub runs : RunText fresh script events text machine
+  pub point : Point
+  pub runs : RunText first_point script events text point
   pub wrote : Appends before after text
 
--- The writer was given a beginning of the text of a run of these lines from the fresh machine.
+-- The writer was given a beginning of the text of a run of these lines from the first point.
 pub record WroteBeginning (script : List (List ℕ)) (before after : Option (List ℕ)) : Type 0 where
   pub events : ℕ
   pub text : List ℕ
-  pub machine : Machine
-  pub runs : RunText fresh script events text machine
+  pub point : Point
+  pub runs : RunText first_point script events text point
   pub wrote : AppendsFront before after text
 
 -- ---- how a run ends
@@ -70,14 +83,14 @@ pub record RanToEnd (told left before after : Option (List ℕ)) (events : ℕ) 
   pub ended : IsAtEnd left
   pub all : Wrote (lines input) events before after
 
--- The line of this number, from 1, is the first that cannot be read, and the text of the lines before it was written.
+-- The line of this number, from 1, is the first that cannot be read where the lines before it lead, and their text was written.
 pub record RanToUnreadable (input : List ℕ) (before after : Option (List ℕ)) (number : ℕ) : Type 0 where
   pub bad : List ℕ
   pub events : ℕ
   pub counted : 0 < number
   pub at : slice_get (lines input) (number - 1) ≡ Some bad
-  pub unreadable : line_of bad ≡ None
   pub all : Wrote (take (number - 1) (lines input)) events before after
+  pub unreadable : read_in all.point.version bad ≡ None
 
 -- A line with its line feed.
 abbrev pub ended_by_feed : List ℕ → List ℕ

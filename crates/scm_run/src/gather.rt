@@ -7,8 +7,7 @@ ghost use Rattle.scm_run.specs.Script.{is_read_fault, is_write_fault};
 
 use crate::fault::RunFault;
 use crate::text::MAX_REPLY_LINE;
-use scm_watched::watched::Watched;
-use scm_watched::writes::{WriteFailed, write_whole};
+use scm_watched::{Watched, WriteFailed, write_whole};
 use std::io::Write;
 
 /// How many bytes of text are gathered before they are written, at least.

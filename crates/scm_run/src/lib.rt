@@ -1,14 +1,15 @@
 //! The run of a script: its lines are read, done and answered, one after another.
 //!
-//! A caller wants [`run::run_script`] and [`fault::RunFault`]. Each line is read by `scm_lines`,
+//! A caller wants [`run_script`] and [`RunFault`]. Each line is read by `scm_lines`,
 //! done by an engine of `af_steps` (`line`), and its text, of a reply (`text`) or of a report
 //! (`af_report`), is made whole and gathered: it is written before the next read (`gather`).
 #![tactic(auto)]
 
-pub mod fault;
+mod fault;
 mod gather;
 mod line;
-pub mod run;
-#[cfg(test)]
-mod tests;
+mod run;
 mod text;
+
+pub use fault::RunFault;
+pub use run::run_script;

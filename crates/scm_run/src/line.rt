@@ -15,8 +15,8 @@ use af_base::errno::Errno;
 use af_base::events::Reply;
 use af_report::{check, table, totals};
 use af_steps::Engine;
-use scm_lines::line::{Line, Report, line_of};
-use scm_watched::watched::Watched;
+use scm_lines::{Line, Report, Version, read_in};
+use scm_watched::Watched;
 use std::alloc::{AllocError, Global};
 use std::io::Write;
 
@@ -54,7 +54,7 @@ fn answer(alloc: Global, engine: &mut Engine, says: Line, text: &mut Vec<u8>) ->
     ensures few { result ≤ 1 }
 {
     match says {
-        Line::Silence => 0,
+        Line::Silence | Line::Version2 => 0,
         Line::Event(event) => {
             // What a sound world answers is short.
             engine.is_sound();
@@ -70,27 +70,30 @@ fn answer(alloc: Global, engine: &mut Engine, says: Line, text: &mut Vec<u8>) ->
 }
 
 /// Does the line of this number, appends its text to what is gathered, and says how many events
-/// that were.
+/// that were. Whether it can be read hangs on the version that the lines before it gave, and it may
+/// give one.
 ///
 /// What was gathered before is written first where too little room is left.
 pub fn do_line<W: Write>(
     alloc: Global,
     engine: &mut Engine,
+    version: &mut Version,
     text: &mut Vec<u8>,
     number: u64,
     bytes: &[u8],
     writer: &mut Watched<W>,
 ) -> Result<u64, RunFault>
     requires { writer.old.has_failed ≡ false }
-    ensures ok { IfOk result (λ events. LineDone engine.old bytes.now text.old.items text.new.items (W.contents writer.old.inner) (W.contents writer.new.inner) events engine.new) }
-    ensures err { IfErr result (LineStops bytes.now number text.old.items text.new.items (W.contents writer.old.inner) (W.contents writer.new.inner)) }
+    ensures ok { IfOk result (λ events. LineDone (record { machine = engine.old; version = version.old }) bytes.now text.old.items text.new.items (W.contents writer.old.inner) (W.contents writer.new.inner) events (record { machine = engine.new; version = version.new })) }
+    ensures err { IfErr result (LineStops version.old bytes.now number text.old.items text.new.items (W.contents writer.old.inner) (W.contents writer.new.inner)) }
     ensures few { IfOk result (λ events. events ≤ 1) }
     ensures write { writer.new.has_failed ≡ is_write_fault result }
     ensures no_read { is_read_fault result ≡ false }
 {
-    let Some(says) = line_of(alloc, bytes)? else {
+    let Some(says) = read_in(alloc, *version, bytes)? else {
         return Err(RunFault::Unreadable(number));
     };
     make_room(text, writer)?;
+    *version = version.after(&says);
     Ok(answer(alloc, engine, says, text))
 }

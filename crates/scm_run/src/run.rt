@@ -1,17 +1,16 @@
 //! The run of a script, from a reader to a writer.
 ghost use Rattle.std.specs.Prelude.{◌≡◌, ◌<◌, ℕ, List, [], ◌++◌, Option, length, OnOk, IfOk, IfErr, false};
 ghost use Rattle.std.specs.Str.Lines.{lines, strip_carriage_return};
-ghost use Rattle.af_base.specs.Run.{fresh};
 ghost use Rattle.scm_run.specs.Progress.{FaultIn, Halts, Ran, RanAll, TooLong, may_fit};
-ghost use Rattle.scm_run.specs.Script.{FaultAt, NoFeed, RanToEnd, StopsBy, Wrote, ended_by_feed, is_read_fault, is_write_fault};
+ghost use Rattle.scm_run.specs.Script.{FaultAt, NoFeed, RanToEnd, StopsBy, Wrote, ended_by_feed, first_point, is_read_fault, is_write_fault};
 
 use crate::fault::RunFault;
 use crate::gather::{settle, write_out};
 use crate::line::do_line;
 use af_steps::Engine;
 use memchr::memchr;
-use scm_lines::line::MAX_LINE;
-use scm_watched::watched::Watched;
+use scm_lines::{MAX_LINE, Version};
+use scm_watched::Watched;
 use std::alloc::{AllocError, Global};
 use std::io::{Read, Write};
 use std::marker::Model;
@@ -23,6 +22,8 @@ const CHUNK: usize = 8192;
 #[derive(Drop)]
 struct Run {
     engine: Engine,
+    /// What the lines that were done say of the script's version.
+    version: Version,
     /// The bytes after the last line feed that was read.
     pending: Vec<u8>,
     /// The text of lines that were done, as far as it is not written yet.
@@ -42,7 +43,7 @@ impl Model for Run {
 
     ghost coded = { Prim.hlevel (codes, map.code) };
 
-    ghost view = { λ r. record { machine = r.engine; pending = r.pending.items; gathered = r.text.items; events = r.events; done = r.done } };
+    ghost view = { λ r. record { point = record { machine = r.engine; version = r.version }; pending = r.pending.items; gathered = r.text.items; events = r.events; done = r.done } };
 
     ghost invariant = { λ r. r.events ≤ r.done };
 }
@@ -88,10 +89,11 @@ fn may_fit(bytes: &[u8]) -> bool
 impl Run {
     /// Nothing was read yet.
     fn new(alloc: Global) -> Result<Self, AllocError>
-        ensures { IfOk result (λ r. r ≡ record { machine = fresh; pending = []; gathered = []; events = 0; done = 0 }) }
+        ensures { IfOk result (λ r. r ≡ record { point = first_point; pending = []; gathered = []; events = 0; done = 0 }) }
     {
         Ok(Run {
             engine: Engine::new(alloc)?,
+            version: Version::Unsaid,
             pending: Vec::new(alloc),
             text: Vec::new(alloc),
             events: 0,
@@ -121,6 +123,7 @@ impl Run {
         let events = do_line(
             alloc,
             &mut self.engine,
+            &mut self.version,
             &mut self.text,
             number,
             without_return(line),
@@ -206,6 +209,7 @@ impl Run {
         let events = do_line(
             alloc,
             &mut self.engine,
+            &mut self.version,
             &mut self.text,
             number,
             self.pending.as_slice(),
@@ -259,8 +263,8 @@ impl Run {
     }
 }
 
-/// Runs a script from the fresh machine: does each line as soon as its end was read, writes the
-/// line of its reply, and says how many events were done.
+/// Runs a script from the fresh machine, in the version that its first line gives: does each line as
+/// soon as its end was read, writes the line of its reply, and says how many events were done.
 ///
 /// Neither stream may have failed before. Lines are cut as by `str::lines`: a last line needs no
 /// line feed. Memory does not grow with the length of the script: a line that is too long is

@@ -1,7 +1,8 @@
 //! Readers and writers that remember whether a call on them has failed.
 #![tactic(auto)]
 
-#[cfg(test)]
-mod tests;
-pub mod watched;
-pub mod writes;
+mod watched;
+mod writes;
+
+pub use watched::Watched;
+pub use writes::{WriteFailed, write_whole};

@@ -7,8 +7,6 @@
 
 mod script;
 mod table;
-#[cfg(test)]
-mod tests;
 
 pub use script::{MAX_STEPS, MIN_STEPS, make_script};
 pub use table::{MAX_WORKERS, event_of_word};

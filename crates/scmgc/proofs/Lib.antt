@@ -1,2 +1,4 @@
 -- Lemmas.
+pub mod Asked
 pub mod Fitting
+pub mod Numbers

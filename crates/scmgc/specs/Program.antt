@@ -1,8 +1,13 @@
 -- What the program answers.
-use Rattle.std.specs.Prelude.{◌≡◌, ℕ, List, Bool, Option, Result, Ok, Err, IfOk, IfErr}
+use Rattle.std.specs.Prelude.{◌≡◌, ◌*◌, ◌⊎◌, ℕ, List, Bool, true, Option, Result, Ok, Err, IfOk, IfErr}
+use Rattle.std.specs.Io.KnownBytes.{Appends}
 use Rattle.scm_run.specs.Script.{RanToEnd, StopsBy, is_read_fault, is_write_fault}
 use Rattle.scm_run.specs.declared.fault.RunFault.{RunFault}
 use Rattle.scm_run.specs.declared.fault.RunFault.TheVariants as fault
+use Rattle.scm_race.specs.Race.{RacedTo, outcome_text}
+use Rattle.scm_race.specs.declared.outcome.Outcome.{Outcome}
+use Rattle.scmgc.specs.declared.task.Task.{Task}
+use Rattle.scmgc.specs.declared.task.Task.TheVariants.{Race, Run}
 
 -- The exit status after a fault: 2 for a line that cannot be read, else 1. This project's profile.
 abbrev pub fault_status : RunFault → ℕ
@@ -24,3 +29,23 @@ pub record RanScript (told left before after : Option (List ℕ)) (read_failed w
   pub read : read_failed ≡ is_read_fault outcome
   pub write : write_failed ≡ is_write_fault outcome
   pub answered : status ≡ run_status outcome
+
+-- The text is that of the outcome of a race that ended well, in which each worker did all its steps.
+pub record RaceText (workers steps seed budget : ℕ) (text : List ℕ) : Type 0 where
+  pub outcome : Outcome
+  pub raced : RacedTo workers steps seed budget outcome
+  pub all_steps : outcome.steps ≡ workers * steps
+  pub lines : text ≡ outcome_text outcome
+
+-- There was a race that ended well, and its text was written.
+abbrev pub RanRace : ℕ → ℕ → ℕ → ℕ → Option (List ℕ) → Option (List ℕ) → Type 0
+RanRace workers steps seed budget before after = (text : List ℕ) × RaceText workers steps seed budget text × Appends before after text
+
+-- No race was told: nothing was written, or a write failed.
+abbrev pub WroteNoRace : Bool → Option (List ℕ) → Bool → Option (List ℕ) → Type 0
+WroteNoRace had_failed before has_failed after = ((has_failed ≡ had_failed) × (after ≡ before)) ⊎ (has_failed ≡ true)
+
+-- The task was done to its end: the script on the input was run, or there was a race, and nothing was read.
+abbrev pub Did : Task → Option (List ℕ) → Option (List ℕ) → Option (List ℕ) → Option (List ℕ) → Type 0
+Did Run told left before after = (events : ℕ) × RanToEnd told left before after events
+Did (Race workers steps seed budget) told left before after = (left ≡ told) × RanRace workers steps seed budget before after

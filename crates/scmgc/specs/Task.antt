@@ -1,13 +1,32 @@
 -- What a command line asks for.
-use Rattle.std.specs.Prelude.{◌==◌, List, length, Option, Some, None, Bool, true, codes, if◌then◌else◌}
+use Rattle.std.specs.Prelude.{◌≡◌, ◌==◌, ◌≤◌, ℕ, List, length, Option, Some, None, Bool, true, codes, pos, ⊤}
 use Rattle.std.specs.Str.{bytes_eq}
-use Rattle.clap.specs.Words.{App, Row, Text, fault_of, new_app, subcommand_of, with_subcommand}
+use Rattle.std.specs.Str.Parse.{IsNumeral, digits_value, without_leading_plus}
+use Rattle.clap.specs.Words.{App, Row, Rule, Text, fault_of, new_app, new_rule, one_of, subcommand_of, with_rule, with_subcommand}
+use Rattle.clap.specs.declared.builder.value_parser.ValueParser.TheVariants.{Signed}
 use Rattle.scmgc.specs.declared.task.Task.{Task}
-use Rattle.scmgc.specs.declared.task.Task.TheVariants.{Run}
+use Rattle.scmgc.specs.declared.task.Task.TheVariants.{Race, Run}
 
 -- The subcommand that runs a script, which has no options.
 abbrev pub run_app : App
 run_app = new_app (codes "run")
+
+-- An option that must be given, as `--name`, and takes a number within these bounds.
+abbrev pub number_rule : Text → ℕ → ℕ → Rule
+number_rule name least most = record (new_rule name) {
+  long = Some name;
+  value_names = 1;
+  required = true;
+  parser = Some (Signed (pos least) (pos most));
+}
+
+-- The subcommand of a race, with its four options.
+abbrev pub race_app : App
+race_app = with_rule (with_rule (with_rule (with_rule (new_app (codes "race"))
+    (number_rule (codes "workers") 1 32))
+    (number_rule (codes "steps") 5 20000))
+    (number_rule (codes "seed") 0 4294967295))
+    (number_rule (codes "budget") 1 65536)
 
 -- The command before its subcommands: it has a version, and wants a subcommand.
 abbrev pub bare_app : App
@@ -17,17 +36,40 @@ bare_app = let app = new_app (codes "scmgc") in record app {
 
 -- The whole command.
 abbrev pub whole_app : App
-whole_app = with_subcommand bare_app run_app.top
+whole_app = with_subcommand (with_subcommand bare_app run_app.top) race_app.top
 
--- The task that a subcommand stands for, by its name.
-abbrev pub task_named : Option (Text × List Row) → Option Task
-task_named None = None
-task_named (Some found) = if bytes_eq found.0 (codes "run") then Some Run else None
+-- The value of the option of this name is the number n, within these bounds: it is what the text says that `clap` found for the option. A plus may stand before its digits.
+pub record HasNumber (rows : List Row) (name : Text) (least most n : ℕ) : Type 0 where
+  pub text : Text
+  pub found : one_of name rows ≡ Some text
+  pub numeral : IsNumeral 10 (without_leading_plus text)
+  pub value : n ≡ digits_value 10 (without_leading_plus text)
+  pub least_is : least ≤ n
+  pub most_is : n ≤ most
+
+-- These are the values of a race's four options, each within its bounds.
+pub record IsRace (rows : List Row) (workers steps seed budget : ℕ) : Type 0 where
+  pub workers_is : HasNumber rows (codes "workers") 1 32 workers
+  pub steps_is : HasNumber rows (codes "steps") 5 20000 steps
+  pub seed_is : HasNumber rows (codes "seed") 0 4294967295 seed
+  pub budget_is : HasNumber rows (codes "budget") 1 65536 budget
+
+-- What a subcommand with the values of its options stands for.
+abbrev pub StandsFor : Option (Text × List Row) → Task → Type 0
+StandsFor None task = ⊥
+StandsFor (Some found) Run = bytes_eq found.0 (codes "run") ≡ true
+StandsFor (Some found) (Race workers steps seed budget) = (bytes_eq found.0 (codes "race") ≡ true) × IsRace found.1 workers steps seed budget
 
 -- The words of a command line fit the whole command: no fault is found in them. A call for help or for the version is one.
 unfoldable pub fits : List Text → Bool
 fits words = length (fault_of whole_app words) == 0
 
--- The task that the words of a command line name.
-unfoldable pub task_in : List Text → Option Task
-task_in words = task_named (subcommand_of whole_app words)
+-- The words of a command line name the task.
+unfoldable pub Names : List Text → Task → Type 0
+Names words task = StandsFor (subcommand_of whole_app words) task
+
+-- The numbers of a race lie in their ranges.
+abbrev pub IsInRange : Task → Type 0
+IsInRange Run = ⊤
+IsInRange (Race workers steps seed budget) =
+    (1 ≤ workers) × (workers ≤ 32) × (5 ≤ steps) × (steps ≤ 20000) × (1 ≤ budget) × (budget ≤ 65536)

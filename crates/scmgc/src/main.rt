@@ -1,4 +1,5 @@
-//! Runs scripts of events against the layer, from standard input to standard output.
+//! Runs scripts of events against the layer, from standard input to standard output, and lets
+//! workers race on it.
 #![tactic(auto)]
 
 mod program;
@@ -7,8 +8,8 @@ mod task;
 mod tests;
 
 use crate::program::program;
-use scm_run::fault::RunFault;
-use scm_watched::watched::Watched;
+use scm_run::RunFault;
+use scm_watched::Watched;
 use std::alloc::AllocError;
 use std::env;
 use std::io::ErrorKind;
@@ -32,6 +33,7 @@ fn main(rt: HostRuntime) -> ExitCode {
         return ExitCode::from(1);
     };
     ExitCode::from(program(
+        &rt,
         alloc,
         words.as_slice(),
         &mut input,

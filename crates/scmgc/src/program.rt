@@ -1,33 +1,41 @@
 //! The whole program, over any streams.
-ghost use Rattle.std.specs.Prelude.{◌≡◌, ◌≢◌, ◌≤◌, ◌⊎◌, ℕ, None, Some, false, true, map};
+ghost use Rattle.std.specs.Prelude.{◌≡◌, ◌≢◌, ◌≤◌, ◌⊎◌, ℕ, IfOk, false, true, map, string_bytes};
 ghost use Rattle.clap.specs.Words.{kind_of};
 ghost use Rattle.clap.specs.declared.error.kind.ErrorKind.TheVariants.{OutOfMemory};
-ghost use Rattle.scmgc.specs.Program.{RanScript, fault_status};
-ghost use Rattle.scm_run.specs.Script.{RanToEnd};
-ghost use Rattle.scmgc.specs.Task.{fits, task_in};
+ghost use Rattle.scmgc.specs.Program.{Did, RaceText, RanRace, RanScript, WroteNoRace, fault_status};
+ghost use Rattle.scmgc.specs.Task.{IsInRange, Names, fits};
+ghost use Rattle.scmgc.specs.declared.task.Task.{Task as Asked};
 ghost use Rattle.scmgc.specs.declared.task.Task.TheVariants as task;
 
 use crate::task::{Task, task_of};
 use clap::error::ErrorKind;
-use scm_run::fault::RunFault;
-use scm_run::run::run_script;
-use scm_watched::watched::Watched;
+use scm_race::{Race, RaceFault};
+use scm_run::{RunFault, run_script};
+use scm_watched::{Watched, write_whole};
 use std::alloc::Global;
 use std::convert::AsStr;
+use std::fmt::Display;
 use std::io::{Read, Write};
+use std::sync::Wait;
+use std::thread::Threads;
 
-/// The exit status of a failed run.
+/// The exit status of a failed run or race.
 const FAILED: u8 = 1;
 
 /// The exit status of a command line or a script that cannot be read.
 const UNREADABLE: u8 = 2;
 
+/// Says on the error stream what failed.
+fn say<E: Write, F: Display>(errors: &mut E, fault: &F) {
+    // Where this line cannot be written either, the status still tells.
+    let _ = writeln!(errors, "scmgc: {fault}");
+}
+
 /// Says on the error stream why a run stopped, and answers the exit status.
 fn complain<E: Write>(errors: &mut E, fault: &RunFault) -> u8
     ensures { result ≡ fault_status fault.now }
 {
-    // Where this line cannot be written either, the status still tells.
-    let _ = writeln!(errors, "scmgc: {fault}");
+    say(errors, fault);
     match fault {
         RunFault::Unreadable(_) => UNREADABLE,
         RunFault::Read | RunFault::Write | RunFault::Memory => FAILED,
@@ -47,12 +55,58 @@ fn refuse<E: Write>(errors: &mut E, error: &clap::Error) -> u8
     UNREADABLE
 }
 
+/// Lets workers race, and makes the lines that tell what that came to.
+fn race_text<H: Threads + Wait + Sync>(
+    rt: &H,
+    alloc: Global,
+    race: Race,
+) -> Result<String, RaceFault>
+    requires { IsInRange (task.Race race.workers race.steps race.seed race.budget) }
+    ensures { IfOk result (λ text. RaceText race.workers race.steps race.seed race.budget (string_bytes text)) }
+{
+    let outcome = race.run(rt, alloc)?;
+    Ok(outcome.text(alloc)?)
+}
+
+/// Lets workers race, writes what that came to, and answers the exit status.
+///
+/// Nothing is written to the output where there is no outcome.
+fn run_race<H: Threads + Wait + Sync, W: Write, E: Write>(
+    rt: &H,
+    alloc: Global,
+    race: Race,
+    output: &mut Watched<W>,
+    errors: &mut E,
+) -> u8
+    requires race { IsInRange (task.Race race.workers race.steps race.seed race.budget) }
+    requires output { output.old.has_failed ≡ false }
+    ensures done { result ≡ 0 → RanRace race.workers race.steps race.seed race.budget (W.contents output.old.inner) (W.contents output.new.inner) }
+    ensures failed { result ≢ 0 → WroteNoRace output.old.has_failed (W.contents output.old.inner) output.new.has_failed (W.contents output.new.inner) }
+    ensures few { result ≤ 1 }
+{
+    let text = match race_text(rt, alloc, race) {
+        Ok(text) => text,
+        Err(fault) => {
+            say(errors, &fault);
+            return FAILED;
+        }
+    };
+    match write_whole(output, text.as_bytes()) {
+        Ok(()) => 0,
+        Err(fault) => {
+            say(errors, &fault);
+            FAILED
+        }
+    }
+}
+
 /// Does all that the program does with these words and streams, and answers its exit status: 0,
-/// or 1 for a failed run or where there is no memory to read the command line, or 2 for a line or a
-/// command line that cannot be read.
+/// or 1 for a failed run or race or where there is no memory to read the command line, or 2 for a
+/// line or a command line that cannot be read.
 ///
 /// The first word is the program's name. A fault is one line on the error stream.
-pub fn program<S: AsStr, R: Read, W: Write, E: Write>(
+pub fn program<H: Threads + Wait + Sync, S: AsStr, R: Read, W: Write, E: Write>(
+    rt: &H,
     alloc: Global,
     words: &[S],
     input: &mut Watched<R>,
@@ -62,20 +116,26 @@ pub fn program<S: AsStr, R: Read, W: Write, E: Write>(
     requires input { input.old.has_failed ≡ false }
     requires output { output.old.has_failed ≡ false }
 
-    // The status is 0 only where a script was to be run, and was run to its end.
-    ensures done { (result ≡ 0) → (task_in (map S.text words.now) ≡ Some task.Run)
-        × ((events : ℕ) × RanToEnd (R.remaining input.old.inner) (R.remaining input.new.inner) (W.contents output.old.inner) (W.contents output.new.inner) events) }
+    // The status is 0 only where the words name a task, and it was done to its end.
+    ensures done { (result ≡ 0) → (asked : Asked) × Names (map S.text words.now) asked
+        × Did asked (R.remaining input.old.inner) (R.remaining input.new.inner) (W.contents output.old.inner) (W.contents output.new.inner) }
 
     // Where the words ask for a run, there is one, unless there is no memory to read the words.
-    ensures run { fits (map S.text words.now) ≡ true → task_in (map S.text words.now) ≡ Some task.Run
+    ensures run { fits (map S.text words.now) ≡ true → Names (map S.text words.now) task.Run
         → ((result ≡ 1) × (input.new ≡ input.old) × (output.new ≡ output.old))
         ⊎ RanScript (R.remaining input.old.inner) (R.remaining input.new.inner) (W.contents output.old.inner) (W.contents output.new.inner) input.new.has_failed output.new.has_failed result }
+
+    // Where they ask for a race, nothing is read, and the status is 0 or 1: with 1 nothing was
+    // written to the output, unless a write failed.
+    ensures race { fits (map S.text words.now) ≡ true → (workers steps seed budget : ℕ) → Names (map S.text words.now) (task.Race workers steps seed budget)
+        → (input.new ≡ input.old) × (result ≤ 1)
+        × (result ≢ 0 → WroteNoRace output.old.has_failed (W.contents output.old.inner) output.new.has_failed (W.contents output.new.inner)) }
 
     // Where they do not fit the command, or name no task, nothing is read or written but the
     // complaint: the status is 2, or 1 where there is no memory to read them.
     ensures unfit { fits (map S.text words.now) ≡ false
         → (1 ≤ result) × (input.new ≡ input.old) × (output.new ≡ output.old) }
-    ensures refused { task_in (map S.text words.now) ≡ None
+    ensures refused { ((asked : Asked) → ¬ (Names (map S.text words.now) asked))
         → (1 ≤ result) × (input.new ≡ input.old) × (output.new ≡ output.old) }
     ensures few { result ≤ 2 }
 {
@@ -84,6 +144,22 @@ pub fn program<S: AsStr, R: Read, W: Write, E: Write>(
             Ok(_) => 0,
             Err(fault) => complain(errors, &fault),
         },
+        Ok(
+            Task::Race {
+                workers,
+                steps,
+                seed,
+                budget,
+            },
+        ) => {
+            let race = Race {
+                workers,
+                steps,
+                seed,
+                budget,
+            };
+            run_race(rt, alloc, race, output, errors)
+        }
         Err(error) => refuse(errors, &error),
     }
 }

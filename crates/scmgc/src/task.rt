@@ -1,12 +1,16 @@
 //! The command line.
-ghost use Rattle.std.specs.Prelude.{◌≡◌, IfOk, IfErr, Some, false, true, is_some, map};
-ghost use Rattle.clap.specs.Words.{app_of, kind_of, subcommand_rows_of};
+ghost use Rattle.std.specs.Prelude.{◌≡◌, ℕ, IfNone, IfOk, IfErr, IfSome, false, true, map};
+ghost use Rattle.clap.specs.Words.{app_of, found_of, kind_of, rows_of, rule_of, subcommand_rows_of};
 ghost use Rattle.clap.specs.declared.builder.command.Command.TheViews.{out-Command};
 ghost use Rattle.clap.specs.declared.error.kind.ErrorKind.TheVariants.{OutOfMemory};
-ghost use Rattle.scmgc.specs.Task.{bare_app, fits, run_app, task_in, task_named, whole_app};
+ghost use Rattle.scmgc.specs.Task.{HasNumber, IsInRange, IsRace, Names, StandsFor, bare_app, fits, number_rule, race_app, run_app, whole_app};
+ghost use Rattle.scmgc.specs.declared.task.Task.{Task as Asked};
 
+use af_base::limits::MAX_BUDGET;
+use clap::builder::ValueParser;
 use clap::error::ErrorKind;
-use clap::{ArgMatches, Command, Error};
+use clap::{Arg, ArgMatches, Command, Error};
+use scm_work::{MAX_STEPS, MAX_WORKERS, MIN_STEPS};
 use std::alloc::{AllocError, Global};
 use std::convert::AsStr;
 
@@ -15,16 +19,88 @@ use std::convert::AsStr;
 pub enum Task {
     /// Run the script on standard input.
     Run,
+    /// Let workers and a collector race on one layer.
+    Race {
+        /// How many workers there are, 1 to 32.
+        workers: u32,
+        /// How many events each worker does, 5 to 20,000.
+        steps: u32,
+        /// The number that the events are drawn from.
+        seed: u32,
+        /// The budget of the collector's slices, 1 to 65,536.
+        budget: u32,
+    },
 }
+
+/// What the help says of scripts.
+const OF_SCRIPTS: &str =
+    "A script has one event or one report on each line, as 'spawn 1000 16' or 'check'.
+One whose first line is 'version 2' may also have
+  P peek N N N   process P sees what it may receive: socket, most bytes, most descriptors
+  P limit N      process P has another limit on its descriptors";
 
 /// The subcommand that runs a script.
 fn run_command<'a>(alloc: Global) -> Command<'a>
     ensures shape { app_of result ≡ run_app }
     ensures local { (out-Command result).has_globals ≡ false }
 {
-    Command::new(alloc, "run").about(
-        "Runs the script on standard input and writes the line of each reply",
-    )
+    Command::new(alloc, "run")
+        .about("Runs the script on standard input and writes the line of each reply")
+        .after_help(OF_SCRIPTS)
+}
+
+/// An option that must be given, and takes a number in this range.
+fn number_option<'a>(alloc: Global, name: &'a str, least: u32, most: u32, help: &'a str) -> Arg<'a>
+    ensures shape { rule_of result ≡ number_rule name.entry.now least most }
+    ensures local { result.global ≡ false }
+{
+    Arg::new(alloc, name)
+        .long(name)
+        .value_name("NUMBER")
+        .help(help)
+        .required(true)
+        .value_parser(ValueParser::signed(i64::from(least), i64::from(most)))
+}
+
+/// The subcommand that lets workers race.
+fn race_command<'a>(alloc: Global) -> Result<Command<'a>, AllocError>
+    ensures shape { IfOk result (λ c. app_of c ≡ race_app) }
+    ensures local { IfOk result (λ c. (out-Command c).has_globals ≡ false) }
+{
+    let workers = number_option(
+        alloc,
+        "workers",
+        1,
+        MAX_WORKERS,
+        "How many workers, 1 to 32",
+    );
+    let steps = number_option(
+        alloc,
+        "steps",
+        MIN_STEPS,
+        MAX_STEPS,
+        "How many events each worker does, 5 to 20000",
+    );
+    let seed = number_option(
+        alloc,
+        "seed",
+        0,
+        u32::MAX,
+        "The number that the events are drawn from, up to 4294967295",
+    );
+    let budget = number_option(
+        alloc,
+        "budget",
+        1,
+        MAX_BUDGET,
+        "The budget of the collector's slices, 1 to 65536",
+    );
+    Command::new(alloc, "race")
+        .about("Lets workers and a collector race on one layer, and audits its log")
+        .arg(workers)?
+        .arg(steps)?
+        .arg(seed)?
+        .arg(budget)
 }
 
 /// The command without its subcommands.
@@ -43,15 +119,45 @@ fn bare_command<'a>(alloc: Global) -> Command<'a>
 fn whole_command<'a>(alloc: Global) -> Result<Command<'a>, AllocError>
     ensures shape { IfOk result (λ c. app_of c ≡ whole_app) }
 {
-    bare_command(alloc).subcommand(run_command(alloc))
+    bare_command(alloc)
+        .subcommand(run_command(alloc))?
+        .subcommand(race_command(alloc)?)
+}
+
+/// The number of an option, where it has one in this range.
+fn number(matches: &ArgMatches<'_>, name: &str, least: u32, most: u32) -> Option<u32>
+    ensures some { IfSome result (HasNumber (rows_of (found_of matches.now)) name.now least most) }
+    ensures none { IfNone result ((n : ℕ) → ¬ (HasNumber (rows_of (found_of matches.now)) name.now least most n)) }
+{
+    // `clap` has refused what is out of range.
+    match matches.get_one::<u32>(name) {
+        Some(number) if least <= number && number <= most => Some(number),
+        _ => None,
+    }
+}
+
+/// The race that these options ask for.
+fn race_of(matches: &ArgMatches<'_>) -> Option<Task>
+    ensures some { IfSome result (λ task. (workers steps seed budget : ℕ) × (task ≡ Asked.Race workers steps seed budget)
+        × IsRace (rows_of (found_of matches.now)) workers steps seed budget) }
+    ensures none { IfNone result ((workers steps seed budget : ℕ) → ¬ (IsRace (rows_of (found_of matches.now)) workers steps seed budget)) }
+{
+    Some(Task::Race {
+        workers: number(matches, "workers", 1, MAX_WORKERS)?,
+        steps: number(matches, "steps", MIN_STEPS, MAX_STEPS)?,
+        seed: number(matches, "seed", 0, u32::MAX)?,
+        budget: number(matches, "budget", 1, MAX_BUDGET)?,
+    })
 }
 
 /// The task that the matches' subcommand stands for.
 fn chosen_task(matches: &ArgMatches<'_>) -> Option<Task>
-    ensures { result ≡ task_named (subcommand_rows_of matches.now) }
+    ensures some { IfSome result (StandsFor (subcommand_rows_of matches.now)) }
+    ensures none { IfNone result ((task : Asked) → ¬ (StandsFor (subcommand_rows_of matches.now) task)) }
 {
-    match matches.subcommand() {
-        Some(("run", _)) => Some(Task::Run),
+    match matches.subcommand()? {
+        ("run", _) => Some(Task::Run),
+        ("race", options) => race_of(options),
         _ => None,
     }
 }
@@ -59,13 +165,14 @@ fn chosen_task(matches: &ArgMatches<'_>) -> Option<Task>
 /// The task that a command line names. Its first word is the program's name.
 ///
 /// A call for help or for the version is an error too, with that text.
-#[tactic(auto, unfolding(crate::specs::Task::fits, crate::specs::Task::task_in))]
+#[tactic(auto, unfolding(crate::specs::Task::fits, crate::specs::Task::Names))]
 pub fn task_of<'a, S: AsStr>(alloc: Global, words: &'a [S]) -> Result<Task, Error>
-    ensures ok { IfOk result (λ task. task_in (map S.text words.entry.now) ≡ Some task) }
+    ensures ok { IfOk result (Names (map S.text words.entry.now)) }
+    ensures ranges { IfOk result IsInRange }
     ensures fit { IfOk result (λ _. fits (map S.text words.entry.now) ≡ true) }
 
     // Where the words fit the command and name a task, only want of memory is an error.
-    ensures err { IfErr result (λ error. fits (map S.text words.entry.now) ≡ true → is_some (task_in (map S.text words.entry.now)) ≡ true
+    ensures err { IfErr result (λ error. (task : Asked) → fits (map S.text words.entry.now) ≡ true → Names (map S.text words.entry.now) task
         → kind_of error ≡ OutOfMemory) }
 {
     let mut command = whole_command(alloc)?;

@@ -1,156 +1,201 @@
 //! Passes that go on between steps of all kinds.
-use super::USUAL;
-use super::source::{Mix, Source};
+use super::mixes::{LOOKING, USUAL, lively};
+use super::source::{Kind, Mix, Source};
+use super::walk::{Walk, answer, on_new_engine};
 use af_base::events::{Event, Reply};
 use af_base::listing::Listing;
 use af_base::names::Ino;
 use af_plain::{garbage, reached, recount_refs};
 use af_report::check;
 use af_steps::{Engine, FileInfo};
-use rand::rngs::SmallRng;
-use rand::{RngExt, SeedableRng};
-use std::alloc::Global;
+use rand::RngExt;
+use std::alloc::{AllocError, Global};
 use std::process::Abort;
 use std::test::Fail;
 
-/// What was garbage when a pass began, and how many of it are sockets.
+/// Seeded steps, with begins and slices between them.
 #[derive(Drop)]
-struct Begun {
-    files: Vec<Ino>,
-    sockets: u64,
-}
-
-/// What the engine answers to an event. A test looks at that and no further, so this promises nothing.
-fn answer(engine: &mut Engine, event: &Event) -> Reply {
-    engine.step(event)
-}
-
-/// Whether the file is live.
-fn is_live(engine: &Engine, ino: Ino) -> bool {
-    engine.file(ino).is_some()
-}
-
-/// An engine to which seeded steps happen, with begins and slices between them.
-#[derive(Drop)]
-struct Walk {
+struct Sliced {
     alloc: Global,
-    engine: Engine,
     source: Source,
-    rng: SmallRng,
     is_passing: bool,
-    /// What the last begin found.
-    begun: Begun,
+    /// What was garbage when the last pass began, and how many of it are sockets.
+    lost: Vec<Ino>,
+    sockets: u64,
     /// How many passes were done that had something to reclaim.
     reclaiming: u32,
 }
 
-impl Walk {
-    fn new(alloc: Global, seed: u64) -> Result<Walk, Fail> {
+impl Walk for Sliced {
+    /// 500 events.
+    fn go<T: Abort>(&mut self, rt: &T, engine: &mut Engine) -> Result<(), AllocError> {
+        for _ in 0..500 {
+            let before = engine.listing()?;
+            self.go_on(rt, engine, &before)?;
+        }
+        Ok(())
+    }
+}
+
+impl Sliced {
+    /// No pass has begun. Every other seed has peeks and changed limits.
+    fn new(alloc: Global, seed: u64) -> Sliced {
+        let kinds: &[Kind] = if seed % 2 == 0 { &LOOKING } else { &USUAL };
         let mix = Mix {
-            kinds: &USUAL,
-            last_user: 2,
+            kinds,
             limits: &[16, 24, 32],
-            last_fd: 4,
-            most_processes: 5,
+            ..lively()
         };
-        Ok(Walk {
+        Sliced {
             alloc,
-            engine: Engine::new(alloc)?,
             source: Source::new(alloc, seed, mix),
-            rng: SmallRng::seed_from_u64(seed),
             is_passing: false,
-            begun: Begun {
-                files: Vec::new(alloc),
-                sockets: 0,
-            },
+            lost: Vec::new(alloc),
+            sockets: 0,
             reclaiming: 0,
-        })
+        }
     }
 
-    /// One event more: one in four is the collector's. All counts are the recounts then.
-    fn goes_on(&mut self, rt: &impl Abort) -> Result<(), Fail> {
-        let before = self.engine.listing()?;
-        if self.rng.random_range(0..4u32) > 0 {
-            self.steps()?;
-        } else if self.is_passing {
-            self.slices(rt)?;
-        } else {
-            self.begins(rt)?;
-        }
-        self.went_rightly(rt, &before)?;
-        let told = check(self.alloc, &self.engine)?;
+    /// One event more. All counts are the recounts then.
+    fn go_on<T: Abort>(
+        &mut self,
+        rt: &T,
+        engine: &mut Engine,
+        before: &Listing,
+    ) -> Result<(), AllocError> {
+        self.draw(rt, engine)?;
+        self.went_rightly(rt, engine, before)?;
+        let told = check(self.alloc, engine)?;
         assert!(rt; told.starts_with(b"check ok"));
         Ok(())
     }
 
+    /// One event in four is the collector's.
+    fn draw<T: Abort>(&mut self, rt: &T, engine: &mut Engine) -> Result<(), AllocError> {
+        if !self.source.is_rare(4) {
+            self.step(engine)
+        } else if self.is_passing {
+            self.slice(rt, engine)
+        } else {
+            self.begin(rt, engine)
+        }
+    }
+
     /// A step of a process, or a whole pass.
-    fn steps(&mut self) -> Result<(), Fail> {
+    fn step(&mut self, engine: &mut Engine) -> Result<(), AllocError> {
         let event = self.source.event()?;
-        let reply = answer(&mut self.engine, &event);
-        self.source.note(&event, &reply)?;
-        Ok(())
+        let reply = answer(engine, &event);
+        self.source.note(&event, &reply)
     }
 
     /// A pass begins. It is noted what is garbage then.
-    fn begins(&mut self, rt: &impl Abort) -> Result<(), Fail> {
-        let files = garbage(self.alloc, &self.engine.listing()?)?;
-        let sockets = self.sockets_among(&files);
-        self.begun = Begun { files, sockets };
+    fn begin<T: Abort>(&mut self, rt: &T, engine: &mut Engine) -> Result<(), AllocError> {
+        self.lost = lost(self.alloc, engine)?;
+        self.sockets = sockets_among(engine, &self.lost);
         self.is_passing = true;
-        assert!(rt; matches!(answer(&mut self.engine, &Event::Begin), Reply::Started(_)));
+        assert!(rt; matches!(answer(engine, &Event::Begin), Reply::Started(_)));
         Ok(())
     }
 
-    /// A slice. What is reached stays; where the pass is done, what was garbage at its begin is gone,
-    /// and the sockets among that are counted.
-    fn slices(&mut self, rt: &impl Abort) -> Result<(), Fail> {
-        let safe = reached(self.alloc, &self.engine.listing()?)?;
-        let budget = self.rng.random_range(1..=12u32);
-        let reply = answer(&mut self.engine, &Event::Slice(budget));
-        assert!(rt; safe.iter().all(|ino| is_live(&self.engine, *ino)));
-        let Reply::Done { reclaimed, .. } = reply else {
-            assert!(rt; reply == Reply::Working);
-            return Ok(());
-        };
-        self.is_passing = false;
-        let begun = &self.begun;
-        assert!(rt; !begun.files.iter().any(|ino| is_live(&self.engine, *ino)));
-        assert_eq!(rt; reclaimed, begun.sockets);
-        self.reclaiming = self.reclaiming.saturating_add(u32::from(reclaimed > 0));
+    /// A slice takes nothing that is reached.
+    fn slice<T: Abort>(&mut self, rt: &T, engine: &mut Engine) -> Result<(), AllocError> {
+        let safe = safe(self.alloc, engine)?;
+        let budget = self.source.rng.random_range(1..=12u32);
+        if let Some(reclaimed) = done_by(rt, engine, budget) {
+            self.is_done(rt, engine, reclaimed);
+        }
+        assert!(rt; count_live(engine, &safe) == safe.len());
         Ok(())
+    }
+
+    /// The pass is done. What was garbage at its begin is gone, and the sockets among that are
+    /// counted.
+    fn is_done<T: Abort>(&mut self, rt: &T, engine: &Engine, reclaimed: u64) {
+        assert!(rt; count_live(engine, &self.lost) == 0);
+        assert!(rt; reclaimed == self.sockets);
+        self.is_passing = false;
+        self.reclaiming = self.reclaiming.saturating_add(u32::from(reclaimed > 0));
     }
 
     /// What went since then was garbage when the pass began, or no place holds it any more.
-    fn went_rightly(&self, rt: &impl Abort, before: &Listing) -> Result<(), Fail> {
-        let after = self.engine.listing()?;
+    fn went_rightly<T: Abort>(
+        &self,
+        rt: &T,
+        engine: &Engine,
+        before: &Listing,
+    ) -> Result<(), AllocError> {
+        let after = engine.listing()?;
         for file in before.files() {
-            let ino = file.ino;
-            let stays = is_live(&self.engine, ino) || self.begun.files.contains(&ino);
-            assert!(rt; stays || recount_refs(&after, ino) == 0);
+            let stays = engine.file(file.ino).is_some() || self.lost.contains(&file.ino);
+            assert!(rt; stays || recount_refs(&after, file.ino) == 0);
         }
         Ok(())
     }
+}
 
-    /// How many of these files are sockets.
-    fn sockets_among(&self, files: &[Ino]) -> u64 {
-        let sockets = files
-            .iter()
-            .filter(|ino| matches!(self.engine.file(**ino), Some(FileInfo::Socket { .. })))
-            .count();
-        sockets as u64
+/// The live files that nothing reaches.
+fn lost(alloc: Global, engine: &Engine) -> Result<Vec<Ino>, AllocError> {
+    let listing = engine.listing()?;
+    garbage(alloc, &listing)
+}
+
+/// The files that are reached.
+fn safe(alloc: Global, engine: &Engine) -> Result<Vec<Ino>, AllocError> {
+    let listing = engine.listing()?;
+    reached(alloc, &listing)
+}
+
+/// A slice of this budget. How many sockets were reclaimed, where the pass is done.
+fn done_by<T: Abort>(rt: &T, engine: &mut Engine, budget: u32) -> Option<u64> {
+    let reply = answer(engine, &Event::Slice(budget));
+    if let Reply::Done { reclaimed, .. } = &reply {
+        return Some(*reclaimed);
     }
+    assert!(rt; reply == Reply::Working);
+    None
+}
+
+/// How many of these files are live.
+fn count_live(engine: &Engine, files: &[Ino]) -> usize {
+    let mut count: usize = 0;
+    for ino in files {
+        if engine.file(*ino).is_some() {
+            count = count.saturating_add(1);
+        }
+    }
+    count
+}
+
+/// How many of these files are sockets.
+fn sockets_among(engine: &Engine, files: &[Ino]) -> u64 {
+    let mut count: u64 = 0;
+    for ino in files {
+        if let Some(FileInfo::Socket { .. }) = engine.file(*ino) {
+            count = count.saturating_add(1);
+        }
+    }
+    count
+}
+
+/// How many passes of a walk over a new engine reclaimed a socket.
+fn reclaiming<T: Abort>(rt: &T, alloc: Global, seed: u64) -> Result<u32, AllocError> {
+    let mut sliced = Sliced::new(alloc, seed);
+    on_new_engine(rt, alloc, &mut sliced)?;
+    Ok(sliced.reclaiming)
+}
+
+/// How many passes of 200 walks reclaimed a socket.
+fn count_reclaiming<T: Abort>(rt: &T, alloc: Global) -> Result<u32, AllocError> {
+    let mut count: u32 = 0;
+    for seed in 1..=200 {
+        count = count.saturating_add(reclaiming(rt, alloc, seed)?);
+    }
+    Ok(count)
 }
 
 #[test]
 fn slices_take_what_was_garbage(rt: HostRuntime) -> Result<(), Fail> {
-    let mut reclaiming: u32 = 0;
-    for seed in 1..=200 {
-        let mut walk = Walk::new(rt.alloc(), seed)?;
-        for _ in 0..500 {
-            walk.goes_on(&rt)?;
-        }
-        reclaiming = reclaiming.saturating_add(walk.reclaiming);
-    }
-    assert!(rt; reclaiming > 100, "{reclaiming} passes reclaimed a socket");
+    let count = count_reclaiming(&rt, rt.alloc())?;
+    assert!(rt; count > 100, "{count} passes reclaimed a socket");
     Ok(())
 }

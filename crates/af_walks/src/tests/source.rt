@@ -12,7 +12,7 @@ use rand::{RngExt, SeedableRng};
 use std::alloc::{AllocError, Global};
 
 /// What may be drawn. The more often it stands in a list, the more often it comes.
-#[derive(Clone, Copy, Debug, PartialEq, Eq, PartialOrd, Ord)]
+#[derive(Clone, Copy, Debug, PartialEq, Eq)]
 pub enum Kind {
     Spawn,
     Open,
@@ -29,6 +29,8 @@ pub enum Kind {
     Accept,
     Send,
     Recv,
+    Peek,
+    Limit,
     Pass,
     /// The next step of a meeting.
     Meet,
@@ -57,6 +59,8 @@ impl Kind {
             Step::Accept(_) => Kind::Accept,
             Step::Send { .. } => Kind::Send,
             Step::Recv { .. } => Kind::Recv,
+            Step::Peek { .. } => Kind::Peek,
+            Step::Limit(_) => Kind::Limit,
         }
     }
 }
@@ -84,9 +88,12 @@ pub struct Mix {
 /// A source of events.
 #[derive(Drop)]
 pub struct Source {
+    seed: u64,
+    pub mix: Mix,
+    /// How many events were drawn.
+    drawn: u32,
     pub(super) alloc: Global,
     pub(super) rng: SmallRng,
-    mix: Mix,
     /// The processes that live.
     pids: Vec<Pid>,
     pub(super) meeting: Meeting,
@@ -97,17 +104,25 @@ pub struct Source {
 impl Source {
     pub fn new(alloc: Global, seed: u64, mix: Mix) -> Source {
         Source {
+            seed,
+            mix,
+            drawn: 0,
             alloc,
             rng: SmallRng::seed_from_u64(seed),
-            mix,
             pids: Vec::new(alloc),
             meeting: Meeting::new(alloc),
             is_meeting: false,
         }
     }
 
+    /// The seed, and how many events were drawn.
+    pub fn place(&self) -> (u64, u32) {
+        (self.seed, self.drawn)
+    }
+
     /// The next event. Where no process lives one starts, and where too many do one is to end.
     pub fn event(&mut self) -> Result<Event, AllocError> {
+        self.drawn = self.drawn.saturating_add(1);
         let drawn = self.mix.kinds.choose(&mut self.rng).copied();
         let kind = if self.pids.is_empty() {
             Kind::Spawn
@@ -144,6 +159,8 @@ impl Source {
             Kind::Accept => Step::Accept(self.fd()),
             Kind::Send => self.send()?,
             Kind::Recv => self.recv(),
+            Kind::Peek => self.peek(),
+            Kind::Limit => Step::Limit(self.limit()),
         };
         Ok(Event::Proc(self.pid(), step))
     }
@@ -181,11 +198,17 @@ impl Source {
         Fd(self.rng.random_range(..=self.mix.last_fd))
     }
 
-    fn spawn(&mut self) -> Event {
+    /// A limit on descriptors.
+    fn limit(&mut self) -> u32 {
         let limit = self.mix.limits.choose(&mut self.rng).copied();
+        limit.unwrap_or(0)
+    }
+
+    fn spawn(&mut self) -> Event {
+        let nofile = self.limit();
         Event::Spawn {
             uid: Uid(self.rng.random_range(..=self.mix.last_user)),
-            nofile: limit.unwrap_or(0),
+            nofile,
             privileged: self.is_rare(8),
         }
     }
@@ -256,15 +279,30 @@ impl Source {
     }
 
     /// Few bytes, so that messages are cut, or as many as several messages have, and rarely as many
-    /// as there may be, or one more. Up to four descriptors.
-    fn recv(&mut self) -> Step {
-        let max_bytes = if self.is_rare(50) {
+    /// as there may be, or one more.
+    fn max_bytes(&mut self) -> u32 {
+        if self.is_rare(50) {
             self.rng.random_range(65_536u32..=65_537)
         } else if self.is_rare(3) {
             self.rng.random_range(7u32..=40)
         } else {
             self.rng.random_range(..=3u32)
-        };
+        }
+    }
+
+    /// Up to four descriptors.
+    fn peek(&mut self) -> Step {
+        let max_bytes = self.max_bytes();
+        Step::Peek {
+            on: self.fd(),
+            max_bytes,
+            max_fds: self.rng.random_range(..=4u32),
+        }
+    }
+
+    /// Up to four descriptors.
+    fn recv(&mut self) -> Step {
+        let max_bytes = self.max_bytes();
         Step::Recv {
             on: self.fd(),
             max_bytes,

@@ -2,7 +2,7 @@ use Rattle.std.proofs.Common.{rules, ◌≡◌, ℕ, ◌++◌, take, [], refl, a
 use Rattle.std.specs.Prelude.{Err}
 use Rattle.std.specs.Io.KnownBytes.{Consumes, IsAtEnd}
 use Rattle.std.proofs.KnownBytes.{Consumes-trans}
-use Rattle.af_base.specs.Run.{fresh}
+use Rattle.scm_run.specs.Script.{first_point}
 use Rattle.scm_run.specs.declared.fault.RunFault.TheVariants.{Memory}
 use Rattle.scm_run.proofs.RunLemmas.{done_at_end, keeps_none_taken, told_any, nothing_ran, ran_nothing, stops_in, stops_as_read, stops_at_end, stops_late}
 use Rattle.std.proofs.lemmas.Result.{err_from_is_err_and}
@@ -16,7 +16,7 @@ returns-in_err-run-clause-stopped g c =
 
 pub loop-init : goal.loop-init
 loop-init g c =
-    let begun : c.in_ok-run.run' ≡ record { machine = fresh; pending = []; gathered = []; events = 0; done = 0 } = search rules in
+    let begun : c.in_ok-run.run' ≡ record { point = first_point; pending = []; gathered = []; events = 0; done = 0 } = search rules in
     (search rules, search rules, rw begun refl, ([], search rules, rw begun (ran_nothing _)))
 
 pub returns-then-count-eq0-clause-done : goal.returns-then-count-eq0-clause-done

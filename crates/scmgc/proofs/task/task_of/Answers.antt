@@ -1,7 +1,9 @@
-use Rattle.std.proofs.Common.{rules, ◌≡◌, inl, inr, Err, None, [], false, true, is_some, sym, ap, ◌∙◌, subst, map}
-use Rattle.std.proofs.lemmas.Bool.{true≢false}
-use Rattle.clap.specs.Words.{HasKind, IsAmong, app_of, fault_of, is_simple_and_free, kind_of, subcommand_of, subcommand_rows_of}
-use Rattle.scmgc.specs.Task.{task_in, task_named, whole_app}
+use Rattle.std.proofs.Common.{rules, ◌≡◌, inl, inr, Err, [], true, sym, ap, ◌∙◌, subst, map}
+use Rattle.clap.specs.Words.{HasKind, IsAmong, app_of, fault_of, is_simple_and_free, kind_of}
+use Rattle.std.specs.Prelude.{IfErr}
+use Rattle.clap.specs.declared.error.kind.ErrorKind.TheVariants.{OutOfMemory}
+use Rattle.scmgc.specs.Task.{whole_app}
+use Rattle.scmgc.proofs.Asked.{err_then}
 use Rattle.scmgc.proofs.Fitting.{fits-no_fault, known, no_fault-fits}
 use Rattle.scmgc.proofs.task.task_of.Goals as goal
 
@@ -12,19 +14,10 @@ returns-in_err-matches-clause-err g c =
     let same : c.from_residual-in_err-matches.result ≡ Err e = search rules in
     let shape : app_of c.in_ok-command.command ≡ whole_app = search rules in
     let found : HasKind (fault_of (app_of c.in_ok-command.command) words) e = c.in_err-matches.ensures.kinds (subst (λ a. is_simple_and_free a ≡ true) (sym shape) known) in
-    rw same (λ fit named. elim found [
+    rw same (λ task fit named. elim found [
       | inl memory ↦ memory
       | inr among ↦ absurd (subst (IsAmong (kind_of e)) (ap (λ a. fault_of a words) shape ∙ no_fault-fits words fit) among)
     ])
-
-pub returns-clause-err : goal.returns-clause-err
-unfolding task_in
-returns-clause-err g c = λ fit named.
-    let words = map g.S.AsStr.text c.args.words.now in
-    let rows : subcommand_rows_of c.in_ok-matches.matches ≡ subcommand_of whole_app words = search rules in
-    let none : task_named (subcommand_rows_of c.in_ok-matches.matches) ≡ None = search rules in
-    let bad : false ≡ true = sym (ap is_some (sym (ap task_named rows) ∙ none)) ∙ named in
-    absurd (true≢false (sym bad))
 
 pub returns-in-Some-clause-fit : goal.returns-in-Some-clause-fit
 returns-in-Some-clause-fit g c =
@@ -32,3 +25,9 @@ returns-in-Some-clause-fit g c =
     let shape : app_of c.in_ok-command.command ≡ whole_app = search rules in
     let none : fault_of (app_of c.in_ok-command.command) words ≡ [] = c.in_ok-matches.ensures.kinds (subst (λ a. is_simple_and_free a ≡ true) (sym shape) known) in
     fits-no_fault words (sym (ap (λ a. fault_of a words) shape) ∙ none)
+
+pub returns-in_err-error-in-None-clause-err : goal.returns-in_err-error-in-None-clause-err
+returns-in_err-error-in-None-clause-err g c =
+    let r = c.from_residual-in_err-error-in-None.result in
+    let memory : IfErr r (λ error. kind_of error ≡ OutOfMemory) = search rules in
+    err_then r (λ error is task fit named. is) memory

@@ -7,6 +7,7 @@ use Rattle.af_base.specs.Places.{table_at}
 use Rattle.af_base.specs.Refusals.{process_at}
 use Rattle.af_base.proofs.Moved.{there-table}
 use Rattle.af_base.proofs.Stepped.{process-there}
+use Rattle.af_base.proofs.Within.{below-most}
 use Rattle.af_ledger.specs.declared.place.Place.TheVariants.{Table}
 use Rattle.af_ledger.proofs.Laws.{users-held}
 use Rattle.af_hold.specs.Limits.{IsBelowLimit}
@@ -25,7 +26,7 @@ invariant_of-self c =
     let back = sym c.self.view_is in
     let at = process-there w c.args.pid (ap not (subst (λ (s : Stored). IsTrue (map.contains_key s.world.processes c.args.pid)) back c.requires.there)) in
     let free = sym (there-table w c.args.pid c.args.fd (process_at w c.args.pid) at) ∙ subst (λ (s : Stored). table_at s.world c.args.pid c.args.fd ≡ None) back c.requires.free in
-    let low = subst (λ (s : Stored). IsBelowLimit s.world c.args.pid c.args.fd) back c.requires.limit (process_at w c.args.pid) at in
+    let low = below-most w c.args.pid c.args.fd (process_at w c.args.pid) c.self.invariant.within at (subst (λ (s : Stored). IsBelowLimit s.world c.args.pid c.args.fd) back c.requires.limit (process_at w c.args.pid) at) in
     let live = subst (λ (s : Stored). IsLive s.world c.args.file) back c.requires.live in
     exact-same _ _ _ _ (world-is _ _ c.install.ensures.processes refl refl c.install.ensures.next (ap (λ k. keys_of k.users) c.hold.ensures ∙ users-held Table c.args.file c.self.inside.ledger)) c.hold.ensures
     (exact-install w c.args.pid c.args.fd c.args.file (process_at w c.args.pid) c.self.inside.ledger at free low live c.self.invariant)

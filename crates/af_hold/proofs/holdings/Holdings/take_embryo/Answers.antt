@@ -6,6 +6,7 @@ use Rattle.af_base.specs.Places.{table_at}
 use Rattle.af_base.specs.Refusals.{process_at}
 use Rattle.af_base.proofs.Moved.{there-table}
 use Rattle.af_base.proofs.Stepped.{process-there}
+use Rattle.af_base.proofs.Within.{below-most}
 use Rattle.af_ledger.specs.Kept.{CanDrop, Kept, dropped}
 use Rattle.af_ledger.specs.declared.place.Place.TheVariants.{Backlog}
 use Rattle.af_hold.specs.Limits.{IsBelowLimit}
@@ -45,7 +46,7 @@ invariant_of-self c =
     let x = embryo-taken w c.args.listener.now f c.dequeue.result c.unwrap-embryo.ensures c.dequeue.ensures.some in
     let there = process-there w c.args.pid (ap not (subst (λ (t : Stored). IsTrue (map.contains_key t.world.processes c.args.pid)) back c.requires.there)) in
     let free = sym (there-table w c.args.pid c.args.fd (process_at w c.args.pid) there) ∙ subst (λ (t : Stored). table_at t.world c.args.pid c.args.fd ≡ None) back c.requires.free in
-    let low = subst (λ (t : Stored). IsBelowLimit t.world c.args.pid c.args.fd) back c.requires.limit (process_at w c.args.pid) there in
+    let low = below-most w c.args.pid c.args.fd (process_at w c.args.pid) c.self.invariant.within there (subst (λ (t : Stored). IsBelowLimit t.world c.args.pid c.args.fd) back c.requires.limit (process_at w c.args.pid) there) in
     let kept = c.drop_one.ensures ∙ ap (dropped Backlog f) c.hold.ensures in
     exact-same _ _ _ _ (world-is _ _ c.install.ensures.processes c.dequeue.ensures.files c.dequeue.ensures.next c.install.ensures.next (ap {A = Kept} (λ l. keys_of l.users) kept)) kept
     (exact-accepted w c.args.listener.now f x.0 k x.1 x.2 c.self.invariant c.args.pid c.args.fd (process_at w c.args.pid) there free low)

@@ -29,10 +29,6 @@ table_in_all-requires-clause-known c = λ f h.
 pub table_in_all-requires-clause-fits : goal.table_in_all-requires-clause-fits
 table_in_all-requires-clause-fits c = λ f. let few = c.attached.ensures.bound in omega (arith, few, tabled-most (the_view c.self.inside).world f c.self.inside.ledger c.self.invariant.within c.self.invariant.agrees)
 
--- The ledger when the files are in the table.
-kept : (c : goal.After-attached-2) → c.table_in_all.new.ledger ≡ counted c.self.inside.ledger c.args.fds.now (received_at (the_view c.self.inside).world c.args.socket.now c.args.max).attached
-kept c = c.table_in_all.ensures.kept ∙ ap (counted c.self.inside.ledger c.args.fds.now) (c.attached.ensures.value ∙ ap (λ t. t.message.attached) c.in_ok-taken.ensures.taken)
-
 pub drop_all-requires : goal.drop_all-requires
 drop_all-requires c =
     let w = (the_view c.self.inside).world in
@@ -42,16 +38,18 @@ drop_all-requires c =
     let lowest = subst (λ (s : Stored). (k : ℕ) × (c.args.fds.now ≡ lowest_free k (process_at s.world c.args.pid))) back c.requires.free in
     let can = can-drop-received w c.args.socket.now c.args.max c.self.inside.ledger c.self.invariant c.requires.some socket c.args.pid c.args.fds.now there lowest in
     let m = received_at w c.args.socket.now c.args.max in
+    let kept = c.table_in_all.ensures.kept ∙ ap (counted c.self.inside.ledger c.args.fds.now) (c.attached.ensures.value ∙ ap (λ t. t.message.attached) c.in_ok-taken.ensures.taken) in
     let user = c.user.ensures ∙ ap (λ t. t.message.user) c.in_ok-taken.ensures.taken in
     let attached = c.attached-2.ensures.value ∙ ap (λ t. t.message.attached) c.in_ok-taken.ensures.taken in
-    subst (λ u. CanDropAll u c.attached-2.result.now c.table_in_all.new.ledger) (sym user) (subst (λ l. CanDropAll m.user l c.table_in_all.new.ledger) (sym attached) (subst (CanDropAll m.user m.attached) (sym (kept c)) can))
+    subst (λ u. CanDropAll u c.attached-2.result.now c.table_in_all.new.ledger) (sym user) (subst (λ l. CanDropAll m.user l c.table_in_all.new.ledger) (sym attached) (subst (CanDropAll m.user m.attached) (sym kept) can))
 
 -- The ledger in the end.
 dropped : (c : goal.After-drop_all) → let m = received_at (the_view c.self.inside).world c.args.socket.now c.args.max in c.drop_all.new.self ≡ dropped_all (Queue m.user) m.attached (counted c.self.inside.ledger c.args.fds.now m.attached)
 dropped c =
+    let kept = c.table_in_all.ensures.kept ∙ ap (counted c.self.inside.ledger c.args.fds.now) (c.attached.ensures.value ∙ ap (λ t. t.message.attached) c.in_ok-taken.ensures.taken) in
     let user = c.user.ensures ∙ ap (λ t. t.message.user) c.in_ok-taken.ensures.taken in
     let attached = c.attached-2.ensures.value ∙ ap (λ t. t.message.attached) c.in_ok-taken.ensures.taken in
-    c.drop_all.ensures ∙ (λ i. dropped_all (Queue (user i)) (attached i) (kept c.before i))
+    c.drop_all.ensures ∙ (λ i. dropped_all (Queue (user i)) (attached i) (kept i))
 
 -- The world in the end.
 left : (c : goal.After-drop_all) → let w = (the_view c.self.inside).world in (the_view (record c.self.inside { procs = c.table_in_all.new.procs; files = c.take.new.self; ledger = c.drop_all.new.self })).world

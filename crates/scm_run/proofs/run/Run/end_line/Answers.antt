@@ -25,7 +25,7 @@ returns-in_err-events-clause-err g c =
     let number : c.in_ok-number.number ≡ st.done + 1 = search rules in
     let line : c.unless_empty-line.result.now ≡ st.pending ++ c.args.back.now = whole_line st.pending c.go_on.new.line.items c.args.back.now c.unless_empty-line.result.now (search rules) (search rules) (search rules) (search rules) in
     let stripped : c.without_return.result.now ≡ strip_carriage_return (st.pending ++ c.args.back.now) = rw (← line) (search rules) in
-    let stops : LineStops (strip_carriage_return (st.pending ++ c.args.back.now)) (st.done + 1) st.gathered c.do_line.new.text.items (g.W.Write.contents c.args.writer.now.inner) (g.W.Write.contents c.do_line.new.writer.inner) f = rw (← stripped, ← number) (search rules) in
+    let stops : LineStops st.point.version (strip_carriage_return (st.pending ++ c.args.back.now)) (st.done + 1) st.gathered c.do_line.new.text.items (g.W.Write.contents c.args.writer.now.inner) (g.W.Write.contents c.do_line.new.writer.inner) f = rw (← stripped, ← number) (search rules) in
     rw fault (λ taken before ran. end_stops_after taken c.args.back.now before _ _ st _ f c.requires.feed ran stops)
 
 pub returns-clause-ok : goal.returns-clause-ok
@@ -34,8 +34,8 @@ returns-clause-ok g c = λ taken before ran.
     let k = c.in_ok-events.events in
     let line : c.unless_empty-line.result.now ≡ st.pending ++ c.args.back.now = whole_line st.pending c.go_on.new.line.items c.args.back.now c.unless_empty-line.result.now (search rules) (search rules) (search rules) (search rules) in
     let stripped : c.without_return.result.now ≡ strip_carriage_return (st.pending ++ c.args.back.now) = rw (← line) (search rules) in
-    let done : LineDone st.machine (strip_carriage_return (st.pending ++ c.args.back.now)) st.gathered c.do_line.new.text.items (g.W.Write.contents c.args.writer.now.inner) (g.W.Write.contents c.do_line.new.writer.inner) k c.do_line.new.engine = rw (← stripped) (search rules) in
+    let done : LineDone st.point (strip_carriage_return (st.pending ++ c.args.back.now)) st.gathered c.do_line.new.text.items (g.W.Write.contents c.args.writer.now.inner) (g.W.Write.contents c.do_line.new.writer.inner) k (record { machine = c.do_line.new.engine; version = c.do_line.new.version }) = rw (← stripped) (search rules) in
     let empty : c.clear.new.self.items ≡ [] = search rules in
     let number : c.in_ok-number.number ≡ st.done + 1 = search rules in
     let events : c.self.inside.events ≡ st.events = search rules in
-    rw (empty, number, events) (end_ok_after taken c.args.back.now before _ _ st _ k c.do_line.new.engine c.requires.feed ran done)
+    rw (empty, number, events) (end_ok_after taken c.args.back.now before _ _ st _ k (record { machine = c.do_line.new.engine; version = c.do_line.new.version }) c.requires.feed ran done)

@@ -18,12 +18,13 @@ pub returns-in_ok-write_out-in-Ok-clause-ok : goal.returns-in_ok-write_out-in-Ok
 returns-in_ok-write_out-in-Ok-clause-ok g c = λ taken before ran.
     let st = c.take.new.self in
     let wrote : Appends (g.W.Write.contents c.take.new.writer.inner) (g.W.Write.contents c.write_out.new.writer.inner) st.gathered = search rules in
-    let machine : c.self.inside.engine ≡ st.machine = search rules in
+    let machine : c.self.inside.engine ≡ st.point.machine = search rules in
+    let version : c.self.inside.version ≡ st.point.version = search rules in
     let pending : c.self.inside.pending.items ≡ st.pending = search rules in
     let none : c.write_out.new.text.items ≡ [] = search rules in
     let events : c.self.inside.events ≡ st.events = search rules in
     let done : c.self.inside.done ≡ st.done = search rules in
-    rw (machine, pending, none, events, done) (ran_out (taken ++ c.args.chunk.now) before _ _ st (c.in-Ok.ensures.ok taken before ran) wrote)
+    rw (machine, version, pending, none, events, done) (ran_out (taken ++ c.args.chunk.now) before _ _ st (c.in-Ok.ensures.ok taken before ran) wrote)
 
 pub returns-in-Err-clause-err : goal.returns-in-Err-clause-err
 returns-in-Err-clause-err g c = λ taken before ran.

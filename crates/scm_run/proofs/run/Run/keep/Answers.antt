@@ -14,11 +14,12 @@ pub returns-then-may_fit-clause-ok : goal.returns-then-may_fit-clause-ok
 returns-then-may_fit-clause-ok c = λ taken before after ran.
     let st = c.args.self.now in
     let pending : c.extend_from_slice.new.self.items ≡ st.pending ++ c.args.bytes.now = search rules in
-    let machine : c.self.inside.engine ≡ st.machine = search rules in
+    let machine : c.self.inside.engine ≡ st.point.machine = search rules in
+    let version : c.self.inside.version ≡ st.point.version = search rules in
     let gathered : c.self.inside.text.items ≡ st.gathered = search rules in
     let events : c.self.inside.events ≡ st.events = search rules in
     let done : c.self.inside.done ≡ st.done = search rules in
-    rw (machine, pending, gathered, events, done) (ran_more taken c.args.bytes.now before after st ran c.requires)
+    rw (machine, version, pending, gathered, events, done) (ran_more taken c.args.bytes.now before after st ran c.requires)
 
 pub returns-else-may_fit-clause-err : goal.returns-else-may_fit-clause-err
 returns-else-may_fit-clause-err c = λ taken before after ran.

@@ -21,7 +21,7 @@ returns-in_err-events-clause-err g c =
     let fault : c.from_residual-in_err-events.result ≡ Err f = search rules in
     let number : c.in_ok-number.number ≡ st.done + 1 = search rules in
     let some : 0 < length st.pending = search rules in
-    let stops : LineStops st.pending (st.done + 1) st.gathered c.do_line.new.text.items (g.W.Write.contents c.args.writer.now.inner) (g.W.Write.contents c.do_line.new.writer.inner) f = rw (← number) (search rules) in
+    let stops : LineStops st.point.version st.pending (st.done + 1) st.gathered c.do_line.new.text.items (g.W.Write.contents c.args.writer.now.inner) (g.W.Write.contents c.do_line.new.writer.inner) f = rw (← number) (search rules) in
     rw fault (λ taken before ran. finish_stops taken before _ _ st _ f ran some stops)
 
 pub returns-clause-ok : goal.returns-clause-ok
@@ -29,7 +29,7 @@ returns-clause-ok g c = λ taken before ran.
     let st = c.args.self.now in
     let k = c.in_ok-events.events in
     let some : 0 < length st.pending = search rules in
-    let done : LineDone st.machine st.pending st.gathered c.do_line.new.text.items (g.W.Write.contents c.args.writer.now.inner) (g.W.Write.contents c.do_line.new.writer.inner) k c.do_line.new.engine = search rules in
+    let done : LineDone st.point st.pending st.gathered c.do_line.new.text.items (g.W.Write.contents c.args.writer.now.inner) (g.W.Write.contents c.do_line.new.writer.inner) k (record { machine = c.do_line.new.engine; version = c.do_line.new.version }) = search rules in
     let events : c.self.inside.events ≡ st.events = search rules in
     let pending : c.self.inside.pending.items ≡ st.pending = search rules in
-    rw (events, pending) (finish_ok taken before _ _ st _ k _ c.do_line.new.engine ran some done)
+    rw (events, pending) (finish_ok taken before _ _ st _ k _ (record { machine = c.do_line.new.engine; version = c.do_line.new.version }) ran some done)

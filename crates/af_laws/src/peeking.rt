@@ -1,0 +1,27 @@
+//! Laws of a peek, and of a changed limit.
+ghost use Rattle.af_laws.specs.Peeking.{PeekChangesNoQueue, PeekChangesNoCharge, PeekChangesNoFlight, PeekSeesWhatIsReceived, LimitClosesNothing};
+
+/// A peek leaves every queue as it is.
+pub fn peek_changes_no_queue()
+    ensures { PeekChangesNoQueue }
+{}
+
+/// A peek changes no user's charge.
+pub fn peek_changes_no_charge()
+    ensures { PeekChangesNoCharge }
+{}
+
+/// A peek changes no file's in-flight count.
+pub fn peek_changes_no_flight()
+    ensures { PeekChangesNoFlight }
+{}
+
+/// A peek and then a receive, or a second peek, of as many bytes give the same bytes and files.
+pub fn peek_sees_what_is_received()
+    ensures { PeekSeesWhatIsReceived }
+{}
+
+/// A changed limit closes no number of any process.
+pub fn limit_closes_nothing()
+    ensures { LimitClosesNothing }
+{}

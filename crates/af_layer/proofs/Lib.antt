@@ -1,0 +1,10 @@
+-- Lemmas.
+pub mod Drives
+pub mod Fits
+pub mod Logs
+pub mod Opening
+pub mod Placing
+pub mod Scripts
+pub mod Sent
+pub mod Steps
+pub mod Walking

@@ -1,0 +1,19 @@
+use Rattle.std.proofs.Common.{rules, ◌≡◌, ◌<◌, ◌+◌, ap, length, slice_index, sym, ◌∙◌, subst}
+use Rattle.std.specs.Prelude.{None, slice_index_or}
+use Rattle.std.proofs.lemmas.List.{get_or_default}
+use Rattle.af_layer.specs.Audit.{list_at, nobody}
+use Rattle.af_layer.specs.Walk.{Tracks}
+use Rattle.af_layer.proofs.Walking.{entry-at, tracks-next}
+use Rattle.af_layer.proofs.audit.walk.Goals as goal
+
+pub loop-entry-preserved : goal.loop-entry-preserved
+loop-entry-preserved c =
+    let e = c.entry-item.result in
+    let i = c.loop-entry.entry-index in
+    let turn = entry-at c.args.log.now i e c.loop-entry-test.true c.entry-item.is in
+    let number : e.seat < length c.args.places.now = search rules in
+    let within = c.requires.places e.seat number in
+    let is = ap (λ s. s.list) (get_or_default c.args.seats.now (slice_index c.args.places.now e.seat) nobody c.index-seats-places.result within ∙ sym c.index-seats-places.is) ∙ sym c.list.ensures in
+    let before = subst (λ l. Tracks c.args.log.now l e.seat i (slice_index_or c.loop-entry.cursors e.seat None)) is (c.loop-entry.invariant e.seat number) in
+    tracks-next c.args.log.now c.args.seats.now c.args.places.now c.loop-entry.cursors i e c.advance.result turn (search rules) c.loop-entry.invariant
+    (subst (λ l. Tracks c.args.log.now l e.seat (i + 1) c.advance.result) (sym is) (c.advance.ensures c.args.log.now i turn before))

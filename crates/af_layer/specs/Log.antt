@@ -1,0 +1,35 @@
+-- A log of all that was done, and when it is legal.
+use Rattle.std.specs.Prelude.{◌≤◌, ◌∷◌, ℕ, List, [], map, if◌then◌else◌, nat_eq}
+use Rattle.std.specs.List.{All}
+use Rattle.af_base.specs.declared.events.Event.{Event}
+use Rattle.af_base.specs.declared.events.Reply.{Reply}
+use Rattle.af_base.specs.declared.limits.TheConstants.{MAX_SEATS}
+use Rattle.af_base.specs.Pass.{Machine}
+use Rattle.af_base.specs.Run.{Run, fresh}
+use Rattle.af_layer.specs.declared.book.Entry.{Entry}
+
+-- An event and its reply.
+abbrev pub Pair : Type 0
+Pair = Event × Reply
+
+-- Those of an entry.
+abbrev pub pair_of : Entry → Pair
+pair_of e = (e.event, e.reply)
+
+-- The part of seat k in a log: the events and replies of its entries, in order.
+abbrev pub of_seat : ℕ → List Entry → List Pair
+of_seat k [] = []
+of_seat k (e ∷ log) = if nat_eq e.seat k then pair_of e ∷ of_seat k log else of_seat k log
+
+-- A log is legal: each entry is of a seat from 1 to the number of seats, and the events with their replies are a run from the fresh machine to this one (this project's own).
+pub record IsLegal (seats : ℕ) (machine : Machine) (log : List Entry) : Type 0 where
+  pub some_seat : 1 ≤ seats
+  pub few_seats : seats ≤ MAX_SEATS
+  pub of_seats : All (λ e. (1 ≤ e.seat) × (e.seat ≤ seats)) log
+  pub run : Run fresh (map pair_of log) machine
+
+-- What a book shows: how many seats there are, the machine, and the log of all that it did.
+pub record Logged : Type 0 where
+  pub seats : ℕ
+  pub machine : Machine
+  pub log : List Entry

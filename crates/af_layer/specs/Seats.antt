@@ -1,0 +1,14 @@
+-- What a seat shows.
+use Rattle.std.specs.Prelude.{◌++◌, ◌∷◌, [], ℕ, List}
+use Rattle.af_base.specs.declared.events.Event.{Event}
+use Rattle.af_base.specs.declared.events.Reply.{Reply}
+use Rattle.af_layer.specs.Log.{Pair}
+
+-- Its number, and what was asked from it and answered, in order.
+pub record Seated : Type 0 where
+  pub number : ℕ
+  pub list : List Pair
+
+-- A seat with one pair more.
+abbrev pub grown : Seated → Event → Reply → Seated
+grown s e r = record s { list = s.list ++ (e, r) ∷ [] }

@@ -1,0 +1,32 @@
+-- One walk over the log, with a cursor for each seat.
+use Rattle.std.specs.Prelude.{◌≡◌, ◌≢◌, ◌<◌, ◌≤◌, ◌+◌, ◌↔◌, ℕ, List, Option, Some, None, drop, length, slice_index, slice_index_or}
+use Rattle.af_base.specs.declared.limits.TheConstants.{MAX_SEATS}
+use Rattle.af_layer.specs.declared.book.Entry.{Entry}
+use Rattle.af_layer.specs.Log.{Pair, of_seat}
+use Rattle.af_layer.specs.Seats.{Seated}
+use Rattle.af_layer.specs.Audit.{list_at, number_at}
+
+-- The places of the first i seats stand under their numbers, and none is past the list.
+pub record ArePlacesOf (i : ℕ) (seats : List Seated) (places : List ℕ) : Type 0 where
+  pub count : length places ≡ MAX_SEATS + 1
+  pub within : (k : ℕ) → k < length places → slice_index places k < length seats
+  pub right : (m : ℕ) → m < i → slice_index places (number_at seats m) ≡ m
+
+-- Each number from 1 to n has the place of its seat.
+pub record ArePlaces (n : ℕ) (seats : List Seated) (places : List ℕ) : Type 0 where
+  pub count : length places ≡ MAX_SEATS + 1
+  pub within : (k : ℕ) → k < length places → slice_index places k < length seats
+  pub right : (k : ℕ) → 1 ≤ k → k ≤ n → number_at seats (slice_index places k) ≡ k
+
+-- After i entries the rest of a list is what the rest of the log has of its seat, exactly where the whole is the whole.
+abbrev pub Leaves : List Entry → ℕ → List Pair → ℕ → List Pair → Type 0
+Leaves log k list i rest = (list ≡ of_seat k log) ↔ (rest ≡ of_seat k (drop i log))
+
+-- After i entries there is no cursor, and the list is another; or so much of the list was in the log.
+abbrev pub Tracks : List Entry → List Pair → ℕ → ℕ → Option ℕ → Type 0
+Tracks log list k i None = list ≢ of_seat k log
+Tracks log list k i (Some cursor) = (cursor ≤ length list) × Leaves log k list i (drop cursor list)
+
+-- So it is with all cursors.
+abbrev pub AllTrack : List Entry → List Seated → List ℕ → ℕ → List (Option ℕ) → Type 0
+AllTrack log seats places i cursors = (k : ℕ) → k < length places → Tracks log (list_at seats (slice_index places k)) k i (slice_index_or cursors k None)

@@ -1,0 +1,136 @@
+//! The engine, and the log of all that it did.
+ghost use Rattle.std.specs.Prelude.{◌≡◌, ◌≤◌, [], IfOk, OnErr};
+ghost use Rattle.af_base.specs.Run.{fresh};
+ghost use Rattle.af_layer.specs.Calls.{Answers, Calls, refusal};
+ghost use Rattle.af_layer.specs.Log.{IsLegal};
+
+use crate::room::ReplyRoom;
+use af_base::events::{Event, Reply};
+use af_base::limits::{MAX_LOG, MAX_SEATS};
+use af_steps::Engine;
+use std::alloc::{AllocError, Global};
+use std::marker::Model;
+use thiserror::Error;
+
+/// One event that was done, from which seat, and what was answered.
+#[derive(Debug, Drop)]
+pub struct Entry {
+    /// The number of the seat, from 1.
+    pub seat: u32,
+    /// The event.
+    pub event: Event,
+    /// What was answered.
+    pub reply: Reply,
+}
+
+/// Why a call did nothing. It comes before the step: the engine, the log and the seat are as they
+/// were, and the event is given up.
+#[derive(Clone, Copy, Debug, PartialEq, Eq, Drop, Error)]
+pub enum CallError {
+    /// There is no seat of that number.
+    #[error("no such seat")]
+    NoSeat,
+    /// The log has 1,048,576 entries, as many as it may have.
+    #[error("the log is full")]
+    LogFull,
+    /// Memory for the entry, or for the copies that are kept, was refused.
+    #[error("no memory for an entry")]
+    NoRoom,
+}
+
+/// An engine, and the log of all that it did.
+///
+/// The log is legal: each entry is of one of the seats, and the events with their replies lead from
+/// the fresh machine to the one that the engine shows.
+#[derive(Drop)]
+pub struct Book {
+    alloc: Global,
+    seats: u32,
+    engine: Engine,
+    log: Vec<Entry>,
+}
+
+impl Model for Book {
+    ghost use Rattle.std.specs.FinMap as map;
+    ghost use Rattle.std.specs.Coded.{codes};
+    ghost use Rattle.af_layer.specs.Log.{IsLegal, Logged};
+
+    ghost Value = { Logged };
+
+    ghost coded = { Prim.hlevel (codes, map.code) };
+
+    ghost view = { λ b. record { seats = b.seats; machine = b.engine; log = b.log.items } };
+
+    ghost invariant = { λ b. IsLegal b.seats b.engine b.log.items };
+}
+
+impl Book {
+    /// A book for so many seats, 1 to 64, in which nothing was done.
+    pub fn new(alloc: Global, seats: u32) -> Result<Book, AllocError>
+        requires { (1 ≤ seats) × (seats ≤ MAX_SEATS) }
+        ensures { IfOk result (λ book. book ≡ record { seats = seats; machine = fresh; log = [] }) }
+    {
+        Ok(Book {
+            alloc,
+            seats,
+            engine: Engine::new(alloc)?,
+            log: Vec::new(alloc),
+        })
+    }
+
+    /// How many seats there are, 1 to 64. They are numbered from 1.
+    pub fn seats(&self) -> u32
+        ensures value { result ≡ self.now.seats }
+        ensures range { (1 ≤ result) × (result ≤ MAX_SEATS) }
+    {
+        self.seats
+    }
+
+    /// All that was done, in order, by a run from the fresh machine to the engine as it stands.
+    pub fn log(&self) -> &[Entry]
+        ensures value { result.now ≡ self.now.log }
+        ensures legal { IsLegal self.now.seats self.now.machine self.now.log }
+    {
+        self.log.as_slice()
+    }
+
+    /// The engine as it stands.
+    pub fn engine(&self) -> &Engine
+        ensures { result.now ≡ self.now.machine }
+    {
+        &self.engine
+    }
+
+    /// Does one event for the seat of this number, and puts it with its reply into the log.
+    ///
+    /// Room for the entry is had before the step, so that a step that was done is logged. Want of
+    /// memory in the step itself is a reply, and is logged.
+    pub fn call(&mut self, seat: u32, event: Event) -> Result<Reply, CallError>
+        ensures done { IfOk result (λ reply. Calls self.old seat event reply self.new) }
+        ensures refused { Answers (refusal self.old seat) result }
+        ensures same { OnErr result (self.new ≡ self.old) }
+    {
+        if seat == 0 || seat > self.seats {
+            return Err(CallError::NoSeat);
+        }
+        if self.log.len() >= MAX_LOG {
+            return Err(CallError::LogFull);
+        }
+        let Ok(room) = ReplyRoom::for_event(self.alloc, &event) else {
+            return Err(CallError::NoRoom);
+        };
+        if self.log.reserve(1).is_err() {
+            return Err(CallError::NoRoom);
+        }
+        // What a sound world answers is no longer than the room.
+        self.engine.is_sound();
+        let reply = self.engine.step(&event);
+        let logged = room.copy(&reply);
+        self.log.push_reserved(Entry {
+            seat,
+            event,
+            reply: logged,
+        });
+        Ok(reply)
+    }
+}

@@ -1,0 +1,23 @@
+//! One lock round an engine, a log of all that was done, and seats that each keep their part of it.
+//!
+//! A [`Layer`] is opened with a number of seats. Each thread takes a [`Seat`] and makes calls through
+//! the layer: a call waits for the lock, does one event, and puts it with its reply into the log
+//! ([`Book`]) and into the seat's own list. [`Layer::close`] compares all lists with the log.
+//! [`drive`] runs scripts, and a collector beside them, each from a seat and in a thread of its own.
+#![tactic(auto)]
+
+mod audit;
+mod book;
+mod copies;
+mod driving;
+mod layer;
+mod room;
+mod seat;
+mod workers;
+
+pub use audit::CloseFault;
+pub use book::{Book, CallError, Entry};
+pub use driving::{DriveError, DriveFault, drive};
+pub use layer::{CloseError, Closed, Layer, OpenError};
+pub use seat::Seat;
+pub use workers::{Gate, Turns};

@@ -1,0 +1,105 @@
+//! Room for a copy of a reply, had before the step that gives it.
+ghost use Rattle.std.specs.Prelude.{◌≡◌, ◌≤◌, IfOk};
+ghost use Rattle.af_layer.specs.Room.{HasRoomFor, most_bytes, most_fds};
+
+use af_base::events::{Event, Reply, Step};
+use af_base::items::Items;
+use af_base::limits::{MAX_BYTES, SCM_MAX_FD};
+use af_base::names::Fd;
+use std::alloc::{AllocError, Global};
+use std::marker::Model;
+
+/// Room for so many bytes and so many numbers. It is empty.
+#[derive(Drop)]
+pub struct ReplyRoom {
+    bytes: Vec<u8>,
+    fds: Vec<Fd>,
+}
+
+impl Model for ReplyRoom {
+    ghost use Rattle.std.specs.Prelude.{◌≡◌, [], vec_capacity};
+    ghost use Rattle.af_layer.specs.Room.{Room};
+
+    ghost Value = { Room };
+
+    ghost view = { λ r. record { bytes = vec_capacity r.bytes; fds = vec_capacity r.fds } };
+
+    ghost invariant = { λ r. (r.bytes.items ≡ []) × (r.fds.items ≡ []) };
+}
+
+/// The most bytes and numbers that the answer to an event has.
+fn most_of(event: &Event) -> (usize, usize)
+    ensures bytes { result.0 ≡ most_bytes event.now }
+    ensures fds { result.1 ≡ most_fds event.now }
+{
+    match event {
+        Event::Proc(
+            _,
+            Step::Recv {
+                max_bytes,
+                max_fds,
+                ..
+            }
+            | Step::Peek {
+                max_bytes,
+                max_fds,
+                ..
+            },
+        ) => (
+            MAX_BYTES.min(*max_bytes as usize),
+            SCM_MAX_FD.min(*max_fds as usize),
+        ),
+        _ => (0, 0),
+    }
+}
+
+impl ReplyRoom {
+    /// Room for the reply to an event, whichever it will be.
+    pub fn for_event(alloc: Global, event: &Event) -> Result<ReplyRoom, AllocError>
+        ensures { IfOk result (λ room. (most_bytes event.now ≤ room.bytes) × (most_fds event.now ≤ room.fds)) }
+    {
+        let (bytes, fds) = most_of(event);
+        Ok(ReplyRoom {
+            bytes: Vec::with_capacity(alloc, bytes)?,
+            fds: Vec::with_capacity(alloc, fds)?,
+        })
+    }
+
+    /// A copy of a reply for which there is room. It takes no memory.
+    pub fn copy(self, reply: &Reply) -> Reply
+        requires { HasRoomFor self reply.now }
+        ensures { result ≡ reply.now }
+    {
+        let ReplyRoom { mut bytes, mut fds } = self;
+        match reply {
+            Reply::Pid(pid) => Reply::Pid(*pid),
+            Reply::Fd(fd) => Reply::Fd(*fd),
+            Reply::Fds(first, second) => Reply::Fds(*first, *second),
+            Reply::Ok => Reply::Ok,
+            Reply::Sent(count) => Reply::Sent(*count),
+            Reply::Got {
+                bytes: took,
+                fds: installed,
+                trunc,
+                ctrunc,
+            } => {
+                bytes.extend_from_slice(took.as_slice()).unwrap();
+                fds.extend_from_slice(installed.as_slice()).unwrap();
+                Reply::Got {
+                    bytes: Items::of(bytes),
+                    fds: Items::of(fds),
+                    trunc: *trunc,
+                    ctrunc: *ctrunc,
+                }
+            }
+            Reply::End => Reply::End,
+            Reply::Started(pass) => Reply::Started(*pass),
+            Reply::Working => Reply::Working,
+            Reply::Done { pass, reclaimed } => Reply::Done {
+                pass: *pass,
+                reclaimed: *reclaimed,
+            },
+            Reply::Refused(error) => Reply::Refused(*error),
+        }
+    }
+}

@@ -1,0 +1,75 @@
+//! A seat: who calls, and what was answered to it.
+ghost use Rattle.std.specs.Prelude.{◌≡◌, ◌⊎◌, [], IfErr, None, OnErr, OnOk, Some};
+ghost use Rattle.af_base.specs.declared.events.Reply.{Reply as Answer};
+ghost use Rattle.af_layer.specs.Calls.{Calls, refusal};
+ghost use Rattle.af_layer.specs.Seats.{grown};
+
+use crate::book::{Book, CallError};
+use crate::copies::copy_of_event;
+use af_base::events::{Event, Reply};
+use std::alloc::Global;
+use std::marker::Model;
+
+/// Who calls, with all that it asked for and was answered.
+#[derive(Drop)]
+pub struct Seat {
+    number: u32,
+    pub(crate) list: Vec<(Event, Reply)>,
+}
+
+impl Model for Seat {
+    ghost use Rattle.af_layer.specs.Seats.{Seated};
+
+    ghost Value = { Seated };
+
+    ghost view = { λ s. record { number = s.number; list = s.list.items } };
+}
+
+impl Seat {
+    /// The seat of this number, from which nothing was asked.
+    pub(crate) fn new(alloc: Global, number: u32) -> Seat
+        ensures { result ≡ record { number = number; list = [] } }
+    {
+        Seat {
+            number,
+            list: Vec::new(alloc),
+        }
+    }
+
+    /// Its number, from 1.
+    pub fn number(&self) -> u32
+        ensures { result ≡ self.now.number }
+    {
+        self.number
+    }
+
+    /// What was asked from here and answered, in order.
+    pub fn list(&self) -> &[(Event, Reply)]
+        ensures { result.now ≡ self.now.list }
+    {
+        self.list.as_slice()
+    }
+
+    /// Does one event on a book, under this seat's number, and keeps it with its reply.
+    ///
+    /// Room for the pair is had first, and where it is refused the error is `NoRoom`; else the errors
+    /// are those of [`Book::call`]. After an error the book and the seat are as they were, and the
+    /// event is given up.
+    pub fn call_in(&mut self, book: &mut Book, event: Event) -> Result<(), CallError>
+        ensures done { OnOk result ((reply : Answer) × (self.new ≡ grown self.old event reply) × Calls book.old self.old.number event reply book.new) }
+        ensures open { OnOk result (refusal book.old self.old.number ≡ None) }
+        ensures refused { IfErr result (λ e. (e ≡ CallError.NoRoom) ⊎ (refusal book.old self.old.number ≡ Some e)) }
+        ensures seat { OnErr result (self.new ≡ self.old) }
+        ensures book { OnErr result (book.new ≡ book.old) }
+    {
+        if self.list.reserve(1).is_err() {
+            return Err(CallError::NoRoom);
+        }
+        let Ok(kept) = copy_of_event(*self.list.allocator(), &event) else {
+            return Err(CallError::NoRoom);
+        };
+        let reply = book.call(self.number, event)?;
+        self.list.push_reserved((kept, reply));
+        Ok(())
+    }
+}

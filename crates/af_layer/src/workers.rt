@@ -1,0 +1,179 @@
+//! Workers: each has a seat, and does a script or a collector's turns from it.
+ghost use Rattle.std.specs.Prelude.{◌≡◌, OnErr, OnOk, Some, length, vec_len};
+ghost use Rattle.af_base.specs.declared.events.Reply.{Reply as Answer};
+ghost use Rattle.af_layer.specs.Drive.{Collects, Made, Script, Short, next_turn};
+ghost use Rattle.af_layer.specs.Seats.{grown};
+ghost use Rattle.af_layer.specs.Workers.{AllWorked, Worked};
+
+use crate::book::CallError;
+use crate::layer::Layer;
+use crate::seat::Seat;
+use af_base::events::{Event, Reply};
+use std::marker::Model;
+use std::sync::Wait;
+use std::thread;
+use std::thread::Threads;
+
+/// What is called round each call of a drive: with the seat's number, and the number of the call in
+/// this drive, from 1. No lock is held then.
+pub trait Gate {
+    /// A call comes.
+    fn before(&self, seat: u32, nth: u32);
+
+    /// A call has returned.
+    fn after(&self, seat: u32, nth: u32);
+}
+
+/// How often the collector calls in a drive, and the budget of its slices.
+#[derive(Clone, Copy, Debug, PartialEq, Eq)]
+pub struct Turns {
+    /// So many calls.
+    pub turns: u32,
+    /// So many units for each slice.
+    pub budget: u32,
+}
+
+/// What is to be done from a seat.
+#[derive(Drop)]
+pub enum Task {
+    /// These events, in order.
+    Script(Vec<Event>),
+    /// So many turns of a collector.
+    Collect(Turns),
+}
+
+/// A seat, what is to be done from it, if anything is, and what stopped it.
+#[derive(Drop)]
+pub struct Worker {
+    pub seat: Seat,
+    pub task: Option<Task>,
+    pub fault: Option<CallError>,
+}
+
+impl Model for Worker {
+    ghost use Rattle.std.specs.Prelude.{option_map};
+    ghost use Rattle.af_layer.specs.Workers.{Job, work_of};
+
+    ghost Value = { Job };
+
+    ghost view = { λ w. record { seat = w.seat; work = option_map work_of w.task; fault = w.fault } };
+}
+
+/// One call, with the gate before and after it.
+fn call_through<R: Wait, G: Gate>(
+    rt: &R,
+    layer: &Layer,
+    seat: &mut Seat,
+    event: Event,
+    gate: &G,
+    nth: u32,
+) -> Result<(), CallError>
+    ensures done { OnOk result ((reply : Answer) × (seat.new ≡ grown seat.old event reply)) }
+    ensures same { OnErr result (seat.new ≡ seat.old) }
+{
+    let number = seat.number();
+    gate.before(number, nth);
+    let done = layer.call(rt, seat, event);
+    gate.after(number, nth);
+    done
+}
+
+/// Does a script from this seat, up to the first call that is refused.
+fn play<R: Wait, G: Gate>(
+    rt: &R,
+    layer: &Layer,
+    seat: &mut Seat,
+    script: Vec<Event>,
+    gate: &G,
+) -> Result<(), CallError>
+    ensures number { seat.new.number ≡ seat.old.number }
+    ensures made { OnOk result (Made (Some (Script script.items)) seat.old.list seat.new.list) }
+    ensures short { OnErr result (Short (Some (Script script.items)) seat.old.list seat.new.list) }
+{
+    // A log is full long before as many calls were made as can be counted.
+    let mut nth = 0u32;
+    for event in script {
+        nth = nth.saturating_add(1);
+        call_through(rt, layer, seat, event, gate, nth)?;
+    }
+    Ok(())
+}
+
+/// The collector's next event from this seat: it goes on with a pass that it began.
+fn next_event(seat: &Seat, budget: u32) -> Event
+    ensures { result ≡ next_turn budget seat.now.list }
+{
+    match seat.list().last() {
+        Some((_, Reply::Started(_) | Reply::Working)) => Event::Slice(budget),
+        _ => Event::Begin,
+    }
+}
+
+/// Makes the collector's turns from this seat, up to the first call that is refused.
+fn collect<R: Wait, G: Gate>(
+    rt: &R,
+    layer: &Layer,
+    seat: &mut Seat,
+    turns: Turns,
+    gate: &G,
+) -> Result<(), CallError>
+    ensures number { seat.new.number ≡ seat.old.number }
+    ensures made { OnOk result (Made (Some (Collects turns.turns turns.budget)) seat.old.list seat.new.list) }
+    ensures short { OnErr result (Short (Some (Collects turns.turns turns.budget)) seat.old.list seat.new.list) }
+{
+    for turn in 0..turns.turns {
+        let event = next_event(seat, turns.budget);
+        call_through(rt, layer, seat, event, gate, turn + 1)?;
+    }
+    Ok(())
+}
+
+impl Worker {
+    /// Does what is to be done, up to the first call that is refused.
+    fn work<R: Wait, G: Gate>(&mut self, rt: &R, layer: &Layer, gate: &G)
+        ensures { Worked self.old self.new }
+    {
+        let done = match self.task.take() {
+            Some(Task::Script(script)) => play(rt, layer, &mut self.seat, script, gate),
+            Some(Task::Collect(turns)) => collect(rt, layer, &mut self.seat, turns, gate),
+            None => Ok(()),
+        };
+        self.fault = done.err();
+    }
+}
+
+/// Lets each worker work in a thread of its own.
+fn work_all<R: Threads + Wait + Sync, G: Gate + Sync>(
+    rt: &R,
+    layer: &Layer,
+    workers: &mut [Worker],
+    gate: &G,
+)
+    ensures { AllWorked workers.old workers.new }
+{
+    let count = workers.len();
+    if count == 0 {
+        return;
+    }
+    thread::for_each_mut(
+        rt,
+        workers,
+        count,
+        &|_, worker: &mut Worker| { worker.work(rt, layer, gate) },
+    );
+}
+
+/// The workers, when all have worked.
+pub fn run<R: Threads + Wait + Sync, G: Gate + Sync>(
+    rt: &R,
+    layer: &Layer,
+    mut workers: Vec<Worker>,
+    gate: &G,
+) -> Vec<Worker>
+    ensures worked { AllWorked workers.items result.items }
+    ensures len { vec_len result ≡ vec_len workers }
+    ensures count { length result.items ≡ length workers.items }
+{
+    work_all(rt, layer, workers.as_mut_slice(), gate);
+    workers
+}

@@ -1,6 +1,0 @@
-use Rattle.std.proofs.Common.{◌<◌}
-use Rattle.af_order.proofs.tests.one_at_a_time.Given as goal
-
--- The next number is new.
-abbrev pub invariant-loop-number : goal.invariant-loop-number
-invariant-loop-number l = l.order.last < l.number

@@ -1,6 +1,0 @@
-use Rattle.std.proofs.Common.{◌≡◌, ◌+◌}
-use Rattle.af_table.proofs.tests.many_pids_share_a_hint.Given as goal
-
--- so many have started
-abbrev pub invariant-loop-limit : goal.invariant-loop-limit
-invariant-loop-limit g l = l.procs.next_pid ≡ l.limit + 1

@@ -1,0 +1,104 @@
+//! Events and scripts, a gate that is always open, and calls from seats that are lent.
+use af_base::events::{Event, SockType, Step};
+use af_base::items::Items;
+use af_base::names::{Fd, Pid, Uid};
+use af_layer::{Gate, Layer, Seat};
+use std::alloc::{AllocError, Global};
+use std::sync::Wait;
+
+/// A process starts.
+pub fn spawn() -> Event {
+    Event::Spawn {
+        uid: Uid(1_000),
+        nofile: 32,
+        privileged: false,
+    }
+}
+
+/// A step of the process.
+pub fn step(pid: u32, step: Step) -> Event {
+    Event::Proc(Pid(pid), step)
+}
+
+/// Sends two bytes and a descriptor.
+fn send(alloc: Global, on: u32, attach: u32) -> Result<Step, AllocError> {
+    Ok(Step::Send {
+        on: Fd(on),
+        bytes: Items::of(b"hi".to_vec(alloc)?),
+        attach: Items::of(vec![in alloc; Fd(attach)]?),
+    })
+}
+
+/// What a process does at this turn: it sends ends of pairs to each other and loses them.
+pub fn event_at(alloc: Global, pid: u32, turn: u32) -> Result<Event, AllocError> {
+    let what = match turn % 11 {
+        0 => Step::Pair(SockType::Seqpacket),
+        1 => Step::Open,
+        2 => send(alloc, 0, 1)?,
+        3 => Step::Peek {
+            on: Fd(1),
+            max_bytes: 9,
+            max_fds: 4,
+        },
+        4 => Step::Recv {
+            on: Fd(1),
+            max_bytes: 9,
+            max_fds: 4,
+        },
+        5 => send(alloc, 1, 0)?,
+        6 => Step::Dup(Fd(2)),
+        7 => Step::Limit(24),
+        8 => Step::Close(Fd(0)),
+        9 => Step::Fork,
+        _ => Step::Close(Fd(1)),
+    };
+    Ok(step(pid, what))
+}
+
+/// What a process does in so many turns.
+pub fn script(alloc: Global, pid: u32, turns: u32) -> Result<Vec<Event>, AllocError> {
+    let mut script = Vec::new(alloc);
+    for turn in 0..turns {
+        script.push(event_at(alloc, pid, turn)?)?;
+    }
+    Ok(script)
+}
+
+/// The scripts of so many processes.
+pub fn scripts(alloc: Global, count: u32, turns: u32) -> Result<Vec<Vec<Event>>, AllocError> {
+    let mut scripts = Vec::new(alloc);
+    for before in 0..count {
+        scripts.push(script(alloc, before.saturating_add(1), turns)?)?;
+    }
+    Ok(scripts)
+}
+
+/// A gate that lets everybody through.
+#[derive(Drop)]
+pub struct AlwaysOpen;
+
+impl Gate for AlwaysOpen {
+    fn before(&self, _seat: u32, _nth: u32) {}
+
+    fn after(&self, _seat: u32, _nth: u32) {}
+}
+
+/// A process starts from each seat. A test looks at what that left, so this promises nothing.
+pub fn spawn_from_each<R: Wait>(rt: &R, layer: &Layer, seats: &mut [Seat]) -> bool {
+    for seat in seats {
+        if layer.call(rt, seat, spawn()).is_err() {
+            return false;
+        }
+    }
+    true
+}
+
+/// So many processes start from this seat. A test looks at what that left, so this promises nothing.
+pub fn spawn_from<R: Wait>(rt: &R, layer: &Layer, seat: &mut Seat, processes: u32) -> bool {
+    for _ in 0..processes {
+        if layer.call(rt, seat, spawn()).is_err() {
+            return false;
+        }
+    }
+    true
+}

@@ -1,0 +1,114 @@
+//! Calls on a book without a lock, one allocation refused, the Nth: `tools/stress` refuses each in
+//! turn.
+use super::growths::nth_event;
+use af_base::equality::events_equal;
+use af_base::errno::Errno;
+use af_base::events::{Event, Reply};
+use af_layer::{Book, CallError, Layer, Seat};
+use std::alloc::Global;
+use std::test::Fail;
+
+/// What came of a call.
+#[derive(Clone, Copy, Debug, PartialEq, Eq, Drop)]
+enum Came {
+    /// It was done and logged.
+    Done,
+    /// Memory was wanted: nothing has changed, or just that was answered and logged.
+    NoMemory,
+    /// It did not do what it says.
+    Otherwise,
+}
+
+/// How many entries the log has, how many pairs the list, and what the engine counts.
+fn shown(book: &Book, seat: &Seat) -> (usize, usize, u64, u64) {
+    let engine = book.engine();
+    (
+        book.log().len(),
+        seat.list().len(),
+        engine.live() as u64,
+        engine.total(),
+    )
+}
+
+/// What came of a call that was logged with this reply.
+fn came_of(reply: &Reply) -> Came {
+    if *reply == Reply::Refused(Errno::ENOMEM) {
+        Came::NoMemory
+    } else {
+        Came::Done
+    }
+}
+
+/// Whether the log and the list end in the same event and reply.
+fn end_alike(book: &Book, seat: &Seat) -> Option<Came> {
+    let entry = book.log().last()?;
+    let (event, reply) = seat.list().last()?;
+    if entry.seat == seat.number() && events_equal(&entry.event, event) && entry.reply == *reply {
+        Some(came_of(reply))
+    } else {
+        None
+    }
+}
+
+/// A call from the seat: log and list go on by the same event and reply, or stay.
+fn call_in(book: &mut Book, seat: &mut Seat, event: Event) -> Came {
+    let before = shown(book, seat);
+    let called = seat.call_in(book, event);
+    let after = shown(book, seat);
+    match called {
+        Ok(()) if after.0 == before.0.saturating_add(1) && after.1 == before.1.saturating_add(1) =>
+            { end_alike(book, seat).unwrap_or(Came::Otherwise) }
+        Err(CallError::NoRoom) if after == before => Came::NoMemory,
+        _ => Came::Otherwise,
+    }
+}
+
+/// A call under another seat's number: the log goes on by what is answered, or stays.
+fn call(book: &mut Book, seat: &Seat, event: Event) -> Came {
+    let before = shown(book, seat);
+    let answered = book.call(2, event);
+    let after = shown(book, seat);
+    match (answered, book.log().last()) {
+        (Ok(reply), Some(entry))
+            if after.0 == before.0.saturating_add(1) && entry.seat == 2 && entry.reply == reply => {
+            came_of(&reply)
+        }
+        (Err(CallError::NoRoom), _) if after == before => Came::NoMemory,
+        _ => Came::Otherwise,
+    }
+}
+
+/// How often memory was wanted in calls of both kinds by turns. Nothing, where one did not do what it
+/// says. Where an event cannot be made they end there.
+fn wants(alloc: Global, book: &mut Book, seat: &mut Seat) -> Option<u32> {
+    let mut wants = 0u32;
+    for nth in 0..60 {
+        let Ok(event) = nth_event(alloc, nth) else {
+            return Some(wants);
+        };
+        let came = if nth % 2 == 0 {
+            call_in(book, seat, event)
+        } else {
+            call(book, seat, event)
+        };
+        match came {
+            Came::Done => {}
+            Came::NoMemory => wants = wants.saturating_add(1),
+            Came::Otherwise => return None,
+        }
+    }
+    Some(wants)
+}
+
+/// The seat is one of a layer that is let go.
+#[test]
+fn one_growth_refused(rt: HostRuntime) -> Result<(), Fail> {
+    let mut book = Book::new(rt.alloc(), 2)?;
+    if let Ok((_, mut seats)) = Layer::open(rt.alloc(), 1)
+        && let Some(mut seat) = seats.pop()
+    {
+        let wants = wants(rt.alloc(), &mut book, &mut seat).ok_or("a call did otherwise")?;
+        assert!(rt; wants <= 1);
+    }
+    Ok(())
+}

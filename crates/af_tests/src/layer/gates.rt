@@ -1,0 +1,156 @@
+//! A gate of flags: each worker waits until all are inside, so that they run beside each other.
+use super::bench::{spawn_from, step};
+use af_base::events::{Event, Step};
+use af_layer::{CloseError, Closed, Gate, Layer, Seat, Turns, drive};
+use std::alloc::{AllocError, Global};
+use std::sync::Wait;
+use std::sync::atomic::{AtomicU64, Ordering};
+use std::test::Fail;
+use std::thread;
+use std::thread::Threads;
+
+/// The flags of seats 1, 2 and 3.
+const ALL: u64 = 0b1110;
+
+/// Words of flags, a bit for each seat.
+#[derive(Drop)]
+struct Flags {
+    came: AtomicU64,
+    left: AtomicU64,
+    came_again: AtomicU64,
+    left_again: AtomicU64,
+    failures: AtomicU64,
+}
+
+/// Whether the flags of all seats are up.
+fn are_up(flags: &AtomicU64) -> bool {
+    flags.load(Ordering::SeqCst) == ALL
+}
+
+impl Flags {
+    fn new() -> Flags {
+        Flags {
+            came: AtomicU64::new(0),
+            left: AtomicU64::new(0),
+            came_again: AtomicU64::new(0),
+            left_again: AtomicU64::new(0),
+            failures: AtomicU64::new(0),
+        }
+    }
+
+    fn fail(&self) {
+        self.failures.fetch_add(1, Ordering::SeqCst);
+    }
+
+    /// Raises the seat's flag, which was not up.
+    fn raise(&self, flags: &AtomicU64, seat: u32) {
+        let flag = 1u64.checked_shl(seat).unwrap_or(0);
+        if flags.fetch_or(flag, Ordering::SeqCst) & flag != 0 {
+            self.fail();
+        }
+    }
+
+    /// Waits until the flags of all seats are up, and no longer than it takes to look so often.
+    fn wait(&self, flags: &AtomicU64) {
+        for _ in 0..20_000_000u32 {
+            if are_up(flags) {
+                return;
+            }
+            thread::yield_now();
+        }
+        self.fail();
+    }
+
+    /// Whether each seat made its four calls, and nothing failed.
+    fn is_passed(&self) -> bool {
+        are_up(&self.came)
+            && are_up(&self.left)
+            && are_up(&self.came_again)
+            && are_up(&self.left_again)
+            && self.failures.load(Ordering::SeqCst) == 0
+    }
+}
+
+impl Gate for Flags {
+    fn before(&self, seat: u32, nth: u32) {
+        match nth {
+            1 => {
+                self.raise(&self.came, seat);
+                self.wait(&self.came);
+            }
+            2 => {
+                self.raise(&self.came_again, seat);
+                self.wait(&self.left);
+            }
+            _ => self.fail(),
+        }
+    }
+
+    fn after(&self, seat: u32, nth: u32) {
+        match nth {
+            1 => self.raise(&self.left, seat),
+            2 => self.raise(&self.left_again, seat),
+            _ => self.fail(),
+        }
+    }
+}
+
+/// Two scripts of two opens.
+fn opens(alloc: Global) -> Result<Vec<Vec<Event>>, AllocError> {
+    Ok(vec![in alloc;
+        vec![in alloc; step(1, Step::Open), step(1, Step::Open)]?,
+        vec![in alloc; step(2, Step::Open), step(2, Step::Open)]?,
+    ]?)
+}
+
+/// All seats, where all were inside at once: two with scripts of opens, and a third with one of passes,
+/// or the collector's. The last one lets the processes start.
+fn all_inside<R: Threads + Wait + Sync>(
+    rt: &R,
+    alloc: Global,
+    layer: &Layer,
+    mut seats: Vec<Seat>,
+    collector: Option<Turns>,
+) -> Option<Vec<Seat>> {
+    let mut last = seats.pop()?;
+    if !spawn_from(rt, layer, &mut last, 2) {
+        return None;
+    }
+    let mut scripts = opens(alloc).ok()?;
+    if collector.is_none() {
+        let passes = vec![in alloc; Event::Pass, Event::Pass].ok()?;
+        scripts.push(passes).ok()?;
+    }
+    let flags = Flags::new();
+    let mut seats = drive(rt, layer, seats, scripts, collector, &flags).ok()?;
+    seats.push(last).ok()?;
+    if flags.is_passed() { Some(seats) } else { None }
+}
+
+/// How many entries a log has, where its layer was closed well.
+fn entries(closed: Result<Closed, CloseError>) -> Option<usize> {
+    let closed = closed.ok()?;
+    Some(closed.book.log().len())
+}
+
+#[test]
+fn gate_three_workers(rt: HostRuntime) -> Result<(), Fail> {
+    let (layer, seats) = Layer::open(rt.alloc(), 4)?;
+    let seats = all_inside(&rt, rt.alloc(), &layer, seats, None).ok_or("not all were inside")?;
+    assert_eq!(rt; entries(layer.close(seats)), Some(8));
+    Ok(())
+}
+
+#[test]
+fn gate_all_inside(rt: HostRuntime) -> Result<(), Fail> {
+    let (layer, seats) = Layer::open(rt.alloc(), 4)?;
+    let turns = Turns {
+        turns: 2,
+        budget: 8,
+    };
+    let seats = all_inside(&rt, rt.alloc(), &layer, seats, Some(turns)).ok_or(
+        "not all were inside",
+    )?;
+    assert_eq!(rt; entries(layer.close(seats)), Some(8));
+    Ok(())
+}

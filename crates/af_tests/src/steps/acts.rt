@@ -1,0 +1,171 @@
+//! Short forms of events and replies, so that a test is a list of these.
+use af_base::errno::Errno;
+use af_base::events::{Event, Reply, SockType, Step};
+use af_base::items::Items;
+use af_base::names::{Fd, Pid, Uid};
+use af_steps::Engine;
+use std::alloc::{AllocError, Global};
+use std::process::Abort;
+
+/// An event. What has no pid is a step of process 1; sockets are of the type SOCK_STREAM.
+#[derive(Clone, Copy, Debug)]
+pub enum Act {
+    /// A process of this user starts, with 16 descriptors at most.
+    Spawn(u32),
+    Open,
+    Dup(u32),
+    Dup2(u32, u32),
+    Close(u32),
+    Fork,
+    /// The process of this pid ends.
+    Exit(u32),
+    Pair,
+    Socket,
+    Bind(u32, &'static [u8]),
+    Listen(u32, u32),
+    Connect(u32, &'static [u8]),
+    Accept(u32),
+    Send(u32, &'static [u8], &'static [u32]),
+    /// At most nine bytes and eight descriptors are received.
+    Recv(u32),
+    /// What such a receive would take is seen.
+    Peek(u32),
+    /// The limit on descriptors is this from now on.
+    Limit(u32),
+    Begin,
+    Slice(u32),
+    Pass,
+}
+
+/// A reply.
+#[derive(Clone, Copy, Debug)]
+pub enum Answer {
+    Pid(u32),
+    Fd(u32),
+    Fds(u32, u32),
+    Ok,
+    Sent(u32),
+    /// Nothing was cut.
+    Got(&'static [u8], &'static [u32]),
+    /// Not all descriptors were installed.
+    Cut(&'static [u8], &'static [u32]),
+    /// The pass of this number has begun.
+    Started(u64),
+    Working,
+    /// The pass is done: its number, and how many sockets were reclaimed.
+    Done(u64, u64),
+    Refused(Errno),
+}
+
+/// The event in full.
+pub fn event_of(alloc: Global, act: Act) -> Result<Event, AllocError> {
+    let step = match act {
+        Act::Spawn(uid) => {
+            return Ok(Event::Spawn {
+                uid: Uid(uid),
+                nofile: 16,
+                privileged: false,
+            });
+        }
+        Act::Exit(pid) => return Ok(Event::Proc(Pid(pid), Step::Exit)),
+        Act::Begin => return Ok(Event::Begin),
+        Act::Slice(budget) => return Ok(Event::Slice(budget)),
+        Act::Pass => return Ok(Event::Pass),
+        Act::Open => Step::Open,
+        Act::Dup(from) => Step::Dup(Fd(from)),
+        Act::Dup2(from, to) => Step::Dup2(Fd(from), Fd(to)),
+        Act::Close(fd) => Step::Close(Fd(fd)),
+        Act::Fork => Step::Fork,
+        Act::Pair => Step::Pair(SockType::Stream),
+        Act::Socket => Step::Socket(SockType::Stream),
+        Act::Listen(on, backlog) => Step::Listen {
+            on: Fd(on),
+            backlog,
+        },
+        Act::Accept(on) => Step::Accept(Fd(on)),
+        Act::Recv(on) => Step::Recv {
+            on: Fd(on),
+            max_bytes: 9,
+            max_fds: 8,
+        },
+        Act::Peek(on) => Step::Peek {
+            on: Fd(on),
+            max_bytes: 9,
+            max_fds: 8,
+        },
+        Act::Limit(limit) => Step::Limit(limit),
+        Act::Bind(on, name) => Step::Bind {
+            on: Fd(on),
+            name: bytes_of(alloc, name)?,
+        },
+        Act::Connect(on, name) => Step::Connect {
+            on: Fd(on),
+            name: bytes_of(alloc, name)?,
+        },
+        Act::Send(on, bytes, fds) => Step::Send {
+            on: Fd(on),
+            bytes: bytes_of(alloc, bytes)?,
+            attach: fds_of(alloc, fds)?,
+        },
+    };
+    Ok(Event::Proc(Pid(1), step))
+}
+
+/// The reply in full.
+pub fn reply_of(alloc: Global, answer: Answer) -> Result<Reply, AllocError> {
+    Ok(match answer {
+        Answer::Pid(pid) => Reply::Pid(Pid(pid)),
+        Answer::Fd(fd) => Reply::Fd(Fd(fd)),
+        Answer::Fds(lower, higher) => Reply::Fds(Fd(lower), Fd(higher)),
+        Answer::Ok => Reply::Ok,
+        Answer::Sent(count) => Reply::Sent(count),
+        Answer::Got(bytes, fds) => Reply::Got {
+            bytes: bytes_of(alloc, bytes)?,
+            fds: fds_of(alloc, fds)?,
+            trunc: false,
+            ctrunc: false,
+        },
+        Answer::Cut(bytes, fds) => Reply::Got {
+            bytes: bytes_of(alloc, bytes)?,
+            fds: fds_of(alloc, fds)?,
+            trunc: false,
+            ctrunc: true,
+        },
+        Answer::Started(pass) => Reply::Started(pass),
+        Answer::Working => Reply::Working,
+        Answer::Done(pass, reclaimed) => Reply::Done { pass, reclaimed },
+        Answer::Refused(errno) => Reply::Refused(errno),
+    })
+}
+
+fn bytes_of(alloc: Global, bytes: &[u8]) -> Result<Items<u8>, AllocError> {
+    Ok(Items::of(bytes.to_vec(alloc)?))
+}
+
+fn fds_of(alloc: Global, fds: &[u32]) -> Result<Items<Fd>, AllocError> {
+    let mut items = Vec::new(alloc);
+    for fd in fds {
+        items.push(Fd(*fd))?;
+    }
+    Ok(Items::of(items))
+}
+
+/// What the engine answers. A test looks at that and no further, so this promises nothing.
+pub fn reply_to(engine: &mut Engine, event: &Event) -> Reply {
+    engine.step(event)
+}
+
+/// The events have these replies.
+pub fn play(
+    rt: &impl Abort,
+    alloc: Global,
+    engine: &mut Engine,
+    rows: &[(Act, Answer)],
+) -> Result<(), AllocError> {
+    for (act, wanted) in rows {
+        let event = event_of(alloc, *act)?;
+        let wanted = reply_of(alloc, *wanted)?;
+        assert!(rt; reply_to(engine, &event) == wanted, "{act:?}");
+    }
+    Ok(())
+}

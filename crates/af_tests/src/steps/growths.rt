@@ -1,0 +1,133 @@
+//! One allocation refused, the Nth: `tools/stress` refuses each in turn.
+use super::acts::{Act, Answer, event_of, reply_of, reply_to};
+use af_base::errno::Errno;
+use af_base::events::{Event, Reply};
+use af_base::names::{Ino, Uid};
+use af_steps::{Engine, FileInfo};
+use std::alloc::{AllocError, Global};
+use std::process::Abort;
+use std::test::Fail;
+
+/// Each event that may want memory, with its reply where it has some: but for the first three, while
+/// a pass marks. What goes at the end wants none: a socket that is in its own queue, a listener that
+/// was in the queue of a socket that it accepted, and what they hold.
+static ROWS: [(Act, Answer); 39] = [
+    (Act::Spawn(1000), Answer::Pid(1)),
+    (Act::Open, Answer::Fd(0)),
+    (Act::Pair, Answer::Fds(1, 2)),
+    (Act::Begin, Answer::Started(1)),
+    (Act::Slice(1), Answer::Working),
+    (Act::Slice(1), Answer::Working),
+    (Act::Send(1, b"aaaa", &[]), Answer::Sent(4)),
+    (Act::Send(1, b"b", &[0, 0, 0, 0, 2]), Answer::Sent(1)),
+    (Act::Send(1, b"cccc", &[]), Answer::Sent(4)),
+    (Act::Limit(5), Answer::Ok),
+    (Act::Peek(2), Answer::Cut(b"aaaab", &[3, 4])),
+    (Act::Limit(16), Answer::Ok),
+    (Act::Close(3), Answer::Ok),
+    (Act::Close(4), Answer::Ok),
+    (Act::Recv(2), Answer::Got(b"aaaab", &[3, 4, 5, 6, 7])),
+    (Act::Recv(2), Answer::Got(b"cccc", &[])),
+    (Act::Recv(2), Answer::Refused(Errno::EAGAIN)),
+    (Act::Dup(0), Answer::Fd(8)),
+    (Act::Dup2(2, 7), Answer::Fd(7)),
+    (Act::Dup2(2, 3), Answer::Fd(3)),
+    (Act::Socket, Answer::Fd(9)),
+    (Act::Bind(9, b"hub"), Answer::Ok),
+    (Act::Listen(9, 2), Answer::Ok),
+    (Act::Socket, Answer::Fd(10)),
+    (Act::Connect(10, b"hub"), Answer::Ok),
+    (Act::Send(10, b"hi", &[9]), Answer::Sent(2)),
+    (Act::Accept(9), Answer::Fd(11)),
+    (Act::Recv(11), Answer::Got(b"hi", &[12])),
+    (Act::Socket, Answer::Fd(13)),
+    (Act::Connect(13, b"hub"), Answer::Ok),
+    (Act::Send(11, b"hi", &[9, 10]), Answer::Sent(2)),
+    (Act::Send(2, b"hi", &[1]), Answer::Sent(2)),
+    (Act::Spawn(1001), Answer::Pid(2)),
+    (Act::Fork, Answer::Pid(3)),
+    (Act::Close(0), Answer::Ok),
+    (Act::Exit(3), Answer::Ok),
+    (Act::Exit(1), Answer::Ok),
+    (Act::Slice(65_536), Answer::Done(1, 0)),
+    (Act::Pass, Answer::Done(2, 4)),
+];
+
+/// How many places hold the file, and how many of these are in queues.
+fn counts(engine: &Engine, ino: u64) -> (u64, u64) {
+    (engine.refs(Ino(ino)), engine.inflight(Ino(ino)))
+}
+
+/// How many messages and embryos wait at the file.
+fn waiting(engine: &Engine, ino: u64) -> (u64, u64) {
+    match engine.file(Ino(ino)) {
+        Some(
+            FileInfo::Socket {
+                messages,
+                embryos,
+                ..
+            },
+        ) => (messages as u64, embryos as u64),
+        _ => (0, 0),
+    }
+}
+
+/// What the views count of the first four files, the last of which is to listen, of user 1000, and of
+/// all.
+fn shown(engine: &Engine) -> [(u64, u64); 9] {
+    [
+        counts(engine, 1),
+        counts(engine, 2),
+        counts(engine, 3),
+        counts(engine, 4),
+        waiting(engine, 2),
+        waiting(engine, 3),
+        waiting(engine, 4),
+        (engine.charged(Uid(1000)), engine.total()),
+        (engine.live() as u64, u64::from(engine.next_pid().0)),
+    ]
+}
+
+/// The event has this reply, at the second trial where the first was refused for want of memory;
+/// then nothing had changed.
+fn done(rt: &impl Abort, engine: &mut Engine, event: &Event, wanted: &Reply) {
+    let before = shown(engine);
+    let mut reply = reply_to(engine, event);
+    if reply == Reply::Refused(Errno::ENOMEM) {
+        assert!(rt; shown(engine) == before);
+        reply = reply_to(engine, event);
+    }
+    assert!(rt; reply == *wanted, "{event:?}");
+}
+
+/// The event of a row is done so.
+fn row(
+    rt: &impl Abort,
+    alloc: Global,
+    engine: &mut Engine,
+    act: Act,
+    wanted: Answer,
+) -> Result<(), AllocError> {
+    let event = event_of(alloc, act)?;
+    let wanted = reply_of(alloc, wanted)?;
+    done(rt, engine, &event, &wanted);
+    Ok(())
+}
+
+/// All rows are played. Where the refused allocation is of an event or a reply that a row makes,
+/// they end there.
+fn play_rows(rt: &impl Abort, alloc: Global, engine: &mut Engine) {
+    for (act, wanted) in ROWS {
+        if row(rt, alloc, engine, act, wanted).is_err() {
+            return;
+        }
+    }
+    assert_eq!(rt; engine.live(), 0);
+}
+
+#[test]
+fn one_growth_refused(rt: HostRuntime) -> Result<(), Fail> {
+    let mut engine = Engine::new(rt.alloc())?;
+    play_rows(&rt, rt.alloc(), &mut engine);
+    Ok(())
+}

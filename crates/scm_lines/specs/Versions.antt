@@ -1,0 +1,50 @@
+-- The versions of the language: which lines a script may have, by the lines before. This project's profile.
+use Rattle.std.specs.Prelude.{Bool, true, false, not, ◌||◌, List, ℕ, if◌then◌else◌, Option, Some, None}
+use Rattle.af_base.specs.declared.events.Step.{Step}
+use Rattle.af_base.specs.declared.events.Step.TheVariants as step
+use Rattle.af_base.specs.declared.events.Event.TheVariants as event
+use Rattle.scm_lines.specs.Lines.{line_of, ◌>>=◌}
+use Rattle.scm_lines.specs.declared.line.Line.{Line}
+use Rattle.scm_lines.specs.declared.line.Line.TheVariants as line
+use Rattle.scm_lines.specs.declared.version.Version.{Version}
+use Rattle.scm_lines.specs.declared.version.Version.TheVariants as version
+
+-- Nothing was said of the version yet.
+abbrev pub is_unsaid : Version → Bool
+is_unsaid version.Unsaid = true
+is_unsaid version.First = false
+is_unsaid version.Second = false
+
+-- The script is of version 2.
+abbrev pub is_second : Version → Bool
+is_second version.Unsaid = false
+is_second version.First = false
+is_second version.Second = true
+
+-- The step is one of version 2.
+abbrev pub is_later : Step → Bool
+is_later (step.Peek on max_bytes max_fds) = true
+is_later (step.Limit nofile) = true
+is_later other = false
+
+-- A line of version 1: no version, and no step of version 2.
+abbrev pub is_of_first : Line → Bool
+is_of_first line.Version2 = false
+is_of_first (line.Event (event.Proc pid does)) = not (is_later does)
+is_of_first other = true
+
+-- Whether such a line may come now: version 2 before all but silence, and what is of version 2 in it.
+abbrev pub has_line : Version → Line → Bool
+has_line v line.Version2 = is_unsaid v
+has_line v (line.Event (event.Proc pid does)) = not (is_later does) || is_second v
+has_line v other = true
+
+-- What is said of the version with such a line: silence says nothing, and any other first line but version 2 says version 1.
+abbrev pub version_after : Version → Line → Version
+version_after v line.Silence = v
+version_after v line.Version2 = version.Second
+version_after v other = if is_unsaid v then version.First else v
+
+-- What a line says that comes now, where it can be read.
+abbrev pub read_in : Version → List ℕ → Option Line
+read_in v bytes = line_of bytes >>= λ said. if has_line v said then Some said else None

@@ -1,0 +1,56 @@
+-- From the opening of a layer to its closing: what was done in a race.
+use Rattle.std.proofs.Common.{◌≡◌, ◌<◌, ◌≤◌, ◌+◌, ◌*◌, ◌++◌, ℕ, List, [], ◌∷◌, ap, arith, length, length-append, sym, ◌∙◌, subst, slice_index_or}
+use Rattle.std.proofs.lemmas.List.{get_or_append_left, get_or_push, length-map}
+use Rattle.af_layer.specs.Audit.{IsWhole, nobody}
+use Rattle.af_layer.specs.Drive.{Driven, Made}
+use Rattle.af_layer.specs.Log.{IsLegal, Logged, Pair, of_seat}
+use Rattle.af_layer.specs.Seats.{Seated}
+use Rattle.scm_race.specs.Race.{EndsInPass, Raced, RacedTo, spawned, works_of_race}
+use Rattle.scm_race.specs.declared.outcome.Outcome.{Outcome}
+use Rattle.scm_race.proofs.Counted.{counted}
+use Rattle.scm_race.proofs.Raced.{raced}
+use Rattle.scm_race.proofs.Works.{script-count}
+
+-- all seats as they were opened; those that were driven, before and after; the last one when it was opened, after the start and at the end; and all as they were handed in
+module _ (workers steps seed budget : ℕ) (b : Logged) (all opened driven handed : List Seated) (first started last : Seated)
+    (count : length all ≡ workers + 2)
+    (each : (i : ℕ) (other : Seated) → i < workers + 2 → slice_index_or all i other ≡ record { number = i + 1; list = [] })
+    (split : all ≡ opened ++ first ∷ [])
+    (started_number : started.number ≡ first.number)
+    (started_list : started.list ≡ first.list ++ spawned workers)
+    (drove : Driven Made opened (works_of_race workers steps seed budget) driven)
+    (number : last.number ≡ started.number)
+    (list : EndsInPass started.list last.list)
+    (legal : IsLegal b.seats b.machine b.log)
+    (joined : handed ≡ driven ++ last ∷ [])
+    (whole : IsWhole b handed) where
+  -- One seat less was driven than was opened.
+  opened-count : length opened ≡ workers + 1
+  opened-count = let parts = ap length split ∙ length-append opened (first ∷ []) in omega (arith, count, parts)
+
+  -- Each of these was fresh.
+  fresh : (i : ℕ) → i < workers + 1 → slice_index_or opened i nobody ≡ record { number = i + 1; list = [] }
+  fresh i lt =
+      sym (get_or_append_left opened (first ∷ []) nobody i (omega (arith, lt, opened-count))) ∙ ap (λ l. slice_index_or l i nobody) (sym split) ∙ each i nobody (omega (arith, lt))
+
+  -- So was the last.
+  first-fresh : first ≡ record { number = workers + 1 + 1; list = [] }
+  first-fresh = sym (get_or_push opened first nobody (workers + 1) opened-count) ∙ ap (λ l. slice_index_or l (workers + 1) nobody) (sym split) ∙ each (workers + 1) nobody (omega arith)
+
+  -- Its number is the last.
+  last-number : last.number ≡ workers + 2
+  last-number = let at_first = ap (λ (s : Seated). s.number) first-fresh in omega (arith, number, started_number, at_first)
+
+  -- Its list has the start, and ends in a pass.
+  last-list : EndsInPass (spawned workers) last.list
+  last-list = subst (λ (l : List Pair). EndsInPass l last.list) (started_list ∙ ap (λ (s : Seated). s.list ++ spawned workers) first-fresh) list
+
+  -- So the race is one that ended well.
+  pub race-raced : Raced workers steps seed budget b
+  race-raced = raced workers steps seed budget b opened driven last opened-count fresh drove last-number last-list legal (subst (IsWhole b) joined whole)
+
+-- A race that ended well tells all steps of all workers.
+pub told : (workers steps seed budget : ℕ) (outcome : Outcome) → 5 ≤ steps → RacedTo workers steps seed budget outcome → outcome.steps ≡ workers * steps
+told workers steps seed budget outcome some (b, race, is) =
+    is.0 ∙ counted workers steps b.log (λ i d lt. (race.legal.of_seats i d lt).0) (λ k low high.
+    sym (length-map (of_seat k b.log) (λ p. p.0)) ∙ ap length (race.scripts k low high) ∙ script-count k workers steps seed some)

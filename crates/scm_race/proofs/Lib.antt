@@ -1,0 +1,7 @@
+-- Lemmas.
+pub mod Answered
+pub mod Counted
+pub mod Ended
+pub mod Exits
+pub mod Raced
+pub mod Works

@@ -1,0 +1,10 @@
+-- The list went on.
+use Rattle.std.proofs.Common.{◌≡◌, ◌++◌, List}
+use Rattle.af_layer.specs.Log.{Pair}
+use Rattle.scm_race.proofs.finish.end_pass.Given as goal
+
+abbrev pub invariant-slices : goal.invariant-slices
+invariant-slices g l = record {
+  number : l.main.number ≡ l.fn.main.number;
+  list : (more : List Pair) × (l.main.list ≡ l.fn.main.list ++ more);
+}

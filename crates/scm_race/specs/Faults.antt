@@ -1,0 +1,26 @@
+-- Which fault of a race a fault of the layer is: want of memory is told apart, as this project's profile has it.
+use Rattle.af_layer.specs.declared.book.CallError.{CallError}
+use Rattle.af_layer.specs.declared.book.CallError.TheVariants as call
+use Rattle.af_layer.specs.declared.driving.DriveFault.{DriveFault}
+use Rattle.af_layer.specs.declared.driving.DriveFault.TheVariants as drive
+use Rattle.af_layer.specs.declared.layer.OpenError.{OpenError}
+use Rattle.af_layer.specs.declared.layer.OpenError.TheVariants as open_error
+use Rattle.scm_race.specs.declared.fault.RaceFault.{RaceFault}
+use Rattle.scm_race.specs.declared.fault.RaceFault.TheVariants.{Failed, Memory}
+
+-- Of a layer that was not opened.
+abbrev pub of_open : OpenError → RaceFault
+of_open open_error.NoRoom = Memory
+of_open open_error.BadCount = Failed
+
+-- Of a call that did nothing.
+abbrev pub of_call : CallError → RaceFault
+of_call call.NoRoom = Memory
+of_call call.NoSeat = Failed
+of_call call.LogFull = Failed
+
+-- Of a drive that did not do all.
+abbrev pub of_drive : DriveFault → RaceFault
+of_drive drive.NoRoom = Memory
+of_drive drive.TooFewSeats = Failed
+of_drive (drive.Call seat error) = of_call error

@@ -1,0 +1,78 @@
+//! Why a race has no outcome.
+ghost use Rattle.std.specs.Prelude.{◌≡◌};
+ghost use Rattle.scm_race.specs.declared.fault.RaceFault.TheVariants.{Failed, Memory};
+ghost use Rattle.scm_race.specs.Faults.{of_call, of_drive, of_open};
+
+use af_layer::{CallError, CloseError, DriveError, DriveFault, OpenError};
+use std::alloc::{AllocError, AllocFailed};
+use thiserror::Error;
+
+/// Why a race has no outcome.
+#[derive(Clone, Copy, Debug, PartialEq, Eq, Drop, Error)]
+pub enum RaceFault {
+    /// Memory was refused.
+    #[error("no memory")]
+    Memory,
+    /// Something else went wrong: a call that was refused, an answer that should not come, or a
+    /// fault that the audit found.
+    #[error("race failed")]
+    Failed,
+}
+
+impl From<AllocError> for RaceFault {
+    ghost from_gives = { λ _ fault. fault ≡ Memory };
+
+    fn from(_error: AllocError) -> RaceFault {
+        RaceFault::Memory
+    }
+}
+
+impl<T: Drop> From<AllocFailed<T>> for RaceFault {
+    ghost from_gives = { λ _ fault. fault ≡ Memory };
+
+    fn from(_error: AllocFailed<T>) -> RaceFault {
+        RaceFault::Memory
+    }
+}
+
+impl From<OpenError> for RaceFault {
+    ghost from_gives = { λ error fault. fault ≡ of_open error };
+
+    fn from(error: OpenError) -> RaceFault {
+        match error {
+            OpenError::NoRoom => RaceFault::Memory,
+            OpenError::BadCount => RaceFault::Failed,
+        }
+    }
+}
+
+impl From<CallError> for RaceFault {
+    ghost from_gives = { λ error fault. fault ≡ of_call error };
+
+    fn from(error: CallError) -> RaceFault {
+        match error {
+            CallError::NoRoom => RaceFault::Memory,
+            CallError::NoSeat | CallError::LogFull => RaceFault::Failed,
+        }
+    }
+}
+
+impl From<DriveError> for RaceFault {
+    ghost from_gives = { λ error fault. fault ≡ of_drive error.fault };
+
+    fn from(error: DriveError) -> RaceFault {
+        match error.fault {
+            DriveFault::NoRoom => RaceFault::Memory,
+            DriveFault::TooFewSeats => RaceFault::Failed,
+            DriveFault::Call(_, fault) => fault.into(),
+        }
+    }
+}
+
+impl From<CloseError> for RaceFault {
+    ghost from_gives = { λ _ fault. fault ≡ Failed };
+
+    fn from(_error: CloseError) -> RaceFault {
+        RaceFault::Failed
+    }
+}

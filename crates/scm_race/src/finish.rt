@@ -1,0 +1,89 @@
+//! The end of a race, when all workers are back: the children exit, and the collector is done.
+ghost use Rattle.std.specs.Prelude.{◌≡◌, ◌++◌, ℕ, List, OnOk};
+ghost use Rattle.af_base.specs.declared.events.Event.{Event as Asked};
+ghost use Rattle.af_base.specs.declared.events.Reply.{Reply as Answer};
+ghost use Rattle.af_layer.specs.Drive.{WentOn};
+ghost use Rattle.af_layer.specs.Log.{Pair};
+ghost use Rattle.af_layer.specs.Seats.{grown};
+ghost use Rattle.scm_race.specs.Race.{all_exits_of, child_of, exits_of};
+
+use crate::fault::RaceFault;
+use af_base::events::{Event, Reply, Step};
+use af_base::limits::MAX_BUDGET;
+use af_base::names::Pid;
+use af_layer::{Layer, Seat};
+use std::sync::Wait;
+
+/// After this many slices of the largest budget each pass is done: it works on only while all its
+/// budgets are within three times the files of its begin.
+const MOST_SLICES: u32 = 4;
+
+/// The child that an answered fork made, if this is one.
+fn child_of(pair: &(Event, Reply)) -> Option<Pid>
+    ensures { result ≡ child_of pair.now }
+{
+    match pair {
+        (Event::Proc(_, Step::Fork), Reply::Pid(child)) => Some(*child),
+        _ => None,
+    }
+}
+
+/// Lets the children exit that were forked by these calls.
+fn end_children_of<R: Wait>(
+    rt: &R,
+    layer: &Layer,
+    main: &mut Seat,
+    list: &[(Event, Reply)],
+) -> Result<(), RaceFault>
+    ensures number { main.new.number ≡ main.old.number }
+    ensures exits { OnOk result (WentOn main.old.list (exits_of list.now) main.new.list) }
+{
+    for pair in list {
+        if let Some(child) = child_of(pair) {
+            layer.call(rt, main, Event::Proc(child, Step::Exit))?;
+        }
+    }
+    Ok(())
+}
+
+/// Lets all children exit that were forked from these seats.
+pub fn end_children<R: Wait>(
+    rt: &R,
+    layer: &Layer,
+    main: &mut Seat,
+    seats: &[Seat],
+) -> Result<(), RaceFault>
+    ensures number { main.new.number ≡ main.old.number }
+    ensures exits { OnOk result (WentOn main.old.list (all_exits_of seats.now) main.new.list) }
+{
+    for seat in seats {
+        end_children_of(rt, layer, main, seat.list())?;
+    }
+    Ok(())
+}
+
+/// Goes on with the pass that the collector began, if one runs, until it is done.
+pub fn end_pass<R: Wait>(rt: &R, layer: &Layer, main: &mut Seat) -> Result<(), RaceFault>
+    ensures number { main.new.number ≡ main.old.number }
+    ensures list { (more : List Pair) × (main.new.list ≡ main.old.list ++ more) }
+{
+    'slices: for _ in 0..MOST_SLICES {
+        layer.call(rt, main, Event::Slice(MAX_BUDGET))?;
+        if !matches!(main.list().last(), Some((_, Reply::Working))) {
+            break;
+        }
+    }
+    Ok(())
+}
+
+/// Makes a whole pass, which has to be done.
+pub fn last_pass<R: Wait>(rt: &R, layer: &Layer, main: &mut Seat) -> Result<(), RaceFault>
+    ensures number { main.new.number ≡ main.old.number }
+    ensures done { OnOk result ((pass reclaimed : ℕ) × (main.new ≡ grown main.old Asked.Pass (Answer.Done pass reclaimed))) }
+{
+    layer.call(rt, main, Event::Pass)?;
+    match main.list().last() {
+        Some((_, Reply::Done { .. })) => Ok(()),
+        _ => Err(RaceFault::Failed),
+    }
+}

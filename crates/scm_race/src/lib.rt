@@ -1,0 +1,16 @@
+//! A race: workers on one layer, each with a script of its own, and a collector beside them.
+//!
+//! A caller wants [`Race::run`]. It starts a process for each worker, lets all threads work, lets the
+//! children exit that the workers forked, ends the pass that runs, makes a last one over all that is
+//! left, and closes the layer with its audit.
+#![tactic(auto)]
+
+mod fault;
+mod finish;
+mod outcome;
+mod race;
+mod start;
+
+pub use fault::RaceFault;
+pub use outcome::Outcome;
+pub use race::Race;

@@ -1,0 +1,95 @@
+//! The race itself.
+ghost use Rattle.std.specs.Prelude.{◌≡◌, ◌≤◌, ◌*◌, IfOk, OnOk};
+ghost use Rattle.af_layer.specs.Drive.{Driven, Made};
+ghost use Rattle.scm_race.specs.Race.{EndsInPass, RacedTo, works_of_race};
+ghost use Rattle.scm_work.specs.declared.script.TheConstants.{MIN_STEPS, MAX_STEPS};
+ghost use Rattle.scm_work.specs.declared.table.TheConstants.{MAX_WORKERS};
+
+use crate::fault::RaceFault;
+use crate::finish::{end_children, end_pass, last_pass};
+use crate::outcome::Outcome;
+use crate::start::{scripts, start_processes};
+use af_layer::{Gate, Layer, Seat, Turns, drive};
+use std::alloc::Global;
+use std::sync::Wait;
+use std::thread::Threads;
+
+/// What is raced.
+#[derive(Clone, Copy, Debug, PartialEq, Eq)]
+pub struct Race {
+    /// How many workers there are, 1 to 32.
+    pub workers: u32,
+    /// How many events each worker does, 5 to 20,000, and how many turns the collector makes.
+    pub steps: u32,
+    /// The number that the events are drawn from.
+    pub seed: u32,
+    /// The budget of the collector's slices, 1 to 65,536.
+    pub budget: u32,
+}
+
+/// A gate that is always open.
+#[derive(Drop)]
+struct OpenGate;
+
+impl Gate for OpenGate {
+    fn before(&self, _seat: u32, _nth: u32) {}
+
+    fn after(&self, _seat: u32, _nth: u32) {}
+}
+
+/// Lets all children exit that the workers forked, ends the pass that runs, and makes a last one.
+fn finish<R: Wait>(rt: &R, layer: &Layer, main: &mut Seat, seats: &[Seat]) -> Result<(), RaceFault>
+    ensures number { main.new.number ≡ main.old.number }
+    ensures done { OnOk result (EndsInPass main.old.list main.new.list) }
+{
+    end_children(rt, layer, main, seats)?;
+    end_pass(rt, layer, main)?;
+    last_pass(rt, layer, main)
+}
+
+impl Race {
+    /// Races, and audits the log.
+    ///
+    /// Each worker has a seat, a process and a script of its own, and the collector has the seat
+    /// after them. The last seat is the calling thread's: from it the processes are started, the
+    /// children that the workers forked exit, and the last pass is made when all are back. Then the
+    /// layer is closed, and its log is what was done.
+    ///
+    /// `Memory` says that memory was refused. `Failed` is any other fault: a call that was refused,
+    /// a process with another pid, a last pass that was not done, or what the audit found.
+    pub fn run<R: Threads + Wait + Sync>(self, rt: &R, alloc: Global) -> Result<Outcome, RaceFault>
+        requires workers { (1 ≤ self.workers) × (self.workers ≤ MAX_WORKERS) }
+        requires steps { (MIN_STEPS ≤ self.steps) × (self.steps ≤ MAX_STEPS) }
+        ensures raced { IfOk result (RacedTo self.workers self.steps self.seed self.budget) }
+        ensures steps { IfOk result (λ outcome. outcome.steps ≡ self.workers * self.steps) }
+    {
+        let (layer, mut seats) = Layer::open(alloc, self.workers + 2)?;
+        let mut main = seats.pop().unwrap();
+        start_processes(rt, &layer, &mut main, self.workers)?;
+        let mut seats = self.work(rt, alloc, &layer, seats)?;
+        finish(rt, &layer, &mut main, seats.as_slice())?;
+        seats.push(main)?;
+        let closed = layer.close(seats)?;
+        Ok(Outcome::of(&closed.book, self.workers))
+    }
+
+    /// Lets the workers and the collector work, each in a thread of its own, and waits for them.
+    fn work<R: Threads + Wait + Sync>(
+        self,
+        rt: &R,
+        alloc: Global,
+        layer: &Layer,
+        seats: Vec<Seat>,
+    ) -> Result<Vec<Seat>, RaceFault>
+        requires workers { self.workers ≤ MAX_WORKERS }
+        requires steps { (MIN_STEPS ≤ self.steps) × (self.steps ≤ MAX_STEPS) }
+        ensures { IfOk result (λ after. Driven Made seats.items (works_of_race self.workers self.steps self.seed self.budget) after.items) }
+    {
+        let scripts = scripts(alloc, self.workers, self.steps, self.seed)?;
+        let turns = Turns {
+            turns: self.steps,
+            budget: self.budget,
+        };
+        Ok(drive(rt, layer, seats, scripts, Some(turns), &OpenGate)?)
+    }
+}

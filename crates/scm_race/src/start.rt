@@ -1,0 +1,85 @@
+//! The start of a race: the processes, and the scripts.
+ghost use Rattle.std.specs.Prelude.{◌≡◌, ◌≤◌, ◌++◌, ◌∷◌, [], IfOk, OnOk, map};
+ghost use Rattle.af_base.specs.declared.events.Reply.TheVariants as answer;
+ghost use Rattle.scm_race.specs.Race.{scripts_of, spawn_of, spawned};
+ghost use Rattle.scm_work.specs.declared.script.TheConstants.{MIN_STEPS, MAX_STEPS};
+ghost use Rattle.scm_work.specs.declared.table.TheConstants.{MAX_WORKERS};
+
+use crate::fault::RaceFault;
+use af_base::errno::Errno;
+use af_base::events::{Event, Reply};
+use af_base::names::{Pid, Uid};
+use af_layer::{Layer, Seat};
+use scm_work::make_script;
+use std::alloc::{AllocError, Global};
+use std::sync::Wait;
+
+/// The first of the two users whose processes race.
+const FIRST_USER: u32 = 1_000;
+
+/// How many descriptors a process of a worker may have (RLIMIT_NOFILE).
+const NOFILE: u32 = 32;
+
+/// The start of a worker's process.
+fn spawn_of(worker: u32) -> Event
+    ensures { result ≡ spawn_of worker }
+{
+    Event::Spawn {
+        uid: Uid(FIRST_USER + worker % 2),
+        nofile: NOFILE,
+        privileged: false,
+    }
+}
+
+/// Starts the process of this worker, which gets the worker's number as its pid.
+fn start_process<R: Wait>(
+    rt: &R,
+    layer: &Layer,
+    main: &mut Seat,
+    worker: u32,
+) -> Result<(), RaceFault>
+    ensures number { main.new.number ≡ main.old.number }
+    ensures started { OnOk result (main.new.list ≡ main.old.list ++ (spawn_of worker, answer.Pid worker) ∷ []) }
+{
+    layer.call(rt, main, spawn_of(worker))?;
+    match main.list().last() {
+        Some((_, Reply::Pid(pid))) if *pid == Pid(worker) => Ok(()),
+        Some((_, Reply::Refused(Errno::ENOMEM))) => Err(RaceFault::Memory),
+        _ => Err(RaceFault::Failed),
+    }
+}
+
+/// Starts a process for each worker, from the first worker on.
+pub fn start_processes<R: Wait>(
+    rt: &R,
+    layer: &Layer,
+    main: &mut Seat,
+    workers: u32,
+) -> Result<(), RaceFault>
+    requires { workers ≤ MAX_WORKERS }
+    ensures number { main.new.number ≡ main.old.number }
+    ensures started { OnOk result (main.new.list ≡ main.old.list ++ spawned workers) }
+{
+    for before in 0..workers {
+        start_process(rt, layer, main, before + 1)?;
+    }
+    Ok(())
+}
+
+/// The scripts of all workers, in order.
+pub fn scripts(
+    alloc: Global,
+    workers: u32,
+    steps: u32,
+    seed: u32,
+) -> Result<Vec<Vec<Event>>, AllocError>
+    requires workers { workers ≤ MAX_WORKERS }
+    requires steps { (MIN_STEPS ≤ steps) × (steps ≤ MAX_STEPS) }
+    ensures { IfOk result (λ v. map (λ script. script.items) v.items ≡ scripts_of workers workers steps seed) }
+{
+    let mut scripts = Vec::with_capacity(alloc, workers as usize)?;
+    for before in 0..workers {
+        scripts.push(make_script(alloc, before + 1, workers, steps, seed)?)?;
+    }
+    Ok(scripts)
+}

@@ -1,5 +1,0 @@
-//! What no case of `scm_cases` can show: streams that fail, and scripts that are long or no text.
-mod faults;
-mod lines;
-mod long;
-mod streams;

@@ -1,0 +1,3 @@
+//! Whole races, and what their logs have.
+mod logs;
+mod races;

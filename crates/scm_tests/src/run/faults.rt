@@ -1,0 +1,111 @@
+//! Streams that fail, or do little at a time.
+use super::cuts::{REPLIES, SCRIPT, first_lines};
+use super::streams::{AMPLE, Pace, PacedWriter, run_over, run_to};
+use scm_run::RunFault;
+use std::alloc::AllocGlobal;
+use std::process::Abort;
+use std::test::Fail;
+
+/// The replies to the whole lines among the first bytes of the script.
+fn replies_to(front: &[u8]) -> &'static [u8] {
+    let lines = front.iter().filter(|byte| **byte == b'\n').count();
+    first_lines(REPLIES, lines)
+}
+
+/// So many bytes a call, for so many calls.
+fn pace(at_once: usize, calls: usize) -> Pace {
+    Pace { at_once, calls }
+}
+
+/// A read of the script fails, and this was written.
+fn fails_to_read<T: Abort + AllocGlobal>(rt: &T, reading: Pace, held: &[u8]) {
+    let end = run_over(rt, SCRIPT, held, reading, AMPLE);
+    assert_eq!(rt; end, Err(RunFault::Read));
+}
+
+/// A write of the script's replies fails, by an error or by taking no byte, and this was written.
+fn fails_to_write<T: Abort + AllocGlobal>(rt: &T, writing: Pace, held: &[u8]) {
+    for takes_none in [false, true] {
+        let writer = PacedWriter {
+            held: Vec::new(rt.alloc()),
+            pace: writing,
+            takes_none,
+        };
+        let end = run_to(rt, SCRIPT, held, AMPLE, writer);
+        assert_eq!(rt; end, Err(RunFault::Write));
+    }
+}
+
+/// The script is run to its end over streams of this pace.
+fn ends_well<T: Abort + AllocGlobal>(rt: &T, reading: Pace, writing: Pace) {
+    assert_eq!(rt; run_over(rt, SCRIPT, REPLIES, reading, writing), Ok(6));
+}
+
+/// What ends in the bytes that were read was answered when the next read fails.
+#[test]
+fn reads_that_fail(rt: HostRuntime) {
+    for calls in 0..=SCRIPT.len() {
+        fails_to_read(&rt, pace(1, calls), replies_to(&SCRIPT[..calls]));
+    }
+    fails_to_read(&rt, pace(31, 0), b"");
+    fails_to_read(&rt, pace(31, 1), b"pid 1\nfds 0 1\n");
+    fails_to_read(
+        &rt,
+        pace(31, 2),
+        b"pid 1\nfds 0 1\nsent 2\nok\nuser 1000 inflight 1\n",
+    );
+    fails_to_read(&rt, pace(45, 1), b"pid 1\nfds 0 1\nsent 2\n");
+    fails_to_read(&rt, pace(97, 1), REPLIES);
+}
+
+/// Where ten bytes a call are taken, a line is cut, and those after it were done.
+#[test]
+fn writes_that_fail(rt: HostRuntime) {
+    for calls in 0..REPLIES.len() {
+        fails_to_write(&rt, pace(1, calls), &REPLIES[..calls]);
+    }
+    fails_to_write(&rt, pace(0, 10), b"");
+    fails_to_write(&rt, pace(10, 0), b"");
+    fails_to_write(&rt, pace(10, 1), b"pid 1\nfds ");
+    fails_to_write(&rt, pace(10, 2), b"pid 1\nfds 0 1\nsent 2");
+    fails_to_write(&rt, pace(10, 4), &REPLIES[..40]);
+}
+
+/// What is gathered is written before a bad line is told: where that fails, this is told.
+#[test]
+fn a_write_that_fails_before_a_bad_line_is_told(rt: HostRuntime) {
+    let script: &[u8] = b"spawn 1000 16\n1 open\n1 open\nwalk\n1 open\n";
+    let cut = run_over(&rt, script, b"", AMPLE, pace(100, 0));
+    assert_eq!(rt; cut, Err(RunFault::Write));
+    let told = run_over(&rt, script, b"pid 1\nfd 0\nfd 1\n", AMPLE, pace(100, 1));
+    assert_eq!(rt; told, Err(RunFault::Unreadable(4)));
+}
+
+/// One byte a call is enough; and of what is written at once, a second write would fail.
+#[test]
+fn little_and_much_at_once(rt: HostRuntime) {
+    let reading = pace(1, SCRIPT.len() + 1);
+    ends_well(&rt, reading, pace(1, REPLIES.len()));
+    ends_well(&rt, AMPLE, pace(usize::MAX, 1));
+}
+
+/// 100 messages of 10,000 bytes are received in one read: 1 MB of text, in no more than 17 writes.
+/// Where the first of them fails there is no second.
+#[test]
+fn writes_each_64_kb(rt: HostRuntime) -> Result<(), Fail> {
+    let mut script = b"spawn 1000 16\n1 pair seqpacket\n".to_vec(rt.alloc())?;
+    let mut texts = b"pid 1\nfds 0 1\n".to_vec(rt.alloc())?;
+    let bytes = vec![in rt.alloc(); b'x'; 10_000]?;
+    for _ in 0..100 {
+        script.extend_from_slice(b"1 send 1 *10000\n1 recv 0 10000 0\n")?;
+        texts.extend_from_slice(b"sent 10000\ngot ")?;
+        texts.extend_from_slice(bytes.as_slice())?;
+        texts.push(b'\n')?;
+    }
+    let writing = pace(usize::MAX, 17);
+    let done = run_over(&rt, script.as_slice(), texts.as_slice(), AMPLE, writing);
+    assert_eq!(rt; done, Ok(202));
+    let end = run_over(&rt, script.as_slice(), b"", AMPLE, pace(usize::MAX, 0));
+    assert_eq!(rt; end, Err(RunFault::Write));
+    Ok(())
+}

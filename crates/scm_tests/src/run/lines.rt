@@ -1,0 +1,48 @@
+//! Lines that are too long to be cases, and bytes that are no text.
+use super::streams::{AMPLE, Pace, run_over};
+use scm_lines::MAX_LINE;
+use scm_run::RunFault;
+use std::alloc::AllocGlobal;
+use std::process::Abort;
+use std::test::Fail;
+
+/// A line as long as a line may be, with this behind it, ends a run so.
+fn after_a_long_line<T: Abort + AllocGlobal>(
+    rt: &T,
+    ending: &[u8],
+    end: Result<u64, RunFault>,
+) -> Result<(), Fail> {
+    let mut line = vec![in rt.alloc(); b' '; MAX_LINE]?;
+    line.extend_from_slice(ending)?;
+    assert_eq!(rt; run_over(rt, line.as_slice(), b"", AMPLE, AMPLE), end);
+    Ok(())
+}
+
+#[test]
+fn the_longest_line(rt: HostRuntime) -> Result<(), Fail> {
+    after_a_long_line(&rt, b"", Ok(0))?;
+    after_a_long_line(&rt, b"\n", Ok(0))?;
+    after_a_long_line(&rt, b"\r\n", Ok(0))?;
+    after_a_long_line(&rt, b" ", Err(RunFault::Unreadable(1)))?;
+    after_a_long_line(&rt, b" \r\n", Err(RunFault::Unreadable(1)))?;
+    after_a_long_line(&rt, b"\r \n", Err(RunFault::Unreadable(1)))
+}
+
+/// A line that is too long is refused before it is read whole.
+#[test]
+fn refuses_a_long_line_at_once(rt: HostRuntime) -> Result<(), Fail> {
+    let line = vec![in rt.alloc(); b'x'; MAX_LINE + 1]?;
+    for (at_once, calls) in [(1, MAX_LINE + 1), (4_096, MAX_LINE / 4_096 + 1)] {
+        let reading = Pace { at_once, calls };
+        let end = run_over(&rt, line.as_slice(), b"", reading, AMPLE);
+        assert_eq!(rt; end, Err(RunFault::Unreadable(1)));
+    }
+    Ok(())
+}
+
+/// A comment may have bytes that are no text.
+#[test]
+fn bytes_of_a_comment(rt: HostRuntime) {
+    let end = run_over(&rt, b"#\xff\n1 close 0\n#\xff", b"ESRCH\n", AMPLE, AMPLE);
+    assert_eq!(rt; end, Ok(1));
+}

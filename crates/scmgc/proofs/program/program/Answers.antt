@@ -1,0 +1,19 @@
+use Rattle.std.proofs.Common.{map, subst}
+use Rattle.scmgc.specs.Task.{Names}
+use Rattle.scmgc.proofs.Asked.{run_not_race}
+use Rattle.scmgc.proofs.program.program.Goals as goal
+
+pub returns-in-Ok-clause-race : goal.returns-in-Ok-clause-race
+returns-in-Ok-clause-race g c = λ fit workers steps seed budget race.
+    let words = map g.S.AsStr.text c.args.words.now in
+    absurd (run_not_race words workers steps seed budget (subst (Names words) c.in-Ok-Run.field-0-is c.in-Ok-Run.ensures.ok) race)
+
+pub returns-in-Err-run_script-clause-race : goal.returns-in-Err-run_script-clause-race
+returns-in-Err-run_script-clause-race g c = λ fit workers steps seed budget race.
+    let words = map g.S.AsStr.text c.args.words.now in
+    absurd (run_not_race words workers steps seed budget (subst (Names words) c.in-Ok-Run.field-0-is c.in-Ok-Run.ensures.ok) race)
+
+pub returns-in-Ok-Race-clause-run : goal.returns-in-Ok-Race-clause-run
+returns-in-Ok-Race-clause-run g c = λ fit run.
+    let words = map g.S.AsStr.text c.args.words.now in
+    absurd (run_not_race words c.in-Ok-Race.workers c.in-Ok-Race.steps c.in-Ok-Race.seed c.in-Ok-Race.budget run (subst (Names words) c.in-Ok-Race.field-0-is c.in-Ok-Race.ensures.ok))
