@@ -3,7 +3,7 @@
 # make run      play the example script by the proved program
 # make check    before a commit: prove what has changed and all above it, and play the cases
 # make test     the gate: every proof from nothing, the tests, the cases, the wrong bodies
-# make bench    nanoseconds for each event, over named workloads
+# make bench    nanoseconds for each event, over named workloads, and calls a second from threads
 # make install  put the program below PREFIX
 # make clean    remove all that was built, and the work that checks keep
 
@@ -32,7 +32,8 @@ test:
 
 bench:
 	cd crates/af_bench && rt run
-	crates/af_bench/out/af_bench all
+	cd crates/af_bench_layer && rt run
+	tools/bench
 
 install: build
 	install -D $(PROGRAM) $(DESTDIR)$(PREFIX)/bin/scmgc

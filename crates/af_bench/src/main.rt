@@ -1,152 +1,138 @@
-//! Measures what an event of the engine costs, over named workloads.
+//! Measures what events of the engine cost.
 //!
-//! `af_bench all` prints a line for each workload: the least and the median of many short runs, in
-//! nanoseconds for each event. With no argument nothing is measured, and nothing is printed. Anything
-//! else is answered with a line of usage and the status 2.
+//! `af_bench SETUP EVENTS RUNS` reads a script from standard input, each line of which is an event. The
+//! first SETUP lines are only done. The rest is done over and over, in RUNS runs of EVENTS events each: a
+//! run goes on where the one before it stopped, and the first line comes again behind the last. A line on
+//! standard output for each run says how many nanoseconds it took.
+//!
+//! With no argument nothing is read, and nothing is printed.
 #![tactic(auto)]
 
-mod passes;
-mod workload;
-
-use crate::passes::{Slices, time_of_pass, times_of_begins};
-use crate::workload::{Round, Workload};
-use std::env;
-use std::io::Write;
-use std::process::ExitCode;
+use af_base::events::{Event, Reply};
+use af_steps::Engine;
+use scm_lines::{Line, line_of};
+use std::alloc::Global;
+use std::iter::Cycle;
+use std::slice::Iter;
+use std::str::Lines;
 use std::time::Instant;
+use std::{env, io};
 
-/// What is measured: so many short runs, each of so many rounds.
-const PLAN: [(Workload, u32, u32); 16] = [
-    (Workload::OpenClose { live: 0 }, 301, 2_000),
-    (Workload::OpenClose { live: 1_000 }, 301, 2_000),
-    (Workload::OpenClose { live: 10_000 }, 301, 2_000),
-    (Workload::OpenClose { live: 60_000 }, 301, 2_000),
-    (Workload::OpenAny { live: 60_000 }, 301, 2_000),
-    (Workload::Dup2, 301, 4_000),
-    (Workload::ForkExit, 301, 100),
-    (Workload::PingPong, 301, 1_000),
-    (Workload::DeepQueue, 301, 10),
-    (Workload::Stream { piece: 4_096 }, 301, 10),
-    (Workload::Stream { piece: 16 }, 301, 1),
-    (Workload::Connect { names: 1 }, 301, 1_000),
-    (Workload::Connect { names: 10_000 }, 301, 1_000),
-    (Workload::Slices, 301, 1_000),
-    (Workload::Cycle, 301, 10),
-    (Workload::Chain { sockets: 60_000 }, 5, 1),
-];
+/// What is measured of a script.
+#[derive(Clone, Copy)]
+struct Plan {
+    /// So many lines come first, and are not measured.
+    setup: usize,
+    /// So many events are done in each run.
+    events: usize,
+    runs: usize,
+}
 
-fn main(rt: HostRuntime) -> ExitCode {
-    let Ok(mut words) = env::args(&rt) else {
-        return usage(&rt);
+impl Plan {
+    /// The plan that these words name.
+    fn of(setup: &str, events: &str, runs: &str) -> Option<Plan> {
+        Some(Plan {
+            setup: setup.parse().ok()?,
+            events: events.parse().ok()?,
+            runs: runs.parse().ok()?,
+        })
+    }
+}
+
+fn main(rt: HostRuntime) -> io::Result<()> {
+    let words = env::args(&rt)?.collect::<Vec<String>>(rt.alloc())?;
+    let [_, setup, events, runs] = words.as_slice() else {
+        return if words.len() < 2 { Ok(()) } else { usage() };
     };
-    words.next();
-    let Some(word) = words.next() else {
-        return ExitCode::from(0);
-    };
-    if word.as_str() != "all" || words.next().is_some() {
-        return usage(&rt);
+    match Plan::of(setup, events, runs) {
+        Some(plan) => measure_input(&rt, &plan),
+        None => usage(),
     }
-    for (workload, runs, rounds) in &PLAN {
-        if measure(&rt, workload, *runs, *rounds).is_none() {
-            let _ = eprintln!(rt; "af_bench: {workload} could not be measured");
-            return ExitCode::from(1);
-        }
+}
+
+/// The fault of a command line that names no plan.
+fn usage() -> io::Result<()> {
+    Err(io::Error::other("usage: af_bench [SETUP EVENTS RUNS]"))
+}
+
+/// Measures the script from standard input.
+fn measure_input(rt: &HostRuntime, plan: &Plan) -> io::Result<()> {
+    let script = io::read_to_string(rt.alloc(), rt.stdin())?;
+    measure_script(rt, script.as_str(), plan)
+}
+
+fn measure_script(rt: &HostRuntime, script: &str, plan: &Plan) -> io::Result<()> {
+    let mut engine = Engine::new(rt.alloc())?;
+    let mut lines = script.lines();
+    measure_lines(rt, &mut engine, &mut lines, plan)
+}
+
+/// Does the first lines, and measures the rest.
+fn measure_lines(
+    rt: &HostRuntime,
+    engine: &mut Engine,
+    lines: &mut Lines<'_>,
+    plan: &Plan,
+) -> io::Result<()> {
+    for line in lines.take(plan.setup) {
+        do_line(rt.alloc(), engine, line)?;
     }
-    if measure_passes(&rt).is_none() {
-        let _ = eprintln!(rt; "af_bench: a pass could not be measured");
-        return ExitCode::from(1);
+    let events = events_of(rt.alloc(), lines)?;
+    measure(rt, engine, events.as_slice(), plan)
+}
+
+/// Does the event of a line.
+fn do_line(alloc: Global, engine: &mut Engine, line: &str) -> io::Result<()> {
+    let event = event_of(alloc, line)?;
+    do_event(engine, &event)
+}
+
+fn event_of(alloc: Global, line: &str) -> io::Result<Event> {
+    match line_of(alloc, line.as_bytes())? {
+        Some(Line::Event(event)) => Ok(event),
+        _ => Err(io::Error::other("a line is no event")),
     }
-    ExitCode::from(0)
 }
 
-/// What a begin costs with few files and with many, and what slices cost. Nothing, where memory, the
-/// clock or standard output fails, or an event is refused.
-fn measure_passes(rt: &HostRuntime) -> Option<()> {
-    for files in [1_000, 60_000] {
-        let times = times_of_begins(rt, files, 301)?;
-        say_begins(rt, files, times.as_slice())?;
+/// The events of all lines that are left.
+fn events_of(alloc: Global, lines: &mut Lines<'_>) -> io::Result<Vec<Event>> {
+    let mut events = Vec::new(alloc);
+    for line in lines {
+        events.push(event_of(alloc, line)?)?;
     }
-    say_slices(rt, &time_of_pass(rt, 15_000, 64)?)
+    Ok(events)
 }
 
-/// Prints a line on the begins that took these times, the least first. Nothing, where there are none
-/// or standard output fails.
-fn say_begins(rt: &HostRuntime, files: u32, times: &[u128]) -> Option<()> {
-    let (least, median) = (*times.first()?, *times.get(times.len() / 2)?);
-    writeln!(
-        rt.stdout(),
-        "begin {files}: least {least} ns, median {median} ns"
-    )
-    .ok()
+fn do_event(engine: &mut Engine, event: &Event) -> io::Result<()> {
+    match engine.step(event) {
+        Reply::Refused(_) => Err(io::Error::other("an event was refused")),
+        _ => Ok(()),
+    }
 }
 
-/// Prints a line on the slices of a pass. Nothing, where standard output fails.
-fn say_slices(rt: &HostRuntime, slices: &Slices) -> Option<()> {
-    let unit = tenths(slices.all, u128::from(slices.count) * 64);
-    let longest = slices.longest;
-    writeln!(
-        rt.stdout(),
-        "biggc: {}.{} ns a unit, longest slice {longest} ns",
-        unit / 10,
-        unit % 10
-    )
-    .ok()
-}
-
-/// Says how the program is called.
-fn usage(rt: &HostRuntime) -> ExitCode {
-    let _ = eprintln!(rt; "usage: af_bench [all]");
-    ExitCode::from(2)
-}
-
-/// Does so many runs of a workload, and prints the least and the median of what an event took.
-/// Nothing, where memory, the clock or standard output fails, or an event is refused.
-fn measure(rt: &HostRuntime, workload: &Workload, runs: u32, rounds: u32) -> Option<()> {
-    let mut times = times_of(rt, workload, runs, rounds)?;
-    times.sort_unstable();
-    let events = u128::from(rounds) * u128::from(workload.events());
-    let least = tenths(*times.first()?, events);
-    let median = tenths(*times.get(times.len() / 2)?, events);
-    say(rt, workload, least, median)
-}
-
-/// What each of so many runs of a workload took, in nanoseconds. Nothing, where memory or the clock
-/// fails, or an event is refused.
-fn times_of(rt: &HostRuntime, workload: &Workload, runs: u32, rounds: u32) -> Option<Vec<u128>> {
+/// Measures all runs, and then prints what each took, so that no printing comes between them.
+fn measure(rt: &HostRuntime, engine: &mut Engine, events: &[Event], plan: &Plan) -> io::Result<()> {
     let mut times = Vec::new(rt.alloc());
-    let mut round = workload.prepare(rt.alloc())?;
-    for run in 0..runs {
-        if run > 0 && workload.is_done_once() {
-            round = workload.prepare(rt.alloc())?;
-        }
-        times.push(time_of(rt, &mut round, rounds)?).ok()?;
+    let mut round = events.iter().cycle();
+    for _ in 0..plan.runs {
+        times.push(time_of_run(rt, engine, &mut round, plan.events)?)?;
     }
-    Some(times)
-}
-
-/// What so many rounds took, in nanoseconds. Nothing, where the clock fails, or an event is refused.
-fn time_of(rt: &HostRuntime, round: &mut Round, rounds: u32) -> Option<u128> {
-    let start = Instant::now(rt).ok()?;
-    for _ in 0..rounds {
-        round.go()?;
+    for time in &times {
+        println!(rt; "{time}")?;
     }
-    Some(start.elapsed(rt).ok()?.as_nanos())
+    Ok(())
 }
 
-/// Prints a line, with these tenths of a nanosecond. Nothing, where standard output fails.
-fn say(rt: &HostRuntime, workload: &Workload, least: u128, median: u128) -> Option<()> {
-    writeln!(
-        rt.stdout(),
-        "{workload}: least {}.{} ns, median {}.{} ns",
-        least / 10,
-        least % 10,
-        median / 10,
-        median % 10
-    )
-    .ok()
-}
-
-/// The nanoseconds for each of so many events, in tenths.
-fn tenths(nanos: u128, events: u128) -> u128 {
-    nanos.saturating_mul(10) / events.max(1)
+/// How long so many events take, in nanoseconds.
+fn time_of_run(
+    rt: &HostRuntime,
+    engine: &mut Engine,
+    round: &mut Cycle<Iter<'_, Event>>,
+    events: usize,
+) -> io::Result<u128> {
+    let start = Instant::now(rt)?;
+    for event in round.take(events) {
+        do_event(engine, event)?;
+    }
+    Ok(start.elapsed(rt)?.as_nanos())
 }
