@@ -3,6 +3,7 @@
 # make run      play the example script by the proved program
 # make check    before a commit: prove what has changed and all above it, and play the cases
 # make test     the gate: every proof from nothing, the tests, the cases, the wrong bodies
+# make stress   each request for memory refused in turn, and the largest worlds, by the proved program and tests
 # make bench    nanoseconds for each event, over named workloads, and calls a second from threads
 # make install  put the program below PREFIX
 # make clean    remove all that was built, and the work that checks keep
@@ -30,6 +31,12 @@ check:
 test:
 	tools/gate-times out/times.md tools/gate
 
+# The tests stay in the folders out/ of their crates.
+stress: build
+	cd crates/af_tests && rt test
+	cd crates/scm_tests && rt test
+	tools/stress
+
 bench:
 	cd crates/af_bench && rt run
 	cd crates/af_bench_layer && rt run
@@ -41,4 +48,4 @@ install: build
 clean:
 	rm -rf out crates/*/out
 
-.PHONY: all try build run check test bench install clean
+.PHONY: all try build run check test stress bench install clean

@@ -1,0 +1,55 @@
+/* Stands before malloc and realloc of the C library: it counts the requests for memory, and refuses one of them.
+
+   REFUSE_FD is the number of an open file with two words of 64 bits: how many requests were made so far, which is
+   counted here, and which of them is refused, from 1 on; 0 refuses none. tools/stress compiles and loads this file. */
+#define _GNU_SOURCE
+#include <dlfcn.h>
+#include <errno.h>
+#include <stdatomic.h>
+#include <stdlib.h>
+#include <sys/mman.h>
+
+struct words {
+    atomic_long asked;
+    long refused;
+};
+
+static struct words *words;
+static void *(*next_malloc)(size_t);
+static void *(*next_realloc)(void *, size_t);
+
+static void find_next(void) {
+    next_malloc = (void *(*)(size_t))dlsym(RTLD_NEXT, "malloc");
+    next_realloc = (void *(*)(void *, size_t))dlsym(RTLD_NEXT, "realloc");
+}
+
+/* What is asked before main begins is not counted. */
+__attribute__((constructor)) static void begin(void) {
+    const char *number = getenv("REFUSE_FD");
+    if (!number)
+        abort();
+    void *shared = mmap(NULL, sizeof *words, PROT_READ | PROT_WRITE, MAP_SHARED, atoi(number), 0);
+    if (shared == MAP_FAILED)
+        abort();
+    find_next();
+    words = shared;
+}
+
+static int is_refused(void) {
+    if (!words || atomic_fetch_add(&words->asked, 1) + 1 != words->refused)
+        return 0;
+    errno = ENOMEM;
+    return 1;
+}
+
+void *malloc(size_t size) {
+    if (!next_malloc)
+        find_next();
+    return is_refused() ? NULL : next_malloc(size);
+}
+
+void *realloc(void *old, size_t size) {
+    if (!next_realloc)
+        find_next();
+    return is_refused() ? NULL : next_realloc(old, size);
+}
