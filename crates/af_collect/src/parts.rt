@@ -29,6 +29,7 @@ pub struct Parts {
 
 impl Parts {
     /// Whether marking goes on.
+    #[inline(always)]
     pub fn is_marking(&self) -> bool
         ensures { result ≡ is_marking self.now.progress.stage }
     {
@@ -44,6 +45,7 @@ impl Parts {
 
     /// Takes away what nothing holds, one file after another, and its mark with it. Where marking goes
     /// on, what a file loses is marked first; where sweeping does, the garbage that goes is counted.
+    #[inline(never)]
     pub fn release(&mut self)
         requires kept { AreKept self.old }
         ensures kept { AreKept self.new }
@@ -64,6 +66,7 @@ impl Parts {
     }
 
     /// Marks what a number is about to lose, where marking goes on.
+    #[inline(always)]
     pub fn shade_number(&mut self, pid: Pid, fd: Fd)
         requires kept { AreKept self.old }
         ensures kept { AreKept self.new }
@@ -115,6 +118,7 @@ impl Parts {
     }
 
     /// Marks what was taken out of a queue, where marking goes on.
+    #[inline(always)]
     pub fn shade_taken(&mut self, files: &[FileRef])
         ensures { self.new ≡ record self.old { marks = shaded_in self.old.progress.stage files.now self.old.marks } }
     {

@@ -68,6 +68,7 @@ impl Store {
 
     /// Takes away what no place holds, one file after another: each place that it held is dropped, its
     /// peer hangs up, and what thereby lost its last place waits in turn.
+    #[inline(always)]
     pub fn release(&mut self)
         ensures settles { Settles self.old.world self.new.world }
         ensures sound { IsSound self.new.world }

@@ -25,6 +25,7 @@ use std::alloc::AllocError;
 
 impl Store {
     /// A live file into a table, at a free number for which there is room. It takes no memory.
+    #[inline(always)]
     pub fn table_in(&mut self, pid: Pid, fd: Fd, file: FileRef)
         requires there { IsTrue (finmap.contains_key self.old.world.processes pid) }
         requires row { fd < room_at self.old pid }
@@ -38,6 +39,7 @@ impl Store {
     }
 
     /// An open number of a process is free from now on. It takes no memory.
+    #[inline(always)]
     pub fn table_out(&mut self, pid: Pid, fd: Fd)
         requires { is_none (table_at self.old.world pid fd) ≡ false }
         ensures { self.new ≡ record self.old { world = uninstall self.old.world pid fd } }

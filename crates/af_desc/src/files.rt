@@ -68,6 +68,7 @@ impl Files {
     }
 
     /// How many files there are.
+    #[inline(always)]
     pub fn live(&self) -> usize
         ensures { result ≡ map.len self.now.files }
     {
@@ -82,6 +83,7 @@ impl Files {
     }
 
     /// Whether so many files more are too many, or have no numbers left (ENFILE, open(2)).
+    #[inline(always)]
     pub fn is_full(&self, more: usize) -> bool
         ensures { result ≡ is_full self.now more }
     {
@@ -101,6 +103,7 @@ impl Files {
     }
 
     /// The file; nothing of a stranger.
+    #[inline(always)]
     #[tactic(auto, using(af_order::proofs::Keyed::finds))]
     pub fn get(&self, file: &FileRef) -> Option<&Desc>
         ensures { option_copied result ≡ map.get self.now.files file.now }
@@ -131,6 +134,7 @@ impl Files {
     }
 
     /// A file more, under the next number. Room comes first, so that on an error nothing has changed.
+    #[inline(always)]
     #[tactic(auto, using(af_order::proofs::Keyed::comes_and_goes, crate::proofs::Begun::begun))]
     fn make(&mut self, desc: Desc) -> Result<FileRef, AllocError>
         requires number { self.old.next < MAX_INO + 1 }
@@ -195,6 +199,7 @@ impl Files {
 
     /// The file goes, and is handed on; nothing of a stranger. Its number is never given again, and
     /// its name is free. It takes no memory.
+    #[inline(always)]
     #[tactic(auto, using(af_order::proofs::Keyed::comes_and_goes, crate::proofs::Begun::begun))]
     pub fn remove(&mut self, file: &FileRef) -> Option<Desc>
         ensures value { result ≡ map.get self.old.files file.now }
@@ -210,6 +215,7 @@ impl Files {
 
     /// The peer of that socket is gone from now on. A plain file or a stranger stays as it is. It
     /// takes no memory.
+    #[inline(always)]
     #[tactic(auto, using(af_order::proofs::Keyed::writes, crate::proofs::Begun::begun))]
     pub fn hang_up(&mut self, file: &FileRef)
         ensures files { self.new.files ≡ change_socket_at hung_up self.old.files file.now }

@@ -46,6 +46,7 @@ fn table_in_all(procs: &mut Procs, ledger: &mut Ledger, pid: Pid, fds: &[Fd], fi
 
 impl Holdings {
     /// A live file into a table, at a free number for which there is room. It takes no memory.
+    #[inline(always)]
     pub fn table_in(&mut self, pid: Pid, fd: Fd, file: FileRef)
         requires there { IsTrue (finmap.contains_key self.old.world.processes pid) }
         requires row { fd < row_at self.old pid }
@@ -59,6 +60,7 @@ impl Holdings {
     }
 
     /// An open number of a process is free from now on. It takes no memory.
+    #[inline(always)]
     pub fn table_out(&mut self, pid: Pid, fd: Fd)
         requires { is_none (table_at self.old.world pid fd) ≡ false }
         ensures { self.new ≡ record self.old { world = uninstall self.old.world pid fd } }
@@ -152,6 +154,7 @@ impl Holdings {
 
     /// The first message of a queue goes, and its places with it. Whether there was one. It takes no
     /// memory.
+    #[inline(always)]
     fn drop_first(&mut self, file: &FileRef) -> bool
         ensures world { self.new ≡ record self.old { world = with_queue self.old.world file.now (drop 1 (queue_at self.old.world file.now)) } }
         ensures some { IsTrue result → 0 < length (queue_at self.old.world file.now) }
@@ -166,6 +169,7 @@ impl Holdings {
 
     /// The first embryo of a listener waits no more, and its place in the backlog goes. Whether one
     /// waited. It takes no memory.
+    #[inline(always)]
     fn drop_embryo(&mut self, file: &FileRef) -> bool
         ensures world { self.new ≡ record self.old { world = with_socket self.old.world file.now dequeued } }
         ensures some { IsTrue result → 0 < length (backlog_at self.old.world file.now) }
@@ -180,6 +184,7 @@ impl Holdings {
 
     /// The first message of a file goes, or, where it has none, its first embryo, and the places with
     /// it. Whether the file had one of the two. It takes no memory.
+    #[inline(always)]
     pub fn drop_place(&mut self, file: &FileRef) -> bool
         ensures world { self.new ≡ record self.old { world = without_place self.old.world file.now } }
         ensures some { IsTrue result → 0 < places_at self.old.world file.now }

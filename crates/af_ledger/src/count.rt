@@ -18,6 +18,7 @@ pub struct Count {
 
 impl Count {
     /// No place.
+    #[inline(always)]
     pub(crate) fn none() -> Count
         ensures { result ≡ uncounted }
     {
@@ -29,6 +30,7 @@ impl Count {
     }
 
     /// All places.
+    #[inline(always)]
     pub(crate) fn places(self) -> u64
         ensures { result ≡ places_in self }
     {
@@ -36,6 +38,7 @@ impl Count {
     }
 
     /// One place more.
+    #[inline(always)]
     pub(crate) fn add(&mut self, place: &Place)
         requires { IsCountable place.now self.old }
         ensures { self.new ≡ more place.now self.old }
@@ -48,6 +51,7 @@ impl Count {
     }
 
     /// One place less.
+    #[inline(always)]
     pub(crate) fn sub(&mut self, place: &Place)
         requires { IsCounted place.now self.old }
         ensures { self.new ≡ fewer place.now self.old }

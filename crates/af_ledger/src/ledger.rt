@@ -85,6 +85,7 @@ impl Ledger {
     }
 
     /// How many numbers of all tables stand for a file.
+    #[inline(always)]
     #[tactic(auto, using(af_order::proofs::Keyed::finds))]
     pub fn tabled(&self, file: &FileRef) -> u64
         ensures { result ≡ (count_of self.now file.now).tabled }
@@ -157,6 +158,7 @@ impl Ledger {
 
     /// Room for so many further files: then `enter` needs no memory for them. Nothing else changes,
     /// also on an error.
+    #[inline(always)]
     #[tactic(auto, using(af_order::proofs::Keyed::comes_and_goes))]
     pub fn reserve(&mut self, files: usize) -> Result<(), AllocError>
         ensures same { self.new ≡ record self.old { room = self.new.room } }
@@ -189,6 +191,7 @@ impl Ledger {
 
     /// A file more, above all others that there were, of which no place is counted yet: it waits.
     /// There is room for it.
+    #[inline(always)]
     pub fn enter(&mut self, ino: Ino)
         requires room { 0 < self.old.room }
         requires above { self.old.last < ino }
@@ -201,6 +204,7 @@ impl Ledger {
     }
 
     /// A file that waits, if there is one.
+    #[inline(always)]
     pub fn next_waiting(&self) -> Option<FileRef>
         ensures some { IfSome result (λ f. is_waiting self.now.counts f ≡ true) }
         ensures none { IfNone result ((f : ℕ) → is_waiting self.now.counts f ≡ false) }
@@ -210,6 +214,7 @@ impl Ledger {
     }
 
     /// The numbers of a file are kept no more, and it does not wait. It takes no memory.
+    #[inline(always)]
     pub fn strike_out(&mut self, file: &FileRef)
         ensures struck_out { self.new ≡ record self.old { counts = map.remove self.old.counts file.now; room = self.new.room } }
         ensures room { self.old.room ≤ self.new.room }
@@ -219,6 +224,7 @@ impl Ledger {
     }
 
     /// One place more in the counts of a file. If it waited, it does so no more.
+    #[inline(always)]
     fn raise(&mut self, place: &Place, file: &FileRef)
         requires known { IsTrue (has_count self.old file.now) }
         requires countable { IsCountable place.now (count_of self.old file.now) }
@@ -231,6 +237,7 @@ impl Ledger {
     }
 
     /// One place less in the counts of a file. If that was the last, it waits.
+    #[inline(always)]
     fn lower(&mut self, place: &Place, file: &FileRef)
         requires { IsCounted place.now (count_of self.old file.now) }
         ensures { self.new ≡ record self.old { counts = map.insert self.old.counts file.now (fewer place.now (count_of self.old file.now)) } }
@@ -242,6 +249,7 @@ impl Ledger {
     }
 
     /// So many units of charge more.
+    #[inline(always)]
     #[tactic(auto, using(crate::proofs::Users::user_changes))]
     fn charge(&mut self, uid: Uid, units: u64)
         requires charge { charge_of self.old uid + units ≤ 2 ^ 63 }
@@ -256,6 +264,7 @@ impl Ledger {
     }
 
     /// So many units of charge less.
+    #[inline(always)]
     #[tactic(auto, using(crate::proofs::Users::user_changes))]
     fn free(&mut self, uid: Uid, units: u64)
         requires charge { units ≤ charge_of self.old uid }
@@ -271,6 +280,7 @@ impl Ledger {
 
     /// One place more holds a file, whose numbers are kept; a place in a queue is charged to its
     /// user, who was added before. It takes no memory.
+    #[inline(always)]
     pub fn hold(&mut self, place: Place, file: &FileRef)
         requires known { IsTrue (has_count self.old file.now) }
         requires fits { CanHold place file.now self.old }
@@ -284,6 +294,7 @@ impl Ledger {
 
     /// One place less holds a file; one in a queue is no longer charged to its user. There is such a
     /// place: it was counted and charged. After the last, the file waits. It takes no memory.
+    #[inline(always)]
     pub fn drop_one(&mut self, place: Place, file: &FileRef)
         requires { CanDrop place file.now self.old }
         ensures { self.new ≡ dropped place file.now self.old }
@@ -325,6 +336,7 @@ impl Ledger {
 }
 
 /// The numbers under a key; all are 0 where there is none.
+#[inline(always)]
 fn count_at(counts: &Slab<Entry<Count>>, key: Option<usize>) -> Count
     ensures { result ≡ unwrap_or (option_map_or (value_at counts.now) key None) uncounted }
 {
@@ -337,6 +349,7 @@ fn count_at(counts: &Slab<Entry<Count>>, key: Option<usize>) -> Count
 }
 
 /// One place more of a file, whose numbers are kept. Whether it had none.
+#[inline(always)]
 #[tactic(auto, using(af_order::proofs::Keyed::writes))]
 fn add_place(order: &Order, counts: &mut Slab<Entry<Count>>, place: &Place, file: &FileRef) -> bool
     requires place { AreInPlace order.now.keys counts.old }
@@ -356,6 +369,7 @@ fn add_place(order: &Order, counts: &mut Slab<Entry<Count>>, place: &Place, file
 }
 
 /// One place less of a file, which has one. Whether it was the last.
+#[inline(always)]
 #[tactic(auto, using(af_order::proofs::Keyed::writes))]
 fn sub_place(order: &Order, counts: &mut Slab<Entry<Count>>, place: &Place, file: &FileRef) -> bool
     requires place { AreInPlace order.now.keys counts.old }
@@ -374,6 +388,7 @@ fn sub_place(order: &Order, counts: &mut Slab<Entry<Count>>, place: &Place, file
 }
 
 /// Where a file stands in the list, found from its end; nothing where it does not.
+#[inline(always)]
 fn place_of(waiting: &[FileRef], ino: Ino) -> Option<usize>
     ensures some { IfSome result (λ i. slice_get waiting.now i ≡ Some ino) }
     ensures none { IfNone result ((k : ℕ) → k < length waiting.now → nat_eq (slice_index_or waiting.now k 0) ino ≡ false) }
@@ -382,6 +397,7 @@ fn place_of(waiting: &[FileRef], ino: Ino) -> Option<usize>
 }
 
 /// The file is in the list no more.
+#[inline(always)]
 fn take_off(waiting: &mut Vec<FileRef>, ino: Ino)
     requires { IsDistinct nat_eq waiting.old.items }
     ensures each { (f : ℕ) → list_any (nat_eq f) waiting.new.items ≡ (not (nat_eq f ino) && list_any (nat_eq f) waiting.old.items) }

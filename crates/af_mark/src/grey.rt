@@ -27,6 +27,7 @@ pub struct Mark {
 
 impl Mark {
     /// The colour in this pass.
+    #[inline(always)]
     pub fn color_in(&self, epoch: u64) -> Color
         ensures { result ≡ color_in epoch self.now }
     {
@@ -38,6 +39,7 @@ impl Mark {
     }
 
     /// Whether it is grey in this pass.
+    #[inline(always)]
     pub fn is_grey_in(&self, epoch: u64) -> bool
         ensures { result ≡ is_grey_color (color_in epoch self.now) }
     {
@@ -46,6 +48,7 @@ impl Mark {
 }
 
 /// The mark of a file, if it is known.
+#[inline(always)]
 #[tactic(auto, using(af_order::proofs::Keyed::finds))]
 pub fn mark_of(order: &Order, marks: &Slab<Entry<Mark>>, file: &FileRef) -> Option<Mark>
     requires { AreInPlace order.now.keys marks.now }

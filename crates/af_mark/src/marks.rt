@@ -61,6 +61,7 @@ impl Marks {
 
     /// Room for so many further files: then `born` needs no memory for them, and no other call ever
     /// does. Nothing else changes, also on an error.
+    #[inline(always)]
     #[tactic(auto, using(af_order::proofs::Keyed::comes_and_goes))]
     pub fn reserve(&mut self, files: usize) -> Result<(), AllocError>
         ensures same { self.new ≡ record self.old { room = self.new.room } }
@@ -77,6 +78,7 @@ impl Marks {
     }
 
     /// A file more, above all others that there were; it is not marked. There is room for it.
+    #[inline(always)]
     pub fn born(&mut self, ino: Ino)
         requires room { 0 < self.old.room }
         requires above { self.old.last < ino }
@@ -198,6 +200,7 @@ impl Marks {
     }
 
     /// A file is known no more, and neither marked nor to be scanned. It takes no memory.
+    #[inline(always)]
     pub fn forget(&mut self, file: &FileRef)
         ensures forgotten { self.new ≡ record self.old { colors = map.remove self.old.colors file.now; room = self.new.room } }
         ensures room { self.old.room ≤ self.new.room }

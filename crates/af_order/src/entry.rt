@@ -27,6 +27,7 @@ pub struct Entry<T> {
 
 /// The key of a file. The file's own key is tried first; where another number stands there, or none,
 /// the order is asked.
+#[inline(always)]
 #[tactic(auto, using(crate::proofs::Keyed::finds))]
 pub fn key_of<T>(order: &Order, slab: &Slab<Entry<T>>, file: &FileRef) -> Option<usize>
     requires { AreInPlace order.now.keys slab.now }
@@ -44,6 +45,7 @@ pub fn key_of<T>(order: &Order, slab: &Slab<Entry<T>>, file: &FileRef) -> Option
 
 /// Room for so many values more: then `put` needs no memory for them. No value changes, also on an
 /// error.
+#[inline(always)]
 pub fn reserve<T>(
     order: &mut Order,
     slab: &mut Slab<Entry<T>>,
@@ -62,6 +64,7 @@ pub fn reserve<T>(
 }
 
 /// A value more, under a number above all others that there were. There is room for it.
+#[inline(always)]
 #[tactic(auto, using(crate::proofs::Keyed::comes_and_goes))]
 pub fn put<T>(order: &mut Order, slab: &mut Slab<Entry<T>>, ino: Ino, value: T) -> FileRef
     requires place { AreInPlace order.old.keys slab.old }
@@ -85,6 +88,7 @@ pub fn put<T>(order: &mut Order, slab: &mut Slab<Entry<T>>, ino: Ino, value: T) 
 }
 
 /// A little of packing: no number goes, and none comes.
+#[inline(always)]
 fn pack<T>(order: &mut Order, slab: &mut Slab<Entry<T>>)
     requires place { AreInPlace order.old.keys slab.old }
     ensures keys { order.new.keys ≡ order.old.keys }
@@ -104,6 +108,7 @@ fn pack<T>(order: &mut Order, slab: &mut Slab<Entry<T>>)
 }
 
 /// A number's new place is noted beside its value.
+#[inline(always)]
 #[tactic(auto, using(crate::proofs::Keyed::notes))]
 fn note<T>(slab: &mut Slab<Entry<T>>, key: usize, at: usize)
     ensures values { (m : Map ℕ) → AreInPlace m slab.old → values_of m slab.new ≡ values_of m slab.old }
@@ -118,6 +123,7 @@ fn note<T>(slab: &mut Slab<Entry<T>>, key: usize, at: usize)
 }
 
 /// The value of a file goes, and is handed on; nothing of a stranger. It takes no memory.
+#[inline(always)]
 #[tactic(auto, using(crate::proofs::Keyed::comes_and_goes))]
 pub fn take<T>(order: &mut Order, slab: &mut Slab<Entry<T>>, file: &FileRef) -> Option<T>
     requires place { AreInPlace order.old.keys slab.old }

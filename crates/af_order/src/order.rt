@@ -97,6 +97,7 @@ impl Order {
 
     /// A number more, above all others that there were, with its key. It answers its place, which
     /// `remove` takes as a hint. There is room for it.
+    #[inline(always)]
     pub fn push(&mut self, ino: Ino, key: usize) -> usize
         requires room { 0 < self.old.room }
         requires above { self.old.last < ino }
@@ -115,6 +116,7 @@ impl Order {
     }
 
     /// The number goes; its key is the result. The place is a hint. It takes no memory.
+    #[inline(always)]
     pub fn remove(&mut self, ino: Ino, at: usize) -> Option<usize>
         ensures value { result ≡ map.get self.old.keys ino }
         ensures keys { self.new.keys ≡ map.remove self.old.keys ino }
@@ -139,6 +141,7 @@ impl Order {
 
     /// The key of the number, if it is there: a binary search.
     #[cold]
+    #[inline(never)]
     pub fn key_of(&self, ino: Ino) -> Option<usize>
         ensures { result ≡ map.get self.now.keys ino }
     {
@@ -165,6 +168,7 @@ impl Order {
     /// One small step of packing, where one is due: dead rows leave, and at most one live row moves.
     /// It answers that row's key and its new place, which `remove` takes as a hint. It takes no
     /// memory.
+    #[inline(always)]
     pub fn pack(&mut self) -> Option<(usize, usize)>
         ensures keys { self.new.keys ≡ self.old.keys }
         ensures last { self.new.last ≡ self.old.last }
@@ -237,6 +241,7 @@ impl Order {
 }
 
 /// Where the number stands. This place is tried first in both, before a search.
+#[inline(always)]
 fn place_of(packed: &[Row], rows: &[Row], ino: Ino, at: usize) -> Option<Place>
     requires packed { Rise packed.now }
     requires rows { Rise rows.now }
@@ -259,6 +264,7 @@ fn place_of(packed: &[Row], rows: &[Row], ino: Ino, at: usize) -> Option<Place>
 }
 
 /// Whether this very number is live at this place.
+#[inline(always)]
 fn is_live_at(rows: &[Row], ino: Ino, at: usize) -> bool
     ensures { IsTrue result → IsLiveAt rows.now ino at }
 {
@@ -269,6 +275,7 @@ fn is_live_at(rows: &[Row], ino: Ino, at: usize) -> bool
 }
 
 /// Where the number is live.
+#[inline(never)]
 fn find(rows: &[Row], ino: Ino) -> Option<usize>
     requires { Rise rows.now }
     ensures place { IfSome result (IsLiveAt rows.now ino) }

@@ -81,6 +81,7 @@ impl Engine {
     }
 
     /// A step of a process.
+    #[inline(always)]
     fn step_of(&mut self, pid: Pid, step: &events::Step) -> Result<Reply, Errno>
         ensures { Answers self.old pid step.now result self.new }
     {
@@ -145,6 +146,7 @@ impl Engine {
 }
 
 /// The reply: the answer, or the error as a refusal.
+#[inline(always)]
 fn reply_of(outcome: Result<Reply, Errno>) -> Reply
     ensures { result ≡ reply_of outcome }
 {

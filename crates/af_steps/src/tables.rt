@@ -127,6 +127,7 @@ impl Engine {
 }
 
 /// The number of the process is free from now on, whether it was open or not.
+#[inline(always)]
 fn vacate(store: &mut Store, pid: Pid, fd: Fd)
     ensures { store.new ≡ record store.old { world = uninstall store.old.world pid fd } }
 {

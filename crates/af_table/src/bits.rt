@@ -22,6 +22,7 @@ impl Bits {
     }
 
     /// Whether the number is taken. None beyond the largest limit is.
+    #[inline(always)]
     pub fn has(&self, n: u32) -> bool
         ensures { result ≡ is_taken self.now.words n }
     {
@@ -30,6 +31,7 @@ impl Bits {
     }
 
     /// The number is taken from now on.
+    #[inline(always)]
     pub fn set(&mut self, n: u32)
         requires { n < MAX_NOFILE }
         ensures { (q : ℕ) → is_taken self.new.words q ≡ (if nat_eq q n then true else is_taken self.old.words q) }
@@ -38,6 +40,7 @@ impl Bits {
     }
 
     /// The number is free from now on.
+    #[inline(always)]
     pub fn clear(&mut self, n: u32)
         requires { n < MAX_NOFILE }
         ensures { (q : ℕ) → is_taken self.new.words q ≡ (if nat_eq q n then false else is_taken self.old.words q) }
@@ -47,6 +50,7 @@ impl Bits {
 
     /// The least number from `from` on and below `end` that is taken, or that is free. It looks at
     /// each word once, and at none beyond.
+    #[inline(always)]
     pub fn next(&self, from: u32, end: u32, taken: bool) -> Option<u32>
         requires { end ≤ MAX_NOFILE }
         ensures found { IfSome result (λ n. is_taken self.now.words n ≡ taken) }
@@ -80,6 +84,7 @@ impl Bits {
 }
 
 /// The least place of a word from this one on whose bit is as wanted.
+#[inline(always)]
 #[tactic(auto, using(crate::proofs::Words::places))]
 fn place_from(word: u64, from: u32, set: bool) -> Option<u32>
     requires { from < 64 }
@@ -93,6 +98,7 @@ fn place_from(word: u64, from: u32, set: bool) -> Option<u32>
 }
 
 /// The least place of a word from this one on whose bit is set.
+#[inline(always)]
 #[tactic(auto, using(crate::proofs::Words::places))]
 fn set_place_from(word: u64, from: u32) -> Option<u32>
     requires { from < 64 }

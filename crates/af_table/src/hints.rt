@@ -24,12 +24,14 @@ impl Hints {
     }
 
     /// The process of this pid stands there now.
+    #[inline(always)]
     pub fn note(&mut self, pid: Pid, index: usize) {
         self.places[pid.0 as usize % HINTS] = (index % (u16::MAX as usize + 1)) as u16;
     }
 
     /// Where the process of this pid stands, if there is one. The map is asked only where another
     /// process stands at the hint.
+    #[inline(always)]
     pub fn place(&self, processes: &IndexMap<Pid, Process>, pid: Pid) -> Option<usize>
         ensures there { IfSome result (λ i. slice_get (keys processes.now) i ≡ Some pid) }
         ensures none { IfNone result (get nat_eq processes.now pid ≡ None) }
@@ -42,6 +44,7 @@ impl Hints {
     }
 
     /// The same, and it is noted, so that the next look-up need not ask the map.
+    #[inline(always)]
     pub fn found(&mut self, processes: &IndexMap<Pid, Process>, pid: Pid) -> Option<usize>
         ensures there { IfSome result (λ i. slice_get (keys processes.now) i ≡ Some pid) }
         ensures none { IfNone result (get nat_eq processes.now pid ≡ None) }

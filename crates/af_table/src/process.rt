@@ -93,6 +93,7 @@ impl Process {
     }
 
     /// What the number stands for; nothing where it is free.
+    #[inline(always)]
     #[tactic(auto, using(crate::proofs::Tables::table_changes))]
     pub fn lookup(&self, fd: Fd) -> Option<FileRef>
         ensures { result ≡ map.get self.now.process.table fd }
@@ -130,6 +131,7 @@ impl Process {
     }
 
     /// The number, for which there is room, stands for the file from now on.
+    #[inline(always)]
     #[tactic(auto, using(crate::proofs::Tables::table_changes))]
     pub(crate) fn install(&mut self, fd: Fd, file: FileRef)
         requires { fd < self.old.row }
@@ -140,6 +142,7 @@ impl Process {
     }
 
     /// The number is free from now on. It answers what the number stood for.
+    #[inline(always)]
     #[tactic(auto, using(crate::proofs::Tables::table_changes))]
     pub(crate) fn take_out(&mut self, fd: Fd) -> Option<FileRef>
         ensures value { result ≡ map.get self.old.process.table fd }
@@ -151,6 +154,7 @@ impl Process {
     }
 
     /// The least free number from this one on: the head of those that are left.
+    #[inline(always)]
     #[tactic(auto, using(crate::proofs::Left::free_changes))]
     pub(crate) fn next_free(&self, from: u32) -> Option<Fd>
         ensures some { IfSome result (λ n. free_from from self.now.process ≡ n ∷ free_from (n + 1) self.now.process) }
@@ -162,6 +166,7 @@ impl Process {
     }
 
     /// The lowest free number, if one below its limit is free (open(2)).
+    #[inline(always)]
     #[tactic(auto, using(crate::proofs::Left::free_lists))]
     pub fn lowest(&self) -> Option<Fd>
         ensures { result ≡ slice_get (free_numbers self.now.process) 0 }

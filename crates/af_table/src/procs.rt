@@ -78,6 +78,7 @@ impl Procs {
     }
 
     /// The process of that pid; nothing of a stranger.
+    #[inline(always)]
     #[tactic(auto, using(crate::proofs::Parts::part_changes))]
     pub fn find(&self, pid: Pid) -> Option<&Process>
         ensures there { IfSome result (λ p. map.get self.now.processes pid ≡ Some p.now.process) }
@@ -108,6 +109,7 @@ impl Procs {
 
     /// What the number of the process stands for: nothing where it is free, or there is no such
     /// process.
+    #[inline(always)]
     pub fn lookup(&self, pid: Pid, fd: Fd) -> Option<FileRef>
         ensures { result ≡ number_in self.now.processes pid fd }
     {
@@ -221,6 +223,7 @@ impl Procs {
 
     /// Room to install at every number of the process below its limit, where so many, and not none,
     /// are to come; a stranger needs none. No process changes, and on an error nothing does.
+    #[inline(always)]
     #[tactic(auto, using(crate::proofs::Parts::room_changes))]
     pub fn room_for(&mut self, pid: Pid, count: usize) -> Result<(), AllocError>
         ensures processes { self.new.processes ≡ self.old.processes }
@@ -263,6 +266,7 @@ impl Procs {
 
     /// The number of the process, for which there is room, stands for the file from now on,
     /// whatever it stood for. It takes no memory.
+    #[inline(always)]
     #[tactic(auto, using(crate::proofs::Parts::part_changes))]
     pub fn install(&mut self, pid: Pid, fd: Fd, file: FileRef)
         requires { fd < row_in self.old.rows pid }
@@ -280,6 +284,7 @@ impl Procs {
 
     /// The number of the process is free from now on. It answers what the number stood for, which
     /// is nothing where it was free already, and nothing of a stranger. It takes no memory.
+    #[inline(always)]
     #[tactic(auto, using(crate::proofs::Parts::part_changes))]
     pub fn take_out(&mut self, pid: Pid, fd: Fd) -> Option<FileRef>
         ensures value { result ≡ number_in self.old.processes pid fd }
