@@ -26,7 +26,7 @@ pub enum State {
 }
 
 /// A step of a process.
-#[derive(Debug, PartialEq, Eq, Drop)]
+#[derive(Clone, Debug, PartialEq, Eq, Drop)]
 pub enum Step {
     /// open(2) of a plain file.
     Open,
@@ -85,7 +85,7 @@ pub enum Step {
 }
 
 /// What may happen.
-#[derive(Debug, PartialEq, Eq, Drop)]
+#[derive(Clone, Debug, PartialEq, Eq, Drop)]
 pub enum Event {
     /// A process of this user starts, with a limit on its descriptors (RLIMIT_NOFILE).
     Spawn {
@@ -104,7 +104,7 @@ pub enum Event {
 }
 
 /// What is answered.
-#[derive(Debug, PartialEq, Eq, Drop)]
+#[derive(Clone, Debug, PartialEq, Eq, Drop)]
 pub enum Reply {
     /// A process was made.
     Pid(Pid),

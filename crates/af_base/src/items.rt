@@ -1,6 +1,7 @@
 //! A `Vec` that a clause sees as its list.
 ghost use Rattle.std.specs.Prelude.{◌≡◌, ◌↔◌, IsTrue, List, [], length};
 
+use std::alloc::AllocError;
 use std::hash::{Hash, Hasher};
 use std::marker::Model;
 
@@ -72,6 +73,16 @@ impl<T: Eq> Eq for Items<T> {
     ghost use Rattle.std.specs.Cmp.Lexicographic.{lists_equiv};
 
     ghost laws = { lists_equiv T.Eq.laws };
+}
+
+/// A copy has the same items. It takes memory, unless there are none.
+impl<T: Copy> Clone for Items<T> {
+    ghost is_clone = { λ x y. y ≡ x };
+
+    fn clone(&self) -> Result<Items<T>, AllocError> {
+        let items = Vec::from_slice(*self.items.allocator(), self.as_slice())?;
+        Ok(Items { items })
+    }
 }
 
 /// Bytes are hashed as one write, behind their number, and not one by one.

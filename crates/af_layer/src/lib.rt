@@ -8,7 +8,6 @@
 
 mod audit;
 mod book;
-mod copies;
 mod driving;
 mod layer;
 mod room;

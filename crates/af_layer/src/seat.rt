@@ -1,13 +1,12 @@
 //! A seat: who calls, and what was answered to it.
-ghost use Rattle.std.specs.Prelude.{◌≡◌, ◌⊎◌, [], IfErr, None, OnErr, OnOk, Some};
+ghost use Rattle.std.specs.Prelude.{◌≡◌, ◌⊎◌, [], IfErr, IfOk, None, OnErr, OnOk, Some};
 ghost use Rattle.af_base.specs.declared.events.Reply.{Reply as Answer};
 ghost use Rattle.af_layer.specs.Calls.{Calls, refusal};
 ghost use Rattle.af_layer.specs.Seats.{grown};
 
 use crate::book::{Book, CallError};
-use crate::copies::copy_of_event;
 use af_base::events::{Event, Reply};
-use std::alloc::Global;
+use std::alloc::{AllocError, Global};
 use std::marker::Model;
 
 /// Who calls, with all that it asked for and was answered.
@@ -65,11 +64,18 @@ impl Seat {
         if self.list.reserve(1).is_err() {
             return Err(CallError::NoRoom);
         }
-        let Ok(kept) = copy_of_event(*self.list.allocator(), &event) else {
+        let Ok(kept) = copy_of(&event) else {
             return Err(CallError::NoRoom);
         };
         let reply = book.call(self.number, event)?;
         self.list.push_reserved((kept, reply));
         Ok(())
     }
+}
+
+/// A copy of an event.
+fn copy_of(event: &Event) -> Result<Event, AllocError>
+    ensures { IfOk result (λ copy. copy ≡ event.now) }
+{
+    event.clone()
 }
