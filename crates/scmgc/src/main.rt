@@ -2,12 +2,7 @@
 //! workers race on it.
 #![tactic(auto)]
 
-mod program;
-mod task;
-#[cfg(test)]
-mod tests;
-
-use crate::program::program;
+use scm_command::program::program;
 use scm_run::RunFault;
 use scm_watched::Watched;
 use std::alloc::AllocError;

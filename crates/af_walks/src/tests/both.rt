@@ -2,8 +2,7 @@
 use super::met::{Met, found_by};
 use super::source::{Mix, Source};
 use super::walk::{Walk, answer, on_new_engine};
-use crate::Engine;
-use crate::engine::File;
+use crate::engine::{Engine, File};
 use af_base::events::{Event, Reply};
 use af_base::names::{Ino, Uid};
 use af_steps::FileInfo;

@@ -1,7 +1,7 @@
 //! What walks have met: by this a test knows that it tried what it is for.
 
 use super::source::Kind;
-use crate::Engine;
+use crate::engine::Engine;
 use af_base::errno::Errno;
 use af_base::events::{Event, Reply, SockType, Step};
 use std::alloc::{AllocError, Global};

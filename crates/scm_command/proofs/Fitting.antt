@@ -2,7 +2,7 @@
 use Rattle.std.proofs.Common.{◌≡◌, ◌==◌, List, [], ◌∷◌, length, true, refl, ap, arith}
 use Rattle.std.proofs.lemmas.Bool.{eqb-true}
 use Rattle.clap.specs.Words.{Text, fault_of, is_simple_and_free}
-use Rattle.scmgc.specs.Task.{fits, whole_app}
+use Rattle.scm_command.specs.Task.{fits, whole_app}
 
 -- The faults of the command are known.
 pub known : is_simple_and_free whole_app ≡ true

@@ -1,8 +1,8 @@
 use Rattle.std.proofs.Common.{rules, ◌≡◌, ◌<◌, ◌≤◌, ◌^◌, arith}
 use Rattle.std.specs.Str.Parse.{ExplainsUnsignedError, HasUnsignedDigitsIfOk, ParsesUnsigned}
 use Rattle.clap.specs.Words.{found_of}
-use Rattle.scmgc.proofs.Numbers.{is_number, none_read, out_of_bounds}
-use Rattle.scmgc.proofs.task.number.Goals as goal
+use Rattle.scm_command.proofs.Numbers.{is_number, none_read, out_of_bounds}
+use Rattle.scm_command.proofs.task.number.Goals as goal
 
 pub returns-in-Some-clause-some : goal.returns-in-Some-clause-some
 returns-in-Some-clause-some c =

@@ -4,8 +4,8 @@ use Rattle.std.specs.Str.{bytes_eq}
 use Rattle.std.specs.Str.Parse.{IsNumeral, digits_value, without_leading_plus}
 use Rattle.clap.specs.Words.{App, Row, Rule, Text, fault_of, new_app, new_rule, one_of, subcommand_of, with_rule, with_subcommand}
 use Rattle.clap.specs.declared.builder.value_parser.ValueParser.TheVariants.{Signed}
-use Rattle.scmgc.specs.declared.task.Task.{Task}
-use Rattle.scmgc.specs.declared.task.Task.TheVariants.{Race, Run}
+use Rattle.scm_command.specs.declared.task.Task.{Task}
+use Rattle.scm_command.specs.declared.task.Task.TheVariants.{Race, Run}
 
 -- The subcommand that runs a script, which has no options.
 abbrev pub run_app : App

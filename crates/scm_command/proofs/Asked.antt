@@ -3,9 +3,9 @@ use Rattle.std.proofs.Common.{◌≡◌, ℕ, List, ap, arith, codes, length, su
 use Rattle.std.specs.Prelude.{Option, Some, None, Result, Ok, Err, IfErr, IfNone}
 use Rattle.std.proofs.lemmas.Slice.Eq.{bytes_eq-Decides}
 use Rattle.clap.specs.Words.{Row, Text, subcommand_of}
-use Rattle.scmgc.specs.Task.{IsInRange, IsRace, Names, StandsFor, whole_app}
-use Rattle.scmgc.specs.declared.task.Task.{Task}
-use Rattle.scmgc.specs.declared.task.Task.TheVariants.{Race, Run}
+use Rattle.scm_command.specs.Task.{IsInRange, IsRace, Names, StandsFor, whole_app}
+use Rattle.scm_command.specs.declared.task.Task.{Task}
+use Rattle.scm_command.specs.declared.task.Task.TheVariants.{Race, Run}
 
 -- No subcommand stands for a run and for a race.
 run_or_race : (found : Option (Text × List Row)) → (workers steps seed budget : ℕ) → StandsFor found Run → StandsFor found (Race workers steps seed budget) → ⊥

@@ -1,7 +1,7 @@
 use Rattle.std.proofs.Common.{map, subst}
-use Rattle.scmgc.specs.Task.{Names}
-use Rattle.scmgc.proofs.Asked.{run_not_race}
-use Rattle.scmgc.proofs.program.program.Goals as goal
+use Rattle.scm_command.specs.Task.{Names}
+use Rattle.scm_command.proofs.Asked.{run_not_race}
+use Rattle.scm_command.proofs.program.program.Goals as goal
 
 pub returns-in-Ok-clause-race : goal.returns-in-Ok-clause-race
 returns-in-Ok-clause-race g c = λ fit workers steps seed budget race.

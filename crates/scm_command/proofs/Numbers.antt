@@ -7,7 +7,7 @@ use Rattle.clap.specs.Matches.{ReadsOne, one_text}
 use Rattle.clap.specs.Words.{Text, rows_of}
 use Rattle.clap.specs.declared.parser.matches.Found.{Found}
 use Rattle.clap.proofs.WalkLemmas.{one_text-rows}
-use Rattle.scmgc.specs.Task.{HasNumber}
+use Rattle.scm_command.specs.Task.{HasNumber}
 
 -- What an option has, or 0.
 abbrev or_zero : Option ℕ → ℕ

@@ -1,5 +1,5 @@
 //! The program over memory.
-use crate::program::program;
+use scm_command::program::program;
 use scm_watched::Watched;
 use std::alloc::{AllocError, AllocGlobal};
 use std::io;

@@ -2,10 +2,10 @@
 ghost use Rattle.std.specs.Prelude.{◌≡◌, ◌≢◌, ◌≤◌, ◌⊎◌, ℕ, IfOk, false, true, map, string_bytes};
 ghost use Rattle.clap.specs.Words.{kind_of};
 ghost use Rattle.clap.specs.declared.error.kind.ErrorKind.TheVariants.{OutOfMemory};
-ghost use Rattle.scmgc.specs.Program.{Did, RaceText, RanRace, RanScript, WroteNoRace, fault_status};
-ghost use Rattle.scmgc.specs.Task.{IsInRange, Names, fits};
-ghost use Rattle.scmgc.specs.declared.task.Task.{Task as Asked};
-ghost use Rattle.scmgc.specs.declared.task.Task.TheVariants as task;
+ghost use Rattle.scm_command.specs.Program.{Did, RaceText, RanRace, RanScript, WroteNoRace, fault_status};
+ghost use Rattle.scm_command.specs.Task.{IsInRange, Names, fits};
+ghost use Rattle.scm_command.specs.declared.task.Task.{Task as Asked};
+ghost use Rattle.scm_command.specs.declared.task.Task.TheVariants as task;
 
 use crate::task::{Task, task_of};
 use clap::error::ErrorKind;

@@ -3,8 +3,8 @@ ghost use Rattle.std.specs.Prelude.{◌≡◌, ℕ, IfNone, IfOk, IfErr, IfSome,
 ghost use Rattle.clap.specs.Words.{app_of, found_of, kind_of, rows_of, rule_of, subcommand_rows_of};
 ghost use Rattle.clap.specs.declared.builder.command.Command.TheViews.{out-Command};
 ghost use Rattle.clap.specs.declared.error.kind.ErrorKind.TheVariants.{OutOfMemory};
-ghost use Rattle.scmgc.specs.Task.{HasNumber, IsInRange, IsRace, Names, StandsFor, bare_app, fits, number_rule, race_app, run_app, whole_app};
-ghost use Rattle.scmgc.specs.declared.task.Task.{Task as Asked};
+ghost use Rattle.scm_command.specs.Task.{HasNumber, IsInRange, IsRace, Names, StandsFor, bare_app, fits, number_rule, race_app, run_app, whole_app};
+ghost use Rattle.scm_command.specs.declared.task.Task.{Task as Asked};
 
 use af_base::limits::MAX_BUDGET;
 use clap::builder::ValueParser;

@@ -6,8 +6,8 @@ use Rattle.scm_run.specs.declared.fault.RunFault.{RunFault}
 use Rattle.scm_run.specs.declared.fault.RunFault.TheVariants as fault
 use Rattle.scm_race.specs.Race.{RacedTo, outcome_text}
 use Rattle.scm_race.specs.declared.outcome.Outcome.{Outcome}
-use Rattle.scmgc.specs.declared.task.Task.{Task}
-use Rattle.scmgc.specs.declared.task.Task.TheVariants.{Race, Run}
+use Rattle.scm_command.specs.declared.task.Task.{Task}
+use Rattle.scm_command.specs.declared.task.Task.TheVariants.{Race, Run}
 
 -- The exit status after a fault: 2 for a line that cannot be read, else 1. This project's profile.
 abbrev pub fault_status : RunFault → ℕ
