@@ -1,16 +1,17 @@
 //! What an independent recount of everything says of an engine.
-ghost use Rattle.std.specs.Prelude.{◌≡◌, IfOk, string_bytes};
+ghost use Rattle.std.specs.Prelude.{◌≡◌, IfOk, IfSome, IsSome, string_bytes};
 ghost use Rattle.std.specs.List.{All};
 ghost use Rattle.std.specs.Prelude as list;
 ghost use Rattle.std.specs.FinMap as map;
 ghost use Rattle.af_plain.specs.Agreement.{AreRecounts, IsFileRecount, IsUserRecount};
-ghost use Rattle.af_report.specs.Check.{IsCheckText, check_text};
+ghost use Rattle.af_report.specs.Check.{IsChecked, IsCheckText, check_text};
 
 use crate::agreed::Agreed;
 use af_base::names::Ino;
 use af_plain::{Kept, KeptFile, KeptUser, garbage};
 use af_steps::Engine;
 use std::alloc::{AllocError, Global};
+use std::marker::Model;
 
 /// The numbers that the engine keeps of each live file, by rising inode number.
 fn kept_files(alloc: Global, engine: &Engine) -> Result<Vec<KeptFile>, AllocError>
@@ -61,30 +62,76 @@ fn kept(alloc: Global, engine: &Engine) -> Result<Kept, AllocError>
     })
 }
 
-/// The line of numbers that agree, whose files are the live ones.
-fn line_of(alloc: Global, agreed: &Agreed, lost: usize) -> Result<String, AllocError>
-    ensures { IfOk result (λ line. string_bytes line ≡ check_text agreed.now lost) }
-{
-    let live = agreed.files();
-    let mut line = String::new(alloc);
-    writeln!(line, "check ok live {live} garbage {lost}")?;
-    Ok(line)
+/// What a check found. It is seen as the number of live files and the number of garbage files.
+#[derive(Drop)]
+pub struct Checked {
+    agreed: Agreed,
+    garbage: usize,
 }
 
-/// The check: how many files are live, and how many of them no chain of places reaches from any table.
-///
-/// It says so where each number that the engine keeps of a live file or a user, and the total, is
-/// the recount over plain lists of all that holds a file; else it says `check failed`, which no
-/// engine comes to.
-pub fn check(alloc: Global, engine: &Engine) -> Result<Vec<u8>, AllocError>
-    ensures { IfOk result (λ text. IsCheckText engine.now.world text.items) }
+impl Model for Checked {
+    ghost use Rattle.std.specs.Prelude.{ℕ};
+
+    ghost Value = { ℕ × ℕ };
+
+    ghost view = { λ c. (c.agreed, c.garbage) };
+}
+
+impl Checked {
+    /// How many files are live.
+    pub fn live(&self) -> usize
+        ensures { result ≡ self.now.0 }
+    {
+        self.agreed.files()
+    }
+
+    /// How many of them no chain of places reaches from any table.
+    pub fn garbage(&self) -> usize
+        ensures { result ≡ self.now.1 }
+    {
+        self.garbage
+    }
+}
+
+/// Counts the live files and the garbage, where each number that the engine keeps of a live file or
+/// a user, and the total, is the recount over plain lists of all that holds a file; else nothing,
+/// which no engine comes to.
+pub fn count(alloc: Global, engine: &Engine) -> Result<Option<Checked>, AllocError>
+    ensures agree { IfOk result IsSome }
+    ensures counts { IfOk result (λ found. IfSome found (λ c. IsChecked engine.now.world c.0 c.1)) }
 {
     let listing = engine.listing()?;
     let kept = kept(alloc, engine)?;
     let Some(agreed) = Agreed::of(&listing, &kept) else {
-        return b"check failed\n".to_vec(alloc);
+        return Ok(None);
     };
     let lost = garbage(alloc, &listing)?;
-    let line = line_of(alloc, &agreed, lost.len())?;
+    Ok(Some(Checked {
+        agreed,
+        garbage: lost.len(),
+    }))
+}
+
+/// The line of a check.
+fn line_of(alloc: Global, checked: &Checked) -> Result<String, AllocError>
+    ensures { IfOk result (λ line. string_bytes line ≡ check_text checked.now.0 checked.now.1) }
+{
+    let files = checked.live();
+    let lost = checked.garbage();
+    let mut line = String::new(alloc);
+    writeln!(line, "check ok live {files} garbage {lost}")?;
+    Ok(line)
+}
+
+/// The line of a check: how many files are live, and how many of them no chain of places reaches from
+/// any table. Where a number that the engine keeps is no recount, which no engine comes to, it says
+/// `check failed`.
+pub fn check(alloc: Global, engine: &Engine) -> Result<Vec<u8>, AllocError>
+    ensures { IfOk result (λ text. IsCheckText engine.now.world text.items) }
+{
+    let Some(checked) = count(alloc, engine)? else {
+        return b"check failed\n".to_vec(alloc);
+    };
+    let line = line_of(alloc, &checked)?;
     Ok(line.into_bytes())
 }

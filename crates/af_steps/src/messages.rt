@@ -26,14 +26,9 @@ impl Engine {
         self.store.files().get(file)?.socket()
     }
 
-    /// A process sends bytes, and with them what these numbers stand for (sendmsg(2)).
-    pub(crate) fn send(
-        &mut self,
-        pid: Pid,
-        on: Fd,
-        bytes: &[u8],
-        attach: &[Fd],
-    ) -> Result<Reply, Errno>
+    /// A process sends bytes, and with them what these numbers stand for (sendmsg(2)): the step `Send`
+    /// of that process, for a caller whose bytes and numbers stand elsewhere. They are copied once.
+    pub fn send(&mut self, pid: Pid, on: Fd, bytes: &[u8], attach: &[Fd]) -> Result<Reply, Errno>
         ensures { Answers self.old pid (Step.Send on bytes.now attach.now) result self.new }
     {
         let process = self.store.procs().find(pid).ok_or(Errno::ESRCH)?;

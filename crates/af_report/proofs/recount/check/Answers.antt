@@ -1,33 +1,15 @@
-use Rattle.std.proofs.Common.{rules, ◌≡◌, IsSome, sym, ap, ◌∙◌, subst, length, string_bytes}
-use Rattle.std.specs.FinMap as map
+use Rattle.std.proofs.Common.{rules, ◌≡◌, ℕ, IfSome, IsSome, Option, Some, ap₂, ◌∙◌, subst}
 use Rattle.std.proofs.lemmas.Bool.{false≢true}
-use Rattle.std.proofs.lemmas.List.{length-map}
-use Rattle.af_base.specs.Bare.{bare}
-use Rattle.af_base.specs.Reached.{Garbage}
-use Rattle.af_plain.specs.Agreement.{AreRecounts}
-use Rattle.af_plain.specs.Marking.{IsListOf}
-use Rattle.af_report.specs.Check.{check_text}
-use Rattle.af_report.proofs.Audited.{garbage-listed, recounts-bare}
+use Rattle.af_report.specs.Check.{IsChecked, check_text}
 use Rattle.af_report.proofs.recount.check.Goals as goal
 
--- The recount agrees, so this arm is never taken.
+-- The numbers agree, so this arm is never taken.
 pub returns-in_default : goal.returns-in_default
-returns-in_default c =
-    let w = c.args.engine.now.world in
-    let kept = c.in_ok-kept.kept in
-    let shows : c.in_ok-listing.listing ≡ bare w = search rules in
-    let holds : AreRecounts w kept = search rules in
-    let some : IsSome c.of.result = c.of.ensures.agree.1 (subst (λ v. AreRecounts v kept) (sym shows) (recounts-bare w kept holds)) in
-    absurd (false≢true (subst IsSome c.in_default.is some))
+returns-in_default c = absurd (false≢true (subst IsSome c.in_default.is c.in_ok-checked.ensures.agree))
 
 pub returns : goal.returns
 returns c =
-    let w = c.args.engine.now.world in
-    let lost = c.in_ok-lost.lost.items in
-    let shows : c.in_ok-listing.listing ≡ bare w = search rules in
-    let found : IsListOf (Garbage c.in_ok-listing.listing) lost = search rules in
-    let kept : c.in-Some.agreed ≡ length c.in_ok-kept.kept.files.items = c.in-Some.ensures.files in
-    let whole : length c.in_ok-kept.kept.files.items ≡ length (map.keys w.files) = sym (length-map c.in_ok-kept.kept.files.items (λ k. k.ino)) ∙ ap length c.in_ok-kept.ensures.files in
-    let all : c.in-Some.agreed ≡ map.len w.files = kept ∙ whole ∙ length-map (map.entries w.files) (λ e. e.0) ∙ sym (map.len-entries w.files) in
-    let text : c.into_bytes.result.items ≡ check_text (map.len w.files) (length lost) = rw (← all) (search rules) in
-    (lost, garbage-listed w lost (subst (λ v. IsListOf (Garbage v) lost) shows found), text)
+    let Counts : Option (ℕ × ℕ) → Type 0 = λ o. IfSome o (λ found. IsChecked c.args.engine.now.world found.0 found.1) in
+    let counts : Counts (Some c.in-Some.checked) = subst Counts c.in-Some.is c.in_ok-checked.ensures.counts in
+    let text : c.into_bytes.result.items ≡ check_text c.in-Some.checked.0 c.in-Some.checked.1 = search rules in
+    (counts.1.0, counts.1.1, text ∙ ap₂ check_text counts.0 counts.1.2)

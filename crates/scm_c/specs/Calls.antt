@@ -1,0 +1,44 @@
+-- What a call from C does to the engine behind its handle, and what it answers.
+use Rattle.std.specs.Prelude.{◌≡◌, ◌⊎◌, ℤ, pos, Option, Some, None}
+use Rattle.af_base.specs.Pass.{Machine}
+use Rattle.af_base.specs.Run.{Step, fresh}
+use Rattle.af_base.specs.declared.errno.Errno.{Errno}
+use Rattle.af_base.specs.declared.errno.Errno.TheVariants.{ENOMEM}
+use Rattle.af_base.specs.declared.events.Event.{Event}
+use Rattle.af_base.specs.declared.events.Reply.{Reply}
+use Rattle.scm_c.specs.Codes.{code_of, error_code, no_engine}
+
+-- The engine does this event with this reply: one step of the machine.
+abbrev pub Does : Option Machine → Event → Reply → Option Machine → Type 0
+Does old event r new = (m : Machine) × (n : Machine) × (old ≡ Some m) × (new ≡ Some n) × Step m event r n
+
+-- There is no engine, and the call says so.
+abbrev pub Lacks : Option Machine → ℤ → Option Machine → Type 0
+Lacks old result new = (old ≡ None) × (new ≡ None) × (result ≡ no_engine)
+
+-- The call does this event, and its answer is the reply's number; or there is no engine.
+abbrev pub Calls : Option Machine → Event → ℤ → Option Machine → Type 0
+Calls old event result new = ((r : Reply) × Does old event r new × (result ≡ code_of r)) ⊎ Lacks old result new
+
+-- The same, of a call that writes to the caller's places too: by the reply, `x` there becomes `y`. Without an engine it writes nothing.
+abbrev pub CallsInto : {X : Type 0} → Option Machine → Event → (Reply → X → X) → X → ℤ → X → Option Machine → Type 0
+CallsInto old event written x result y new =
+    ((r : Reply) × Does old event r new × (result ≡ code_of r) × (y ≡ written r x)) ⊎ (Lacks old result new × (y ≡ x))
+
+-- The call is refused by this error before it comes to the engine, and the engine is as it was.
+abbrev pub Refuses : Option Machine → Errno → ℤ → Option Machine → Type 0
+Refuses old e result new = (result ≡ error_code e) × (new ≡ old)
+
+-- A new engine, to which nothing has happened; or want of memory, and none.
+abbrev pub Makes : ℤ → Option Machine → Type 0
+Makes result new = ((result ≡ pos 0) × (new ≡ Some fresh)) ⊎ ((result ≡ error_code ENOMEM) × (new ≡ None))
+
+-- The call answers 0 and writes `y`, of which this holds; or there is no engine, and it writes nothing.
+abbrev pub Tells : {X : Type 0} → Option Machine → (Machine → X → Type 0) → X → ℤ → X → Type 0
+Tells (Some m) holds x result y = (result ≡ pos 0) × holds m y
+Tells None holds x result y = (result ≡ no_engine) × (y ≡ x)
+
+-- The call answers this number of the engine; or there is no engine.
+abbrev pub TellsNumber : Option Machine → (Machine → ℤ) → ℤ → Type 0
+TellsNumber (Some m) f result = result ≡ f m
+TellsNumber None f result = result ≡ no_engine

@@ -1,0 +1,38 @@
+-- The numbers that cross to C.
+use Rattle.std.specs.Prelude.{ℕ, ℤ, pos, ◌-ℤ◌, length, Option, Some, None, nat_eq, if◌then◌else◌}
+use Rattle.af_base.specs.Errno.{number_of}
+use Rattle.af_base.specs.declared.errno.Errno.{Errno}
+use Rattle.af_base.specs.declared.events.Reply.{Reply}
+use Rattle.af_base.specs.declared.events.Reply.TheVariants as reply
+use Rattle.af_base.specs.declared.events.SockType.{SockType}
+use Rattle.af_base.specs.declared.events.SockType.TheVariants.{Seqpacket, Stream}
+
+-- A negative number (the library's convention: errors are below 0).
+abbrev pub below : ℕ → ℤ
+below n = pos 0 -ℤ pos n
+
+-- An error as a call answers it: the negative of this project's number.
+abbrev pub error_code : Errno → ℤ
+error_code e = below (number_of e)
+
+-- What a call on a handle without an engine answers (this project's own: no error number of the engine).
+abbrev pub no_engine : ℤ
+no_engine = below 100
+
+-- A reply as the number that a call answers (the manual page of each call: a pid, a descriptor, how many bytes; 0 at the end of a connection, and where there is no more to say; 1 for a pass that goes on).
+abbrev pub code_of : Reply → ℤ
+code_of (reply.Pid p) = pos p
+code_of (reply.Fd n) = pos n
+code_of (reply.Fds n m) = pos 0
+code_of reply.Ok = pos 0
+code_of (reply.Sent n) = pos n
+code_of (reply.Got bytes fds trunc ctrunc) = pos (length bytes)
+code_of reply.End = pos 0
+code_of (reply.Started n) = pos 0
+code_of reply.Working = pos 1
+code_of (reply.Done n k) = pos 0
+code_of (reply.Refused e) = error_code e
+
+-- The type of a socket that C names by a number: 1 is a stream, 2 a seqpacket socket (the header's SCM_STREAM, SCM_SEQPACKET).
+abbrev pub type_named : ℕ → Option SockType
+type_named n = if nat_eq n 1 then Some Stream else (if nat_eq n 2 then Some Seqpacket else None)

@@ -1,0 +1,4 @@
+pub mod Held
+pub mod Codes
+pub mod Calls
+pub mod Written

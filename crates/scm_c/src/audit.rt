@@ -1,0 +1,49 @@
+//! What an independent recount says of an engine.
+ghost use Rattle.std.specs.Prelude.{◌≡◌, ◌⊎◌};
+ghost use Rattle.af_report.specs.Check.{IsChecked};
+ghost use Rattle.scm_c.specs.Calls.{Tells};
+ghost use Rattle.scm_c.specs.Codes.{error_code};
+
+use crate::answers::{NO_ENGINE, refusal};
+use crate::handle::Handle;
+use af_base::errno::Errno;
+use af_report::count;
+use std::alloc::Global;
+
+/// What a check answers where a kept number is no recount. No engine comes to it.
+const DIFFERS: i64 = -101;
+
+/// What a check counted.
+#[repr(C)]
+#[derive(Clone, Copy)]
+pub struct Counted {
+    /// How many files are live.
+    pub live: u64,
+    /// How many of them no chain of places reaches from any table.
+    pub garbage: u64,
+}
+
+/// Counts all places anew, compares each number that the engine keeps with that count, and writes how
+/// many files are live and how many of them are garbage.
+#[unsafe(no_mangle)]
+pub extern "C" fn scm_check(alloc: Global, engine: &mut Handle, out: &mut Counted) -> i64
+    ensures same { engine.new.shown ≡ engine.old.shown }
+    ensures value { Tells engine.old.shown (λ m c. IsChecked m.world c.live c.garbage) out.old result out.new ⊎ ((result ≡ error_code Errno.ENOMEM) × (out.new ≡ out.old)) }
+{
+    let Some(inside) = engine.take(alloc) else {
+        return NO_ENGINE;
+    };
+    let found = count(alloc, &*inside);
+    *engine = Handle::of(inside);
+    let Ok(found) = found else {
+        return refusal(Errno::ENOMEM);
+    };
+    let Some(checked) = found else {
+        return DIFFERS;
+    };
+    *out = Counted {
+        live: checked.live() as u64,
+        garbage: checked.garbage() as u64,
+    };
+    0
+}

@@ -1,0 +1,68 @@
+//! How an engine is made and freed, and how it does one event.
+ghost use Rattle.std.specs.Prelude.{◌≡◌, None, IfNone, IfSome};
+ghost use Rattle.scm_c.specs.Calls.{Calls, Does, Makes};
+
+use crate::answers::{NO_ENGINE, code, refusal};
+use crate::handle::Handle;
+use af_base::errno::Errno;
+use af_base::events::{Event, Reply, Step};
+use af_base::names::Pid;
+use af_steps::Engine;
+use std::alloc::Global;
+
+/// Makes an engine, in place of the one that was there, which is freed.
+#[unsafe(no_mangle)]
+pub extern "C" fn scm_engine_new(alloc: Global, engine: &mut Handle) -> i64
+    ensures { Makes result engine.new.shown }
+{
+    *engine = Handle::none(alloc);
+    let Ok(made) = Engine::new(alloc) else {
+        return refusal(Errno::ENOMEM);
+    };
+    let Ok(boxed) = Box::new(alloc, made) else {
+        return refusal(Errno::ENOMEM);
+    };
+    *engine = Handle::of(boxed);
+    0
+}
+
+/// Frees the engine, if there is one.
+#[unsafe(no_mangle)]
+pub extern "C" fn scm_engine_free(alloc: Global, engine: &mut Handle)
+    ensures { engine.new.shown ≡ None }
+{
+    drop(engine.take(alloc));
+}
+
+/// Does one event, if there is an engine.
+pub(crate) fn reply_to(alloc: Global, engine: &mut Handle, event: &Event) -> Option<Reply>
+    ensures done { IfSome result (λ r. Does engine.old.shown event.now r engine.new.shown) }
+    ensures none { IfNone result (engine.old.shown ≡ None) }
+    ensures still { IfNone result (engine.new.shown ≡ None) }
+{
+    let mut inside = engine.take(alloc)?;
+    let reply = inside.step(event);
+    *engine = Handle::of(inside);
+    Some(reply)
+}
+
+/// Does one event, and answers its number.
+// Inlined, as the next one is, so that an event is made where it is read: to move one costs more than
+// a call.
+#[inline(always)]
+pub(crate) fn call(alloc: Global, engine: &mut Handle, event: &Event) -> i64
+    ensures { Calls engine.old.shown event.now result engine.new.shown }
+{
+    match reply_to(alloc, engine, event) {
+        Some(reply) => code(&reply),
+        None => NO_ENGINE,
+    }
+}
+
+/// Does a step of a process, and answers its number.
+#[inline(always)]
+pub(crate) fn call_of(alloc: Global, engine: &mut Handle, pid: u32, step: Step) -> i64
+    ensures { Calls engine.old.shown (Event.Proc pid step) result engine.new.shown }
+{
+    call(alloc, engine, &Event::Proc(Pid(pid), step))
+}

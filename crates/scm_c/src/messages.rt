@@ -1,0 +1,192 @@
+//! Messages: sent, received and peeked at.
+ghost use Rattle.std.specs.Prelude.{◌≡◌, [], length, take};
+ghost use Rattle.af_steps.specs.Outcome.{reply_of};
+ghost use Rattle.scm_c.specs.Calls.{Calls, CallsInto};
+ghost use Rattle.scm_c.specs.Codes.{code_of};
+ghost use Rattle.scm_c.specs.Written.{as_u32, over, received_written};
+
+use crate::answers::{NO_ENGINE, code, refusal};
+use crate::engine::reply_to;
+use crate::handle::Handle;
+use af_base::errno::Errno;
+use af_base::events::{Event, Reply, Step};
+use af_base::limits::SCM_MAX_FD;
+use af_base::names::{Fd, Pid};
+use arrayvec::ArrayVec;
+use std::alloc::Global;
+
+/// As many numbers as a message may have, and one more: with that many it is refused.
+const MOST: usize = SCM_MAX_FD + 1;
+
+/// What a receive or a peek tells beside bytes and numbers.
+#[repr(C)]
+#[derive(Clone, Copy)]
+pub struct Received {
+    /// How many numbers it got.
+    pub fds: usize,
+    /// Bytes of the message did not fit (MSG_TRUNC).
+    pub trunc: bool,
+    /// Descriptors of the message were not installed (MSG_CTRUNC).
+    pub ctrunc: bool,
+}
+
+/// A process sends bytes, and with them what these numbers stand for (sendmsg(2)). Answers how many
+/// bytes were sent. The bytes are copied once, and no memory is asked for before all else is tested.
+#[unsafe(no_mangle)]
+pub extern "C" fn scm_send(
+    alloc: Global,
+    engine: &mut Handle,
+    pid: u32,
+    fd: u32,
+    bytes: &[u8],
+    attach: &[u32],
+) -> i64
+    ensures { Calls engine.old.shown (Event.Proc pid (Step.Send fd bytes.now attach.now)) result engine.new.shown }
+{
+    let Some(mut inside) = engine.take(alloc) else {
+        return NO_ENGINE;
+    };
+    let mut first = ArrayVec::new();
+    push_first(attach, &mut first);
+    let outcome = inside.send(Pid(pid), Fd(fd), bytes, first.as_slice());
+    *engine = Handle::of(inside);
+    outcome_code(&outcome)
+}
+
+/// What a send comes to, as the number that a call answers.
+fn outcome_code(outcome: &Result<Reply, Errno>) -> i64
+    ensures { result ≡ code_of (reply_of outcome.now) }
+{
+    match outcome {
+        Ok(reply) => code(reply),
+        Err(error) => refusal(*error),
+    }
+}
+
+/// Puts the first of these numbers into an empty list: all that a message may have, and one more.
+fn push_first(fds: &[u32], first: &mut ArrayVec<Fd, MOST>)
+    requires { first.old.items ≡ [] }
+    ensures { first.new.items ≡ take MOST fds.now }
+{
+    for fd in &fds[..MOST.min(fds.len())] {
+        first.push(Fd(*fd));
+    }
+}
+
+/// A process receives at most as many bytes and descriptors as there are places for (recvmsg(2)).
+/// Answers how many bytes; 0 says that nothing is left and the peer is gone.
+#[unsafe(no_mangle)]
+pub extern "C" fn scm_recv(
+    alloc: Global,
+    engine: &mut Handle,
+    pid: u32,
+    fd: u32,
+    bytes: &mut [u8],
+    fds: &mut [u32],
+    out: &mut Received,
+) -> i64
+    ensures { CallsInto engine.old.shown (Event.Proc pid (Step.Recv fd (as_u32 (length bytes.old)) (as_u32 (length fds.old)))) received_written (bytes.old, fds.old, out.old) result (bytes.new, fds.new, out.new) engine.new.shown }
+{
+    let step = Step::Recv {
+        on: Fd(fd),
+        max_bytes: as_u32(bytes.len()),
+        max_fds: as_u32(fds.len()),
+    };
+    receive(alloc, engine, &Event::Proc(Pid(pid), step), bytes, fds, out)
+}
+
+/// A process sees what a receive would take, which stays where it is (recvmsg(2), MSG_PEEK). Answers
+/// how many bytes; 0 says that nothing is left and the peer is gone.
+#[unsafe(no_mangle)]
+pub extern "C" fn scm_peek(
+    alloc: Global,
+    engine: &mut Handle,
+    pid: u32,
+    fd: u32,
+    bytes: &mut [u8],
+    fds: &mut [u32],
+    out: &mut Received,
+) -> i64
+    ensures { CallsInto engine.old.shown (Event.Proc pid (Step.Peek fd (as_u32 (length bytes.old)) (as_u32 (length fds.old)))) received_written (bytes.old, fds.old, out.old) result (bytes.new, fds.new, out.new) engine.new.shown }
+{
+    let step = Step::Peek {
+        on: Fd(fd),
+        max_bytes: as_u32(bytes.len()),
+        max_fds: as_u32(fds.len()),
+    };
+    receive(alloc, engine, &Event::Proc(Pid(pid), step), bytes, fds, out)
+}
+
+/// Does this receive or peek, and writes what it got.
+fn receive(
+    alloc: Global,
+    engine: &mut Handle,
+    event: &Event,
+    bytes: &mut [u8],
+    fds: &mut [u32],
+    out: &mut Received,
+) -> i64
+    ensures { CallsInto engine.old.shown event.now received_written (bytes.old, fds.old, out.old) result (bytes.new, fds.new, out.new) engine.new.shown }
+{
+    let Some(reply) = reply_to(alloc, engine, event) else {
+        return NO_ENGINE;
+    };
+    write_received(&reply, bytes, fds, out);
+    code(&reply)
+}
+
+/// A length as a number of 32 bits; the largest stands for all above it.
+fn as_u32(length: usize) -> u32
+    ensures { result ≡ as_u32 length }
+{
+    length.min(4_294_967_295) as u32
+}
+
+/// Writes what a receive or a peek got.
+fn write_received(reply: &Reply, bytes: &mut [u8], fds: &mut [u32], out: &mut Received)
+    ensures { (bytes.new, fds.new, out.new) ≡ received_written reply.now (bytes.old, fds.old, out.old) }
+{
+    match reply {
+        Reply::Got {
+            bytes: got,
+            fds: installed,
+            trunc,
+            ctrunc,
+        } => {
+            write_bytes(got.as_slice(), bytes);
+            write_numbers(installed.as_slice(), fds);
+            *out = Received {
+                fds: installed.len(),
+                trunc: *trunc,
+                ctrunc: *ctrunc,
+            };
+        }
+        Reply::End => {
+            *out = Received {
+                fds: 0,
+                trunc: false,
+                ctrunc: false,
+            };
+        }
+        _ => {}
+    }
+}
+
+/// Writes these bytes over the beginning of the place, as many as fit.
+fn write_bytes(from: &[u8], to: &mut [u8])
+    ensures { to.new ≡ over from.now to.old }
+{
+    let count = from.len().min(to.len());
+    to[..count].copy_from_slice(&from[..count]);
+}
+
+/// Writes these numbers over the beginning of the place, as many as fit.
+fn write_numbers(from: &[Fd], to: &mut [u32])
+    ensures { to.new ≡ over from.now to.old }
+{
+    let count = from.len().min(to.len());
+    for i in 0..count {
+        let fd = &from[i];
+        to[i] = fd.0;
+    }
+}

@@ -1,0 +1,73 @@
+//! Passes of the collector.
+ghost use Rattle.std.specs.Prelude.{◌≡◌};
+ghost use Rattle.scm_c.specs.Calls.{CallsInto};
+ghost use Rattle.scm_c.specs.Written.{begun_written, finished_written};
+
+use crate::answers::{NO_ENGINE, code};
+use crate::engine::reply_to;
+use crate::handle::Handle;
+use af_base::events::{Event, Reply};
+use std::alloc::Global;
+
+/// A pass that is over.
+#[repr(C)]
+#[derive(Clone, Copy)]
+pub struct Finished {
+    /// Its number.
+    pub pass: u64,
+    /// How many sockets were garbage.
+    pub reclaimed: u64,
+}
+
+/// A pass of the collector begins, and its number is written. It costs the same with few files and
+/// with many.
+#[unsafe(no_mangle)]
+pub extern "C" fn scm_begin(alloc: Global, engine: &mut Handle, pass: &mut u64) -> i64
+    ensures { CallsInto engine.old.shown Event.Begin begun_written pass.old result pass.new engine.new.shown }
+{
+    let Some(reply) = reply_to(alloc, engine, &Event::Begin) else {
+        return NO_ENGINE;
+    };
+    if let Reply::Started(number) = &reply {
+        *pass = *number;
+    }
+    code(&reply)
+}
+
+/// The pass goes on, by at most so many files looked at. Answers 1 while it goes on, and 0 when it is
+/// over: then its number is written, and how many sockets it reclaimed.
+#[unsafe(no_mangle)]
+pub extern "C" fn scm_slice(
+    alloc: Global,
+    engine: &mut Handle,
+    budget: u32,
+    out: &mut Finished,
+) -> i64
+    ensures { CallsInto engine.old.shown (Event.Slice budget) finished_written out.old result out.new engine.new.shown }
+{
+    collect(alloc, engine, &Event::Slice(budget), out)
+}
+
+/// A whole pass of the collector: its number is written, and how many sockets it reclaimed.
+#[unsafe(no_mangle)]
+pub extern "C" fn scm_pass(alloc: Global, engine: &mut Handle, out: &mut Finished) -> i64
+    ensures { CallsInto engine.old.shown Event.Pass finished_written out.old result out.new engine.new.shown }
+{
+    collect(alloc, engine, &Event::Pass, out)
+}
+
+/// Does this event of the collector, and writes what it says of a pass that is over.
+fn collect(alloc: Global, engine: &mut Handle, event: &Event, out: &mut Finished) -> i64
+    ensures { CallsInto engine.old.shown event.now finished_written out.old result out.new engine.new.shown }
+{
+    let Some(reply) = reply_to(alloc, engine, event) else {
+        return NO_ENGINE;
+    };
+    if let Reply::Done { pass, reclaimed } = &reply {
+        *out = Finished {
+            pass: *pass,
+            reclaimed: *reclaimed,
+        };
+    }
+    code(&reply)
+}

@@ -1,0 +1,154 @@
+//! Sockets: made, named, connected and accepted.
+ghost use Rattle.std.specs.Prelude.{◌≡◌, ◌⊎◌, IfNone, IfOk, IfSome};
+ghost use Rattle.scm_c.specs.Calls.{Calls, CallsInto, Refuses};
+ghost use Rattle.scm_c.specs.Codes.{type_named};
+ghost use Rattle.scm_c.specs.Written.{pair_written};
+
+use crate::answers::{NO_ENGINE, code, refusal};
+use crate::engine::{call_of, reply_to};
+use crate::handle::Handle;
+use af_base::errno::Errno;
+use af_base::events::{Event, Reply, SockType, Step};
+use af_base::items::Items;
+use af_base::names::{Fd, Pid};
+use std::alloc::{AllocError, Global};
+
+/// The numbers of two sockets that are connected to each other.
+#[repr(C)]
+#[derive(Clone, Copy)]
+pub struct Pair {
+    pub first: u32,
+    pub second: u32,
+}
+
+/// A process makes two sockets that are connected to each other (socketpair(2)), and their numbers
+/// are written. A type that is none is refused by EINVAL.
+#[unsafe(no_mangle)]
+pub extern "C" fn scm_pair(
+    alloc: Global,
+    engine: &mut Handle,
+    pid: u32,
+    kind: u32,
+    out: &mut Pair,
+) -> i64
+    ensures made { IfSome (type_named kind) (λ k. CallsInto engine.old.shown (Event.Proc pid (Step.Pair k)) pair_written out.old result out.new engine.new.shown) }
+    ensures invalid { IfNone (type_named kind) (Refuses engine.old.shown Errno.EINVAL result engine.new.shown) }
+    ensures unwritten { IfNone (type_named kind) (out.new ≡ out.old) }
+{
+    let Some(kind) = type_named(kind) else {
+        return refusal(Errno::EINVAL);
+    };
+    let event = Event::Proc(Pid(pid), Step::Pair(kind));
+    let Some(reply) = reply_to(alloc, engine, &event) else {
+        return NO_ENGINE;
+    };
+    write_pair(&reply, out);
+    code(&reply)
+}
+
+/// Writes the numbers of a pair.
+fn write_pair(reply: &Reply, out: &mut Pair)
+    ensures { out.new ≡ pair_written reply.now out.old }
+{
+    if let Reply::Fds(first, second) = reply {
+        *out = Pair {
+            first: first.0,
+            second: second.0,
+        };
+    }
+}
+
+/// The type that C names by this number.
+fn type_named(kind: u32) -> Option<SockType>
+    ensures { result ≡ type_named kind }
+{
+    if kind == 1 {
+        return Some(SockType::Stream);
+    }
+    if kind == 2 {
+        return Some(SockType::Seqpacket);
+    }
+    None
+}
+
+/// A process makes a socket (socket(2)). Answers its number. A type that is none is refused by EINVAL.
+#[unsafe(no_mangle)]
+pub extern "C" fn scm_socket(alloc: Global, engine: &mut Handle, pid: u32, kind: u32) -> i64
+    ensures made { IfSome (type_named kind) (λ k. Calls engine.old.shown (Event.Proc pid (Step.Socket k)) result engine.new.shown) }
+    ensures invalid { IfNone (type_named kind) (Refuses engine.old.shown Errno.EINVAL result engine.new.shown) }
+{
+    match type_named(kind) {
+        Some(kind) => call_of(alloc, engine, pid, Step::Socket(kind)),
+        None => refusal(Errno::EINVAL),
+    }
+}
+
+/// A process gives a socket an abstract name (bind(2); unix(7)). The name is copied first: where
+/// memory for that is refused, the answer is ENOMEM.
+#[unsafe(no_mangle)]
+pub extern "C" fn scm_bind(
+    alloc: Global,
+    engine: &mut Handle,
+    pid: u32,
+    fd: u32,
+    name: &[u8],
+) -> i64
+    ensures { Calls engine.old.shown (Event.Proc pid (Step.Bind fd name.now)) result engine.new.shown ⊎ Refuses engine.old.shown Errno.ENOMEM result engine.new.shown }
+{
+    match items(alloc, name) {
+        Ok(name) => call_of(alloc, engine, pid, Step::Bind { on: Fd(fd), name }),
+        Err(_) => refusal(Errno::ENOMEM),
+    }
+}
+
+/// A process lets a socket wait for connections, so many at most (listen(2)).
+#[unsafe(no_mangle)]
+pub extern "C" fn scm_listen(
+    alloc: Global,
+    engine: &mut Handle,
+    pid: u32,
+    fd: u32,
+    backlog: u32,
+) -> i64
+    ensures { Calls engine.old.shown (Event.Proc pid (Step.Listen fd backlog)) result engine.new.shown }
+{
+    let step = Step::Listen {
+        on: Fd(fd),
+        backlog,
+    };
+    call_of(alloc, engine, pid, step)
+}
+
+/// A process connects a socket to the listener of this name (connect(2)). The name is copied first:
+/// where memory for that is refused, the answer is ENOMEM.
+#[unsafe(no_mangle)]
+pub extern "C" fn scm_connect(
+    alloc: Global,
+    engine: &mut Handle,
+    pid: u32,
+    fd: u32,
+    name: &[u8],
+) -> i64
+    ensures { Calls engine.old.shown (Event.Proc pid (Step.Connect fd name.now)) result engine.new.shown ⊎ Refuses engine.old.shown Errno.ENOMEM result engine.new.shown }
+{
+    match items(alloc, name) {
+        Ok(name) => call_of(alloc, engine, pid, Step::Connect { on: Fd(fd), name }),
+        Err(_) => refusal(Errno::ENOMEM),
+    }
+}
+
+/// A copy of these bytes.
+fn items(alloc: Global, bytes: &[u8]) -> Result<Items<u8>, AllocError>
+    ensures { IfOk result (λ copy. copy ≡ bytes.now) }
+{
+    Ok(Items::of(bytes.to_vec(alloc)?))
+}
+
+/// A process accepts the connection that waits longest at a listener (accept(2)). Answers the new
+/// socket's number.
+#[unsafe(no_mangle)]
+pub extern "C" fn scm_accept(alloc: Global, engine: &mut Handle, pid: u32, fd: u32) -> i64
+    ensures { Calls engine.old.shown (Event.Proc pid (Step.Accept fd)) result engine.new.shown }
+{
+    call_of(alloc, engine, pid, Step::Accept(Fd(fd)))
+}

@@ -1,0 +1,220 @@
+//! What can be seen of an engine. None of these changes it, or takes memory.
+ghost use Rattle.std.specs.Prelude.{◌≡◌, Some, pos};
+ghost use Rattle.std.specs.FinMap as map;
+ghost use Rattle.af_base.specs.Counts.{charged, inflight, refs, total};
+ghost use Rattle.af_steps.specs.Shown.{shown_of};
+ghost use Rattle.scm_c.specs.Calls.{Tells, TellsNumber};
+ghost use Rattle.scm_c.specs.Written.{IsNextLive, file_of, peer_number, state_number, type_number};
+
+use crate::answers::NO_ENGINE;
+use crate::handle::Handle;
+use af_base::events::{SockType, State};
+use af_base::names::{Ino, Uid};
+use af_steps::FileInfo;
+use std::alloc::Global;
+
+/// Writes how many places hold the file: its reference count. A stranger's is 0.
+#[unsafe(no_mangle)]
+pub extern "C" fn scm_refs(alloc: Global, engine: &mut Handle, ino: u64, count: &mut u64) -> i64
+    ensures same { engine.new.shown ≡ engine.old.shown }
+    ensures value { Tells engine.old.shown (λ m n. n ≡ refs m.world ino) count.old result count.new }
+{
+    let Some(inside) = engine.take(alloc) else {
+        return NO_ENGINE;
+    };
+    *count = inside.refs(Ino(ino));
+    *engine = Handle::of(inside);
+    0
+}
+
+/// Writes how often the file is in flight (unix(7), SCM_RIGHTS), repeats included. A stranger's is 0.
+#[unsafe(no_mangle)]
+pub extern "C" fn scm_inflight(alloc: Global, engine: &mut Handle, ino: u64, count: &mut u64) -> i64
+    ensures same { engine.new.shown ≡ engine.old.shown }
+    ensures value { Tells engine.old.shown (λ m n. n ≡ inflight m.world ino) count.old result count.new }
+{
+    let Some(inside) = engine.take(alloc) else {
+        return NO_ENGINE;
+    };
+    *count = inside.inflight(Ino(ino));
+    *engine = Handle::of(inside);
+    0
+}
+
+/// Writes how many descriptors in flight are charged to the user (unix(7), ETOOMANYREFS). A
+/// stranger's are 0.
+#[unsafe(no_mangle)]
+pub extern "C" fn scm_charged(alloc: Global, engine: &mut Handle, uid: u32, count: &mut u64) -> i64
+    ensures same { engine.new.shown ≡ engine.old.shown }
+    ensures value { Tells engine.old.shown (λ m n. n ≡ charged m.world uid) count.old result count.new }
+{
+    let Some(inside) = engine.take(alloc) else {
+        return NO_ENGINE;
+    };
+    *count = inside.charged(Uid(uid));
+    *engine = Handle::of(inside);
+    0
+}
+
+/// Writes how many descriptors are in flight.
+#[unsafe(no_mangle)]
+pub extern "C" fn scm_total(alloc: Global, engine: &mut Handle, count: &mut u64) -> i64
+    ensures same { engine.new.shown ≡ engine.old.shown }
+    ensures value { Tells engine.old.shown (λ m n. n ≡ total m.world) count.old result count.new }
+{
+    let Some(inside) = engine.take(alloc) else {
+        return NO_ENGINE;
+    };
+    *count = inside.total();
+    *engine = Handle::of(inside);
+    0
+}
+
+/// Writes how many files are live.
+#[unsafe(no_mangle)]
+pub extern "C" fn scm_live(alloc: Global, engine: &mut Handle, count: &mut u64) -> i64
+    ensures same { engine.new.shown ≡ engine.old.shown }
+    ensures value { Tells engine.old.shown (λ m n. n ≡ map.len m.world.files) count.old result count.new }
+{
+    let Some(inside) = engine.take(alloc) else {
+        return NO_ENGINE;
+    };
+    *count = inside.live() as u64;
+    *engine = Handle::of(inside);
+    0
+}
+
+/// Writes the least live file above that number, or 0 where none is above it.
+#[unsafe(no_mangle)]
+pub extern "C" fn scm_next_after(
+    alloc: Global,
+    engine: &mut Handle,
+    ino: u64,
+    next: &mut u64,
+) -> i64
+    ensures same { engine.new.shown ≡ engine.old.shown }
+    ensures value { Tells engine.old.shown (λ m n. IsNextLive m.world ino n) next.old result next.new }
+{
+    let Some(inside) = engine.take(alloc) else {
+        return NO_ENGINE;
+    };
+    *next = match inside.next_after(Ino(ino)) {
+        Some(found) => found.0,
+        None => 0,
+    };
+    *engine = Handle::of(inside);
+    0
+}
+
+/// Answers the pid that the next process gets.
+#[unsafe(no_mangle)]
+pub extern "C" fn scm_next_pid(alloc: Global, engine: &mut Handle) -> i64
+    ensures same { engine.new.shown ≡ engine.old.shown }
+    ensures value { TellsNumber engine.old.shown (λ m. pos m.world.next_pid) result }
+{
+    let Some(inside) = engine.take(alloc) else {
+        return NO_ENGINE;
+    };
+    let next = i64::from(inside.next_pid().0);
+    *engine = Handle::of(inside);
+    next
+}
+
+/// What a file is.
+#[repr(C)]
+#[derive(Clone, Copy)]
+pub struct File {
+    /// 0: no live file; 1: a stream socket; 2: a seqpacket socket; 3: a plain file.
+    pub kind: u32,
+    /// Of a socket, 0: never connected; 1: it listens; 2: connected; 3: its peer is gone.
+    pub state: u32,
+    /// The peer of a connected socket, and else 0.
+    pub peer: u64,
+    /// How many messages a socket has to receive.
+    pub messages: u64,
+    /// How many connections wait to be accepted at a listener.
+    pub embryos: u64,
+}
+
+/// Writes what the file is; of a stranger, that there is none.
+#[unsafe(no_mangle)]
+pub extern "C" fn scm_file(alloc: Global, engine: &mut Handle, ino: u64, out: &mut File) -> i64
+    ensures same { engine.new.shown ≡ engine.old.shown }
+    ensures value { Tells engine.old.shown (λ m f. f ≡ file_of (shown_of (map.get m.world.files ino))) out.old result out.new }
+{
+    let Some(inside) = engine.take(alloc) else {
+        return NO_ENGINE;
+    };
+    *out = match inside.file(Ino(ino)) {
+        Some(info) => file_of(&info),
+        None => bare(0),
+    };
+    *engine = Handle::of(inside);
+    0
+}
+
+/// A live file as C sees it.
+fn file_of(info: &FileInfo) -> File
+    ensures { result ≡ file_of (Some info.now) }
+{
+    match info {
+        FileInfo::Plain => bare(3),
+        FileInfo::Socket {
+            kind,
+            state,
+            messages,
+            embryos,
+        } => File {
+            kind: type_number(*kind),
+            state: state_number(*state),
+            peer: peer_number(*state),
+            messages: *messages as u64,
+            embryos: *embryos as u64,
+        },
+    }
+}
+
+/// A file of this kind, of which no more is known.
+fn bare(kind: u32) -> File
+    ensures { result ≡ record { kind = kind; state = 0; peer = 0; messages = 0; embryos = 0 } }
+{
+    File {
+        kind,
+        state: 0,
+        peer: 0,
+        messages: 0,
+        embryos: 0,
+    }
+}
+
+/// The number of a socket's type.
+fn type_number(kind: SockType) -> u32
+    ensures { result ≡ type_number kind }
+{
+    match kind {
+        SockType::Stream => 1,
+        SockType::Seqpacket => 2,
+    }
+}
+
+/// The number of a socket's state.
+fn state_number(state: State) -> u32
+    ensures { result ≡ state_number state }
+{
+    match state {
+        State::Idle => 0,
+        State::Listening(_) => 1,
+        State::Connected(_) => 2,
+        State::HungUp => 3,
+    }
+}
+
+/// The peer that a socket of this state has, or 0.
+fn peer_number(state: State) -> u64
+    ensures { result ≡ peer_number state }
+{
+    match state {
+        State::Connected(peer) => peer.0,
+        State::Idle | State::Listening(_) | State::HungUp => 0,
+    }
+}

@@ -1,0 +1,76 @@
+#!/bin/sh
+# Whether the library for C and Rust programs is what its header and its examples say.
+# usage: tests/embedding.sh out/libscmgc.a
+#
+# The header is held against the sources; the examples are built, run, and compared with their stored
+# output; bad numbers and want of memory are tried. What needs a tool that is not there is left out,
+# with a line that says so. The first that fails ends the script; else its last line is 'N passed, 0 failed'.
+set -eu
+library=$(cd "$(dirname "$1")" && pwd)/$(basename "$1")
+cd "$(dirname "$0")/.."
+room=$(mktemp -d)
+trap 'rm -rf "$room"' EXIT
+cc=${CC:-cc}
+passed=0
+checks="-std=c11 -O1 -g -Wall -Wextra -Werror -pedantic -Iinclude"
+
+passes() {
+    passed=$((passed + 1))
+    echo "embedding: $1"
+}
+
+has() {
+    command -v "$1" > /dev/null 2>&1
+}
+
+# Builds a program this way, with these words more, and runs it; its output is to be what is stored.
+holds() {
+    way=$1
+    source=$2
+    shift 2
+    name=$(basename "$source" .c)
+    $cc $checks "$source" "$library" -o "$room/$name" "$@"
+    "$room/$name" > "$room/$name.out"
+    if [ -f "examples/$name.out" ]; then
+        diff "examples/$name.out" "$room/$name.out"
+    fi
+    passes "$name passed$way"
+}
+
+if has python3 && has nm; then
+    python3 tests/header_holds.py include/scmgc.h crates "$library" examples/rust/src/ffi.rs
+    passes "the header holds"
+else
+    echo "embedding: no python3 or nm, so the header was not compared with the library"
+fi
+
+if has "$cc"; then
+    holds "" examples/c/script.c
+    holds "" examples/c/sandbox.c
+    holds "" tests/hostile.c
+    holds "" tests/no_memory.c -Wl,--wrap=malloc,--wrap=realloc
+    echo 'int main(void) { return 0; }' > "$room/empty.c"
+    sanitizers="-fsanitize=address,undefined -fno-sanitize-recover=all"
+    under=" under the sanitizers"
+    if $cc $sanitizers "$room/empty.c" -o "$room/empty" 2> "$room/why" && "$room/empty"; then
+        holds "$under" examples/c/script.c $sanitizers
+        holds "$under" examples/c/sandbox.c $sanitizers
+        holds "$under" tests/hostile.c $sanitizers
+        holds "$under" tests/no_memory.c $sanitizers -Wl,--wrap=malloc,--wrap=realloc
+    else
+        echo "embedding: no address sanitizer, so nothing was run under one"
+    fi
+else
+    echo "embedding: no C compiler, so the C programs were not built"
+fi
+
+if has cargo; then
+    SCMGC_LIB=$(dirname "$library") CARGO_TARGET_DIR=$room/cargo \
+        cargo run --quiet --offline --locked --manifest-path examples/rust/Cargo.toml > "$room/rust.out"
+    diff examples/sandbox.out "$room/rust.out"
+    passes "the Rust program passed"
+else
+    echo "embedding: no cargo, so the Rust program was not built"
+fi
+
+echo "$passed passed, 0 failed"

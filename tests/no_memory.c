@@ -1,0 +1,136 @@
+/* Want of memory: every allocation fails in turn. Each call is then refused by SCM_ENOMEM and leaves
+ * the engine as it was, or is done; asked again it is done; and the calls that never need memory are
+ * never refused. Link with -Wl,--wrap=malloc,--wrap=realloc. The status is 0 where all of that holds. */
+#include <scmgc.h>
+#include <stdio.h>
+#include <stdlib.h>
+#include <string.h>
+
+void *__real_malloc(size_t size);
+void *__real_realloc(void *old, size_t size);
+void *__wrap_malloc(size_t size);
+void *__wrap_realloc(void *old, size_t size);
+
+/* How many allocations there may be before one fails. Below 0 none does. */
+static long left = -1;
+
+static bool fails(void) {
+    return left >= 0 && left-- == 0;
+}
+
+void *__wrap_malloc(size_t size) {
+    return fails() ? NULL : __real_malloc(size);
+}
+
+void *__wrap_realloc(void *old, size_t size) {
+    return fails() ? NULL : __real_realloc(old, size);
+}
+
+static scm_engine engine = SCM_ENGINE_INIT;
+static int failures, refusals;
+
+/* What can be seen of the engine in short. */
+struct view {
+    int64_t next_pid;
+    uint64_t live, total, refs;
+};
+
+static struct view look(void) {
+    struct view view = {scm_next_pid(&engine), 0, 0, 0};
+    uint64_t ino = 0, count;
+    scm_live(&engine, &view.live);
+    scm_total(&engine, &view.total);
+    while (scm_next_after(&engine, ino, &ino) == 0 && ino != 0) {
+        scm_refs(&engine, ino, &count);
+        view.refs += count;
+    }
+    return view;
+}
+
+static bool same(struct view a, struct view b) {
+    return a.next_pid == b.next_pid && a.live == b.live && a.total == b.total && a.refs == b.refs;
+}
+
+/* A call, which is made again where it found no memory. It is to answer `wanted` then. */
+#define DONE(call, wanted) \
+    do { \
+        struct view before = look(); \
+        int64_t answer = (call); \
+        if (answer == -SCM_ENOMEM) { \
+            refusals++; \
+            if (!same(before, look())) \
+                failures++, fprintf(stderr, "line %d: changed\n", __LINE__); \
+            answer = (call); \
+        } \
+        if (answer != (wanted)) \
+            failures++, fprintf(stderr, "line %d: %s\n", __LINE__, scm_strerror(answer)); \
+    } while (0)
+
+/* A call that never needs memory. */
+#define FREE(call, wanted) \
+    do { \
+        if ((call) != (wanted)) \
+            failures++, fprintf(stderr, "line %d\n", __LINE__); \
+    } while (0)
+
+static const uint8_t *text(const char *s) {
+    return (const uint8_t *)s;
+}
+
+static void life(void) {
+    struct scm_pair pair = {0, 0};
+    struct scm_received got = {0, false, false};
+    struct scm_finished finished = {0, 0};
+    struct scm_checked checked = {0, 0};
+    uint8_t bytes[8];
+    uint32_t fds[8];
+
+    DONE(scm_spawn(&engine, 7, 64, false), 1);
+    DONE(scm_pair(&engine, 1, SCM_STREAM, &pair), 0);
+    DONE(scm_open(&engine, 1), 2);
+    DONE(scm_dup(&engine, 1, 2), 3);
+    DONE(scm_dup2(&engine, 1, 2, 40), 40);
+    fds[0] = 2, fds[1] = 0;
+    DONE(scm_send(&engine, 1, 1, text("hello"), 5, fds, 2), 5);
+    FREE(scm_send(&engine, 1, 1, text("hello"), 0, fds, 2), -SCM_EINVAL);
+    FREE(scm_send(&engine, 1, 2, text("hello"), 5, fds, 2), -SCM_ENOTSOCK);
+    DONE(scm_peek(&engine, 1, 0, bytes, 8, fds, 8, &got), 5);
+    FREE(got.fds == 2 && memcmp(bytes, "hello", 5) == 0, true);
+    FREE(scm_close(&engine, 1, fds[0]), 0);
+    FREE(scm_close(&engine, 1, fds[1]), 0);
+    DONE(scm_recv(&engine, 1, 0, bytes, 8, fds, 8, &got), 5);
+    FREE(got.fds == 2 && memcmp(bytes, "hello", 5) == 0, true);
+    FREE(scm_limit(&engine, 1, 128), 0);
+    DONE(scm_fork(&engine, 1), 2);
+    DONE(scm_socket(&engine, 1, SCM_SEQPACKET), 6);
+    DONE(scm_bind(&engine, 1, 6, text("name"), 4), 0);
+    DONE(scm_listen(&engine, 1, 6, 2), 0);
+    DONE(scm_socket(&engine, 1, SCM_SEQPACKET), 7);
+    DONE(scm_connect(&engine, 1, 7, text("name"), 4), 0);
+    DONE(scm_accept(&engine, 1, 6), 8);
+    fds[0] = 7;
+    DONE(scm_send(&engine, 1, 7, text("me"), 2, fds, 1), 2);
+    DONE(scm_check(&engine, &checked), 0);
+    FREE(scm_exit(&engine, 2), 0);
+    FREE(scm_close(&engine, 1, 40), 0);
+    FREE(scm_exit(&engine, 1), 0);
+    FREE(scm_pass(&engine, &finished), 0);
+    FREE(scm_live(&engine, &checked.live), 0);
+    FREE(checked.live == 0, true);
+}
+
+int main(void) {
+    for (long nth = 0; nth < 200; nth++) {
+        left = nth;
+        if (scm_engine_new(&engine) == -SCM_ENOMEM) {
+            refusals++;
+            if (engine.at != NULL || scm_engine_new(&engine) != 0)
+                return 1;
+        }
+        life();
+        scm_engine_free(&engine);
+        if (left >= 0)
+            break;
+    }
+    return failures == 0 && left >= 0 && refusals > 10 ? 0 : 1;
+}
