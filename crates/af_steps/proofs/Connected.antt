@@ -9,17 +9,15 @@ use Rattle.af_base.specs.declared.errno.Errno.TheVariants.{EAGAIN, EBADF, ECONNR
 use Rattle.af_base.specs.declared.events.Reply.TheVariants as reply
 use Rattle.af_base.specs.declared.events.SockType.{SockType}
 use Rattle.af_base.specs.declared.events.SockType.TheVariants.{Seqpacket, Stream}
-use Rattle.af_base.specs.declared.events.State.{State}
-use Rattle.af_base.specs.declared.events.State.TheVariants as state
 use Rattle.af_base.specs.declared.events.Step.TheVariants as step
 use Rattle.af_base.specs.Changes.{add_file, connected, dequeued, install, queued, with_socket}
 use Rattle.af_base.specs.Counts.{waiting}
 use Rattle.af_base.specs.Names.{named}
 use Rattle.af_base.specs.Places.{backlog_at, backlog_of, table_at}
 use Rattle.af_base.specs.Refusals.{first_fit, ino_named, ino_on, is_connected, is_full, is_listening, is_same_type, is_short, no_socket, process_at, refusal, room_of, socket_at, socket_named, socket_on}
-use Rattle.af_base.specs.Steps.{ProcessStep, connected_socket, first_embryo, free_at, with_embryo}
+use Rattle.af_base.specs.Steps.{connected_socket, first_embryo, free_at, with_embryo}
 use Rattle.af_base.specs.Unheld.{Settles}
-use Rattle.af_base.specs.Whole.{IsWhole, name_at}
+use Rattle.af_base.specs.Whole.{IsWhole}
 use Rattle.af_base.specs.World.{AsSocket, IsLive, Process, Socket, World}
 use Rattle.af_base.proofs.Embryos.{waiting-add_file, waiting-changed, waiting-none}
 use Rattle.af_base.proofs.Lookups.{none_some, told_apart}
@@ -27,9 +25,10 @@ use Rattle.af_base.proofs.Moved.{live-changed, others-changed}
 use Rattle.af_base.proofs.Named.{named-some}
 use Rattle.af_base.proofs.Opened.{blank-connected, blank-there, still-blank}
 use Rattle.af_base.proofs.Stepped.{none-fits}
+use Rattle.af_steps.specs.Outcome.{step_error}
 use Rattle.af_steps.specs.Rows.{accept_row, client_row, listener_row}
-use Rattle.af_steps.proofs.Outcomes.{done, starved}
-use Rattle.af_steps.proofs.Received.{file-is}
+use Rattle.af_steps.proofs.Outcomes.{Goes, done, starved}
+use Rattle.af_steps.proofs.Receiving.{file-is}
 use Rattle.af_steps.proofs.Refused.{passes-on, socket-is, tabled}
 
 -- Two types that are one are equal.
@@ -131,11 +130,11 @@ module _ (w : World) (p on : ℕ) (q : Process) (at : map.get w.processes p ≡ 
         ∷ (nat_eq (length (on_it i).backlog) 0, EAGAIN) ∷ (free i, EMFILE) ∷ [])) ∙ passes-on (accept_row x) ((false, EMFILE) ∷ []) given
 
     -- Memory was refused.
-    pub accept-starved : (new : World) → new ≡ w → ProcessStep w p (step.Accept on) (reply.Refused ENOMEM) new
-    accept-starved new same = starved w p (step.Accept on) new accept-fits refl same
+    pub accept-starved : step_error w p (step.Accept on) ≡ Some ENOMEM
+    accept-starved = starved w p (step.Accept on) accept-fits refl
 
     -- It comes into the table: that is where the step leads.
-    pub accept-done : (n : ℕ) (before placed new : World) → free_at w p 0 ≡ n → before ≡ w → placed ≡ install (with_socket before ino dequeued) p n (first_embryo w p on) → Settles placed new → ProcessStep w p (step.Accept on) (reply.Fd n) new
+    pub accept-done : (n : ℕ) (before placed new : World) → free_at w p 0 ≡ n → before ≡ w → placed ≡ install (with_socket before ino dequeued) p n (first_embryo w p on) → Settles placed new → Goes w p (step.Accept on) (reply.Fd n) new
     accept-done n before placed new least same after settles =
         done w p (step.Accept on) placed new (reply.Fd n) accept-fits (ap reply.Fd least)
         ((λ i. install (with_socket (sym same i) (same_ino i) dequeued) p (least i) (first_embryo w p on)) ∙ sym after) settles
@@ -155,12 +154,12 @@ module _ (w : World) (p on : ℕ) (q : Process) (at : map.get w.processes p ≡ 
           ∙ passes-on (client_row x) (listener_row l x.kind ++ ((false, ENFILE) ∷ [])) quiet ∙ passes-on (listener_row l x.kind) ((false, ENFILE) ∷ []) ready
 
       -- Memory was refused.
-      pub connect-starved : (new : World) → new ≡ w → ProcessStep w p (step.Connect on name) (reply.Refused ENOMEM) new
-      connect-starved new same = starved w p (step.Connect on name) new connect-fits refl same
+      pub connect-starved : step_error w p (step.Connect on name) ≡ Some ENOMEM
+      connect-starved = starved w p (step.Connect on name) connect-fits refl
 
       -- The embryo waits: that is where the step leads.
       pub connect-done : (e : ℕ) (made placed new : World) → e ≡ w.next_ino → made ≡ with_socket (add_file w (AsSocket (connected_socket x.kind ino))) ino (connected w.next_ino) → placed ≡ with_socket made g (queued e)
-          → Settles placed new → ProcessStep w p (step.Connect on name) reply.Ok new
+          → Settles placed new → Goes w p (step.Connect on name) reply.Ok new
       connect-done e made placed new next is_made after settles =
           let kinds : (socket_named w name).kind ≡ x.kind = ap (λ (s : Socket). s.kind) named_it ∙ one-type l.kind x.kind (not-not (is_same_type l.kind x.kind) (none-fits (listener_row l x.kind) ready).rest.here) in
           let to : ino_named w name ≡ g = ap (λ o. unwrap_or o 0) has in

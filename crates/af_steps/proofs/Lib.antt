@@ -1,7 +1,8 @@
 pub mod Outcomes
+pub mod Folded
 pub mod Numbers
 pub mod Paired
-pub mod Received
+pub mod Receiving
 pub mod Sent
 pub mod Refused
 pub mod Running

@@ -12,7 +12,7 @@ use Rattle.af_base.specs.World.{Plain, Process, World}
 use Rattle.af_base.specs.Places.{number_in, table_at}
 use Rattle.af_base.specs.Changes.{add_file, install, uninstall}
 use Rattle.af_base.specs.Refusals.{ino_on, is_beyond, is_full, is_short, no_process, process_at, refusal, step_row}
-use Rattle.af_base.specs.Steps.{ProcessStep, effect, free_at}
+use Rattle.af_base.specs.Steps.{effect, free_at}
 use Rattle.af_base.specs.Table.{free_numbers}
 use Rattle.af_base.specs.Unheld.{Settles}
 use Rattle.af_base.specs.Whole.{IsSound}
@@ -21,7 +21,8 @@ use Rattle.af_base.proofs.Lookups.{some_same}
 use Rattle.af_base.proofs.Moved.{there-table}
 use Rattle.af_base.proofs.Settling.{settles_none}
 use Rattle.af_hold.specs.Limits.{IsBelowLimit}
-use Rattle.af_steps.proofs.Outcomes.{done, starved}
+use Rattle.af_steps.specs.Outcome.{step_error}
+use Rattle.af_steps.proofs.Outcomes.{Goes, done, starved}
 use Rattle.af_steps.proofs.Paired.{passes}
 
 module _ (w : World) (p : ℕ) (q : Process) (at : map.get w.processes p ≡ Some q) where
@@ -68,7 +69,7 @@ module _ (w : World) (p : ℕ) (q : Process) (at : map.get w.processes p ≡ Som
       (passes (is_none (table_at w p n)) EBADF [] (ap is_none (on_table n ∙ stands)) refl)
 
   -- The number is free, and that is where the step leads.
-  pub close-done : (n f : ℕ) (new : World) → map.get q.table n ≡ Some f → Settles (uninstall w p n) new → ProcessStep w p (step.Close n) reply.Ok new
+  pub close-done : (n f : ℕ) (new : World) → map.get q.table n ≡ Some f → Settles (uninstall w p n) new → Goes w p (step.Close n) reply.Ok new
   close-done n f new stands settles = done w p (step.Close n) (uninstall w p n) new reply.Ok (close-fits n f stands) refl refl settles
 
   module _ (n : ℕ) (least : slice_get (free_numbers q) 0 ≡ Some n) where
@@ -109,7 +110,7 @@ module _ (w : World) (p : ℕ) (q : Process) (at : map.get w.processes p ≡ Som
         (passes (is_short (process_at w p) 1) EMFILE ((is_full w 1, ENFILE) ∷ []) not-short (passes (is_full w 1) ENFILE [] room refl))
 
     -- The file at its number is where the step leads.
-    pub open-done : (added placed new : World) (f : ℕ) → is_full w 1 ≡ false → added ≡ add_file w Plain → f ≡ w.next_ino → placed ≡ install added p n f → Settles placed new → ProcessStep w p step.Open (reply.Fd n) new
+    pub open-done : (added placed new : World) (f : ℕ) → is_full w 1 ≡ false → added ≡ add_file w Plain → f ≡ w.next_ino → placed ≡ install added p n f → Settles placed new → Goes w p step.Open (reply.Fd n) new
     open-done added placed new f room is ino after settles =
         done w p step.Open placed new (reply.Fd n) (open-fits room) (ap reply.Fd is-free_at)
         ((λ i. install (sym is i) p (is-free_at i) (sym ino i)) ∙ sym after) settles
@@ -123,7 +124,7 @@ module _ (w : World) (p : ℕ) (q : Process) (at : map.get w.processes p ≡ Som
         (passes (is_none (table_at w p from)) EBADF ((is_short (process_at w p) 1, EMFILE) ∷ []) (ap is_none (on_table from ∙ stands)) (passes (is_short (process_at w p) 1) EMFILE [] not-short refl))
 
     -- That is where the step leads.
-    pub dup-done : (from f : ℕ) (before placed new : World) → map.get q.table from ≡ Some f → before ≡ w → placed ≡ install before p n f → Settles placed new → ProcessStep w p (step.Dup from) (reply.Fd n) new
+    pub dup-done : (from f : ℕ) (before placed new : World) → map.get q.table from ≡ Some f → before ≡ w → placed ≡ install before p n f → Settles placed new → Goes w p (step.Dup from) (reply.Fd n) new
     dup-done from f before placed new stands is after settles =
         let ino : ino_on w p from ≡ f = ap (λ o. unwrap_or o 0) (on_table from ∙ stands) in
         done w p (step.Dup from) placed new (reply.Fd n) (dup-fits from f stands) (ap reply.Fd is-free_at)
@@ -139,7 +140,7 @@ module _ (w : World) (p : ℕ) (q : Process) (at : map.get w.processes p ≡ Som
         (passes (is_none (table_at w p from)) EBADF ((is_beyond w p from to, EBADF) ∷ []) (ap is_none (on_table from ∙ stands)) (passes (is_beyond w p from to) EBADF [] within refl))
 
     -- A number in place of itself changes nothing.
-    pub same-done : IsSound w → nat_eq to from ≡ true → ProcessStep w p (step.Dup2 from to) (reply.Fd to) w
+    pub same-done : IsSound w → nat_eq to from ≡ true → Goes w p (step.Dup2 from to) (reply.Fd to) w
     same-done sound same =
         let within : is_beyond w p from to ≡ false = ap (λ b. not b && nat_le (process_at w p).limit to) same in
         let leads : effect w p (step.Dup2 from to) ≡ w = ap (λ b. if b then w else install w p to (ino_on w p from)) same in
@@ -153,11 +154,11 @@ module _ (w : World) (p : ℕ) (q : Process) (at : map.get w.processes p ≡ Som
           λ i. not (other i) && under i
 
       -- Memory may be refused.
-      pub moved-starved : (new : World) → new ≡ w → ProcessStep w p (step.Dup2 from to) (reply.Refused ENOMEM) new
-      moved-starved new same = starved w p (step.Dup2 from to) new (fits-moved beyond) other same
+      pub moved-starved : step_error w p (step.Dup2 from to) ≡ Some ENOMEM
+      moved-starved = starved w p (step.Dup2 from to) (fits-moved beyond) other
 
       -- In place of what it stood for: that is where the step leads.
-      pub moved-done : (before placed new : World) → before ≡ w → placed ≡ install before p to f → Settles placed new → ProcessStep w p (step.Dup2 from to) (reply.Fd to) new
+      pub moved-done : (before placed new : World) → before ≡ w → placed ≡ install before p to f → Settles placed new → Goes w p (step.Dup2 from to) (reply.Fd to) new
       moved-done before placed new is after settles =
           let ino : ino_on w p from ≡ f = ap (λ o. unwrap_or o 0) (on_table from ∙ stands) in
           let leads : effect w p (step.Dup2 from to) ≡ placed = ap (λ b. if b then w else install w p to (ino_on w p from)) other ∙ (λ i. install (sym is i) p to (ino i)) ∙ sym after in

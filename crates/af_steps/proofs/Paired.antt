@@ -13,12 +13,12 @@ use Rattle.af_base.specs.declared.events.Step.TheVariants as step
 use Rattle.af_base.specs.World.{Process, World}
 use Rattle.af_base.specs.Changes.{install}
 use Rattle.af_base.specs.Refusals.{Row, first_fit, is_full, is_short, no_process, process_at, refusal, step_row}
-use Rattle.af_base.specs.Steps.{ProcessStep, effect, free_at, with_pair}
+use Rattle.af_base.specs.Steps.{effect, free_at, with_pair}
 use Rattle.af_base.specs.Table.{free_numbers, lowest_free}
 use Rattle.af_base.specs.Unheld.{Settles}
 use Rattle.af_base.proofs.Free.{AreFree, free-free_numbers}
 use Rattle.af_base.proofs.Lookups.{insert-other, told_apart}
-use Rattle.af_steps.proofs.Outcomes.{done}
+use Rattle.af_steps.proofs.Outcomes.{Goes, done}
 
 -- These two are the lowest free numbers of the process.
 pub record AreLowest (q : Process) (n m : ℕ) : Type 0 where
@@ -92,7 +92,7 @@ module _ (w : World) (p : ℕ) (kind : SockType) (q : Process) (n m : ℕ) (at :
 
   -- Both sockets, each with its number: that is where the step leads.
   pub pair-done : (added one placed new : World) (f g : ℕ) → is_full w 2 ≡ false → added ≡ with_pair w kind → f ≡ w.next_ino → g ≡ w.next_ino + 1 → one ≡ install added p n f → placed ≡ install one p m g → Settles placed new
-      → ProcessStep w p (step.Pair kind) (reply.Fds n m) new
+      → Goes w p (step.Pair kind) (reply.Fds n m) new
   pair-done added one placed new f g room is first second after last settles =
       let lower : free_at w p 0 ≡ n = ap (λ r. slice_index (free_numbers r) 0) is_process ∙ sym two.first in
       let higher : free_at w p 1 ≡ m = ap (λ r. slice_index (free_numbers r) 1) is_process ∙ sym two.second in

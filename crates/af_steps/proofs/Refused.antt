@@ -6,17 +6,16 @@ use Rattle.std.specs.List.{list_any}
 use Rattle.std.specs.Option.{option_and_then, option_map_or}
 use Rattle.af_base.specs.declared.errno.Errno.{Errno}
 use Rattle.af_base.specs.declared.errno.Errno.TheVariants.{EAGAIN, EBADF, EINVAL, EMSGSIZE, ENOBUFS, ENOMEM, ENOTCONN, ENOTSOCK, EPIPE, ESRCH, ETOOMANYREFS}
-use Rattle.af_base.specs.declared.events.Reply.TheVariants as reply
 use Rattle.af_base.specs.declared.events.Step.TheVariants as step
 use Rattle.af_base.specs.declared.limits.TheConstants.{MAX_BYTES, MAX_INFLIGHT, MAX_MESSAGES, SCM_MAX_FD}
 use Rattle.af_base.specs.Places.{queue_at, queue_of, table_at}
 use Rattle.af_base.specs.World.{AsSocket, File, Plain, Process, Socket, World}
 use Rattle.af_base.specs.Counts.{charged, total}
 use Rattle.af_base.specs.Refusals.{Row, first_fit, ino_on, is_connected, is_hung_up, is_over_limit, no_process, no_socket, peer_of, process_at, refusal, socket_at, socket_of, socket_on}
-use Rattle.af_base.specs.Steps.{ProcessStep}
 use Rattle.af_base.proofs.Lookups.{none_some, some_same}
 use Rattle.af_base.proofs.Moved.{there-table}
 use Rattle.af_base.specs.Refusals.{send_row}
+use Rattle.af_steps.specs.Outcome.{step_error}
 use Rattle.af_steps.specs.Rows.{parts_row, peer_row}
 use Rattle.af_steps.proofs.Outcomes.{refused, starved}
 
@@ -80,12 +79,16 @@ module _ (w : World) (p on : ℕ) (q : Process) (at : map.get w.processes p ≡ 
         ∷ (nat_lt 0 (length attach) && is_over_limit w (is_process i), ETOOMANYREFS) ∷ (nat_lt MAX_INFLIGHT (total w + length attach), ENOBUFS)
         ∷ (nat_le MAX_MESSAGES (length (queue_at w (peer_of (socket-is i).state))), EAGAIN) ∷ [])
 
+    -- Its bytes or its numbers are refused.
+    pub refused-parts : (e : Errno) → first_fit (parts_row q bytes attach) ≡ Some e → step_error w p (step.Send on bytes attach) ≡ Some e
+    refused-parts e fits = refused w p (step.Send on bytes attach) e (parts ∙ goes-on (parts_row q bytes attach) (peer_row x.state ++ (charges ++ full)) e fits)
+
     module _ (given : first_fit (parts_row q bytes attach) ≡ None) where
       after-parts : refusal w p (step.Send on bytes attach) ≡ first_fit (peer_row x.state ++ (charges ++ full))
       after-parts = parts ∙ passes-on (parts_row q bytes attach) (peer_row x.state ++ (charges ++ full)) given
 
       -- It can talk to nobody.
-      pub refused-peer : (e : Errno) → first_fit (peer_row x.state) ≡ Some e → ProcessStep w p (step.Send on bytes attach) (reply.Refused e) w
+      pub refused-peer : (e : Errno) → first_fit (peer_row x.state) ≡ Some e → step_error w p (step.Send on bytes attach) ≡ Some e
       refused-peer e fits = refused w p (step.Send on bytes attach) e (after-parts ∙ goes-on (peer_row x.state) (charges ++ full) e fits)
 
       module _ (alive : first_fit (peer_row x.state) ≡ None) where
@@ -93,7 +96,7 @@ module _ (w : World) (p on : ℕ) (q : Process) (at : map.get w.processes p ≡ 
         after-peer = after-parts ∙ passes-on (peer_row x.state) (charges ++ full) alive
 
         -- Too much is in flight.
-        pub refused-charge : (e : Errno) → first_fit charges ≡ Some e → ProcessStep w p (step.Send on bytes attach) (reply.Refused e) w
+        pub refused-charge : (e : Errno) → first_fit charges ≡ Some e → step_error w p (step.Send on bytes attach) ≡ Some e
         refused-charge e fits = refused w p (step.Send on bytes attach) e (after-peer ∙ goes-on charges full e fits)
 
         module _ (paid : first_fit charges ≡ None) (f : ℕ) (to : f ≡ peer_of x.state) where
@@ -101,7 +104,7 @@ module _ (w : World) (p on : ℕ) (q : Process) (at : map.get w.processes p ≡ 
           after-charge = after-peer ∙ passes-on charges full paid ∙ ap (λ g. first_fit ((nat_le MAX_MESSAGES (length (queue_at w g)), EAGAIN) ∷ [])) (sym to)
 
           -- The queue is full.
-          pub refused-full : nat_le MAX_MESSAGES (length (queue_at w f)) ≡ true → ProcessStep w p (step.Send on bytes attach) (reply.Refused EAGAIN) w
+          pub refused-full : nat_le MAX_MESSAGES (length (queue_at w f)) ≡ true → step_error w p (step.Send on bytes attach) ≡ Some EAGAIN
           refused-full most = refused w p (step.Send on bytes attach) EAGAIN (after-charge ∙ ap (λ b. first_fit ((b, EAGAIN) ∷ [])) most)
 
           -- Nothing refuses it.
@@ -109,5 +112,5 @@ module _ (w : World) (p on : ℕ) (q : Process) (at : map.get w.processes p ≡ 
           send-fits room = after-charge ∙ ap (λ b. first_fit ((b, EAGAIN) ∷ [])) room
 
           -- Memory was refused.
-          pub send-starved : nat_le MAX_MESSAGES (length (queue_at w f)) ≡ false → (new : World) → new ≡ w → ProcessStep w p (step.Send on bytes attach) (reply.Refused ENOMEM) new
-          send-starved room new same = starved w p (step.Send on bytes attach) new (send-fits room) refl same
+          pub send-starved : nat_le MAX_MESSAGES (length (queue_at w f)) ≡ false → step_error w p (step.Send on bytes attach) ≡ Some ENOMEM
+          send-starved room = starved w p (step.Send on bytes attach) (send-fits room) refl

@@ -15,13 +15,13 @@ use Rattle.af_base.specs.Places.{InTable, queue_at, table_at}
 use Rattle.af_base.specs.Counts.{total}
 use Rattle.af_base.specs.Changes.{push_message}
 use Rattle.af_base.specs.Refusals.{ino_on, no_process, peer_of, process_at, refusal, socket_at, socket_of, socket_on, step_row}
-use Rattle.af_base.specs.Steps.{ProcessStep, effect}
+use Rattle.af_base.specs.Steps.{effect}
 use Rattle.af_base.specs.Unheld.{Settles}
 use Rattle.af_base.specs.Whole.{IsMessageWithin, IsSound, state_at, state_of}
 use Rattle.af_base.proofs.Moved.{there-table}
 use Rattle.af_base.proofs.Within.{neither}
 use Rattle.af_base.proofs.Stepped.{NoneFits, attached-most, attached-tabled, connected-socket, connected-to, none-fits, socket-there}
-use Rattle.af_steps.proofs.Outcomes.{done}
+use Rattle.af_steps.proofs.Outcomes.{Goes, done}
 
 module _ (w : World) (p on : ℕ) (bytes attach : List ℕ) (sound : IsSound w) (fits : refusal w p (step.Send on bytes attach) ≡ None) (q : Process) (at : map.get w.processes p ≡ Some q) where
   -- No test of the row fits.
@@ -71,7 +71,7 @@ module _ (w : World) (p on : ℕ) (bytes attach : List ℕ) (sound : IsSound w) 
         omega (arith, flying, attached-most w p attach, same, ap length carries)
 
     -- In the queue of the peer: that is where the step leads.
-    pub sent-done : (f : ℕ) (placed new : World) → f ≡ peer_of (socket_on w p on).state → placed ≡ push_message w f m → Settles placed new → ProcessStep w p (step.Send on bytes attach) (reply.Sent (length bytes)) new
+    pub sent-done : (f : ℕ) (placed new : World) → f ≡ peer_of (socket_on w p on).state → placed ≡ push_message w f m → Settles placed new → Goes w p (step.Send on bytes attach) (reply.Sent (length bytes)) new
     sent-done f placed new to after settles =
         let whole : m ≡ record { bytes = bytes; attached = filter_map (table_at w p) attach; user = (process_at w p).user } = is ∙ (λ i. record { bytes = bytes; attached = carries i; user = (sym is_process i).user }) in
         let leads : placed ≡ effect w p (step.Send on bytes attach) = after ∙ (λ i. push_message w (to i) (whole i)) in

@@ -2,8 +2,10 @@
 ghost use Rattle.std.specs.Prelude.{◌≡◌, ◌<◌, IfOk, IfErr, length};
 ghost use Rattle.std.specs.List.{zip};
 ghost use Rattle.af_base.specs.Run.{fresh, Run, Step};
-ghost use Rattle.af_steps.specs.Outcome.{Answers, reply_of};
+ghost use Rattle.af_steps.specs.Outcome.{Answers, finished_reply, got_reply, progress_reply, reply_of};
 
+use crate::messages::Received;
+use crate::passes::{Finished, Progress};
 use af_base::errno::Errno;
 use af_base::events;
 use af_base::events::{Event, Reply};
@@ -72,11 +74,11 @@ impl Engine {
                 uid,
                 nofile,
                 privileged,
-            } => self.start(*uid, *nofile, *privileged),
+            } => self.spawn(*uid, *nofile, *privileged).map(Reply::Pid),
             Event::Proc(pid, step) => self.step_of(*pid, step),
-            Event::Begin => self.begin(),
-            Event::Slice(budget) => self.slice(*budget),
-            Event::Pass => self.pass(),
+            Event::Begin => self.begin().map(Reply::Started),
+            Event::Slice(budget) => self.slice(*budget).map(progress_reply),
+            Event::Pass => self.pass().map(finished_reply),
         })
     }
 
@@ -86,35 +88,34 @@ impl Engine {
         ensures { Answers self.old pid step.now result self.new }
     {
         match step {
-            events::Step::Open => self.open(pid),
-            events::Step::Dup(from) => self.dup(pid, *from),
-            events::Step::Dup2(from, to) => self.dup2(pid, *from, *to),
-            events::Step::Close(fd) => self.close(pid, *fd),
-            events::Step::Fork => self.fork(pid),
-            events::Step::Exit => self.exit(pid),
-            events::Step::Pair(kind) => self.pair(pid, *kind),
-            events::Step::Socket(kind) => self.make_socket(pid, *kind),
-            events::Step::Bind { on, name } => self.bind(pid, *on, name),
-            events::Step::Listen { on, backlog } => self.listen(pid, *on, *backlog),
-            events::Step::Connect { on, name } => self.connect(pid, *on, name),
-            events::Step::Accept(on) => self.accept(pid, *on),
-            events::Step::Send { on, bytes, attach } => self.send(
-                pid,
-                *on,
-                bytes.as_slice(),
-                attach.as_slice(),
-            ),
+            events::Step::Open => self.open(pid).map(Reply::Fd),
+            events::Step::Dup(from) => self.dup(pid, *from).map(Reply::Fd),
+            events::Step::Dup2(from, to) => self.dup2(pid, *from, *to).map(Reply::Fd),
+            events::Step::Close(fd) => self.close(pid, *fd).map(|()| Reply::Ok),
+            events::Step::Fork => self.fork(pid).map(Reply::Pid),
+            events::Step::Exit => self.exit(pid).map(|()| Reply::Ok),
+            events::Step::Pair(kind) => self.pair(pid, *kind).map(|(n, m)| Reply::Fds(n, m)),
+            events::Step::Socket(kind) => self.socket(pid, *kind).map(Reply::Fd),
+            events::Step::Bind { on, name } => self.bind(pid, *on, name).map(|()| Reply::Ok),
+            events::Step::Listen { on, backlog } => self
+                .listen(pid, *on, *backlog)
+                .map(|()| Reply::Ok),
+            events::Step::Connect { on, name } => self.connect(pid, *on, name).map(|()| Reply::Ok),
+            events::Step::Accept(on) => self.accept(pid, *on).map(Reply::Fd),
+            events::Step::Send { on, bytes, attach } => self
+                .send(pid, *on, bytes.as_slice(), attach.as_slice())
+                .map(Reply::Sent),
             events::Step::Recv {
                 on,
                 max_bytes,
                 max_fds,
-            } => self.recv(pid, *on, *max_bytes, *max_fds),
+            } => self.recv(pid, *on, *max_bytes, *max_fds).map(got_reply),
             events::Step::Peek {
                 on,
                 max_bytes,
                 max_fds,
-            } => self.peek(pid, *on, *max_bytes, *max_fds),
-            events::Step::Limit(nofile) => self.limit(pid, *nofile),
+            } => self.peek(pid, *on, *max_bytes, *max_fds).map(got_reply),
+            events::Step::Limit(nofile) => self.limit(pid, *nofile).map(|()| Reply::Ok),
         }
     }
 
@@ -153,5 +154,45 @@ fn reply_of(outcome: Result<Reply, Errno>) -> Reply
     match outcome {
         Ok(reply) => reply,
         Err(error) => Reply::Refused(error),
+    }
+}
+
+/// The reply of a receive or a peek.
+fn got_reply(received: Received) -> Reply
+    ensures { result ≡ got_reply received }
+{
+    match received {
+        Received::Got {
+            bytes,
+            fds,
+            trunc,
+            ctrunc,
+        } => Reply::Got {
+            bytes,
+            fds,
+            trunc,
+            ctrunc,
+        },
+        Received::End => Reply::End,
+    }
+}
+
+/// The reply of a slice.
+fn progress_reply(progress: Progress) -> Reply
+    ensures { result ≡ progress_reply progress }
+{
+    match progress {
+        Progress::Working => Reply::Working,
+        Progress::Done(finished) => finished_reply(finished),
+    }
+}
+
+/// The reply of a pass that is over.
+fn finished_reply(finished: Finished) -> Reply
+    ensures { result ≡ finished_reply finished }
+{
+    Reply::Done {
+        pass: finished.pass,
+        reclaimed: finished.reclaimed,
     }
 }

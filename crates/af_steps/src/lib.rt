@@ -12,4 +12,6 @@ mod tables;
 mod views;
 
 pub use engine::{Engine, RunStopped};
+pub use messages::Received;
+pub use passes::{Finished, Progress};
 pub use views::FileInfo;

@@ -3,7 +3,7 @@ ghost use Rattle.std.specs.Prelude.{◌≡◌, ◌≤◌, Some, None, IfOk, IfEr
 ghost use Rattle.std.specs.List.{list_any};
 ghost use Rattle.std.specs.FinMap as map;
 ghost use Rattle.af_base.specs.Refusals.{first_fit, peer_of, socket_at};
-ghost use Rattle.af_steps.specs.Outcome.{Answers};
+ghost use Rattle.af_steps.specs.Outcome.{Does, Refuses, got_reply};
 ghost use Rattle.af_steps.specs.Rows.{parts_row, peer_row, receive_row};
 
 use crate::engine::Engine;
@@ -18,9 +18,25 @@ use af_table::Process;
 use smallvec::SmallVec;
 use std::alloc::{AllocError, Global};
 
+/// What a receive or a peek gives (recvmsg(2)).
+#[derive(Debug, PartialEq, Eq, Drop)]
+pub enum Received {
+    /// Bytes, and the numbers at which descriptors were installed.
+    Got {
+        bytes: Items<u8>,
+        fds: Items<Fd>,
+        /// Bytes of the message were dropped (MSG_TRUNC).
+        trunc: bool,
+        /// Descriptors of the message were not installed (MSG_CTRUNC).
+        ctrunc: bool,
+    },
+    /// Nothing is left to receive, and the peer is gone: as a receive of no bytes.
+    End,
+}
+
 impl Engine {
     /// The socket; a plain file and a stranger are none.
-    pub(crate) fn socket(&self, file: &FileRef) -> Option<&Socket>
+    pub(crate) fn socket_at(&self, file: &FileRef) -> Option<&Socket>
         ensures { option_copied result ≡ socket_at self.now.world file.now }
     {
         self.store.files().get(file)?.socket()
@@ -28,45 +44,47 @@ impl Engine {
 
     /// A process sends bytes, and with them what these numbers stand for (sendmsg(2)): the step `Send`
     /// of that process, for a caller whose bytes and numbers stand elsewhere. They are copied once.
-    pub fn send(&mut self, pid: Pid, on: Fd, bytes: &[u8], attach: &[Fd]) -> Result<Reply, Errno>
-        ensures { Answers self.old pid (Step.Send on bytes.now attach.now) result self.new }
+    pub fn send(&mut self, pid: Pid, on: Fd, bytes: &[u8], attach: &[Fd]) -> Result<u32, Errno>
+        ensures done { IfOk result (λ count. Does self.old pid (Step.Send on bytes.now attach.now) (Reply.Sent count) self.new) }
+        ensures refused { IfErr result (λ e. Refuses self.old pid (Step.Send on bytes.now attach.now) e self.new) }
     {
         let process = self.store.procs().find(pid).ok_or(Errno::ESRCH)?;
         let file = process.lookup(on).ok_or(Errno::EBADF)?;
-        let socket = self.socket(&file).ok_or(Errno::ENOTSOCK)?;
+        let socket = self.socket_at(&file).ok_or(Errno::ENOTSOCK)?;
         check_parts(process, bytes, attach)?;
         let peer = peer_of(socket)?;
         let (limit, privileged) = (process.limit(), process.is_privileged());
         self.store
             .may_send(process.user(), limit, privileged, attach.len())?;
-        if self.socket(&peer).unwrap().queue().len() >= MAX_MESSAGES {
+        if self.socket_at(&peer).unwrap().queue().len() >= MAX_MESSAGES {
             return Err(Errno::EAGAIN);
         }
         let message = message(self.alloc, process, bytes, attach)?;
         self.store.is_spared();
         self.store.put_msg(&peer, message)?;
         self.store.release();
-        Ok(Reply::Sent(bytes.len() as u32))
+        Ok(bytes.len() as u32)
     }
 
     /// A process receives at most so many bytes and so many descriptors (recvmsg(2)). A packet's bytes
     /// beyond `max_bytes` are dropped (recvmsg(2), MSG_TRUNC); a stream's wait for the next receive.
     /// Descriptors beyond `max_fds` or the free numbers are closed (unix(7), SCM_RIGHTS; MSG_CTRUNC).
-    pub(crate) fn recv(
+    pub fn recv(
         &mut self,
         pid: Pid,
         on: Fd,
         max_bytes: u32,
         max_fds: u32,
-    ) -> Result<Reply, Errno>
-        ensures { Answers self.old pid (Step.Recv on max_bytes max_fds) result self.new }
+    ) -> Result<Received, Errno>
+        ensures done { IfOk result (λ got. Does self.old pid (Step.Recv on max_bytes max_fds) (got_reply got) self.new) }
+        ensures refused { IfErr result (λ e. Refuses self.old pid (Step.Recv on max_bytes max_fds) e self.new) }
     {
         let process = self.store.procs().find(pid).ok_or(Errno::ESRCH)?;
         let file = process.lookup(on).ok_or(Errno::EBADF)?;
-        let socket = self.socket(&file).ok_or(Errno::ENOTSOCK)?;
+        let socket = self.socket_at(&file).ok_or(Errno::ENOTSOCK)?;
         check_receive(socket, max_bytes)?;
         if socket.queue().len() == 0 {
-            return Ok(Reply::End);
+            return Ok(Received::End);
         }
         let max = max_bytes as usize;
         let files = socket.queue().reach(socket.kind(), max);
@@ -81,21 +99,22 @@ impl Engine {
     /// A process sees what a receive would take, which stays in the queue (recvmsg(2), MSG_PEEK).
     /// Descriptors that are installed stand in a table and in the queue then, and the others in the
     /// queue alone. A second peek sees the same.
-    pub(crate) fn peek(
+    pub fn peek(
         &mut self,
         pid: Pid,
         on: Fd,
         max_bytes: u32,
         max_fds: u32,
-    ) -> Result<Reply, Errno>
-        ensures { Answers self.old pid (Step.Peek on max_bytes max_fds) result self.new }
+    ) -> Result<Received, Errno>
+        ensures done { IfOk result (λ got. Does self.old pid (Step.Peek on max_bytes max_fds) (got_reply got) self.new) }
+        ensures refused { IfErr result (λ e. Refuses self.old pid (Step.Peek on max_bytes max_fds) e self.new) }
     {
         let process = self.store.procs().find(pid).ok_or(Errno::ESRCH)?;
         let file = process.lookup(on).ok_or(Errno::EBADF)?;
-        let socket = self.socket(&file).ok_or(Errno::ENOTSOCK)?;
+        let socket = self.socket_at(&file).ok_or(Errno::ENOTSOCK)?;
         check_receive(socket, max_bytes)?;
         if socket.queue().len() == 0 {
-            return Ok(Reply::End);
+            return Ok(Received::End);
         }
         let max = max_bytes as usize;
         let count = socket
@@ -191,12 +210,12 @@ fn files_at(alloc: Global, process: &Process, fds: &[Fd]) -> Result<Attached, Al
 }
 
 /// The answer to a receive or a peek of this, whose first files were installed at these numbers.
-fn got(taken: Taken, fds: Vec<Fd>) -> Reply
-    ensures { result ≡ Reply.Got taken.message.bytes fds.items taken.trunc (nat_lt (length fds.items) (length taken.message.attached)) }
+fn got(taken: Taken, fds: Vec<Fd>) -> Received
+    ensures { result ≡ Received.Got taken.message.bytes fds.items taken.trunc (nat_lt (length fds.items) (length taken.message.attached)) }
 {
     let trunc = taken.trunc();
     let ctrunc = taken.attached().len() > fds.len();
-    Reply::Got {
+    Received::Got {
         bytes: Items::of(taken.into_bytes()),
         fds: Items::of(fds),
         trunc,

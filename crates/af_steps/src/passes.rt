@@ -1,29 +1,49 @@
 //! Passes of the collector.
-ghost use Rattle.std.specs.Prelude.{◌≡◌, ◌≤◌};
+ghost use Rattle.std.specs.Prelude.{◌≡◌, ◌≤◌, IfErr, IfOk};
 ghost use Rattle.af_base.specs.Pass.{Begins, GoesOn, PassesWhole, next_pass};
-ghost use Rattle.af_steps.specs.Outcome.{reply_of};
+ghost use Rattle.af_steps.specs.Outcome.{finished_reply, progress_reply};
 
 use crate::engine::Engine;
 use af_base::errno::Errno;
 use af_base::events::Reply;
 use af_base::limits::{MAX_BUDGET, MAX_PASS};
 
+/// A pass that is over.
+#[derive(Clone, Copy, Debug, PartialEq, Eq)]
+pub struct Finished {
+    /// The number of the pass, from 1 on.
+    pub pass: u64,
+    /// How many sockets were garbage.
+    pub reclaimed: u64,
+}
+
+/// Where a pass is after a slice.
+#[derive(Clone, Copy, Debug, PartialEq, Eq)]
+pub enum Progress {
+    /// It goes on.
+    Working,
+    /// It is over.
+    Done(Finished),
+}
+
 impl Engine {
     /// A pass begins, over the files that are there. It costs the same however many there are.
-    pub(crate) fn begin(&mut self) -> Result<Reply, Errno>
-        ensures { Begins self.old.pass self.old (reply_of result) self.new }
+    pub fn begin(&mut self) -> Result<u64, Errno>
+        ensures done { IfOk result (λ number. Begins self.old.pass self.old (Reply.Started number) self.new) }
+        ensures refused { IfErr result (λ e. Begins self.old.pass self.old (Reply.Refused e) self.new) }
     {
         if self.store.is_passing() {
             return Err(Errno::EBUSY);
         }
         self.store.begin();
         self.last_pass = next_pass(self.last_pass);
-        Ok(Reply::Started(self.last_pass))
+        Ok(self.last_pass)
     }
 
     /// The pass that runs goes on, by at most so many units: each visits, scans or sweeps one file.
-    pub(crate) fn slice(&mut self, budget: u32) -> Result<Reply, Errno>
-        ensures { GoesOn self.old.pass self.old budget (reply_of result) self.new }
+    pub fn slice(&mut self, budget: u32) -> Result<Progress, Errno>
+        ensures done { IfOk result (λ progress. GoesOn self.old.pass self.old budget (progress_reply progress) self.new) }
+        ensures refused { IfErr result (λ e. GoesOn self.old.pass self.old budget (Reply.Refused e) self.new) }
     {
         if !self.store.is_passing() {
             return Err(Errno::EIDLE);
@@ -32,24 +52,25 @@ impl Engine {
             return Err(Errno::EINVAL);
         }
         Ok(match self.store.slice(budget) {
-            None => Reply::Working,
-            Some(reclaimed) => Reply::Done {
+            None => Progress::Working,
+            Some(reclaimed) => Progress::Done(Finished {
                 pass: self.last_pass,
                 reclaimed,
-            },
+            }),
         })
     }
 
     /// A whole pass: all garbage goes, with what nothing but garbage held.
-    pub(crate) fn pass(&mut self) -> Result<Reply, Errno>
-        ensures { PassesWhole self.old.pass self.old (reply_of result) self.new }
+    pub fn pass(&mut self) -> Result<Finished, Errno>
+        ensures done { IfOk result (λ finished. PassesWhole self.old.pass self.old (finished_reply finished) self.new) }
+        ensures refused { IfErr result (λ e. PassesWhole self.old.pass self.old (Reply.Refused e) self.new) }
     {
         if self.store.is_passing() {
             return Err(Errno::EBUSY);
         }
         let reclaimed = self.store.collect();
         self.last_pass = next_pass(self.last_pass);
-        Ok(Reply::Done {
+        Ok(Finished {
             pass: self.last_pass,
             reclaimed,
         })

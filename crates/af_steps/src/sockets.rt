@@ -1,9 +1,9 @@
 //! Steps that make sockets, name them and connect them.
-ghost use Rattle.std.specs.Prelude.{◌≡◌, ◌↔◌, None, Some, IfErr, IsTrue, OnOk};
+ghost use Rattle.std.specs.Prelude.{◌≡◌, ◌↔◌, None, Some, IfErr, IfOk, IsTrue, OnOk};
 ghost use Rattle.std.specs.List.{list_all};
 ghost use Rattle.af_base.specs.Names.{is_name, is_name_byte};
 ghost use Rattle.af_base.specs.Refusals.{first_fit};
-ghost use Rattle.af_steps.specs.Outcome.{Answers};
+ghost use Rattle.af_steps.specs.Outcome.{Does, Refuses};
 ghost use Rattle.af_steps.specs.Rows.{accept_row, bind_row, client_row, listen_row, listener_row};
 
 use crate::engine::Engine;
@@ -16,8 +16,9 @@ use af_desc::Socket;
 
 impl Engine {
     /// A process makes two sockets that are connected to each other (socketpair(2)).
-    pub(crate) fn pair(&mut self, pid: Pid, kind: SockType) -> Result<Reply, Errno>
-        ensures { Answers self.old pid (Step.Pair kind) result self.new }
+    pub fn pair(&mut self, pid: Pid, kind: SockType) -> Result<(Fd, Fd), Errno>
+        ensures done { IfOk result (λ fds. Does self.old pid (Step.Pair kind) (Reply.Fds fds.0 fds.1) self.new) }
+        ensures refused { IfErr result (λ e. Refuses self.old pid (Step.Pair kind) e self.new) }
     {
         let process = self.store.procs().find(pid).ok_or(Errno::ESRCH)?;
         let (lower, higher) = process.lowest_two().ok_or(Errno::EMFILE)?;
@@ -29,12 +30,13 @@ impl Engine {
         self.store.table_in(pid, lower, first);
         self.store.table_in(pid, higher, second);
         self.store.release();
-        Ok(Reply::Fds(lower, higher))
+        Ok((lower, higher))
     }
 
     /// A process makes a socket (socket(2)).
-    pub(crate) fn make_socket(&mut self, pid: Pid, kind: SockType) -> Result<Reply, Errno>
-        ensures { Answers self.old pid (Step.Socket kind) result self.new }
+    pub fn socket(&mut self, pid: Pid, kind: SockType) -> Result<Fd, Errno>
+        ensures done { IfOk result (λ fd. Does self.old pid (Step.Socket kind) (Reply.Fd fd) self.new) }
+        ensures refused { IfErr result (λ e. Refuses self.old pid (Step.Socket kind) e self.new) }
     {
         let process = self.store.procs().find(pid).ok_or(Errno::ESRCH)?;
         let fd = process.lowest().ok_or(Errno::EMFILE)?;
@@ -45,73 +47,77 @@ impl Engine {
         let file = self.store.make_sock(kind)?;
         self.store.table_in(pid, fd, file);
         self.store.release();
-        Ok(Reply::Fd(fd))
+        Ok(fd)
     }
 
     /// A process gives a socket an abstract name (bind(2); unix(7)).
-    pub(crate) fn bind(&mut self, pid: Pid, on: Fd, name: &Items<u8>) -> Result<Reply, Errno>
-        ensures { Answers self.old pid (Step.Bind on name.now) result self.new }
+    pub fn bind(&mut self, pid: Pid, on: Fd, name: &Items<u8>) -> Result<(), Errno>
+        ensures done { OnOk result (Does self.old pid (Step.Bind on name.now) Reply.Ok self.new) }
+        ensures refused { IfErr result (λ e. Refuses self.old pid (Step.Bind on name.now) e self.new) }
     {
         let process = self.store.procs().find(pid).ok_or(Errno::ESRCH)?;
         let file = process.lookup(on).ok_or(Errno::EBADF)?;
-        let socket = self.socket(&file).ok_or(Errno::ENOTSOCK)?;
+        let socket = self.socket_at(&file).ok_or(Errno::ENOTSOCK)?;
         check_bind(socket, name.as_slice())?;
         if self.store.files().named(name).is_some() {
             return Err(Errno::EADDRINUSE);
         }
         self.store.bind(&file, name)?;
         self.store.release();
-        Ok(Reply::Ok)
+        Ok(())
     }
 
     /// A process lets a socket wait for connections, so many at most (listen(2)).
-    pub(crate) fn listen(&mut self, pid: Pid, on: Fd, backlog: u32) -> Result<Reply, Errno>
-        ensures { Answers self.old pid (Step.Listen on backlog) result self.new }
+    pub fn listen(&mut self, pid: Pid, on: Fd, backlog: u32) -> Result<(), Errno>
+        ensures done { OnOk result (Does self.old pid (Step.Listen on backlog) Reply.Ok self.new) }
+        ensures refused { IfErr result (λ e. Refuses self.old pid (Step.Listen on backlog) e self.new) }
     {
         let process = self.store.procs().find(pid).ok_or(Errno::ESRCH)?;
         let file = process.lookup(on).ok_or(Errno::EBADF)?;
-        let socket = self.socket(&file).ok_or(Errno::ENOTSOCK)?;
+        let socket = self.socket_at(&file).ok_or(Errno::ENOTSOCK)?;
         check_listen(socket, backlog)?;
         self.store.listen(&file, backlog)?;
         self.store.release();
-        Ok(Reply::Ok)
+        Ok(())
     }
 
     /// A process connects a socket to the listener of this name: to an embryo, which waits there to
     /// be accepted (connect(2)).
-    pub(crate) fn connect(&mut self, pid: Pid, on: Fd, name: &Items<u8>) -> Result<Reply, Errno>
-        ensures { Answers self.old pid (Step.Connect on name.now) result self.new }
+    pub fn connect(&mut self, pid: Pid, on: Fd, name: &Items<u8>) -> Result<(), Errno>
+        ensures done { OnOk result (Does self.old pid (Step.Connect on name.now) Reply.Ok self.new) }
+        ensures refused { IfErr result (λ e. Refuses self.old pid (Step.Connect on name.now) e self.new) }
     {
         let process = self.store.procs().find(pid).ok_or(Errno::ESRCH)?;
         let file = process.lookup(on).ok_or(Errno::EBADF)?;
-        let client = self.socket(&file).ok_or(Errno::ENOTSOCK)?;
+        let client = self.socket_at(&file).ok_or(Errno::ENOTSOCK)?;
         check_client(client)?;
         let listener = self.store.files().named(name).ok_or(Errno::ECONNREFUSED)?;
         let kind = client.kind();
-        check_listener(self.socket(&listener).unwrap(), kind)?;
+        check_listener(self.socket_at(&listener).unwrap(), kind)?;
         if self.store.files().is_full(1) {
             return Err(Errno::ENFILE);
         }
         let embryo = self.store.make_embryo(kind, &file)?;
         self.store.put_embryo(&listener, embryo);
         self.store.release();
-        Ok(Reply::Ok)
+        Ok(())
     }
 
     /// A process accepts the embryo that waits longest at a listener (accept(2)).
-    pub(crate) fn accept(&mut self, pid: Pid, on: Fd) -> Result<Reply, Errno>
-        ensures { Answers self.old pid (Step.Accept on) result self.new }
+    pub fn accept(&mut self, pid: Pid, on: Fd) -> Result<Fd, Errno>
+        ensures done { IfOk result (λ fd. Does self.old pid (Step.Accept on) (Reply.Fd fd) self.new) }
+        ensures refused { IfErr result (λ e. Refuses self.old pid (Step.Accept on) e self.new) }
     {
         let process = self.store.procs().find(pid).ok_or(Errno::ESRCH)?;
         let file = process.lookup(on).ok_or(Errno::EBADF)?;
-        let socket = self.socket(&file).ok_or(Errno::ENOTSOCK)?;
+        let socket = self.socket_at(&file).ok_or(Errno::ENOTSOCK)?;
         check_accept(socket)?;
         let fd = process.lowest().ok_or(Errno::EMFILE)?;
         self.store.is_spared();
         self.store.room_for(pid, 1)?;
         self.store.take_embryo(&file, pid, fd);
         self.store.release();
-        Ok(Reply::Fd(fd))
+        Ok(fd)
     }
 }
 

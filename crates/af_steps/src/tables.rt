@@ -1,7 +1,7 @@
 //! Steps that start and end processes, and those that change only tables.
-ghost use Rattle.std.specs.Prelude.{◌≡◌};
+ghost use Rattle.std.specs.Prelude.{◌≡◌, IfErr, IfOk, OnOk};
 ghost use Rattle.af_base.specs.Changes.{uninstall};
-ghost use Rattle.af_steps.specs.Outcome.{Answers, Starts};
+ghost use Rattle.af_steps.specs.Outcome.{Does, Refuses, RefusesStart, Starts};
 
 use crate::engine::Engine;
 use af_base::errno::Errno;
@@ -12,8 +12,9 @@ use af_collect::Store;
 
 impl Engine {
     /// A process starts, as after fork(2) and setuid(2), with an empty table.
-    pub(crate) fn start(&mut self, uid: Uid, nofile: u32, privileged: bool) -> Result<Reply, Errno>
-        ensures { Starts self.old uid nofile privileged result self.new }
+    pub fn spawn(&mut self, uid: Uid, nofile: u32, privileged: bool) -> Result<Pid, Errno>
+        ensures done { IfOk result (λ pid. Starts self.old uid nofile privileged pid self.new) }
+        ensures refused { IfErr result (λ e. RefusesStart self.old nofile e self.new) }
     {
         if nofile > MAX_NOFILE {
             return Err(Errno::ERANGE);
@@ -23,12 +24,13 @@ impl Engine {
         }
         let pid = self.store.spawn(uid, nofile, privileged)?;
         self.store.release();
-        Ok(Reply::Pid(pid))
+        Ok(pid)
     }
 
     /// A process opens a plain file (open(2)).
-    pub(crate) fn open(&mut self, pid: Pid) -> Result<Reply, Errno>
-        ensures { Answers self.old pid Step.Open result self.new }
+    pub fn open(&mut self, pid: Pid) -> Result<Fd, Errno>
+        ensures done { IfOk result (λ fd. Does self.old pid Step.Open (Reply.Fd fd) self.new) }
+        ensures refused { IfErr result (λ e. Refuses self.old pid Step.Open e self.new) }
     {
         let process = self.store.procs().find(pid).ok_or(Errno::ESRCH)?;
         let fd = process.lowest().ok_or(Errno::EMFILE)?;
@@ -39,12 +41,13 @@ impl Engine {
         let file = self.store.make_plain()?;
         self.store.table_in(pid, fd, file);
         self.store.release();
-        Ok(Reply::Fd(fd))
+        Ok(fd)
     }
 
     /// A process has a description at its lowest free number too (dup(2)).
-    pub(crate) fn dup(&mut self, pid: Pid, from: Fd) -> Result<Reply, Errno>
-        ensures { Answers self.old pid (Step.Dup from) result self.new }
+    pub fn dup(&mut self, pid: Pid, from: Fd) -> Result<Fd, Errno>
+        ensures done { IfOk result (λ fd. Does self.old pid (Step.Dup from) (Reply.Fd fd) self.new) }
+        ensures refused { IfErr result (λ e. Refuses self.old pid (Step.Dup from) e self.new) }
     {
         let process = self.store.procs().find(pid).ok_or(Errno::ESRCH)?;
         let file = process.lookup(from).ok_or(Errno::EBADF)?;
@@ -53,18 +56,19 @@ impl Engine {
         self.store.room_for(pid, 1)?;
         self.store.table_in(pid, fd, file);
         self.store.release();
-        Ok(Reply::Fd(fd))
+        Ok(fd)
     }
 
     /// A process has a description at another number too, in place of what that stood for (dup2(2)).
     /// A number in place of itself asks for no memory.
-    pub(crate) fn dup2(&mut self, pid: Pid, from: Fd, to: Fd) -> Result<Reply, Errno>
-        ensures { Answers self.old pid (Step.Dup2 from to) result self.new }
+    pub fn dup2(&mut self, pid: Pid, from: Fd, to: Fd) -> Result<Fd, Errno>
+        ensures done { IfOk result (λ fd. Does self.old pid (Step.Dup2 from to) (Reply.Fd fd) self.new) }
+        ensures refused { IfErr result (λ e. Refuses self.old pid (Step.Dup2 from to) e self.new) }
     {
         let process = self.store.procs().find(pid).ok_or(Errno::ESRCH)?;
         let file = process.lookup(from).ok_or(Errno::EBADF)?;
         if to == from {
-            return Ok(Reply::Fd(to));
+            return Ok(to);
         }
         if to.0 >= process.limit() {
             return Err(Errno::EBADF);
@@ -74,23 +78,25 @@ impl Engine {
         vacate(&mut self.store, pid, to);
         self.store.table_in(pid, to, file);
         self.store.release();
-        Ok(Reply::Fd(to))
+        Ok(to)
     }
 
     /// A process closes a number (close(2)). It takes no memory.
-    pub(crate) fn close(&mut self, pid: Pid, fd: Fd) -> Result<Reply, Errno>
-        ensures { Answers self.old pid (Step.Close fd) result self.new }
+    pub fn close(&mut self, pid: Pid, fd: Fd) -> Result<(), Errno>
+        ensures done { OnOk result (Does self.old pid (Step.Close fd) Reply.Ok self.new) }
+        ensures refused { IfErr result (λ e. Refuses self.old pid (Step.Close fd) e self.new) }
     {
         let process = self.store.procs().find(pid).ok_or(Errno::ESRCH)?;
         process.lookup(fd).ok_or(Errno::EBADF)?;
         self.store.table_out(pid, fd);
         self.store.release();
-        Ok(Reply::Ok)
+        Ok(())
     }
 
     /// A process makes a child with a copy of its table (fork(2)).
-    pub(crate) fn fork(&mut self, pid: Pid) -> Result<Reply, Errno>
-        ensures { Answers self.old pid Step.Fork result self.new }
+    pub fn fork(&mut self, pid: Pid) -> Result<Pid, Errno>
+        ensures done { IfOk result (λ child. Does self.old pid Step.Fork (Reply.Pid child) self.new) }
+        ensures refused { IfErr result (λ e. Refuses self.old pid Step.Fork e self.new) }
     {
         self.store.procs().find(pid).ok_or(Errno::ESRCH)?;
         if self.store.is_crowded() {
@@ -98,13 +104,14 @@ impl Engine {
         }
         let child = self.store.copy_for_fork(pid)?;
         self.store.release();
-        Ok(Reply::Pid(child))
+        Ok(child)
     }
 
     /// A process has another limit on its descriptors (setrlimit(2), RLIMIT_NOFILE). What is open stays
     /// open, also at or above the limit. It takes no memory.
-    pub(crate) fn limit(&mut self, pid: Pid, nofile: u32) -> Result<Reply, Errno>
-        ensures { Answers self.old pid (Step.Limit nofile) result self.new }
+    pub fn limit(&mut self, pid: Pid, nofile: u32) -> Result<(), Errno>
+        ensures done { OnOk result (Does self.old pid (Step.Limit nofile) Reply.Ok self.new) }
+        ensures refused { IfErr result (λ e. Refuses self.old pid (Step.Limit nofile) e self.new) }
     {
         self.store.procs().find(pid).ok_or(Errno::ESRCH)?;
         if nofile > MAX_NOFILE {
@@ -112,17 +119,18 @@ impl Engine {
         }
         self.store.set_limit(pid, nofile);
         self.store.release();
-        Ok(Reply::Ok)
+        Ok(())
     }
 
     /// A process ends, and all its numbers are closed (_exit(2)). It takes no memory.
-    pub(crate) fn exit(&mut self, pid: Pid) -> Result<Reply, Errno>
-        ensures { Answers self.old pid Step.Exit result self.new }
+    pub fn exit(&mut self, pid: Pid) -> Result<(), Errno>
+        ensures done { OnOk result (Does self.old pid Step.Exit Reply.Ok self.new) }
+        ensures refused { IfErr result (λ e. Refuses self.old pid Step.Exit e self.new) }
     {
         self.store.procs().find(pid).ok_or(Errno::ESRCH)?;
         self.store.remove_process(pid);
         self.store.release();
-        Ok(Reply::Ok)
+        Ok(())
     }
 }
 

@@ -1,14 +1,11 @@
 //! Messages: sent, received and peeked at.
 ghost use Rattle.std.specs.Prelude.{◌≡◌, [], length, take};
-ghost use Rattle.af_steps.specs.Outcome.{reply_of};
 ghost use Rattle.scm_c.specs.Calls.{Calls, CallsInto};
-ghost use Rattle.scm_c.specs.Codes.{code_of};
 ghost use Rattle.scm_c.specs.Written.{as_u32, over, received_written};
 
 use crate::answers::{NO_ENGINE, code, refusal};
 use crate::engine::reply_to;
 use crate::handle::Handle;
-use af_base::errno::Errno;
 use af_base::events::{Event, Reply, Step};
 use af_base::limits::SCM_MAX_FD;
 use af_base::names::{Fd, Pid};
@@ -50,16 +47,9 @@ pub extern "C" fn scm_send(
     push_first(attach, &mut first);
     let outcome = inside.send(Pid(pid), Fd(fd), bytes, first.as_slice());
     *engine = Handle::of(inside);
-    outcome_code(&outcome)
-}
-
-/// What a send comes to, as the number that a call answers.
-fn outcome_code(outcome: &Result<Reply, Errno>) -> i64
-    ensures { result ≡ code_of (reply_of outcome.now) }
-{
     match outcome {
-        Ok(reply) => code(reply),
-        Err(error) => refusal(*error),
+        Ok(count) => i64::from(count),
+        Err(error) => refusal(error),
     }
 }
 

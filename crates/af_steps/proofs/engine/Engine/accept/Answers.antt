@@ -7,15 +7,15 @@ use Rattle.af_base.specs.declared.events.Step.TheVariants as step
 use Rattle.af_base.specs.Pass.{Machine}
 use Rattle.af_base.specs.Places.{backlog_at}
 use Rattle.af_base.specs.Refusals.{first_fit, socket_at}
-use Rattle.af_base.specs.Steps.{ProcessStep, first_embryo}
+use Rattle.af_base.specs.Steps.{first_embryo}
 use Rattle.af_base.specs.Table.{free_numbers}
 use Rattle.af_base.specs.World.{World}
 use Rattle.af_collect.specs.Shown.{Shown}
 use Rattle.af_pass.specs.Keeping.{Spares}
-use Rattle.af_steps.specs.Outcome.{reply_of}
 use Rattle.af_steps.specs.Rows.{accept_row}
 use Rattle.af_steps.proofs.Connected.{accept-done, accept-starved, first-waits, some-waits}
 use Rattle.af_steps.proofs.Numbers.{is-free_at, least-low, not-short, not-open, on_table, room-below, same-free, same-limit}
+use Rattle.af_steps.proofs.Outcomes.{does, refuses}
 use Rattle.af_steps.proofs.engine.Engine.accept.Goals as goal
 
 pub take_embryo-requires-clause-row : goal.take_embryo-requires-clause-row
@@ -45,8 +45,8 @@ take_embryo-requires-clause-free c =
     let least : slice_get (free_numbers q) 0 ≡ Some c.in_ok-fd.fd = search rules in
     same-free w p q at c.room_for.new.self.world (ap (λ (v : World). v.processes) c.room_for.ensures.world) c.in_ok-fd.fd (not-open w p q at c.in_ok-fd.fd least)
 
-pub returns-in_err-room_for : goal.returns-in_err-room_for
-returns-in_err-room_for c =
+pub returns-in_err-room_for-clause-refused : goal.returns-in_err-room_for-clause-refused
+returns-in_err-room_for-clause-refused c =
     let w = c.self.inside.store.world in
     let p = c.args.pid in
     let q = c.in_ok-process.process.now.process in
@@ -57,10 +57,9 @@ returns-in_err-room_for c =
     let least : slice_get (free_numbers q) 0 ≡ Some c.in_ok-fd.fd = search rules in
     let given : first_fit (accept_row x) ≡ None = search rules in
     let error : c.from_residual-in_err-room_for.result ≡ Err ENOMEM = search rules in
-    let v = c.room_for.new.self.world in
-    let said : ProcessStep w p (step.Accept c.args.on) (reply_of c.from_residual-in_err-room_for.result) v = subst (λ r. ProcessStep w p (step.Accept c.args.on) (reply_of r) v) (sym error)
-    (accept-starved w p c.args.on q at c.in_ok-file.file stands x found given (not-short w p q at c.in_ok-fd.fd least) v c.room_for.ensures.world) in
-    subst (λ (m : Machine). ProcessStep m.world p (step.Accept c.args.on) (reply_of c.from_residual-in_err-room_for.result) v × ((c.room_for.new.self.pass ≡ m.pass) × (c.self.inside.last_pass ≡ m.last_pass))) c.self.view_is (said, (c.room_for.ensures.pass, refl))
+    let kept : Machine = record { world = c.room_for.new.self.world; pass = c.room_for.new.self.pass; last_pass = c.self.inside.last_pass } in
+    refuses c.self.view_is p (step.Accept c.args.on) kept c.from_residual-in_err-room_for.result ENOMEM error (accept-starved w p c.args.on q at c.in_ok-file.file stands x found given (not-short w p q at c.in_ok-fd.fd least))
+    ((λ i. record { world = c.room_for.ensures.world i; pass = c.room_for.ensures.pass i; last_pass = c.self.inside.last_pass }) ∙ c.self.view_is)
 
 pub take_embryo-requires-clause-some : goal.take_embryo-requires-clause-some
 take_embryo-requires-clause-some c =
@@ -74,8 +73,8 @@ take_embryo-requires-clause-some c =
     let given : first_fit (accept_row x) ≡ None = search rules in
     subst (λ v. 0 < length (backlog_at v c.in_ok-file.file)) (sym c.room_for.ensures.world) (some-waits w p c.args.on q at c.in_ok-file.file stands x found given)
 
-pub returns : goal.returns
-returns c =
+pub returns-clause-done : goal.returns-clause-done
+returns-clause-done c =
     let w = c.self.inside.store.world in
     let p = c.args.pid in
     let q = c.in_ok-process.process.now.process in
@@ -92,7 +91,7 @@ returns c =
     let first : slice_get (backlog_at before f) 0 ≡ Some (first_embryo w p c.args.on) = ap (λ v. slice_get (backlog_at v f) 0) c.room_for.ensures.world ∙ first-waits w p c.args.on q at f stands x found given in
     let put = ap (λ (s : Shown). s.world) (c.take_embryo.ensures (first_embryo w p c.args.on) first) in
     let said = accept-done w p c.args.on q at f stands x found given free n before c.take_embryo.new.self.world c.release.new.self.world (is-free_at w p q at n least) c.room_for.ensures.world put c.release.ensures.settles in
-    subst (λ (m : Machine). ProcessStep m.world p (step.Accept c.args.on) (reply.Fd n) c.release.new.self.world × ((c.release.new.self.pass ≡ m.pass) × (c.self.inside.last_pass ≡ m.last_pass))) c.self.view_is (said, (c.release.ensures.pass ∙ ap (λ (s : Shown). s.pass) (c.take_embryo.ensures (first_embryo w p c.args.on) first) ∙ c.room_for.ensures.pass, refl))
+    does c.self.view_is p (step.Accept c.args.on) (record { world = c.release.new.self.world; pass = c.release.new.self.pass; last_pass = c.self.inside.last_pass }) (reply.Fd n) said (c.release.ensures.pass ∙ ap (λ (s : Shown). s.pass) (c.take_embryo.ensures (first_embryo w p c.args.on) first) ∙ c.room_for.ensures.pass) refl
 
 pub take_embryo-requires-clause-spared : goal.take_embryo-requires-clause-spared
 take_embryo-requires-clause-spared c =

@@ -1,18 +1,13 @@
-use Rattle.std.proofs.Common.{rules, ◌≡◌, ◌<◌, length, ◌∙◌, refl, sym, ap, subst, arith}
-use Rattle.std.specs.Prelude.{Err, IfSome, None, Some, is_none}
+use Rattle.std.proofs.Common.{rules, ◌≡◌, ◌<◌, length, ◌∙◌, sym, ap, subst}
+use Rattle.std.specs.Prelude.{IfSome, None, Some, is_none}
 use Rattle.std.specs.FinMap as map
 use Rattle.std.specs.Option.{option_copied}
 use Rattle.std.proofs.lemmas.Bool.{false≢true}
-use Rattle.af_base.specs.declared.errno.Errno.TheVariants.{ENOMEM}
-use Rattle.af_base.specs.declared.events.Reply.TheVariants as reply
-use Rattle.af_base.specs.declared.events.Step.TheVariants as step
 use Rattle.af_base.specs.Names.{named}
-use Rattle.af_base.specs.Pass.{Idle, Machine}
+use Rattle.af_base.specs.Pass.{Machine}
 use Rattle.af_base.specs.Refusals.{first_fit, room_of, socket_at}
-use Rattle.af_base.specs.Steps.{ProcessStep}
 use Rattle.af_base.specs.World.{Socket}
 use Rattle.af_collect.specs.Shown.{Shown}
-use Rattle.af_steps.specs.Outcome.{reply_of}
 use Rattle.af_steps.specs.Rows.{client_row, listener_row}
 use Rattle.af_steps.proofs.Connected.{embryo-live, embryo-new, listener-is, listener-stays, room-left, some-by, two-sockets}
 use Rattle.af_steps.proofs.engine.Engine.connect.Goals as goal
@@ -25,8 +20,8 @@ unwrap-requires c =
     let at : map.get w.processes p ≡ Some q = search rules in
     let g = c.in_ok-listener.listener in
     let has : named w.files c.args.name.now ≡ Some g = search rules in
-    let there = ap is_none c.socket-2.ensures ∙ ap (λ (m : Machine). is_none (socket_at m.world g)) (sym c.self.view_is) ∙ listener-is w c.args.name.now g has in
-    some-by c.socket-2.result (λ none. false≢true (sym there ∙ ap is_none (ap option_copied none)))
+    let there = ap is_none c.socket_at-2.ensures ∙ ap (λ (m : Machine). is_none (socket_at m.world g)) (sym c.self.view_is) ∙ listener-is w c.args.name.now g has in
+    some-by c.socket_at-2.result (λ none. false≢true (sym there ∙ ap is_none (ap option_copied none)))
 
 pub put_embryo-requires-clause-live : goal.put_embryo-requires-clause-live
 put_embryo-requires-clause-live c =

@@ -5,24 +5,22 @@ use Rattle.af_base.specs.declared.events.Reply.TheVariants as reply
 use Rattle.af_base.specs.declared.events.Step.TheVariants as step
 use Rattle.af_base.specs.World.{IsLive, World}
 use Rattle.af_base.specs.Changes.{install, uninstall}
-use Rattle.af_base.specs.Pass.{Machine}
-use Rattle.af_base.specs.Steps.{ProcessStep}
 use Rattle.af_collect.specs.Shown.{Shown}
 use Rattle.af_pass.specs.Keeping.{Spares}
 use Rattle.af_steps.proofs.Numbers.{moved-done, on_table, same-done, same-free, same-limit, same-there}
 use Rattle.af_steps.proofs.Untabled.{install-uninstalled, less, less-at, less-free}
+use Rattle.af_steps.proofs.Outcomes.{does, does-nothing}
 use Rattle.af_steps.proofs.engine.Engine.dup2.Goals as goal
 
-pub returns-then-eq : goal.returns-then-eq
-returns-then-eq c =
+pub returns-then-eq-clause-done : goal.returns-then-eq-clause-done
+returns-then-eq-clause-done c =
     let w = c.self.inside.store.world in
     let p = c.args.pid in
     let q = c.in_ok-process.process.now.process in
     let at : map.get w.processes p ≡ Some q = search rules in
     let stands : map.get q.table c.args.from ≡ Some c.in_ok-file.file = search rules in
     let same : nat_eq c.args.to c.args.from ≡ true = search rules in
-    subst (λ (m : Machine). ProcessStep m.world p (step.Dup2 c.args.from c.args.to) (reply.Fd c.args.to) m.world × ((m.pass ≡ m.pass) × (m.last_pass ≡ m.last_pass))) c.self.view_is
-    (same-done w p q at c.args.from c.args.to c.in_ok-file.file stands c.self.invariant.0 same, (refl, refl))
+    does-nothing c.self.view_is p (step.Dup2 c.args.from c.args.to) (reply.Fd c.args.to) (same-done w p q at c.args.from c.args.to c.in_ok-file.file stands c.self.invariant.0 same)
 
 pub table_in-requires-clause-there : goal.table_in-requires-clause-there
 table_in-requires-clause-there c =
@@ -70,8 +68,8 @@ table_in-requires-clause-live c =
     let stands : map.get q.table c.args.from ≡ Some c.in_ok-file.file = search rules in
     subst (λ x. IsLive x c.in_ok-file.file) (sym vacant) (c.self.invariant.0.whole.tables_live c.in_ok-file.file (p, c.args.from, on_table w p q at c.args.from ∙ stands))
 
-pub returns : goal.returns
-returns c =
+pub returns-clause-done : goal.returns-clause-done
+returns-clause-done c =
     let w = c.self.inside.store.world in
     let p = c.args.pid in
     let q = c.in_ok-process.process.now.process in
@@ -85,7 +83,7 @@ returns c =
     ap (λ (s : Shown). s.world) c.table_in.ensures ∙ ap (λ (s : Shown). install s.world p c.args.to c.in_ok-file.file) c.vacate.ensures ∙ install-uninstalled v p c.args.to q there c.in_ok-file.file in
     let moved = moved-done w p q at c.args.from c.args.to c.in_ok-file.file stands other low v c.table_in.new.self.world c.release.new.self.world c.room_for.ensures.world placed c.release.ensures.settles in
     let runs_on = c.release.ensures.pass ∙ ap (λ (s : Shown). s.pass) c.table_in.ensures ∙ ap (λ (s : Shown). s.pass) c.vacate.ensures ∙ c.room_for.ensures.pass in
-    subst (λ (m : Machine). ProcessStep m.world p (step.Dup2 c.args.from c.args.to) (reply.Fd c.args.to) c.release.new.self.world × ((c.release.new.self.pass ≡ m.pass) × (c.self.inside.last_pass ≡ m.last_pass))) c.self.view_is (moved, (runs_on, refl))
+    does c.self.view_is p (step.Dup2 c.args.from c.args.to) (record { world = c.release.new.self.world; pass = c.release.new.self.pass; last_pass = c.self.inside.last_pass }) (reply.Fd c.args.to) moved runs_on refl
 
 pub table_in-requires-clause-spared : goal.table_in-requires-clause-spared
 table_in-requires-clause-spared c =

@@ -1,12 +1,11 @@
 use Rattle.std.proofs.Common.{◌≡◌, ap, subst, sym, ◌∙◌}
 use Rattle.af_base.specs.declared.events.Reply.TheVariants as reply
 use Rattle.af_base.specs.Pass.{Machine, PassesWhole, next_pass}
-use Rattle.af_pass.specs.Keeping.{runs}
 use Rattle.af_steps.proofs.Collecting.{pass_done}
 use Rattle.af_steps.proofs.engine.Engine.pass.Goals as goal
 
-pub returns : goal.returns
-returns c =
+pub returns-clause-done : goal.returns-clause-done
+returns-clause-done c =
     let n = c.collect-reclaimed.result in
     let k = c.collect-reclaimed.ensures.collects in
     let next : c.next_pass-self-inside.result ≡ next_pass c.self.inside.last_pass = c.next_pass-self-inside.ensures in

@@ -17,14 +17,14 @@ use Rattle.af_base.specs.Changes.{install_all, with_queue}
 use Rattle.af_base.specs.Table.{lowest_free}
 use Rattle.af_base.specs.Take.{cut, take_from, nothing_taken}
 use Rattle.af_base.specs.Refusals.{first_fit, ino_on, is_connected, is_hung_up, socket_on, socket_at, socket_of, process_at, refusal}
-use Rattle.af_base.specs.Steps.{taken_on, effect, answer, ProcessStep}
+use Rattle.af_base.specs.Steps.{taken_on, effect, answer}
 use Rattle.af_base.specs.Whole.{IsSound}
 use Rattle.af_base.proofs.Free.{AreFree, free-lowest_free}
 use Rattle.af_base.proofs.Lookups.{none_some, some_same}
 use Rattle.af_base.proofs.Settling.{settles_none}
 use Rattle.af_base.proofs.Stepped.{same-with_queue}
 use Rattle.af_steps.specs.Rows.{receive_row}
-use Rattle.af_steps.proofs.Outcomes.{done}
+use Rattle.af_steps.proofs.Outcomes.{Goes, done}
 use Rattle.af_steps.proofs.Refused.{socket-is, tabled}
 
 -- The file of which this is the socket.
@@ -77,7 +77,7 @@ module _ (w : World) (p n : ℕ) (q : Process) (at : map.get w.processes p ≡ S
       then reply.End
       else reply.Got (none_taken i).bytes (lowest_free (min (length (none_taken i).attached) fds) (process_at w p)) (none_taken i).trunc (nat_lt (length (lowest_free (min (length (none_taken i).attached) fds) (process_at w p))) (length (none_taken i).attached))
 
-  pub recv-end : IsSound w → first_fit (receive_row x bytes) ≡ None → ProcessStep w p (step.Recv n bytes fds) reply.End w
+  pub recv-end : IsSound w → first_fit (receive_row x bytes) ≡ None → Goes w p (step.Recv n bytes fds) reply.End w
   recv-end sound given = done w p (step.Recv n bytes fds) w w reply.End (fits given) answered_end ended (settles_none w sound.settled)
 
   -- Nothing is there to be seen, and nothing changes.
@@ -86,7 +86,7 @@ module _ (w : World) (p n : ℕ) (q : Process) (at : map.get w.processes p ≡ S
       (λ i. install_all w p (zip (lowest_free (min (length (none_taken i).attached) fds) (process_at w p)) (none_taken i).attached))
       ∙ ap (λ l. install_all w p l) (no_pairs (lowest_free (min 0 fds) (process_at w p)))
 
-  pub peek-end : IsSound w → first_fit (receive_row x bytes) ≡ None → ProcessStep w p (step.Peek n bytes fds) reply.End w
+  pub peek-end : IsSound w → first_fit (receive_row x bytes) ≡ None → Goes w p (step.Peek n bytes fds) reply.End w
   peek-end sound given = done w p (step.Peek n bytes fds) w w reply.End (fits given) answered_end unseen (settles_none w sound.settled)
 
 -- A queue of no length has no message.

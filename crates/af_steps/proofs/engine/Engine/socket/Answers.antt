@@ -8,7 +8,7 @@ use Rattle.af_base.specs.Steps.{idle_socket}
 use Rattle.af_collect.specs.Shown.{Shown, room_at}
 use Rattle.af_steps.proofs.Made.{added-live}
 use Rattle.af_steps.proofs.Numbers.{least-low, not-open, room-below, same-free, same-limit}
-use Rattle.af_steps.proofs.engine.Engine.make_socket.Goals as goal
+use Rattle.af_steps.proofs.engine.Engine.socket.Goals as goal
 
 pub table_in-requires-clause-row : goal.table_in-requires-clause-row
 table_in-requires-clause-row c =
