@@ -1,10 +1,11 @@
 //! Processes and their tables.
 ghost use Rattle.scm_c.specs.Calls.{Calls};
 
+use crate::answers::{NO_ENGINE, refusal};
 use crate::engine::{call, call_of};
 use crate::handle::Handle;
 use af_base::events::{Event, Step};
-use af_base::names::{Fd, Uid};
+use af_base::names::{Fd, Pid, Uid};
 use std::alloc::Global;
 
 /// A process of this user starts, with a limit on its descriptors (RLIMIT_NOFILE), as after fork(2)
@@ -32,7 +33,15 @@ pub extern "C" fn scm_spawn(
 pub extern "C" fn scm_open(alloc: Global, engine: &mut Handle, pid: u32) -> i64
     ensures { Calls engine.old.shown (Event.Proc pid Step.Open) result engine.new.shown }
 {
-    call_of(alloc, engine, pid, Step::Open)
+    let Some(mut inside) = engine.take(alloc) else {
+        return NO_ENGINE;
+    };
+    let outcome = inside.open(Pid(pid));
+    *engine = Handle::of(inside);
+    match outcome {
+        Ok(fd) => i64::from(fd.0),
+        Err(error) => refusal(error),
+    }
 }
 
 /// A process has a description at its lowest free number too (dup(2)). Answers that number.
@@ -57,7 +66,15 @@ pub extern "C" fn scm_dup2(alloc: Global, engine: &mut Handle, pid: u32, from: u
 pub extern "C" fn scm_close(alloc: Global, engine: &mut Handle, pid: u32, fd: u32) -> i64
     ensures { Calls engine.old.shown (Event.Proc pid (Step.Close fd)) result engine.new.shown }
 {
-    call_of(alloc, engine, pid, Step::Close(Fd(fd)))
+    let Some(mut inside) = engine.take(alloc) else {
+        return NO_ENGINE;
+    };
+    let outcome = inside.close(Pid(pid), Fd(fd));
+    *engine = Handle::of(inside);
+    match outcome {
+        Ok(()) => 0,
+        Err(error) => refusal(error),
+    }
 }
 
 /// A process makes a child with a copy of its table (fork(2)). Answers the child's pid.
