@@ -1,0 +1,20 @@
+-- What the contracts of the calls speak of: the machine, its events, and the reports.
+pub use Rattle.af_base.specs.World
+pub use Rattle.af_base.specs.Places
+pub use Rattle.af_base.specs.Counts
+pub use Rattle.af_base.specs.Unheld
+pub use Rattle.af_base.specs.Reached
+pub use Rattle.af_base.specs.Table
+pub use Rattle.af_base.specs.Take
+pub use Rattle.af_base.specs.Changes
+pub use Rattle.af_base.specs.Names
+pub use Rattle.af_base.specs.Refusals
+pub use Rattle.af_base.specs.Steps
+pub use Rattle.af_base.specs.Pass
+pub use Rattle.af_base.specs.Run
+pub use Rattle.af_base.specs.Whole
+pub use Rattle.af_base.specs.Listing
+pub use Rattle.af_steps.specs.Shown
+pub use Rattle.af_steps.specs.Outcome
+pub use Rattle.af_report.specs.Check
+pub use Rattle.af_report.specs.Totals
