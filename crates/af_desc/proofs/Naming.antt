@@ -19,8 +19,8 @@ use Rattle.af_base.proofs.Named.{named-none, named-some}
 use Rattle.af_base.proofs.Same.{list_itself, list_same}
 use Rattle.af_desc.specs.Filed.{AreNamed, name_in, name_of, socket_in}
 use Rattle.af_listen.specs.Named.{Named}
-use Rattle.af_order.proofs.Keyed.{grown_in_place, looked, values_grown, write_values}
-use Rattle.af_order.specs.Keyed.{AreInPlace, values_of}
+use Rattle.af_order.proofs.Standing.{grown_in_place, looked, values_grown, write_values}
+use Rattle.af_order.specs.Standing.{AreInPlace, values_of}
 use Rattle.af_order.specs.declared.entry.Entry.{Entry}
 
 -- The name of what is there.

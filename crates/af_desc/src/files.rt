@@ -8,7 +8,7 @@ ghost use Rattle.af_base.specs.Names.{named};
 ghost use Rattle.af_base.specs.Changes.{bound, change_socket_at, connected, dequeued, listening, pushed, queued};
 ghost use Rattle.af_base.specs.Refusals.{room_of};
 ghost use Rattle.af_base.specs.Steps.{connected_socket, idle_socket};
-ghost use Rattle.af_order.specs.Keyed.{AreInPlace, values_of};
+ghost use Rattle.af_order.specs.Standing.{AreInPlace, values_of};
 ghost use Rattle.af_base.specs.Whole.{IsMessageWithin};
 ghost use Rattle.af_desc.specs.Filed.{is_full, is_live, name_of, with_pair, hung_up, popped, received_from, received_of, socket_in};
 
@@ -41,7 +41,7 @@ impl Model for Files {
     ghost use Rattle.std.specs.Coded.{codes};
     ghost use Rattle.std.specs.Prelude.{◌≡◌, ◌<◌, false};
     ghost use Rattle.af_desc.specs.Filed.{AreNamed, Filed};
-    ghost use Rattle.af_order.specs.Keyed.{AreInPlace, values_of};
+    ghost use Rattle.af_order.specs.Standing.{AreInPlace, values_of};
 
     ghost Value = { Filed };
 
@@ -54,7 +54,7 @@ impl Model for Files {
 
 impl Files {
     /// No file; numbers begin at 1. It takes no memory.
-    #[tactic(auto, using(af_order::proofs::Keyed::comes_and_goes, crate::proofs::Begun::begun))]
+    #[tactic(auto, using(af_order::proofs::Standing::comes_and_goes, crate::proofs::Begun::begun))]
     pub fn new(alloc: Global) -> Files
         ensures { result ≡ record { files = map.empty; next = 1 } }
     {
@@ -93,7 +93,7 @@ impl Files {
 
     /// The file of that number, where it stands now; nothing of a stranger. A search: who has a
     /// `FileRef` needs none.
-    #[tactic(auto, using(af_order::proofs::Keyed::finds))]
+    #[tactic(auto, using(af_order::proofs::Standing::finds))]
     pub fn find(&self, ino: Ino) -> Option<FileRef>
         ensures there { IfSome result (λ f. (f ≡ ino) × IsTrue (is_live self.now ino)) }
         ensures none { IfNone result (is_live self.now ino ≡ false) }
@@ -104,7 +104,7 @@ impl Files {
 
     /// The file; nothing of a stranger.
     #[inline(always)]
-    #[tactic(auto, using(af_order::proofs::Keyed::finds))]
+    #[tactic(auto, using(af_order::proofs::Standing::finds))]
     pub fn get(&self, file: &FileRef) -> Option<&Desc>
         ensures { option_copied result ≡ map.get self.now.files file.now }
     {
@@ -122,7 +122,7 @@ impl Files {
 
     /// The least number above this one that a file has, if there is one; from 0 on, the least of all.
     /// This one need not have one.
-    #[tactic(auto, using(af_order::proofs::Keyed::finds))]
+    #[tactic(auto, using(af_order::proofs::Standing::finds))]
     pub fn next_after(&self, ino: Ino) -> Option<FileRef>
         ensures above { IfSome result (λ n. ino < n) }
         ensures live { IfSome result (λ n. IsTrue (is_live self.now n)) }
@@ -135,7 +135,7 @@ impl Files {
 
     /// A file more, under the next number. Room comes first, so that on an error nothing has changed.
     #[inline(always)]
-    #[tactic(auto, using(af_order::proofs::Keyed::comes_and_goes, crate::proofs::Begun::begun))]
+    #[tactic(auto, using(af_order::proofs::Standing::comes_and_goes, crate::proofs::Begun::begun))]
     fn make(&mut self, desc: Desc) -> Result<FileRef, AllocError>
         requires number { self.old.next < MAX_INO + 1 }
         requires nameless { name_of desc ≡ None }
@@ -176,7 +176,7 @@ impl Files {
 
     /// Two sockets more, connected to each other (socketpair(2)), under the next two numbers, where
     /// `is_full(2)` is false: both or, on an error, none.
-    #[tactic(auto, using(af_order::proofs::Keyed::comes_and_goes, crate::proofs::Begun::begun))]
+    #[tactic(auto, using(af_order::proofs::Standing::comes_and_goes, crate::proofs::Begun::begun))]
     pub fn make_two(&mut self, kind: SockType) -> Result<(FileRef, FileRef), AllocError>
         requires room { is_full self.old 2 ≡ false }
         ensures first { IfOk result (λ inos. inos.0 ≡ self.old.next) }
@@ -200,7 +200,7 @@ impl Files {
     /// The file goes, and is handed on; nothing of a stranger. Its number is never given again, and
     /// its name is free. It takes no memory.
     #[inline(always)]
-    #[tactic(auto, using(af_order::proofs::Keyed::comes_and_goes, crate::proofs::Begun::begun))]
+    #[tactic(auto, using(af_order::proofs::Standing::comes_and_goes, crate::proofs::Begun::begun))]
     pub fn remove(&mut self, file: &FileRef) -> Option<Desc>
         ensures value { result ≡ map.get self.old.files file.now }
         ensures files { self.new.files ≡ map.remove self.old.files file.now }
@@ -216,7 +216,7 @@ impl Files {
     /// The peer of that socket is gone from now on. A plain file or a stranger stays as it is. It
     /// takes no memory.
     #[inline(always)]
-    #[tactic(auto, using(af_order::proofs::Keyed::writes, crate::proofs::Begun::begun))]
+    #[tactic(auto, using(af_order::proofs::Standing::writes, crate::proofs::Begun::begun))]
     pub fn hang_up(&mut self, file: &FileRef)
         ensures files { self.new.files ≡ change_socket_at hung_up self.old.files file.now }
         ensures next { self.new.next ≡ self.old.next }
@@ -233,7 +233,7 @@ impl Files {
     /// One message more, last in the queue of that socket, which is not full. A plain file or a
     /// stranger has no queue, and there the message is dropped. On an error nothing has changed, and
     /// the message is dropped too.
-    #[tactic(auto, using(af_order::proofs::Keyed::writes, crate::proofs::Begun::begun))]
+    #[tactic(auto, using(af_order::proofs::Standing::writes, crate::proofs::Begun::begun))]
     pub fn push(&mut self, file: &FileRef, message: Msg) -> Result<(), AllocError>
         requires few { length (queue_in self.old.files file.now) < MAX_MESSAGES }
         requires within { IsMessageWithin message }
@@ -271,7 +271,7 @@ impl Files {
 
     /// What a receive of at most so many bytes takes out of the queue of that socket (recvmsg(2)):
     /// nothing, where it is a plain file or a stranger. On an error nothing has changed.
-    #[tactic(auto, using(af_order::proofs::Keyed::writes, crate::proofs::Begun::begun))]
+    #[tactic(auto, using(af_order::proofs::Standing::writes, crate::proofs::Begun::begun))]
     pub fn take(&mut self, file: &FileRef, max: usize) -> Result<Taken, AllocError>
         requires { 0 < max }
         ensures taken { IfOk result (λ t. t ≡ received_of (socket_in self.old.files file.now) max) }
@@ -289,7 +289,7 @@ impl Files {
     }
 
     /// The first message out of the queue of that socket, if there is one. It takes no memory.
-    #[tactic(auto, using(af_order::proofs::Keyed::writes, crate::proofs::Begun::begun))]
+    #[tactic(auto, using(af_order::proofs::Standing::writes, crate::proofs::Begun::begun))]
     pub fn pop(&mut self, file: &FileRef) -> Option<Msg>
         ensures some { IfSome result (λ m. queue_in self.old.files file.now ≡ m ∷ drop 1 (queue_in self.old.files file.now)) }
         ensures none { IfNone result (queue_in self.old.files file.now ≡ []) }
@@ -303,7 +303,7 @@ impl Files {
 
     /// A socket more, connected to that client, which is connected to it in turn: an embryo, under
     /// the next number, where `is_full(1)` is false. On an error nothing has changed.
-    #[tactic(auto, using(af_order::proofs::Keyed::comes_and_goes, crate::proofs::Begun::begun))]
+    #[tactic(auto, using(af_order::proofs::Standing::comes_and_goes, crate::proofs::Begun::begun))]
     pub fn make_embryo(&mut self, kind: SockType, client: &FileRef) -> Result<FileRef, AllocError>
         requires room { is_full self.old 1 ≡ false }
         ensures ino { IfOk result (λ ino. ino ≡ self.old.next) }
@@ -318,7 +318,7 @@ impl Files {
 
     /// That socket is connected to this peer from now on. A plain file or a stranger stays as it is.
     /// It takes no memory.
-    #[tactic(auto, using(af_order::proofs::Keyed::writes, crate::proofs::Begun::begun))]
+    #[tactic(auto, using(af_order::proofs::Standing::writes, crate::proofs::Begun::begun))]
     fn connect(&mut self, file: &FileRef, peer: &FileRef)
         ensures files { self.new.files ≡ change_socket_at (connected peer.now) self.old.files file.now }
         ensures next { self.new.next ≡ self.old.next }
@@ -334,7 +334,7 @@ impl Files {
 
     /// That socket, which has no name, has this one from now on, which is nobody's (bind(2)). A plain
     /// file or a stranger stays as it is. On an error nothing has changed.
-    #[tactic(auto, using(af_order::proofs::Keyed::writes, crate::proofs::Begun::begun))]
+    #[tactic(auto, using(af_order::proofs::Standing::writes, crate::proofs::Begun::begun))]
     pub fn bind(&mut self, file: &FileRef, name: &Items<u8>) -> Result<(), AllocError>
         requires nameless { IfSome (socket_in self.old.files file.now) (λ s. s.name ≡ None) }
         requires free { named self.old.files name.now ≡ None }
@@ -360,7 +360,7 @@ impl Files {
 
     /// That socket, which has a name and no embryos, waits for connections from now on, so many at
     /// most (listen(2)). A plain file or a stranger stays as it is. On an error nothing has changed.
-    #[tactic(auto, using(af_order::proofs::Keyed::writes, crate::proofs::Begun::begun))]
+    #[tactic(auto, using(af_order::proofs::Standing::writes, crate::proofs::Begun::begun))]
     pub fn listen(&mut self, file: &FileRef, most: u32) -> Result<(), AllocError>
         requires named { IfSome (socket_in self.old.files file.now) (λ s. is_none s.name ≡ false) }
         requires nobody { IfSome (socket_in self.old.files file.now) (λ s. s.backlog ≡ []) }
@@ -379,7 +379,7 @@ impl Files {
 
     /// An embryo more waits at that listener, last, for which its backlog has room. A plain file or a
     /// stranger stays as it is. It takes no memory.
-    #[tactic(auto, using(af_order::proofs::Keyed::writes, crate::proofs::Begun::begun))]
+    #[tactic(auto, using(af_order::proofs::Standing::writes, crate::proofs::Begun::begun))]
     pub fn enqueue(&mut self, file: &FileRef, embryo: FileRef)
         requires { IfSome (socket_in self.old.files file.now) (λ s. length s.backlog < room_of s.state) }
         ensures files { self.new.files ≡ change_socket_at (queued embryo) self.old.files file.now }
@@ -395,7 +395,7 @@ impl Files {
     }
 
     /// The first embryo of that listener waits no more, if one does. It takes no memory.
-    #[tactic(auto, using(af_order::proofs::Keyed::writes, crate::proofs::Begun::begun))]
+    #[tactic(auto, using(af_order::proofs::Standing::writes, crate::proofs::Begun::begun))]
     pub fn dequeue(&mut self, file: &FileRef) -> Option<FileRef>
         ensures some { IfSome result (λ f. backlog_in self.old.files file.now ≡ f ∷ drop 1 (backlog_in self.old.files file.now)) }
         ensures none { IfNone result (backlog_in self.old.files file.now ≡ []) }
@@ -410,7 +410,7 @@ impl Files {
 
 /// That socket, which has no name, has this one from now on. A plain file or a stranger stays as it
 /// is. On an error nothing has changed.
-#[tactic(auto, using(af_order::proofs::Keyed::writes))]
+#[tactic(auto, using(af_order::proofs::Standing::writes))]
 fn set_name(
     alloc: Global,
     order: &Order,
@@ -434,7 +434,7 @@ fn set_name(
 }
 
 /// A new socket is told where its peer stands.
-#[tactic(auto, using(af_order::proofs::Keyed::notes))]
+#[tactic(auto, using(af_order::proofs::Standing::notes))]
 fn point(slab: &mut Slab<Entry<Desc>>, file: &FileRef, peer: &FileRef)
     ensures values { (m : Map ℕ) → AreInPlace m slab.old → values_of m slab.new ≡ values_of m slab.old }
     ensures place { (m : Map ℕ) → AreInPlace m slab.old → AreInPlace m slab.new }

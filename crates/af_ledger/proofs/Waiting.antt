@@ -18,8 +18,8 @@ use Rattle.af_base.specs.World.{Map}
 use Rattle.af_base.proofs.Hashed.{find_is}
 use Rattle.af_base.proofs.Lookups.{not_same, told_apart}
 use Rattle.af_order.specs.declared.entry.Entry.{Entry}
-use Rattle.af_order.specs.Keyed.{AreInPlace, value_at, values_of}
-use Rattle.af_order.proofs.Keyed.{looked, write_values}
+use Rattle.af_order.specs.Standing.{AreInPlace, value_at, values_of}
+use Rattle.af_order.proofs.Standing.{looked, write_values}
 use Rattle.af_ledger.specs.Counted.{IsCounted, fewer, more, places_in, uncounted}
 use Rattle.af_ledger.specs.Kept.{count_in_map, is_waiting}
 use Rattle.af_ledger.specs.Waiting.{AreWaiting}

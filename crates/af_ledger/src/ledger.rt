@@ -5,7 +5,7 @@ ghost use Rattle.std.specs.List.{IsDistinct, list_any};
 ghost use Rattle.std.specs.Map.{keys_of};
 ghost use Rattle.std.specs.Option.{option_map_or};
 ghost use Rattle.slab.specs.Slab.{slab_len};
-ghost use Rattle.af_order.specs.Keyed.{AreInPlace, value_at, values_of};
+ghost use Rattle.af_order.specs.Standing.{AreInPlace, value_at, values_of};
 ghost use Rattle.af_ledger.specs.Counted.{fewer, more, places_in, uncounted, IsCountable, IsCounted};
 ghost use Rattle.af_ledger.specs.Kept.{Kept, count_in_map, count_of, refs_of, charge_of, is_user, with_user, has_count, is_waiting, held_all, dropped_all, CanHoldAll, CanDropAll, charged_by, freed_by, held, dropped, CanHold, CanDrop};
 ghost use Rattle.af_ledger.specs.Sending.{send_refusal};
@@ -39,7 +39,7 @@ impl Model for Ledger {
     ghost use Rattle.std.specs.FinMap as map;
     ghost use Rattle.std.specs.Coded.{codes};
     ghost use Rattle.slab.specs.Slab.{slab_len};
-    ghost use Rattle.af_order.specs.Keyed.{AreInPlace, values_of};
+    ghost use Rattle.af_order.specs.Standing.{AreInPlace, values_of};
     ghost use Rattle.af_ledger.specs.Kept.{Kept};
     ghost use Rattle.af_ledger.specs.Waiting.{AreWaiting, room_left};
 
@@ -70,7 +70,7 @@ impl Ledger {
     }
 
     /// The numbers of the file of this number, by a binary search; all are 0 where no place holds it.
-    #[tactic(auto, using(af_order::proofs::Keyed::finds))]
+    #[tactic(auto, using(af_order::proofs::Standing::finds))]
     fn count(&self, ino: Ino) -> Count
         ensures { result ≡ count_of self.now ino }
     {
@@ -86,7 +86,7 @@ impl Ledger {
 
     /// How many numbers of all tables stand for a file.
     #[inline(always)]
-    #[tactic(auto, using(af_order::proofs::Keyed::finds))]
+    #[tactic(auto, using(af_order::proofs::Standing::finds))]
     pub fn tabled(&self, file: &FileRef) -> u64
         ensures { result ≡ (count_of self.now file.now).tabled }
     {
@@ -159,7 +159,7 @@ impl Ledger {
     /// Room for so many further files: then `enter` needs no memory for them. Nothing else changes,
     /// also on an error.
     #[inline(always)]
-    #[tactic(auto, using(af_order::proofs::Keyed::comes_and_goes))]
+    #[tactic(auto, using(af_order::proofs::Standing::comes_and_goes))]
     pub fn reserve(&mut self, files: usize) -> Result<(), AllocError>
         ensures same { self.new ≡ record self.old { room = self.new.room } }
         ensures ok { OnOk result (files ≤ self.new.room) }
@@ -350,7 +350,7 @@ fn count_at(counts: &Slab<Entry<Count>>, key: Option<usize>) -> Count
 
 /// One place more of a file, whose numbers are kept. Whether it had none.
 #[inline(always)]
-#[tactic(auto, using(af_order::proofs::Keyed::writes))]
+#[tactic(auto, using(af_order::proofs::Standing::writes))]
 fn add_place(order: &Order, counts: &mut Slab<Entry<Count>>, place: &Place, file: &FileRef) -> bool
     requires place { AreInPlace order.now.keys counts.old }
     requires known { IsTrue (map.contains_key (values_of order.now.keys counts.old) file.now) }
@@ -370,7 +370,7 @@ fn add_place(order: &Order, counts: &mut Slab<Entry<Count>>, place: &Place, file
 
 /// One place less of a file, which has one. Whether it was the last.
 #[inline(always)]
-#[tactic(auto, using(af_order::proofs::Keyed::writes))]
+#[tactic(auto, using(af_order::proofs::Standing::writes))]
 fn sub_place(order: &Order, counts: &mut Slab<Entry<Count>>, place: &Place, file: &FileRef) -> bool
     requires place { AreInPlace order.now.keys counts.old }
     requires counted { IsCounted place.now (count_in_map (values_of order.now.keys counts.old) file.now) }

@@ -12,9 +12,9 @@ use Rattle.af_base.specs.Changes.{change_at}
 use Rattle.af_base.specs.World.{Map}
 use Rattle.af_base.proofs.Lookups.{none_some, not_same, some_same, told_apart}
 use Rattle.af_base.proofs.Stepping.{get-change_at}
-use Rattle.af_order.specs.Keyed.{value_at, values_of}
+use Rattle.af_order.specs.Standing.{value_at, values_of}
 use Rattle.af_order.specs.declared.entry.Entry.{Entry}
-use Rattle.af_order.proofs.Keyed.{looked}
+use Rattle.af_order.proofs.Standing.{looked}
 use Rattle.af_mark.specs.Grey.{AreUpTo, color_in, colors_in, placed, washed}
 use Rattle.af_mark.specs.Marked.{Marked}
 use Rattle.af_mark.specs.declared.color.Color.{Color}

@@ -3,7 +3,7 @@ ghost use Rattle.std.specs.Prelude.{◌≡◌, ◌<◌, ◌+◌, ◌-◌, ℕ, S
 ghost use Rattle.std.specs.FinMap as map;
 ghost use Rattle.slab.specs.Slab.{slab_len};
 ghost use Rattle.af_base.specs.Counts.{count_in};
-ghost use Rattle.af_order.specs.Keyed.{AreInPlace, values_of};
+ghost use Rattle.af_order.specs.Standing.{AreInPlace, values_of};
 ghost use Rattle.af_base.specs.Changes.{change_at};
 ghost use Rattle.af_mark.specs.declared.color.Color.TheVariants.{White};
 ghost use Rattle.af_mark.specs.Grey.{AreUpTo, color_in, colors_in, placed, washed};
@@ -49,7 +49,7 @@ impl Mark {
 
 /// The mark of a file, if it is known.
 #[inline(always)]
-#[tactic(auto, using(af_order::proofs::Keyed::finds))]
+#[tactic(auto, using(af_order::proofs::Standing::finds))]
 pub fn mark_of(order: &Order, marks: &Slab<Entry<Mark>>, file: &FileRef) -> Option<Mark>
     requires { AreInPlace order.now.keys marks.now }
     ensures { result ≡ map.get (values_of order.now.keys marks.now) file.now }
@@ -60,7 +60,7 @@ pub fn mark_of(order: &Order, marks: &Slab<Entry<Mark>>, file: &FileRef) -> Opti
 }
 
 /// A file that is known gets this mark.
-#[tactic(auto, using(af_order::proofs::Keyed::writes))]
+#[tactic(auto, using(af_order::proofs::Standing::writes))]
 pub fn paint(order: &Order, marks: &mut Slab<Entry<Mark>>, file: &FileRef, mark: Mark)
     requires place { AreInPlace order.now.keys marks.old }
     requires known { IsTrue (map.contains_key (values_of order.now.keys marks.old) file.now) }
@@ -75,7 +75,7 @@ pub fn paint(order: &Order, marks: &mut Slab<Entry<Mark>>, file: &FileRef, mark:
 }
 
 /// A place in the list is noted beside a file's mark.
-#[tactic(auto, using(af_order::proofs::Keyed::writes))]
+#[tactic(auto, using(af_order::proofs::Standing::writes))]
 fn note(order: &Order, marks: &mut Slab<Entry<Mark>>, file: &FileRef, at: usize)
     requires { AreInPlace order.now.keys marks.old }
     ensures marks { values_of order.now.keys marks.new ≡ change_at (placed at) (values_of order.now.keys marks.old) file.now }
@@ -139,7 +139,7 @@ pub fn strike(
 }
 
 /// A file's mark is of no pass.
-#[tactic(auto, using(af_order::proofs::Keyed::writes))]
+#[tactic(auto, using(af_order::proofs::Standing::writes))]
 fn bleach(order: &Order, marks: &mut Slab<Entry<Mark>>, file: &FileRef)
     requires { AreInPlace order.now.keys marks.old }
     ensures marks { values_of order.now.keys marks.new ≡ change_at washed (values_of order.now.keys marks.old) file.now }

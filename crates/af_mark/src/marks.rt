@@ -31,7 +31,7 @@ impl Model for Marks {
     ghost use Rattle.std.specs.FinMap as map;
     ghost use Rattle.std.specs.Coded.{codes};
     ghost use Rattle.slab.specs.Slab.{slab_len};
-    ghost use Rattle.af_order.specs.Keyed.{AreInPlace, values_of};
+    ghost use Rattle.af_order.specs.Standing.{AreInPlace, values_of};
     ghost use Rattle.af_mark.specs.Grey.{AreGrey, AreUpTo, colors_in, room_left};
     ghost use Rattle.af_mark.specs.Marked.{Marked};
 
@@ -62,7 +62,7 @@ impl Marks {
     /// Room for so many further files: then `born` needs no memory for them, and no other call ever
     /// does. Nothing else changes, also on an error.
     #[inline(always)]
-    #[tactic(auto, using(af_order::proofs::Keyed::comes_and_goes))]
+    #[tactic(auto, using(af_order::proofs::Standing::comes_and_goes))]
     pub fn reserve(&mut self, files: usize) -> Result<(), AllocError>
         ensures same { self.new ≡ record self.old { room = self.new.room } }
         ensures ok { OnOk result (files ≤ self.new.room) }

@@ -1,4 +1,5 @@
-pub mod Keyed
+pub mod Standing
 pub mod Rows
 pub mod Searches
 pub mod Moves
+pub mod Lent

@@ -1,4 +1,6 @@
 -- Numbers in order, and what stands under them.
 pub mod Ordered
 pub mod Rows
-pub mod Keyed
+pub mod Standing
+pub mod Numbers
+pub mod Lending

@@ -3,7 +3,7 @@ ghost use Rattle.std.specs.Prelude.{◌≡◌, ℕ, ◌+◌, ◌≤◌, ◌<◌,
 ghost use Rattle.std.specs.FinMap as map;
 ghost use Rattle.slab.specs.Slab.{HasRoomFor, slab_len};
 ghost use Rattle.af_base.specs.World.{Map};
-ghost use Rattle.af_order.specs.Keyed.{AreInPlace, values_of};
+ghost use Rattle.af_order.specs.Standing.{AreInPlace, values_of};
 
 use crate::order::Order;
 use af_base::names::{FileRef, Ino};
@@ -25,10 +25,24 @@ pub struct Entry<T> {
     pub value: T,
 }
 
+impl<T> Entry<T> {
+    ghost use Rattle.std.specs.Borrow.{sem};
+    ghost use Rattle.af_order.specs.Lending.{lends_value};
+
+    /// What stands under the number, to write to.
+    #[inline(always)]
+    pub fn value_mut(&mut self) -> &mut T
+        ensures* writes_back { sem 𝓛 (lends_value T.row self.entry result) }
+        ensures value { result.now ≡ self.old.value }
+    {
+        &mut self.value
+    }
+}
+
 /// The key of a file. The file's own key is tried first; where another number stands there, or none,
 /// the order is asked.
 #[inline(always)]
-#[tactic(auto, using(crate::proofs::Keyed::finds))]
+#[tactic(auto, using(crate::proofs::Standing::finds))]
 pub fn key_of<T>(order: &Order, slab: &Slab<Entry<T>>, file: &FileRef) -> Option<usize>
     requires { AreInPlace order.now.keys slab.now }
     ensures { result ≡ map.get order.now.keys file.now }
@@ -65,7 +79,7 @@ pub fn reserve<T>(
 
 /// A value more, under a number above all others that there were. There is room for it.
 #[inline(always)]
-#[tactic(auto, using(crate::proofs::Keyed::comes_and_goes))]
+#[tactic(auto, using(crate::proofs::Standing::comes_and_goes))]
 pub fn put<T>(order: &mut Order, slab: &mut Slab<Entry<T>>, ino: Ino, value: T) -> FileRef
     requires place { AreInPlace order.old.keys slab.old }
     requires room { 0 < order.old.room }
@@ -109,7 +123,7 @@ fn pack<T>(order: &mut Order, slab: &mut Slab<Entry<T>>)
 
 /// A number's new place is noted beside its value.
 #[inline(always)]
-#[tactic(auto, using(crate::proofs::Keyed::notes))]
+#[tactic(auto, using(crate::proofs::Standing::notes))]
 fn note<T>(slab: &mut Slab<Entry<T>>, key: usize, at: usize)
     ensures values { (m : Map ℕ) → AreInPlace m slab.old → values_of m slab.new ≡ values_of m slab.old }
     ensures place { (m : Map ℕ) → AreInPlace m slab.old → AreInPlace m slab.new }
@@ -124,7 +138,7 @@ fn note<T>(slab: &mut Slab<Entry<T>>, key: usize, at: usize)
 
 /// The value of a file goes, and is handed on; nothing of a stranger. It takes no memory.
 #[inline(always)]
-#[tactic(auto, using(crate::proofs::Keyed::comes_and_goes))]
+#[tactic(auto, using(crate::proofs::Standing::comes_and_goes))]
 pub fn take<T>(order: &mut Order, slab: &mut Slab<Entry<T>>, file: &FileRef) -> Option<T>
     requires place { AreInPlace order.old.keys slab.old }
     ensures value { result ≡ map.get (values_of order.old.keys slab.old) file.now }

@@ -2,7 +2,9 @@
 #![tactic(auto)]
 
 mod entry;
+mod numbered;
 mod order;
 
 pub use entry::{Entry, key_of, put, reserve, take};
+pub use numbered::Keyed;
 pub use order::Order;

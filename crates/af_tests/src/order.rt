@@ -1,7 +1,7 @@
 //! What no clause says: that memory is enough where there is some, that rows are packed, and how
 //! little the newest number leaves behind.
 ghost use Rattle.std.specs.Prelude.{◌≡◌, ◌<◌, OnOk};
-ghost use Rattle.af_order.specs.Keyed.{AreInPlace};
+ghost use Rattle.af_order.specs.Standing.{AreInPlace};
 
 use af_base::names::{FileRef, Ino};
 use af_order::{Entry, Order, put, reserve, take};
@@ -13,7 +13,7 @@ use std::test::Fail;
 const MANY: u64 = 5_000;
 
 /// A value comes, once there is room for it.
-#[tactic(auto, using(af_order::proofs::Keyed::comes_and_goes))]
+#[tactic(auto, using(af_order::proofs::Standing::comes_and_goes))]
 fn come(order: &mut Order, slab: &mut Slab<Entry<u64>>, number: u64) -> Result<(), AllocError>
     requires place { AreInPlace order.old.keys slab.old }
     requires above { order.old.last < number }

@@ -1,5 +1,5 @@
 use Rattle.std.proofs.Common.{rules, refl}
-use Rattle.af_order.proofs.Keyed.{write_in_place}
+use Rattle.af_order.proofs.Standing.{write_in_place}
 use Rattle.af_ledger.specs.Counted.{more}
 use Rattle.af_ledger.proofs.Waiting.{recounted}
 use Rattle.af_ledger.proofs.ledger.add_place.Goals as goal

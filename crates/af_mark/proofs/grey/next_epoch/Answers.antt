@@ -1,4 +1,4 @@
-use Rattle.af_order.specs.Keyed.{values_of}
+use Rattle.af_order.specs.Standing.{values_of}
 use Rattle.af_mark.proofs.Colors.{unmarked_next}
 use Rattle.af_mark.proofs.grey.next_epoch.Goals as goal
 

@@ -1,5 +1,5 @@
 use Rattle.std.proofs.Common.{rules, refl}
-use Rattle.af_order.proofs.Keyed.{write_in_place}
+use Rattle.af_order.proofs.Standing.{write_in_place}
 use Rattle.af_mark.specs.Grey.{placed}
 use Rattle.af_mark.proofs.grey.note.Goals as goal
 

@@ -1,5 +1,5 @@
 use Rattle.std.proofs.Common.{rules, refl}
-use Rattle.af_order.proofs.Keyed.{write_in_place, write_values}
+use Rattle.af_order.proofs.Standing.{write_in_place, write_values}
 use Rattle.af_mark.proofs.grey.paint.Goals as goal
 
 pub returns-clause-marks : goal.returns-clause-marks

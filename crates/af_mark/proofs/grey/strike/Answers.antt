@@ -1,5 +1,5 @@
 use Rattle.std.proofs.Common.{ap, sym, subst, ◌∙◌}
-use Rattle.af_order.specs.Keyed.{values_of}
+use Rattle.af_order.specs.Standing.{values_of}
 use Rattle.af_mark.specs.Grey.{AreUpTo, colors_in}
 use Rattle.af_mark.proofs.Colors.{color_noted, upto_noted}
 use Rattle.af_mark.proofs.grey.strike.Goals as goal

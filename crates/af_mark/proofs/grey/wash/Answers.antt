@@ -3,7 +3,7 @@ use Rattle.std.specs.Prelude.{Some, false}
 use Rattle.std.specs.FinMap as map
 use Rattle.af_base.specs.Changes.{change_at}
 use Rattle.af_base.proofs.Rising.{above, fewer_above}
-use Rattle.af_order.specs.Keyed.{values_of}
+use Rattle.af_order.specs.Standing.{values_of}
 use Rattle.af_mark.specs.Grey.{washed}
 use Rattle.af_mark.specs.declared.grey.Mark.{Mark}
 use Rattle.af_mark.proofs.Colors.{keyless, known_changed, washed_all, washed_first, washed_next}

@@ -4,7 +4,7 @@ use Rattle.std.specs.Prelude.{Some}
 use Rattle.std.specs.FinMap as map
 use Rattle.slab.specs.Slab.{slab_len}
 use Rattle.af_base.proofs.Rising.{above}
-use Rattle.af_order.specs.Keyed.{AreInPlace, values_of}
+use Rattle.af_order.specs.Standing.{AreInPlace, values_of}
 use Rattle.af_mark.specs.declared.grey.Mark.{Mark}
 use Rattle.af_mark.proofs.grey.wash.Given as goal
 

@@ -1,6 +1,6 @@
 use Rattle.std.proofs.Common.{sym, ap, refl, ◌∙◌}
 use Rattle.std.specs.Option.{option_copied_mut}
-use Rattle.af_order.proofs.Keyed.{noted_in_place}
+use Rattle.af_order.proofs.Standing.{noted_in_place}
 use Rattle.af_order.proofs.entry.note.Goals as goal
 
 pub returns-clause-place : goal.returns-clause-place

@@ -1,6 +1,6 @@
 use Rattle.std.proofs.Common.{◌≡◌, ◌≤◌}
 use Rattle.slab.specs.Slab.{slab_len}
-use Rattle.af_order.specs.Keyed.{AreInPlace, values_of}
+use Rattle.af_order.specs.Standing.{AreInPlace, values_of}
 use Rattle.af_order.proofs.entry.pack.Given as goal
 
 -- All is as it was, but for room and hints.

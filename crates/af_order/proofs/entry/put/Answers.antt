@@ -1,6 +1,6 @@
 use Rattle.std.proofs.Common.{sym, ap, refl, ◌∙◌}
 use Rattle.std.specs.FinMap as map
-use Rattle.af_order.proofs.Keyed.{put_values, put_in_place}
+use Rattle.af_order.proofs.Standing.{put_values, put_in_place}
 use Rattle.af_order.proofs.entry.put.Goals as goal
 
 pub returns-clause-values : goal.returns-clause-values

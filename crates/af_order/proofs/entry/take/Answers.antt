@@ -1,6 +1,6 @@
 use Rattle.std.proofs.Common.{sym, ap, ◌∙◌}
 use Rattle.std.specs.FinMap as map
-use Rattle.af_order.proofs.Keyed.{take_values, take_in_place}
+use Rattle.af_order.proofs.Standing.{take_values, take_in_place}
 use Rattle.af_order.proofs.entry.take.Goals as goal
 
 pub returns-clause-values : goal.returns-clause-values

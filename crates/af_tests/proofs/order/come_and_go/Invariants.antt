@@ -1,5 +1,5 @@
 use Rattle.std.proofs.Common.{◌<◌}
-use Rattle.af_order.specs.Keyed.{AreInPlace}
+use Rattle.af_order.specs.Standing.{AreInPlace}
 use Rattle.af_tests.proofs.order.come_and_go.Given as goal
 
 -- All stand in their places, and the next number is new.

@@ -1,4 +1,4 @@
-use Rattle.af_order.specs.Keyed.{AreInPlace}
+use Rattle.af_order.specs.Standing.{AreInPlace}
 use Rattle.af_tests.proofs.order.pack_the_rest.Given as goal
 
 -- All stand in their places.

@@ -1,4 +1,4 @@
-use Rattle.af_order.proofs.Keyed.{none_in_place}
+use Rattle.af_order.proofs.Standing.{none_in_place}
 use Rattle.af_tests.proofs.order.thousands_come_and_go.Goals as goal
 
 pub come_and_go-requires-clause-place : goal.come_and_go-requires-clause-place

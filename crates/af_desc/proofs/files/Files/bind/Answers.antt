@@ -8,7 +8,7 @@ use Rattle.af_base.specs.Names.{named}
 use Rattle.af_base.specs.Refusals.{socket_of}
 use Rattle.af_desc.specs.Filed.{AreNamed, Filed, socket_in}
 use Rattle.af_desc.proofs.Naming.{named-back, named-is, named-bound, named-moved, unchanged}
-use Rattle.af_order.specs.Keyed.{values_of}
+use Rattle.af_order.specs.Standing.{values_of}
 use Rattle.af_desc.proofs.files.Files.bind.Goals as goal
 
 pub returns-then-is_none-clause-files : goal.returns-then-is_none-clause-files

@@ -1,6 +1,6 @@
 use Rattle.std.proofs.Common.{sym, ap, refl, ◌∙◌}
 use Rattle.std.specs.Option.{option_copied_mut}
-use Rattle.af_order.proofs.Keyed.{write_in_place, write_absent}
+use Rattle.af_order.proofs.Standing.{write_in_place, write_absent}
 use Rattle.af_base.specs.Changes.{dequeued}
 use Rattle.af_desc.proofs.Naming.{name-changed, named-written}
 use Rattle.af_desc.proofs.files.Files.dequeue.Goals as goal

@@ -2,7 +2,7 @@ use Rattle.std.proofs.Common.{◌<◌, ◌∙◌, ap, sym, subst, arith}
 use Rattle.std.specs.FinMap as map
 use Rattle.af_desc.proofs.Begun.{begun-made}
 use Rattle.af_desc.proofs.Naming.{named-moved, named-new, reserved-place, reserved-values}
-use Rattle.af_order.specs.Keyed.{values_of}
+use Rattle.af_order.specs.Standing.{values_of}
 use Rattle.af_desc.proofs.files.Files.make.Goals as goal
 
 pub invariant_of-self : goal.invariant_of-self

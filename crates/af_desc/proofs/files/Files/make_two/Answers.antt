@@ -4,7 +4,7 @@ use Rattle.std.specs.FinMap as map
 use Rattle.af_desc.specs.Filed.{name_of}
 use Rattle.af_desc.proofs.Begun.{begun-made}
 use Rattle.af_desc.proofs.Naming.{named-moved, named-new, reserved-values}
-use Rattle.af_order.specs.Keyed.{values_of}
+use Rattle.af_order.specs.Standing.{values_of}
 use Rattle.af_desc.proofs.files.Files.make_two.Goals as goal
 
 pub invariant_of-self-2 : goal.invariant_of-self-2

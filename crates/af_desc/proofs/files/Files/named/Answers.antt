@@ -2,7 +2,7 @@ use Rattle.std.proofs.Common.{◌∙◌, ap}
 use Rattle.af_base.specs.Names.{named}
 use Rattle.af_desc.specs.Filed.{Filed}
 use Rattle.af_desc.proofs.Naming.{named-is}
-use Rattle.af_order.specs.Keyed.{values_of}
+use Rattle.af_order.specs.Standing.{values_of}
 use Rattle.af_desc.proofs.files.Files.named.Goals as goal
 
 pub returns : goal.returns

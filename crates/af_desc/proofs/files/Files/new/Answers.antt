@@ -1,6 +1,6 @@
 use Rattle.std.proofs.Common.{◌<◌, subst, sym, arith}
-use Rattle.af_order.proofs.Keyed.{no_values, none_in_place, none_there}
-use Rattle.af_order.specs.Keyed.{values_of}
+use Rattle.af_order.proofs.Standing.{no_values, none_in_place, none_there}
+use Rattle.af_order.specs.Standing.{values_of}
 use Rattle.af_desc.proofs.Naming.{named-none-yet}
 use Rattle.af_desc.proofs.files.Files.new.Goals as goal
 

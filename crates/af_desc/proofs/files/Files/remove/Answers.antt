@@ -5,7 +5,7 @@ use Rattle.std.specs.Option.{option_and_then, option_copied}
 use Rattle.af_desc.specs.Filed.{AreNamed, name_in, name_of}
 use Rattle.af_desc.proofs.Begun.{begun-removed}
 use Rattle.af_desc.proofs.Naming.{name-at, named-freed, named-gone, named-moved}
-use Rattle.af_order.specs.Keyed.{values_of}
+use Rattle.af_order.specs.Standing.{values_of}
 use Rattle.af_desc.proofs.files.Files.remove.Goals as goal
 
 pub invariant_of-self-in-Some : goal.invariant_of-self-in-Some

@@ -1,6 +1,6 @@
 use Rattle.std.proofs.Common.{rules, arith, sym, ap, refl, ◌<◌, ◌∙◌, subst}
 use Rattle.std.specs.FinMap as map
-use Rattle.af_order.specs.Keyed.{values_of}
+use Rattle.af_order.specs.Standing.{values_of}
 use Rattle.af_ledger.proofs.Waiting.{entered-pushed, waiting-same}
 use Rattle.af_ledger.proofs.ledger.Ledger.enter.Goals as goal
 

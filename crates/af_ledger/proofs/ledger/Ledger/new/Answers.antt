@@ -1,5 +1,5 @@
 use Rattle.std.proofs.Common.{arith}
-use Rattle.af_order.proofs.Keyed.{no_values, none_in_place}
+use Rattle.af_order.proofs.Standing.{no_values, none_in_place}
 use Rattle.af_ledger.proofs.Waiting.{nothing-waits}
 use Rattle.af_ledger.proofs.ledger.Ledger.new.Goals as goal
 

@@ -3,7 +3,7 @@ use Rattle.std.specs.Prelude.{Some, None, IsTrue, is_some, min, vec_capacity}
 use Rattle.std.specs.FinMap as map
 use Rattle.slab.specs.Slab.{slab_len}
 use Rattle.af_base.specs.Counts.{count_in}
-use Rattle.af_order.specs.Keyed.{values_of}
+use Rattle.af_order.specs.Standing.{values_of}
 use Rattle.af_mark.specs.Grey.{AreGrey, AreUpTo, color_in, colors_in, room_left}
 use Rattle.af_mark.specs.Marked.{is_grey_color}
 use Rattle.af_mark.specs.declared.color.Color.TheVariants.{Black, Grey, White}

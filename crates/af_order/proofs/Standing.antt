@@ -1,5 +1,5 @@
 -- Look-ups and changes of values under keys.
-use Rattle.std.proofs.Common.{◌≡◌, ℕ, ◌+◌, ◌-◌, ◌<◌, Bool, true, false, ◌||◌, cond, List, [], ◌∷◌, length, zero, suc, refl, sym, ap, subst, ◌∙◌, arith}
+use Rattle.std.proofs.Common.{◌≡◌, ℕ, ◌+◌, ◌-◌, ◌<◌, Bool, true, false, ◌||◌, cond, List, [], ◌∷◌, length, zero, suc, refl, sym, ap, ◌∙◌, arith}
 use Rattle.std.specs.Prelude.{Option, Some, None, nat_eq, is_some, count_by, slice_index_or}
 use Rattle.std.specs.Option.{option_map, option_map_or}
 use Rattle.std.specs.List.{list_any}
@@ -16,7 +16,7 @@ use Rattle.af_base.specs.World.{Map}
 use Rattle.af_base.specs.Changes.{change_at}
 use Rattle.af_base.proofs.Lookups.{none_some, some_is, some_same}
 use Rattle.af_order.specs.declared.entry.Entry.{Entry}
-use Rattle.af_order.specs.Keyed.{value_at, value_of, values_from, values_of, AreInPlace}
+use Rattle.af_order.specs.Standing.{value_at, value_of, values_from, values_of, AreInPlace}
 
 module _ {V : Type 0} where
   -- Two maps that have the same at each number.
@@ -234,7 +234,8 @@ module _ {V : Type 0} (m : Map ℕ) (s : Slab (Entry V)) (f key : ℕ) (x y : En
     by true e = sym (ap (map.get m) (eqb-true f q e)) ∙ was
     by false e = refl
 
-  there : map.get (values_of m s) f ≡ Some x.value
+  -- It stands under its number.
+  pub there : map.get (values_of m s) f ≡ Some x.value
   there = looked m s f ∙ ap (under s) was ∙ ap (option_map (λ x. x.value)) at
 
   pub write_values : values_of m (slab.with_value s key y) ≡ map.insert (values_of m s) f y.value
@@ -260,18 +261,19 @@ module _ {V : Type 0} (m : Map ℕ) (s : Slab (Entry V)) (f key : ℕ) (x y : En
     by true e = sym (ap is_some there) ∙ ap (map.contains_key (values_of m s)) (eqb-true f q e) ∙ none
     by false e = none
 
+  -- As many values stand there as did.
+  pub write_len : slab.slab_len (slab.with_value s key y) ≡ slab.slab_len s
+  write_len =
+      let weight : Option (Entry V) → ℕ = λ o. cond (is_some o) 1 0 in
+      let one : weight (slice_index_or s.slots key None) ≡ 1 = ap weight at in
+      let both = sum_by-set weight s.slots key (Some y) None (within s.slots key x at) in
+      omega (arith, one, both)
+
   pub write_in_place : y.ino ≡ x.ino → AreInPlace m (slab.with_value s key y)
   write_in_place ino = in_place_then m m s (slab.with_value s key y) f key (Some key) (Some y) stays wrote (own m s h f key was) h
       (λ k is. ap (λ j. option_map (λ x. x.ino) (slab.get (slab.with_value s key y) j)) (sym (some_same key k is)) ∙ ap (option_map (λ x. x.ino)) wrote.changed ∙ ap Some number)
       (λ z is. (ap (λ x. x.ino) (sym (some_same y z is)) ∙ number, refl)) (λ k also. some_same k key (sym also ∙ was)) (ap map.len write_values ∙ map.len-insert nat_cmp_total (values_of m s) f y.value
-      ∙ ap (λ o. cond (is_some o) (map.len (values_of m s)) (map.len (values_of m s) + 1)) there ∙ h.many ∙ as_many) where
-        as_many : slab.slab_len s ≡ slab.slab_len (slab.with_value s key y)
-        as_many =
-            let weight : Option (Entry V) → ℕ = λ o. cond (is_some o) 1 0 in
-            let one : weight (slice_index_or s.slots key None) ≡ 1 = ap weight at in
-            let both = sum_by-set weight s.slots key (Some y) None (within s.slots key x at) in
-            omega (arith, one, both)
-
+      ∙ ap (λ o. cond (is_some o) (map.len (values_of m s)) (map.len (values_of m s) + 1)) there ∙ h.many ∙ sym write_len) where
         number : y.ino ≡ f
         number = ino ∙ some_same x.ino f (sym (ap (option_map (λ x. x.ino)) at) ∙ h.kept f key was)
 

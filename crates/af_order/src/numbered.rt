@@ -1,0 +1,141 @@
+//! Values under numbers that only rise.
+ghost use Rattle.std.specs.Prelude.{◌≡◌, ℕ, ◌+◌, ◌≤◌, ◌<◌, false, IsTrue, IsOk, IfSome, IfNone, OnOk, option_copied};
+ghost use Rattle.std.specs.FinMap as map;
+ghost use Rattle.std.specs.Option.{option_copied_mut};
+ghost use Rattle.std.specs.Borrow.{sem};
+
+use crate::entry::{Entry, key_of, put, reserve, take};
+use crate::order::Order;
+use af_base::names::{FileRef, Ino};
+use slab::Slab;
+use std::alloc::{AllocError, Global};
+use std::marker::Model;
+
+/// A value under each of some numbers. Each number is above all that there were before it, and is never
+/// used again. A `FileRef` that was handed out has a hint where its value stands.
+#[derive(Drop)]
+pub struct Keyed<T> {
+    order: Order,
+    slab: Slab<Entry<T>>,
+}
+
+impl<T> Model for Keyed<T> {
+    ghost use Rattle.std.specs.Prelude.{◌-◌, ◌≤◌, min};
+    ghost use Rattle.slab.specs.Slab.{slab_len};
+    ghost use Rattle.af_order.specs.Standing.{AreInPlace, values_of};
+    ghost use Rattle.af_order.specs.Numbers.{Numbered, numbered_code};
+
+    ghost Value = { Numbered T };
+
+    ghost coded = { numbered_code T.code };
+
+    ghost view = { λ a. record { values = values_of a.order.keys a.slab; last = a.order.last; room = min a.order.room (a.slab.capacity - slab_len a.slab) } };
+
+    ghost invariant = { λ a. AreInPlace a.order.keys a.slab × (slab_len a.slab ≤ a.slab.capacity) };
+}
+
+impl<T> Keyed<T> {
+    ghost use Rattle.af_order.specs.Lending.{lends_at};
+
+    /// No value. It takes no memory.
+    #[tactic(auto, using(crate::proofs::Standing::comes_and_goes))]
+    pub fn new(alloc: Global) -> Self
+        ensures values { result.values ≡ map.empty }
+        ensures last { result.last ≡ 0 }
+    {
+        Keyed {
+            order: Order::new(alloc),
+            slab: Slab::new(alloc),
+        }
+    }
+
+    /// How many values there are.
+    #[inline(always)]
+    pub fn len(&self) -> usize
+        ensures { result ≡ map.len self.now.values }
+    {
+        self.slab.len()
+    }
+
+    /// Room for so many values more: then `push` needs no memory for them, and no other call ever
+    /// does. Nothing else changes, also on an error.
+    #[inline(always)]
+    #[tactic(auto, using(crate::proofs::Standing::comes_and_goes))]
+    pub fn reserve(&mut self, values: usize) -> Result<(), AllocError>
+        ensures same { self.new ≡ record self.old { room = self.new.room } }
+        ensures ok { OnOk result (values ≤ self.new.room) }
+        ensures room { self.old.room ≤ self.new.room }
+        ensures succeeds { values ≤ self.old.room → IsOk result }
+    {
+        reserve(&mut self.order, &mut self.slab, values)
+    }
+
+    /// A value more, under a number above all others that there were. There is room for it.
+    #[inline(always)]
+    #[tactic(auto, using(crate::proofs::Standing::comes_and_goes))]
+    pub fn push(&mut self, ino: Ino, value: T) -> FileRef
+        requires room { 0 < self.old.room }
+        requires above { self.old.last < ino }
+        ensures file { result ≡ ino }
+        ensures pushed { self.new ≡ record self.old { values = map.insert self.old.values ino value; last = ino; room = self.new.room } }
+        ensures new { map.contains_key self.old.values ino ≡ false }
+        ensures room { self.old.room ≤ self.new.room + 1 }
+    {
+        put(&mut self.order, &mut self.slab, ino, value)
+    }
+
+    /// The value of a file goes, and is handed on; nothing of a stranger. It takes no memory.
+    #[inline(always)]
+    #[tactic(auto, using(crate::proofs::Standing::comes_and_goes))]
+    pub fn remove(&mut self, file: &FileRef) -> Option<T>
+        ensures value { result ≡ map.get self.old.values file.now }
+        ensures removed { self.new ≡ record self.old { values = map.remove self.old.values file.now; room = self.new.room } }
+        ensures room { self.old.room ≤ self.new.room }
+    {
+        take(&mut self.order, &mut self.slab, file)
+    }
+
+    /// The value of a file; nothing of a stranger.
+    #[inline(always)]
+    #[tactic(auto, using(crate::proofs::Standing::finds))]
+    pub fn get(&self, file: &FileRef) -> Option<&T>
+        ensures { option_copied result ≡ map.get self.now.values file.now }
+    {
+        let key = key_of(&self.order, &self.slab, file)?;
+        let entry = self.slab.get(key)?;
+        Some(&entry.value)
+    }
+
+    /// The value of a file, to write to; nothing of a stranger.
+    #[inline(always)]
+    #[tactic(auto, using(crate::proofs::Standing::finds))]
+    pub fn get_mut(&mut self, file: &FileRef) -> Option<&mut T>
+        ensures* writes_back { sem 𝓛 (lends_at T.row self.entry file.now result) }
+        ensures value { option_copied_mut result ≡ map.get self.old.values file.now }
+    {
+        let key = key_of(&self.order, &self.slab, file)?;
+        Some(self.slab[key].value_mut())
+    }
+
+    /// Where the value of a number stands; nothing of a stranger. A search: who has a `FileRef` needs
+    /// none.
+    #[tactic(auto, using(crate::proofs::Standing::finds))]
+    pub fn find(&self, ino: Ino) -> Option<FileRef>
+        ensures there { IfSome result (λ f. (f ≡ ino) × IsTrue (map.contains_key self.now.values ino)) }
+        ensures none { IfNone result (map.contains_key self.now.values ino ≡ false) }
+    {
+        let key = self.order.key_of(ino)?;
+        Some(FileRef::new(ino, key))
+    }
+
+    /// The least number above this one that has a value, if there is one; this one need not have one.
+    #[tactic(auto, using(crate::proofs::Standing::finds))]
+    pub fn next_after(&self, ino: Ino) -> Option<FileRef>
+        ensures above { IfSome result (λ n. ino < n) }
+        ensures there { IfSome result (λ n. IsTrue (map.contains_key self.now.values n)) }
+        ensures least { IfSome result (λ n. (q : ℕ) → ino < q → q < n → map.contains_key self.now.values q ≡ false) }
+        ensures none { IfNone result ((q : ℕ) → ino < q → map.contains_key self.now.values q ≡ false) }
+    {
+        self.order.next_after(ino)
+    }
+}
