@@ -6,15 +6,11 @@ use Rattle.std.specs.Ordering.{eq_by_cmp, nat_cmp}
 use Rattle.std.specs.Cmp.{nat_cmp_total, unsigned_tied}
 use Rattle.std.specs.FinMap as finmap
 use Rattle.std.specs.FinMap.{get-insert, get-remove, get-empty, same_map, nat_cmp-IsAntisymmetric}
-use Rattle.slab.specs.Slab.{Slab}
 use Rattle.std.proofs.lemmas.Bool.{cases_lt, eq-eqb, eqb-true, false≢true}
 use Rattle.af_base.specs.Changes.{change_at}
 use Rattle.af_base.specs.World.{Map}
 use Rattle.af_base.proofs.Lookups.{none_some, not_same, some_same, told_apart}
 use Rattle.af_base.proofs.Stepping.{get-change_at}
-use Rattle.af_order.specs.Standing.{value_at, values_of}
-use Rattle.af_order.specs.declared.entry.Entry.{Entry}
-use Rattle.af_order.proofs.Standing.{looked}
 use Rattle.af_mark.specs.Grey.{AreUpTo, color_in, colors_in, placed, washed}
 use Rattle.af_mark.specs.Marked.{Marked}
 use Rattle.af_mark.specs.declared.color.Color.{Color}
@@ -53,6 +49,10 @@ module _ (e : ℕ) where
         by : (q : ℕ) (b : Bool) → option_map (color_in e) (cond b (Some x) (finmap.get m q)) ≡ cond b (Some (color_in e x)) (option_map (color_in e) (finmap.get m q))
         by q true = refl
         by q false = refl
+
+  -- The colours after a mark was put in.
+  pub color_after : (m n : Map Mark) (f : ℕ) (x : Mark) (c : Color) → n ≡ finmap.insert m f x → color_in e x ≡ c → colors_in e n ≡ finmap.insert (colors_in e m) f c
+  color_after m n f x c is shows = ap (colors_in e) is ∙ color_put m f x ∙ ap (finmap.insert (colors_in e m) f) shows
 
   -- A mark that is taken out is a colour that is taken out.
   pub color_taken : (m : Map Mark) (f : ℕ) → colors_in e (finmap.remove m f) ≡ finmap.remove (colors_in e m) f
@@ -148,13 +148,6 @@ washed_first m f y low is = by (finmap.get m f) (sym (get-change_at washed m 0 f
   by : (o : Option Mark) → option_map washed o ≡ Some y → y.epoch ≤ 0
   by None is = absurd (none_some y is)
   by (Some x) is = subst (λ z. z.epoch ≤ 0) (some_same (washed x) y is) (omega arith)
-
--- Who has no key has no mark.
-pub keyless : (keys : Map ℕ) (s : Slab (Entry Mark)) (q : ℕ) → finmap.contains_key keys q ≡ false → finmap.contains_key (values_of keys s) q ≡ false
-keyless keys s q none = ap is_some (looked keys s q) ∙ by (finmap.get keys q) none where
-  by : (o : Option ℕ) → is_some o ≡ false → is_some (option_map_or (value_at s) o None) ≡ false
-  by None none = refl
-  by (Some k) none = absurd (false≢true (sym none))
 
 -- The marks of earlier passes are of this one or earlier.
 pub upto_next : (e n : ℕ) (m : Map Mark) → e ≤ n → AreUpTo e m → AreUpTo n m

@@ -114,24 +114,24 @@ grey_taken cs k f = ap (λ o. cond (option_map_or is_grey_color o false) 1 0) (g
   by true = refl
   by false = refl
 
-module _ (cs : Map Color) (fs : List ℕ) (files capacity k : ℕ) (h : AreGrey cs fs files capacity) where
+module _ (cs ds : Map Color) (fs : List ℕ) (k : ℕ) (h : AreGrey cs fs) where
   -- A file that was not grey is, and is the last of the list.
-  pub each_pushed : (ds : Map Color) (c : Color) → ds ≡ map.insert cs k c → is_grey_color c ≡ true → grey_of cs k ≡ 0 → (f : ℕ) → count_in f (fs ++ k ∷ []) ≡ grey_of ds f
-  each_pushed ds c is grey not f = count_pushed f k fs ∙ ap (λ n. n + same f k) (h.each f) ∙ by (nat_eq f k) refl ∙ sym (ap (λ ds. grey_of ds f) is ∙ grey_put cs k c f) where
+  each_pushed : (c : Color) → ds ≡ map.insert cs k c → is_grey_color c ≡ true → grey_of cs k ≡ 0 → AreGrey ds (fs ++ k ∷ [])
+  each_pushed c is grey not f = count_pushed f k fs ∙ ap (λ n. n + same f k) (h f) ∙ by (nat_eq f k) refl ∙ sym (ap (λ ds. grey_of ds f) is ∙ grey_put cs k c f) where
     by : (b : Bool) → nat_eq f k ≡ b → grey_of cs f + cond b 1 0 ≡ cond b (cond (is_grey_color c) 1 0) (grey_of cs f)
     by true e = let none = ap (grey_of cs) (eqb-true f k e) ∙ not in let one = ap {B = ℕ} (λ b. cond b 1 0) grey in omega (arith, none, one)
     by false e = omega arith
 
   -- A grey file is so no more, and is in the list once less.
-  pub each_struck : (ds : Map Color) (gs : List ℕ) → ((f : ℕ) → grey_of ds f ≡ cond (nat_eq f k) 0 (grey_of cs f)) → grey_of cs k ≡ 1 → ((f : ℕ) → count_in f gs ≡ count_in f fs - same f k) → (f : ℕ) → count_in f gs ≡ grey_of ds f
-  each_struck ds gs is grey less f = less f ∙ ap (λ n. n - same f k) (h.each f) ∙ by (nat_eq f k) refl ∙ sym (is f) where
+  pub struck_grey : (gs : List ℕ) → ((f : ℕ) → grey_of ds f ≡ cond (nat_eq f k) 0 (grey_of cs f)) → grey_of cs k ≡ 1 → ((f : ℕ) → count_in f gs ≡ count_in f fs - same f k) → AreGrey ds gs
+  struck_grey gs is grey less f = less f ∙ ap (λ n. n - same f k) (h f) ∙ by (nat_eq f k) refl ∙ sym (is f) where
     by : (b : Bool) → nat_eq f k ≡ b → grey_of cs f - cond b 1 0 ≡ cond b 0 (grey_of cs f)
     by true e = let one = ap (grey_of cs) (eqb-true f k e) ∙ grey in omega (arith, one)
     by false e = omega arith
 
   -- Where nobody's greyness changes, the list stays.
-  pub each_kept : (ds : Map Color) → ((f : ℕ) → grey_of ds f ≡ grey_of cs f) → (f : ℕ) → count_in f fs ≡ grey_of ds f
-  each_kept ds is f = h.each f ∙ sym (is f)
+  pub kept_grey : ((f : ℕ) → grey_of ds f ≡ grey_of cs f) → AreGrey ds fs
+  kept_grey is f = h f ∙ sym (is f)
 
 -- ---- the list beside the colours
 
@@ -167,31 +167,17 @@ grey_stranger cs k = by (map.get cs k) where
 pub grey_here : (cs : Map Color) (k : ℕ) (c : Color) → map.get cs k ≡ Some c → grey_of cs k ≡ cond (is_grey_color c) 1 0
 grey_here cs k c is = ap {B = ℕ} (λ o. cond (option_map_or is_grey_color o false) 1 0) is
 
--- Where nobody's greyness changes, the list stays right, for as many files or fewer, or more for which there is room.
-pub kept_grey : (cs ds : Map Color) (fs : List ℕ) (files left capacity : ℕ) → AreGrey cs fs files capacity → ((f : ℕ) → grey_of ds f ≡ grey_of cs f) → left ≤ capacity → AreGrey ds fs left capacity
-kept_grey cs ds fs files left capacity h is few = record { each = λ f. h.each f ∙ sym (is f); room = few }
-
 -- Where nobody is grey the list is empty.
-pub nothing_grey : (ds : Map Color) (fs : List ℕ) (files capacity : ℕ) → fs ≡ [] → ((f : ℕ) → grey_of ds f ≡ 0) → files ≤ capacity → AreGrey ds fs files capacity
-nothing_grey ds fs files capacity none white few = record { each = λ f. ap (count_in f) none ∙ sym (white f); room = few }
-
--- A grey file is so no more.
-pub struck_grey : (cs ds : Map Color) (fs gs : List ℕ) (files left capacity k : ℕ) → AreGrey cs fs files capacity → ((f : ℕ) → grey_of ds f ≡ cond (nat_eq f k) 0 (grey_of cs f)) → grey_of cs k ≡ 1
-    → ((f : ℕ) → count_in f gs ≡ count_in f fs - same f k) → left ≤ capacity → AreGrey ds gs left capacity
-struck_grey cs ds fs gs files left capacity k h is grey less few = record { each = each_struck cs fs files capacity k h ds gs is grey less; room = few }
+pub nothing_grey : (ds : Map Color) (fs : List ℕ) → fs ≡ [] → ((f : ℕ) → grey_of ds f ≡ 0) → AreGrey ds fs
+nothing_grey ds fs none white f = ap (count_in f) none ∙ sym (white f)
 
 -- A white file is grey: there is room for it in the list.
-pub pushed_grey : {X : Type 0} (cs ds : Map Color) (m : Map X) (fs : List ℕ) (files capacity k : ℕ) (c : Color) → AreGrey cs fs files capacity → ds ≡ map.insert cs k c → is_grey_color c ≡ true → grey_of cs k ≡ 0
-    → ((f : ℕ) → map.contains_key ds f ≡ map.contains_key m f) → map.len m ≡ files → AreGrey ds (fs ++ k ∷ []) files capacity × (length fs < capacity)
-pushed_grey cs ds m fs files capacity k c h is grey not known many =
-    let each = each_pushed cs fs files capacity k h ds c is grey not in
+pub pushed_grey : {X : Type 0} (cs ds : Map Color) (m : Map X) (fs : List ℕ) (k : ℕ) (c : Color) → AreGrey cs fs → ds ≡ map.insert cs k c → is_grey_color c ≡ true → grey_of cs k ≡ 0
+    → ((f : ℕ) → map.contains_key ds f ≡ map.contains_key m f) → AreGrey ds (fs ++ k ∷ []) × (length fs < map.len m)
+pushed_grey cs ds m fs k c h is grey not known =
+    let each = each_pushed cs ds fs k h c is grey not in
     let most = few_keys m (fs ++ k ∷ []) (λ f low. subst IsTrue (known f) (grey_known ds f (omega (arith, low, each f)))) (λ f. omega (arith, each f, grey_most ds f)) in
-    let room = h.room in
-    (record { each = each; room = room }, omega (arith, most, many, room, length-append fs (k ∷ [])))
-
--- What is said of a list and of its room is said of their equals.
-pub grey_same : (cs ds : Map Color) (fs gs : List ℕ) (files left slots wide list long : ℕ) → ds ≡ cs → gs ≡ fs → left ≡ files → wide ≡ slots → long ≡ list → AreGrey cs fs files (min slots list) → AreGrey ds gs left (min wide long)
-grey_same cs ds fs gs files left slots wide list long colors same size fits stays h = subst (λ x. x) (λ i. AreGrey (sym colors i) (sym same i) (sym size i) (min (sym fits i) (sym stays i))) h
+    (each, omega (arith, most, length-append fs (k ∷ [])))
 
 -- No colour, nobody grey.
 pub grey_empty : (cs : Map Color) → cs ≡ map.empty → (f : ℕ) → grey_of cs f ≡ 0

@@ -30,11 +30,10 @@ washed x = record x { epoch = 0 }
 abbrev pub AreUpTo : ℕ → Map Mark → Type 0
 AreUpTo epoch m = (f : ℕ) (x : Mark) → map.get m f ≡ Some x → x.epoch ≤ epoch
 
--- The list has each grey file, once, and no other; and there is room for so many files as there are (this project's own).
-pub record AreGrey (colors : Map Color) (fs : List ℕ) (files capacity : ℕ) : Type 0 where
-  pub each : (f : ℕ) → count_in f fs ≡ (if option_map_or is_grey_color (map.get colors f) false then 1 else 0)
-  pub room : files ≤ capacity
+-- The list has each grey file, once, and no other (this project's own).
+abbrev pub AreGrey : Map Color → List ℕ → Type 0
+AreGrey colors fs = (f : ℕ) → count_in f fs ≡ (if option_map_or is_grey_color (map.get colors f) false then 1 else 0)
 
--- For how many further files there is room: in their order, and beside so many as there are (this project's own).
+-- For how many further files there is room: among the marks, and in the list beside so many as there are (this project's own).
 abbrev pub room_left : ℕ → ℕ → ℕ → ℕ
-room_left order files capacity = min order (capacity - files)
+room_left marks files capacity = min marks (capacity - files)

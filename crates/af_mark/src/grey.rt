@@ -1,9 +1,7 @@
 //! The marks under their keys, and the list of the grey files.
 ghost use Rattle.std.specs.Prelude.{◌≡◌, ◌<◌, ◌+◌, ◌-◌, ℕ, Some, IsTrue, IfSome, IfNone, cond, false, length, nat_eq, option_map, slice_get, slice_index_or, vec_capacity};
 ghost use Rattle.std.specs.FinMap as map;
-ghost use Rattle.slab.specs.Slab.{slab_len};
 ghost use Rattle.af_base.specs.Counts.{count_in};
-ghost use Rattle.af_order.specs.Standing.{AreInPlace, values_of};
 ghost use Rattle.af_base.specs.Changes.{change_at};
 ghost use Rattle.af_mark.specs.declared.color.Color.TheVariants.{White};
 ghost use Rattle.af_mark.specs.Grey.{AreUpTo, color_in, colors_in, placed, washed};
@@ -11,8 +9,7 @@ ghost use Rattle.af_mark.specs.Marked.{is_grey_color};
 
 use crate::color::Color;
 use af_base::names::{FileRef, Ino};
-use af_order::{Entry, Order, key_of};
-use slab::Slab;
+use af_order::Keyed;
 
 /// A file's colour, and of which pass it is.
 #[derive(Clone, Copy)]
@@ -47,47 +44,24 @@ impl Mark {
     }
 }
 
-/// The mark of a file, if it is known.
-#[inline(always)]
-#[tactic(auto, using(af_order::proofs::Standing::finds))]
-pub fn mark_of(order: &Order, marks: &Slab<Entry<Mark>>, file: &FileRef) -> Option<Mark>
-    requires { AreInPlace order.now.keys marks.now }
-    ensures { result ≡ map.get (values_of order.now.keys marks.now) file.now }
-{
-    let key = key_of(order, marks, file)?;
-    let entry = marks.get(key)?;
-    Some(entry.value)
-}
-
 /// A file that is known gets this mark.
-#[tactic(auto, using(af_order::proofs::Standing::writes))]
-pub fn paint(order: &Order, marks: &mut Slab<Entry<Mark>>, file: &FileRef, mark: Mark)
-    requires place { AreInPlace order.now.keys marks.old }
-    requires known { IsTrue (map.contains_key (values_of order.now.keys marks.old) file.now) }
-    ensures marks { values_of order.now.keys marks.new ≡ map.insert (values_of order.now.keys marks.old) file.now mark }
-    ensures place { AreInPlace order.now.keys marks.new }
-    ensures len { slab_len marks.new ≡ slab_len marks.old }
-    ensures capacity { marks.new.capacity ≡ marks.old.capacity }
+#[tactic(auto, using(af_order::proofs::Values::lent))]
+pub fn paint(marks: &mut Keyed<Mark>, file: &FileRef, mark: Mark)
+    requires { IsTrue (map.contains_key marks.old.values file.now) }
+    ensures marks { marks.new ≡ record marks.old { values = map.insert marks.old.values file.now mark } }
+    ensures len { map.len marks.new.values ≡ map.len marks.old.values }
 {
-    let key = key_of(order, marks, file).unwrap();
-    let entry = marks.get_mut(key).unwrap();
-    entry.value = mark;
+    *marks.get_mut(file).unwrap() = mark;
 }
 
 /// A place in the list is noted beside a file's mark.
-#[tactic(auto, using(af_order::proofs::Standing::writes))]
-fn note(order: &Order, marks: &mut Slab<Entry<Mark>>, file: &FileRef, at: usize)
-    requires { AreInPlace order.now.keys marks.old }
-    ensures marks { values_of order.now.keys marks.new ≡ change_at (placed at) (values_of order.now.keys marks.old) file.now }
-    ensures place { AreInPlace order.now.keys marks.new }
-    ensures len { slab_len marks.new ≡ slab_len marks.old }
-    ensures capacity { marks.new.capacity ≡ marks.old.capacity }
+#[tactic(auto, using(af_order::proofs::Values::lent))]
+fn note(marks: &mut Keyed<Mark>, file: &FileRef, at: usize)
+    ensures { marks.new ≡ record marks.old { values = change_at (placed at) marks.old.values file.now } }
 {
-    let Some(key) = key_of(order, marks, file) else {
-        return;
-    };
-    let entry = marks.get_mut(key).unwrap();
-    entry.value.at = at;
+    if let Some(mark) = marks.get_mut(file) {
+        mark.at = at;
+    }
 }
 
 /// Where a file stands in the list: this place is tried first. Nothing where it does not.
@@ -115,76 +89,58 @@ fn take_off(grey: &mut Vec<FileRef>, ino: Ino, at: usize) -> Option<usize>
 }
 
 /// The same; the place of what was moved is noted.
-pub fn strike(
-    order: &Order,
-    marks: &mut Slab<Entry<Mark>>,
-    grey: &mut Vec<FileRef>,
-    ino: Ino,
-    at: usize,
-)
-    requires { AreInPlace order.now.keys marks.old }
+pub fn strike(marks: &mut Keyed<Mark>, grey: &mut Vec<FileRef>, ino: Ino, at: usize)
     ensures each { (f : ℕ) → count_in f grey.new.items ≡ count_in f grey.old.items - cond (nat_eq f ino) 1 0 }
-    ensures room { vec_capacity grey.new ≡ vec_capacity grey.old }
-    ensures colors { (epoch : ℕ) → colors_in epoch (values_of order.now.keys marks.new) ≡ colors_in epoch (values_of order.now.keys marks.old) }
-    ensures epochs { (epoch : ℕ) → AreUpTo epoch (values_of order.now.keys marks.old) → AreUpTo epoch (values_of order.now.keys marks.new) }
-    ensures place { AreInPlace order.now.keys marks.new }
-    ensures len { slab_len marks.new ≡ slab_len marks.old }
-    ensures capacity { marks.new.capacity ≡ marks.old.capacity }
+    ensures capacity { vec_capacity grey.new ≡ vec_capacity grey.old }
+    ensures colors { (epoch : ℕ) → colors_in epoch marks.new.values ≡ colors_in epoch marks.old.values }
+    ensures epochs { (epoch : ℕ) → AreUpTo epoch marks.old.values → AreUpTo epoch marks.new.values }
+    ensures len { map.len marks.new.values ≡ map.len marks.old.values }
+    ensures rest { marks.new ≡ record marks.old { values = marks.new.values } }
 {
     if let Some(at) = take_off(grey, ino, at)
         && let Some(moved) = grey.get(at)
     {
-        note(order, marks, moved, at);
+        note(marks, moved, at);
     }
 }
 
 /// A file's mark is of no pass.
-#[tactic(auto, using(af_order::proofs::Standing::writes))]
-fn bleach(order: &Order, marks: &mut Slab<Entry<Mark>>, file: &FileRef)
-    requires { AreInPlace order.now.keys marks.old }
-    ensures marks { values_of order.now.keys marks.new ≡ change_at washed (values_of order.now.keys marks.old) file.now }
-    ensures place { AreInPlace order.now.keys marks.new }
-    ensures len { slab_len marks.new ≡ slab_len marks.old }
-    ensures capacity { marks.new.capacity ≡ marks.old.capacity }
+#[tactic(auto, using(af_order::proofs::Values::lent))]
+fn bleach(marks: &mut Keyed<Mark>, file: &FileRef)
+    ensures { marks.new ≡ record marks.old { values = change_at washed marks.old.values file.now } }
 {
-    let Some(key) = key_of(order, marks, file) else {
-        return;
-    };
-    let entry = marks.get_mut(key).unwrap();
-    entry.value.epoch = 0;
+    if let Some(mark) = marks.get_mut(file) {
+        mark.epoch = 0;
+    }
 }
 
 /// All marks are of no pass, one after the other: once in 2^64 passes.
-fn wash(order: &Order, marks: &mut Slab<Entry<Mark>>)
-    requires { AreInPlace order.now.keys marks.old }
-    ensures marks { AreUpTo 0 (values_of order.now.keys marks.new) }
-    ensures known { (f : ℕ) → map.contains_key (values_of order.now.keys marks.new) f ≡ map.contains_key (values_of order.now.keys marks.old) f }
-    ensures place { AreInPlace order.now.keys marks.new }
-    ensures len { slab_len marks.new ≡ slab_len marks.old }
-    ensures capacity { marks.new.capacity ≡ marks.old.capacity }
+fn wash(marks: &mut Keyed<Mark>)
+    ensures marks { AreUpTo 0 marks.new.values }
+    ensures known { (f : ℕ) → map.contains_key marks.new.values f ≡ map.contains_key marks.old.values f }
+    ensures len { map.len marks.new.values ≡ map.len marks.old.values }
+    ensures rest { marks.new ≡ record marks.old { values = marks.new.values } }
 {
     let mut last = Ino(0);
-    bleach(order, marks, &FileRef::new(last, 0));
-    while let Some(file) = order.next_after(last) {
-        bleach(order, marks, &file);
+    bleach(marks, &FileRef::new(last, 0));
+    while let Some(file) = marks.next_after(last) {
+        bleach(marks, &file);
         last = file.ino();
     }
 }
 
 /// The pass after this one: what any earlier one marked is not marked in it.
-pub fn next_epoch(order: &Order, marks: &mut Slab<Entry<Mark>>, epoch: u64) -> u64
-    requires place { AreInPlace order.now.keys marks.old }
-    requires marks { AreUpTo epoch (values_of order.now.keys marks.old) }
-    ensures white { (f : ℕ) → map.get (colors_in result (values_of order.now.keys marks.new)) f ≡ option_map (λ x. White) (map.get (values_of order.now.keys marks.new) f) }
-    ensures marks { AreUpTo result (values_of order.now.keys marks.new) }
-    ensures known { (f : ℕ) → map.contains_key (values_of order.now.keys marks.new) f ≡ map.contains_key (values_of order.now.keys marks.old) f }
-    ensures place { AreInPlace order.now.keys marks.new }
-    ensures len { slab_len marks.new ≡ slab_len marks.old }
-    ensures capacity { marks.new.capacity ≡ marks.old.capacity }
+pub fn next_epoch(marks: &mut Keyed<Mark>, epoch: u64) -> u64
+    requires { AreUpTo epoch marks.old.values }
+    ensures white { (f : ℕ) → map.get (colors_in result marks.new.values) f ≡ option_map (λ x. White) (map.get marks.new.values f) }
+    ensures marks { AreUpTo result marks.new.values }
+    ensures known { (f : ℕ) → map.contains_key marks.new.values f ≡ map.contains_key marks.old.values f }
+    ensures len { map.len marks.new.values ≡ map.len marks.old.values }
+    ensures rest { marks.new ≡ record marks.old { values = marks.new.values } }
 {
     if epoch < u64::MAX {
         return epoch + 1;
     }
-    wash(order, marks);
+    wash(marks);
     1
 }

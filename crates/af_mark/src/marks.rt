@@ -5,19 +5,16 @@ ghost use Rattle.af_mark.specs.Marked.{Marked, blackened, is_grey, is_marked, is
 ghost use Rattle.af_mark.specs.declared.color.Color.TheVariants.{Black, Grey, White};
 
 use crate::color::Color;
-use crate::grey::{Mark, mark_of, next_epoch, paint, strike};
+use crate::grey::{Mark, next_epoch, paint, strike};
 use af_base::names::{FileRef, Ino};
-use af_order::{Entry, Order, put, reserve, take};
-use slab::Slab;
+use af_order::Keyed;
 use std::alloc::{AllocError, Global};
 use std::marker::Model;
 
 /// The colour of each file, from its birth until it is forgotten.
 #[derive(Drop)]
 pub struct Marks {
-    /// The keys of the files' marks.
-    order: Order,
-    marks: Slab<Entry<Mark>>,
+    marks: Keyed<Mark>,
     /// The files that are marked and not scanned.
     grey: Vec<FileRef>,
     /// The pass: what an earlier one marked is not marked.
@@ -27,11 +24,9 @@ pub struct Marks {
 }
 
 impl Model for Marks {
-    ghost use Rattle.std.specs.Prelude.{min, vec_capacity};
+    ghost use Rattle.std.specs.Prelude.{◌≤◌, vec_capacity};
     ghost use Rattle.std.specs.FinMap as map;
     ghost use Rattle.std.specs.Coded.{codes};
-    ghost use Rattle.slab.specs.Slab.{slab_len};
-    ghost use Rattle.af_order.specs.Standing.{AreInPlace, values_of};
     ghost use Rattle.af_mark.specs.Grey.{AreGrey, AreUpTo, colors_in, room_left};
     ghost use Rattle.af_mark.specs.Marked.{Marked};
 
@@ -39,9 +34,9 @@ impl Model for Marks {
 
     ghost coded = { Prim.hlevel (codes, map.code) };
 
-    ghost view = { λ a. record { colors = colors_in a.epoch (values_of a.order.keys a.marks); bound = a.bound; last = a.order.last; room = room_left a.order.room (slab_len a.marks) (min a.marks.capacity (vec_capacity a.grey)) } };
+    ghost view = { λ a. record { colors = colors_in a.epoch a.marks.values; bound = a.bound; last = a.marks.last; room = room_left a.marks.room (map.len a.marks.values) (vec_capacity a.grey) } };
 
-    ghost invariant = { λ a. AreInPlace a.order.keys a.marks × AreUpTo a.epoch (values_of a.order.keys a.marks) × AreGrey (colors_in a.epoch (values_of a.order.keys a.marks)) a.grey.items (slab_len a.marks) (min a.marks.capacity (vec_capacity a.grey)) };
+    ghost invariant = { λ a. AreUpTo a.epoch a.marks.values × AreGrey (colors_in a.epoch a.marks.values) a.grey.items × (map.len a.marks.values ≤ vec_capacity a.grey) };
 }
 
 impl Marks {
@@ -51,8 +46,7 @@ impl Marks {
         ensures last { result.last ≡ 0 }
     {
         Marks {
-            order: Order::new(alloc),
-            marks: Slab::new(alloc),
+            marks: Keyed::new(alloc),
             grey: Vec::new(alloc),
             epoch: 0,
             bound: 0,
@@ -62,14 +56,13 @@ impl Marks {
     /// Room for so many further files: then `born` needs no memory for them, and no other call ever
     /// does. Nothing else changes, also on an error.
     #[inline(always)]
-    #[tactic(auto, using(af_order::proofs::Standing::comes_and_goes))]
     pub fn reserve(&mut self, files: usize) -> Result<(), AllocError>
         ensures same { self.new ≡ record self.old { room = self.new.room } }
         ensures ok { OnOk result (files ≤ self.new.room) }
         ensures room { self.old.room ≤ self.new.room }
         ensures succeeds { files ≤ self.old.room → IsOk result }
     {
-        reserve(&mut self.order, &mut self.marks, files)?;
+        self.marks.reserve(files)?;
         let wanted = self.marks.len().saturating_add(files);
         if wanted <= self.grey.capacity() {
             return Ok(());
@@ -91,7 +84,7 @@ impl Marks {
             color: Color::White,
             at: 0,
         };
-        put(&mut self.order, &mut self.marks, ino, mark);
+        self.marks.push(ino, mark);
     }
 
     /// A pass begins, over the files below this number: none is marked. It costs the same however
@@ -103,7 +96,7 @@ impl Marks {
         ensures last { self.new.last ≡ self.old.last }
         ensures room { self.new.room ≡ self.old.room }
     {
-        self.epoch = next_epoch(&self.order, &mut self.marks, self.epoch);
+        self.epoch = next_epoch(&mut self.marks, self.epoch);
         self.grey.clear();
         self.bound = bound.0;
     }
@@ -135,7 +128,7 @@ impl Marks {
             color: Color::Grey,
             at: self.grey.len(),
         };
-        paint(&self.order, &mut self.marks, file, mark);
+        paint(&mut self.marks, file, mark);
         self.grey.push_reserved(file.again());
     }
 
@@ -152,7 +145,7 @@ impl Marks {
     pub fn scanned(&mut self, file: &FileRef)
         ensures { self.new ≡ blackened file.now self.old }
     {
-        let Some(mark) = mark_of(&self.order, &self.marks, file) else {
+        let Some(mark) = self.marks.get(file).copied() else {
             return;
         };
         if mark.is_grey_in(self.epoch) {
@@ -170,15 +163,15 @@ impl Marks {
             color: Color::Black,
             at: 0,
         };
-        paint(&self.order, &mut self.marks, file, mark);
-        strike(&self.order, &mut self.marks, &mut self.grey, file.ino(), at);
+        paint(&mut self.marks, file, mark);
+        strike(&mut self.marks, &mut self.grey, file.ino(), at);
     }
 
     /// The colour of a file, if it is known.
     fn color(&self, file: &FileRef) -> Option<Color>
         ensures { result ≡ map.get self.now.colors file.now }
     {
-        let mark = mark_of(&self.order, &self.marks, file)?;
+        let mark = self.marks.get(file)?;
         Some(mark.color_in(self.epoch))
     }
 
@@ -205,17 +198,11 @@ impl Marks {
         ensures forgotten { self.new ≡ record self.old { colors = map.remove self.old.colors file.now; room = self.new.room } }
         ensures room { self.old.room ≤ self.new.room }
     {
-        let Some(mark) = take(&mut self.order, &mut self.marks, file) else {
+        let Some(mark) = self.marks.remove(file) else {
             return;
         };
         if mark.is_grey_in(self.epoch) {
-            strike(
-                &self.order,
-                &mut self.marks,
-                &mut self.grey,
-                file.ino(),
-                mark.at,
-            );
+            strike(&mut self.marks, &mut self.grey, file.ino(), mark.at);
         }
     }
 }

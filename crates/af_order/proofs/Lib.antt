@@ -2,4 +2,4 @@ pub mod Standing
 pub mod Rows
 pub mod Searches
 pub mod Moves
-pub mod Lent
+pub mod Values

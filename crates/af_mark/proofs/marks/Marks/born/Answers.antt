@@ -1,41 +1,42 @@
-use Rattle.std.proofs.Common.{rules, ◌≡◌, ◌≤◌, ◌<◌, ℕ, [], ◌∷◌, ◌++◌, true, false, refl, sym, ap, ◌∙◌, subst, arith}
-use Rattle.std.specs.Prelude.{Some, None, IsTrue, is_some, min, vec_capacity}
+use Rattle.std.proofs.Common.{◌≡◌, ◌≤◌, ◌<◌, false, refl, sym, ap, ◌∙◌, subst, arith}
 use Rattle.std.specs.FinMap as map
-use Rattle.slab.specs.Slab.{slab_len}
-use Rattle.af_base.specs.Counts.{count_in}
-use Rattle.af_order.specs.Standing.{values_of}
-use Rattle.af_mark.specs.Grey.{AreGrey, AreUpTo, color_in, colors_in, room_left}
-use Rattle.af_mark.specs.Marked.{is_grey_color}
-use Rattle.af_mark.specs.declared.color.Color.TheVariants.{Black, Grey, White}
+use Rattle.af_base.proofs.Within.{len-insert_most}
+use Rattle.af_mark.specs.Grey.{AreUpTo, colors_in}
+use Rattle.af_mark.specs.declared.color.Color.TheVariants.{White}
 use Rattle.af_mark.specs.declared.grey.Mark.{Mark}
-use Rattle.af_mark.proofs.Colors.{color_get, color_known, color_put, color_taken, color_now, color_white, no_colors, same_marked, upto_none, upto_put, upto_taken}
-use Rattle.af_mark.proofs.Greys.{grey_empty, grey_here, grey_mark, grey_markless, grey_of, grey_once, grey_put, grey_same, grey_same_put, grey_same_taken, grey_stranger, grey_taken, kept_grey, nothing_grey, pushed_grey, same, struck_grey, white_here}
+use Rattle.af_mark.proofs.Colors.{color_after, color_known, color_white, same_marked, upto_put}
+use Rattle.af_mark.proofs.Greys.{grey_of, grey_same_put, grey_stranger, kept_grey}
 use Rattle.af_mark.proofs.marks.Marks.born.Goals as goal
 
 pub invariant_of-self : goal.invariant_of-self
 invariant_of-self c =
     let e = c.self.inside.epoch in
-    let m = values_of c.self.inside.order.keys c.self.inside.marks in
-    let x : Mark = record { epoch = e; color = White; at = 0 } in
+    let m = c.self.inside.marks.values in
+    let n = c.push.new.self.values in
     let ino = c.args.ino in
-    let values : values_of c.put.new.order.keys c.put.new.slab ≡ map.insert m ino x = c.put.ensures.values in
-    let colors : colors_in e (values_of c.put.new.order.keys c.put.new.slab) ≡ map.insert (colors_in e m) ino White = ap (colors_in e) values ∙ color_put e m ino x ∙ ap (map.insert (colors_in e m) ino) (color_white e x refl) in
-    let new : map.contains_key (colors_in e m) ino ≡ false = color_known e m ino ∙ c.put.ensures.new in
-    let room = subst (λ k. 0 < k.room) (sym c.self.view_is) c.requires.room in
-    let kept = kept_grey (colors_in e m) (colors_in e (values_of c.put.new.order.keys c.put.new.slab)) c.self.inside.grey.items (slab_len c.self.inside.marks) (slab_len c.put.new.slab) (min c.self.inside.marks.capacity (vec_capacity c.self.inside.grey))
-    c.self.invariant.2 (λ f. ap (λ cs. grey_of cs f) colors ∙ grey_same_put (colors_in e m) ino White refl (grey_stranger (colors_in e m) ino new) f) (omega (arith, room, c.put.ensures.len)) in (
-      c.put.ensures.place,
-      subst (AreUpTo e) (sym values) (upto_put e m ino x (omega arith) c.self.invariant.1),
-      subst (λ k. AreGrey (colors_in e (values_of c.put.new.order.keys c.put.new.slab)) c.self.inside.grey.items (slab_len c.put.new.slab) (min k (vec_capacity c.self.inside.grey))) (sym c.put.ensures.capacity) kept,
+    let x : Mark = record { epoch = e; color = White; at = 0 } in
+    let is : n ≡ map.insert m ino x = ap (λ k. k.values) c.push.ensures.pushed in
+    let colors = color_after e m n ino x White is (color_white e x refl) in
+    let new : map.contains_key (colors_in e m) ino ≡ false = color_known e m ino ∙ c.push.ensures.new in
+    let room = subst (λ k. 0 < k.room) (sym c.self.view_is) c.requires.room in (
+      subst (AreUpTo e) (sym is) (upto_put e m ino x (omega arith) c.self.invariant.0),
+      kept_grey (colors_in e m) (colors_in e n) c.self.inside.grey.items ino c.self.invariant.1 (λ f. ap (λ cs. grey_of cs f) colors ∙ grey_same_put (colors_in e m) ino White refl (grey_stranger (colors_in e m) ino new) f),
+      omega (arith, room, ap map.len is, len-insert_most m ino x),
     )
 
 pub returns-clause-born : goal.returns-clause-born
 returns-clause-born c =
     let e = c.self.inside.epoch in
-    let m = values_of c.self.inside.order.keys c.self.inside.marks in
+    let ino = c.args.ino in
     let x : Mark = record { epoch = e; color = White; at = 0 } in
-    let colors : colors_in e (values_of c.put.new.order.keys c.put.new.slab) ≡ map.insert (colors_in e m) c.args.ino White = ap (colors_in e) c.put.ensures.values ∙ color_put e m c.args.ino x ∙ ap (map.insert (colors_in e m) c.args.ino) (color_white e x refl) in
-    same_marked _ _ (colors ∙ ap (λ k. map.insert k.colors c.args.ino White) c.self.view_is) (ap (λ k. k.bound) c.self.view_is) c.put.ensures.last refl
+    let colors = color_after e c.self.inside.marks.values c.push.new.self.values ino x White (ap (λ k. k.values) c.push.ensures.pushed) (color_white e x refl) in
+    same_marked _ _ (colors ∙ ap (λ k. map.insert k.colors ino White) c.self.view_is) (ap (λ k. k.bound) c.self.view_is) (ap (λ k. k.last) c.push.ensures.pushed) refl
 
 pub returns-clause-new : goal.returns-clause-new
-returns-clause-new c = ap (λ k. map.contains_key k.colors c.args.ino) (sym c.self.view_is) ∙ color_known c.self.inside.epoch (values_of c.self.inside.order.keys c.self.inside.marks) c.args.ino ∙ c.put.ensures.new
+returns-clause-new c = ap (λ k. map.contains_key k.colors c.args.ino) (sym c.self.view_is) ∙ color_known c.self.inside.epoch c.self.inside.marks.values c.args.ino ∙ c.push.ensures.new
+
+pub returns-clause-room : goal.returns-clause-room
+returns-clause-room c =
+    let x : Mark = record { epoch = c.self.inside.epoch; color = White; at = 0 } in
+    let more = ap (λ k. map.len k.values) c.push.ensures.pushed in
+    omega (arith, ap (λ k. k.room) c.self.view_is, c.push.ensures.room, more, len-insert_most c.self.inside.marks.values c.args.ino x)

@@ -1,5 +1,5 @@
--- What is written to a value that was lent does to the values.
-use Rattle.std.proofs.Common.{◌≡◌, ℕ, ◌+◌, Bool, true, false, refl, sym, ap, ◌∙◌, cond, nat_eq}
+-- What becomes of values as one is written to, or goes.
+use Rattle.std.proofs.Common.{◌≡◌, ◌≤◌, ℕ, ◌+◌, ◌-◌, Bool, true, false, refl, sym, ap, ◌∙◌, subst, cond, nat_eq, arith}
 use Rattle.std.specs.Prelude.{Option, Some, None, is_some}
 use Rattle.std.specs.Cmp.{nat_cmp_total, unsigned_tied}
 use Rattle.std.specs.FinMap as map
@@ -35,6 +35,13 @@ module _ {V : Type 0} (m : Map V) (f : ℕ) (x y : V) (at : map.get m f ≡ Some
     by : (b : Bool) → nat_eq q f ≡ b → is_some (cond b (Some y) (map.get m q)) ≡ false
     by true is = sym (ap is_some at) ∙ ap (map.contains_key m) (sym (eqb-true q f is)) ∙ none
     by false is = none
+
+-- There are no more values than before, once one is gone.
+pub gone_few : {V : Type 0} (m : Map V) (f : ℕ) → map.len (map.remove m f) ≤ map.len m
+gone_few m f = subst (λ n. n ≤ map.len m) (sym (map.len-remove nat_cmp_total m f)) (by (map.contains_key m f)) where
+  by : (b : Bool) → cond b (map.len m - 1) (map.len m) ≤ map.len m
+  by true = omega arith
+  by false = omega arith
 
 -- Of a stranger nothing is lent, and nothing changes.
 pub lent_nothing : {V : Type 0} (m : Map V) (f : ℕ) (g : V → V) → map.get m f ≡ None → m ≡ change_at g m f
