@@ -6,20 +6,15 @@ use Rattle.std.specs.FinMap as map
 use Rattle.std.specs.FinMap.{get-insert, get-remove}
 use Rattle.std.specs.List.{AllByRecursion, IsDistinct, list_any}
 use Rattle.std.specs.Map.{lookup}
-use Rattle.std.specs.Option.{option_map, option_map_or}
+use Rattle.std.specs.Option.{option_map_or}
 use Rattle.std.specs.Ordering.{nat_cmp}
 use Rattle.std.proofs.lemmas.Bool.{eq-eqb, eqb-true, false≢true}
 use Rattle.std.proofs.lemmas.List.Folds.{list_any-append}
 use Rattle.std.proofs.lemmas.Map.Steps.{length-le_from_keys}
 use Rattle.std.proofs.lemmas.Option.{get_or_from_slice_get, slice_get_within}
-use Rattle.slab.specs.Slab as slab
-use Rattle.slab.specs.Slab.{Slab}
 use Rattle.af_base.specs.World.{Map}
 use Rattle.af_base.proofs.Hashed.{find_is}
 use Rattle.af_base.proofs.Lookups.{not_same, told_apart}
-use Rattle.af_order.specs.declared.entry.Entry.{Entry}
-use Rattle.af_order.specs.Standing.{AreInPlace, value_at, values_of}
-use Rattle.af_order.proofs.Standing.{looked, write_values}
 use Rattle.af_ledger.specs.Counted.{IsCounted, fewer, more, places_in, uncounted}
 use Rattle.af_ledger.specs.Kept.{count_in_map, is_waiting}
 use Rattle.af_ledger.specs.Waiting.{AreWaiting}
@@ -125,12 +120,11 @@ few-wait m fs each once =
     omega (arith, most, map.len-entries m)
 
 -- A file that has no place now, and did not wait, waits; there is room for it.
-waiting-pushed : (m n : Map Count) (fs : List ℕ) (files left capacity k : ℕ) (c : Count) → n ≡ map.insert m k c → map.len n ≡ left → left ≤ capacity → AreWaiting m fs files capacity → is_waiting m k ≡ false → nat_eq (places_in c) 0 ≡ true
-    → AreWaiting n (fs ++ k ∷ []) left capacity × (length fs < capacity)
-waiting-pushed m n fs files left capacity k c is many few h before after =
+waiting-pushed : (m n : Map Count) (fs : List ℕ) (k : ℕ) (c : Count) → n ≡ map.insert m k c → AreWaiting m fs → is_waiting m k ≡ false → nat_eq (places_in c) 0 ≡ true → AreWaiting n (fs ++ k ∷ []) × (length fs < map.len n)
+waiting-pushed m n fs k c is h before after =
     let again = distinct-push fs k h.once (h.each k ∙ before) in
     let most = few-wait n (fs ++ k ∷ []) (λ f e. sym (each f) ∙ e) again in
-    (record { each = each; once = again; room = few }, omega (arith, most, many, few, length-append fs (k ∷ []))) where
+    (record { each = each; once = again }, omega (arith, most, length-append fs (k ∷ []))) where
       or_none : (b : Bool) → (b || false) ≡ b
       or_none true = refl
       or_none false = refl
@@ -145,12 +139,10 @@ waiting-pushed m n fs files left capacity k c is many few h before after =
           ∙ sym (ap (λ n. is_waiting n f) is ∙ waiting-inserted m k f c)
 
 -- A file whose numbers are kept no more does not wait.
-pub waiting-struck : (m n : Map Count) (fs gs : List ℕ) (files left capacity k : ℕ) → n ≡ map.remove m k → AreWaiting m fs files capacity → left ≤ files → ((f : ℕ) → list_any (nat_eq f) gs ≡ (not (nat_eq f k) && list_any (nat_eq f) fs)) → IsDistinct nat_eq gs
-    → AreWaiting n gs left capacity
-waiting-struck m n fs gs files left capacity k is h fewer off once = record {
+pub waiting-struck : (m n : Map Count) (fs gs : List ℕ) (k : ℕ) → n ≡ map.remove m k → AreWaiting m fs → ((f : ℕ) → list_any (nat_eq f) gs ≡ (not (nat_eq f k) && list_any (nat_eq f) fs)) → IsDistinct nat_eq gs → AreWaiting n gs
+waiting-struck m n fs gs k is h off once = record {
   each = λ f. off f ∙ ap (λ b. not (nat_eq f k) && b) (h.each f) ∙ sym (ap (λ n. is_waiting n f) is ∙ waiting-removed m k f);
   once = once;
-  room = let few = h.room in omega (arith, few, fewer);
 }
 
 -- Who has a place does not wait.
@@ -180,28 +172,26 @@ fewer-one (Queue u) c h = omega arith
 fewer-one Backlog c h = omega arith
 
 -- The numbers of a file that is there change.
-module _ (m n : Map Count) (fs : List ℕ) (files capacity k : ℕ) (p : Place) (h : AreWaiting m fs files capacity) where
+module _ (m n : Map Count) (fs : List ℕ) (k : ℕ) (p : Place) (h : AreWaiting m fs) where
   module _ (is : n ≡ map.insert m k (more p (count_in_map m k))) where
     is-more : (f : ℕ) → is_waiting n f ≡ cond (nat_eq f k) false (is_waiting m f)
     is-more f = ap (λ n. is_waiting n f) is ∙ waiting-inserted m k f (more p (count_in_map m k)) ∙ ap (λ b. cond (nat_eq f k) b (is_waiting m f)) (more-some p (count_in_map m k))
 
     -- With its first place a file waits no more.
-    pub raised-off : (gs : List ℕ) → ((f : ℕ) → list_any (nat_eq f) gs ≡ (not (nat_eq f k) && list_any (nat_eq f) fs)) → IsDistinct nat_eq gs → AreWaiting n gs files capacity
+    pub raised-off : (gs : List ℕ) → ((f : ℕ) → list_any (nat_eq f) gs ≡ (not (nat_eq f k) && list_any (nat_eq f) fs)) → IsDistinct nat_eq gs → AreWaiting n gs
     raised-off gs off once = record {
       each = λ f. off f ∙ ap (λ b. not (nat_eq f k) && b) (h.each f) ∙ by f (nat_eq f k) ∙ sym (is-more f);
       once = once;
-      room = h.room;
     } where
       by : (f : ℕ) (b : Bool) → (not b && is_waiting m f) ≡ cond b false (is_waiting m f)
       by f true = refl
       by f false = refl
 
     -- With a further place nothing changes for those that wait.
-    pub raised-kept : nat_eq (places_in (count_in_map m k)) 0 ≡ false → AreWaiting n fs files capacity
+    pub raised-kept : nat_eq (places_in (count_in_map m k)) 0 ≡ false → AreWaiting n fs
     raised-kept some = record {
       each = λ f. h.each f ∙ by f (nat_eq f k) refl ∙ sym (is-more f);
       once = h.once;
-      room = h.room;
     } where
       by : (f : ℕ) (b : Bool) → nat_eq f k ≡ b → is_waiting m f ≡ cond b false (is_waiting m f)
       by f true same = ap (is_waiting m) (eqb-true f k same) ∙ not-waiting m k some
@@ -212,11 +202,10 @@ module _ (m n : Map Count) (fs : List ℕ) (files capacity k : ℕ) (p : Place) 
     some = not-waiting m k (told_apart (places_in (count_in_map m k)) 0 (λ e. omega (arith, e, fewer-one p (count_in_map m k) counted)))
 
     -- Where others are left nothing changes for those that wait.
-    pub lowered-kept : n ≡ map.insert m k (fewer p (count_in_map m k)) → nat_eq (places_in (count_in_map m k)) 1 ≡ false → AreWaiting n fs files capacity
+    pub lowered-kept : n ≡ map.insert m k (fewer p (count_in_map m k)) → nat_eq (places_in (count_in_map m k)) 1 ≡ false → AreWaiting n fs
     lowered-kept is others = record {
       each = λ f. h.each f ∙ by f (nat_eq f k) refl ∙ sym (ap (λ n. is_waiting n f) is ∙ waiting-inserted m k f (fewer p (count_in_map m k)));
       once = h.once;
-      room = h.room;
     } where
       after : nat_eq (places_in (fewer p (count_in_map m k))) 0 ≡ false
       after = told_apart (places_in (fewer p (count_in_map m k))) 0 (λ e. not_same (places_in (count_in_map m k)) 1 others (omega (arith, e, fewer-one p (count_in_map m k) counted)))
@@ -226,35 +215,36 @@ module _ (m n : Map Count) (fs : List ℕ) (files capacity k : ℕ) (p : Place) 
       by f false apart = refl
 
 -- Without its last place a file waits, and there is room for it.
-pub lowered-pushed : (m n : Map Count) (fs : List ℕ) (files left capacity k : ℕ) (p : Place) → n ≡ map.insert m k (fewer p (count_in_map m k)) → map.len n ≡ left → left ≡ files → AreWaiting m fs files capacity → IsCounted p (count_in_map m k)
-    → nat_eq (places_in (count_in_map m k)) 1 ≡ true → AreWaiting n (fs ++ k ∷ []) left capacity × (length fs < capacity)
-lowered-pushed m n fs files left capacity k p is many same h counted last =
+pub lowered-pushed : (m n : Map Count) (fs : List ℕ) (k : ℕ) (p : Place) → n ≡ map.insert m k (fewer p (count_in_map m k)) → AreWaiting m fs → IsCounted p (count_in_map m k) → nat_eq (places_in (count_in_map m k)) 1 ≡ true
+    → AreWaiting n (fs ++ k ∷ []) × (length fs < map.len n)
+lowered-pushed m n fs k p is h counted last =
     let none : places_in (fewer p (count_in_map m k)) ≡ 0 = omega (arith, fewer-one p (count_in_map m k) counted, eqb-true (places_in (count_in_map m k)) 1 last) in
-    let most = h.room in
-    waiting-pushed m n fs files left capacity k (fewer p (count_in_map m k)) is many (omega (arith, most, same)) h (some m n fs files capacity k p h counted) (eq-eqb (places_in (fewer p (count_in_map m k))) 0 none)
+    waiting-pushed m n fs k (fewer p (count_in_map m k)) is h (some m n fs k p h counted) (eq-eqb (places_in (fewer p (count_in_map m k))) 0 none)
 
 -- A stranger that is entered waits, and there is room for it.
-pub entered-pushed : (m n : Map Count) (fs : List ℕ) (files left capacity k : ℕ) → n ≡ map.insert m k uncounted → map.len n ≡ left → left ≤ capacity → AreWaiting m fs files capacity → map.contains_key m k ≡ false
-    → AreWaiting n (fs ++ k ∷ []) left capacity × (length fs < capacity)
-entered-pushed m n fs files left capacity k is many few h new = waiting-pushed m n fs files left capacity k uncounted is many few h (stranger-waits m k new) refl
-
--- What is said of a list and of its room is said of their equals.
-pub waiting-same : (m : Map Count) (fs gs : List ℕ) (files left slots wide list long : ℕ) → gs ≡ fs → left ≡ files → wide ≡ slots → long ≡ list → AreWaiting m fs files (min slots list) → AreWaiting m gs left (min wide long)
-waiting-same m fs gs files left slots wide list long same size fits stays h = subst (λ x. x) (λ i. AreWaiting m (sym same i) (sym size i) (min (sym fits i) (sym stays i))) h
+pub entered-pushed : (m n : Map Count) (fs : List ℕ) (k : ℕ) → n ≡ map.insert m k uncounted → AreWaiting m fs → map.contains_key m k ≡ false → AreWaiting n (fs ++ k ∷ []) × (length fs < map.len n)
+entered-pushed m n fs k is h new = waiting-pushed m n fs k uncounted is h (stranger-waits m k new) refl
 
 -- Where there is no file, none waits.
-pub nothing-waits : (m : Map Count) (fs : List ℕ) (files capacity : ℕ) → m ≡ map.empty → fs ≡ [] → files ≤ capacity → AreWaiting m fs files capacity
+pub nothing-waits : (m : Map Count) (fs : List ℕ) → m ≡ map.empty → fs ≡ [] → AreWaiting m fs
 unfolding IsDistinct
-nothing-waits m fs files capacity none empty room = record {
+nothing-waits m fs none empty = record {
   each = λ f. ap (list_any (nat_eq f)) empty ∙ sym (ap (λ n. is_waiting n f) none ∙ ap (λ o. option_map_or (λ c. nat_eq (places_in c) 0) o false) (map.get-empty nat_cmp f));
   once = subst (IsDistinct nat_eq) (sym empty) tt;
-  room = room;
 }
 
--- The numbers of a file changed where they stand.
-pub recounted : (keys : Map ℕ) (s : Slab (Entry Count)) (f key : ℕ) (x : Entry Count) (c : Count) (g : Count → Count) → AreInPlace keys s → map.get keys f ≡ Some key → slab.get s key ≡ Some x → c ≡ g x.value
-    → values_of keys (slab.with_value s key (record x { value = c })) ≡ map.insert (values_of keys s) f (g (count_in_map (values_of keys s) f))
-recounted keys s f key x c g h was at e =
-    let here : count_in_map (values_of keys s) f ≡ x.value =
-    ap (λ o. unwrap_or o uncounted) (looked keys s f ∙ ap (λ o. option_map_or (value_at s) o None) was ∙ ap (option_map (λ x. x.value)) at) in
-    write_values keys s f key x (record x { value = c }) h was at ∙ ap (map.insert (values_of keys s) f) (e ∙ ap g (sym here))
+-- The numbers of a file that stands in the map.
+pub counted-here : (m : Map Count) (f : ℕ) (c : Count) → map.get m f ≡ Some c → count_in_map m f ≡ c
+counted-here m f c at = ap (λ o. unwrap_or o uncounted) at
+
+-- Who has a place has numbers.
+pub counted-known : (p : Place) (m : Map Count) (f : ℕ) → IsCounted p (count_in_map m f) → IsSome (map.get m f)
+counted-known p m f = by p (map.get m f) where
+  by : (p : Place) (o : Option Count) → IsCounted p (unwrap_or o uncounted) → IsSome o
+  by p (Some c) h = refl
+  by Table None h = absurd (omega (arith, h))
+  by (Queue u) None h = absurd (omega (arith, h))
+  by Backlog None h = absurd (omega (arith, h))
+
+-- Numbers that are there.
+pub ruleset counted = (counted-here, counted-known)

@@ -4,8 +4,6 @@ ghost use Rattle.std.specs.FinMap as map;
 ghost use Rattle.std.specs.List.{IsDistinct, list_any};
 ghost use Rattle.std.specs.Map.{keys_of};
 ghost use Rattle.std.specs.Option.{option_map_or};
-ghost use Rattle.slab.specs.Slab.{slab_len};
-ghost use Rattle.af_order.specs.Standing.{AreInPlace, value_at, values_of};
 ghost use Rattle.af_ledger.specs.Counted.{fewer, more, places_in, uncounted, IsCountable, IsCounted};
 ghost use Rattle.af_ledger.specs.Kept.{Kept, count_in_map, count_of, refs_of, charge_of, is_user, with_user, has_count, is_waiting, held_all, dropped_all, CanHoldAll, CanDropAll, charged_by, freed_by, held, dropped, CanHold, CanDrop};
 ghost use Rattle.af_ledger.specs.Sending.{send_refusal};
@@ -15,9 +13,8 @@ use crate::place::Place;
 use af_base::errno::Errno;
 use af_base::limits::MAX_INFLIGHT;
 use af_base::names::{FileRef, Ino, Uid};
-use af_order::{Entry, Order, key_of, put, reserve, take};
+use af_order::Keyed;
 use indexmap::IndexMap;
-use slab::Slab;
 use std::alloc::{AllocError, Global};
 use std::marker::Model;
 
@@ -25,9 +22,7 @@ use std::marker::Model;
 /// which they came, each with what it is charged. A user is never removed.
 #[derive(Drop)]
 pub struct Ledger {
-    /// The keys of the files' numbers.
-    order: Order,
-    counts: Slab<Entry<Count>>,
+    counts: Keyed<Count>,
     /// The files that no place holds.
     waiting: Vec<FileRef>,
     users: IndexMap<Uid, u64>,
@@ -35,11 +30,9 @@ pub struct Ledger {
 }
 
 impl Model for Ledger {
-    ghost use Rattle.std.specs.Prelude.{min, vec_capacity};
+    ghost use Rattle.std.specs.Prelude.{◌≤◌, vec_capacity};
     ghost use Rattle.std.specs.FinMap as map;
     ghost use Rattle.std.specs.Coded.{codes};
-    ghost use Rattle.slab.specs.Slab.{slab_len};
-    ghost use Rattle.af_order.specs.Standing.{AreInPlace, values_of};
     ghost use Rattle.af_ledger.specs.Kept.{Kept};
     ghost use Rattle.af_ledger.specs.Waiting.{AreWaiting, room_left};
 
@@ -47,9 +40,9 @@ impl Model for Ledger {
 
     ghost coded = { Prim.hlevel (codes, map.code) };
 
-    ghost view = { λ a. record { counts = values_of a.order.keys a.counts; users = a.users.entries; total = a.total; last = a.order.last; room = room_left a.order.room (slab_len a.counts) (min a.counts.capacity (vec_capacity a.waiting)) } };
+    ghost view = { λ a. record { counts = a.counts.values; users = a.users.entries; total = a.total; last = a.counts.last; room = room_left a.counts.room (map.len a.counts.values) (vec_capacity a.waiting) } };
 
-    ghost invariant = { λ a. AreInPlace a.order.keys a.counts × AreWaiting (values_of a.order.keys a.counts) a.waiting.items (slab_len a.counts) (min a.counts.capacity (vec_capacity a.waiting)) };
+    ghost invariant = { λ a. AreWaiting a.counts.values a.waiting.items × (map.len a.counts.values ≤ vec_capacity a.waiting) };
 }
 
 impl Ledger {
@@ -61,20 +54,32 @@ impl Ledger {
         ensures last { result.last ≡ 0 }
     {
         Ledger {
-            order: Order::new(alloc),
-            counts: Slab::new(alloc),
+            counts: Keyed::new(alloc),
             waiting: Vec::new(alloc),
             users: IndexMap::new(alloc),
             total: 0,
         }
     }
 
-    /// The numbers of the file of this number, by a binary search; all are 0 where no place holds it.
-    #[tactic(auto, using(af_order::proofs::Standing::finds))]
+    /// The numbers of a file; all are 0 where no place holds it.
+    #[inline(always)]
+    fn count_at(&self, file: &FileRef) -> Count
+        ensures { result ≡ count_of self.now file.now }
+    {
+        match self.counts.get(file) {
+            Some(count) => *count,
+            None => Count::none(),
+        }
+    }
+
+    /// The same of the file of this number, by a binary search.
     fn count(&self, ino: Ino) -> Count
         ensures { result ≡ count_of self.now ino }
     {
-        count_at(&self.counts, self.order.key_of(ino))
+        match self.counts.find(ino) {
+            Some(file) => self.count_at(&file),
+            None => Count::none(),
+        }
     }
 
     /// How many places hold a file: none holds a stranger.
@@ -86,12 +91,10 @@ impl Ledger {
 
     /// How many numbers of all tables stand for a file.
     #[inline(always)]
-    #[tactic(auto, using(af_order::proofs::Standing::finds))]
     pub fn tabled(&self, file: &FileRef) -> u64
         ensures { result ≡ (count_of self.now file.now).tabled }
     {
-        let key = key_of(&self.order, &self.counts, file);
-        u64::from(count_at(&self.counts, key).tabled)
+        u64::from(self.count_at(file).tabled)
     }
 
     /// How many places in queues hold a file.
@@ -159,14 +162,13 @@ impl Ledger {
     /// Room for so many further files: then `enter` needs no memory for them. Nothing else changes,
     /// also on an error.
     #[inline(always)]
-    #[tactic(auto, using(af_order::proofs::Standing::comes_and_goes))]
     pub fn reserve(&mut self, files: usize) -> Result<(), AllocError>
         ensures same { self.new ≡ record self.old { room = self.new.room } }
         ensures ok { OnOk result (files ≤ self.new.room) }
         ensures room { self.old.room ≤ self.new.room }
         ensures succeeds { files ≤ self.old.room → IsOk result }
     {
-        reserve(&mut self.order, &mut self.counts, files)?;
+        self.counts.reserve(files)?;
         let wanted = self.counts.len().saturating_add(files);
         if wanted <= self.waiting.capacity() {
             return Ok(());
@@ -199,7 +201,7 @@ impl Ledger {
         ensures new { has_count self.old ino ≡ false }
         ensures room { self.old.room ≤ self.new.room + 1 }
     {
-        let file = put(&mut self.order, &mut self.counts, ino, Count::none());
+        let file = self.counts.push(ino, Count::none());
         self.waiting.push_reserved(file);
     }
 
@@ -219,7 +221,7 @@ impl Ledger {
         ensures struck_out { self.new ≡ record self.old { counts = map.remove self.old.counts file.now; room = self.new.room } }
         ensures room { self.old.room ≤ self.new.room }
     {
-        take(&mut self.order, &mut self.counts, file);
+        self.counts.remove(file);
         take_off(&mut self.waiting, file.ino());
     }
 
@@ -230,7 +232,7 @@ impl Ledger {
         requires countable { IsCountable place.now (count_of self.old file.now) }
         ensures { self.new ≡ record self.old { counts = map.insert self.old.counts file.now (more place.now (count_of self.old file.now)) } }
     {
-        let first = add_place(&self.order, &mut self.counts, place, file);
+        let first = add_place(&mut self.counts, place, file);
         if first {
             take_off(&mut self.waiting, file.ino());
         }
@@ -242,7 +244,7 @@ impl Ledger {
         requires { IsCounted place.now (count_of self.old file.now) }
         ensures { self.new ≡ record self.old { counts = map.insert self.old.counts file.now (fewer place.now (count_of self.old file.now)) } }
     {
-        let last = sub_place(&self.order, &mut self.counts, place, file);
+        let last = sub_place(&mut self.counts, place, file);
         if last {
             self.waiting.push_reserved(file.again());
         }
@@ -335,55 +337,34 @@ impl Ledger {
     }
 }
 
-/// The numbers under a key; all are 0 where there is none.
-#[inline(always)]
-fn count_at(counts: &Slab<Entry<Count>>, key: Option<usize>) -> Count
-    ensures { result ≡ unwrap_or (option_map_or (value_at counts.now) key None) uncounted }
-{
-    if let Some(key) = key
-        && let Some(entry) = counts.get(key)
-    {
-        return entry.value;
-    }
-    Count::none()
-}
-
 /// One place more of a file, whose numbers are kept. Whether it had none.
 #[inline(always)]
-#[tactic(auto, using(af_order::proofs::Standing::writes))]
-fn add_place(order: &Order, counts: &mut Slab<Entry<Count>>, place: &Place, file: &FileRef) -> bool
-    requires place { AreInPlace order.now.keys counts.old }
-    requires known { IsTrue (map.contains_key (values_of order.now.keys counts.old) file.now) }
-    requires countable { IsCountable place.now (count_in_map (values_of order.now.keys counts.old) file.now) }
-    ensures counts { values_of order.now.keys counts.new ≡ map.insert (values_of order.now.keys counts.old) file.now (more place.now (count_in_map (values_of order.now.keys counts.old) file.now)) }
-    ensures place { AreInPlace order.now.keys counts.new }
-    ensures len { slab_len counts.new ≡ slab_len counts.old }
-    ensures capacity { counts.new.capacity ≡ counts.old.capacity }
-    ensures first { result ≡ nat_eq (places_in (count_in_map (values_of order.now.keys counts.old) file.now)) 0 }
+#[tactic(auto, using(af_order::proofs::Values::lent, crate::proofs::Waiting::counted))]
+fn add_place(counts: &mut Keyed<Count>, place: &Place, file: &FileRef) -> bool
+    requires known { IsTrue (map.contains_key counts.old.values file.now) }
+    requires countable { IsCountable place.now (count_in_map counts.old.values file.now) }
+    ensures counts { counts.new ≡ record counts.old { values = map.insert counts.old.values file.now (more place.now (count_in_map counts.old.values file.now)) } }
+    ensures len { map.len counts.new.values ≡ map.len counts.old.values }
+    ensures first { result ≡ nat_eq (places_in (count_in_map counts.old.values file.now)) 0 }
 {
-    let key = key_of(order, counts, file).unwrap();
-    let entry = counts.get_mut(key).unwrap();
-    let first = entry.value.places() == 0;
-    entry.value.add(place);
+    let count = counts.get_mut(file).unwrap();
+    let first = count.places() == 0;
+    count.add(place);
     first
 }
 
 /// One place less of a file, which has one. Whether it was the last.
 #[inline(always)]
-#[tactic(auto, using(af_order::proofs::Standing::writes))]
-fn sub_place(order: &Order, counts: &mut Slab<Entry<Count>>, place: &Place, file: &FileRef) -> bool
-    requires place { AreInPlace order.now.keys counts.old }
-    requires counted { IsCounted place.now (count_in_map (values_of order.now.keys counts.old) file.now) }
-    ensures counts { values_of order.now.keys counts.new ≡ map.insert (values_of order.now.keys counts.old) file.now (fewer place.now (count_in_map (values_of order.now.keys counts.old) file.now)) }
-    ensures place { AreInPlace order.now.keys counts.new }
-    ensures len { slab_len counts.new ≡ slab_len counts.old }
-    ensures capacity { counts.new.capacity ≡ counts.old.capacity }
-    ensures last { result ≡ nat_eq (places_in (count_in_map (values_of order.now.keys counts.old) file.now)) 1 }
+#[tactic(auto, using(af_order::proofs::Values::lent, crate::proofs::Waiting::counted))]
+fn sub_place(counts: &mut Keyed<Count>, place: &Place, file: &FileRef) -> bool
+    requires { IsCounted place.now (count_in_map counts.old.values file.now) }
+    ensures counts { counts.new ≡ record counts.old { values = map.insert counts.old.values file.now (fewer place.now (count_in_map counts.old.values file.now)) } }
+    ensures len { map.len counts.new.values ≡ map.len counts.old.values }
+    ensures last { result ≡ nat_eq (places_in (count_in_map counts.old.values file.now)) 1 }
 {
-    let key = key_of(order, counts, file).unwrap();
-    let entry = counts.get_mut(key).unwrap();
-    let last = entry.value.places() == 1;
-    entry.value.sub(place);
+    let count = counts.get_mut(file).unwrap();
+    let last = count.places() == 1;
+    count.sub(place);
     last
 }
 
