@@ -8,8 +8,6 @@ use Rattle.std.specs.Ordering.{nat_cmp, eq_by_cmp}
 use Rattle.std.specs.Cmp.{nat_cmp_total}
 use Rattle.std.specs.Cmp.Lexicographic.{nat_list_cmp_total, pointwise, slice_cmp, texts_ties}
 use Rattle.std.proofs.lemmas.Bool.{false≢true}
-use Rattle.slab.specs.Slab as slab
-use Rattle.slab.specs.Slab.{Slab}
 use Rattle.af_base.specs.Changes.{bound, change_socket_at, file_with}
 use Rattle.af_base.specs.Names.{named}
 use Rattle.af_base.specs.Refusals.{socket_of}
@@ -19,9 +17,6 @@ use Rattle.af_base.proofs.Named.{named-none, named-some}
 use Rattle.af_base.proofs.Same.{list_itself, list_same}
 use Rattle.af_desc.specs.Filed.{AreNamed, name_in, name_of, socket_in}
 use Rattle.af_listen.specs.Named.{Named}
-use Rattle.af_order.proofs.Standing.{grown_in_place, looked, values_grown, write_values}
-use Rattle.af_order.specs.Standing.{AreInPlace, values_of}
-use Rattle.af_order.specs.declared.entry.Entry.{Entry}
 
 -- The name of what is there.
 pub name-at : (m : Map File) (f : ℕ) (o : Option File) → map.get m f ≡ o → name_in m f ≡ option_and_then name_of o
@@ -206,20 +201,17 @@ module _ (names : Named) (m : Map File) (h : AreNamed names m) (name : List ℕ)
     each q (inl e) = ap (map.get names) e ∙ free ∙ sym (get-remove nat_list_cmp_total (map.insert names name k) name name ∙ ap (λ b. cond b None (map.get (map.insert names name k) name)) (sym (texts_ties name name) ∙ list_itself name)) ∙ sym (ap (map.get (map.remove (map.insert names name k) name)) e)
     each q (inr e) = sym (get-remove nat_list_cmp_total (map.insert names name k) name q ∙ ap (λ b. cond b None (map.get (map.insert names name k) q)) e ∙ given-other k q e)
 
--- What is written where a file stands, and has its name.
-pub named-written : (names : Named) (m : Map ℕ) (s : Slab (Entry File)) (f key : ℕ) (x y : Entry File) → AreInPlace m s → map.get m f ≡ Some key → slab.get s key ≡ Some x
-    → name_of y.value ≡ name_of x.value → AreNamed names (values_of m s) → AreNamed names (values_of m (slab.with_value s key y))
-named-written names m s f key x y place was at same h =
-    let there = looked m s f ∙ ap (λ o. option_map_or (λ k. option_map (λ e. e.value) (slab.get s k)) o None) was ∙ ap (option_map (λ e. e.value)) at in
-    subst (AreNamed names) (sym (write_values m s f key x y place was at)) (named-insert names (values_of m s) h f x.value y.value there same)
+-- A socket changed, but for its name.
+pub named-lent : (names : Named) (m : Map File) (f : ℕ) (x y : File) (g : Socket → Socket) → map.get m f ≡ Some x → y ≡ file_with g x → ((s : Socket) → (g s).name ≡ s.name) → AreNamed names m → AreNamed names (map.insert m f y)
+named-lent names m f x y g at is same h = named-insert names m h f x y at (name-changed g same x y is)
 
--- Room for more changes nothing.
-module _ (m n : Map ℕ) (s t : Slab (Entry File)) (keys : n ≡ m) (slots : t.slots ≡ s.slots) where
-  pub reserved-values : values_of n t ≡ values_of m s
-  reserved-values = ap (λ k. values_of k t) keys ∙ values_grown m s t slots
+-- The same of a change that may be refused, with nothing changed then.
+pub named-either : {A B : Type 0} (names : Named) (m : Map File) (f : ℕ) (x y : File) (r : Result A B) (g : Socket → Socket) → map.get m f ≡ Some x → OnOk r (y ≡ file_with g x) → OnErr r (y ≡ x) → ((s : Socket) → (g s).name ≡ s.name) → AreNamed names m
+    → AreNamed names (map.insert m f y)
+named-either names m f x y r g at ok err same h = named-insert names m h f x y at (name-either r g same x y ok err)
 
-  pub reserved-place : AreInPlace m s → AreInPlace n t
-  reserved-place place = subst (λ k. AreInPlace k t) (sym keys) (grown_in_place m s t slots place)
+-- Files whose names stay.
+pub ruleset kept = (named-lent, named-either)
 
 -- A change of a socket leaves a plain file and a stranger as they are.
 pub unchanged : (g : Socket → Socket) (m : Map File) (k : ℕ) → socket_in m k ≡ None → m ≡ change_socket_at g m k

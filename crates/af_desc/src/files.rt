@@ -8,7 +8,6 @@ ghost use Rattle.af_base.specs.Names.{named};
 ghost use Rattle.af_base.specs.Changes.{bound, change_socket_at, connected, dequeued, listening, pushed, queued};
 ghost use Rattle.af_base.specs.Refusals.{room_of};
 ghost use Rattle.af_base.specs.Steps.{connected_socket, idle_socket};
-ghost use Rattle.af_order.specs.Standing.{AreInPlace, values_of};
 ghost use Rattle.af_base.specs.Whole.{IsMessageWithin};
 ghost use Rattle.af_desc.specs.Filed.{is_full, is_live, name_of, with_pair, hung_up, popped, received_from, received_of, socket_in};
 
@@ -19,19 +18,17 @@ use af_base::items::Items;
 use af_base::limits::{MAX_FILES, MAX_INO, MAX_MESSAGES};
 use af_base::names::{FileRef, Ino};
 use af_listen::Names;
-use af_order::{Entry, Order, key_of, put, reserve, take};
+use af_order::Keyed;
 use af_queue::{Msg, Taken};
-use slab::Slab;
 use std::alloc::{AllocError, Global};
 use std::marker::Model;
 
 /// The files, each under a number that is never used again, and the names of those that have one. A
-/// `FileRef` that was handed out has the key at which its file stands as a hint.
+/// `FileRef` that was handed out has a hint where its file stands.
 #[derive(Drop)]
 pub struct Files {
     alloc: Global,
-    order: Order,
-    slab: Slab<Entry<Desc>>,
+    files: Keyed<Desc>,
     next: u64,
     names: Names,
 }
@@ -41,27 +38,25 @@ impl Model for Files {
     ghost use Rattle.std.specs.Coded.{codes};
     ghost use Rattle.std.specs.Prelude.{◌≡◌, ◌<◌, false};
     ghost use Rattle.af_desc.specs.Filed.{AreNamed, Filed};
-    ghost use Rattle.af_order.specs.Standing.{AreInPlace, values_of};
 
     ghost Value = { Filed };
 
     ghost coded = { Prim.hlevel (codes, map.code) };
 
-    ghost view = { λ a. record { files = values_of a.order.keys a.slab; next = a.next } };
+    ghost view = { λ a. record { files = a.files.values; next = a.next } };
 
-    ghost invariant = { λ a. AreInPlace a.order.keys a.slab × (a.order.last < a.next) × (map.contains_key (values_of a.order.keys a.slab) 0 ≡ false) × AreNamed a.names (values_of a.order.keys a.slab) };
+    ghost invariant = { λ a. (a.files.last < a.next) × (map.contains_key a.files.values 0 ≡ false) × AreNamed a.names a.files.values };
 }
 
 impl Files {
     /// No file; numbers begin at 1. It takes no memory.
-    #[tactic(auto, using(af_order::proofs::Standing::comes_and_goes, crate::proofs::Begun::begun))]
+    #[tactic(auto, using(crate::proofs::Begun::begun))]
     pub fn new(alloc: Global) -> Files
         ensures { result ≡ record { files = map.empty; next = 1 } }
     {
         Files {
             alloc,
-            order: Order::new(alloc),
-            slab: Slab::new(alloc),
+            files: Keyed::new(alloc),
             next: 1,
             names: Names::new(alloc),
         }
@@ -72,7 +67,7 @@ impl Files {
     pub fn live(&self) -> usize
         ensures { result ≡ map.len self.now.files }
     {
-        self.slab.len()
+        self.files.len()
     }
 
     /// The number that the next file gets.
@@ -93,24 +88,19 @@ impl Files {
 
     /// The file of that number, where it stands now; nothing of a stranger. A search: who has a
     /// `FileRef` needs none.
-    #[tactic(auto, using(af_order::proofs::Standing::finds))]
     pub fn find(&self, ino: Ino) -> Option<FileRef>
         ensures there { IfSome result (λ f. (f ≡ ino) × IsTrue (is_live self.now ino)) }
         ensures none { IfNone result (is_live self.now ino ≡ false) }
     {
-        let key = self.order.key_of(ino)?;
-        Some(FileRef::new(ino, key))
+        self.files.find(ino)
     }
 
     /// The file; nothing of a stranger.
     #[inline(always)]
-    #[tactic(auto, using(af_order::proofs::Standing::finds))]
     pub fn get(&self, file: &FileRef) -> Option<&Desc>
         ensures { option_copied result ≡ map.get self.now.files file.now }
     {
-        let key = key_of(&self.order, &self.slab, file)?;
-        let entry = self.slab.get(key)?;
-        Some(&entry.value)
+        self.files.get(file)
     }
 
     /// The socket of this abstract name, if there is one (unix(7)): one look-up, however many have one.
@@ -122,7 +112,6 @@ impl Files {
 
     /// The least number above this one that a file has, if there is one; from 0 on, the least of all.
     /// This one need not have one.
-    #[tactic(auto, using(af_order::proofs::Standing::finds))]
     pub fn next_after(&self, ino: Ino) -> Option<FileRef>
         ensures above { IfSome result (λ n. ino < n) }
         ensures live { IfSome result (λ n. IsTrue (is_live self.now n)) }
@@ -130,12 +119,12 @@ impl Files {
         ensures none { IfNone result ((q : ℕ) → ino < q → is_live self.now q ≡ false) }
         ensures begins { is_live self.now 0 ≡ false }
     {
-        self.order.next_after(ino)
+        self.files.next_after(ino)
     }
 
     /// A file more, under the next number. Room comes first, so that on an error nothing has changed.
     #[inline(always)]
-    #[tactic(auto, using(af_order::proofs::Standing::comes_and_goes, crate::proofs::Begun::begun))]
+    #[tactic(auto, using(crate::proofs::Begun::begun))]
     fn make(&mut self, desc: Desc) -> Result<FileRef, AllocError>
         requires number { self.old.next < MAX_INO + 1 }
         requires nameless { name_of desc ≡ None }
@@ -144,8 +133,8 @@ impl Files {
         ensures next { OnOk result (self.new.next ≡ self.old.next + 1) }
         ensures err { OnErr result (self.new ≡ self.old) }
     {
-        reserve(&mut self.order, &mut self.slab, 1)?;
-        let file = put(&mut self.order, &mut self.slab, Ino(self.next), desc);
+        self.files.reserve(1)?;
+        let file = self.files.push(Ino(self.next), desc);
         self.next += 1;
         Ok(file)
     }
@@ -176,7 +165,7 @@ impl Files {
 
     /// Two sockets more, connected to each other (socketpair(2)), under the next two numbers, where
     /// `is_full(2)` is false: both or, on an error, none.
-    #[tactic(auto, using(af_order::proofs::Standing::comes_and_goes, crate::proofs::Begun::begun))]
+    #[tactic(auto, using(crate::proofs::Begun::begun))]
     pub fn make_two(&mut self, kind: SockType) -> Result<(FileRef, FileRef), AllocError>
         requires room { is_full self.old 2 ≡ false }
         ensures first { IfOk result (λ inos. inos.0 ≡ self.old.next) }
@@ -185,14 +174,14 @@ impl Files {
         ensures next { OnOk result (self.new.next ≡ self.old.next + 2) }
         ensures err { OnErr result (self.new ≡ self.old) }
     {
-        reserve(&mut self.order, &mut self.slab, 2)?;
+        self.files.reserve(2)?;
         let (lower, higher) = (Ino(self.next), Ino(self.next + 1));
         // Where the second will stand is told once it stands there.
         let desc = Desc::connected(self.alloc, kind, &FileRef::new(higher, 0));
-        let first = put(&mut self.order, &mut self.slab, lower, desc);
+        let first = self.files.push(lower, desc);
         let desc = Desc::connected(self.alloc, kind, &first);
-        let second = put(&mut self.order, &mut self.slab, higher, desc);
-        point(&mut self.slab, &first, &second);
+        let second = self.files.push(higher, desc);
+        point(&mut self.files, &first, &second);
         self.next += 2;
         Ok((first, second))
     }
@@ -200,13 +189,13 @@ impl Files {
     /// The file goes, and is handed on; nothing of a stranger. Its number is never given again, and
     /// its name is free. It takes no memory.
     #[inline(always)]
-    #[tactic(auto, using(af_order::proofs::Standing::comes_and_goes, crate::proofs::Begun::begun))]
+    #[tactic(auto, using(crate::proofs::Begun::begun))]
     pub fn remove(&mut self, file: &FileRef) -> Option<Desc>
         ensures value { result ≡ map.get self.old.files file.now }
         ensures files { self.new.files ≡ map.remove self.old.files file.now }
         ensures next { self.new.next ≡ self.old.next }
     {
-        let desc = take(&mut self.order, &mut self.slab, file)?;
+        let desc = self.files.remove(file)?;
         if let Some(name) = desc.name() {
             self.names.unbind(name);
         }
@@ -216,24 +205,21 @@ impl Files {
     /// The peer of that socket is gone from now on. A plain file or a stranger stays as it is. It
     /// takes no memory.
     #[inline(always)]
-    #[tactic(auto, using(af_order::proofs::Standing::writes, crate::proofs::Begun::begun))]
+    #[tactic(auto, using(af_order::proofs::Values::lent, crate::proofs::Naming::kept))]
     pub fn hang_up(&mut self, file: &FileRef)
         ensures files { self.new.files ≡ change_socket_at hung_up self.old.files file.now }
         ensures next { self.new.next ≡ self.old.next }
     {
-        let Some(key) = key_of(&self.order, &self.slab, file) else {
+        let Some(desc) = self.files.get_mut(file) else {
             return;
         };
-        let Some(entry) = self.slab.get_mut(key) else {
-            return;
-        };
-        entry.value.hang_up();
+        desc.hang_up();
     }
 
     /// One message more, last in the queue of that socket, which is not full. A plain file or a
     /// stranger has no queue, and there the message is dropped. On an error nothing has changed, and
     /// the message is dropped too.
-    #[tactic(auto, using(af_order::proofs::Standing::writes, crate::proofs::Begun::begun))]
+    #[tactic(auto, using(af_order::proofs::Values::lent, crate::proofs::Naming::kept))]
     pub fn push(&mut self, file: &FileRef, message: Msg) -> Result<(), AllocError>
         requires few { length (queue_in self.old.files file.now) < MAX_MESSAGES }
         requires within { IsMessageWithin message }
@@ -241,13 +227,10 @@ impl Files {
         ensures next { self.new.next ≡ self.old.next }
         ensures err { OnErr result (self.new ≡ self.old) }
     {
-        let Some(key) = key_of(&self.order, &self.slab, file) else {
+        let Some(desc) = self.files.get_mut(file) else {
             return Ok(());
         };
-        let Some(entry) = self.slab.get_mut(key) else {
-            return Ok(());
-        };
-        entry.value.push(message)
+        desc.push(message)
     }
 
     /// The socket of this number; a plain file and a stranger are none.
@@ -271,7 +254,7 @@ impl Files {
 
     /// What a receive of at most so many bytes takes out of the queue of that socket (recvmsg(2)):
     /// nothing, where it is a plain file or a stranger. On an error nothing has changed.
-    #[tactic(auto, using(af_order::proofs::Standing::writes, crate::proofs::Begun::begun))]
+    #[tactic(auto, using(af_order::proofs::Values::lent, crate::proofs::Naming::kept))]
     pub fn take(&mut self, file: &FileRef, max: usize) -> Result<Taken, AllocError>
         requires { 0 < max }
         ensures taken { IfOk result (λ t. t ≡ received_of (socket_in self.old.files file.now) max) }
@@ -279,31 +262,27 @@ impl Files {
         ensures next { self.new.next ≡ self.old.next }
         ensures err { OnErr result (self.new ≡ self.old) }
     {
-        let Some(key) = key_of(&self.order, &self.slab, file) else {
+        let Some(desc) = self.files.get_mut(file) else {
             return Ok(Taken::nothing(self.alloc));
         };
-        let Some(entry) = self.slab.get_mut(key) else {
-            return Ok(Taken::nothing(self.alloc));
-        };
-        entry.value.take(self.alloc, max)
+        desc.take(self.alloc, max)
     }
 
     /// The first message out of the queue of that socket, if there is one. It takes no memory.
-    #[tactic(auto, using(af_order::proofs::Standing::writes, crate::proofs::Begun::begun))]
+    #[tactic(auto, using(af_order::proofs::Values::lent, crate::proofs::Naming::kept))]
     pub fn pop(&mut self, file: &FileRef) -> Option<Msg>
         ensures some { IfSome result (λ m. queue_in self.old.files file.now ≡ m ∷ drop 1 (queue_in self.old.files file.now)) }
         ensures none { IfNone result (queue_in self.old.files file.now ≡ []) }
         ensures files { self.new.files ≡ change_socket_at popped self.old.files file.now }
         ensures next { self.new.next ≡ self.old.next }
     {
-        let key = key_of(&self.order, &self.slab, file)?;
-        let entry = self.slab.get_mut(key)?;
-        entry.value.pop()
+        let desc = self.files.get_mut(file)?;
+        desc.pop()
     }
 
     /// A socket more, connected to that client, which is connected to it in turn: an embryo, under
     /// the next number, where `is_full(1)` is false. On an error nothing has changed.
-    #[tactic(auto, using(af_order::proofs::Standing::comes_and_goes, crate::proofs::Begun::begun))]
+    #[tactic(auto, using(crate::proofs::Begun::begun))]
     pub fn make_embryo(&mut self, kind: SockType, client: &FileRef) -> Result<FileRef, AllocError>
         requires room { is_full self.old 1 ≡ false }
         ensures ino { IfOk result (λ ino. ino ≡ self.old.next) }
@@ -318,23 +297,20 @@ impl Files {
 
     /// That socket is connected to this peer from now on. A plain file or a stranger stays as it is.
     /// It takes no memory.
-    #[tactic(auto, using(af_order::proofs::Standing::writes, crate::proofs::Begun::begun))]
+    #[tactic(auto, using(af_order::proofs::Values::lent, crate::proofs::Naming::kept))]
     fn connect(&mut self, file: &FileRef, peer: &FileRef)
         ensures files { self.new.files ≡ change_socket_at (connected peer.now) self.old.files file.now }
         ensures next { self.new.next ≡ self.old.next }
     {
-        let Some(key) = key_of(&self.order, &self.slab, file) else {
+        let Some(desc) = self.files.get_mut(file) else {
             return;
         };
-        let Some(entry) = self.slab.get_mut(key) else {
-            return;
-        };
-        entry.value.connect(peer);
+        desc.connect(peer);
     }
 
     /// That socket, which has no name, has this one from now on, which is nobody's (bind(2)). A plain
     /// file or a stranger stays as it is. On an error nothing has changed.
-    #[tactic(auto, using(af_order::proofs::Standing::writes, crate::proofs::Begun::begun))]
+    #[tactic(auto, using(af_order::proofs::Values::lent, crate::proofs::Naming::kept))]
     pub fn bind(&mut self, file: &FileRef, name: &Items<u8>) -> Result<(), AllocError>
         requires nameless { IfSome (socket_in self.old.files file.now) (λ s. s.name ≡ None) }
         requires free { named self.old.files name.now ≡ None }
@@ -351,7 +327,7 @@ impl Files {
         let own = Items::of(name.as_slice().to_vec(self.alloc)?);
         let listed = Items::of(name.as_slice().to_vec(self.alloc)?);
         self.names.bind(listed, file.again())?;
-        if let Err(refused) = set_name(self.alloc, &self.order, &mut self.slab, file, own) {
+        if let Err(refused) = set_name(self.alloc, &mut self.files, file, own) {
             self.names.unbind(name);
             return Err(refused);
         }
@@ -360,7 +336,7 @@ impl Files {
 
     /// That socket, which has a name and no embryos, waits for connections from now on, so many at
     /// most (listen(2)). A plain file or a stranger stays as it is. On an error nothing has changed.
-    #[tactic(auto, using(af_order::proofs::Standing::writes, crate::proofs::Begun::begun))]
+    #[tactic(auto, using(af_order::proofs::Values::lent, crate::proofs::Naming::kept))]
     pub fn listen(&mut self, file: &FileRef, most: u32) -> Result<(), AllocError>
         requires named { IfSome (socket_in self.old.files file.now) (λ s. is_none s.name ≡ false) }
         requires nobody { IfSome (socket_in self.old.files file.now) (λ s. s.backlog ≡ []) }
@@ -368,79 +344,64 @@ impl Files {
         ensures next { self.new.next ≡ self.old.next }
         ensures err { OnErr result (self.new ≡ self.old) }
     {
-        let Some(key) = key_of(&self.order, &self.slab, file) else {
+        let Some(desc) = self.files.get_mut(file) else {
             return Ok(());
         };
-        let Some(entry) = self.slab.get_mut(key) else {
-            return Ok(());
-        };
-        entry.value.listen(self.alloc, most)
+        desc.listen(self.alloc, most)
     }
 
     /// An embryo more waits at that listener, last, for which its backlog has room. A plain file or a
     /// stranger stays as it is. It takes no memory.
-    #[tactic(auto, using(af_order::proofs::Standing::writes, crate::proofs::Begun::begun))]
+    #[tactic(auto, using(af_order::proofs::Values::lent, crate::proofs::Naming::kept))]
     pub fn enqueue(&mut self, file: &FileRef, embryo: FileRef)
         requires { IfSome (socket_in self.old.files file.now) (λ s. length s.backlog < room_of s.state) }
         ensures files { self.new.files ≡ change_socket_at (queued embryo) self.old.files file.now }
         ensures next { self.new.next ≡ self.old.next }
     {
-        let Some(key) = key_of(&self.order, &self.slab, file) else {
+        let Some(desc) = self.files.get_mut(file) else {
             return;
         };
-        let Some(entry) = self.slab.get_mut(key) else {
-            return;
-        };
-        entry.value.enqueue(embryo);
+        desc.enqueue(embryo);
     }
 
     /// The first embryo of that listener waits no more, if one does. It takes no memory.
-    #[tactic(auto, using(af_order::proofs::Standing::writes, crate::proofs::Begun::begun))]
+    #[tactic(auto, using(af_order::proofs::Values::lent, crate::proofs::Naming::kept))]
     pub fn dequeue(&mut self, file: &FileRef) -> Option<FileRef>
         ensures some { IfSome result (λ f. backlog_in self.old.files file.now ≡ f ∷ drop 1 (backlog_in self.old.files file.now)) }
         ensures none { IfNone result (backlog_in self.old.files file.now ≡ []) }
         ensures files { self.new.files ≡ change_socket_at dequeued self.old.files file.now }
         ensures next { self.new.next ≡ self.old.next }
     {
-        let key = key_of(&self.order, &self.slab, file)?;
-        let entry = self.slab.get_mut(key)?;
-        entry.value.dequeue()
+        let desc = self.files.get_mut(file)?;
+        desc.dequeue()
     }
 }
 
 /// That socket, which has no name, has this one from now on. A plain file or a stranger stays as it
 /// is. On an error nothing has changed.
-#[tactic(auto, using(af_order::proofs::Standing::writes))]
+#[tactic(auto, using(af_order::proofs::Values::lent))]
 fn set_name(
     alloc: Global,
-    order: &Order,
-    slab: &mut Slab<Entry<Desc>>,
+    files: &mut Keyed<Desc>,
     file: &FileRef,
     name: Items<u8>,
 ) -> Result<(), AllocError>
-    requires place { AreInPlace order.now.keys slab.old }
-    requires nameless { IfSome (socket_in (values_of order.now.keys slab.old) file.now) (λ s. s.name ≡ None) }
-    ensures ok { OnOk result (values_of order.now.keys slab.new ≡ change_socket_at (bound name) (values_of order.now.keys slab.old) file.now) }
-    ensures err { OnErr result (values_of order.now.keys slab.new ≡ values_of order.now.keys slab.old) }
-    ensures place { AreInPlace order.now.keys slab.new }
+    requires nameless { IfSome (socket_in files.old.values file.now) (λ s. s.name ≡ None) }
+    ensures ok { OnOk result (files.new ≡ record files.old { values = change_socket_at (bound name) files.old.values file.now }) }
+    ensures err { OnErr result (files.new ≡ files.old) }
 {
-    let Some(key) = key_of(order, slab, file) else {
+    let Some(desc) = files.get_mut(file) else {
         return Ok(());
     };
-    let Some(entry) = slab.get_mut(key) else {
-        return Ok(());
-    };
-    entry.value.bind(alloc, name)
+    desc.bind(alloc, name)
 }
 
 /// A new socket is told where its peer stands.
-#[tactic(auto, using(af_order::proofs::Standing::notes))]
-fn point(slab: &mut Slab<Entry<Desc>>, file: &FileRef, peer: &FileRef)
-    ensures values { (m : Map ℕ) → AreInPlace m slab.old → values_of m slab.new ≡ values_of m slab.old }
-    ensures place { (m : Map ℕ) → AreInPlace m slab.old → AreInPlace m slab.new }
+#[tactic(auto, using(af_order::proofs::Values::lent))]
+fn point(files: &mut Keyed<Desc>, file: &FileRef, peer: &FileRef)
+    ensures { files.new ≡ files.old }
 {
-    let Some(entry) = slab.get_mut(file.key()) else {
-        return;
-    };
-    entry.value.point(peer);
+    if let Some(desc) = files.get_mut(file) {
+        desc.point(peer);
+    }
 }

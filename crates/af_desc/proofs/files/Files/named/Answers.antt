@@ -2,8 +2,7 @@ use Rattle.std.proofs.Common.{◌∙◌, ap}
 use Rattle.af_base.specs.Names.{named}
 use Rattle.af_desc.specs.Filed.{Filed}
 use Rattle.af_desc.proofs.Naming.{named-is}
-use Rattle.af_order.specs.Standing.{values_of}
 use Rattle.af_desc.proofs.files.Files.named.Goals as goal
 
 pub returns : goal.returns
-returns c = c.find.ensures ∙ named-is c.self.inside.names (values_of c.self.inside.order.keys c.self.inside.slab) c.self.invariant.3 c.args.name.now ∙ ap (λ (v : Filed). named v.files c.args.name.now) c.self.view_is
+returns c = c.find.ensures ∙ named-is c.self.inside.names c.self.inside.files.values c.self.invariant.2 c.args.name.now ∙ ap (λ (v : Filed). named v.files c.args.name.now) c.self.view_is

@@ -4,39 +4,45 @@ use Rattle.std.specs.FinMap as map
 use Rattle.std.specs.Option.{option_and_then, option_copied}
 use Rattle.af_desc.specs.Filed.{AreNamed, name_in, name_of}
 use Rattle.af_desc.proofs.Begun.{begun-removed}
-use Rattle.af_desc.proofs.Naming.{name-at, named-freed, named-gone, named-moved}
-use Rattle.af_order.specs.Standing.{values_of}
+use Rattle.af_desc.proofs.Naming.{name-at, named-freed, named-gone}
 use Rattle.af_desc.proofs.files.Files.remove.Goals as goal
+
+pub invariant_of-self : goal.invariant_of-self
+invariant_of-self c =
+    let m = c.self.inside.files.values in
+    let k = c.args.file.now in
+    let is : c.remove.new.self.values ≡ map.remove m k = ap (λ f. f.values) c.remove.ensures.removed in
+    let none : option_and_then name_of (map.get m k) ≡ None = ap (option_and_then name_of) (sym c.remove.ensures.value ∙ c.in_err-desc.was) in
+    let low = c.self.invariant.0 in (
+      omega (arith, low, ap (λ f. f.last) c.remove.ensures.removed),
+      ap (λ v. map.contains_key v 0) is ∙ begun-removed m k c.self.invariant.1,
+      subst (AreNamed c.self.inside.names) (sym is) (named-gone c.self.inside.names m c.self.invariant.2 k none),
+    )
 
 pub invariant_of-self-in-Some : goal.invariant_of-self-in-Some
 invariant_of-self-in-Some c =
-    let m = values_of c.self.inside.order.keys c.self.inside.slab in
+    let m = c.self.inside.files.values in
     let names = c.self.inside.names in
     let k = c.args.file.now in
     let name = c.in-Some.name.now in
-    let at = sym c.take.ensures.value ∙ c.in_ok-desc.was in
+    let at = sym c.remove.ensures.value ∙ c.in_ok-desc.was in
     let had : name_in m k ≡ Some name = name-at m k (Some c.in_ok-desc.desc) at ∙ sym c.name.ensures ∙ ap option_copied c.in-Some.is in
-    let made = values_of c.take.new.order.keys c.take.new.slab in
-    let last = c.take.ensures.last in
-    let low = c.self.invariant.1 in (
-      c.take.ensures.place,
-      omega (arith, last, low),
-      ap (λ v. map.contains_key v 0) c.take.ensures.values ∙ begun-removed m k c.self.invariant.2,
-      subst (λ n. AreNamed n made) (sym c.unbind.ensures) (named-moved (map.remove names name) (map.remove m k) (named-freed names m c.self.invariant.3 name k had) made c.take.ensures.values),
+    let is : c.remove.new.self.values ≡ map.remove m k = ap (λ f. f.values) c.remove.ensures.removed in
+    let low = c.self.invariant.0 in (
+      omega (arith, low, ap (λ f. f.last) c.remove.ensures.removed),
+      ap (λ v. map.contains_key v 0) is ∙ begun-removed m k c.self.invariant.1,
+      subst (λ n. AreNamed n c.remove.new.self.values) (sym c.unbind.ensures) (subst (AreNamed (map.remove names name)) (sym is) (named-freed names m c.self.invariant.2 name k had)),
     )
 
 pub invariant_of-self-in_default : goal.invariant_of-self-in_default
 invariant_of-self-in_default c =
-    let m = values_of c.self.inside.order.keys c.self.inside.slab in
+    let m = c.self.inside.files.values in
     let names = c.self.inside.names in
     let k = c.args.file.now in
-    let at = sym c.take.ensures.value ∙ c.in_ok-desc.was in
-    let none : option_and_then name_of (map.get m k) ≡ None = ap (option_and_then name_of) at ∙ sym c.name.ensures ∙ ap option_copied c.in_default.is in
-    let made = values_of c.take.new.order.keys c.take.new.slab in
-    let last = c.take.ensures.last in
-    let low = c.self.invariant.1 in (
-      c.take.ensures.place,
-      omega (arith, last, low),
-      ap (λ v. map.contains_key v 0) c.take.ensures.values ∙ begun-removed m k c.self.invariant.2,
-      named-moved names (map.remove m k) (named-gone names m c.self.invariant.3 k none) made c.take.ensures.values,
+    let none : option_and_then name_of (map.get m k) ≡ None = ap (option_and_then name_of) (sym c.remove.ensures.value ∙ c.in_ok-desc.was) ∙ sym c.name.ensures ∙ ap option_copied c.in_default.is in
+    let is : c.remove.new.self.values ≡ map.remove m k = ap (λ f. f.values) c.remove.ensures.removed in
+    let low = c.self.invariant.0 in (
+      omega (arith, low, ap (λ f. f.last) c.remove.ensures.removed),
+      ap (λ v. map.contains_key v 0) is ∙ begun-removed m k c.self.invariant.1,
+      subst (AreNamed names) (sym is) (named-gone names m c.self.invariant.2 k none),
     )
