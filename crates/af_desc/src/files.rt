@@ -1,8 +1,7 @@
 //! The files, by their numbers.
-ghost use Rattle.std.specs.Prelude.{◌≡◌, ℕ, ◌+◌, ◌<◌, ◌≤◌, ◌∷◌, [], false, None, IsTrue, IfSome, IfNone, IfOk, OnOk, OnErr, is_none, option_copied, length, drop};
+ghost use Rattle.std.specs.Prelude.{◌≡◌, ℕ, ◌+◌, ◌<◌, ◌∷◌, [], false, None, IsTrue, IfSome, IfNone, IfOk, OnOk, OnErr, is_none, option_copied, length, drop};
 ghost use Rattle.std.specs.FinMap as map;
 ghost use Rattle.af_base.specs.World as world;
-ghost use Rattle.af_base.specs.World.{Map};
 ghost use Rattle.af_base.specs.Places.{backlog_in, queue_in};
 ghost use Rattle.af_base.specs.Names.{named};
 ghost use Rattle.af_base.specs.Changes.{bound, change_socket_at, connected, dequeued, listening, pushed, queued};

@@ -1,6 +1,6 @@
 -- The list of the files that wait, as numbers come and go.
 use Rattle.std.proofs.Common.{◌≡◌, ◌<◌, ◌≤◌, ℕ, ◌+◌, Bool, true, false, ◌&&◌, ◌||◌, not, List, [], ◌∷◌, ◌++◌, length, suc, refl, sym, ap, ◌∙◌, subst, cond, nat_eq, arith, length-append, take, drop}
-use Rattle.std.specs.Prelude.{Option, Some, None, IsSome, is_some, min, unwrap_or, slice_get, slice_index_or}
+use Rattle.std.specs.Prelude.{Option, Some, None, IsSome, is_some, unwrap_or, slice_get, slice_index_or}
 use Rattle.std.specs.Cmp.{nat_cmp_total, nat_eq_equiv, unsigned_tied}
 use Rattle.std.specs.FinMap as map
 use Rattle.std.specs.FinMap.{get-insert, get-remove}

@@ -1,9 +1,8 @@
 //! The ledger.
-ghost use Rattle.std.specs.Prelude.{◌≡◌, ℕ, ◌+◌, ◌≤◌, ◌<◌, ◌^◌, [], None, Some, true, false, not, ◌&&◌, IsTrue, IsOk, IfErr, IfSome, IfNone, OnOk, OnErr, Option, length, nat_eq, slice_get, slice_index_or, vec_capacity, unwrap_or};
+ghost use Rattle.std.specs.Prelude.{◌≡◌, ℕ, ◌+◌, ◌≤◌, ◌<◌, ◌^◌, [], None, Some, true, false, not, ◌&&◌, IsTrue, IsOk, IfErr, IfSome, IfNone, OnOk, OnErr, Option, length, nat_eq, slice_get, slice_index_or, vec_capacity};
 ghost use Rattle.std.specs.FinMap as map;
 ghost use Rattle.std.specs.List.{IsDistinct, list_any};
 ghost use Rattle.std.specs.Map.{keys_of};
-ghost use Rattle.std.specs.Option.{option_map_or};
 ghost use Rattle.af_ledger.specs.Counted.{fewer, more, places_in, uncounted, IsCountable, IsCounted};
 ghost use Rattle.af_ledger.specs.Kept.{Kept, count_in_map, count_of, refs_of, charge_of, is_user, with_user, has_count, is_waiting, held_all, dropped_all, CanHoldAll, CanDropAll, charged_by, freed_by, held, dropped, CanHold, CanDrop};
 ghost use Rattle.af_ledger.specs.Sending.{send_refusal};

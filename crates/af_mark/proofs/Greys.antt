@@ -1,6 +1,6 @@
 -- The list of the grey files, as they come and go.
 use Rattle.std.proofs.Common.{◌≡◌, ◌≤◌, ◌<◌, ℕ, ◌+◌, ◌-◌, Bool, true, false, ◌||◌, List, [], ◌∷◌, ◌++◌, length, suc, zero, refl, sym, ap, ◌∙◌, subst, cond, nat_eq, arith, length-append}
-use Rattle.std.specs.Prelude.{Option, Some, None, IsSome, IsTrue, is_some, option_map, ◌&&◌, not, count_by, min, slice_get, slice_index_or}
+use Rattle.std.specs.Prelude.{Option, Some, None, IsSome, IsTrue, is_some, option_map, ◌&&◌, not, count_by, slice_get, slice_index_or}
 use Rattle.std.specs.Cmp.{nat_cmp_total, nat_eq_equiv, unsigned_tied}
 use Rattle.std.specs.FinMap as map
 use Rattle.std.specs.FinMap.{get-insert, get-remove}

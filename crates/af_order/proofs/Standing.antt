@@ -13,7 +13,6 @@ use Rattle.std.proofs.lemmas.Bool.{eqb-true, eqb-false, eq-eqb}
 use Rattle.std.proofs.lemmas.List.{get_or-set_same, get_or-set_other}
 use Rattle.std.proofs.lemmas.List.Sums.{sum_by-set}
 use Rattle.af_base.specs.World.{Map}
-use Rattle.af_base.specs.Changes.{change_at}
 use Rattle.af_base.proofs.Lookups.{none_some, some_is, some_same}
 use Rattle.af_order.specs.declared.entry.Entry.{Entry}
 use Rattle.af_order.specs.Standing.{value_at, value_of, values_from, values_of, AreInPlace}
@@ -62,9 +61,6 @@ module _ {V : Type 0} where
   -- No number, no value.
   pub no_values : (m : Map ℕ) (s : Slab (Entry V)) → m ≡ map.empty → values_of m s ≡ map.empty
   no_values m s e = same _ _ (λ q. looked m s q ∙ ap (under s) (ap (λ m. map.get m q) e ∙ get-empty nat_cmp q) ∙ sym (get-empty nat_cmp q))
-
-  pub none_there : (m : Map ℕ) (s : Slab (Entry V)) (q : ℕ) → m ≡ map.empty → map.contains_key (values_of m s) q ≡ false
-  none_there m s q e = ap is_some (looked m s q ∙ ap (under s) (ap (λ m. map.get m q) e ∙ get-empty nat_cmp q))
 
   -- Room alone changes no value.
   pub values_grown : (m : Map ℕ) (s t : Slab (Entry V)) → t.slots ≡ s.slots → values_of m t ≡ values_of m s
@@ -243,23 +239,12 @@ module _ {V : Type 0} (m : Map ℕ) (s : Slab (Entry V)) (f key : ℕ) (x y : En
       values_then m m s (slab.with_value s key y) f key (Some key) (Some y) stays wrote (own m s h f key was) q
       ∙ ap (λ o. cond (nat_eq f q) (option_map (λ x. x.value) o) (map.get (values_of m s) q)) wrote.changed ∙ with_value (values_of m s) f y.value q)
 
-  -- The value is what the change makes of it.
-  pub write_change : (g : V → V) → y.value ≡ g x.value → values_of m (slab.with_value s key y) ≡ change_at g (values_of m s) f
-  write_change g e = write_values ∙ ap (map.insert (values_of m s) f) e ∙ ap (λ o. option_map_or (λ d. map.insert (values_of m s) f (g d)) o (values_of m s)) (sym there)
-
   -- What is written as it was changes nothing.
   pub write_same : y.value ≡ x.value → values_of m (slab.with_value s key y) ≡ values_of m s
   write_same e = write_values ∙ ap (map.insert (values_of m s) f) e ∙ same _ _ (λ q. sym (with_value (values_of m s) f x.value q) ∙ by q (nat_eq f q) refl) where
     by : (q : ℕ) (b : Bool) → nat_eq f q ≡ b → cond b (Some x.value) (map.get (values_of m s) q) ≡ map.get (values_of m s) q
     by q true e = sym there ∙ ap (map.get (values_of m s)) (eqb-true f q e)
     by q false e = refl
-
-  -- No number comes by it.
-  pub write_absent : (q : ℕ) → map.contains_key (values_of m s) q ≡ false → map.contains_key (values_of m (slab.with_value s key y)) q ≡ false
-  write_absent q none = ap is_some (ap (λ v. map.get v q) write_values ∙ sym (with_value (values_of m s) f y.value q)) ∙ by (nat_eq f q) refl where
-    by : (b : Bool) → nat_eq f q ≡ b → is_some (cond b (Some y.value) (map.get (values_of m s) q)) ≡ false
-    by true e = sym (ap is_some there) ∙ ap (map.contains_key (values_of m s)) (eqb-true f q e) ∙ none
-    by false e = none
 
   -- As many values stand there as did.
   pub write_len : slab.slab_len (slab.with_value s key y) ≡ slab.slab_len s
@@ -285,18 +270,11 @@ module _ {V : Type 0} (m : Map ℕ) (s : Slab (Entry V)) (key : ℕ) (x y : Entr
   pub noted_in_place : y.ino ≡ x.ino → AreInPlace m (slab.with_value s key y)
   noted_in_place e = write_in_place m s x.ino key x y h (h.found key x at) at e
 
--- No change of a stranger.
-pub write_nothing : {V : Type 0} (m : Map ℕ) (s : Slab (Entry V)) (f : ℕ) (g : V → V) → map.get m f ≡ None → values_of m s ≡ change_at g (values_of m s) f
-write_nothing m s f g none = ap (λ o. option_map_or (λ d. map.insert (values_of m s) f (g d)) o (values_of m s)) (sym (looked m s f ∙ ap (under s) none))
-
 -- Look-ups.
 pub ruleset finds = (looked, missing, keyed, hinted)
 
 -- Values that come and go.
-pub ruleset comes_and_goes = (looked, no_values, none_there, none_in_place, values_grown, grown_in_place, missing, keyed, put_values, put_in_place, put_new, take_values, take_in_place, take_nothing)
-
--- Values that change where they stand.
-pub ruleset writes = (looked, missing, keyed, write_change, write_same, write_absent, write_in_place, write_nothing)
+pub ruleset comes_and_goes = (looked, no_values, none_in_place, values_grown, grown_in_place, missing, keyed, put_values, put_in_place, put_new, take_values, take_in_place, take_nothing)
 
 -- Hints that are written beside values.
 pub ruleset notes = (noted, noted_in_place)

@@ -11,8 +11,8 @@ use slab::Slab;
 use std::alloc::{AllocError, Global};
 use std::marker::Model;
 
-/// A value under each of some numbers. Each number is above all that there were before it, and is never
-/// used again. A `FileRef` that was handed out has a hint where its value stands.
+/// A value under each of some numbers. Each number is above all that there were before it, and is
+/// never used again. A `FileRef` that was handed out has a hint where its value stands.
 #[derive(Drop)]
 pub struct Keyed<T> {
     order: Order,
@@ -55,6 +55,15 @@ impl<T> Keyed<T> {
         ensures { result ≡ map.len self.now.values }
     {
         self.slab.len()
+    }
+
+    /// For how many values more there is room.
+    pub fn room(&self) -> usize
+        ensures { result ≡ self.now.room }
+    {
+        self.order
+            .room()
+            .min(self.slab.capacity() - self.slab.len())
     }
 
     /// Room for so many values more: then `push` needs no memory for them, and no other call ever

@@ -95,6 +95,13 @@ impl Order {
         self.packed.reserve(wanted - self.packed.len())
     }
 
+    /// For how many numbers more there is room.
+    pub fn room(&self) -> usize
+        ensures { result ≡ self.now.room }
+    {
+        self.packed.capacity().min(self.rows.capacity()) - self.rows.len()
+    }
+
     /// A number more, above all others that there were, with its key. It answers its place, which
     /// `remove` takes as a hint. There is room for it.
     #[inline(always)]

@@ -3,8 +3,7 @@ use Rattle.std.specs.Prelude.{None, Some}
 use Rattle.std.specs.FinMap as map
 use Rattle.af_base.specs.Counts.{count_in}
 use Rattle.af_order.proofs.Values.{gone_few}
-use Rattle.af_mark.specs.Grey.{AreUpTo, color_in, colors_in}
-use Rattle.af_mark.specs.Marked.{is_grey_color}
+use Rattle.af_mark.specs.Grey.{AreUpTo, colors_in}
 use Rattle.af_mark.proofs.Colors.{color_taken, same_marked, upto_taken}
 use Rattle.af_mark.proofs.Greys.{grey_mark, grey_markless, grey_of, grey_same_taken, grey_taken, kept_grey, same, struck_grey}
 use Rattle.af_mark.proofs.marks.Marks.forget.Goals as goal
