@@ -7,12 +7,12 @@ use Rattle.af_base.specs.declared.events.Reply.{Reply}
 use Rattle.af_base.specs.declared.events.Reply.TheVariants as reply
 use Rattle.af_base.specs.declared.events.Step.{Step}
 use Rattle.af_base.specs.Pass.{Machine, SamePass}
-use Rattle.af_base.specs.Refusals.{refusal, spawn_refusal}
-use Rattle.af_base.specs.Steps.{Outcome, ProcessStep, SpawnStep, answer, effect, needs_no_memory, spawned}
+use Rattle.af_base.specs.Refusals.{refusal}
+use Rattle.af_base.specs.Steps.{Outcome, ProcessStep, answer, effect, needs_no_memory}
 use Rattle.af_base.specs.World.{World}
 use Rattle.af_base.proofs.Lookups.{none_some, some_same}
 use Rattle.af_base.proofs.Stepping.{accepted}
-use Rattle.af_steps.specs.Outcome.{Does, Refuses, RefusesStart, Starts, error_of}
+use Rattle.af_steps.specs.Outcome.{Does, Refuses, error_of}
 
 -- An error leaves the world as it was.
 stays : (o : Option Errno) (frugal : Bool) (r : Reply) (after old : World) (e : Errno) → error_of o frugal ≡ Some e → Outcome o frugal r after old (reply.Refused e) old
@@ -34,18 +34,3 @@ module _ (old : Machine) (p : ℕ) (s : Step) (new : Machine) where
       let w = old.world in
       let kept = stays (refusal w p s) (needs_no_memory s) (answer w p s) (effect w p s) w e d.0 in
       subst (λ (m : Machine). ProcessStep w p s (reply.Refused e) m.world × SamePass old m) (sym d.1) (kept, (refl, refl))
-
-module _ (old : Machine) (uid nofile : ℕ) (privileged : Bool) (new : Machine) where
-  -- A process that was started.
-  pub starts-step : (p : ℕ) → Starts old uid nofile privileged p new → SpawnStep old.world uid nofile privileged (reply.Pid p) new.world × SamePass old new
-  starts-step p d =
-      let w = old.world in
-      let gone = accepted (spawn_refusal w nofile) false (reply.Pid w.next_pid) (spawned w uid nofile privileged) w new.world d.0 d.2 in
-      (subst (λ x. SpawnStep w uid nofile privileged x new.world) (sym (ap reply.Pid d.1)) gone, d.3)
-
-  -- A process that was not.
-  pub refuses-start : (e : Errno) → RefusesStart old nofile e new → SpawnStep old.world uid nofile privileged (reply.Refused e) new.world × SamePass old new
-  refuses-start e d =
-      let w = old.world in
-      let kept = stays (spawn_refusal w nofile) false (reply.Pid w.next_pid) (spawned w uid nofile privileged) w e d.0 in
-      subst (λ (m : Machine). SpawnStep w uid nofile privileged (reply.Refused e) m.world × SamePass old m) (sym d.1) (kept, (refl, refl))

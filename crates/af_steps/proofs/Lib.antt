@@ -1,14 +1,10 @@
 pub mod Outcomes
 pub mod Folded
+pub mod Found
 pub mod Numbers
-pub mod Paired
 pub mod Receiving
 pub mod Sent
-pub mod Refused
-pub mod Running
 pub mod Made
 pub mod Untabled
-pub mod Looked
 pub mod Connected
-pub mod Naming
-pub mod Collecting
+pub mod Parts

@@ -26,8 +26,3 @@ first-live v kind new f is ino =
     let b = connected_socket kind v.next_ino in
     subst (λ u. IsLive u f) (sym is) (subst (IsLive (with_pair v kind)) (sym ino)
     (still-live (add_file v (AsSocket a)) (AsSocket b) v.next_ino (λ e. omega (arith, e)) (last-live v (AsSocket a))))
-
--- So is the second, also where the first has its number by then.
-pub second-live : (v : World) (kind : SockType) (new : World) (f : ℕ) → new ≡ with_pair v kind → f ≡ v.next_ino + 1 → IsLive new f
-second-live v kind new f is ino =
-    subst (λ u. IsLive u f) (sym is) (subst (IsLive (with_pair v kind)) (sym ino) (last-live (add_file v (AsSocket (connected_socket kind (v.next_ino + 1)))) (AsSocket (connected_socket kind v.next_ino))))

@@ -1,4 +1,4 @@
--- A step that is refused, one for which memory was refused, and one that was done.
+-- A step that was done, one that is refused, and one for which memory was refused.
 use Rattle.std.proofs.Common.{◌≡◌, ℕ, false, refl, sym, ap, ◌∙◌, subst}
 use Rattle.std.specs.Prelude.{IfErr, Some, None, Result, Err}
 use Rattle.af_base.specs.declared.errno.Errno.{Errno}
@@ -9,37 +9,36 @@ use Rattle.af_base.specs.Pass.{Machine}
 use Rattle.af_base.specs.Refusals.{refusal}
 use Rattle.af_base.specs.Steps.{answer, effect, needs_no_memory}
 use Rattle.af_base.specs.Unheld.{Settles}
+use Rattle.af_base.specs.Whole.{IsSound}
 use Rattle.af_base.specs.World.{World}
+use Rattle.af_base.proofs.Settling.{settles_none}
+use Rattle.af_collect.specs.Shown.{Shown}
 use Rattle.af_steps.specs.Outcome.{Does, Refuses, error_of, step_error}
-
--- What is said of the worlds of a step that is done: no test fits, this is the answer, and the changed world is settled.
-abbrev pub Goes : World → ℕ → Step → Reply → World → Type 0
-Goes w p s r new = (refusal w p s ≡ None) × (r ≡ answer w p s) × Settles (effect w p s) new
-
-module _ (w : World) (p : ℕ) (s : Step) where
-  -- A test of its row fits.
-  pub refused : (e : Errno) → refusal w p s ≡ Some e → step_error w p s ≡ Some e
-  refused e is = ap (λ o. error_of o (needs_no_memory s)) is
-
-  -- No test fits, and memory was refused.
-  pub starved : refusal w p s ≡ None → needs_no_memory s ≡ false → step_error w p s ≡ Some ENOMEM
-  starved fits may = ap (λ o. error_of o (needs_no_memory s)) fits ∙ ap (error_of None) may
-
-  -- No test fits, and the places were changed as the step says.
-  pub done : (placed new : World) (r : Reply) → refusal w p s ≡ None → answer w p s ≡ r → effect w p s ≡ placed → Settles placed new → Goes w p s r new
-  done placed new r fits answers leads settles = (fits, sym answers, subst (λ v. Settles v new) (sym leads) settles)
 
 -- An engine that shows `old`, and has this inside.
 module _ {inside old : Machine} (shown : inside ≡ old) (p : ℕ) (s : Step) where
-  -- It did the step.
-  pub does : (new : Machine) (r : Reply) → Goes inside.world p s r new.world → new.pass ≡ inside.pass → new.last_pass ≡ inside.last_pass → Does old p s r new
-  does new r goes pass last = subst (λ (m : Machine). Does m p s r new) shown (goes.0, goes.1, goes.2, (pass, last))
+  abbrev w : World
+  w = inside.world
 
-  -- It did the step, which changed nothing.
-  pub does-nothing : (r : Reply) → Goes inside.world p s r inside.world → Does old p s r old
-  does-nothing r goes = subst (λ (m : Machine). Does m p s r m) shown (goes.0, goes.1, goes.2, (refl, refl))
+  -- No test fits: it did the step, and its store has the changed world, settled.
+  pub does : (new : Shown) (r : Reply) (placed : World) → refusal w p s ≡ None → answer w p s ≡ r → effect w p s ≡ placed → Settles placed new.world → new.pass ≡ inside.pass
+      → Does old p s r (record { world = new.world; pass = new.pass; last_pass = inside.last_pass })
+  does new r placed fits answers leads settles pass =
+      subst (λ (m : Machine). Does m p s r (record { world = new.world; pass = new.pass; last_pass = inside.last_pass })) shown (fits, sym answers, subst (λ v. Settles v new.world) (sym leads) settles, (pass, refl))
 
-  -- It refused the step by an error, which is what it answers.
-  pub refuses : {X : Type 0} (new : Machine) (answered : Result X Errno) (e : Errno) → answered ≡ Err e → step_error inside.world p s ≡ Some e → new ≡ old → IfErr answered (λ e. Refuses old p s e new)
-  refuses new answered e is error same =
-      subst (λ a. IfErr a (λ e. Refuses old p s e new)) (sym is) (subst (λ (m : Machine). step_error m.world p s ≡ Some e) shown error, same)
+  -- No test fits, and the step changes nothing.
+  pub does-nothing : (r : Reply) → refusal w p s ≡ None → answer w p s ≡ r → effect w p s ≡ w → IsSound w → Does old p s r old
+  does-nothing r fits answers leads sound = subst (λ (m : Machine). Does m p s r m) shown (fits, sym answers, subst (λ v. Settles v w) (sym leads) (settles_none w sound.settled), (refl, refl))
+
+  module _ {X : Type 0} (new : Machine) (answered : Result X Errno) (same : new ≡ old) where
+    -- The error that it answers is the one that can come.
+    by-error : (e : Errno) → answered ≡ Err e → step_error w p s ≡ Some e → IfErr answered (λ e. Refuses old p s e new)
+    by-error e is error = subst (λ a. IfErr a (λ e. Refuses old p s e new)) (sym is) (subst (λ (m : Machine). step_error m.world p s ≡ Some e) shown error, same)
+
+    -- A test fits: it refused the step by its error.
+    pub refuses : (e : Errno) → answered ≡ Err e → refusal w p s ≡ Some e → IfErr answered (λ e. Refuses old p s e new)
+    refuses e is fits = by-error e is (ap (λ o. error_of o (needs_no_memory s)) fits)
+
+    -- No test fits, and memory was refused.
+    pub starves : answered ≡ Err ENOMEM → refusal w p s ≡ None → needs_no_memory s ≡ false → IfErr answered (λ e. Refuses old p s e new)
+    starves is fits may = by-error ENOMEM is (ap (λ o. error_of o (needs_no_memory s)) fits ∙ ap (error_of None) may)

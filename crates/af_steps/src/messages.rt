@@ -4,7 +4,7 @@ ghost use Rattle.std.specs.List.{list_any};
 ghost use Rattle.std.specs.FinMap as map;
 ghost use Rattle.af_base.specs.Refusals.{first_fit, peer_of, socket_at};
 ghost use Rattle.af_steps.specs.Outcome.{Does, Refuses, got_reply};
-ghost use Rattle.af_steps.specs.Rows.{parts_row, peer_row, receive_row};
+ghost use Rattle.af_steps.specs.Rows.{on_parts, on_peer, on_receive};
 
 use crate::engine::Engine;
 use af_base::errno::Errno;
@@ -132,8 +132,8 @@ impl Engine {
 
 /// Whether a process may send these bytes with these numbers, or why not.
 fn check_parts(process: &Process, bytes: &[u8], attach: &[Fd]) -> Result<(), Errno>
-    ensures ok { OnOk result (first_fit (parts_row process.now.process bytes.now attach.now) ≡ None) }
-    ensures err { IfErr result (λ e. first_fit (parts_row process.now.process bytes.now attach.now) ≡ Some e) }
+    ensures ok { OnOk result (first_fit (on_parts (map.get process.now.process.table) bytes.now attach.now) ≡ None) }
+    ensures err { IfErr result (λ e. first_fit (on_parts (map.get process.now.process.table) bytes.now attach.now) ≡ Some e) }
 {
     if bytes.is_empty() || attach.len() > SCM_MAX_FD {
         return Err(Errno::EINVAL);
@@ -156,9 +156,9 @@ fn any_free(process: &Process, fds: &[Fd]) -> bool
 
 /// Whom a socket sends to, or why it cannot.
 fn peer_of(socket: &Socket) -> Result<FileRef, Errno>
-    ensures ok { OnOk result (first_fit (peer_row socket.now.state) ≡ None) }
+    ensures ok { OnOk result (first_fit (on_peer socket.now.state) ≡ None) }
     ensures peer { IfOk result (λ peer. peer ≡ peer_of socket.now.state) }
-    ensures err { IfErr result (λ e. first_fit (peer_row socket.now.state) ≡ Some e) }
+    ensures err { IfErr result (λ e. first_fit (on_peer socket.now.state) ≡ Some e) }
 {
     if let Some(peer) = socket.peer() {
         return Ok(peer);
@@ -171,8 +171,8 @@ fn peer_of(socket: &Socket) -> Result<FileRef, Errno>
 
 /// Whether so many bytes can be received from the socket, or why not.
 fn check_receive(socket: &Socket, max_bytes: u32) -> Result<(), Errno>
-    ensures ok { OnOk result (first_fit (receive_row socket.now max_bytes) ≡ None) }
-    ensures err { IfErr result (λ e. first_fit (receive_row socket.now max_bytes) ≡ Some e) }
+    ensures ok { OnOk result (first_fit (on_receive socket.now max_bytes) ≡ None) }
+    ensures err { IfErr result (λ e. first_fit (on_receive socket.now max_bytes) ≡ Some e) }
 {
     if max_bytes == 0 || max_bytes as usize > MAX_BYTES {
         return Err(Errno::EINVAL);

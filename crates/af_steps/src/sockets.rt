@@ -4,7 +4,7 @@ ghost use Rattle.std.specs.List.{list_all};
 ghost use Rattle.af_base.specs.Names.{is_name, is_name_byte};
 ghost use Rattle.af_base.specs.Refusals.{first_fit};
 ghost use Rattle.af_steps.specs.Outcome.{Does, Refuses};
-ghost use Rattle.af_steps.specs.Rows.{accept_row, bind_row, client_row, listen_row, listener_row};
+ghost use Rattle.af_steps.specs.Rows.{on_accept, on_bind, on_client, on_listen, on_listener};
 
 use crate::engine::Engine;
 use af_base::errno::Errno;
@@ -123,8 +123,8 @@ impl Engine {
 
 /// Whether the socket can have this name, or why not.
 fn check_bind(socket: &Socket, name: &[u8]) -> Result<(), Errno>
-    ensures ok { OnOk result (first_fit (bind_row socket.now name.now) ≡ None) }
-    ensures err { IfErr result (λ e. first_fit (bind_row socket.now name.now) ≡ Some e) }
+    ensures ok { OnOk result (first_fit (on_bind socket.now name.now) ≡ None) }
+    ensures err { IfErr result (λ e. first_fit (on_bind socket.now name.now) ≡ Some e) }
 {
     if socket.name().is_some() || !is_idle(socket) || !is_name(name) {
         return Err(Errno::EINVAL);
@@ -134,8 +134,8 @@ fn check_bind(socket: &Socket, name: &[u8]) -> Result<(), Errno>
 
 /// Whether the socket can wait for so many connections, or why not.
 fn check_listen(socket: &Socket, backlog: u32) -> Result<(), Errno>
-    ensures ok { OnOk result (first_fit (listen_row socket.now backlog) ≡ None) }
-    ensures err { IfErr result (λ e. first_fit (listen_row socket.now backlog) ≡ Some e) }
+    ensures ok { OnOk result (first_fit (on_listen socket.now backlog) ≡ None) }
+    ensures err { IfErr result (λ e. first_fit (on_listen socket.now backlog) ≡ Some e) }
 {
     if socket.name().is_none() || !is_idle(socket) || backlog == 0 || backlog > MAX_BACKLOG {
         return Err(Errno::EINVAL);
@@ -145,8 +145,8 @@ fn check_listen(socket: &Socket, backlog: u32) -> Result<(), Errno>
 
 /// Whether the socket can connect, or why not.
 fn check_client(socket: &Socket) -> Result<(), Errno>
-    ensures ok { OnOk result (first_fit (client_row socket.now) ≡ None) }
-    ensures err { IfErr result (λ e. first_fit (client_row socket.now) ≡ Some e) }
+    ensures ok { OnOk result (first_fit (on_client socket.now.state) ≡ None) }
+    ensures err { IfErr result (λ e. first_fit (on_client socket.now.state) ≡ Some e) }
 {
     match socket.state() {
         State::Idle => Ok(()),
@@ -157,8 +157,8 @@ fn check_client(socket: &Socket) -> Result<(), Errno>
 
 /// Whether a socket of this type can connect to that one, or why not.
 fn check_listener(socket: &Socket, kind: SockType) -> Result<(), Errno>
-    ensures ok { OnOk result (first_fit (listener_row socket.now kind) ≡ None) }
-    ensures err { IfErr result (λ e. first_fit (listener_row socket.now kind) ≡ Some e) }
+    ensures ok { OnOk result (first_fit (on_listener socket.now kind) ≡ None) }
+    ensures err { IfErr result (λ e. first_fit (on_listener socket.now kind) ≡ Some e) }
 {
     let State::Listening(most) = socket.state() else {
         return Err(Errno::ECONNREFUSED);
@@ -174,8 +174,8 @@ fn check_listener(socket: &Socket, kind: SockType) -> Result<(), Errno>
 
 /// Whether somebody waits at the socket to be accepted, or why not.
 fn check_accept(socket: &Socket) -> Result<(), Errno>
-    ensures ok { OnOk result (first_fit (accept_row socket.now) ≡ None) }
-    ensures err { IfErr result (λ e. first_fit (accept_row socket.now) ≡ Some e) }
+    ensures ok { OnOk result (first_fit (on_accept socket.now) ≡ None) }
+    ensures err { IfErr result (λ e. first_fit (on_accept socket.now) ≡ Some e) }
 {
     let State::Listening(_) = socket.state() else {
         return Err(Errno::EINVAL);

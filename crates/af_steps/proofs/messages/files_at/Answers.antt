@@ -1,9 +1,23 @@
-use Rattle.std.proofs.Common.{rules, ◌≡◌, length, ap, ◌∙◌, arith}
-use Rattle.std.specs.Prelude.{Some, None}
+use Rattle.std.proofs.Common.{rules, ◌≡◌, ◌<◌, ℕ, ◌+◌, List, [], ◌∷◌, ◌++◌, length, take, filter_map, append-nil, sym, ap, ◌∙◌, arith}
+use Rattle.std.specs.Prelude.{Option, Some, None, slice_index_or}
 use Rattle.std.specs.FinMap as map
-use Rattle.std.proofs.lemmas.List.{length-append}
-use Rattle.af_steps.proofs.Looked.{looked-more, looked-free}
+use Rattle.std.specs.List.{cons_option}
+use Rattle.std.proofs.lemmas.List.{length-append, take_more}
+use Rattle.std.proofs.lemmas.List.Elements.{filter_map-append}
 use Rattle.af_steps.proofs.messages.files_at.Goals as goal
+
+module _ (g : ℕ → Option ℕ) (xs : List ℕ) (i x : ℕ) (within : i < length xs) (is : x ≡ slice_index_or xs i x) where
+  -- One number more is looked up.
+  one : (o : Option ℕ) → g x ≡ o → filter_map g (take (i + 1) xs) ≡ filter_map g (take i xs) ++ cons_option o []
+  one o e = ap (filter_map g) (take_more xs i x within ∙ ap (λ y. take i xs ++ y ∷ []) (sym is)) ∙ filter_map-append g (take i xs) (x ∷ []) ∙ ap (λ r. filter_map g (take i xs) ++ cons_option r []) e
+
+  -- It stands for a file.
+  looked-more : (fs now : List ℕ) (f : ℕ) → g x ≡ Some f → fs ≡ filter_map g (take i xs) → now ≡ fs ++ f ∷ [] → now ≡ filter_map g (take (i + 1) xs)
+  looked-more fs now f e before after = after ∙ ap (λ ys. ys ++ f ∷ []) before ∙ sym (one (Some f) e)
+
+  -- It is free.
+  looked-free : (fs : List ℕ) → g x ≡ None → fs ≡ filter_map g (take i xs) → fs ≡ filter_map g (take (i + 1) xs)
+  looked-free fs e before = before ∙ sym (append-nil (filter_map g (take i xs))) ∙ sym (one None e)
 
 pub loop-fd-preserved : goal.loop-fd-preserved
 loop-fd-preserved c =

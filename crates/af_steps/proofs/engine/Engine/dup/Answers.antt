@@ -1,53 +1,22 @@
-use Rattle.std.proofs.Common.{rules, ◌≡◌, ◌∙◌, sym, ap, subst, arith}
-use Rattle.std.specs.Prelude.{Some, slice_get}
-use Rattle.std.specs.FinMap as map
-use Rattle.af_base.specs.Table.{free_numbers}
+use Rattle.std.proofs.Common.{rules, sym, ap, subst, arith}
 use Rattle.af_base.specs.World.{IsLive, World}
 use Rattle.af_pass.specs.Keeping.{Spares}
-use Rattle.af_steps.proofs.Numbers.{least-low, not-open, on_table, room-below, same-free, same-limit}
+use Rattle.af_steps.proofs.Found.{HasNumber, below-limit, held, in-same, is-free, is-there, room-below}
+use Rattle.af_steps.proofs.Numbers.{IsLowest, least-low, not-open}
 use Rattle.af_steps.proofs.engine.Engine.dup.Goals as goal
 
-pub table_in-requires-clause-row : goal.table_in-requires-clause-row
-table_in-requires-clause-row c =
-    let w = c.self.inside.store.world in
-    let p = c.args.pid in
-    let q = c.in_ok-process.process.now.process in
-    let at : map.get w.processes p ≡ Some q = search rules in
-    let least : slice_get (free_numbers q) 0 ≡ Some c.in_ok-fd.fd = search rules in
-    room-below w p q at c.in_ok-fd.fd _ (least-low w p q at c.in_ok-fd.fd least) (c.in_ok-room_for.ensures.row (omega arith))
-
-pub table_in-requires-clause-limit : goal.table_in-requires-clause-limit
-table_in-requires-clause-limit c =
-    let w = c.self.inside.store.world in
-    let p = c.args.pid in
-    let q = c.in_ok-process.process.now.process in
-    let at : map.get w.processes p ≡ Some q = search rules in
-    let least : slice_get (free_numbers q) 0 ≡ Some c.in_ok-fd.fd = search rules in
-    same-limit w p q at c.room_for.new.self.world (ap (λ (v : World). v.processes) c.room_for.ensures.world) c.in_ok-fd.fd (least-low w p q at c.in_ok-fd.fd least)
-
-pub table_in-requires-clause-free : goal.table_in-requires-clause-free
-table_in-requires-clause-free c =
-    let w = c.self.inside.store.world in
-    let p = c.args.pid in
-    let q = c.in_ok-process.process.now.process in
-    let at : map.get w.processes p ≡ Some q = search rules in
-    let least : slice_get (free_numbers q) 0 ≡ Some c.in_ok-fd.fd = search rules in
-    same-free w p q at c.room_for.new.self.world (ap (λ (v : World). v.processes) c.room_for.ensures.world) c.in_ok-fd.fd (not-open w p q at c.in_ok-fd.fd least)
-
-pub table_in-requires-clause-live : goal.table_in-requires-clause-live
-table_in-requires-clause-live c =
-    let w = c.self.inside.store.world in
-    let p = c.args.pid in
-    let q = c.in_ok-process.process.now.process in
-    let at : map.get w.processes p ≡ Some q = search rules in
-    let stands : map.get q.table c.args.from ≡ Some c.in_ok-file.file = search rules in
-    subst (λ v. IsLive v c.in_ok-file.file) (sym c.room_for.ensures.world) (c.self.invariant.0.whole.tables_live c.in_ok-file.file (p, c.args.from, on_table w p q at c.args.from ∙ stands))
-
-pub table_in-requires-clause-spared : goal.table_in-requires-clause-spared
-table_in-requires-clause-spared c =
-    let w = c.self.inside.store.world in
-    let p = c.args.pid in
-    let q = c.in_ok-process.process.now.process in
-    let at : map.get w.processes p ≡ Some q = search rules in
-    let stands : map.get q.table c.args.from ≡ Some c.in_ok-file.file = search rules in
-    subst (λ s. Spares s c.in_ok-file.file) (sym c.room_for.ensures.pass) (c.is_spared.ensures c.in_ok-file.file (p, c.args.from, on_table w p q at c.args.from ∙ stands))
+pub table_in-requires : goal.table_in-requires
+table_in-requires c =
+    let fd = c.in_ok-fd.fd in
+    let f = c.in_ok-file.file in
+    let has : HasNumber c.self.inside.store.world c.args.pid c.in_ok-process.process.now.process c.args.from f = record { process = record { there = search rules }; stands = search rules } in
+    let least : IsLowest c.in_ok-process.process.now.process fd = record { read = search rules } in
+    let made = in-same has.process c.room_for.new.self.world (ap (λ (v : World). v.processes) c.room_for.ensures.world) in
+    record {
+      there = is-there made;
+      row = room-below has.process fd _ (least-low least) (c.in_ok-room_for.ensures.row (omega arith));
+      limit = below-limit made fd (least-low least);
+      free = is-free made fd (not-open least);
+      live = subst (λ v. IsLive v f) (sym c.room_for.ensures.world) (c.self.invariant.0.whole.tables_live f (held has));
+      spared = subst (λ s. Spares s f) (sym c.room_for.ensures.pass) (c.is_spared.ensures f (held has));
+    }

@@ -1,96 +1,68 @@
-use Rattle.std.proofs.Common.{rules, ◌≡◌, ◌<◌, false, true, nat_eq, refl, sym, ap, subst, ◌∙◌, arith}
-use Rattle.std.specs.Prelude.{Some}
-use Rattle.std.specs.FinMap as map
+use Rattle.std.proofs.Common.{rules, ◌≡◌, ◌<◌, false, true, not, ◌&&◌, ◌∷◌, [], nat_eq, refl, sym, ap, subst, ◌∙◌, arith}
+use Rattle.std.specs.Prelude.{nat_le, if◌then◌else◌}
+use Rattle.std.proofs.lemmas.Bool.{lt-leb}
+use Rattle.af_base.specs.declared.errno.Errno.TheVariants.{EBADF}
 use Rattle.af_base.specs.declared.events.Reply.TheVariants as reply
 use Rattle.af_base.specs.declared.events.Step.TheVariants as step
-use Rattle.af_base.specs.World.{IsLive, World}
 use Rattle.af_base.specs.Changes.{install, uninstall}
+use Rattle.af_base.specs.Refusals.{first_fit, ino_on, refusal}
+use Rattle.af_base.specs.World.{IsLive, World}
 use Rattle.af_collect.specs.Shown.{Shown}
 use Rattle.af_pass.specs.Keeping.{Spares}
-use Rattle.af_steps.proofs.Numbers.{moved-done, on_table, same-done, same-free, same-limit, same-there}
-use Rattle.af_steps.proofs.Untabled.{install-uninstalled, less, less-at, less-free}
+use Rattle.af_steps.specs.Rows.{on_place}
+use Rattle.af_steps.proofs.Found.{HasNumber, after-number, below-limit, held, in-same, ino-is, is-free, is-there}
+use Rattle.af_steps.proofs.Untabled.{has-less, install-uninstalled, less-free}
 use Rattle.af_steps.proofs.Outcomes.{does, does-nothing}
+use Rattle.af_steps.proofs.engine.Engine.dup2.Goals.{In_ok-file}
 use Rattle.af_steps.proofs.engine.Engine.dup2.Goals as goal
+
+-- What was looked up.
+has : (c : In_ok-file) → HasNumber c.self.inside.store.world c.args.pid c.in_ok-process.process.now.process c.args.from c.in_ok-file.file
+has c = record { process = record { there = search rules }; stands = search rules }
+
+-- What is left of the row.
+row : (c : In_ok-file) → refusal c.self.inside.store.world c.args.pid (step.Dup2 c.args.from c.args.to) ≡ first_fit (on_place c.in_ok-process.process.now.process c.args.from c.args.to)
+row c = after-number (has c) (λ q. on_place q c.args.from c.args.to)
 
 pub returns-then-eq-clause-done : goal.returns-then-eq-clause-done
 returns-then-eq-clause-done c =
     let w = c.self.inside.store.world in
     let p = c.args.pid in
     let q = c.in_ok-process.process.now.process in
-    let at : map.get w.processes p ≡ Some q = search rules in
-    let stands : map.get q.table c.args.from ≡ Some c.in_ok-file.file = search rules in
     let same : nat_eq c.args.to c.args.from ≡ true = search rules in
-    does-nothing c.self.view_is p (step.Dup2 c.args.from c.args.to) (reply.Fd c.args.to) (same-done w p q at c.args.from c.args.to c.in_ok-file.file stands c.self.invariant.0 same)
+    let fits = row (goal.at.returns-then-eq-clause-done c).In_ok-file ∙ ap (λ b. first_fit ((not b && nat_le q.limit c.args.to, EBADF) ∷ [])) same in
+    does-nothing c.self.view_is p (step.Dup2 c.args.from c.args.to) (reply.Fd c.args.to) fits refl (ap (λ b. if b then w else install w p c.args.to (ino_on w p c.args.from)) same) c.self.invariant.0
 
-pub table_in-requires-clause-there : goal.table_in-requires-clause-there
-table_in-requires-clause-there c =
-    let w = c.self.inside.store.world in
-    let p = c.args.pid in
-    let q = c.in_ok-process.process.now.process in
-    let at : map.get w.processes p ≡ Some q = search rules in
-    let v = c.vacate.new.store.world in
-    let vacant : v ≡ uninstall w p c.args.to = ap (λ (s : Shown). s.world) c.vacate.ensures ∙ ap (λ x. uninstall x p c.args.to) c.room_for.ensures.world in
-    let same = ap (λ (x : World). x.processes) vacant in
-    same-there (uninstall w p c.args.to) p (less w p c.args.to q at) (less-at w p c.args.to q at) v same
-
-pub table_in-requires-clause-limit : goal.table_in-requires-clause-limit
-table_in-requires-clause-limit c =
-    let w = c.self.inside.store.world in
-    let p = c.args.pid in
-    let q = c.in_ok-process.process.now.process in
-    let at : map.get w.processes p ≡ Some q = search rules in
-    let v = c.vacate.new.store.world in
-    let vacant : v ≡ uninstall w p c.args.to = ap (λ (s : Shown). s.world) c.vacate.ensures ∙ ap (λ x. uninstall x p c.args.to) c.room_for.ensures.world in
-    let same = ap (λ (x : World). x.processes) vacant in
-    let low : c.args.to < q.limit = omega (arith, c.if-to-limit.false, c.limit.ensures.value) in
-    same-limit (uninstall w p c.args.to) p (less w p c.args.to q at) (less-at w p c.args.to q at) v same c.args.to low
-
-pub table_in-requires-clause-free : goal.table_in-requires-clause-free
-table_in-requires-clause-free c =
-    let w = c.self.inside.store.world in
-    let p = c.args.pid in
-    let q = c.in_ok-process.process.now.process in
-    let at : map.get w.processes p ≡ Some q = search rules in
-    let v = c.vacate.new.store.world in
-    let vacant : v ≡ uninstall w p c.args.to = ap (λ (s : Shown). s.world) c.vacate.ensures ∙ ap (λ x. uninstall x p c.args.to) c.room_for.ensures.world in
-    let same = ap (λ (x : World). x.processes) vacant in
-    same-free (uninstall w p c.args.to) p (less w p c.args.to q at) (less-at w p c.args.to q at) v same c.args.to (less-free w p c.args.to q at)
-
-pub table_in-requires-clause-live : goal.table_in-requires-clause-live
-table_in-requires-clause-live c =
-    let w = c.self.inside.store.world in
-    let p = c.args.pid in
-    let q = c.in_ok-process.process.now.process in
-    let at : map.get w.processes p ≡ Some q = search rules in
-    let v = c.vacate.new.store.world in
-    let vacant : v ≡ uninstall w p c.args.to = ap (λ (s : Shown). s.world) c.vacate.ensures ∙ ap (λ x. uninstall x p c.args.to) c.room_for.ensures.world in
-    let same = ap (λ (x : World). x.processes) vacant in
-    let stands : map.get q.table c.args.from ≡ Some c.in_ok-file.file = search rules in
-    subst (λ x. IsLive x c.in_ok-file.file) (sym vacant) (c.self.invariant.0.whole.tables_live c.in_ok-file.file (p, c.args.from, on_table w p q at c.args.from ∙ stands))
+pub table_in-requires : goal.table_in-requires
+table_in-requires c =
+    let f = c.in_ok-file.file in
+    let to = c.args.to in
+    let found = has (goal.at.table_in-requires c).In_ok-file in
+    let vacant : c.vacate.new.store.world ≡ uninstall c.self.inside.store.world c.args.pid to = ap (λ (s : Shown). s.world) c.vacate.ensures ∙ ap (λ v. uninstall v c.args.pid to) c.room_for.ensures.world in
+    let less = in-same (has-less found.process to) c.vacate.new.store.world (ap (λ (v : World). v.processes) vacant) in
+    record {
+      there = is-there less;
+      row = search rules;
+      limit = below-limit less to (omega (arith, c.if-to-limit.false, c.limit.ensures.value));
+      free = is-free less to (less-free found.process to);
+      live = subst (λ v. IsLive v f) (sym vacant) (c.self.invariant.0.whole.tables_live f (held found));
+      spared = subst (λ s. Spares s f) (sym (ap (λ (s : Shown). s.pass) c.vacate.ensures ∙ c.room_for.ensures.pass)) (c.is_spared.ensures f (held found));
+    }
 
 pub returns-clause-done : goal.returns-clause-done
 returns-clause-done c =
     let w = c.self.inside.store.world in
     let p = c.args.pid in
     let q = c.in_ok-process.process.now.process in
-    let at : map.get w.processes p ≡ Some q = search rules in
-    let stands : map.get q.table c.args.from ≡ Some c.in_ok-file.file = search rules in
-    let other : nat_eq c.args.to c.args.from ≡ false = search rules in
-    let low : c.args.to < q.limit = omega (arith, c.if-to-limit.false, c.limit.ensures.value) in
-    let v = c.room_for.new.self.world in
-    let there : map.get v.processes p ≡ Some q = ap (λ (x : World). map.get x.processes p) c.room_for.ensures.world ∙ at in
-    let placed : c.table_in.new.self.world ≡ install v p c.args.to c.in_ok-file.file =
-    ap (λ (s : Shown). s.world) c.table_in.ensures ∙ ap (λ (s : Shown). install s.world p c.args.to c.in_ok-file.file) c.vacate.ensures ∙ install-uninstalled v p c.args.to q there c.in_ok-file.file in
-    let moved = moved-done w p q at c.args.from c.args.to c.in_ok-file.file stands other low v c.table_in.new.self.world c.release.new.self.world c.room_for.ensures.world placed c.release.ensures.settles in
-    let runs_on = c.release.ensures.pass ∙ ap (λ (s : Shown). s.pass) c.table_in.ensures ∙ ap (λ (s : Shown). s.pass) c.vacate.ensures ∙ c.room_for.ensures.pass in
-    does c.self.view_is p (step.Dup2 c.args.from c.args.to) (record { world = c.release.new.self.world; pass = c.release.new.self.pass; last_pass = c.self.inside.last_pass }) (reply.Fd c.args.to) moved runs_on refl
-
-pub table_in-requires-clause-spared : goal.table_in-requires-clause-spared
-table_in-requires-clause-spared c =
-    let w = c.self.inside.store.world in
-    let p = c.args.pid in
-    let q = c.in_ok-process.process.now.process in
-    let at : map.get w.processes p ≡ Some q = search rules in
-    let stands : map.get q.table c.args.from ≡ Some c.in_ok-file.file = search rules in
-    let same = ap (λ (s : Shown). s.pass) c.vacate.ensures ∙ c.room_for.ensures.pass in
-    subst (λ s. Spares s c.in_ok-file.file) (sym same) (c.is_spared.ensures c.in_ok-file.file (p, c.args.from, on_table w p q at c.args.from ∙ stands))
+    let f = c.in_ok-file.file in
+    let to = c.args.to in
+    let at = (goal.at.returns-clause-done c).In_ok-file in
+    let found = has at in
+    let other : nat_eq to c.args.from ≡ false = search rules in
+    let low : to < q.limit = omega (arith, c.if-to-limit.false, c.limit.ensures.value) in
+    let fits = row at ∙ (λ i. first_fit ((not (other i) && lt-leb q.limit to low i, EBADF) ∷ [])) in
+    let placed : c.table_in.new.self.world ≡ install w p to f =
+    ap (λ (s : Shown). s.world) c.table_in.ensures ∙ ap (λ (s : Shown). install s.world p to f) c.vacate.ensures ∙ ap (λ v. install (uninstall v p to) p to f) c.room_for.ensures.world ∙ install-uninstalled found.process to f in
+    let leads = ap (λ b. if b then w else install w p to (ino_on w p c.args.from)) other ∙ ap (install w p to) (ino-is found) ∙ sym placed in
+    let pass = c.release.ensures.pass ∙ ap (λ (s : Shown). s.pass) c.table_in.ensures ∙ ap (λ (s : Shown). s.pass) c.vacate.ensures ∙ c.room_for.ensures.pass in
+    does c.self.view_is p (step.Dup2 c.args.from to) c.release.new.self (reply.Fd to) c.table_in.new.self.world fits refl leads c.release.ensures.settles pass

@@ -1,156 +1,68 @@
-use Rattle.std.proofs.Common.{rules, ◌≡◌, ◌∷◌, [], refl, sym, ap, subst, ◌∙◌, arith}
-use Rattle.std.specs.Prelude.{Some}
+use Rattle.std.proofs.Common.{rules, ◌≡◌, ◌+◌, ◌∷◌, [], ◌∙◌, sym, ap, subst, arith}
 use Rattle.std.specs.FinMap as map
-use Rattle.af_base.specs.Steps.{with_pair}
+use Rattle.af_base.specs.Changes.{add_file}
+use Rattle.af_base.specs.Steps.{connected_socket}
 use Rattle.af_base.specs.Table.{lowest_free}
-use Rattle.af_base.specs.World.{IsLive, World}
+use Rattle.af_base.specs.World.{AsSocket, IsLive, Process, World}
+use Rattle.af_base.proofs.Free.{AreFree, first-free, first-low, free-lowest_free, rest-free}
 use Rattle.af_base.proofs.Moved.{there-install}
 use Rattle.af_collect.specs.Shown.{Shown, room_at}
-use Rattle.af_steps.proofs.Made.{first-live, second-live}
-use Rattle.af_steps.proofs.Numbers.{room-below, same-free, same-limit, same-there}
-use Rattle.af_steps.proofs.Paired.{both-lowest, first-below, first-free, second-below, second-left}
+use Rattle.af_pass.specs.Keeping.{Spares}
+use Rattle.af_steps.proofs.Found.{HasProcess, below-limit, in-same, is-free, is-there, room-below}
+use Rattle.af_steps.proofs.Made.{added-live, first-live}
+use Rattle.af_steps.proofs.engine.Engine.pair.Goals.{After-table_in-arg-1}
 use Rattle.af_steps.proofs.engine.Engine.pair.Goals as goal
 
-pub table_in-requires-clause-row : goal.table_in-requires-clause-row
-table_in-requires-clause-row c =
-    let w = c.self.inside.store.world in
-    let p = c.args.pid in
+-- The process, and its two lowest free numbers.
+has : (c : After-table_in-arg-1) → HasProcess c.self.inside.store.world c.args.pid c.in_ok-process.process.now.process × AreFree c.in_ok-process.process.now.process (c.in_ok-lower.lower ∷ c.in_ok-lower.higher ∷ [])
+has c =
     let q = c.in_ok-process.process.now.process in
-    let at : map.get w.processes p ≡ Some q = search rules in
+    let lowest : lowest_free 2 q ≡ c.in_ok-lower.lower ∷ c.in_ok-lower.higher ∷ [] = search rules in
+    (record { there = search rules }, subst (AreFree q) lowest (free-lowest_free 2 q))
+
+-- The process is there when both sockets were made.
+made : (c : After-table_in-arg-1) → HasProcess c.make_two.new.self.world c.args.pid c.in_ok-process.process.now.process
+made c = in-same (has c).0 c.make_two.new.self.world (ap (λ (s : Shown). s.world.processes) c.in_ok-first.ensures.ok ∙ ap (λ (v : World). v.processes) c.room_for.ensures.world)
+
+pub table_in-requires : goal.table_in-requires
+table_in-requires c =
+    let q = c.in_ok-process.process.now.process in
+    let n = c.in_ok-lower.lower in
+    let others = c.in_ok-lower.higher ∷ [] in
+    let found = has c in
+    let below = first-low q n others found.1 in
+    let kept = ap (λ (s : Shown). room_at s c.args.pid) c.in_ok-first.ensures.ok in
+    let low = room-below found.0 n _ below (c.in_ok-room_for.ensures.row (omega arith)) in
+    record {
+      there = is-there (made c);
+      row = omega (arith, low, kept);
+      limit = below-limit (made c) n below;
+      free = is-free (made c) n (first-free q n others found.1);
+      live = first-live c.room_for.new.self.world c.args.kind c.make_two.new.self.world c.in_ok-first.first (ap (λ (s : Shown). s.world) c.in_ok-first.ensures.ok) c.in_ok-first.ensures.inos.0;
+      spared = c.in_ok-first.ensures.spared.0;
+    }
+
+pub table_in-requires-2 : goal.table_in-requires-2
+table_in-requires-2 c =
+    let q = c.in_ok-process.process.now.process in
     let n = c.in_ok-lower.lower in
     let m = c.in_ok-lower.higher in
-    let lowest : lowest_free 2 q ≡ n ∷ m ∷ [] = search rules in
-    let two = both-lowest q n m lowest in
-    let row = c.in_ok-room_for.ensures.row (omega arith) in
-    let low = room-below w p q at n _ (first-below w p c.args.kind q n m at two) row in
-    let kept = ap (λ (s : Shown). room_at s p) c.in_ok-first.ensures.ok in
-    omega (arith, low, kept)
-
-pub table_in-requires-clause-limit : goal.table_in-requires-clause-limit
-table_in-requires-clause-limit c =
-    let w = c.self.inside.store.world in
-    let p = c.args.pid in
-    let q = c.in_ok-process.process.now.process in
-    let at : map.get w.processes p ≡ Some q = search rules in
-    let n = c.in_ok-lower.lower in
-    let m = c.in_ok-lower.higher in
-    let lowest : lowest_free 2 q ≡ n ∷ m ∷ [] = search rules in
-    let two = both-lowest q n m lowest in
-    let v = c.make_two.new.self.world in
-    let f = c.in_ok-first.first in
-    let is = ap (λ (s : Shown). s.world) c.in_ok-first.ensures.ok in
-    let same = ap (λ (x : World). x.processes) (is ∙ ap (λ x. with_pair x c.args.kind) c.room_for.ensures.world) in
-    same-limit w p q at v same n (first-below w p c.args.kind q n m at two)
-
-pub table_in-requires-clause-free : goal.table_in-requires-clause-free
-table_in-requires-clause-free c =
-    let w = c.self.inside.store.world in
-    let p = c.args.pid in
-    let q = c.in_ok-process.process.now.process in
-    let at : map.get w.processes p ≡ Some q = search rules in
-    let n = c.in_ok-lower.lower in
-    let m = c.in_ok-lower.higher in
-    let lowest : lowest_free 2 q ≡ n ∷ m ∷ [] = search rules in
-    let two = both-lowest q n m lowest in
-    let v = c.make_two.new.self.world in
-    let f = c.in_ok-first.first in
-    let is = ap (λ (s : Shown). s.world) c.in_ok-first.ensures.ok in
-    let same = ap (λ (x : World). x.processes) (is ∙ ap (λ x. with_pair x c.args.kind) c.room_for.ensures.world) in
-    same-free w p q at v same n (first-free w p c.args.kind q n m at two)
-
-pub table_in-requires-clause-live : goal.table_in-requires-clause-live
-table_in-requires-clause-live c =
-    let w = c.self.inside.store.world in
-    let p = c.args.pid in
-    let q = c.in_ok-process.process.now.process in
-    let at : map.get w.processes p ≡ Some q = search rules in
-    let v = c.make_two.new.self.world in
-    let f = c.in_ok-first.first in
-    let is = ap (λ (s : Shown). s.world) c.in_ok-first.ensures.ok in
-    let same = ap (λ (x : World). x.processes) (is ∙ ap (λ x. with_pair x c.args.kind) c.room_for.ensures.world) in
-    first-live c.room_for.new.self.world c.args.kind v f is c.in_ok-first.ensures.inos.0
-
-pub table_in-requires-2-clause-there : goal.table_in-requires-2-clause-there
-table_in-requires-2-clause-there c =
-    let w = c.self.inside.store.world in
-    let p = c.args.pid in
-    let q = c.in_ok-process.process.now.process in
-    let at : map.get w.processes p ≡ Some q = search rules in
-    let n = c.in_ok-lower.lower in
-    let m = c.in_ok-lower.higher in
-    let lowest : lowest_free 2 q ≡ n ∷ m ∷ [] = search rules in
-    let two = both-lowest q n m lowest in
-    let v = c.make_two.new.self.world in
-    let f = c.in_ok-first.first in
-    let is = ap (λ (s : Shown). s.world) c.in_ok-first.ensures.ok in
-    let same = ap (λ (x : World). x.processes) (is ∙ ap (λ x. with_pair x c.args.kind) c.room_for.ensures.world) in
-    let u = c.table_in.new.self.world in
+    let before = (goal.at.table_in-requires-2 c).After-table_in-arg-1 in
+    let found = has before in
     let put = ap (λ (s : Shown). s.world) c.table_in.ensures in
-    let there = ap (λ (x : World). map.get x.processes p) put ∙ there-install v p n f q (ap (λ ps. map.get ps p) same ∙ at) in
-    same-there u p (record q { table = map.insert q.table n f }) there u refl
-
-pub table_in-requires-2-clause-row : goal.table_in-requires-2-clause-row
-table_in-requires-2-clause-row c =
-    let w = c.self.inside.store.world in
-    let p = c.args.pid in
-    let q = c.in_ok-process.process.now.process in
-    let at : map.get w.processes p ≡ Some q = search rules in
-    let n = c.in_ok-lower.lower in
-    let m = c.in_ok-lower.higher in
-    let lowest : lowest_free 2 q ≡ n ∷ m ∷ [] = search rules in
-    let two = both-lowest q n m lowest in
-    let row = c.in_ok-room_for.ensures.row (omega arith) in
-    let low = room-below w p q at m _ (second-below w p c.args.kind q n m at two) row in
-    let kept = ap (λ (s : Shown). room_at s p) c.table_in.ensures ∙ ap (λ (s : Shown). room_at s p) c.in_ok-first.ensures.ok in
-    omega (arith, low, kept)
-
-pub table_in-requires-2-clause-limit : goal.table_in-requires-2-clause-limit
-table_in-requires-2-clause-limit c =
-    let w = c.self.inside.store.world in
-    let p = c.args.pid in
-    let q = c.in_ok-process.process.now.process in
-    let at : map.get w.processes p ≡ Some q = search rules in
-    let n = c.in_ok-lower.lower in
-    let m = c.in_ok-lower.higher in
-    let lowest : lowest_free 2 q ≡ n ∷ m ∷ [] = search rules in
-    let two = both-lowest q n m lowest in
-    let v = c.make_two.new.self.world in
-    let f = c.in_ok-first.first in
-    let is = ap (λ (s : Shown). s.world) c.in_ok-first.ensures.ok in
-    let same = ap (λ (x : World). x.processes) (is ∙ ap (λ x. with_pair x c.args.kind) c.room_for.ensures.world) in
-    let u = c.table_in.new.self.world in
-    let put = ap (λ (s : Shown). s.world) c.table_in.ensures in
-    let there = ap (λ (x : World). map.get x.processes p) put ∙ there-install v p n f q (ap (λ ps. map.get ps p) same ∙ at) in
-    same-limit u p (record q { table = map.insert q.table n f }) there u refl m (second-below w p c.args.kind q n m at two)
-
-pub table_in-requires-2-clause-free : goal.table_in-requires-2-clause-free
-table_in-requires-2-clause-free c =
-    let w = c.self.inside.store.world in
-    let p = c.args.pid in
-    let q = c.in_ok-process.process.now.process in
-    let at : map.get w.processes p ≡ Some q = search rules in
-    let n = c.in_ok-lower.lower in
-    let m = c.in_ok-lower.higher in
-    let lowest : lowest_free 2 q ≡ n ∷ m ∷ [] = search rules in
-    let two = both-lowest q n m lowest in
-    let v = c.make_two.new.self.world in
-    let f = c.in_ok-first.first in
-    let is = ap (λ (s : Shown). s.world) c.in_ok-first.ensures.ok in
-    let same = ap (λ (x : World). x.processes) (is ∙ ap (λ x. with_pair x c.args.kind) c.room_for.ensures.world) in
-    let u = c.table_in.new.self.world in
-    let put = ap (λ (s : Shown). s.world) c.table_in.ensures in
-    let there = ap (λ (x : World). map.get x.processes p) put ∙ there-install v p n f q (ap (λ ps. map.get ps p) same ∙ at) in
-    same-free u p (record q { table = map.insert q.table n f }) there u refl m (second-left w p c.args.kind q n m at two f)
-
-pub table_in-requires-2-clause-live : goal.table_in-requires-2-clause-live
-table_in-requires-2-clause-live c =
-    let w = c.self.inside.store.world in
-    let p = c.args.pid in
-    let q = c.in_ok-process.process.now.process in
-    let at : map.get w.processes p ≡ Some q = search rules in
-    let v = c.make_two.new.self.world in
-    let f = c.in_ok-first.first in
-    let is = ap (λ (s : Shown). s.world) c.in_ok-first.ensures.ok in
-    let same = ap (λ (x : World). x.processes) (is ∙ ap (λ x. with_pair x c.args.kind) c.room_for.ensures.world) in
-    let put = ap (λ (s : Shown). s.world) c.table_in.ensures in
-    subst (λ x. IsLive x c.in_ok-first.second) (sym put) (second-live c.room_for.new.self.world c.args.kind v c.in_ok-first.second is c.in_ok-first.ensures.inos.1)
+    let v = c.room_for.new.self.world in
+    let with_first = add_file v (AsSocket (connected_socket c.args.kind (v.next_ino + 1))) in
+    let with_one : Process = record q { table = map.insert q.table n c.in_ok-first.first } in
+    let left = rest-free q n (m ∷ []) c.in_ok-first.first found.1 in
+    let below = first-low with_one m [] left in
+    let one : HasProcess c.table_in.new.self.world c.args.pid with_one = record { there = ap (λ (v : World). map.get v.processes c.args.pid) put ∙ there-install c.make_two.new.self.world c.args.pid n c.in_ok-first.first q (made before).there } in
+    let kept = ap (λ (s : Shown). room_at s c.args.pid) c.table_in.ensures ∙ ap (λ (s : Shown). room_at s c.args.pid) c.in_ok-first.ensures.ok in
+    let low = room-below found.0 m _ below (c.in_ok-room_for.ensures.row (omega arith)) in
+    record {
+      there = is-there one;
+      row = omega (arith, low, kept);
+      limit = below-limit one m below;
+      free = is-free one m (first-free with_one m [] left);
+      live = subst (λ v. IsLive v c.in_ok-first.second) (sym put) (added-live with_first (AsSocket (connected_socket c.args.kind v.next_ino)) c.make_two.new.self.world c.in_ok-first.second (ap (λ (s : Shown). s.world) c.in_ok-first.ensures.ok) c.in_ok-first.ensures.inos.1);
+      spared = subst (λ (s : Shown). Spares s.pass c.in_ok-first.second) (sym c.table_in.ensures) c.in_ok-first.ensures.spared.1;
+    }

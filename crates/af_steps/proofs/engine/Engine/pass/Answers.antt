@@ -1,8 +1,15 @@
-use Rattle.std.proofs.Common.{◌≡◌, ap, subst, sym, ◌∙◌}
+use Rattle.std.proofs.Common.{◌≡◌, false, ap, subst, sym, ◌∙◌}
+use Rattle.std.proofs.lemmas.Bool.{false≢true}
+use Rattle.af_base.specs.declared.events.Reply.{Reply}
 use Rattle.af_base.specs.declared.events.Reply.TheVariants as reply
-use Rattle.af_base.specs.Pass.{Machine, PassesWhole, next_pass}
-use Rattle.af_steps.proofs.Collecting.{pass_done}
+use Rattle.af_base.specs.Pass.{Idle, Machine, Pass, Passes, PassesWhole, Running, next_pass}
+use Rattle.af_pass.specs.Keeping.{runs}
 use Rattle.af_steps.proofs.engine.Engine.pass.Goals as goal
+
+-- Where no pass runs, one is made whole.
+pass_done : (p : Pass) (old new : Machine) (r : Reply) → runs p ≡ false → Passes old.world (next_pass old.last_pass) r new.world → new.pass ≡ Idle → new.last_pass ≡ next_pass old.last_pass → PassesWhole p old r new
+pass_done Idle old new r e passes idle last = (passes, idle, last)
+pass_done (Running begun spent) old new r e passes idle last = absurd (false≢true (sym e))
 
 pub returns-clause-done : goal.returns-clause-done
 returns-clause-done c =

@@ -1,0 +1,120 @@
+-- What an event has looked up, and what of its row is left then.
+use Rattle.std.proofs.Common.{◌≡◌, ◌<◌, ◌≤◌, ℕ, Bool, true, false, [], ◌∷◌, ◌++◌, refl, sym, ap, ◌∙◌, subst, arith}
+use Rattle.std.specs.Prelude.{Option, Some, None, IsTrue, is_some, not, unwrap_or, if◌then◌else◌}
+use Rattle.std.specs.FinMap as map
+use Rattle.std.specs.Option.{option_and_then, option_map_or, option_or}
+use Rattle.af_base.specs.declared.errno.Errno.{Errno}
+use Rattle.af_base.specs.declared.errno.Errno.TheVariants.{ESRCH}
+use Rattle.af_base.specs.Changes.{with_process}
+use Rattle.af_base.specs.Places.{InTable, table_at}
+use Rattle.af_base.specs.Refusals.{Row, first_fit, ino_on, no_process, no_socket, process_at, socket_at, socket_of, socket_on}
+use Rattle.af_base.specs.World.{AsSocket, File, Plain, Process, Socket, World}
+use Rattle.af_base.proofs.Lookups.{none_some, some_same}
+use Rattle.af_base.proofs.Moved.{there-table}
+use Rattle.af_hold.specs.Limits.{IsBelowLimit}
+use Rattle.af_steps.specs.Rows.{on_number, on_socket}
+
+-- The process p is this one.
+pub record HasProcess (w : World) (p : ℕ) (q : Process) : Type 0 where
+  pub there : map.get w.processes p ≡ Some q
+
+-- And its number n stands for this file.
+pub record HasNumber (w : World) (p : ℕ) (q : Process) (n f : ℕ) : Type 0 where
+  pub process : HasProcess w p q
+  pub stands : map.get q.table n ≡ Some f
+
+-- Which is this socket.
+pub record HasSocket (w : World) (p : ℕ) (q : Process) (n f : ℕ) (x : Socket) : Type 0 where
+  pub number : HasNumber w p q n f
+  pub found : socket_at w f ≡ Some x
+
+-- The first of two rows with a test that fits decides.
+joined : (rows more : Row) → first_fit (rows ++ more) ≡ option_or (first_fit rows) (first_fit more)
+joined [] more = refl
+joined (r ∷ rs) more = by r.0 (joined rs more) where
+  by : (b : Bool) → first_fit (rs ++ more) ≡ option_or (first_fit rs) (first_fit more) → (if b then Some r.1 else first_fit (rs ++ more)) ≡ option_or (if b then Some r.1 else first_fit rs) (first_fit more)
+  by true go = refl
+  by false go = go
+
+-- A test of the first fits.
+pub goes-on : (rows more : Row) (e : Errno) → first_fit rows ≡ Some e → first_fit (rows ++ more) ≡ Some e
+goes-on rows more e is = joined rows more ∙ ap (λ o. option_or o (first_fit more)) is
+
+-- No test of the first fits: the second decides.
+pub passes-on : (rows more : Row) → first_fit rows ≡ None → first_fit (rows ++ more) ≡ first_fit more
+passes-on rows more is = joined rows more ∙ ap (λ o. option_or o (first_fit more)) is
+
+module _ {w : World} {p : ℕ} {q : Process} (has : HasProcess w p q) where
+  -- The number of the process stands for it.
+  pub is_process : process_at w p ≡ q
+  is_process = ap {B = Process} (λ o. unwrap_or o no_process) has.there
+
+  -- What numbers stand for, by its table.
+  pub looks : table_at w p ≡ map.get q.table
+  looks = λ i n. there-table w p n q has.there i
+
+  -- What is left of a row where the process was found.
+  pub after-process : (rest : Process → (ℕ → Option ℕ) → Row) → first_fit ((not (map.contains_key w.processes p), ESRCH) ∷ rest (process_at w p) (table_at w p)) ≡ first_fit (rest q (map.get q.table))
+  after-process rest = λ i. first_fit ((not (is_some (has.there i)), ESRCH) ∷ rest (is_process i) (looks i))
+
+  -- The world with it changed.
+  pub changes : (g : Process → Process) → with_process w p g ≡ record w { processes = map.insert w.processes p (g q) }
+  changes g = ap (λ (o : Option Process). record w { processes = option_map_or (λ x. map.insert w.processes p (g x)) o w.processes }) has.there
+
+  -- It is there.
+  pub is-there : IsTrue (map.contains_key w.processes p)
+  is-there = ap is_some has.there
+
+  -- It is there too in a world with the same processes.
+  pub in-same : (v : World) → v.processes ≡ w.processes → HasProcess v p q
+  in-same v same = record { there = ap (λ m. map.get m p) same ∙ has.there }
+
+  -- A number below its limit.
+  pub below-limit : (n : ℕ) → n < q.limit → IsBelowLimit w p n
+  below-limit n low r is = subst (λ (x : Process). n < x.limit) (some_same q r (sym has.there ∙ is)) low
+
+  -- A number that is free in its table.
+  pub is-free : (n : ℕ) → map.get q.table n ≡ None → table_at w p n ≡ None
+  is-free n free = (λ i. looks i n) ∙ free
+
+  -- Room for each number below its limit.
+  pub room-below : (n room : ℕ) → n < q.limit → (process_at w p).limit ≤ room → n < room
+  room-below n room low most = let same = ap (λ (x : Process). x.limit) is_process in omega (arith, low, most, same)
+
+module _ {w : World} {p : ℕ} {q : Process} {n f : ℕ} (has : HasNumber w p q n f) where
+  -- The number stands for the file.
+  pub tabled : table_at w p n ≡ Some f
+  tabled = (λ i. looks has.process i n) ∙ has.stands
+
+  -- So a table holds it.
+  pub held : InTable w f
+  held = (p, n, tabled)
+
+  -- The number gives the file.
+  pub ino-is : ino_on w p n ≡ f
+  ino-is = ap (λ o. unwrap_or o 0) tabled
+
+  -- What is left of a row where the number was found too.
+  pub after-number : (rest : Process → Row) → first_fit ((not (map.contains_key w.processes p), ESRCH) ∷ (on_number (table_at w p n) ++ rest (process_at w p))) ≡ first_fit (rest q)
+  after-number rest = λ i. first_fit ((not (is_some (has.process.there i)), ESRCH) ∷ (on_number (tabled i) ++ rest (is_process has.process i)))
+
+module _ {w : World} {p : ℕ} {q : Process} {n f : ℕ} {x : Socket} (has : HasSocket w p q n f x) where
+  -- The number gives the socket.
+  pub socket-is : socket_on w p n ≡ x
+  socket-is = ap (λ o. unwrap_or (option_and_then (socket_at w) o) no_socket) (tabled has.number) ∙ ap (λ o. unwrap_or o no_socket) has.found
+
+  -- What is left of a row where the socket was found too.
+  pub after-socket : (rest : Process → (ℕ → Option ℕ) → Socket → Row)
+      → first_fit ((not (map.contains_key w.processes p), ESRCH) ∷ (on_number (table_at w p n) ++ (on_socket (socket_at w (ino_on w p n)) ++ rest (process_at w p) (table_at w p) (socket_on w p n)))) ≡ first_fit (rest q (map.get q.table) x)
+  after-socket rest =
+      let process = has.number.process in
+      let socket : socket_at w (ino_on w p n) ≡ Some x = ap (socket_at w) (ino-is has.number) ∙ has.found in
+      λ i. first_fit ((not (is_some (process.there i)), ESRCH) ∷ (on_number (tabled has.number i) ++ (on_socket (socket i) ++ rest (is_process process i) (looks process i) (socket-is i))))
+
+-- The file of which this is the socket.
+pub file-is : (w : World) (s : ℕ) (x : Socket) → socket_at w s ≡ Some x → map.get w.files s ≡ Some (AsSocket x)
+file-is w s x = by (map.get w.files s) where
+  by : (o : Option File) → option_and_then socket_of o ≡ Some x → o ≡ Some (AsSocket x)
+  by None e = absurd (none_some x e)
+  by (Some Plain) e = absurd (none_some x e)
+  by (Some (AsSocket y)) e = ap (λ z. Some (AsSocket z)) (some_same y x e)
