@@ -18,3 +18,4 @@ pub use Rattle.af_steps.specs.Shown
 pub use Rattle.af_steps.specs.Outcome
 pub use Rattle.af_report.specs.Check
 pub use Rattle.af_report.specs.Totals
+pub use Rattle.af_graph.specs.Graph

@@ -21,6 +21,8 @@
 //! began. All of that is proved. CALLING.md has each call in a line.
 #![tactic(auto)]
 
+pub mod report;
+
 pub use af_base::errno::Errno;
 pub use af_base::events::{Event, Reply, SockType, State, Step};
 pub use af_base::items::Items;
@@ -29,5 +31,4 @@ pub use af_base::listing::{
     ListedFile, ListedMessage, ListedNumber, ListedSocket, ListedTable, Listing,
 };
 pub use af_base::names::{Fd, Ino, Pid, Uid};
-pub use af_report as report;
 pub use af_steps::{Engine, FileInfo, Finished, Progress, Received, RunStopped};

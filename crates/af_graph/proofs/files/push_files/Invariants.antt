@@ -1,0 +1,13 @@
+-- With the files that are left the text is whole.
+use Rattle.std.proofs.Common.{◌≡◌, ◌++◌, length, string_bytes}
+use Rattle.std.specs.List.{flat_map}
+use Rattle.std.specs.FinMap as map
+use Rattle.af_base.proofs.Rising.{above}
+use Rattle.af_graph.specs.Graph.{file_text, files_text, is_in}
+use Rattle.af_graph.proofs.files.push_files.Given as goal
+
+abbrev pub invariant-loop-ino : goal.invariant-loop-ino
+invariant-loop-ino l = string_bytes l.text ++ flat_map (λ e. file_text l.engine.world (is_in l.lost e.0) e.0 e.1) (above l.last (map.entries l.engine.world.files)) ≡ string_bytes l.fn.text ++ files_text l.engine.world l.lost
+
+abbrev pub decreases-loop-ino : goal.decreases-loop-ino
+decreases-loop-ino l = length (above l.last (map.entries l.engine.world.files))

@@ -1,0 +1,5 @@
+use Rattle.af_graph.proofs.Quoting.{name-harmless}
+use Rattle.af_graph.proofs.laws.names_stay_quoted.Goals as goal
+
+pub returns : goal.returns
+returns c = name-harmless

@@ -1,0 +1,128 @@
+//! Files, and their peers.
+ghost use Rattle.std.specs.Prelude.{◌≡◌, ◌++◌, Some, OnOk, string_bytes};
+ghost use Rattle.std.specs.List.Sorted.{IsStrictlyIncreasing};
+ghost use Rattle.std.specs.FinMap as map;
+ghost use Rattle.af_base.specs.World.{File, IsLive};
+ghost use Rattle.af_report.specs.Table.{state_word, type_word};
+ghost use Rattle.af_graph.specs.Graph.{colour, counts_text, files_text, is_in, kind_text, node_text, peer_of, peer_text};
+
+use crate::names::push_name;
+use af_base::events::{SockType, State};
+use af_base::names::Ino;
+use af_steps::{Engine, FileInfo};
+use std::alloc::AllocError;
+
+/// The word for a type of sockets.
+fn type_word(kind: SockType) -> &'static str
+    ensures { result.now ≡ type_word kind }
+{
+    match kind {
+        SockType::Stream => "stream",
+        SockType::Seqpacket => "seqpacket",
+    }
+}
+
+/// The word for whom a socket can talk to.
+fn state_word(state: &State) -> &'static str
+    ensures { result.now ≡ state_word state.now }
+{
+    match state {
+        State::Idle => "idle",
+        State::Listening(_) => "listening",
+        State::Connected(_) => "connected",
+        State::HungUp => "hungup",
+    }
+}
+
+/// Appends what a live file is, and whom it can talk to, if it is a socket.
+fn push_kind(text: &mut String, engine: &Engine, ino: Ino) -> Result<(), AllocError>
+    requires { IsLive engine.now.world ino }
+    ensures { (x : File) → map.get engine.now.world.files ino ≡ Some x → OnOk result (string_bytes text.new ≡ string_bytes text.old ++ kind_text x) }
+{
+    match engine.file(ino).unwrap() {
+        FileInfo::Plain => text.push_str("plain"),
+        FileInfo::Socket { kind, state, .. } => {
+            let kind = type_word(kind);
+            let state = state_word(&state);
+            write!(text, "{kind} {state}")
+        }
+    }
+}
+
+/// Appends the two counts of a file on a line of their own.
+fn push_counts(text: &mut String, refs: u64, inflight: u64) -> Result<(), AllocError>
+    ensures { OnOk result (string_bytes text.new ≡ string_bytes text.old ++ counts_text refs inflight) }
+{
+    write!(text, "\\nrefs {refs} inflight {inflight}")
+}
+
+/// Appends the colour of garbage, where the file is garbage.
+fn push_colour(text: &mut String, lost: bool) -> Result<(), AllocError>
+    ensures { OnOk result (string_bytes text.new ≡ string_bytes text.old ++ colour lost) }
+{
+    if !lost {
+        return Ok(());
+    }
+    text.push_str(", style=filled, fillcolor=pink")
+}
+
+/// Appends an edge to the peer of a connected socket.
+fn push_state(text: &mut String, ino: Ino, state: &State) -> Result<(), AllocError>
+    ensures { OnOk result (string_bytes text.new ≡ string_bytes text.old ++ peer_text ino state.now) }
+{
+    match state {
+        State::Connected(peer) => writeln!(text, "f{ino} -> f{peer} [style=dotted]"),
+        State::Idle | State::Listening(_) | State::HungUp => Ok(()),
+    }
+}
+
+/// Appends an edge to the peer of a live file, if it has one.
+fn push_peer(text: &mut String, engine: &Engine, ino: Ino) -> Result<(), AllocError>
+    requires { IsLive engine.now.world ino }
+    ensures { (x : File) → map.get engine.now.world.files ino ≡ Some x → OnOk result (string_bytes text.new ≡ string_bytes text.old ++ peer_of ino x) }
+{
+    match engine.file(ino).unwrap() {
+        FileInfo::Plain => Ok(()),
+        FileInfo::Socket { state, .. } => push_state(text, ino, &state),
+    }
+}
+
+/// Appends a live file.
+fn push_node(text: &mut String, engine: &Engine, ino: Ino, lost: bool) -> Result<(), AllocError>
+    requires { IsLive engine.now.world ino }
+    ensures { (x : File) → map.get engine.now.world.files ino ≡ Some x → OnOk result (string_bytes text.new ≡ string_bytes text.old ++ node_text engine.now.world lost ino x) }
+{
+    write!(text, "f{ino} [label=\"{ino} ")?;
+    push_kind(text, engine, ino)?;
+    push_counts(text, engine.refs(ino), engine.inflight(ino))?;
+    push_name(text, engine.name(ino))?;
+    text.push_str("\"")?;
+    push_colour(text, lost)?;
+    text.push_str("]\n")?;
+    Ok(())
+}
+
+/// Whether the file is in the list, which rises.
+fn is_in(inos: &[Ino], ino: Ino) -> bool
+    requires { IsStrictlyIncreasing inos.now }
+    ensures { result ≡ is_in inos.now ino }
+{
+    inos.binary_search(&ino).is_ok()
+}
+
+/// Appends all live files and edges to their peers, by rising number. The lost ones, a list that rises,
+/// have the colour of garbage.
+pub fn push_files(text: &mut String, engine: &Engine, lost: &[Ino]) -> Result<(), AllocError>
+    requires { IsStrictlyIncreasing lost.now }
+    ensures { OnOk result (string_bytes text.new ≡ string_bytes text.old ++ files_text engine.now.world lost.now) }
+{
+    // No file has the number 0: that is what a sound world says of it.
+    engine.is_sound();
+    let mut last = Ino(0);
+    while let Some(ino) = engine.next_after(last) {
+        push_node(text, engine, ino, is_in(lost, ino))?;
+        push_peer(text, engine, ino)?;
+        last = ino;
+    }
+    Ok(())
+}

@@ -1,0 +1,69 @@
+//! Names, so written that they cannot leave their quotes.
+ghost use Rattle.std.specs.Prelude.{◌≡◌, ◌<◌, ◌∷◌, [], ◌++◌, OnOk, option_copied, string_bytes};
+ghost use Rattle.af_base.specs.Names.{is_name_byte};
+ghost use Rattle.af_graph.specs.Graph.{name_text};
+ghost use Rattle.af_graph.specs.Quoted.{hex_digit, quoted, quoted_byte};
+
+use af_base::items::Items;
+use std::alloc::AllocError;
+
+/// Whether names may have the byte: it is written as itself.
+fn is_name_byte(byte: u8) -> bool
+    ensures { result ≡ is_name_byte byte }
+{
+    matches!(byte, b'0'..=b'9' | b'A'..=b'Z' | b'a'..=b'z' | b'_' | b'-' | b'.')
+}
+
+/// A capital hexadecimal digit.
+fn hex_digit(value: u8) -> u8
+    requires { value < 16 }
+    ensures digit { result ≡ hex_digit value }
+    ensures ascii { result < 128 }
+{
+    if value < 10 {
+        b'0' + value
+    } else {
+        b'A' + (value - 10)
+    }
+}
+
+/// Appends a character of ASCII.
+fn push_ascii(text: &mut String, byte: u8) -> Result<(), AllocError>
+    requires { byte < 128 }
+    ensures { OnOk result (string_bytes text.new ≡ string_bytes text.old ++ byte ∷ []) }
+{
+    text.push(char::from(byte))
+}
+
+/// Appends a byte as itself, or % and its two hexadecimal digits.
+fn push_byte(text: &mut String, byte: u8) -> Result<(), AllocError>
+    ensures { OnOk result (string_bytes text.new ≡ string_bytes text.old ++ quoted_byte byte) }
+{
+    if is_name_byte(byte) {
+        return push_ascii(text, byte);
+    }
+    push_ascii(text, b'%')?;
+    push_ascii(text, hex_digit(byte / 16))?;
+    push_ascii(text, hex_digit(byte % 16))
+}
+
+/// Appends each byte as itself, or % and its two hexadecimal digits.
+fn push_quoted(text: &mut String, name: &[u8]) -> Result<(), AllocError>
+    ensures { OnOk result (string_bytes text.new ≡ string_bytes text.old ++ quoted name.now) }
+{
+    for byte in name {
+        push_byte(text, *byte)?;
+    }
+    Ok(())
+}
+
+/// Appends a name on a line of its own, behind `@`; nothing where there is none.
+pub fn push_name(text: &mut String, name: Option<&Items<u8>>) -> Result<(), AllocError>
+    ensures { OnOk result (string_bytes text.new ≡ string_bytes text.old ++ name_text (option_copied name.entry)) }
+{
+    let Some(name) = name else {
+        return Ok(());
+    };
+    text.push_str("\\n@")?;
+    push_quoted(text, name.as_slice())
+}

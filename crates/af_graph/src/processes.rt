@@ -1,0 +1,55 @@
+//! Processes, and what their numbers stand for.
+ghost use Rattle.std.specs.Prelude.{◌≡◌, ◌++◌, OnOk, string_bytes};
+ghost use Rattle.std.specs.List.{All, flat_map};
+ghost use Rattle.af_base.specs.Listing.{IsRisingTable, process_of};
+ghost use Rattle.af_graph.specs.Graph.{box_text, number_text, process_text};
+
+use af_base::listing::{ListedNumber, ListedTable};
+use af_base::names::Pid;
+use std::alloc::AllocError;
+
+/// Appends an edge from a process to what one of its numbers stands for.
+fn push_number(text: &mut String, pid: Pid, number: ListedNumber) -> Result<(), AllocError>
+    ensures { OnOk result (string_bytes text.new ≡ string_bytes text.old ++ number_text pid number.fd number.ino) }
+{
+    let ListedNumber { fd, ino } = number;
+    writeln!(text, "p{pid} -> f{ino} [label=\"{fd}\"]")
+}
+
+/// Appends an edge for each number of a process.
+fn push_numbers(text: &mut String, pid: Pid, numbers: &[ListedNumber]) -> Result<(), AllocError>
+    ensures { OnOk result (string_bytes text.new ≡ string_bytes text.old ++ flat_map (λ n. number_text pid n.fd n.ino) numbers.now) }
+{
+    for number in numbers {
+        push_number(text, pid, *number)?;
+    }
+    Ok(())
+}
+
+/// Appends a process, without its numbers.
+fn push_box(text: &mut String, pid: Pid) -> Result<(), AllocError>
+    ensures { OnOk result (string_bytes text.new ≡ string_bytes text.old ++ box_text pid) }
+{
+    writeln!(text, "p{pid} [shape=box, label=\"process {pid}\"]")
+}
+
+/// Appends a process, and its numbers.
+fn push_process(text: &mut String, table: &ListedTable) -> Result<(), AllocError>
+    requires { IsRisingTable table.now }
+    ensures { OnOk result (string_bytes text.new ≡ string_bytes text.old ++ process_text table.now.pid (process_of table.now)) }
+{
+    push_box(text, table.pid)?;
+    push_numbers(text, table.pid, table.numbers.as_slice())?;
+    Ok(())
+}
+
+/// Appends all processes.
+pub fn push_processes(text: &mut String, tables: &[ListedTable]) -> Result<(), AllocError>
+    requires { All IsRisingTable tables.now }
+    ensures { OnOk result (string_bytes text.new ≡ string_bytes text.old ++ flat_map (λ t. process_text t.pid (process_of t)) tables.now) }
+{
+    for table in tables {
+        push_process(text, table)?;
+    }
+    Ok(())
+}
