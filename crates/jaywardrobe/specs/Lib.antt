@@ -1,4 +1,5 @@
 -- What the contracts of the calls speak of: the machine, its events, and the reports.
+pub mod Types
 pub use Rattle.af_base.specs.World
 pub use Rattle.af_base.specs.Places
 pub use Rattle.af_base.specs.Counts

@@ -1,0 +1,8 @@
+-- Lemmas on the machine's words: of look-ups, changes and settling, of tests that do not fit, and of listings.
+pub use Rattle.af_base.proofs.Lookups
+pub use Rattle.af_base.proofs.Moved
+pub use Rattle.af_base.proofs.Settling
+pub use Rattle.af_base.proofs.Stepped
+pub use Rattle.af_base.proofs.Free
+pub use Rattle.af_base.proofs.Gathered
+pub use Rattle.af_base.proofs.Bare

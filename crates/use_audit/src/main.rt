@@ -1,0 +1,81 @@
+//! An audit: who holds whom, in words and as a picture, before and after a pass of the collector.
+#![tactic(auto)]
+
+mod places;
+
+use crate::places::places_of;
+use jaywardrobe::report::graph;
+use jaywardrobe::{Engine, Errno, Fd, Items, Pid, SockType, Uid};
+use std::alloc::Global;
+use std::io;
+use std::io::Write;
+
+fn main(rt: HostRuntime) -> io::Result<()> {
+    let mut engine = Engine::new(rt.alloc())?;
+    audit(&rt, &mut engine)
+}
+
+/// Prints who holds whom in a small world, and its picture, lets the collector take what nobody can
+/// come to, and prints what is left.
+fn audit(rt: &HostRuntime, engine: &mut Engine) -> io::Result<()> {
+    if let Err(error) = build(rt.alloc(), engine) {
+        println!(rt; "the world was not built: {error}")?;
+        return Ok(());
+    }
+    print(rt, engine)?;
+    draw(rt, engine)?;
+    if let Ok(finished) = engine.pass() {
+        println!(rt; "pass {} reclaimed {}", finished.pass, finished.reclaimed)?;
+    }
+    print(rt, engine)
+}
+
+/// Prints each place on a line of its own, by rising file.
+fn print(rt: &HostRuntime, engine: &Engine) -> io::Result<()> {
+    println!(rt;
+        "{} files, {} descriptors in flight",
+        engine.live(),
+        engine.total()
+    )?;
+    for place in &places_of(rt.alloc(), engine)? {
+        println!(rt; "{place}")?;
+    }
+    Ok(())
+}
+
+/// Prints the picture of who holds whom, for Graphviz (`dot -Tsvg`).
+fn draw(rt: &HostRuntime, engine: &Engine) -> io::Result<()> {
+    let text = graph(rt.alloc(), engine)?;
+    rt.stdout().write_all(text.as_slice())
+}
+
+/// Two processes with a connection and descriptors in flight, somebody who waits at a listener, and
+/// a cycle that nobody can come to.
+fn build(alloc: Global, engine: &mut Engine) -> Result<(), Errno> {
+    let parent = engine.spawn(Uid(1_000), 16, false)?;
+    let (here, _) = engine.pair(parent, SockType::Seqpacket)?;
+    engine.fork(parent)?;
+    let file = engine.open(parent)?;
+    engine.send(parent, here, b"twice", &[file, file])?;
+    wait_at_listener(alloc, engine, parent)?;
+    lose_cycle(engine, parent, file)?;
+    engine.close(parent, file)
+}
+
+/// A client connects to a listener, and is not accepted.
+fn wait_at_listener(alloc: Global, engine: &mut Engine, pid: Pid) -> Result<(), Errno> {
+    let name = Items::of(Vec::from_slice(alloc, b"door")?);
+    let listener = engine.socket(pid, SockType::Stream)?;
+    engine.bind(pid, listener, &name)?;
+    engine.listen(pid, listener, 4)?;
+    let client = engine.socket(pid, SockType::Stream)?;
+    engine.connect(pid, client, &name)
+}
+
+/// A socket travels in its own queue, with a file, and is closed.
+fn lose_cycle(engine: &mut Engine, pid: Pid, file: Fd) -> Result<(), Errno> {
+    let (left, right) = engine.pair(pid, SockType::Stream)?;
+    engine.send(pid, left, b"itself", &[right, file])?;
+    engine.close(pid, left)?;
+    engine.close(pid, right)
+}

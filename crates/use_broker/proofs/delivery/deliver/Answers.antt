@@ -1,0 +1,23 @@
+use Rattle.std.proofs.Common.{◌≡◌, ℕ, List, [], ◌∷◌, subst}
+use Rattle.std.specs.Prelude.{IfOk, Result, Ok, Err}
+use Rattle.jaywardrobe.specs.Outcome.{Does}
+use Rattle.jaywardrobe.specs.Pass.{Machine}
+use Rattle.jaywardrobe.specs.Types.reply
+use Rattle.jaywardrobe.specs.Types.step
+use Rattle.use_broker.proofs.Delivered.{delivered}
+use Rattle.use_broker.proofs.delivery.deliver.Goals as goal
+
+-- What follows from a fact of a value that is there holds of it too.
+if_ok : {A E : Type 0} {P Q : A → Type 0} (r : Result A E) → IfOk r P → ((x : A) → P x → Q x) → IfOk r Q
+if_ok (Ok x) h f = f x h
+if_ok (Err e) h f = h
+
+-- The receiver was idle, so it got what was sent.
+pub returns-in-Ok : goal.returns-in-Ok
+returns-in-Ok c =
+    let from = c.args.from.now in
+    let to = c.args.to.now in
+    let Sends : Machine → Type 0 = λ m. Does m from.pid (step.Send from.fd (46 ∷ []) (c.args.fd ∷ [])) (reply.Sent c.in-Ok.field-0) c.send.new.self in
+    let sent : Sends c.args.engine.now = subst Sends c.in_ok-check_idle.ensures.same c.in-Ok.ensures.done in
+    if_ok c.receive.result c.receive.ensures
+    (λ got took. delivered c.args.engine.now c.send.new.self c.receive.new.engine from.pid from.fd c.args.fd to.pid to.fd got (46 ∷ []) (reply.Sent c.in-Ok.field-0) c.in_ok-check_idle.ensures.idle sent took)

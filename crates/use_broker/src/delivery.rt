@@ -1,0 +1,75 @@
+//! A descriptor that goes through a connection.
+ghost use Rattle.std.specs.Prelude.{◌≡◌, IfOk, OnOk};
+ghost use Rattle.use_broker.specs.Delivery.{Delivers, IsIdle, Takes};
+
+use jaywardrobe::{Engine, Errno, Fd, Pid, Received};
+use std::fmt;
+
+/// What travels with a descriptor: a message has a byte at least (unix(7)).
+const PAYLOAD: &[u8] = b".";
+
+/// An end of a connection: a process, and the number that it has there.
+#[derive(Clone, Copy, Debug)]
+pub struct End {
+    pub pid: Pid,
+    pub fd: Fd,
+}
+
+/// Why a descriptor was not delivered.
+#[derive(Clone, Copy, Debug)]
+pub enum Undelivered {
+    /// Something else waits to be received.
+    Busy,
+    /// The receiver had no free number for it, and it was closed.
+    Closed,
+    /// A call was refused. Where it was the receive, the descriptor is in flight.
+    Refused(Errno),
+}
+
+impl fmt::Display for Undelivered {
+    fn fmt<W: fmt::Write>(&self, f: &mut fmt::Formatter<W>) -> fmt::Result {
+        match self {
+            Undelivered::Busy => write!(f, "something else waits"),
+            Undelivered::Closed => write!(f, "no number is free"),
+            Undelivered::Refused(error) => write!(f, "{error}"),
+        }
+    }
+}
+
+/// Sends a descriptor from one end of a connection, and receives it at the other. The number that is
+/// answered is the receiver's, and stands for the file that the sender's number stood for.
+pub fn deliver(engine: &mut Engine, from: &End, fd: Fd, to: &End) -> Result<Fd, Undelivered>
+    ensures { IfOk result (λ got. Delivers engine.old.world from.now.pid fd engine.new.world to.now.pid got) }
+{
+    check_idle(engine, to)?;
+    match engine.send(from.pid, from.fd, PAYLOAD, &[fd]) {
+        Ok(_) => receive(engine, to),
+        Err(error) => Err(Undelivered::Refused(error)),
+    }
+}
+
+/// Whether nothing waits to be received at this end of a connection.
+fn check_idle(engine: &mut Engine, end: &End) -> Result<(), Undelivered>
+    ensures idle { OnOk result (IsIdle engine.old.world end.now.pid end.now.fd) }
+    ensures same { OnOk result (engine.new ≡ engine.old) }
+{
+    match engine.peek(end.pid, end.fd, 1, 0) {
+        Ok(_) => Err(Undelivered::Busy),
+        Err(Errno::EAGAIN) => Ok(()),
+        Err(error) => Err(Undelivered::Refused(error)),
+    }
+}
+
+/// Receives one descriptor, and answers its number.
+fn receive(engine: &mut Engine, end: &End) -> Result<Fd, Undelivered>
+    ensures { IfOk result (λ got. Takes engine.old end.now.pid end.now.fd got engine.new) }
+{
+    match engine.recv(end.pid, end.fd, 1, 1) {
+        Ok(Received::Got { fds, .. }) => match fds.as_slice() {
+            [fd] => Ok(*fd),
+            _ => Err(Undelivered::Closed),
+        },
+        Ok(Received::End) => Err(Undelivered::Refused(Errno::EPIPE)),
+        Err(error) => Err(Undelivered::Refused(error)),
+    }
+}

@@ -1,0 +1,60 @@
+//! A tiny kernel: what two processes call, by number over registers, and what each call answers.
+#![tactic(auto)]
+
+mod calls;
+mod linux;
+
+use crate::calls::{Memory, Registers, system_call};
+use crate::linux::{AF_UNIX, CLOSE, DUP2, EXIT, FORK, RECVMSG, SENDMSG, SOCKETPAIR};
+use jaywardrobe::{Engine, Fd, Items, Pid, Uid};
+use std::io;
+use std::io::Error;
+
+/// The calls of the session: who calls, the number, and three arguments. A parent sends its end of a
+/// connection to its child; then come refusals, and the end of both.
+const SESSION: [(u32, [u32; 4]); 16] = [
+    (1, [SOCKETPAIR, AF_UNIX, 5, 0]),
+    (1, [FORK, 0, 0, 0]),
+    (1, [SENDMSG, 0, 0, 0]),
+    (2, [RECVMSG, 1, 1_024, 4]),
+    (2, [DUP2, 2, 9, 0]),
+    (2, [CLOSE, 2, 0, 0]),
+    (2, [CLOSE, 2, 0, 0]),
+    (2, [RECVMSG, 1, 1_024, 4]),
+    (1, [SOCKETPAIR, AF_UNIX, 2, 0]),
+    (1, [SOCKETPAIR, 2, 5, 0]),
+    (1, [1_000, 0, 0, 0]),
+    (1, [EXIT, 0, 0, 0]),
+    (1, [FORK, 0, 0, 0]),
+    (2, [CLOSE, 0, 0, 0]),
+    (2, [CLOSE, 9, 0, 0]),
+    (2, [RECVMSG, 1, 1_024, 4]),
+];
+
+fn main(rt: HostRuntime) -> io::Result<()> {
+    let mut engine = Engine::new(rt.alloc())?;
+    let mut memory = Memory {
+        bytes: Items::of(Vec::from_slice(rt.alloc(), b"take this")?),
+        fds: Items::of(Vec::from_slice(rt.alloc(), &[Fd(0)])?),
+        pair: (Fd(0), Fd(0)),
+    };
+    boot(&rt, &mut engine, &mut memory)
+}
+
+/// Starts the first process, and makes all calls of the session.
+fn boot(rt: &HostRuntime, engine: &mut Engine, memory: &mut Memory) -> io::Result<()> {
+    if engine.spawn(Uid(1_000), 16, false).is_err() {
+        return Err(Error::other("the first process did not start"));
+    }
+    for (pid, [number, first, second, third]) in SESSION {
+        let registers = Registers {
+            number,
+            first,
+            second,
+            third,
+        };
+        let answer = system_call(engine, Pid(pid), registers, memory);
+        println!(rt; "{pid}: {number}({first}, {second}, {third}) = {answer}")?;
+    }
+    Ok(())
+}
