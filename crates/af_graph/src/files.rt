@@ -3,36 +3,14 @@ ghost use Rattle.std.specs.Prelude.{◌≡◌, ◌++◌, Some, OnOk, string_byte
 ghost use Rattle.std.specs.List.Sorted.{IsStrictlyIncreasing};
 ghost use Rattle.std.specs.FinMap as map;
 ghost use Rattle.af_base.specs.World.{File, IsLive};
-ghost use Rattle.af_report.specs.Table.{state_word, type_word};
 ghost use Rattle.af_graph.specs.Graph.{colour, counts_text, files_text, is_in, kind_text, node_text, peer_of, peer_text};
 
 use crate::names::push_name;
-use af_base::events::{SockType, State};
+use af_base::events::State;
 use af_base::names::Ino;
+use af_report::{state_word, type_word};
 use af_steps::{Engine, FileInfo};
 use std::alloc::AllocError;
-
-/// The word for a type of sockets.
-fn type_word(kind: SockType) -> &'static str
-    ensures { result.now ≡ type_word kind }
-{
-    match kind {
-        SockType::Stream => "stream",
-        SockType::Seqpacket => "seqpacket",
-    }
-}
-
-/// The word for whom a socket can talk to.
-fn state_word(state: &State) -> &'static str
-    ensures { result.now ≡ state_word state.now }
-{
-    match state {
-        State::Idle => "idle",
-        State::Listening(_) => "listening",
-        State::Connected(_) => "connected",
-        State::HungUp => "hungup",
-    }
-}
 
 /// Appends what a live file is, and whom it can talk to, if it is a socket.
 fn push_kind(text: &mut String, engine: &Engine, ino: Ino) -> Result<(), AllocError>

@@ -38,8 +38,8 @@ pub fn push_counts(text: &mut String, ino: Ino, refs: u64, inflight: u64) -> Res
     Ok(())
 }
 
-/// The word for a type of sockets.
-fn type_word(kind: SockType) -> &'static str
+/// The word for a type of sockets (socket(2)).
+pub fn type_word(kind: SockType) -> &'static str
     ensures { result.now ≡ type_word kind }
 {
     match kind {
@@ -49,7 +49,7 @@ fn type_word(kind: SockType) -> &'static str
 }
 
 /// The word for whom a socket can talk to.
-fn state_word(state: &State) -> &'static str
+pub fn state_word(state: &State) -> &'static str
     ensures { result.now ≡ state_word state.now }
 {
     match state {

@@ -10,6 +10,7 @@ mod file_lines;
 mod recount;
 mod user_lines;
 
+pub use columns::{state_word, type_word};
 pub use file_lines::table;
 pub use recount::{Checked, check, count};
 pub use user_lines::totals;
