@@ -1,5 +1,5 @@
--- Why a step is refused. In each row the tests are made in order, and the first that fits is the answer (this project's profile, after the manual page of each call).
-use Rattle.std.specs.Prelude.{ℕ, ◌+◌, Bool, true, false, not, ◌&&◌, ◌||◌, List, [], ◌∷◌, length, Option, Some, None, is_none, unwrap_or, nat_eq, nat_lt, nat_le, if◌then◌else◌}
+-- Why a step is refused. A row joins parts; its tests are made in order, and the first that fits is the answer (this project's profile, after the manual page of each call).
+use Rattle.std.specs.Prelude.{ℕ, ◌+◌, Bool, true, false, not, ◌&&◌, ◌||◌, List, [], ◌∷◌, ◌++◌, length, Option, Some, None, is_none, is_some, unwrap_or, nat_eq, nat_lt, nat_le, if◌then◌else◌}
 use Rattle.std.specs.List.{list_any}
 use Rattle.std.specs.Option.{option_and_then}
 use Rattle.std.specs.FinMap as map
@@ -12,7 +12,7 @@ use Rattle.af_base.specs.declared.errno.Errno.TheVariants.{EADDRINUSE, EAGAIN, E
 use Rattle.af_base.specs.declared.events.Step.{Step}
 use Rattle.af_base.specs.declared.events.Step.TheVariants as step
 use Rattle.af_base.specs.declared.limits.TheConstants.{MAX_PROCESSES, MAX_NOFILE, MAX_FILES, MAX_MESSAGES, MAX_BYTES, SCM_MAX_FD, MAX_BACKLOG, MAX_INFLIGHT, MAX_PID, MAX_INO}
-use Rattle.af_base.specs.World.{World, Map, Process, Socket, File, Plain, AsSocket}
+use Rattle.af_base.specs.World.{World, Map, Message, Process, Socket, File, Plain, AsSocket}
 use Rattle.af_base.specs.Places.{table_at, queue_at}
 use Rattle.af_base.specs.Counts.{charged, total}
 use Rattle.af_base.specs.Names.{is_between, is_name, named}
@@ -117,10 +117,6 @@ is_full w k = is_full_of w.files w.next_ino k
 abbrev pub is_crowded : World → Bool
 is_crowded w = nat_le MAX_PROCESSES (map.len w.processes) || nat_lt MAX_PID w.next_pid
 
--- Whether the user of process q has more in flight than its limit, and q is not privileged (unix(7), ETOOMANYREFS; that the new ones do not count is this project's profile).
-abbrev pub is_over_limit : World → Process → Bool
-is_over_limit w q = not q.privileged && nat_lt q.limit (charged w q.user)
-
 -- Tests with their errors, in the order in which they are made.
 abbrev pub Row : Type 0
 Row = List (Bool × Errno)
@@ -130,91 +126,140 @@ abbrev pub first_fit : Row → Option Errno
 first_fit [] = None
 first_fit (r ∷ rs) = if r.0 then Some r.1 else first_fit rs
 
--- The two tests of a send that go by what is in flight: so many files, of a user with this charge, where all users together have that total (unix(7), ETOOMANYREFS; ENOBUFS is this project's profile).
-abbrev pub send_row : ℕ → ℕ → ℕ → Bool → ℕ → Row
-send_row charge total limit privileged files =
+-- ---- The parts of rows: each has the tests that one look-up is put to, over what it needs and no more.
+
+-- A process must be there (kill(2), ESRCH).
+abbrev pub on_process : Option Process → Row
+on_process process = (not (is_some process), ESRCH) ∷ []
+
+-- A number must stand for a file (close(2), EBADF).
+abbrev pub on_number : Option ℕ → Row
+on_number file = (is_none file, EBADF) ∷ []
+
+-- The file must be a socket (bind(2), ENOTSOCK).
+abbrev pub on_socket : Option Socket → Row
+on_socket socket = (is_none socket, ENOTSOCK) ∷ []
+
+-- The process must have k numbers free (open(2), EMFILE).
+abbrev pub on_free : Process → ℕ → Row
+on_free q k = (is_short q k, EMFILE) ∷ []
+
+-- The world must have room for k files more (open(2), ENFILE).
+abbrev pub on_files : World → ℕ → Row
+on_files w k = (is_full w k, ENFILE) ∷ []
+
+-- The world must have room for a process more (fork(2), EAGAIN).
+abbrev pub on_processes : World → Row
+on_processes w = (is_crowded w, EAGAIN) ∷ []
+
+-- A number in place of n must be n, or below the limit of the process (dup2(2), EBADF).
+abbrev pub on_place : Process → ℕ → ℕ → Row
+on_place q n m = (not (nat_eq m n) && nat_le q.limit m, EBADF) ∷ []
+
+-- A limit on descriptors must be in its range (setrlimit(2); ERANGE is this project's profile).
+abbrev pub on_limit : ℕ → Row
+on_limit nofile = (nat_lt MAX_NOFILE nofile, ERANGE) ∷ []
+
+-- The socket must be new and nameless, and these bytes a name (bind(2), EINVAL).
+abbrev pub on_bind : Socket → List ℕ → Row
+on_bind s name = (not (is_none s.name) || is_connected s.state || is_listening s.state || not (is_name name), EINVAL) ∷ []
+
+-- The name must be nobody's (bind(2), EADDRINUSE).
+abbrev pub on_name : Option ℕ → Row
+on_name owner = (not (is_none owner), EADDRINUSE) ∷ []
+
+-- The socket must have a name and be new, and b be a right backlog (listen(2), EINVAL).
+abbrev pub on_listen : Socket → ℕ → Row
+on_listen s b = (is_none s.name || is_connected s.state || is_listening s.state || not (is_between 1 MAX_BACKLOG b), EINVAL) ∷ []
+
+-- Who connects must be new (connect(2), EISCONN).
+abbrev pub on_client : State → Row
+on_client s = (is_listening s, EINVAL) ∷ (is_connected s, EISCONN) ∷ []
+
+-- Whom a socket of this type connects to must listen, be of the same type, and have room (connect(2), ECONNREFUSED, EPROTOTYPE, EAGAIN).
+abbrev pub on_listener : Socket → SockType → Row
+on_listener s kind =
+    (not (is_listening s.state), ECONNREFUSED)
+    ∷ (not (is_same_type s.kind kind), EPROTOTYPE)
+    ∷ (nat_le (room_of s.state) (length s.backlog), EAGAIN)
+    ∷ []
+
+-- Somebody must wait at the socket to be accepted (accept(2), EINVAL, EAGAIN).
+abbrev pub on_accept : Socket → Row
+on_accept s = (not (is_listening s.state), EINVAL) ∷ (nat_eq (length s.backlog) 0, EAGAIN) ∷ []
+
+-- A message must have a right number of bytes and of descriptors, each of which stands for a file by this look-up (sendmsg(2); unix(7), SCM_RIGHTS).
+abbrev pub on_parts : (ℕ → Option ℕ) → List ℕ → List ℕ → Row
+on_parts look bytes attach =
+    (nat_eq (length bytes) 0 || nat_lt SCM_MAX_FD (length attach), EINVAL)
+    ∷ (nat_lt MAX_BYTES (length bytes), EMSGSIZE)
+    ∷ (list_any (λ n. is_none (look n)) attach, EBADF)
+    ∷ []
+
+-- A socket of this state must have somebody to talk to (sendmsg(2), ENOTCONN, EPIPE).
+abbrev pub on_peer : State → Row
+on_peer s = (not (is_connected s), ENOTCONN) ∷ (is_hung_up s, EPIPE) ∷ []
+
+-- So many files more must not be too much in flight, for a user with this charge and limit, where all users together have that total (unix(7), ETOOMANYREFS; that the new ones do not count for the user, and ENOBUFS, are this project's profile).
+abbrev pub on_charge : ℕ → ℕ → ℕ → Bool → ℕ → Row
+on_charge charge total limit privileged files =
     (nat_lt 0 files && (not privileged && nat_lt limit charge), ETOOMANYREFS)
     ∷ (nat_lt MAX_INFLIGHT (total + files), ENOBUFS)
     ∷ []
 
--- Why a process cannot start (getrlimit(2); fork(2), EAGAIN; this project's profile).
-abbrev pub spawn_row : World → ℕ → Row
-spawn_row w nofile = (nat_lt MAX_NOFILE nofile, ERANGE) ∷ (is_crowded w, EAGAIN) ∷ []
+-- The queue must have room for a message more (sendmsg(2), EAGAIN).
+abbrev pub on_room : List Message → Row
+on_room queue = (nat_le MAX_MESSAGES (length queue), EAGAIN) ∷ []
 
--- Whether process p may not have number m in place of what it has there: m is not n, and not below its limit (dup2(2), EBADF).
-abbrev pub is_beyond : World → ℕ → ℕ → ℕ → Bool
-is_beyond w p n m = not (nat_eq m n) && nat_le (process_at w p).limit m
-
--- Why a receive of at most so many bytes is refused, whether it takes or only looks (recvmsg(2), MSG_PEEK).
-abbrev pub recv_row : World → ℕ → ℕ → ℕ → Row
-recv_row w p n max_bytes =
-    let s = socket_on w p n in
-    (is_none (table_at w p n), EBADF)
-    ∷ (is_none (socket_at w (ino_on w p n)), ENOTSOCK)
-    ∷ (not (is_between 1 MAX_BYTES max_bytes), EINVAL)
+-- The socket must have something to give to a receive of at most so many bytes (recvmsg(2), EINVAL, ENOTCONN, EAGAIN).
+abbrev pub on_receive : Socket → ℕ → Row
+on_receive s max_bytes =
+    (not (is_between 1 MAX_BYTES max_bytes), EINVAL)
     ∷ (not (is_connected s.state), ENOTCONN)
     ∷ (nat_eq (length s.queue) 0 && not (is_hung_up s.state), EAGAIN)
     ∷ []
 
+-- ---- The rows, each the joining of its parts.
+
+-- What process p has at n must be a socket (bind(2), EBADF, ENOTSOCK).
+abbrev pub at_socket : World → ℕ → ℕ → Row
+at_socket w p n = on_number (table_at w p n) ++ on_socket (socket_at w (ino_on w p n))
+
+-- Why a receive of at most so many bytes is refused, whether it takes or only looks (recvmsg(2), MSG_PEEK).
+abbrev pub recv_row : World → ℕ → ℕ → ℕ → Row
+recv_row w p n max_bytes = at_socket w p n ++ on_receive (socket_on w p n) max_bytes
+
+-- Why a process cannot start (getrlimit(2); fork(2), EAGAIN; this project's profile).
+abbrev pub spawn_row : World → ℕ → Row
+spawn_row w nofile = on_limit nofile ++ on_processes w
+
 -- Why a step of a process that is there is refused: open(2), dup(2), dup2(2), close(2), fork(2), _exit(2), socketpair(2), socket(2), bind(2), listen(2), connect(2), accept(2), sendmsg(2), recvmsg(2), setrlimit(2), but for want of memory.
 abbrev pub step_row : World → ℕ → Step → Row
-step_row w p step.Open = (is_short (process_at w p) 1, EMFILE) ∷ (is_full w 1, ENFILE) ∷ []
-step_row w p (step.Dup n) = (is_none (table_at w p n), EBADF) ∷ (is_short (process_at w p) 1, EMFILE) ∷ []
-step_row w p (step.Dup2 n m) = (is_none (table_at w p n), EBADF) ∷ (is_beyond w p n m, EBADF) ∷ []
-step_row w p (step.Close n) = (is_none (table_at w p n), EBADF) ∷ []
-step_row w p step.Fork = (is_crowded w, EAGAIN) ∷ []
+step_row w p step.Open = on_free (process_at w p) 1 ++ on_files w 1
+step_row w p (step.Dup n) = on_number (table_at w p n) ++ on_free (process_at w p) 1
+step_row w p (step.Dup2 n m) = on_number (table_at w p n) ++ on_place (process_at w p) n m
+step_row w p (step.Close n) = on_number (table_at w p n)
+step_row w p step.Fork = on_processes w
 step_row w p step.Exit = []
-step_row w p (step.Pair kind) = (is_short (process_at w p) 2, EMFILE) ∷ (is_full w 2, ENFILE) ∷ []
-step_row w p (step.Socket kind) = (is_short (process_at w p) 1, EMFILE) ∷ (is_full w 1, ENFILE) ∷ []
-step_row w p (step.Bind n name) =
-    let s = socket_on w p n in
-    (is_none (table_at w p n), EBADF)
-    ∷ (is_none (socket_at w (ino_on w p n)), ENOTSOCK)
-    ∷ (not (is_none s.name) || is_connected s.state || is_listening s.state || not (is_name name), EINVAL)
-    ∷ (not (is_none (named w.files name)), EADDRINUSE)
-    ∷ []
-step_row w p (step.Listen n b) =
-    let s = socket_on w p n in
-    (is_none (table_at w p n), EBADF)
-    ∷ (is_none (socket_at w (ino_on w p n)), ENOTSOCK)
-    ∷ (is_none s.name || is_connected s.state || is_listening s.state || not (is_between 1 MAX_BACKLOG b), EINVAL)
-    ∷ []
+step_row w p (step.Pair kind) = on_free (process_at w p) 2 ++ on_files w 2
+step_row w p (step.Socket kind) = on_free (process_at w p) 1 ++ on_files w 1
+step_row w p (step.Bind n name) = at_socket w p n ++ on_bind (socket_on w p n) name ++ on_name (named w.files name)
+step_row w p (step.Listen n b) = at_socket w p n ++ on_listen (socket_on w p n) b
 step_row w p (step.Connect n name) =
     let s = socket_on w p n in
-    let listener = socket_named w name in
-    (is_none (table_at w p n), EBADF)
-    ∷ (is_none (socket_at w (ino_on w p n)), ENOTSOCK)
-    ∷ (is_listening s.state, EINVAL)
-    ∷ (is_connected s.state, EISCONN)
-    ∷ (not (is_listening listener.state), ECONNREFUSED)
-    ∷ (not (is_same_type listener.kind s.kind), EPROTOTYPE)
-    ∷ (nat_le (room_of listener.state) (length listener.backlog), EAGAIN)
-    ∷ (is_full w 1, ENFILE)
-    ∷ []
-step_row w p (step.Accept n) =
-    let s = socket_on w p n in
-    (is_none (table_at w p n), EBADF)
-    ∷ (is_none (socket_at w (ino_on w p n)), ENOTSOCK)
-    ∷ (not (is_listening s.state), EINVAL)
-    ∷ (nat_eq (length s.backlog) 0, EAGAIN)
-    ∷ (is_short (process_at w p) 1, EMFILE)
-    ∷ []
+    at_socket w p n ++ on_client s.state ++ on_listener (socket_named w name) s.kind ++ on_files w 1
+step_row w p (step.Accept n) = at_socket w p n ++ on_accept (socket_on w p n) ++ on_free (process_at w p) 1
 step_row w p (step.Send n bytes attach) =
+    let q = process_at w p in
     let s = socket_on w p n in
-    (is_none (table_at w p n), EBADF)
-    ∷ (is_none (socket_at w (ino_on w p n)), ENOTSOCK)
-    ∷ (nat_eq (length bytes) 0 || nat_lt SCM_MAX_FD (length attach), EINVAL)
-    ∷ (nat_lt MAX_BYTES (length bytes), EMSGSIZE)
-    ∷ (list_any (λ m. is_none (table_at w p m)) attach, EBADF)
-    ∷ (not (is_connected s.state), ENOTCONN)
-    ∷ (is_hung_up s.state, EPIPE)
-    ∷ (nat_lt 0 (length attach) && is_over_limit w (process_at w p), ETOOMANYREFS)
-    ∷ (nat_lt MAX_INFLIGHT (total w + length attach), ENOBUFS)
-    ∷ (nat_le MAX_MESSAGES (length (queue_at w (peer_of s.state))), EAGAIN)
-    ∷ []
+    at_socket w p n
+    ++ on_parts (table_at w p) bytes attach
+    ++ on_peer s.state
+    ++ on_charge (charged w q.user) (total w) q.limit q.privileged (length attach)
+    ++ on_room (queue_at w (peer_of s.state))
 step_row w p (step.Recv n max_bytes max_fds) = recv_row w p n max_bytes
 step_row w p (step.Peek n max_bytes max_fds) = recv_row w p n max_bytes
-step_row w p (step.Limit n) = (nat_lt MAX_NOFILE n, ERANGE) ∷ []
+step_row w p (step.Limit n) = on_limit n
 
 -- The error with which a process cannot start, if there is one but want of memory.
 abbrev pub spawn_refusal : World → ℕ → Option Errno
@@ -222,4 +267,4 @@ spawn_refusal w nofile = first_fit (spawn_row w nofile)
 
 -- The error with which the step of process p is refused, if there is one but want of memory; a process that is not there comes first (kill(2), ESRCH).
 abbrev pub refusal : World → ℕ → Step → Option Errno
-refusal w p s = first_fit ((not (map.contains_key w.processes p), ESRCH) ∷ step_row w p s)
+refusal w p s = first_fit (on_process (map.get w.processes p) ++ step_row w p s)

@@ -3,7 +3,7 @@ ghost use Rattle.std.specs.Prelude.{◌≡◌, ℕ, IfErr, IfOk, None, OnOk, Som
 ghost use Rattle.af_base.specs.Bare.{bare};
 ghost use Rattle.af_base.specs.Counts.{charged, inflight, refs, total};
 ghost use Rattle.af_base.specs.Places.{InTable};
-ghost use Rattle.af_base.specs.Refusals.{first_fit, send_row};
+ghost use Rattle.af_base.specs.Refusals.{first_fit, on_charge};
 ghost use Rattle.af_pass.specs.Keeping.{Spares};
 
 use crate::store::Store;
@@ -91,8 +91,8 @@ impl Store {
         privileged: bool,
         files: usize,
     ) -> Result<(), Errno>
-        ensures ok { OnOk result (first_fit (send_row (charged self.now.world uid) (total self.now.world) limit privileged files) ≡ None) }
-        ensures err { IfErr result (λ e. first_fit (send_row (charged self.now.world uid) (total self.now.world) limit privileged files) ≡ Some e) }
+        ensures ok { OnOk result (first_fit (on_charge (charged self.now.world uid) (total self.now.world) limit privileged files) ≡ None) }
+        ensures err { IfErr result (λ e. first_fit (on_charge (charged self.now.world uid) (total self.now.world) limit privileged files) ≡ Some e) }
     {
         self.parts.places.may_send(uid, limit, privileged, files)
     }

@@ -1,7 +1,7 @@
 //! The parts, lent for reading, and the numbers that are kept. None takes memory.
 ghost use Rattle.std.specs.Prelude.{◌≡◌, IfErr, None, OnOk, Some, length, slice_get};
 ghost use Rattle.af_base.specs.Counts.{charged, inflight, refs, tabled, total};
-ghost use Rattle.af_base.specs.Refusals.{first_fit, send_row};
+ghost use Rattle.af_base.specs.Refusals.{first_fit, on_charge};
 ghost use Rattle.af_base.specs.Whole.{IsWhole, IsWithin};
 
 use crate::holdings::Holdings;
@@ -96,8 +96,8 @@ impl Holdings {
         privileged: bool,
         files: usize,
     ) -> Result<(), Errno>
-        ensures ok { OnOk result (first_fit (send_row (charged self.now.world uid) (total self.now.world) limit privileged files) ≡ None) }
-        ensures err { IfErr result (λ e. first_fit (send_row (charged self.now.world uid) (total self.now.world) limit privileged files) ≡ Some e) }
+        ensures ok { OnOk result (first_fit (on_charge (charged self.now.world uid) (total self.now.world) limit privileged files) ≡ None) }
+        ensures err { IfErr result (λ e. first_fit (on_charge (charged self.now.world uid) (total self.now.world) limit privileged files) ≡ Some e) }
     {
         self.ledger.may_send(uid, limit, privileged, files)
     }

@@ -1,6 +1,6 @@
 -- A whole pass over the smallest cycle.
-use Rattle.std.proofs.Common.{◌≡◌, inl, ℕ, ◌+◌, Bool, true, false, not, ◌&&◌, [], ◌∷◌, ◌++◌, length, refl, sym, ap, ◌∙◌, subst, cond, arith}
-use Rattle.std.specs.Prelude.{Option, Some, None, is_none, is_some, option_map, unwrap_or, nat_eq, nat_le, nat_lt, if◌then◌else◌}
+use Rattle.std.proofs.Common.{◌≡◌, inl, ℕ, ◌+◌, Bool, true, false, not, ◌&&◌, [], ◌∷◌, ◌++◌, refl, sym, ap, ◌∙◌, subst, cond, arith}
+use Rattle.std.specs.Prelude.{Option, Some, None, is_none, is_some, option_map, unwrap_or, nat_eq, if◌then◌else◌}
 use Rattle.std.specs.Option.{option_and_then, option_map_or}
 use Rattle.std.specs.List.{AllByRecursion, Contains, count_by, sum_by}
 use Rattle.std.specs.Ordering.{eq_by_cmp, nat_cmp}
@@ -9,8 +9,7 @@ use Rattle.std.specs.FinMap as map
 use Rattle.std.specs.FinMap.{entries-insert, gets, nat_cmp-IsAntisymmetric, put}
 use Rattle.std.proofs.lemmas.Bool.{false≢true}
 use Rattle.af_base.specs.declared.errno.Errno.{Errno}
-use Rattle.af_base.specs.declared.errno.Errno.TheVariants.{EAGAIN, EBADF, EINVAL, EMSGSIZE, ENOBUFS, ENOTCONN, ENOTSOCK, EPIPE, ESRCH, ETOOMANYREFS}
-use Rattle.af_base.specs.declared.limits.TheConstants.{MAX_INFLIGHT, MAX_MESSAGES}
+use Rattle.af_base.specs.declared.errno.Errno.TheVariants.{EBADF, EINVAL, EMSGSIZE, ENOTCONN, ENOTSOCK, EPIPE, ESRCH}
 use Rattle.af_base.specs.declared.events.Reply.TheVariants as reply
 use Rattle.af_base.specs.declared.events.SockType.TheVariants.{Seqpacket}
 use Rattle.af_base.specs.declared.events.State.TheVariants as state
@@ -21,7 +20,7 @@ use Rattle.af_base.specs.Places.{Holds, InTable, contents, queue_at, queue_of, t
 use Rattle.af_base.specs.Counts.{charge, charged, total, total_of}
 use Rattle.af_base.specs.Unheld.{IsSettled, Settles, file_without, map_entries, without}
 use Rattle.af_base.specs.Reached.{ByTable, IsGarbageCount, is_socket}
-use Rattle.af_base.specs.Refusals.{Row, first_fit, ino_on, is_connected, is_hung_up, is_over_limit, no_socket, peer_of, process_at, refusal, socket_at, socket_of, socket_on}
+use Rattle.af_base.specs.Refusals.{Row, first_fit, ino_on, is_connected, is_hung_up, no_socket, on_charge, on_room, peer_of, process_at, refusal, socket_at, socket_of, socket_on}
 use Rattle.af_base.specs.Steps.{Outcome, ProcessStep, answer, effect}
 use Rattle.af_base.specs.Pass.{Idle, Machine, PassesWhole, Purges, emptied, empty_file}
 use Rattle.af_base.proofs.Sums.{total-insert}
@@ -130,10 +129,9 @@ send_step = step.Send 1 (120 ∷ []) []
 
 -- the tests that are not read
 abbrev later : Row
-later = (false && is_over_limit collected (process_at collected 1), ETOOMANYREFS)
-    ∷ (nat_lt MAX_INFLIGHT (total collected + 0), ENOBUFS)
-    ∷ (nat_le MAX_MESSAGES (length (queue_at collected (peer_of (socket_on collected 1 1).state))), EAGAIN)
-    ∷ []
+later =
+    let q = process_at collected 1 in
+    on_charge (charged collected q.user) (total collected) q.limit q.privileged 0 ++ on_room (queue_at collected (peer_of (socket_on collected 1 1).state))
 
 hung_up : ProcessStep collected 1 send_step (reply.Refused EPIPE) collected
 hung_up = subst (λ o. Outcome o false (answer collected 1 send_step) (effect collected 1 send_step) collected (reply.Refused EPIPE) collected) (sym refused) (refl, refl) where

@@ -19,12 +19,12 @@ use Rattle.af_base.specs.declared.events.Step.TheVariants as step
 use Rattle.af_base.specs.declared.limits.TheConstants.{MAX_FILES, MAX_INFLIGHT, MAX_INO, MAX_MESSAGES, MAX_PID, MAX_PROCESSES}
 use Rattle.af_base.specs.World.{AsSocket, File, Map, Message, Process, World, empty_world}
 use Rattle.af_base.specs.Places.{Holds, InQueue, InTable, carried, contents, queue_at, queue_of, table_at}
-use Rattle.af_base.specs.Counts.{charge, count_in, tabled, total_of}
+use Rattle.af_base.specs.Counts.{charge, charged, count_in, tabled, total_of}
 use Rattle.af_base.specs.Unheld.{Goes, IsSettled, Settles}
 use Rattle.af_base.specs.Reached.{BySocket, ByTable, Garbage, IsGarbageCount, Reached, is_socket}
 use Rattle.af_base.specs.Table.{free_numbers}
 use Rattle.af_base.specs.Changes.{change_at, file_with, install, push_message, uninstall}
-use Rattle.af_base.specs.Refusals.{Row, first_fit, ino_on, is_connected, is_hung_up, is_over_limit, no_process, no_socket, peer_of, process_at, refusal, socket_at, socket_of, socket_on, spawn_row, step_row}
+use Rattle.af_base.specs.Refusals.{Row, first_fit, ino_on, is_connected, is_hung_up, no_process, no_socket, peer_of, process_at, refusal, socket_at, socket_of, socket_on, spawn_row, step_row}
 use Rattle.af_base.specs.Steps.{Outcome, ProcessStep, SpawnStep, answer, effect, free_at, spawned}
 use Rattle.af_base.specs.Pass.{Idle, Machine}
 use Rattle.af_base.specs.Run.{Run, fresh}
@@ -275,7 +275,7 @@ sends = outcome_done _ false (answer paired 1 send_step) (reply.Sent 2) (effect 
                 (
                   ap (λ s. is_hung_up s.state) socket_two,
                   (
-                    ap (λ q. nat_lt 0 1 && is_over_limit paired q) user ∙ ap (λ n. nat_lt 0 1 && (not false && nat_lt 16 n)) (total_ends [] (λ x. sum_by (charge 1000) (queue_of x))),
+                    ap (λ q. nat_lt 0 1 && (not q.privileged && nat_lt q.limit (charged paired q.user))) user ∙ ap (λ n. nat_lt 0 1 && (not false && nat_lt 16 n)) (total_ends [] (λ x. sum_by (charge 1000) (queue_of x))),
                     (
                       ap (λ n. nat_lt MAX_INFLIGHT (n + 1)) (total_ends [] (λ x. sum_by (λ m. length m.attached) (queue_of x))),
                       (

@@ -1,9 +1,9 @@
 -- Why a send is refused by what is kept.
 use Rattle.std.specs.Prelude.{ℕ, Bool, Option}
-use Rattle.af_base.specs.Refusals.{first_fit, send_row}
+use Rattle.af_base.specs.Refusals.{first_fit, on_charge}
 use Rattle.af_base.specs.declared.errno.Errno.{Errno}
 use Rattle.af_ledger.specs.Kept.{Kept, charge_of}
 
 -- Why user u may not send so many files, by a process of this limit and privilege, if there is a reason (unix(7), ETOOMANYREFS; that ENOBUFS comes next is this project's own).
 abbrev pub send_refusal : Kept → ℕ → ℕ → Bool → ℕ → Option Errno
-send_refusal k u limit privileged files = first_fit (send_row (charge_of k u) k.total limit privileged files)
+send_refusal k u limit privileged files = first_fit (on_charge (charge_of k u) k.total limit privileged files)

@@ -10,7 +10,7 @@ use Rattle.af_base.specs.Changes.{add_file, connected, with_socket}
 use Rattle.af_base.specs.Counts.{waiting}
 use Rattle.af_base.specs.Names.{named}
 use Rattle.af_base.specs.Places.{backlog_at, backlog_of}
-use Rattle.af_base.specs.Refusals.{first_fit, is_listening, is_short, no_socket, refusal, room_of, socket_at}
+use Rattle.af_base.specs.Refusals.{first_fit, is_listening, is_short, no_socket, on_accept, on_client, on_free, on_listener, refusal, room_of, socket_at}
 use Rattle.af_base.specs.Steps.{connected_socket, first_embryo}
 use Rattle.af_base.specs.Whole.{IsWhole}
 use Rattle.af_base.specs.World.{AsSocket, IsLive, Process, Socket, World}
@@ -20,7 +20,6 @@ use Rattle.af_base.proofs.Moved.{live-changed, others-changed}
 use Rattle.af_base.proofs.Named.{named-some}
 use Rattle.af_base.proofs.Opened.{blank-connected, blank-there, still-blank}
 use Rattle.af_base.proofs.Stepped.{none-fits}
-use Rattle.af_steps.specs.Rows.{on_accept, on_client, on_free, on_listener}
 use Rattle.af_steps.proofs.Found.{HasSocket, after-socket, file-is, passes-on, socket-is}
 
 -- Who listens at a socket that listens has so much room.
@@ -47,6 +46,7 @@ two-sockets w f g x l kind found heard quiet ready = told_apart g f (λ same.
 
 -- A new embryo, with its client connected to it.
 module _ (w : World) (k : IsWhole w) (kind : SockType) (f : ℕ) (v : World) (is : v ≡ with_socket (add_file w (AsSocket (connected_socket kind f))) f (connected w.next_ino)) where
+  -- The world with the embryo, before its client is connected to it.
   abbrev base : World
   base = add_file w (AsSocket (connected_socket kind f))
 

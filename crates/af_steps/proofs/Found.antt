@@ -1,18 +1,16 @@
 -- What an event has looked up, and what of its row is left then.
 use Rattle.std.proofs.Common.{◌≡◌, ◌<◌, ◌≤◌, ℕ, Bool, true, false, [], ◌∷◌, ◌++◌, refl, sym, ap, ◌∙◌, subst, arith}
-use Rattle.std.specs.Prelude.{Option, Some, None, IsTrue, is_some, not, unwrap_or, if◌then◌else◌}
+use Rattle.std.specs.Prelude.{Option, Some, None, IsTrue, is_some, unwrap_or, if◌then◌else◌}
 use Rattle.std.specs.FinMap as map
 use Rattle.std.specs.Option.{option_and_then, option_map_or, option_or}
 use Rattle.af_base.specs.declared.errno.Errno.{Errno}
-use Rattle.af_base.specs.declared.errno.Errno.TheVariants.{ESRCH}
 use Rattle.af_base.specs.Changes.{with_process}
 use Rattle.af_base.specs.Places.{InTable, table_at}
-use Rattle.af_base.specs.Refusals.{Row, first_fit, ino_on, no_process, no_socket, process_at, socket_at, socket_of, socket_on}
+use Rattle.af_base.specs.Refusals.{Row, at_socket, first_fit, ino_on, no_process, no_socket, on_number, on_process, on_socket, process_at, socket_at, socket_of, socket_on}
 use Rattle.af_base.specs.World.{AsSocket, File, Plain, Process, Socket, World}
 use Rattle.af_base.proofs.Lookups.{none_some, some_same}
 use Rattle.af_base.proofs.Moved.{there-table}
 use Rattle.af_hold.specs.Limits.{IsBelowLimit}
-use Rattle.af_steps.specs.Rows.{on_number, on_socket}
 
 -- The process p is this one.
 pub record HasProcess (w : World) (p : ℕ) (q : Process) : Type 0 where
@@ -54,8 +52,8 @@ module _ {w : World} {p : ℕ} {q : Process} (has : HasProcess w p q) where
   looks = λ i n. there-table w p n q has.there i
 
   -- What is left of a row where the process was found.
-  pub after-process : (rest : Process → (ℕ → Option ℕ) → Row) → first_fit ((not (map.contains_key w.processes p), ESRCH) ∷ rest (process_at w p) (table_at w p)) ≡ first_fit (rest q (map.get q.table))
-  after-process rest = λ i. first_fit ((not (is_some (has.there i)), ESRCH) ∷ rest (is_process i) (looks i))
+  pub after-process : (rest : Process → (ℕ → Option ℕ) → Row) → first_fit (on_process (map.get w.processes p) ++ rest (process_at w p) (table_at w p)) ≡ first_fit (rest q (map.get q.table))
+  after-process rest = λ i. first_fit (on_process (has.there i) ++ rest (is_process i) (looks i))
 
   -- The world with it changed.
   pub changes : (g : Process → Process) → with_process w p g ≡ record w { processes = map.insert w.processes p (g q) }
@@ -95,8 +93,8 @@ module _ {w : World} {p : ℕ} {q : Process} {n f : ℕ} (has : HasNumber w p q 
   ino-is = ap (λ o. unwrap_or o 0) tabled
 
   -- What is left of a row where the number was found too.
-  pub after-number : (rest : Process → Row) → first_fit ((not (map.contains_key w.processes p), ESRCH) ∷ (on_number (table_at w p n) ++ rest (process_at w p))) ≡ first_fit (rest q)
-  after-number rest = λ i. first_fit ((not (is_some (has.process.there i)), ESRCH) ∷ (on_number (tabled i) ++ rest (is_process has.process i)))
+  pub after-number : (rest : Process → Row) → first_fit (on_process (map.get w.processes p) ++ (on_number (table_at w p n) ++ rest (process_at w p))) ≡ first_fit (rest q)
+  after-number rest = λ i. first_fit (on_process (has.process.there i) ++ (on_number (tabled i) ++ rest (is_process has.process i)))
 
 module _ {w : World} {p : ℕ} {q : Process} {n f : ℕ} {x : Socket} (has : HasSocket w p q n f x) where
   -- The number gives the socket.
@@ -105,11 +103,11 @@ module _ {w : World} {p : ℕ} {q : Process} {n f : ℕ} {x : Socket} (has : Has
 
   -- What is left of a row where the socket was found too.
   pub after-socket : (rest : Process → (ℕ → Option ℕ) → Socket → Row)
-      → first_fit ((not (map.contains_key w.processes p), ESRCH) ∷ (on_number (table_at w p n) ++ (on_socket (socket_at w (ino_on w p n)) ++ rest (process_at w p) (table_at w p) (socket_on w p n)))) ≡ first_fit (rest q (map.get q.table) x)
+      → first_fit (on_process (map.get w.processes p) ++ (at_socket w p n ++ rest (process_at w p) (table_at w p) (socket_on w p n))) ≡ first_fit (rest q (map.get q.table) x)
   after-socket rest =
       let process = has.number.process in
       let socket : socket_at w (ino_on w p n) ≡ Some x = ap (socket_at w) (ino-is has.number) ∙ has.found in
-      λ i. first_fit ((not (is_some (process.there i)), ESRCH) ∷ (on_number (tabled has.number i) ++ (on_socket (socket i) ++ rest (is_process process i) (looks process i) (socket-is i))))
+      λ i. first_fit (on_process (process.there i) ++ (on_number (tabled has.number i) ++ (on_socket (socket i) ++ rest (is_process process i) (looks process i) (socket-is i))))
 
 -- The file of which this is the socket.
 pub file-is : (w : World) (s : ℕ) (x : Socket) → socket_at w s ≡ Some x → map.get w.files s ≡ Some (AsSocket x)

@@ -7,4 +7,3 @@ pub mod Sent
 pub mod Made
 pub mod Untabled
 pub mod Connected
-pub mod Parts

@@ -22,13 +22,15 @@ begins [] n e = absurd (none_some n e)
 begins (x ∷ xs) n e = (ap (λ y. y ∷ []) (some_same x n e), some_same x n e, le-ltb (length (x ∷ xs)) 1 (omega arith))
 
 module _ {q : Process} {n : ℕ} (least : IsLowest q n) where
-  -- It is free in the table, and below the limit.
+  -- As a list, it is free.
   free : AreFree q (n ∷ [])
   free = subst (AreFree q) (begins (free_numbers q) n least.read).0 (free-lowest_free 1 q)
 
+  -- It is below the limit.
   pub least-low : n < q.limit
   least-low = first-low q n [] free
 
+  -- It is not open.
   pub not-open : map.get q.table n ≡ None
   not-open = first-free q n [] free
 

@@ -17,6 +17,7 @@ use Rattle.af_steps.specs.Outcome.{Does, Refuses, error_of, step_error}
 
 -- An engine that shows `old`, and has this inside.
 module _ {inside old : Machine} (shown : inside ≡ old) (p : ℕ) (s : Step) where
+  -- The world inside.
   abbrev w : World
   w = inside.world
 

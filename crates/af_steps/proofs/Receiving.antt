@@ -8,7 +8,7 @@ use Rattle.af_base.specs.declared.events.Reply.TheVariants as reply
 use Rattle.af_base.specs.declared.events.Step.TheVariants as step
 use Rattle.af_base.specs.Changes.{install_all, with_queue}
 use Rattle.af_base.specs.Pass.{Machine}
-use Rattle.af_base.specs.Refusals.{first_fit, process_at, refusal}
+use Rattle.af_base.specs.Refusals.{first_fit, on_receive, process_at, refusal}
 use Rattle.af_base.specs.Steps.{answer, effect, taken_on}
 use Rattle.af_base.specs.Table.{lowest_free}
 use Rattle.af_base.specs.Take.{cut, nothing_taken, take_from}
@@ -16,7 +16,6 @@ use Rattle.af_base.specs.Whole.{IsSound}
 use Rattle.af_base.specs.World.{Process, Socket, World}
 use Rattle.af_base.proofs.Stepped.{same-with_queue}
 use Rattle.af_steps.specs.Outcome.{Does}
-use Rattle.af_steps.specs.Rows.{on_receive}
 use Rattle.af_steps.proofs.Found.{HasSocket, after-socket, file-is, ino-is, socket-is}
 use Rattle.af_steps.proofs.Outcomes.{does-nothing}
 

@@ -11,11 +11,10 @@ use Rattle.af_base.specs.declared.limits.TheConstants.{MAX_INFLIGHT}
 use Rattle.af_base.specs.Changes.{push_message}
 use Rattle.af_base.specs.Counts.{charged, total}
 use Rattle.af_base.specs.Places.{InTable, queue_at, queue_of, table_at}
-use Rattle.af_base.specs.Refusals.{Row, first_fit, peer_of, refusal, socket_at}
+use Rattle.af_base.specs.Refusals.{Row, first_fit, on_charge, on_parts, on_peer, on_room, peer_of, refusal, socket_at}
 use Rattle.af_base.specs.Steps.{effect}
 use Rattle.af_base.specs.World.{Message, Process, Socket, World}
 use Rattle.af_base.proofs.Stepped.{attached-most, attached-tabled, none-fits}
-use Rattle.af_steps.specs.Rows.{on_charge, on_parts, on_peer, on_room}
 use Rattle.af_steps.proofs.Found.{HasSocket, after-socket, file-is, goes-on, is_process, looks, passes-on, socket-is}
 
 module _ {w : World} {p n f : ℕ} {q : Process} {x : Socket} (has : HasSocket w p q n f x) (bytes attach : List ℕ) where

@@ -29,6 +29,7 @@ insert-removed m k x = same-beside (map.insert (map.remove m k) k x) (map.insert
 -- A free number need not be given up.
 pub uninstall-free : (w : World) (p n : ℕ) → table_at w p n ≡ None → uninstall w p n ≡ w
 uninstall-free w p n free = by (map.get w.processes p) refl where
+  -- The world where this is the process.
   changed : Option Process → World
   changed o = record w { processes = option_map_or (λ q. map.insert w.processes p (record q { table = map.remove q.table n })) o w.processes }
 
@@ -43,6 +44,7 @@ module _ {w : World} {p : ℕ} {q : Process} (has : HasProcess w p q) (n : ℕ) 
   abbrev pub less : Process
   less = taken_out n q
 
+  -- It is there.
   pub has-less : HasProcess (uninstall w p n) p less
   has-less = record { there = ap (λ (v : World). map.get v.processes p) (changes has (taken_out n)) ∙ insert-here w.processes p less }
 

@@ -2,9 +2,8 @@
 ghost use Rattle.std.specs.Prelude.{◌≡◌, ◌≤◌, Some, None, IfOk, IfErr, OnOk, length, filter_map, is_none, nat_lt, option_copied};
 ghost use Rattle.std.specs.List.{list_any};
 ghost use Rattle.std.specs.FinMap as map;
-ghost use Rattle.af_base.specs.Refusals.{first_fit, peer_of, socket_at};
+ghost use Rattle.af_base.specs.Refusals.{first_fit, on_parts, on_peer, on_receive, peer_of, socket_at};
 ghost use Rattle.af_steps.specs.Outcome.{Does, Refuses, got_reply};
-ghost use Rattle.af_steps.specs.Rows.{on_parts, on_peer, on_receive};
 
 use crate::engine::Engine;
 use af_base::errno::Errno;

@@ -2,9 +2,8 @@
 ghost use Rattle.std.specs.Prelude.{◌≡◌, ◌↔◌, None, Some, IfErr, IfOk, IsTrue, OnOk};
 ghost use Rattle.std.specs.List.{list_all};
 ghost use Rattle.af_base.specs.Names.{is_name, is_name_byte};
-ghost use Rattle.af_base.specs.Refusals.{first_fit};
+ghost use Rattle.af_base.specs.Refusals.{first_fit, on_accept, on_bind, on_client, on_listen, on_listener};
 ghost use Rattle.af_steps.specs.Outcome.{Does, Refuses};
-ghost use Rattle.af_steps.specs.Rows.{on_accept, on_bind, on_client, on_listen, on_listener};
 
 use crate::engine::Engine;
 use af_base::errno::Errno;

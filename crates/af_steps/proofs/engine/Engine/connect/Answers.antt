@@ -4,10 +4,9 @@ use Rattle.std.specs.Option.{option_copied}
 use Rattle.std.proofs.lemmas.Bool.{false≢true}
 use Rattle.af_base.specs.Names.{named}
 use Rattle.af_base.specs.Pass.{Machine}
-use Rattle.af_base.specs.Refusals.{first_fit, room_of, socket_at}
+use Rattle.af_base.specs.Refusals.{first_fit, on_client, on_listener, room_of, socket_at}
 use Rattle.af_base.specs.World.{Socket}
 use Rattle.af_collect.specs.Shown.{Shown}
-use Rattle.af_steps.specs.Rows.{on_client, on_listener}
 use Rattle.af_steps.proofs.Connected.{embryo-live, embryo-new, listener-is, listener-stays, room-left, some-by, two-sockets}
 use Rattle.af_steps.proofs.engine.Engine.connect.Goals as goal
 

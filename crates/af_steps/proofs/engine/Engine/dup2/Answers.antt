@@ -5,11 +5,10 @@ use Rattle.af_base.specs.declared.errno.Errno.TheVariants.{EBADF}
 use Rattle.af_base.specs.declared.events.Reply.TheVariants as reply
 use Rattle.af_base.specs.declared.events.Step.TheVariants as step
 use Rattle.af_base.specs.Changes.{install, uninstall}
-use Rattle.af_base.specs.Refusals.{first_fit, ino_on, refusal}
+use Rattle.af_base.specs.Refusals.{first_fit, ino_on, on_place, refusal}
 use Rattle.af_base.specs.World.{IsLive, World}
 use Rattle.af_collect.specs.Shown.{Shown}
 use Rattle.af_pass.specs.Keeping.{Spares}
-use Rattle.af_steps.specs.Rows.{on_place}
 use Rattle.af_steps.proofs.Found.{HasNumber, after-number, below-limit, held, in-same, ino-is, is-free, is-there}
 use Rattle.af_steps.proofs.Untabled.{has-less, install-uninstalled, less-free}
 use Rattle.af_steps.proofs.Outcomes.{does, does-nothing}

@@ -10,34 +10,31 @@ use Rattle.af_collect.specs.Shown.{Shown, room_at}
 use Rattle.af_pass.specs.Keeping.{Spares}
 use Rattle.af_steps.proofs.Found.{HasProcess, below-limit, in-same, is-free, is-there, room-below}
 use Rattle.af_steps.proofs.Made.{added-live, first-live}
-use Rattle.af_steps.proofs.engine.Engine.pair.Goals.{After-table_in-arg-1}
+use Rattle.af_steps.proofs.engine.Engine.pair.Goals.{After-room_for}
 use Rattle.af_steps.proofs.engine.Engine.pair.Goals as goal
 
 -- The process, and its two lowest free numbers.
-has : (c : After-table_in-arg-1) → HasProcess c.self.inside.store.world c.args.pid c.in_ok-process.process.now.process × AreFree c.in_ok-process.process.now.process (c.in_ok-lower.lower ∷ c.in_ok-lower.higher ∷ [])
+has : (c : After-room_for) → HasProcess c.self.inside.store.world c.args.pid c.in_ok-process.process.now.process × AreFree c.in_ok-process.process.now.process (c.in_ok-lower.lower ∷ c.in_ok-lower.higher ∷ [])
 has c =
     let q = c.in_ok-process.process.now.process in
     let lowest : lowest_free 2 q ≡ c.in_ok-lower.lower ∷ c.in_ok-lower.higher ∷ [] = search rules in
     (record { there = search rules }, subst (AreFree q) lowest (free-lowest_free 2 q))
-
--- The process is there when both sockets were made.
-made : (c : After-table_in-arg-1) → HasProcess c.make_two.new.self.world c.args.pid c.in_ok-process.process.now.process
-made c = in-same (has c).0 c.make_two.new.self.world (ap (λ (s : Shown). s.world.processes) c.in_ok-first.ensures.ok ∙ ap (λ (v : World). v.processes) c.room_for.ensures.world)
 
 pub table_in-requires : goal.table_in-requires
 table_in-requires c =
     let q = c.in_ok-process.process.now.process in
     let n = c.in_ok-lower.lower in
     let others = c.in_ok-lower.higher ∷ [] in
-    let found = has c in
+    let found = has (goal.at.table_in-requires c).After-room_for in
+    let made = in-same found.0 c.make_two.new.self.world (ap (λ (s : Shown). s.world.processes) c.in_ok-first.ensures.ok ∙ ap (λ (v : World). v.processes) c.room_for.ensures.world) in
     let below = first-low q n others found.1 in
     let kept = ap (λ (s : Shown). room_at s c.args.pid) c.in_ok-first.ensures.ok in
     let low = room-below found.0 n _ below (c.in_ok-room_for.ensures.row (omega arith)) in
     record {
-      there = is-there (made c);
+      there = is-there made;
       row = omega (arith, low, kept);
-      limit = below-limit (made c) n below;
-      free = is-free (made c) n (first-free q n others found.1);
+      limit = below-limit made n below;
+      free = is-free made n (first-free q n others found.1);
       live = first-live c.room_for.new.self.world c.args.kind c.make_two.new.self.world c.in_ok-first.first (ap (λ (s : Shown). s.world) c.in_ok-first.ensures.ok) c.in_ok-first.ensures.inos.0;
       spared = c.in_ok-first.ensures.spared.0;
     }
@@ -47,15 +44,15 @@ table_in-requires-2 c =
     let q = c.in_ok-process.process.now.process in
     let n = c.in_ok-lower.lower in
     let m = c.in_ok-lower.higher in
-    let before = (goal.at.table_in-requires-2 c).After-table_in-arg-1 in
-    let found = has before in
+    let found = has (goal.at.table_in-requires-2 c).After-room_for in
+    let made = in-same found.0 c.make_two.new.self.world (ap (λ (s : Shown). s.world.processes) c.in_ok-first.ensures.ok ∙ ap (λ (v : World). v.processes) c.room_for.ensures.world) in
     let put = ap (λ (s : Shown). s.world) c.table_in.ensures in
     let v = c.room_for.new.self.world in
     let with_first = add_file v (AsSocket (connected_socket c.args.kind (v.next_ino + 1))) in
     let with_one : Process = record q { table = map.insert q.table n c.in_ok-first.first } in
     let left = rest-free q n (m ∷ []) c.in_ok-first.first found.1 in
     let below = first-low with_one m [] left in
-    let one : HasProcess c.table_in.new.self.world c.args.pid with_one = record { there = ap (λ (v : World). map.get v.processes c.args.pid) put ∙ there-install c.make_two.new.self.world c.args.pid n c.in_ok-first.first q (made before).there } in
+    let one : HasProcess c.table_in.new.self.world c.args.pid with_one = record { there = ap (λ (v : World). map.get v.processes c.args.pid) put ∙ there-install c.make_two.new.self.world c.args.pid n c.in_ok-first.first q made.there } in
     let kept = ap (λ (s : Shown). room_at s c.args.pid) c.table_in.ensures ∙ ap (λ (s : Shown). room_at s c.args.pid) c.in_ok-first.ensures.ok in
     let low = room-below found.0 m _ below (c.in_ok-room_for.ensures.row (omega arith)) in
     record {

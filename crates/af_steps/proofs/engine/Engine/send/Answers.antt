@@ -7,7 +7,7 @@ use Rattle.af_base.specs.declared.events.Step.TheVariants as step
 use Rattle.af_base.specs.declared.limits.TheConstants.{MAX_MESSAGES}
 use Rattle.af_base.specs.Counts.{charged, total}
 use Rattle.af_base.specs.Pass.{Machine}
-use Rattle.af_base.specs.Refusals.{first_fit, refusal, send_row}
+use Rattle.af_base.specs.Refusals.{first_fit, refusal, on_charge}
 use Rattle.af_collect.specs.Shown.{Shown}
 use Rattle.af_steps.proofs.Found.{HasSocket}
 use Rattle.af_steps.proofs.Outcomes.{does, refuses, starves}
@@ -21,9 +21,9 @@ has c = record { number = record { process = record { there = search rules }; st
 
 -- The charge was tested by what the process has.
 charge : (c : After-may_send) (found : HasSocket c.self.inside.store.world c.args.pid c.in_ok-process.process.now.process c.args.on c.in_ok-file.file c.in_ok-socket.socket.now)
-    → first_fit (charges found c.args.bytes.now c.args.attach.now) ≡ first_fit (send_row (charged c.self.inside.store.world c.user.result) (total c.self.inside.store.world) c.limit-limit.result c.is_privileged-privileged.result (length c.args.attach.now))
+    → first_fit (charges found c.args.bytes.now c.args.attach.now) ≡ first_fit (on_charge (charged c.self.inside.store.world c.user.result) (total c.self.inside.store.world) c.limit-limit.result c.is_privileged-privileged.result (length c.args.attach.now))
 charge c found =
-    λ i. first_fit (send_row (charged c.self.inside.store.world (sym c.user.ensures i)) (total c.self.inside.store.world) (sym c.limit-limit.ensures.value i) (sym c.is_privileged-privileged.ensures i) (length c.args.attach.now))
+    λ i. first_fit (on_charge (charged c.self.inside.store.world (sym c.user.ensures i)) (total c.self.inside.store.world) (sym c.limit-limit.ensures.value i) (sym c.is_privileged-privileged.ensures i) (length c.args.attach.now))
 
 -- Nothing refuses it.
 fits : (c : After-message) (found : HasSocket c.self.inside.store.world c.args.pid c.in_ok-process.process.now.process c.args.on c.in_ok-file.file c.in_ok-socket.socket.now)
