@@ -1,3 +1,4 @@
 pub mod Queues
 pub mod Begun
 pub mod Naming
+pub mod Rowed

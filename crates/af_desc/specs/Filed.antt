@@ -8,12 +8,14 @@ use Rattle.af_base.specs.World.{Map, File, Socket, AsSocket}
 use Rattle.af_base.specs.Refusals.{is_full_of, no_socket, socket_of}
 use Rattle.af_base.specs.Steps.{connected_socket, idle_socket}
 use Rattle.af_base.specs.Take.{take_from}
+use Rattle.af_ledger.specs.declared.count.Count.{Count}
 use Rattle.af_listen.specs.Named.{Named}
 use Rattle.af_queue.specs.Received.{Received, received}
 
--- The world's files, and the number that the next one gets (this project's own).
+-- The world's files, how many places hold each, and the number that the next one gets (this project's own).
 pub record Filed : Type 0 where
   pub files : Map File
+  pub counts : Map Count
   pub next : ℕ
 
 -- Whether k files more are too many, or have no inode numbers left (open(2), ENFILE).

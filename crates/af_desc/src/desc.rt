@@ -1,5 +1,5 @@
 //! An open file description.
-ghost use Rattle.std.specs.Prelude.{◌≡◌, ◌∷◌, [], ◌<◌, IfSome, IfNone, IfOk, OnOk, OnErr, None, false, is_none, length, drop, option_copied};
+ghost use Rattle.std.specs.Prelude.{◌≡◌, ◌∷◌, [], ◌<◌, IfSome, IfNone, IfErr, IfOk, OnOk, OnErr, None, false, is_none, length, drop, option_copied};
 ghost use Rattle.af_base.specs.World as world;
 ghost use Rattle.af_base.specs.Places.{backlog_of, queue_of};
 ghost use Rattle.af_base.specs.Changes.{bound, connected, dequeued, file_with, listening, pushed, queued};
@@ -104,10 +104,11 @@ impl Desc {
 
     /// One message more, last in the queue; a plain file has none, and the message goes. On an
     /// error nothing has changed.
-    pub(crate) fn push(&mut self, message: Msg) -> Result<(), AllocError>
+    pub(crate) fn push(&mut self, message: Msg) -> Result<(), Msg>
         requires few { length (queue_of self.old) < MAX_MESSAGES }
         requires within { IsMessageWithin message }
         ensures ok { OnOk result (self.new ≡ file_with (pushed message) self.old) }
+        ensures back { IfErr result (λ refused. refused ≡ message) }
         ensures err { OnErr result (self.new ≡ self.old) }
     {
         match &mut self.kind {

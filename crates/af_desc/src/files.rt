@@ -1,5 +1,5 @@
 //! The files, by their numbers.
-ghost use Rattle.std.specs.Prelude.{◌≡◌, ℕ, ◌+◌, ◌<◌, ◌∷◌, [], false, None, IsTrue, IfSome, IfNone, IfOk, OnOk, OnErr, is_none, option_copied, length, drop};
+ghost use Rattle.std.specs.Prelude.{◌≡◌, ℕ, ◌+◌, ◌<◌, ◌∷◌, ◌≤◌, [], false, None, IsTrue, IfSome, IfNone, IfErr, IfOk, OnOk, OnErr, is_none, option_copied, length, drop, vec_capacity};
 ghost use Rattle.std.specs.FinMap as map;
 ghost use Rattle.af_base.specs.World as world;
 ghost use Rattle.af_base.specs.Places.{backlog_in, queue_in};
@@ -8,54 +8,61 @@ ghost use Rattle.af_base.specs.Changes.{bound, change_socket_at, connected, dequ
 ghost use Rattle.af_base.specs.Refusals.{room_of};
 ghost use Rattle.af_base.specs.Steps.{connected_socket, idle_socket};
 ghost use Rattle.af_base.specs.Whole.{IsMessageWithin};
+ghost use Rattle.af_ledger.specs.Counted.{uncounted};
+ghost use Rattle.af_ledger.specs.Waiting.{AreWaiting};
 ghost use Rattle.af_desc.specs.Filed.{is_full, is_live, name_of, with_pair, hung_up, popped, received_from, received_of, socket_in};
 
 use crate::desc::Desc;
+use crate::rows::Rows;
 use crate::socket::Socket;
 use af_base::events::SockType;
 use af_base::items::Items;
 use af_base::limits::{MAX_FILES, MAX_INO, MAX_MESSAGES};
 use af_base::names::{FileRef, Ino};
+use af_ledger::take_off;
 use af_listen::Names;
-use af_order::Keyed;
 use af_queue::{Msg, Taken};
 use std::alloc::{AllocError, Global};
 use std::marker::Model;
 
-/// The files, each under a number that is never used again, and the names of those that have one. A
-/// `FileRef` that was handed out has a hint where its file stands.
+/// The files, each under a number that is never used again, with how many places hold it, and the
+/// names of those that have one. A `FileRef` that was handed out has a hint where its file stands.
 #[derive(Drop)]
 pub struct Files {
-    alloc: Global,
-    files: Keyed<Desc>,
+    pub(crate) alloc: Global,
+    pub(crate) rows: Rows,
+    /// The files that no place holds.
+    pub(crate) waiting: Vec<FileRef>,
     next: u64,
-    names: Names,
+    pub(crate) names: Names,
 }
 
 impl Model for Files {
     ghost use Rattle.std.specs.FinMap as map;
     ghost use Rattle.std.specs.Coded.{codes};
-    ghost use Rattle.std.specs.Prelude.{◌≡◌, ◌<◌, false};
+    ghost use Rattle.std.specs.Prelude.{◌≡◌, ◌<◌, ◌≤◌, false, vec_capacity};
     ghost use Rattle.af_desc.specs.Filed.{AreNamed, Filed};
+    ghost use Rattle.af_ledger.specs.Waiting.{AreWaiting};
 
     ghost Value = { Filed };
 
     ghost coded = { Prim.hlevel (codes, map.code) };
 
-    ghost view = { λ a. record { files = a.files.values; next = a.next } };
+    ghost view = { λ a. record { files = a.rows.files; counts = a.rows.counts; next = a.next } };
 
-    ghost invariant = { λ a. (a.files.last < a.next) × (map.contains_key a.files.values 0 ≡ false) × AreNamed a.names a.files.values };
+    ghost invariant = { λ a. (a.rows.last < a.next) × (map.contains_key a.rows.files 0 ≡ false) × AreNamed a.names a.rows.files × AreWaiting a.rows.counts a.waiting.items × (map.len a.rows.counts ≤ vec_capacity a.waiting) };
 }
 
 impl Files {
     /// No file; numbers begin at 1. It takes no memory.
     #[tactic(auto, using(crate::proofs::Begun::begun))]
     pub fn new(alloc: Global) -> Files
-        ensures { result ≡ record { files = map.empty; next = 1 } }
+        ensures { result ≡ record { files = map.empty; counts = map.empty; next = 1 } }
     {
         Files {
             alloc,
-            files: Keyed::new(alloc),
+            rows: Rows::new(alloc),
+            waiting: Vec::new(alloc),
             next: 1,
             names: Names::new(alloc),
         }
@@ -66,7 +73,7 @@ impl Files {
     pub fn live(&self) -> usize
         ensures { result ≡ map.len self.now.files }
     {
-        self.files.len()
+        self.rows.len()
     }
 
     /// The number that the next file gets.
@@ -91,7 +98,7 @@ impl Files {
         ensures there { IfSome result (λ f. (f ≡ ino) × IsTrue (is_live self.now ino)) }
         ensures none { IfNone result (is_live self.now ino ≡ false) }
     {
-        self.files.find(ino)
+        self.rows.find(ino)
     }
 
     /// The file; nothing of a stranger.
@@ -99,7 +106,7 @@ impl Files {
     pub fn get(&self, file: &FileRef) -> Option<&Desc>
         ensures { option_copied result ≡ map.get self.now.files file.now }
     {
-        self.files.get(file)
+        self.rows.desc(file)
     }
 
     /// The socket of this abstract name, if there is one (unix(7)): one look-up, however many have one.
@@ -118,7 +125,7 @@ impl Files {
         ensures none { IfNone result ((q : ℕ) → ino < q → is_live self.now q ≡ false) }
         ensures begins { is_live self.now 0 ≡ false }
     {
-        self.files.next_after(ino)
+        self.rows.next_after(ino)
     }
 
     /// A file more, under the next number. Room comes first, so that on an error nothing has changed.
@@ -130,10 +137,11 @@ impl Files {
         ensures ino { IfOk result (λ ino. ino ≡ self.old.next) }
         ensures files { OnOk result (self.new.files ≡ map.insert self.old.files self.old.next desc) }
         ensures next { OnOk result (self.new.next ≡ self.old.next + 1) }
+        ensures counts { OnOk result (self.new.counts ≡ map.insert self.old.counts self.old.next uncounted) }
         ensures err { OnErr result (self.new ≡ self.old) }
     {
-        self.files.reserve(1)?;
-        let file = self.files.push(Ino(self.next), desc);
+        reserve(&mut self.rows, &mut self.waiting, 1)?;
+        let file = enter(&mut self.rows, &mut self.waiting, Ino(self.next), desc);
         self.next += 1;
         Ok(file)
     }
@@ -145,6 +153,7 @@ impl Files {
         ensures ino { IfOk result (λ ino. ino ≡ self.old.next) }
         ensures files { OnOk result (self.new.files ≡ map.insert self.old.files self.old.next world.Plain) }
         ensures next { OnOk result (self.new.next ≡ self.old.next + 1) }
+        ensures counts { OnOk result (self.new.counts ≡ map.insert self.old.counts self.old.next uncounted) }
         ensures err { OnErr result (self.new ≡ self.old) }
     {
         self.make(Desc::plain())
@@ -157,6 +166,7 @@ impl Files {
         ensures ino { IfOk result (λ ino. ino ≡ self.old.next) }
         ensures files { OnOk result (self.new.files ≡ map.insert self.old.files self.old.next (world.AsSocket (idle_socket kind))) }
         ensures next { OnOk result (self.new.next ≡ self.old.next + 1) }
+        ensures counts { OnOk result (self.new.counts ≡ map.insert self.old.counts self.old.next uncounted) }
         ensures err { OnErr result (self.new ≡ self.old) }
     {
         self.make(Desc::idle(self.alloc, kind))
@@ -171,16 +181,17 @@ impl Files {
         ensures second { IfOk result (λ inos. inos.1 ≡ self.old.next + 1) }
         ensures files { OnOk result (self.new.files ≡ with_pair kind self.old.next self.old.files) }
         ensures next { OnOk result (self.new.next ≡ self.old.next + 2) }
+        ensures counts { OnOk result (self.new.counts ≡ map.insert (map.insert self.old.counts self.old.next uncounted) (self.old.next + 1) uncounted) }
         ensures err { OnErr result (self.new ≡ self.old) }
     {
-        self.files.reserve(2)?;
+        reserve(&mut self.rows, &mut self.waiting, 2)?;
         let (lower, higher) = (Ino(self.next), Ino(self.next + 1));
         // Where the second will stand is told once it stands there.
         let desc = Desc::connected(self.alloc, kind, &FileRef::new(higher, 0));
-        let first = self.files.push(lower, desc);
+        let first = enter(&mut self.rows, &mut self.waiting, lower, desc);
         let desc = Desc::connected(self.alloc, kind, &first);
-        let second = self.files.push(higher, desc);
-        point(&mut self.files, &first, &second);
+        let second = enter(&mut self.rows, &mut self.waiting, higher, desc);
+        point(&mut self.rows, &first, &second);
         self.next += 2;
         Ok((first, second))
     }
@@ -193,8 +204,11 @@ impl Files {
         ensures value { result ≡ map.get self.old.files file.now }
         ensures files { self.new.files ≡ map.remove self.old.files file.now }
         ensures next { self.new.next ≡ self.old.next }
+        ensures counts { self.new.counts ≡ map.remove self.old.counts file.now }
     {
-        let desc = self.files.remove(file)?;
+        let gone = self.rows.remove(file);
+        take_off(&mut self.waiting, file.ino());
+        let desc = gone?;
         if let Some(name) = desc.name() {
             self.names.unbind(name);
         }
@@ -208,25 +222,28 @@ impl Files {
     pub fn hang_up(&mut self, file: &FileRef)
         ensures files { self.new.files ≡ change_socket_at hung_up self.old.files file.now }
         ensures next { self.new.next ≡ self.old.next }
+        ensures counts { self.new.counts ≡ self.old.counts }
     {
-        let Some(desc) = self.files.get_mut(file) else {
+        let Some(desc) = self.rows.desc_mut(file) else {
             return;
         };
         desc.hang_up();
     }
 
     /// One message more, last in the queue of that socket, which is not full. A plain file or a
-    /// stranger has no queue, and there the message is dropped. On an error nothing has changed, and
-    /// the message is dropped too.
+    /// stranger has no queue, and there the message is dropped. Where memory is refused nothing has
+    /// changed, and the message comes back.
     #[tactic(auto, using(af_order::proofs::Values::lent, crate::proofs::Naming::kept))]
-    pub fn push(&mut self, file: &FileRef, message: Msg) -> Result<(), AllocError>
+    pub fn push(&mut self, file: &FileRef, message: Msg) -> Result<(), Msg>
         requires few { length (queue_in self.old.files file.now) < MAX_MESSAGES }
         requires within { IsMessageWithin message }
         ensures files { OnOk result (self.new.files ≡ change_socket_at (pushed message) self.old.files file.now) }
         ensures next { self.new.next ≡ self.old.next }
+        ensures counts { self.new.counts ≡ self.old.counts }
+        ensures back { IfErr result (λ refused. refused ≡ message) }
         ensures err { OnErr result (self.new ≡ self.old) }
     {
-        let Some(desc) = self.files.get_mut(file) else {
+        let Some(desc) = self.rows.desc_mut(file) else {
             return Ok(());
         };
         desc.push(message)
@@ -259,9 +276,10 @@ impl Files {
         ensures taken { IfOk result (λ t. t ≡ received_of (socket_in self.old.files file.now) max) }
         ensures files { OnOk result (self.new.files ≡ change_socket_at (received_from max) self.old.files file.now) }
         ensures next { self.new.next ≡ self.old.next }
+        ensures counts { self.new.counts ≡ self.old.counts }
         ensures err { OnErr result (self.new ≡ self.old) }
     {
-        let Some(desc) = self.files.get_mut(file) else {
+        let Some(desc) = self.rows.desc_mut(file) else {
             return Ok(Taken::nothing(self.alloc));
         };
         desc.take(self.alloc, max)
@@ -274,8 +292,9 @@ impl Files {
         ensures none { IfNone result (queue_in self.old.files file.now ≡ []) }
         ensures files { self.new.files ≡ change_socket_at popped self.old.files file.now }
         ensures next { self.new.next ≡ self.old.next }
+        ensures counts { self.new.counts ≡ self.old.counts }
     {
-        let desc = self.files.get_mut(file)?;
+        let desc = self.rows.desc_mut(file)?;
         desc.pop()
     }
 
@@ -287,6 +306,7 @@ impl Files {
         ensures ino { IfOk result (λ ino. ino ≡ self.old.next) }
         ensures files { OnOk result (self.new.files ≡ change_socket_at (connected self.old.next) (map.insert self.old.files self.old.next (world.AsSocket (connected_socket kind client.now))) client.now) }
         ensures next { OnOk result (self.new.next ≡ self.old.next + 1) }
+        ensures counts { OnOk result (self.new.counts ≡ map.insert self.old.counts self.old.next uncounted) }
         ensures err { OnErr result (self.new ≡ self.old) }
     {
         let embryo = self.make(Desc::connected(self.alloc, kind, client))?;
@@ -300,8 +320,9 @@ impl Files {
     fn connect(&mut self, file: &FileRef, peer: &FileRef)
         ensures files { self.new.files ≡ change_socket_at (connected peer.now) self.old.files file.now }
         ensures next { self.new.next ≡ self.old.next }
+        ensures counts { self.new.counts ≡ self.old.counts }
     {
-        let Some(desc) = self.files.get_mut(file) else {
+        let Some(desc) = self.rows.desc_mut(file) else {
             return;
         };
         desc.connect(peer);
@@ -315,6 +336,7 @@ impl Files {
         requires free { named self.old.files name.now ≡ None }
         ensures files { OnOk result (self.new.files ≡ change_socket_at (bound name.now) self.old.files file.now) }
         ensures next { self.new.next ≡ self.old.next }
+        ensures counts { self.new.counts ≡ self.old.counts }
         ensures err { OnErr result (self.new ≡ self.old) }
     {
         let Some(desc) = self.get(file) else {
@@ -326,7 +348,7 @@ impl Files {
         let own = Items::of(name.as_slice().to_vec(self.alloc)?);
         let listed = Items::of(name.as_slice().to_vec(self.alloc)?);
         self.names.bind(listed, file.again())?;
-        if let Err(refused) = set_name(self.alloc, &mut self.files, file, own) {
+        if let Err(refused) = set_name(self.alloc, &mut self.rows, file, own) {
             self.names.unbind(name);
             return Err(refused);
         }
@@ -341,9 +363,10 @@ impl Files {
         requires nobody { IfSome (socket_in self.old.files file.now) (λ s. s.backlog ≡ []) }
         ensures files { OnOk result (self.new.files ≡ change_socket_at (listening most) self.old.files file.now) }
         ensures next { self.new.next ≡ self.old.next }
+        ensures counts { self.new.counts ≡ self.old.counts }
         ensures err { OnErr result (self.new ≡ self.old) }
     {
-        let Some(desc) = self.files.get_mut(file) else {
+        let Some(desc) = self.rows.desc_mut(file) else {
             return Ok(());
         };
         desc.listen(self.alloc, most)
@@ -356,8 +379,9 @@ impl Files {
         requires { IfSome (socket_in self.old.files file.now) (λ s. length s.backlog < room_of s.state) }
         ensures files { self.new.files ≡ change_socket_at (queued embryo) self.old.files file.now }
         ensures next { self.new.next ≡ self.old.next }
+        ensures counts { self.new.counts ≡ self.old.counts }
     {
-        let Some(desc) = self.files.get_mut(file) else {
+        let Some(desc) = self.rows.desc_mut(file) else {
             return;
         };
         desc.enqueue(embryo);
@@ -370,10 +394,50 @@ impl Files {
         ensures none { IfNone result (backlog_in self.old.files file.now ≡ []) }
         ensures files { self.new.files ≡ change_socket_at dequeued self.old.files file.now }
         ensures next { self.new.next ≡ self.old.next }
+        ensures counts { self.new.counts ≡ self.old.counts }
     {
-        let desc = self.files.get_mut(file)?;
+        let desc = self.rows.desc_mut(file)?;
         desc.dequeue()
     }
+}
+
+/// Room for so many further files, and for all files to wait at once. Nothing else changes, also on an
+/// error.
+#[inline(always)]
+fn reserve(rows: &mut Rows, waiting: &mut Vec<FileRef>, files: usize) -> Result<(), AllocError>
+    ensures rows { rows.new ≡ record rows.old { room = rows.new.room } }
+    ensures waiting { waiting.new.items ≡ waiting.old.items }
+    ensures room { OnOk result (files ≤ rows.new.room) }
+    ensures fits { OnOk result (map.len rows.old.counts + files ≤ vec_capacity waiting.new) }
+    ensures capacity { vec_capacity waiting.old ≤ vec_capacity waiting.new }
+{
+    rows.reserve(files)?;
+    let wanted = rows.len().saturating_add(files);
+    if wanted <= waiting.capacity() {
+        return Ok(());
+    }
+    waiting.reserve(wanted - waiting.len())
+}
+
+/// A file more, above all others that there were, which waits for its first place. There is room for
+/// it. It takes no memory.
+#[inline(always)]
+fn enter(rows: &mut Rows, waiting: &mut Vec<FileRef>, ino: Ino, desc: Desc) -> FileRef
+    requires room { 0 < rows.old.room }
+    requires above { rows.old.last < ino }
+    requires fits { map.len rows.old.counts < vec_capacity waiting.old }
+    requires waiting { AreWaiting rows.old.counts waiting.old.items }
+    ensures file { result ≡ ino }
+    ensures entered { rows.new ≡ record rows.old { files = map.insert rows.old.files ino desc; counts = map.insert rows.old.counts ino uncounted; last = ino; room = rows.new.room } }
+    ensures new { map.contains_key rows.old.files ino ≡ false }
+    ensures room { rows.old.room ≤ rows.new.room + 1 }
+    ensures len { map.len rows.new.counts ≤ map.len rows.old.counts + 1 }
+    ensures waiting { AreWaiting rows.new.counts waiting.new.items }
+    ensures capacity { vec_capacity waiting.new ≡ vec_capacity waiting.old }
+{
+    let file = rows.push(ino, desc);
+    waiting.push_reserved(file.again());
+    file
 }
 
 /// That socket, which has no name, has this one from now on. A plain file or a stranger stays as it
@@ -381,15 +445,15 @@ impl Files {
 #[tactic(auto, using(af_order::proofs::Values::lent))]
 fn set_name(
     alloc: Global,
-    files: &mut Keyed<Desc>,
+    rows: &mut Rows,
     file: &FileRef,
     name: Items<u8>,
 ) -> Result<(), AllocError>
-    requires nameless { IfSome (socket_in files.old.values file.now) (λ s. s.name ≡ None) }
-    ensures ok { OnOk result (files.new ≡ record files.old { values = change_socket_at (bound name) files.old.values file.now }) }
-    ensures err { OnErr result (files.new ≡ files.old) }
+    requires nameless { IfSome (socket_in rows.old.files file.now) (λ s. s.name ≡ None) }
+    ensures ok { OnOk result (rows.new ≡ record rows.old { files = change_socket_at (bound name) rows.old.files file.now }) }
+    ensures err { OnErr result (rows.new ≡ rows.old) }
 {
-    let Some(desc) = files.get_mut(file) else {
+    let Some(desc) = rows.desc_mut(file) else {
         return Ok(());
     };
     desc.bind(alloc, name)
@@ -397,10 +461,10 @@ fn set_name(
 
 /// A new socket is told where its peer stands.
 #[tactic(auto, using(af_order::proofs::Values::lent))]
-fn point(files: &mut Keyed<Desc>, file: &FileRef, peer: &FileRef)
-    ensures { files.new ≡ files.old }
+fn point(rows: &mut Rows, file: &FileRef, peer: &FileRef)
+    ensures { rows.new ≡ rows.old }
 {
-    if let Some(desc) = files.get_mut(file) {
+    if let Some(desc) = rows.desc_mut(file) {
         desc.point(peer);
     }
 }

@@ -1,9 +1,12 @@
-//! Open file descriptions: plain files and sockets with their queues, under inode numbers that are
-//! never used again.
+//! Open file descriptions: plain files and sockets with their queues, and how many places hold each,
+//! under inode numbers that are never used again.
 #![tactic(auto)]
 
+mod counts;
 mod desc;
 mod files;
+mod row;
+mod rows;
 mod socket;
 
 pub use desc::Desc;

@@ -1,5 +1,5 @@
 //! A socket, and what it has to receive.
-ghost use Rattle.std.specs.Prelude.{◌≡◌, ℕ, ◌∷◌, [], ◌<◌, OnOk, OnErr, IfOk, IfSome, IfNone, None, false, is_none, length, drop, option_copied};
+ghost use Rattle.std.specs.Prelude.{◌≡◌, ℕ, ◌∷◌, [], ◌<◌, OnOk, OnErr, IfErr, IfOk, IfSome, IfNone, None, false, is_none, length, drop, option_copied};
 ghost use Rattle.af_base.specs.Changes.{bound, connected, dequeued, listening, pushed, queued};
 ghost use Rattle.af_base.specs.Refusals.{room_of};
 ghost use Rattle.af_base.specs.Steps.{connected_socket, idle_socket};
@@ -213,13 +213,16 @@ impl Socket {
     }
 
     /// One message more, last in the queue. On an error nothing has changed.
-    pub(crate) fn push(&mut self, message: Msg) -> Result<(), AllocError>
+    pub(crate) fn push(&mut self, message: Msg) -> Result<(), Msg>
         requires few { length self.old.queue < MAX_MESSAGES }
         requires within { IsMessageWithin message }
         ensures ok { OnOk result (self.new ≡ pushed message self.old) }
+        ensures back { IfErr result (λ refused. refused ≡ message) }
         ensures err { OnErr result (self.new ≡ self.old) }
     {
-        self.queue.room()?;
+        if self.queue.room().is_err() {
+            return Err(message);
+        }
         self.queue.push(message);
         Ok(())
     }

@@ -140,12 +140,12 @@ agrees-gone w f x k is bare silent a = record {
       omega (arith, nothing, total-without (λ y. G (queue_of y)) (λ h y. ap G (same_queue h y)) w f x is)
 
 -- The numbers of a file without a place are struck out.
-pub agrees-struck : (w : World) (f : ℕ) (k : Kept) (room : ℕ) → refs_of k f ≡ 0 → Agrees w k → Agrees w (record k { counts = map.remove k.counts f; room = room })
-agrees-struck w f k room none a = record {
-  refs = λ g. ap places_in (count-struck k f g room none) ∙ a.refs g;
-  tabled = λ g. ap (λ c. c.tabled) (count-struck k f g room none) ∙ a.tabled g;
-  inflight = λ g. ap (λ c. c.inflight) (count-struck k f g room none) ∙ a.inflight g;
-  waiting = λ g. ap (λ c. c.waiting) (count-struck k f g room none) ∙ a.waiting g;
+pub agrees-struck : (w : World) (f : ℕ) (k : Kept) → refs_of k f ≡ 0 → Agrees w k → Agrees w (record k { counts = map.remove k.counts f })
+agrees-struck w f k none a = record {
+  refs = λ g. ap places_in (count-struck k f g none) ∙ a.refs g;
+  tabled = λ g. ap (λ c. c.tabled) (count-struck k f g none) ∙ a.tabled g;
+  inflight = λ g. ap (λ c. c.inflight) (count-struck k f g none) ∙ a.inflight g;
+  waiting = λ g. ap (λ c. c.waiting) (count-struck k f g none) ∙ a.waiting g;
   charged = a.charged;
   total = a.total;
   known = a.known;
@@ -166,12 +166,12 @@ agrees-new_file w x k new empty silent a = record {
   added G none = let nothing : G (queue_of x) ≡ 0 = ap G silent ∙ none in omega (arith, nothing, total-new (λ y. G (queue_of y)) w.files w.next_ino x new)
 
 -- A file is entered, of which no place is counted yet.
-pub agrees-entered : (w : World) (f : ℕ) (k : Kept) (room : ℕ) → has_count k f ≡ false → Agrees w k → Agrees w (record k { counts = map.insert k.counts f uncounted; last = f; room = room })
-agrees-entered w f k room new a = record {
-  refs = λ g. ap places_in (count-entered k f g room new) ∙ a.refs g;
-  tabled = λ g. ap (λ c. c.tabled) (count-entered k f g room new) ∙ a.tabled g;
-  inflight = λ g. ap (λ c. c.inflight) (count-entered k f g room new) ∙ a.inflight g;
-  waiting = λ g. ap (λ c. c.waiting) (count-entered k f g room new) ∙ a.waiting g;
+pub agrees-entered : (w : World) (f : ℕ) (k : Kept) → has_count k f ≡ false → Agrees w k → Agrees w (record k { counts = map.insert k.counts f uncounted })
+agrees-entered w f k new a = record {
+  refs = λ g. ap places_in (count-entered k f g new) ∙ a.refs g;
+  tabled = λ g. ap (λ c. c.tabled) (count-entered k f g new) ∙ a.tabled g;
+  inflight = λ g. ap (λ c. c.inflight) (count-entered k f g new) ∙ a.inflight g;
+  waiting = λ g. ap (λ c. c.waiting) (count-entered k f g new) ∙ a.waiting g;
   charged = a.charged;
   total = a.total;
   known = a.known;

@@ -28,9 +28,9 @@ use Rattle.af_hold.specs.Agreement.{Agrees, IsExact}
 use Rattle.af_hold.proofs.Exact.{exact-made}
 
 -- A socket more that was never connected, which waits.
-pub exact-idle : (w : World) (kind : SockType) (k : Kept) (room : ℕ) → is_full w 1 ≡ false → IsExact w k
-    → IsExact (add_file w (AsSocket (idle_socket kind))) (record k { counts = map.insert k.counts w.next_ino uncounted; last = w.next_ino; room = room })
-exact-idle w kind k room fits h = exact-made w (AsSocket (idle_socket kind)) k room refl refl (whole-blank w (AsSocket (idle_socket kind)) (blank-idle kind) refl h.whole) (within-blank w (idle_socket kind) h.within fits refl refl refl refl) h
+pub exact-idle : (w : World) (kind : SockType) (k : Kept) → is_full w 1 ≡ false → IsExact w k
+    → IsExact (add_file w (AsSocket (idle_socket kind))) (record k { counts = map.insert k.counts w.next_ino uncounted })
+exact-idle w kind k fits h = exact-made w (AsSocket (idle_socket kind)) k refl refl (whole-blank w (AsSocket (idle_socket kind)) (blank-idle kind) refl h.whole) (within-blank w (idle_socket kind) h.within fits refl refl refl refl) h
 
 -- A change of a socket.
 module _ (w : World) (s : ℕ) (g : Socket → Socket) where
@@ -69,7 +69,6 @@ module _ (w : World) (s : ℕ) (g : Socket → Socket) where
             within = fits.1;
             agrees = agrees-altered h.agrees;
             counted = λ f. h.counted f ∙ sym (live-changed w s g f);
-            entered = h.entered;
           }
 
 -- What is said of the socket of a number is said of the one that stands there.

@@ -39,21 +39,20 @@ agrees-connected w s p k a = record {
 }
 
 -- An embryo more, which waits for its place in a backlog, and the client that is connected to it.
-pub exact-embryo : (w : World) (c : ℕ) (kind : SockType) (x : Socket) (k : Kept) (room : ℕ) → map.get w.files c ≡ Some (AsSocket x) → x.state ≡ state.Idle → is_full w 1 ≡ false → IsExact w k
-    → IsExact (with_socket (add_file w (AsSocket (connected_socket kind c))) c (connected w.next_ino)) (record k { counts = map.insert k.counts w.next_ino uncounted; last = w.next_ino; room = room })
-exact-embryo w c kind x k room at idle fits h =
+pub exact-embryo : (w : World) (c : ℕ) (kind : SockType) (x : Socket) (k : Kept) → map.get w.files c ≡ Some (AsSocket x) → x.state ≡ state.Idle → is_full w 1 ≡ false → IsExact w k
+    → IsExact (with_socket (add_file w (AsSocket (connected_socket kind c))) c (connected w.next_ino)) (record k { counts = map.insert k.counts w.next_ino uncounted })
+exact-embryo w c kind x k at idle fits h =
     let n = w.next_ino in
     let embryo = AsSocket (connected_socket kind c) in
     let base = add_file w embryo in
-    let grown : Kept = record k { counts = map.insert k.counts n uncounted; last = n; room = room } in
+    let grown : Kept = record k { counts = map.insert k.counts n uncounted } in
     let stranger = next-new w k n h (omega arith) in
     let more = agrees-new_file w embryo k (fresh_file w n h.whole (omega arith)) refl refl h.agrees in
     record {
       whole = whole-made w c kind x h.whole at idle;
       within = within-made w c kind x h.whole at idle h.within fits;
-      agrees = agrees-connected base c n grown (agrees-entered base n k room stranger more);
-      counted = λ g. has-entered k n g room ∙ ap (cond (nat_eq g n) true) (h.counted g) ∙ sym (live-added w embryo g) ∙ sym (live-changed base c (connected n) g);
-      entered = omega arith;
+      agrees = agrees-connected base c n grown (agrees-entered base n k stranger more);
+      counted = λ g. has-entered k n g ∙ ap (cond (nat_eq g n) true) (h.counted g) ∙ sym (live-added w embryo g) ∙ sym (live-changed base c (connected n) g);
     }
 
 -- An embryo more in a backlog is held once more.
@@ -89,5 +88,4 @@ exact-queued w s n x k at live none room h = record {
   within = within-queued w s n x h.within at room;
   agrees = agrees-queued w s n x k at h.agrees;
   counted = λ g. has-held Backlog n g k (h.counted n ∙ live) ∙ h.counted g ∙ sym (live-changed w s (queued n) g);
-  entered = h.entered;
 }

@@ -34,9 +34,8 @@ use Rattle.af_base.proofs.Sound.{fresh_sound}
 use Rattle.af_base.proofs.Whole.{whole-install, whole-left, whole-push, whole-uninstall, whole-unheld}
 use Rattle.af_base.proofs.Within.{below-most, within-install, within-left, within-pair, within-push, within-spawned, within-uninstall, within-without}
 use Rattle.af_ledger.specs.Counted.{places_in, uncounted}
-use Rattle.af_ledger.specs.Kept.{Kept, charged_less, charged_more, dropped, dropped_all, has_count, held, held_all, is_user, is_waiting, with_user}
+use Rattle.af_ledger.specs.Kept.{Kept, dropped, dropped_all, has_count, held, held_all, is_user, is_waiting, with_user}
 use Rattle.af_ledger.specs.declared.count.Count.{Count}
-use Rattle.af_ledger.specs.declared.place.Place.{Place}
 use Rattle.af_ledger.specs.declared.place.Place.TheVariants.{Backlog, Queue, Table}
 use Rattle.af_ledger.proofs.HeldAll.{has-dropped_all, has-held_all}
 use Rattle.af_ledger.proofs.Laws.{has-dropped, has-entered, has-held, has-struck, users-held}
@@ -54,18 +53,6 @@ world-is v w processes files next_ino next_pid users = λ i. record { processes 
 pub exact-same : (v w : World) (k l : Kept) → v ≡ w → k ≡ l → IsExact w l → IsExact v k
 exact-same v w k l world numbers h = subst (λ x. IsExact x k) (sym world) (subst (IsExact w) (sym numbers) h)
 
--- How much room there is says nothing of the numbers.
-pub exact-room : (w : World) (k : Kept) (room : ℕ) → IsExact w k → IsExact w (record k { room = room })
-exact-room w k room h =
-    let a = h.agrees in
-    record {
-      whole = h.whole;
-      within = h.within;
-      agrees = record { refs = a.refs; tabled = a.tabled; inflight = a.inflight; waiting = a.waiting; charged = a.charged; total = a.total; known = a.known };
-      counted = h.counted;
-      entered = h.entered;
-    }
-
 -- The world with a process more, whose table is empty.
 abbrev started : World → ℕ → ℕ → Bool → World
 started w uid nofile privileged = add_process w (record { user = uid; limit = nofile; privileged = privileged; table = finmap.empty })
@@ -77,12 +64,7 @@ exact-spawned w uid nofile privileged k room low h = record {
   within = within-spawned w uid nofile privileged h.within room low;
   agrees = agrees-spawned w uid nofile privileged k h.whole h.agrees;
   counted = λ f. h.counted f ∙ by f (list_any (nat_eq uid) w.users);
-  entered = above (list_any (nat_eq uid) w.users);
 } where
-  above : (b : Bool) → k.last < (if b then started w uid nofile privileged else record (started w uid nofile privileged) { users = w.users ++ uid ∷ [] }).next_ino
-  above true = h.entered
-  above false = h.entered
-
   by : (f : ℕ) (b : Bool) → is_live w f ≡ is_live (if b then started w uid nofile privileged else record (started w uid nofile privileged) { users = w.users ++ uid ∷ [] }) f
   by f true = refl
   by f false = refl
@@ -94,7 +76,6 @@ exact-limited w p n k low h = record {
   within = within-limited w p n h.within low;
   agrees = agrees-limited w p n k h.agrees;
   counted = h.counted;
-  entered = h.entered;
 }
 
 -- A process that goes with an empty table.
@@ -104,7 +85,6 @@ exact-removed w p k empty h = record {
   within = within-remove_process w p h.within;
   agrees = agrees-remove_process w p k empty h.agrees;
   counted = h.counted;
-  entered = h.entered;
 }
 
 -- A free number taken into use for a live file.
@@ -114,7 +94,6 @@ exact-install w p n f q k at free low live h = record {
   within = within-install w p n f h.within low;
   agrees = agrees-install w p n f q k at free h.agrees;
   counted = λ g. has-held Table f g k (h.counted f ∙ live) ∙ h.counted g;
-  entered = h.entered;
 }
 
 -- A number given up.
@@ -124,27 +103,7 @@ exact-uninstall w p n f k is h = record {
   within = within-uninstall w p n h.within;
   agrees = agrees-uninstall w p n f k is h.agrees;
   counted = λ g. has-dropped Table f g k (h.counted f ∙ h.whole.tables_live f (p, n, is)) ∙ h.counted g;
-  entered = h.entered;
 }
-
--- Places that come and go leave the last number.
-last-charged_more : (p : Place) (k : Kept) → (charged_more p k).last ≡ k.last
-last-charged_more Table k = refl
-last-charged_more (Queue u) k = refl
-last-charged_more Backlog k = refl
-
-last-charged_less : (p : Place) (k : Kept) → (charged_less p k).last ≡ k.last
-last-charged_less Table k = refl
-last-charged_less (Queue u) k = refl
-last-charged_less Backlog k = refl
-
-last-held_all : (p : Place) (fs : List ℕ) (k : Kept) → (held_all p fs k).last ≡ k.last
-last-held_all p [] k = refl
-last-held_all p (f ∷ fs) k = last-held_all p fs (held p f k) ∙ last-charged_more p _
-
-last-dropped_all : (p : Place) (fs : List ℕ) (k : Kept) → (dropped_all p fs k).last ≡ k.last
-last-dropped_all p [] k = refl
-last-dropped_all p (f ∷ fs) k = last-dropped_all p fs (dropped p f k) ∙ last-charged_less p _
 
 -- A message put into a queue.
 pub exact-push : (w : World) (s : ℕ) (m : Message) (x : Socket) (k : Kept) → finmap.get w.files s ≡ Some (AsSocket x) → IsTrue (is_user m.user k.users) → ((f : ℕ) → Contains m.attached f → IsLive w f) → IsMessageWithin m → length x.queue < MAX_MESSAGES
@@ -154,7 +113,6 @@ exact-push w s m x k at user live fits room flying h = record {
   within = within-push w s m x h.within at fits room flying;
   agrees = agrees-push w s m x k at user h.agrees;
   counted = λ g. has-held_all m.user g m.attached k (λ f c. h.counted f ∙ live f c) ∙ h.counted g ∙ sym (live-changed w s (pushed m) g);
-  entered = subst (λ n. n < w.next_ino) (sym (last-held_all (Queue m.user) m.attached k)) h.entered;
 }
 
 -- A message is taken out of a queue.
@@ -166,7 +124,6 @@ exact-shed w s m rest x k at shed h =
       within = within-left w s x m.attached rest h.within at shed.leaves;
       agrees = agrees-shed w s m rest x k at shed can h.agrees;
       counted = λ g. has-dropped_all m.user g m.attached k can ∙ h.counted g ∙ sym (live-changed w s (λ y. record y { queue = rest }) g);
-      entered = subst (λ n. n < w.next_ino) (sym (last-dropped_all (Queue m.user) m.attached k)) h.entered;
     }
 
 -- The first embryo leaves a backlog.
@@ -178,17 +135,15 @@ exact-dequeued w s f x k at first h =
       within = within-accepted w s x h.within at;
       agrees = agrees-dequeued w s f x k at first h.agrees;
       counted = λ g. has-dropped Backlog f g k (h.counted f ∙ live) ∙ h.counted g ∙ sym (live-changed w s dequeued g);
-      entered = h.entered;
     }
 
 -- A file that nothing holds, and that holds nothing, goes.
-pub exact-gone : (w : World) (f : ℕ) (x : File) (k : Kept) (room : ℕ) → finmap.get w.files f ≡ Some x → contents x ≡ [] → queue_of x ≡ [] → refs w f ≡ 0 → IsExact w k → IsExact (without (nat_eq f) w) (record k { counts = finmap.remove k.counts f; room = room })
-exact-gone w f x k room is bare silent none h = record {
+pub exact-gone : (w : World) (f : ℕ) (x : File) (k : Kept) → finmap.get w.files f ≡ Some x → contents x ≡ [] → queue_of x ≡ [] → refs w f ≡ 0 → IsExact w k → IsExact (without (nat_eq f) w) (record k { counts = finmap.remove k.counts f })
+exact-gone w f x k is bare silent none h = record {
   whole = whole-unheld w f none h.whole;
   within = within-without w f h.within;
-  agrees = agrees-struck (without (nat_eq f) w) f k room (h.agrees.refs f ∙ none) (agrees-gone w f x k is bare silent h.agrees);
-  counted = λ g. has-struck k f g room ∙ by g (nat_eq g f) refl ∙ sym (live-without (nat_eq f) w g);
-  entered = h.entered;
+  agrees = agrees-struck (without (nat_eq f) w) f k (h.agrees.refs f ∙ none) (agrees-gone w f x k is bare silent h.agrees);
+  counted = λ g. has-struck k f g ∙ by g (nat_eq g f) refl ∙ sym (live-without (nat_eq f) w g);
 } where
   by : (g : ℕ) (b : Bool) → nat_eq g f ≡ b → cond b false (has_count k g) ≡ cond (not (nat_eq f g)) (is_live w g) false
   by g true e = sym (ap (λ c. cond (not c) (is_live w g) false) (ap (nat_eq f) (eqb-true g f e) ∙ itself f))
@@ -206,44 +161,42 @@ pub next-new : (w : World) (k : Kept) (f : ℕ) → IsExact w k → w.next_ino �
 next-new w k f h low = h.counted f ∙ ap is_some (fresh_file w f h.whole low)
 
 -- A file more that holds nothing, which waits.
-pub exact-made : (w : World) (x : File) (k : Kept) (room : ℕ) → contents x ≡ [] → queue_of x ≡ [] → IsWhole (add_file w x) → IsWithin (add_file w x) → IsExact w k
-    → IsExact (add_file w x) (record k { counts = finmap.insert k.counts w.next_ino uncounted; last = w.next_ino; room = room })
-exact-made w x k room empty silent whole within h = record {
+pub exact-made : (w : World) (x : File) (k : Kept) → contents x ≡ [] → queue_of x ≡ [] → IsWhole (add_file w x) → IsWithin (add_file w x) → IsExact w k
+    → IsExact (add_file w x) (record k { counts = finmap.insert k.counts w.next_ino uncounted })
+exact-made w x k empty silent whole within h = record {
   whole = whole;
   within = within;
-  agrees = agrees-entered (add_file w x) w.next_ino k room (next-new w k w.next_ino h (omega arith)) (agrees-new_file w x k (fresh_file w w.next_ino h.whole (omega arith)) empty silent h.agrees);
-  counted = λ g. has-entered k w.next_ino g room ∙ ap (cond (nat_eq g w.next_ino) true) (h.counted g) ∙ sym (live-added w x g);
-  entered = omega arith;
+  agrees = agrees-entered (add_file w x) w.next_ino k (next-new w k w.next_ino h (omega arith)) (agrees-new_file w x k (fresh_file w w.next_ino h.whole (omega arith)) empty silent h.agrees);
+  counted = λ g. has-entered k w.next_ino g ∙ ap (cond (nat_eq g w.next_ino) true) (h.counted g) ∙ sym (live-added w x g);
 }
 
 -- A plain file more, which waits.
-pub exact-plain : (w : World) (k : Kept) (room : ℕ) → is_full w 1 ≡ false → IsExact w k → IsExact (add_file w Plain) (record k { counts = finmap.insert k.counts w.next_ino uncounted; last = w.next_ino; room = room })
-exact-plain w k room fits h = exact-made w Plain k room refl refl (whole-plain w h.whole) (within-plain w h.within fits) h
+pub exact-plain : (w : World) (k : Kept) → is_full w 1 ≡ false → IsExact w k → IsExact (add_file w Plain) (record k { counts = finmap.insert k.counts w.next_ino uncounted })
+exact-plain w k fits h = exact-made w Plain k refl refl (whole-plain w h.whole) (within-plain w h.within fits) h
 
 -- The second of two files with the next numbers is new to the ledger when the first was entered.
-second-stranger : (w : World) (k : Kept) (room : ℕ) → IsExact w k → has_count (record k { counts = finmap.insert k.counts w.next_ino uncounted; last = w.next_ino; room = room }) (w.next_ino + 1) ≡ false
-second-stranger w k room h =
-    has-entered k w.next_ino (w.next_ino + 1) room ∙ ap (λ c. cond c true (has_count k (w.next_ino + 1))) (told_apart (w.next_ino + 1) w.next_ino (λ e. omega (arith, e))) ∙ next-new w k (w.next_ino + 1) h (omega arith)
+second-stranger : (w : World) (k : Kept) → IsExact w k → has_count (record k { counts = finmap.insert k.counts w.next_ino uncounted }) (w.next_ino + 1) ≡ false
+second-stranger w k h =
+    has-entered k w.next_ino (w.next_ino + 1) ∙ ap (λ c. cond c true (has_count k (w.next_ino + 1))) (told_apart (w.next_ino + 1) w.next_ino (λ e. omega (arith, e))) ∙ next-new w k (w.next_ino + 1) h (omega arith)
 
 -- Two sockets more, connected to each other, which wait.
-pub exact-pair : (w : World) (kind : SockType) (k : Kept) (room left : ℕ) → is_full w 2 ≡ false → IsExact w k
-    → IsExact (with_pair w kind) (record k { counts = finmap.insert (finmap.insert k.counts w.next_ino uncounted) (w.next_ino + 1) uncounted; last = w.next_ino + 1; room = left })
-exact-pair w kind k room left fits h =
+pub exact-pair : (w : World) (kind : SockType) (k : Kept) → is_full w 2 ≡ false → IsExact w k
+    → IsExact (with_pair w kind) (record k { counts = finmap.insert (finmap.insert k.counts w.next_ino uncounted) (w.next_ino + 1) uncounted })
+exact-pair w kind k fits h =
     let a = w.next_ino in
     let b = w.next_ino + 1 in
     let first = AsSocket (connected_socket kind b) in
     let second = AsSocket (connected_socket kind a) in
     let new : finmap.get w.files a ≡ None = fresh_file w a h.whole (omega arith) in
     let other : finmap.get (add_file w first).files b ≡ None = insert-other w.files a first b (told_apart b a (λ e. omega (arith, e))) ∙ fresh_file w b h.whole (omega arith) in
-    let one : Kept = record k { counts = finmap.insert k.counts a uncounted; last = a; room = room } in
+    let one : Kept = record k { counts = finmap.insert k.counts a uncounted } in
     let both = agrees-new_file (add_file w first) second k other refl refl (agrees-new_file w first k new refl refl h.agrees) in
     record {
       whole = whole-pair w kind h.whole;
       within = within-pair w kind h.within fits;
-      agrees = agrees-entered (with_pair w kind) b one left (second-stranger w k room h) (agrees-entered (with_pair w kind) a k room (next-new w k a h (omega arith)) both);
-      counted = λ g. has-entered one b g left ∙ ap (cond (nat_eq g b) true) (has-entered k a g room ∙ ap (cond (nat_eq g a) true) (h.counted g))
+      agrees = agrees-entered (with_pair w kind) b one (second-stranger w k h) (agrees-entered (with_pair w kind) a k (next-new w k a h (omega arith)) both);
+      counted = λ g. has-entered one b g ∙ ap (cond (nat_eq g b) true) (has-entered k a g ∙ ap (cond (nat_eq g a) true) (h.counted g))
           ∙ sym (live-added (add_file w first) second g ∙ ap (cond (nat_eq g b) true) (live-added w first g));
-      entered = omega arith;
     }
 
 -- Free numbers taken into use for live files, one after the other.
@@ -275,13 +228,12 @@ pub exact-sound : (w : World) (k : Kept) → IsExact w k → ((f : ℕ) → IsLi
 exact-sound w k h some = record { whole = h.whole; within = h.within; settled = settled-counted w some }
 
 -- A store that has nothing.
-pub exact-empty : (k : Kept) → k.counts ≡ finmap.empty → k.users ≡ [] → k.total ≡ 0 → k.last ≡ 0 → IsExact empty_world k
-exact-empty k counts users total last = record {
+pub exact-empty : (k : Kept) → k.counts ≡ finmap.empty → k.users ≡ [] → k.total ≡ 0 → IsExact empty_world k
+exact-empty k counts users total = record {
   whole = fresh_sound.whole;
   within = fresh_sound.within;
   agrees = agrees-empty k counts users total;
   counted = λ f. ap (λ (m : Map Count). is_some (finmap.get m f)) counts ∙ ap is_some (finmap.get-empty nat_cmp f) ∙ sym (ap is_some (finmap.get-empty nat_cmp f));
-  entered = subst (λ n. n < 1) (sym last) (omega arith);
 }
 
 -- A user more, as the list of users has it.
@@ -295,6 +247,11 @@ add-user-is w u us e = by (list_any (nat_eq u) w.users) e where
 pub by-result : {T E : Type 0} (r : Result T E) {A B C R : Type 0} → OnOk r A → OnOk r B → OnErr r C → (A → B → R) → (C → R) → R
 by-result (Ok x) a b c f g = f a b
 by-result (Err e) a b c f g = g c
+
+-- The same of three things that are so on success.
+pub by-three : {T E : Type 0} (r : Result T E) {A B C D R : Type 0} → OnOk r A → OnOk r B → OnOk r C → OnErr r D → (A → B → C → R) → (D → R) → R
+by-three (Ok x) a b c d f g = f a b c
+by-three (Err e) a b c d f g = g d
 
 -- A file that waits is live, and no place holds it.
 pub waits-unheld : (w : World) (k : Kept) (f : ℕ) → IsExact w k → is_waiting k.counts f ≡ true → IsLive w f × (refs w f ≡ 0)

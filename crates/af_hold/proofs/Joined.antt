@@ -67,7 +67,6 @@ module _ (w : World) (q : Process) where
           });
           agrees = agrees-add_process w bare k j.exact.whole refl j.known j.exact.agrees;
           counted = j.exact.counted;
-          entered = j.exact.entered;
         };
       }
 

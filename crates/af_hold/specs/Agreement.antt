@@ -1,5 +1,5 @@
 -- When the numbers that are kept are the recounts.
-use Rattle.std.specs.Prelude.{◌≡◌, ◌<◌, ℕ, IsTrue, Some, false}
+use Rattle.std.specs.Prelude.{◌≡◌, ℕ, IsTrue, Some, false}
 use Rattle.std.specs.FinMap as map
 use Rattle.af_base.specs.World.{World, Process, is_live, IsLive}
 use Rattle.af_base.specs.Counts.{refs, tabled, inflight, waiting, charged, total}
@@ -17,13 +17,12 @@ pub record Agrees (w : World) (k : Kept) : Type 0 where
   pub total : k.total ≡ total w
   pub known : (p : ℕ) (q : Process) → map.get w.processes p ≡ Some q → IsTrue (is_user q.user k.users)
 
--- What is true of a store at every moment: its world is whole and within the limits, each number that it keeps is the recount, it keeps the numbers of just the live files, and the next file has a number above all that it ever kept (this project's profile).
+-- What is true of a store at every moment: its world is whole and within the limits, each number that it keeps is the recount, and it keeps the numbers of just the live files (this project's profile).
 pub record IsExact (w : World) (k : Kept) : Type 0 where
   pub whole : IsWhole w
   pub within : IsWithin w
   pub agrees : Agrees w k
   pub counted : (f : ℕ) → has_count k f ≡ is_live w f
-  pub entered : k.last < w.next_ino
 
 -- A process can join the world: all is exact so far, there is room for it, it is within its limits, each of its numbers stands for a live file, and its user is kept (fork(2); this project's profile).
 pub record Joins (w : World) (q : Process) (k : Kept) : Type 0 where

@@ -3,7 +3,7 @@ use Rattle.std.specs.Prelude.{ℕ, List, [], ◌∷◌}
 use Rattle.std.specs.Map.{keys_of}
 use Rattle.af_base.specs.World.{World, Map, Process}
 use Rattle.af_desc.specs.Filed.{Filed}
-use Rattle.af_ledger.specs.Kept.{Kept}
+use Rattle.af_ledger.specs.Kept.{Charged}
 use Rattle.af_base.specs.Changes.{change_at, installed}
 use Rattle.af_table.specs.Procs.{Procs, row_in}
 
@@ -16,9 +16,9 @@ pub record Stored : Type 0 where
 abbrev pub row_at : Stored → ℕ → ℕ
 row_at s p = row_in s.rows p
 
--- The world that processes, files and a ledger make up (this project's profile).
-abbrev pub world_of : Procs → Filed → Kept → World
-world_of procs filed kept = record { processes = procs.processes; files = filed.files; next_ino = filed.next; next_pid = procs.next_pid; users = keys_of kept.users }
+-- The world that processes, files and users make up (this project's profile).
+abbrev pub world_of : Procs → Filed → Charged → World
+world_of procs filed charged = record { processes = procs.processes; files = filed.files; next_ino = filed.next; next_pid = procs.next_pid; users = keys_of charged.users }
 
 -- The processes where these numbers of p stand for these files, one after the other (cmsg(3), SCM_RIGHTS).
 abbrev pub filled : Map Process → ℕ → List (ℕ × ℕ) → Map Process

@@ -18,7 +18,8 @@ use af_table::Procs;
 use std::alloc::{AllocError, Global};
 use std::marker::Model;
 
-/// The processes with their tables, the files, and how many places hold each file.
+/// The processes with their tables, the files with how many places hold each, and what users are
+/// charged.
 #[derive(Drop)]
 pub struct Holdings {
     pub(crate) alloc: Global,
@@ -31,6 +32,7 @@ impl Model for Holdings {
     ghost use Rattle.std.specs.FinMap as map;
     ghost use Rattle.std.specs.Coded.{codes};
     ghost use Rattle.af_hold.specs.Stored.{Stored, world_of};
+    ghost use Rattle.af_ledger.specs.Kept.{kept_of};
     ghost use Rattle.af_hold.specs.Agreement.{IsExact};
 
     ghost Value = { Stored };
@@ -39,7 +41,7 @@ impl Model for Holdings {
 
     ghost view = { λ a. record { world = world_of a.procs a.files a.ledger; rows = a.procs.rows } };
 
-    ghost invariant = { λ a. IsExact (world_of a.procs a.files a.ledger) a.ledger };
+    ghost invariant = { λ a. IsExact (world_of a.procs a.files a.ledger) (kept_of a.files.counts a.ledger) };
 }
 
 impl Holdings {
@@ -96,10 +98,7 @@ impl Holdings {
         ensures ino { IfOk result (λ ino. ino ≡ self.old.world.next_ino) }
         ensures err { OnErr result (self.new ≡ self.old) }
     {
-        self.ledger.reserve(1)?;
-        let file = self.files.make_plain()?;
-        self.ledger.enter(file.ino());
-        Ok(file)
+        self.files.make_plain()
     }
 
     /// Two sockets more, connected to each other, which wait for their first places. Both or, on an
@@ -110,11 +109,7 @@ impl Holdings {
         ensures inos { IfOk result (λ both. (both.0 ≡ self.old.world.next_ino) × (both.1 ≡ self.old.world.next_ino + 1)) }
         ensures err { OnErr result (self.new ≡ self.old) }
     {
-        self.ledger.reserve(2)?;
-        let (first, second) = self.files.make_two(kind)?;
-        self.ledger.enter(first.ino());
-        self.ledger.enter(second.ino());
-        Ok((first, second))
+        self.files.make_two(kind)
     }
 
     /// A process more, by a fork: of the same user, with the same limit and privilege, and the same
@@ -127,7 +122,7 @@ impl Holdings {
         ensures err { OnErr result (self.new ≡ self.old) }
     {
         let child = self.procs.copy_for_fork(pid)?;
-        hold_numbers(&mut self.ledger, &child);
+        hold_numbers(&mut self.files, &child);
         Ok(self.procs.add(child))
     }
 
@@ -138,7 +133,7 @@ impl Holdings {
         let Some(process) = self.procs.remove(pid) else {
             return;
         };
-        drop_numbers(&mut self.ledger, &process);
+        drop_numbers(&mut self.files, &process);
     }
 
     /// Whether there can be no further process.

@@ -5,6 +5,7 @@
 //! `remove_process`), and by no other. A file that lost its last place waits until it is taken away.
 #![tactic(auto)]
 
+mod held;
 mod holdings;
 mod listings;
 mod numbers;

@@ -16,30 +16,33 @@ ghost use Rattle.af_hold.specs.Limits.{IsBelowLimit, IsOfProcess};
 ghost use Rattle.af_hold.specs.Receiving.{taken_at};
 ghost use Rattle.af_hold.specs.Stored.{filled, row_at};
 ghost use Rattle.af_desc.specs.Filed.{received_of};
-ghost use Rattle.af_ledger.specs.Kept.{count_of, has_count, held_all};
+ghost use Rattle.af_ledger.specs.Kept.{Charged, count_in_map, held_all, kept_of};
 ghost use Rattle.af_table.specs.Procs.{row_in};
 
+use crate::held::{drop_all, hold_all};
 use crate::holdings::Holdings;
 use af_base::limits::{MAX_INFLIGHT, MAX_MESSAGES};
 use af_base::names::{Fd, FileRef, Pid};
-use af_ledger::{Ledger, Place};
+use af_desc::Files;
+use af_ledger::Place;
 use af_queue::{Msg, Taken};
 use af_table::Procs;
 use std::alloc::AllocError;
 
 /// Files into the table of a process, at these numbers one after the other, as long as there are
 /// both: each number has room, and the numbers of each file are kept.
-fn table_in_all(procs: &mut Procs, ledger: &mut Ledger, pid: Pid, fds: &[Fd], files: &[FileRef])
+fn table_in_all(procs: &mut Procs, files: &mut Files, pid: Pid, fds: &[Fd], attached: &[FileRef])
     requires row { All (λ n. n < row_in procs.old.rows pid) fds.now }
-    requires known { (f : ℕ) → Contains files.now f → IsTrue (has_count ledger.old f) }
-    requires fits { (f : ℕ) → (count_of ledger.old f).tabled + length files.now < 2 ^ 31 }
-    ensures processes { procs.new.processes ≡ filled procs.old.processes pid (zip fds.now files.now) }
+    requires known { (f : ℕ) → Contains attached.now f → IsTrue (finmap.contains_key files.old.counts f) }
+    requires fits { (f : ℕ) → (count_in_map files.old.counts f).tabled + length attached.now < 2 ^ 31 }
+    ensures processes { procs.new.processes ≡ filled procs.old.processes pid (zip fds.now attached.now) }
     ensures rows { procs.new.rows ≡ procs.old.rows }
     ensures next { procs.new.next_pid ≡ procs.old.next_pid }
-    ensures kept { ledger.new ≡ held_all Place.Table (map (λ e. e.1) (zip fds.now files.now)) ledger.old }
+    ensures kept { (c : Charged) → kept_of files.new.counts c ≡ held_all Place.Table (map (λ e. e.1) (zip fds.now attached.now)) (kept_of files.old.counts c) }
+    ensures rest { files.new ≡ record files.old { counts = files.new.counts } }
 {
-    for (fd, file) in fds.iter().zip(files) {
-        ledger.hold(Place::Table, file);
+    for (fd, file) in fds.iter().zip(attached) {
+        files.raise(&Place::Table, file);
         procs.install(pid, *fd, file.again());
     }
 }
@@ -55,7 +58,7 @@ impl Holdings {
         requires live { world.IsLive self.old.world file }
         ensures { self.new ≡ record self.old { world = install self.old.world pid fd file } }
     {
-        self.ledger.hold(Place::Table, &file);
+        self.files.raise(&Place::Table, &file);
         self.procs.install(pid, fd, file);
     }
 
@@ -66,7 +69,7 @@ impl Holdings {
         ensures { self.new ≡ record self.old { world = uninstall self.old.world pid fd } }
     {
         let file = self.procs.take_out(pid, fd).unwrap();
-        self.ledger.drop_one(Place::Table, &file);
+        self.files.lower(&Place::Table, &file);
     }
 
     /// A message into the queue of a socket, last. It carries live files, and each of these places is
@@ -81,19 +84,23 @@ impl Holdings {
         ensures ok { OnOk result (self.new ≡ record self.old { world = push_message self.old.world socket.now message }) }
         ensures err { OnErr result (self.new ≡ self.old) }
     {
-        // The putting first, since it alone can fail.
-        self.files.push(socket, message)?;
-        let sent = self
-            .files
-            .get(socket)
-            .unwrap()
-            .socket()
-            .unwrap()
-            .queue()
-            .last()
-            .unwrap();
-        self.ledger.hold_all(sent.user(), sent.attached());
-        Ok(())
+        hold_all(
+            &mut self.files,
+            &mut self.ledger,
+            message.user(),
+            message.attached(),
+        );
+        let Err(refused) = self.files.push(socket, message) else {
+            return Ok(());
+        };
+        // It has no place after all: what it carries is as it was.
+        drop_all(
+            &mut self.files,
+            &mut self.ledger,
+            refused.user(),
+            refused.attached(),
+        );
+        Err(AllocError)
     }
 
     /// What a receive of at most `max` bytes takes out of a queue (recvmsg(2)): its first files come
@@ -117,14 +124,13 @@ impl Holdings {
     {
         let taken = self.files.take(socket, max)?;
         // Into the table first, so that no file waits in between.
-        table_in_all(
-            &mut self.procs,
+        table_in_all(&mut self.procs, &mut self.files, pid, fds, taken.attached());
+        drop_all(
+            &mut self.files,
             &mut self.ledger,
-            pid,
-            fds,
+            taken.user(),
             taken.attached(),
         );
-        self.ledger.drop_all(taken.user(), taken.attached());
         Ok(taken)
     }
 
@@ -148,7 +154,7 @@ impl Holdings {
         ensures err { OnErr result (self.new ≡ self.old) }
     {
         let seen = self.files.peek(socket, max)?;
-        table_in_all(&mut self.procs, &mut self.ledger, pid, fds, seen.attached());
+        table_in_all(&mut self.procs, &mut self.files, pid, fds, seen.attached());
         Ok(seen)
     }
 
@@ -163,7 +169,12 @@ impl Holdings {
         let Some(message) = self.files.pop(file) else {
             return false;
         };
-        self.ledger.drop_all(message.user(), message.attached());
+        drop_all(
+            &mut self.files,
+            &mut self.ledger,
+            message.user(),
+            message.attached(),
+        );
         true
     }
 
@@ -178,7 +189,7 @@ impl Holdings {
         let Some(embryo) = self.files.dequeue(file) else {
             return false;
         };
-        self.ledger.drop_one(Place::Backlog, &embryo);
+        self.files.lower(&Place::Backlog, &embryo);
         true
     }
 

@@ -1,5 +1,6 @@
 //! What nothing holds: it is emptied and taken away, one file and one place at a time, without memory.
 ghost use Rattle.std.specs.Prelude.{◌≡◌, [], IfSome, IfNone, nat_eq};
+ghost use Rattle.std.specs.FinMap as map;
 ghost use Rattle.af_base.specs.World.{IsLive, World};
 ghost use Rattle.af_base.specs.Counts.{refs};
 ghost use Rattle.af_base.specs.Places.{held_by, queue_at};
@@ -25,7 +26,7 @@ impl Holdings {
         ensures unheld { IfSome result (λ f. refs self.now.world f ≡ 0) }
         ensures none { IfNone result (IsSound self.now.world) }
     {
-        self.ledger.next_waiting()
+        self.files.next_waiting()
     }
 
     /// A file that no place holds, and that holds nothing itself, goes, and its peer hangs up.
@@ -37,7 +38,6 @@ impl Holdings {
         ensures { self.new ≡ record self.old { world = without (nat_eq file.now) self.old.world } }
     {
         remove(&mut self.files, file);
-        self.ledger.strike_out(file);
     }
 }
 
@@ -45,6 +45,7 @@ impl Holdings {
 fn remove(files: &mut Files, file: &FileRef)
     ensures gone { (w : World) → w.files ≡ files.old.files → AreMutual w → record w { files = files.new.files } ≡ without (nat_eq file.now) w }
     ensures next { files.new.next ≡ files.old.next }
+    ensures counts { files.new.counts ≡ map.remove files.old.counts file.now }
 {
     let Some(desc) = files.remove(file) else {
         return;

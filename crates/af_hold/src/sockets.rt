@@ -29,10 +29,7 @@ impl Holdings {
         ensures ino { IfOk result (λ ino. ino ≡ self.old.world.next_ino) }
         ensures err { OnErr result (self.new ≡ self.old) }
     {
-        self.ledger.reserve(1)?;
-        let file = self.files.make_sock(kind)?;
-        self.ledger.enter(file.ino());
-        Ok(file)
+        self.files.make_sock(kind)
     }
 
     /// An embryo: a socket more, and this client, which was never connected, are connected to each
@@ -45,10 +42,7 @@ impl Holdings {
         ensures ino { IfOk result (λ ino. ino ≡ self.old.world.next_ino) }
         ensures err { OnErr result (self.new ≡ self.old) }
     {
-        self.ledger.reserve(1)?;
-        let embryo = self.files.make_embryo(kind, client)?;
-        self.ledger.enter(embryo.ino());
-        Ok(embryo)
+        self.files.make_embryo(kind, client)
     }
 
     /// A socket that has no name and never listened has this one from now on, which is nobody's
@@ -83,7 +77,7 @@ impl Holdings {
         requires socket { is_none (socket_at self.old.world listener.now) ≡ false }
         ensures { self.new ≡ record self.old { world = with_socket self.old.world listener.now (queued embryo) } }
     {
-        self.ledger.hold(Place::Backlog, &embryo);
+        self.files.raise(&Place::Backlog, &embryo);
         self.files.enqueue(listener, embryo);
     }
 
@@ -99,8 +93,8 @@ impl Holdings {
     {
         let embryo = self.files.dequeue(listener).unwrap();
         // Into the table first, so that it does not wait in between.
-        self.ledger.hold(Place::Table, &embryo);
-        self.ledger.drop_one(Place::Backlog, &embryo);
+        self.files.raise(&Place::Table, &embryo);
+        self.files.lower(&Place::Backlog, &embryo);
         self.procs.install(pid, fd, embryo);
     }
 }

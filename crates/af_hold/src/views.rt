@@ -42,21 +42,21 @@ impl Holdings {
     pub fn refs(&self, ino: Ino) -> u64
         ensures { result ≡ refs self.now.world ino }
     {
-        self.ledger.refs(ino)
+        self.files.refs(ino)
     }
 
     /// How many numbers of all tables stand for the file.
     pub fn tabled(&self, file: &FileRef) -> u64
         ensures { result ≡ tabled self.now.world file.now }
     {
-        self.ledger.tabled(file)
+        self.files.tabled(file)
     }
 
     /// How many places in queues hold the file.
     pub fn inflight(&self, ino: Ino) -> u64
         ensures { result ≡ inflight self.now.world ino }
     {
-        self.ledger.inflight(ino)
+        self.files.inflight(ino)
     }
 
     /// How many places in queues are charged to the user.

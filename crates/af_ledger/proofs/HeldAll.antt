@@ -1,11 +1,13 @@
 -- The numbers kept where several files gain or lose a place in a queue at once.
 use Rattle.std.proofs.Common.{◌≡◌, ◌<◌, ◌≤◌, ℕ, ◌+◌, ◌-◌, Bool, true, false, List, [], ◌∷◌, ◌++◌, length, length-append, suc, add-one, drop-cons, refl, sym, ap, ◌∙◌, subst, cond, nat_eq, arith, take, drop}
-use Rattle.std.specs.Prelude.{IsTrue, None, Option, Some, slice_index_or}
-use Rattle.std.specs.Cmp.{nat_eq_equiv}
+use Rattle.std.specs.Prelude.{IsTrue, None, Option, Some, is_some, slice_index_or, unwrap_or}
+use Rattle.std.specs.Cmp.{nat_cmp_total, nat_eq_equiv}
+use Rattle.std.specs.FinMap as map
+use Rattle.std.specs.FinMap.{nat_cmp-IsAntisymmetric, same_map}
 use Rattle.std.specs.List.{Contains, list_any}
 use Rattle.std.specs.Map.{keys_of, lookup, set_value}
 use Rattle.std.specs.Option.{option_map_or}
-use Rattle.std.proofs.lemmas.Bool.{eqb-true}
+use Rattle.std.proofs.lemmas.Bool.{eqb-true, false≢true}
 use Rattle.std.proofs.lemmas.List.{take-append-drop, take_more}
 use Rattle.std.proofs.lemmas.Map.{lookup-set_value}
 use Rattle.std.proofs.lemmas.Map.Steps.{set_value_same}
@@ -15,6 +17,8 @@ use Rattle.af_base.proofs.Elements.{Contains-first, Contains-later}
 use Rattle.af_base.proofs.Held.{count-cons}
 use Rattle.af_base.proofs.Lookups.{itself, some_is}
 use Rattle.af_ledger.specs.Kept.{CanDrop, CanDropAll, CanHold, CanHoldAll, Kept, charge_of, charged_by, count_of, dropped, dropped_all, freed_by, has_count, held, held_all, is_user, recharged, refs_of}
+use Rattle.af_ledger.specs.Counted.{uncounted}
+use Rattle.af_ledger.specs.declared.count.Count.{Count}
 use Rattle.af_ledger.specs.declared.place.Place.{Place}
 use Rattle.af_ledger.specs.declared.place.Place.TheVariants.{Queue}
 use Rattle.af_ledger.proofs.Laws.{charge-queued, charge-unqueued, counted-there, has-dropped, has-held, inflight-queued, inflight-unqueued, refs-dropped, refs-held, tabled-queued, tabled-unqueued, total-queued, total-unqueued, users-dropped, users-held, waiting-queued, waiting-unqueued}
@@ -250,6 +254,46 @@ module _ (u : ℕ) where
       recharged-by (λ n. n - length (f ∷ fs)) (λ n. n - 1 - length fs) k.users (λ n. omega arith) ∙ sym (recharged-twice (λ n. n - 1) (λ n. n - length fs) k.users) in
       let total : k.total - length (f ∷ fs) ≡ (dropped (Queue u) f k).total - length fs = omega arith in
       (λ i. record k { counts = (dropped_all (Queue u) (f ∷ fs) k).counts; users = users i; total = total i }) ∙ freed-dropped_all fs (dropped (Queue u) f k)
+
+-- Two entries that are there alike, and have the same numbers, are the same.
+same_entry : (a b : Option Count) → is_some a ≡ is_some b → unwrap_or a uncounted ≡ unwrap_or b uncounted → a ≡ b
+same_entry None None there same = refl
+same_entry None (Some y) there same = absurd (false≢true there)
+same_entry (Some x) None there same = absurd (false≢true (sym there))
+same_entry (Some x) (Some y) there same = ap Some same
+
+module _ (u : ℕ) (fs : List ℕ) (k : Kept) (h : CanHoldAll u fs k) where
+  -- What was held can be dropped.
+  pub held-can-drop : CanDropAll u fs (held_all (Queue u) fs k)
+  held-can-drop = record {
+    counted = λ f. omega (arith, inflight-held_all u f fs k);
+    charge = omega (arith, charge-held_all u u fs k h.user, ap {B = ℕ} (λ b. cond b (length fs) 0) (itself u));
+    total = omega (arith, total-held_all u fs k);
+  }
+
+  -- What is held and dropped again is as it was.
+  pub held-dropped : dropped_all (Queue u) fs (held_all (Queue u) fs k) ≡ k
+  held-dropped = λ i. record { counts = counts i; users = users i; total = total i } where
+    more : Kept
+    more = held_all (Queue u) fs k
+
+    entry : (g : ℕ) → map.get (dropped_all (Queue u) fs more).counts g ≡ map.get k.counts g
+    entry g =
+        let tabled = tabled-dropped_all u g fs more ∙ tabled-held_all u g fs k in
+        let inflight : (count_of (dropped_all (Queue u) fs more) g).inflight ≡ (count_of k g).inflight = omega (arith, inflight-dropped_all u g fs more held-can-drop, inflight-held_all u g fs k) in
+        let waiting = waiting-dropped_all u g fs more ∙ waiting-held_all u g fs k in
+        same_entry _ _ (has-dropped_all u g fs more held-can-drop ∙ has-held_all u g fs k h.known) (λ i. record { tabled = tabled i; inflight = inflight i; waiting = waiting i })
+
+    counts : (dropped_all (Queue u) fs more).counts ≡ k.counts
+    counts = same_map nat_cmp_total nat_cmp-IsAntisymmetric _ _ entry
+
+    users : (dropped_all (Queue u) fs more).users ≡ k.users
+    users =
+        sym (ap (λ l. l.users) (freed-dropped_all u fs more)) ∙ ap (recharged (λ n. n - length fs) u) (sym (ap (λ l. l.users) (charged-held_all u fs k)))
+        ∙ recharged-twice u (λ n. n + length fs) (λ n. n - length fs) k.users ∙ recharged-same u (λ n. n + length fs - length fs) k.users (λ n. omega arith)
+
+    total : (dropped_all (Queue u) fs more).total ≡ k.total
+    total = omega (arith, total-dropped_all u fs more held-can-drop, total-held_all u fs k)
 
 -- A list split at one of its places.
 pub at-place : (xs : List ℕ) (i x : ℕ) → i < length xs → x ≡ slice_index_or xs i x → xs ≡ take i xs ++ x ∷ drop (i + 1) xs

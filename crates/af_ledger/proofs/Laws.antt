@@ -14,7 +14,7 @@ use Rattle.std.proofs.lemmas.List.{map-append}
 use Rattle.af_base.specs.World.{Map}
 use Rattle.af_base.specs.Counts.{one}
 use Rattle.af_ledger.specs.Counted.{uncounted, places_in, more, fewer, IsCounted}
-use Rattle.af_ledger.specs.Kept.{Kept, count_in_map, count_of, has_count, refs_of, charge_of, recharged, is_user, with_user, held, dropped}
+use Rattle.af_ledger.specs.Kept.{Kept, count_in_map, count_of, has_count, refs_of, charge_in, charge_of, recharged, is_user, with_user, held, dropped}
 use Rattle.af_ledger.specs.declared.count.Count.{Count}
 use Rattle.af_ledger.specs.declared.place.Place.{Place}
 use Rattle.af_ledger.specs.declared.place.Place.TheVariants.{Table, Queue, Backlog}
@@ -146,10 +146,6 @@ inflight-unbacklogged f g k = stays (λ c. c.inflight) k.counts f g (fewer Backl
 pub waiting-unbacklogged : (f g : ℕ) (k : Kept) → 0 < (count_of k f).waiting → (count_of (dropped Backlog f k) g).waiting + one g f ≡ (count_of k g).waiting
 waiting-unbacklogged f g k some = falls (λ c. c.waiting) k.counts f g (fewer Backlog (count_of k f)) (omega arith)
 
--- What a user is charged in this list.
-abbrev charge_in : List (ℕ × ℕ) → ℕ → ℕ
-charge_in us u = unwrap_or (lookup (nat_eq u) us) 0
-
 charge_set : (us : List (ℕ × ℕ)) (u v n m : ℕ) → lookup (nat_eq u) us ≡ Some n → charge_in (set_value (nat_eq u) us m) v ≡ cond (nat_eq u v) m (charge_in us v)
 charge_set us u v n m e =
     ap (λ o. unwrap_or o 0) (lookup-set_value nat_eq_equiv (nat_eq u) (λ x y same. ap (λ z. nat_eq z y) (eqb-true u x same)) v m us (subst IsSome (sym e) (search rules))) ∙ by (nat_eq u v) where
@@ -261,8 +257,8 @@ has-dropped (Queue u) f g k there = has-change k.counts f g _ there
 has-dropped Backlog f g k there = has-change k.counts f g _ there
 
 -- What a number is when f is entered: none had it before.
-pub count-entered : (k : Kept) (f g room : ℕ) → has_count k f ≡ false → count_of (record k { counts = map.insert k.counts f uncounted; last = f; room = room }) g ≡ count_of k g
-count-entered k f g room new = looked k.counts f g uncounted ∙ by (nat_eq g f) refl where
+pub count-entered : (k : Kept) (f g : ℕ) → has_count k f ≡ false → count_of (record k { counts = map.insert k.counts f uncounted }) g ≡ count_of k g
+count-entered k f g new = looked k.counts f g uncounted ∙ by (nat_eq g f) refl where
   stranger : (o : Option Count) → is_some o ≡ false → unwrap_or o uncounted ≡ uncounted
   stranger None e = refl
   stranger (Some c) e = absurd (false≢true (sym e))
@@ -272,15 +268,15 @@ count-entered k f g room new = looked k.counts f g uncounted ∙ by (nat_eq g f)
   by false e = refl
 
 -- Whose numbers are kept when f is entered.
-pub has-entered : (k : Kept) (f g room : ℕ) → has_count (record k { counts = map.insert k.counts f uncounted; last = f; room = room }) g ≡ cond (nat_eq g f) true (has_count k g)
-has-entered k f g room = ap is_some (get-insert nat_cmp_total k.counts f uncounted g ∙ ap (λ b. cond b (Some uncounted) (map.get k.counts g)) (unsigned_tied g f)) ∙ by (nat_eq g f) where
+pub has-entered : (k : Kept) (f g : ℕ) → has_count (record k { counts = map.insert k.counts f uncounted }) g ≡ cond (nat_eq g f) true (has_count k g)
+has-entered k f g = ap is_some (get-insert nat_cmp_total k.counts f uncounted g ∙ ap (λ b. cond b (Some uncounted) (map.get k.counts g)) (unsigned_tied g f)) ∙ by (nat_eq g f) where
   by : (b : Bool) → is_some (cond b (Some uncounted) (map.get k.counts g)) ≡ cond b true (has_count k g)
   by true = refl
   by false = refl
 
 -- What a number is when f, which has no place, is struck out.
-pub count-struck : (k : Kept) (f g room : ℕ) → refs_of k f ≡ 0 → count_of (record k { counts = map.remove k.counts f; room = room }) g ≡ count_of k g
-count-struck k f g room none = ap (λ o. unwrap_or o uncounted) (get-remove nat_cmp_total k.counts f g ∙ ap (λ b. cond b None (map.get k.counts g)) (unsigned_tied g f)) ∙ by (nat_eq g f) refl where
+pub count-struck : (k : Kept) (f g : ℕ) → refs_of k f ≡ 0 → count_of (record k { counts = map.remove k.counts f }) g ≡ count_of k g
+count-struck k f g none = ap (λ o. unwrap_or o uncounted) (get-remove nat_cmp_total k.counts f g ∙ ap (λ b. cond b None (map.get k.counts g)) (unsigned_tied g f)) ∙ by (nat_eq g f) refl where
   bare : (c : Count) → places_in c ≡ 0 → uncounted ≡ c
   bare c e =
       let table : 0 ≡ c.tabled = omega (arith, e) in
@@ -293,8 +289,8 @@ count-struck k f g room none = ap (λ o. unwrap_or o uncounted) (get-remove nat_
   by false e = refl
 
 -- Whose numbers are kept when f is struck out.
-pub has-struck : (k : Kept) (f g room : ℕ) → has_count (record k { counts = map.remove k.counts f; room = room }) g ≡ cond (nat_eq g f) false (has_count k g)
-has-struck k f g room = ap is_some (get-remove nat_cmp_total k.counts f g ∙ ap (λ b. cond b None (map.get k.counts g)) (unsigned_tied g f)) ∙ by (nat_eq g f) where
+pub has-struck : (k : Kept) (f g : ℕ) → has_count (record k { counts = map.remove k.counts f }) g ≡ cond (nat_eq g f) false (has_count k g)
+has-struck k f g = ap is_some (get-remove nat_cmp_total k.counts f g ∙ ap (λ b. cond b None (map.get k.counts g)) (unsigned_tied g f)) ∙ by (nat_eq g f) where
   by : (b : Bool) → is_some (cond b None (map.get k.counts g)) ≡ cond b false (has_count k g)
   by true = refl
   by false = refl

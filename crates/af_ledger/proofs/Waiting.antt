@@ -1,5 +1,5 @@
 -- The list of the files that wait, as numbers come and go.
-use Rattle.std.proofs.Common.{◌≡◌, ◌<◌, ◌≤◌, ℕ, ◌+◌, Bool, true, false, ◌&&◌, ◌||◌, not, List, [], ◌∷◌, ◌++◌, length, suc, refl, sym, ap, ◌∙◌, subst, cond, nat_eq, arith, length-append, take, drop}
+use Rattle.std.proofs.Common.{◌≡◌, ◌<◌, ◌≤◌, ℕ, ◌+◌, Bool, true, false, ◌&&◌, ◌||◌, not, List, [], ◌∷◌, ◌++◌, length, suc, refl, sym, ap, ◌∙◌, subst, cond, nat_eq, arith, length-append, take, drop, append-nil}
 use Rattle.std.specs.Prelude.{Option, Some, None, IsSome, is_some, unwrap_or, slice_get, slice_index_or}
 use Rattle.std.specs.Cmp.{nat_cmp_total, nat_eq_equiv, unsigned_tied}
 use Rattle.std.specs.FinMap as map
@@ -9,6 +9,8 @@ use Rattle.std.specs.Map.{lookup}
 use Rattle.std.specs.Option.{option_map_or}
 use Rattle.std.specs.Ordering.{nat_cmp}
 use Rattle.std.proofs.lemmas.Bool.{eq-eqb, eqb-true, false≢true}
+use Rattle.std.proofs.Math.Seq.{take-append_seam}
+use Rattle.std.proofs.lemmas.List.{drop_all}
 use Rattle.std.proofs.lemmas.List.Folds.{list_any-append}
 use Rattle.std.proofs.lemmas.Map.Steps.{length-le_from_keys}
 use Rattle.std.proofs.lemmas.Option.{get_or_from_slice_get, slice_get_within}
@@ -79,6 +81,15 @@ off-removed xs gs i k once at left =
       by : (f : ℕ) → others k ≡ false → (b : Bool) → nat_eq f k ≡ b → others f ≡ (not b && (b || others f))
       by f none true same = ap others (eqb-true f k same) ∙ none
       by f none false apart = refl
+
+-- A list without its last number.
+pub off-last : (xs gs : List ℕ) (i k r : ℕ) → IsDistinct nat_eq xs → slice_get xs i ≡ Some k → xs ≡ gs ++ r ∷ [] → i + 1 ≡ length xs
+    → ((f : ℕ) → list_any (nat_eq f) gs ≡ (not (nat_eq f k) && list_any (nat_eq f) xs)) × IsDistinct nat_eq gs
+off-last xs gs i k r once at whole low =
+    let short : i ≡ length gs = omega (arith, low, ap length whole, length-append gs (r ∷ [])) in
+    let first : take i xs ≡ gs = (λ j. take (short j) (whole j)) ∙ take-append_seam gs (r ∷ []) in
+    let rest : drop (i + 1) xs ≡ [] = drop_all (i + 1) xs (omega (arith, low)) in
+    off-removed xs gs i k once at (sym ((λ j. first j ++ rest j) ∙ append-nil gs))
 
 -- What stands at no place is not in the list.
 at-none : (xs : List ℕ) (k : ℕ) → ((i : ℕ) → i < length xs → nat_eq (slice_index_or xs i 0) k ≡ false) → list_any (nat_eq k) xs ≡ false

@@ -11,13 +11,20 @@ use Rattle.af_ledger.specs.declared.count.Count.{Count}
 use Rattle.af_ledger.specs.declared.place.Place.{Place}
 use Rattle.af_ledger.specs.declared.place.Place.TheVariants.{Table, Queue, Backlog}
 
--- The numbers of each file that was entered and not struck out since, each user with what it is charged, in the order in which they came, what is charged to all together, the last number that was entered, and for how many further files there is room (this project's own).
+-- Each user with what it is charged, in the order in which they came, and what is charged to all together (this project's own).
+pub record Charged : Type 0 where
+  pub users : List (ℕ × ℕ)
+  pub total : ℕ
+
+-- The numbers of each file that is there, and what users are charged (this project's own).
 pub record Kept : Type 0 where
   pub counts : Map Count
   pub users : List (ℕ × ℕ)
   pub total : ℕ
-  pub last : ℕ
-  pub room : ℕ
+
+-- What is kept where the numbers of files and the charges stand apart (this project's own).
+abbrev pub kept_of : Map Count → Charged → Kept
+kept_of counts charged = record { counts = counts; users = charged.users; total = charged.total }
 
 -- The numbers of f in this map; all are 0 for a stranger (this project's own).
 abbrev pub count_in_map : Map Count → ℕ → Count
@@ -40,8 +47,12 @@ abbrev pub refs_of : Kept → ℕ → ℕ
 refs_of k f = places_in (count_of k f)
 
 -- What a user is charged; 0 for a stranger (unix(7), ETOOMANYREFS; whom it counts is this project's own).
+abbrev pub charge_in : List (ℕ × ℕ) → ℕ → ℕ
+charge_in us u = unwrap_or (lookup (nat_eq u) us) 0
+
+-- The same of what is kept (this project's own).
 abbrev pub charge_of : Kept → ℕ → ℕ
-charge_of k u = unwrap_or (lookup (nat_eq u) k.users) 0
+charge_of k u = charge_in k.users u
 
 -- The users with another charge of u, if u is there (this project's own).
 abbrev pub recharged : (ℕ → ℕ) → ℕ → List (ℕ × ℕ) → List (ℕ × ℕ)

@@ -19,7 +19,7 @@ pub struct Count {
 impl Count {
     /// No place.
     #[inline(always)]
-    pub(crate) fn none() -> Count
+    pub fn none() -> Count
         ensures { result ≡ uncounted }
     {
         Count {
@@ -31,7 +31,7 @@ impl Count {
 
     /// All places.
     #[inline(always)]
-    pub(crate) fn places(self) -> u64
+    pub fn places(self) -> u64
         ensures { result ≡ places_in self }
     {
         u64::from(self.tabled) + u64::from(self.inflight) + u64::from(self.waiting)
@@ -39,7 +39,7 @@ impl Count {
 
     /// One place more.
     #[inline(always)]
-    pub(crate) fn add(&mut self, place: &Place)
+    pub fn add(&mut self, place: &Place)
         requires { IsCountable place.now self.old }
         ensures { self.new ≡ more place.now self.old }
     {
@@ -52,7 +52,7 @@ impl Count {
 
     /// One place less.
     #[inline(always)]
-    pub(crate) fn sub(&mut self, place: &Place)
+    pub fn sub(&mut self, place: &Place)
         requires { IsCounted place.now self.old }
         ensures { self.new ≡ fewer place.now self.old }
     {

@@ -4,3 +4,4 @@ pub mod Rows
 pub mod Standing
 pub mod Numbers
 pub mod Lending
+pub mod Parts

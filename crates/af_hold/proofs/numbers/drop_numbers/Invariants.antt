@@ -3,14 +3,15 @@ use Rattle.std.specs.Prelude.{Some}
 use Rattle.std.specs.FinMap as map
 use Rattle.af_base.specs.World.{World}
 use Rattle.af_base.specs.declared.limits.TheConstants.{MAX_NOFILE}
+use Rattle.af_ledger.specs.Kept.{Charged, kept_of}
 use Rattle.af_hold.specs.Agreement.{IsExact}
 use Rattle.af_hold.proofs.Joined.{Leaving}
 use Rattle.af_hold.proofs.numbers.drop_numbers.Given as goal
 
 abbrev pub invariant-loop-fd : goal.invariant-loop-fd
 invariant-loop-fd l = record {
-  leaving : (w : World) (pid : ℕ) → map.get w.processes pid ≡ Some l.process.process → IsExact w l.fn.ledger → Leaving w pid l.process.process l.from l.ledger;
-  counts : l.ledger ≡ record l.fn.ledger { counts = l.ledger.counts };
+  leaving : (w : World) (c : Charged) (pid : ℕ) → map.get w.processes pid ≡ Some l.process.process → IsExact w (kept_of l.fn.files.counts c) → Leaving w pid l.process.process l.from (kept_of l.files.counts c);
+  rest : l.files ≡ record l.fn.files { counts = l.files.counts };
   low : l.from ≤ MAX_NOFILE;
 }
 

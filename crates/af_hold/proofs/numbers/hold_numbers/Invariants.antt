@@ -1,14 +1,15 @@
 use Rattle.std.proofs.Common.{◌≡◌, ◌≤◌, ◌-◌}
 use Rattle.af_base.specs.World.{World}
 use Rattle.af_base.specs.declared.limits.TheConstants.{MAX_NOFILE}
+use Rattle.af_ledger.specs.Kept.{Charged, kept_of}
 use Rattle.af_hold.specs.Agreement.{Joins}
 use Rattle.af_hold.proofs.Joined.{Joining}
 use Rattle.af_hold.proofs.numbers.hold_numbers.Given as goal
 
 abbrev pub invariant-loop-fd : goal.invariant-loop-fd
 invariant-loop-fd l = record {
-  joining : (w : World) → Joins w l.process.process l.fn.ledger → Joining w l.process.process l.from l.ledger;
-  counts : l.ledger ≡ record l.fn.ledger { counts = l.ledger.counts };
+  joining : (w : World) (c : Charged) → Joins w l.process.process (kept_of l.fn.files.counts c) → Joining w l.process.process l.from (kept_of l.files.counts c);
+  rest : l.files ≡ record l.fn.files { counts = l.files.counts };
   low : l.from ≤ MAX_NOFILE;
 }
 

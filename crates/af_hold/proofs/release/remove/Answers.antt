@@ -38,4 +38,5 @@ returns c = record {
       ap (λ fs. record w { files = fs }) (c.hang_up.ensures.files ∙ ap (λ fs. change_socket_at hung_up fs c.in-Some-peer.peer) taken)
       ∙ gone_connected w c.args.file.now peers c.in-Some-peer.peer (is ∙ c.in-Some-peer.ensures.some);
   next = c.hang_up.ensures.next ∙ c.remove.ensures.next;
+  counts = c.hang_up.ensures.counts ∙ c.remove.ensures.counts;
 }

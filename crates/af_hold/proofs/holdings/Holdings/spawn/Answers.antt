@@ -5,6 +5,7 @@ use Rattle.af_base.specs.Changes.{add_process}
 use Rattle.af_base.specs.Refusals.{is_crowded}
 use Rattle.af_ledger.proofs.Laws.{users-added}
 use Rattle.af_table.specs.Procs.{started}
+use Rattle.af_ledger.specs.Kept.{kept_of}
 use Rattle.af_hold.specs.Stored.{Stored}
 use Rattle.af_hold.specs.contracts.holdings.Holdings.{the_view}
 use Rattle.af_hold.proofs.Exact.{add-user-is, exact-same, exact-spawned, world-is}
@@ -18,5 +19,5 @@ invariant_of-self-2 c =
     let next = c.spawn.ensures.next ∙ ap (λ n. n + 1) c.room_to_spawn.ensures.next in
     let more = add_process w (started c.args.uid c.args.limit c.args.privileged) in
     let users = ap (λ k. keys_of k.users) c.in_ok-add_user.ensures.ok ∙ users-added c.args.uid c.self.inside.ledger.users in
-    exact-same _ _ _ _ (world-is _ (record more { users = keys_of c.add_user.new.self.users }) processes refl refl next refl ∙ add-user-is more c.args.uid (keys_of c.add_user.new.self.users) users) c.in_ok-add_user.ensures.ok
-    (exact-spawned w c.args.uid c.args.limit c.args.privileged c.self.inside.ledger room c.requires.limit c.self.invariant)
+    exact-same _ _ _ _ (world-is _ (record more { users = keys_of c.add_user.new.self.users }) processes refl refl next refl ∙ add-user-is more c.args.uid (keys_of c.add_user.new.self.users) users) (ap (kept_of c.self.inside.files.counts) c.in_ok-add_user.ensures.ok)
+    (exact-spawned w c.args.uid c.args.limit c.args.privileged (kept_of c.self.inside.files.counts c.self.inside.ledger) room c.requires.limit c.self.invariant)

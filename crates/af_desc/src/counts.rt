@@ -1,0 +1,123 @@
+//! How many places hold each file, and which files wait for one.
+ghost use Rattle.std.specs.Prelude.{◌≡◌, ℕ, false, true, IfSome, IfNone, IsTrue, nat_eq};
+ghost use Rattle.std.specs.FinMap as map;
+ghost use Rattle.af_ledger.specs.Counted.{fewer, more, places_in, IsCountable, IsCounted};
+ghost use Rattle.af_ledger.specs.Kept.{count_in_map, is_waiting};
+
+use crate::files::Files;
+use crate::rows::Rows;
+use af_base::names::{FileRef, Ino};
+use af_ledger::{Count, Place, take_off};
+
+impl Files {
+    /// The numbers of a file; all are 0 where no place holds it.
+    #[inline(always)]
+    fn count_at(&self, file: &FileRef) -> Count
+        ensures { result ≡ count_in_map self.now.counts file.now }
+    {
+        match self.rows.count(file) {
+            Some(count) => *count,
+            None => Count::none(),
+        }
+    }
+
+    /// The same of the file of this number, by a binary search.
+    fn count(&self, ino: Ino) -> Count
+        ensures { result ≡ count_in_map self.now.counts ino }
+    {
+        match self.rows.find(ino) {
+            Some(file) => self.count_at(&file),
+            None => Count::none(),
+        }
+    }
+
+    /// How many places hold a file: none holds a stranger.
+    pub fn refs(&self, ino: Ino) -> u64
+        ensures { result ≡ places_in (count_in_map self.now.counts ino) }
+    {
+        self.count(ino).places()
+    }
+
+    /// How many numbers of all tables stand for a file.
+    #[inline(always)]
+    pub fn tabled(&self, file: &FileRef) -> u64
+        ensures { result ≡ (count_in_map self.now.counts file.now).tabled }
+    {
+        u64::from(self.count_at(file).tabled)
+    }
+
+    /// How many places in queues hold a file.
+    pub fn inflight(&self, ino: Ino) -> u64
+        ensures { result ≡ (count_in_map self.now.counts ino).inflight }
+    {
+        u64::from(self.count(ino).inflight)
+    }
+
+    /// A file that no place holds, if there is one.
+    #[inline(always)]
+    pub fn next_waiting(&self) -> Option<FileRef>
+        ensures some { IfSome result (λ f. is_waiting self.now.counts f ≡ true) }
+        ensures none { IfNone result ((f : ℕ) → is_waiting self.now.counts f ≡ false) }
+    {
+        let file = self.waiting.last()?;
+        Some(file.again())
+    }
+
+    /// One place more holds a file, which is there. If it waited, it does so no more. It takes no
+    /// memory.
+    #[inline(always)]
+    pub fn raise(&mut self, place: &Place, file: &FileRef)
+        requires known { IsTrue (map.contains_key self.old.counts file.now) }
+        requires countable { IsCountable place.now (count_in_map self.old.counts file.now) }
+        ensures { self.new ≡ record self.old { counts = map.insert self.old.counts file.now (more place.now (count_in_map self.old.counts file.now)) } }
+    {
+        let first = add_place(&mut self.rows, place, file);
+        if first {
+            take_off(&mut self.waiting, file.ino());
+        }
+    }
+
+    /// One place less holds a file: there is such a place. If that was the last, the file waits. It
+    /// takes no memory.
+    #[inline(always)]
+    pub fn lower(&mut self, place: &Place, file: &FileRef)
+        requires { IsCounted place.now (count_in_map self.old.counts file.now) }
+        ensures { self.new ≡ record self.old { counts = map.insert self.old.counts file.now (fewer place.now (count_in_map self.old.counts file.now)) } }
+    {
+        let last = sub_place(&mut self.rows, place, file);
+        if last {
+            self.waiting.push_reserved(file.again());
+        }
+    }
+}
+
+/// One place more of a file, which is there. Whether it had none.
+#[inline(always)]
+#[tactic(auto, using(af_order::proofs::Values::lent, af_ledger::proofs::Waiting::counted))]
+fn add_place(rows: &mut Rows, place: &Place, file: &FileRef) -> bool
+    requires known { IsTrue (map.contains_key rows.old.counts file.now) }
+    requires countable { IsCountable place.now (count_in_map rows.old.counts file.now) }
+    ensures counts { rows.new ≡ record rows.old { counts = map.insert rows.old.counts file.now (more place.now (count_in_map rows.old.counts file.now)) } }
+    ensures len { map.len rows.new.counts ≡ map.len rows.old.counts }
+    ensures first { result ≡ nat_eq (places_in (count_in_map rows.old.counts file.now)) 0 }
+{
+    let count = rows.count_mut(file).unwrap();
+    let first = count.places() == 0;
+    count.add(place);
+    first
+}
+
+/// One place less of a file, which has one. Whether it was the last.
+#[inline(always)]
+#[tactic(auto, using(af_order::proofs::Values::lent, af_ledger::proofs::Waiting::counted))]
+fn sub_place(rows: &mut Rows, place: &Place, file: &FileRef) -> bool
+    requires { IsCounted place.now (count_in_map rows.old.counts file.now) }
+    ensures counts { rows.new ≡ record rows.old { counts = map.insert rows.old.counts file.now (fewer place.now (count_in_map rows.old.counts file.now)) } }
+    ensures len { map.len rows.new.counts ≡ map.len rows.old.counts }
+    ensures last { result ≡ nat_eq (places_in (count_in_map rows.old.counts file.now)) 1 }
+{
+    let count = rows.count_mut(file).unwrap();
+    let last = count.places() == 1;
+    count.sub(place);
+    last
+}
