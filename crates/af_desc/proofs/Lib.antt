@@ -1,4 +1,4 @@
-pub mod Queues
 pub mod Begun
 pub mod Naming
+pub mod Filing
 pub mod Rowed

@@ -52,10 +52,6 @@ module _ (names : Named) (m : Map File) (h : AreNamed names m) where
   same-names : (n : Map File) → ((f : ℕ) → name_in n f ≡ name_in m f) → AreNamed names n
   same-names n same = record { each = λ name f. (λ e. same f ∙ (h.each name f).0 e, λ e. (h.each name f).1 (sym (same f) ∙ e)) }
 
-  -- The same files.
-  pub named-moved : (n : Map File) → n ≡ m → AreNamed names n
-  named-moved n e = subst (AreNamed names) (sym e) h
-
   -- A file changed, but for its name.
   pub named-insert : (k : ℕ) (x y : File) → map.get m k ≡ Some x → name_of y ≡ name_of x → AreNamed names (map.insert m k y)
   named-insert k x y at same = same-names (map.insert m k y) (λ f. elim (same_or_not f k) [

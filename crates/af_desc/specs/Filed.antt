@@ -1,16 +1,18 @@
 -- Files under numbers that are never used again.
-use Rattle.std.specs.Prelude.{◌≡◌, ◌↔◌, ℕ, ◌+◌, Bool, List, Option, Some, drop, unwrap_or}
+use Rattle.std.specs.Prelude.{◌≡◌, ◌↔◌, ◌<◌, ◌≤◌, ℕ, ◌+◌, Bool, List, Option, Some, drop, false, unwrap_or}
 use Rattle.std.specs.Option.{option_and_then}
 use Rattle.af_base.specs.declared.events.SockType.{SockType}
 use Rattle.std.specs.FinMap as map
 use Rattle.af_base.specs.declared.events.State.TheVariants as state
 use Rattle.af_base.specs.World.{Map, File, Socket, AsSocket}
 use Rattle.af_base.specs.Refusals.{is_full_of, no_socket, socket_of}
-use Rattle.af_base.specs.Steps.{connected_socket, idle_socket}
+use Rattle.af_base.specs.Steps.{connected_socket}
 use Rattle.af_base.specs.Take.{take_from}
+use Rattle.af_ledger.specs.Waiting.{AreWaiting}
 use Rattle.af_ledger.specs.declared.count.Count.{Count}
 use Rattle.af_listen.specs.Named.{Named}
 use Rattle.af_queue.specs.Received.{Received, received}
+use Rattle.af_desc.specs.Rowed.{Rowed}
 
 -- The world's files, how many places hold each, and the number that the next one gets (this project's own).
 pub record Filed : Type 0 where
@@ -63,3 +65,7 @@ name_in files f = option_and_then (λ s. s.name) (socket_in files f)
 -- The names are just those of these files: a name leads to the one socket that has it (unix(7), abstract names).
 pub record AreNamed (names : Named) (files : Map File) : Type 0 where
   pub each : (name : List ℕ) (f : ℕ) → (map.get names name ≡ Some f) ↔ (name_in files f ≡ Some name)
+
+-- The rows fit the next number, the names, and the list of the files that wait, which has room for so many: numbers begin at 1 and rise (this project's own).
+abbrev pub IsFiled : Rowed → List ℕ → ℕ → Named → ℕ → Type 0
+IsFiled rows waiting room names next = (rows.last < next) × (map.contains_key rows.files 0 ≡ false) × AreNamed names rows.files × AreWaiting rows.counts waiting × (map.len rows.counts ≤ room)

@@ -40,9 +40,8 @@ pub struct Files {
 impl Model for Files {
     ghost use Rattle.std.specs.FinMap as map;
     ghost use Rattle.std.specs.Coded.{codes};
-    ghost use Rattle.std.specs.Prelude.{◌≡◌, ◌<◌, ◌≤◌, false, vec_capacity};
-    ghost use Rattle.af_desc.specs.Filed.{AreNamed, Filed};
-    ghost use Rattle.af_ledger.specs.Waiting.{AreWaiting};
+    ghost use Rattle.std.specs.Prelude.{vec_capacity};
+    ghost use Rattle.af_desc.specs.Filed.{Filed, IsFiled};
 
     ghost Value = { Filed };
 
@@ -50,7 +49,7 @@ impl Model for Files {
 
     ghost view = { λ a. record { files = a.rows.files; counts = a.rows.counts; next = a.next } };
 
-    ghost invariant = { λ a. (a.rows.last < a.next) × (map.contains_key a.rows.files 0 ≡ false) × AreNamed a.names a.rows.files × AreWaiting a.rows.counts a.waiting.items × (map.len a.rows.counts ≤ vec_capacity a.waiting) };
+    ghost invariant = { λ a. IsFiled a.rows a.waiting.items (vec_capacity a.waiting) a.names a.next };
 }
 
 impl Files {

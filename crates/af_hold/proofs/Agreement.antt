@@ -5,33 +5,33 @@ use Rattle.std.specs.List.{list_any, sum_by}
 use Rattle.std.specs.FinMap as map
 use Rattle.std.specs.Map.{lookup}
 use Rattle.std.specs.Ordering.{nat_cmp}
-use Rattle.af_base.specs.World.{AsSocket, File, Message, Plain, Process, Socket, World, empty_world}
+use Rattle.af_base.specs.World.{AsSocket, File, Map, Message, Plain, Process, Socket, World, empty_world}
 use Rattle.af_base.specs.Places.{backlog_of, carried, contents, queue_of, table_at}
-use Rattle.af_base.specs.Counts.{charge, count_in, one, total_of, waiting}
+use Rattle.af_base.specs.Counts.{charge, count_in, one, refs, total_of, waiting}
 use Rattle.af_base.specs.Changes.{add_file, add_process, add_user, dequeued, install, installed, limited, push_message, pushed, remove_process, set_limit, taken_out, uninstall, with_process, with_queue, with_socket}
 use Rattle.af_base.specs.Steps.{spawned}
 use Rattle.af_base.specs.Unheld.{without}
 use Rattle.af_base.specs.Whole.{IsWhole}
-use Rattle.af_base.proofs.Born.{fresh_process, refs-add_process, total-empty}
-use Rattle.af_base.proofs.Dropped.{refs-without, same_queue, total-without}
+use Rattle.af_base.proofs.Born.{fresh_process, total-empty}
+use Rattle.af_base.proofs.Dropped.{same_queue, total-without}
 use Rattle.af_base.proofs.Embryos.{waiting-changed}
 use Rattle.af_base.proofs.Held.{tabled-InTable}
-use Rattle.af_base.proofs.Limited.{count-limited, refs-limited}
+use Rattle.af_base.proofs.Limited.{count-limited}
 use Rattle.af_base.proofs.Lookups.{changed-was, insert-here, insert-other, none_some, remove-here, remove-other, same_or_not, some_same}
 use Rattle.af_base.proofs.Moved.{table-there, there-table, total-changed}
-use Rattle.af_base.proofs.Pairs.{refs-add_file}
-use Rattle.af_base.proofs.Places.{inflight-left, inflight-push, refs-install, refs-left, refs-push, refs-uninstall}
+use Rattle.af_base.proofs.Places.{inflight-left, inflight-push}
 use Rattle.af_base.proofs.Totals.{total-most}
 use Rattle.af_base.proofs.Within.{total-left, total-push}
-use Rattle.af_ledger.specs.Counted.{places_in, uncounted}
-use Rattle.af_ledger.specs.Kept.{CanDropAll, Kept, count_of, dropped, dropped_all, has_count, held, held_all, is_user, refs_of, with_user}
+use Rattle.af_ledger.specs.Counted.{uncounted}
+use Rattle.af_ledger.specs.Kept.{CanDropAll, Kept, count_in_map, count_of, dropped, dropped_all, has_count, held, held_all, is_user, refs_of, with_user}
+use Rattle.af_ledger.specs.declared.count.Count.{Count}
 use Rattle.af_ledger.specs.declared.place.Place.TheVariants.{Backlog, Queue, Table}
-use Rattle.af_ledger.proofs.HeldAll.{charge-dropped_all, charge-held_all, inflight-dropped_all, inflight-held_all, one-itself, refs-dropped_all, refs-held_all, same-user, tabled-dropped_all, tabled-held_all, total-dropped_all, total-held_all, users-dropped_all, users-held_all, waiting-dropped_all, waiting-held_all}
-use Rattle.af_ledger.proofs.Laws.{charge-added, count-entered, count-struck, inflight-tabled, inflight-unbacklogged, inflight-untabled, refs-dropped, refs-held, tabled-tabled, tabled-unbacklogged, tabled-untabled, waiting-tabled, waiting-unbacklogged, waiting-untabled}
+use Rattle.af_ledger.proofs.HeldAll.{charge-dropped_all, charge-held_all, inflight-dropped_all, inflight-held_all, one-itself, same-user, tabled-dropped_all, tabled-held_all, total-dropped_all, total-held_all, users-dropped_all, users-held_all, waiting-dropped_all, waiting-held_all}
+use Rattle.af_ledger.proofs.Laws.{charge-added, count-entered, count-struck, inflight-tabled, inflight-unbacklogged, inflight-untabled, tabled-tabled, tabled-unbacklogged, tabled-untabled, waiting-tabled, waiting-unbacklogged, waiting-untabled}
 use Rattle.af_ledger.proofs.Users.{user-added, user-stays}
 use Rattle.af_hold.specs.Agreement.{Agrees}
 use Rattle.af_hold.proofs.Dropped.{same_backlog}
-use Rattle.af_hold.proofs.Recounts.{charged-push, charged-shed, refs-dequeued, tabled-install, tabled-uninstall, total-new, total-weightless, waiting-dequeued}
+use Rattle.af_hold.proofs.Recounts.{charged-push, charged-shed, refs-add_up, tabled-install, tabled-uninstall, total-new, total-weightless, waiting-dequeued}
 use Rattle.af_hold.proofs.Sheds.{Sheds}
 
 -- Each process has a user that is kept.
@@ -55,7 +55,6 @@ known-kept w us vs stay known p q is = stay q.user (known p q is)
 -- A free number that is taken into use is a place more in a table.
 pub agrees-install : (w : World) (p n f : ℕ) (q : Process) (k : Kept) → map.get w.processes p ≡ Some q → map.get q.table n ≡ None → Agrees w k → Agrees (install w p n f) (held Table f k)
 agrees-install w p n f q k at free a = record {
-  refs = λ g. omega (arith, refs-held Table f g k, refs-install w p n f g q at free, a.refs g);
   tabled = λ g. omega (arith, tabled-tabled f g k, tabled-install w p n f g q at free, a.tabled g);
   inflight = λ g. inflight-tabled f g k ∙ a.inflight g;
   waiting = λ g. waiting-tabled f g k ∙ a.waiting g;
@@ -70,7 +69,6 @@ agrees-uninstall w p n f k is a =
     let at = table-there w p n f is in
     let some : 0 < (count_of k f).tabled = omega (arith, tabled-InTable w f (p, n, is), a.tabled f) in
     record {
-      refs = λ g. omega (arith, refs-dropped Table f g k some, refs-uninstall w p n f g at.0 at.1 at.2, a.refs g);
       tabled = λ g. omega (arith, tabled-untabled f g k some, tabled-uninstall w p n f g at.0 at.1 at.2, a.tabled g);
       inflight = λ g. inflight-untabled f g k ∙ a.inflight g;
       waiting = λ g. waiting-untabled f g k ∙ a.waiting g;
@@ -82,7 +80,6 @@ agrees-uninstall w p n f k is a =
 -- A message put into a queue is a place more there for each file that it carries.
 pub agrees-push : (w : World) (s : ℕ) (m : Message) (x : Socket) (k : Kept) → map.get w.files s ≡ Some (AsSocket x) → IsTrue (is_user m.user k.users) → Agrees w k → Agrees (push_message w s m) (held_all (Queue m.user) m.attached k)
 agrees-push w s m x k at there a = record {
-  refs = λ g. omega (arith, refs-held_all m.user g m.attached k, refs-push w s m g x at, a.refs g);
   tabled = λ g. tabled-held_all m.user g m.attached k ∙ a.tabled g;
   inflight = λ g. omega (arith, inflight-held_all m.user g m.attached k, inflight-push w s m g x at, a.inflight g);
   waiting = λ g. waiting-held_all m.user g m.attached k ∙ a.waiting g ∙ sym (waiting-changed w s (pushed m) (λ y. refl) g);
@@ -94,7 +91,6 @@ agrees-push w s m x k at there a = record {
 -- A message taken out of a queue is a place less there for each file that it carries.
 pub agrees-shed : (w : World) (s : ℕ) (m : Message) (rest : List Message) (x : Socket) (k : Kept) → map.get w.files s ≡ Some (AsSocket x) → Sheds x.queue m rest → CanDropAll m.user m.attached k → Agrees w k → Agrees (with_queue w s rest) (dropped_all (Queue m.user) m.attached k)
 agrees-shed w s m rest x k at shed can a = record {
-  refs = λ g. omega (arith, refs-dropped_all m.user g m.attached k can, refs-left w s m.attached rest g x at shed.leaves.carried, a.refs g);
   tabled = λ g. tabled-dropped_all m.user g m.attached k ∙ a.tabled g;
   inflight = λ g. omega (arith, inflight-dropped_all m.user g m.attached k can, inflight-left w s m.attached rest g x at shed.leaves.carried, a.inflight g);
   waiting = λ g. waiting-dropped_all m.user g m.attached k ∙ a.waiting g ∙ sym (waiting-changed w s (λ y. record y { queue = rest }) (λ y. refl) g);
@@ -109,7 +105,6 @@ agrees-dequeued w s f x k at first a =
     let fewer : (g : ℕ) → waiting (with_socket w s dequeued) g + one g f ≡ waiting w g = λ g. waiting-dequeued w s f g x at first in
     let some : 0 < (count_of k f).waiting = let mine = one-itself f in omega (arith, mine, fewer f, a.waiting f) in
     record {
-      refs = λ g. omega (arith, refs-dropped Backlog f g k some, refs-dequeued w s f g x at first, a.refs g);
       tabled = λ g. tabled-unbacklogged f g k ∙ a.tabled g;
       inflight = λ g. inflight-unbacklogged f g k ∙ a.inflight g ∙ sym (total-changed (λ y. count_in g (carried (queue_of y))) w s dequeued (λ y. refl));
       waiting = λ g. omega (arith, waiting-unbacklogged f g k some, fewer g, a.waiting g);
@@ -126,7 +121,6 @@ backlog-bare (AsSocket x) bare silent = sym (ap (λ q. carried q ++ x.backlog) s
 -- A file that holds nothing goes.
 pub agrees-gone : (w : World) (f : ℕ) (x : File) (k : Kept) → map.get w.files f ≡ Some x → contents x ≡ [] → queue_of x ≡ [] → Agrees w k → Agrees (without (nat_eq f) w) k
 agrees-gone w f x k is bare silent a = record {
-  refs = λ g. let nothing : count_in g (contents x) ≡ 0 = ap (count_in g) bare in omega (arith, nothing, refs-without w f g x is, a.refs g);
   tabled = a.tabled;
   inflight = λ g. omega (arith, gone (λ q. count_in g (carried q)) refl, a.inflight g);
   waiting = λ g. let none : count_in g (backlog_of x) ≡ 0 = ap (count_in g) (backlog-bare x bare silent) in omega (arith, none, total-without (λ y. count_in g (backlog_of y)) (λ h y. ap (count_in g) (same_backlog h y)) w f x is, a.waiting g);
@@ -139,22 +133,32 @@ agrees-gone w f x k is bare silent a = record {
       let nothing : G (queue_of x) ≡ 0 = ap G silent ∙ none in
       omega (arith, nothing, total-without (λ y. G (queue_of y)) (λ h y. ap G (same_queue h y)) w f x is)
 
--- The numbers of a file without a place are struck out.
-pub agrees-struck : (w : World) (f : ℕ) (k : Kept) → refs_of k f ≡ 0 → Agrees w k → Agrees w (record k { counts = map.remove k.counts f })
-agrees-struck w f k none a = record {
-  refs = λ g. ap places_in (count-struck k f g none) ∙ a.refs g;
-  tabled = λ g. ap (λ c. c.tabled) (count-struck k f g none) ∙ a.tabled g;
-  inflight = λ g. ap (λ c. c.inflight) (count-struck k f g none) ∙ a.inflight g;
-  waiting = λ g. ap (λ c. c.waiting) (count-struck k f g none) ∙ a.waiting g;
+-- The kept references are the recounts too: they are the sum of the three.
+pub agrees-refs : (w : World) (k : Kept) → Agrees w k → (f : ℕ) → refs_of k f ≡ refs w f
+agrees-refs w k a f = omega (arith, a.tabled f, a.inflight f, a.waiting f, refs-add_up w f)
+
+-- Other entries with the same numbers for each file.
+agrees-counts : (w : World) (m : Map Count) (k : Kept) → ((f : ℕ) → count_in_map m f ≡ count_of k f) → Agrees w k → Agrees w (record k { counts = m })
+agrees-counts w m k same a = record {
+  tabled = λ f. ap (λ c. c.tabled) (same f) ∙ a.tabled f;
+  inflight = λ f. ap (λ c. c.inflight) (same f) ∙ a.inflight f;
+  waiting = λ f. ap (λ c. c.waiting) (same f) ∙ a.waiting f;
   charged = a.charged;
   total = a.total;
   known = a.known;
 }
 
+-- The numbers of a file without a place are struck out.
+pub agrees-struck : (w : World) (f : ℕ) (k : Kept) → refs_of k f ≡ 0 → Agrees w k → Agrees w (record k { counts = map.remove k.counts f })
+agrees-struck w f k none = agrees-counts w (map.remove k.counts f) k (λ g. count-struck k f g none)
+
+-- A file is entered, of which no place is counted yet.
+pub agrees-entered : (w : World) (f : ℕ) (k : Kept) → has_count k f ≡ false → Agrees w k → Agrees w (record k { counts = map.insert k.counts f uncounted })
+agrees-entered w f k new = agrees-counts w (map.insert k.counts f uncounted) k (λ g. count-entered k f g new)
+
 -- A file whose number is new, and that holds nothing, has no place and adds none.
 pub agrees-new_file : (w : World) (x : File) (k : Kept) → map.get w.files w.next_ino ≡ None → contents x ≡ [] → queue_of x ≡ [] → Agrees w k → Agrees (add_file w x) k
 agrees-new_file w x k new empty silent a = record {
-  refs = λ g. let none : count_in g (contents x) ≡ 0 = ap (count_in g) empty in omega (arith, none, refs-add_file w x g new, a.refs g);
   tabled = a.tabled;
   inflight = λ g. omega (arith, added (λ q. count_in g (carried q)) refl, a.inflight g);
   waiting = λ g. let none : count_in g (backlog_of x) ≡ 0 = ap (count_in g) (backlog-bare x empty silent) in omega (arith, none, total-new (λ y. count_in g (backlog_of y)) w.files w.next_ino x new, a.waiting g);
@@ -165,22 +169,9 @@ agrees-new_file w x k new empty silent a = record {
   added : (G : List Message → ℕ) → G [] ≡ 0 → total_of (λ y. G (queue_of y)) (add_file w x).files ≡ total_of (λ y. G (queue_of y)) w.files
   added G none = let nothing : G (queue_of x) ≡ 0 = ap G silent ∙ none in omega (arith, nothing, total-new (λ y. G (queue_of y)) w.files w.next_ino x new)
 
--- A file is entered, of which no place is counted yet.
-pub agrees-entered : (w : World) (f : ℕ) (k : Kept) → has_count k f ≡ false → Agrees w k → Agrees w (record k { counts = map.insert k.counts f uncounted })
-agrees-entered w f k new a = record {
-  refs = λ g. ap places_in (count-entered k f g new) ∙ a.refs g;
-  tabled = λ g. ap (λ c. c.tabled) (count-entered k f g new) ∙ a.tabled g;
-  inflight = λ g. ap (λ c. c.inflight) (count-entered k f g new) ∙ a.inflight g;
-  waiting = λ g. ap (λ c. c.waiting) (count-entered k f g new) ∙ a.waiting g;
-  charged = a.charged;
-  total = a.total;
-  known = a.known;
-}
-
 -- A new process with an empty table and a user that is kept adds no place.
 pub agrees-add_process : (w : World) (q : Process) (k : Kept) → IsWhole w → q.table ≡ map.empty → IsTrue (is_user q.user k.users) → Agrees w k → Agrees (add_process w q) k
 agrees-add_process w q k whole empty there a = record {
-  refs = λ g. omega (arith, nothing g, refs-add_process w q g new, a.refs g);
   tabled = λ g. omega (arith, nothing g, total-new (λ r. total_of (one g) r.table) w.processes w.next_pid q new, a.tabled g);
   inflight = a.inflight;
   waiting = a.waiting;
@@ -200,7 +191,6 @@ agrees-add_process w q k whole empty there a = record {
 -- A user more that is kept is charged nothing.
 agrees-with_user : (w : World) (u : ℕ) (k : Kept) → Agrees w k → Agrees w (record k { users = with_user u k.users })
 agrees-with_user w u k a = record {
-  refs = a.refs;
   tabled = a.tabled;
   inflight = a.inflight;
   waiting = a.waiting;
@@ -214,7 +204,7 @@ agrees-add_user : (w : World) (u : ℕ) (k : Kept) → Agrees w k → Agrees (ad
 agrees-add_user w u k a = by (list_any (nat_eq u) w.users) where
   by : (b : Bool) → Agrees (cond b w (record w { users = w.users ++ u ∷ [] })) k
   by true = a
-  by false = record { refs = a.refs; tabled = a.tabled; inflight = a.inflight; waiting = a.waiting; charged = a.charged; total = a.total; known = a.known }
+  by false = record { tabled = a.tabled; inflight = a.inflight; waiting = a.waiting; charged = a.charged; total = a.total; known = a.known }
 
 -- A process that starts has a user that is kept, and no place.
 pub agrees-spawned : (w : World) (uid nofile : ℕ) (privileged : Bool) (k : Kept) → IsWhole w → Agrees w k → Agrees (spawned w uid nofile privileged) (record k { users = with_user uid k.users })
@@ -224,7 +214,6 @@ agrees-spawned w uid nofile privileged k whole a =
 -- Another limit of a process changes no place.
 pub agrees-limited : (w : World) (p n : ℕ) (k : Kept) → Agrees w k → Agrees (set_limit w p n) k
 agrees-limited w p n k a = record {
-  refs = λ f. a.refs f ∙ sym (refs-limited w p n f);
   tabled = λ f. a.tabled f ∙ sym (count-limited w p n f);
   inflight = a.inflight;
   waiting = a.waiting;
@@ -236,7 +225,6 @@ agrees-limited w p n k a = record {
 -- A process that goes with an empty table takes no place along.
 pub agrees-remove_process : (w : World) (p : ℕ) (k : Kept) → ((n : ℕ) → table_at w p n ≡ None) → Agrees w k → Agrees (remove_process w p) k
 agrees-remove_process w p k empty a = record {
-  refs = λ g. omega (arith, same g, a.refs g);
   tabled = λ g. omega (arith, same g, a.tabled g);
   inflight = a.inflight;
   waiting = a.waiting;
@@ -258,7 +246,6 @@ agrees-remove_process w p k empty a = record {
 -- A ledger of nothing agrees with the world of nothing.
 pub agrees-empty : (k : Kept) → k.counts ≡ map.empty → k.users ≡ [] → k.total ≡ 0 → Agrees empty_world k
 agrees-empty k counts users total = record {
-  refs = λ f. let none = ap places_in (uncounted_here f) in omega (arith, none, tables f, total-empty (λ (x : File). count_in f (contents x)));
   tabled = λ f. let none = ap (λ c. c.tabled) (uncounted_here f) in omega (arith, none, tables f);
   inflight = λ f. let none = ap (λ c. c.inflight) (uncounted_here f) in omega (arith, none, total-empty (λ (x : File). count_in f (carried (queue_of x))));
   waiting = λ f. let none = ap (λ c. c.waiting) (uncounted_here f) in omega (arith, none, total-empty (λ (x : File). count_in f (backlog_of x)));

@@ -1,5 +1,5 @@
 -- A socket that is made, gets a name or listens: the store stays exact.
-use Rattle.std.proofs.Common.{◌≡◌, ◌≤◌, ℕ, ◌++◌, true, false, List, [], length, refl, sym, ap, ◌∙◌, subst, arith}
+use Rattle.std.proofs.Common.{◌≡◌, ◌≤◌, ℕ, true, false, List, [], length, refl, sym, ap, ◌∙◌, subst, arith}
 use Rattle.std.specs.Prelude.{Option, Some, None, IfSome}
 use Rattle.std.specs.Option.{option_and_then, option_map_or}
 use Rattle.std.specs.List.{sum_by}
@@ -9,7 +9,7 @@ use Rattle.af_base.specs.declared.events.SockType.{SockType}
 use Rattle.af_base.specs.declared.events.State.TheVariants as state
 use Rattle.af_base.specs.declared.limits.TheConstants.{MAX_BACKLOG}
 use Rattle.af_base.specs.World.{AsSocket, File, Message, Plain, Socket, World}
-use Rattle.af_base.specs.Places.{carried, contents, queue_of}
+use Rattle.af_base.specs.Places.{carried, queue_of}
 use Rattle.af_base.specs.Counts.{charge, count_in, total_of}
 use Rattle.af_base.specs.Changes.{add_file, bound, file_with, listening, with_socket}
 use Rattle.af_base.specs.Names.{is_name, named}
@@ -47,7 +47,6 @@ module _ (w : World) (s : ℕ) (g : Socket → Socket) where
     -- So each number that is kept stays right.
     pub agrees-altered : Agrees w k → Agrees (with_socket w s g) k
     agrees-altered a = record {
-      refs = λ f. let same = total-changed (λ y. count_in f (contents y)) w s g (λ x. (λ i. count_in f (carried (queue x i) ++ backlog x i))) in omega (arith, same, a.refs f);
       tabled = a.tabled;
       inflight = λ f. a.inflight f ∙ sym (same_queues (λ q. count_in f (carried q)));
       waiting = λ f. a.waiting f ∙ sym (waiting-changed w s g backlog f);

@@ -1,42 +1,28 @@
 -- A client that is connected to an embryo, and an embryo that comes into a backlog: the store stays exact.
-use Rattle.std.proofs.Common.{◌≡◌, ◌<◌, ℕ, ◌+◌, true, false, [], ◌∷◌, ◌++◌, length, refl, sym, ap, ◌∙◌, cond, nat_eq, arith}
+use Rattle.std.proofs.Common.{◌≡◌, ◌<◌, ℕ, true, false, length, refl, sym, ap, ◌∙◌, cond, nat_eq, arith}
 use Rattle.std.specs.Prelude.{Some}
 use Rattle.std.specs.List.{sum_by}
 use Rattle.std.specs.FinMap as map
 use Rattle.af_base.specs.declared.events.SockType.{SockType}
 use Rattle.af_base.specs.declared.events.State.TheVariants as state
 use Rattle.af_base.specs.World.{AsSocket, IsLive, Socket, World}
-use Rattle.af_base.specs.Places.{carried, contents, queue_of}
-use Rattle.af_base.specs.Counts.{charge, count_in, one, refs, waiting}
-use Rattle.af_base.specs.Changes.{add_file, connected, file_with, queued, with_socket}
+use Rattle.af_base.specs.Places.{carried, queue_of}
+use Rattle.af_base.specs.Counts.{charge, count_in, waiting}
+use Rattle.af_base.specs.Changes.{add_file, connected, queued, with_socket}
 use Rattle.af_base.specs.Refusals.{is_full, room_of}
 use Rattle.af_base.specs.Steps.{connected_socket}
 use Rattle.af_base.proofs.Born.{fresh_file}
 use Rattle.af_base.proofs.Connections.{whole-made, whole-queued, within-made, within-queued}
-use Rattle.af_base.proofs.Embryos.{waiting-changed, waiting-queued}
-use Rattle.af_base.proofs.Held.{count-cons}
+use Rattle.af_base.proofs.Embryos.{waiting-queued}
 use Rattle.af_base.proofs.Moved.{live-changed, total-changed}
-use Rattle.af_base.proofs.Places.{count-append}
-use Rattle.af_base.proofs.Sums.{total-change_at}
 use Rattle.af_ledger.specs.Counted.{uncounted}
 use Rattle.af_ledger.specs.Kept.{Kept, held}
 use Rattle.af_ledger.specs.declared.place.Place.TheVariants.{Backlog}
-use Rattle.af_ledger.proofs.Laws.{has-entered, has-held, inflight-backlogged, refs-held, tabled-backlogged, waiting-backlogged}
+use Rattle.af_ledger.proofs.Laws.{has-entered, has-held, inflight-backlogged, tabled-backlogged, waiting-backlogged}
 use Rattle.af_hold.specs.Agreement.{Agrees, IsExact}
 use Rattle.af_hold.proofs.Agreement.{agrees-entered, agrees-new_file}
+use Rattle.af_hold.proofs.Altered.{agrees-altered}
 use Rattle.af_hold.proofs.Exact.{live-added, next-new}
-
--- A socket that is connected to another keeps what it holds.
-agrees-connected : (w : World) (s p : ℕ) (k : Kept) → Agrees w k → Agrees (with_socket w s (connected p)) k
-agrees-connected w s p k a = record {
-  refs = λ g. omega (arith, a.refs g, total-changed (λ y. count_in g (contents y)) w s (connected p) (λ y. refl));
-  tabled = a.tabled;
-  inflight = λ g. a.inflight g ∙ sym (total-changed (λ y. count_in g (carried (queue_of y))) w s (connected p) (λ y. refl));
-  waiting = λ g. a.waiting g ∙ sym (waiting-changed w s (connected p) (λ y. refl) g);
-  charged = λ u. a.charged u ∙ sym (total-changed (λ y. sum_by (charge u) (queue_of y)) w s (connected p) (λ y. refl));
-  total = a.total ∙ sym (total-changed (λ y. sum_by (λ m. length m.attached) (queue_of y)) w s (connected p) (λ y. refl));
-  known = a.known;
-}
 
 -- An embryo more, which waits for its place in a backlog, and the client that is connected to it.
 pub exact-embryo : (w : World) (c : ℕ) (kind : SockType) (x : Socket) (k : Kept) → map.get w.files c ≡ Some (AsSocket x) → x.state ≡ state.Idle → is_full w 1 ≡ false → IsExact w k
@@ -51,28 +37,13 @@ exact-embryo w c kind x k at idle fits h =
     record {
       whole = whole-made w c kind x h.whole at idle;
       within = within-made w c kind x h.whole at idle h.within fits;
-      agrees = agrees-connected base c n grown (agrees-entered base n k stranger more);
+      agrees = agrees-altered base c (connected n) (λ y. refl) (λ y. refl) grown (agrees-entered base n k stranger more);
       counted = λ g. has-entered k n g ∙ ap (cond (nat_eq g n) true) (h.counted g) ∙ sym (live-added w embryo g) ∙ sym (live-changed base c (connected n) g);
     }
-
--- An embryo more in a backlog is held once more.
-refs-queued : (w : World) (s n f : ℕ) (x : Socket) → map.get w.files s ≡ Some (AsSocket x) → refs (with_socket w s (queued n)) f ≡ refs w f + one f n
-refs-queued w s n f x at =
-    let none : count_in f [] ≡ 0 = refl in
-    omega (
-      arith,
-      none,
-      count-cons f n [],
-      count-append f x.backlog (n ∷ []),
-      count-append f (carried x.queue) x.backlog,
-      count-append f (carried x.queue) (x.backlog ++ n ∷ []),
-      total-change_at (λ y. count_in f (contents y)) (file_with (queued n)) w.files s (AsSocket x) at,
-    )
 
 -- An embryo more in a backlog is a place more there.
 agrees-queued : (w : World) (s n : ℕ) (x : Socket) (k : Kept) → map.get w.files s ≡ Some (AsSocket x) → Agrees w k → Agrees (with_socket w s (queued n)) (held Backlog n k)
 agrees-queued w s n x k at a = record {
-  refs = λ g. omega (arith, refs-held Backlog n g k, refs-queued w s n g x at, a.refs g);
   tabled = λ g. tabled-backlogged n g k ∙ a.tabled g;
   inflight = λ g. inflight-backlogged n g k ∙ a.inflight g ∙ sym (total-changed (λ y. count_in g (carried (queue_of y))) w s (queued n) (λ y. refl));
   waiting = λ g. omega (arith, waiting-backlogged n g k, waiting-queued w s n x at g, a.waiting g);

@@ -1,31 +1,22 @@
 -- Files are emptied one after the other.
-use Rattle.std.proofs.Common.{◌≡◌, ℕ, Bool, true, false, ◌||◌, cond, List, [], ◌∷◌, ◌++◌, refl, sym, ap, ◌∙◌, subst, nat_eq}
+use Rattle.std.proofs.Common.{◌≡◌, ℕ, Bool, true, false, cond, List, [], ◌++◌, refl, sym, ap, ◌∙◌, subst, nat_eq}
 use Rattle.std.specs.Prelude.{Option, Some, None, option_map, if◌then◌else◌}
-use Rattle.std.specs.List.{list_any}
 use Rattle.std.specs.Ordering.{nat_cmp, eq_by_cmp}
 use Rattle.std.specs.Cmp.{both_ways, nat_cmp_total, unsigned_tied}
 use Rattle.std.specs.FinMap as map
 use Rattle.std.specs.FinMap.{nat_cmp-IsAntisymmetric}
 use Rattle.std.proofs.lemmas.Bool.{eq-eqb, eqb-true}
-use Rattle.std.proofs.lemmas.List.Folds.{list_any-append}
 use Rattle.af_base.specs.World.{AsSocket, File, Message, Plain, Socket, World}
 use Rattle.std.specs.Option.{option_map_or}
 use Rattle.af_base.specs.Places.{carried, contents, held_by, queue_at, queue_of}
 use Rattle.af_base.specs.Changes.{file_with, with_queue, with_socket}
 use Rattle.af_base.specs.Pass.{emptied, empty_file}
-use Rattle.af_base.proofs.Purging.{emptied-emptied, get-emptied}
+use Rattle.af_base.proofs.Purging.{get-emptied}
 use Rattle.af_base.proofs.Stepping.{get-change_at}
 
 -- It does not matter which of two numbers comes first.
 turned : (a b : ℕ) → nat_eq a b ≡ nat_eq b a
 turned a b = both_ways (nat_eq a b) (nat_eq b a) (λ e. eq-eqb b a (sym (eqb-true a b e))) (λ e. eq-eqb a b (sym (eqb-true b a e)))
-
--- No file is emptied.
-emptied_none : (w : World) → emptied (λ f. false) w ≡ w
-emptied_none w = ap (λ fs. record w { files = fs }) (map.same_map nat_cmp_total nat_cmp-IsAntisymmetric _ _ (λ q. get-emptied (λ f. false) w q ∙ each (map.get w.files q))) where
-  each : (o : Option File) → option_map (λ x. if false then empty_file x else x) o ≡ o
-  each None = refl
-  each (Some x) = refl
 
 -- A file that is emptied need not lose before what goes then.
 pub emptied-changed : (w : World) (s : ℕ) (cut : Socket → Socket) → ((x : Socket) → empty_file (AsSocket (cut x)) ≡ empty_file (AsSocket x)) → emptied (nat_eq s) (with_socket w s cut) ≡ emptied (nat_eq s) w
@@ -64,18 +55,3 @@ emptied-bare w s silent bare = ap (λ fs. record w { files = fs }) (map.same_map
   by : (f : ℕ) (b : Bool) → nat_eq s f ≡ b → option_map (λ x. if b then empty_file x else x) (map.get w.files f) ≡ map.get w.files f
   by f false e = same (map.get w.files f)
   by f true e = subst (λ g. option_map empty_file (map.get w.files g) ≡ map.get w.files g) (eqb-true s f e) (here (map.get w.files s) silent bare)
-
--- No queue is emptied yet.
-pub emptied-nothing : (w : World) → w ≡ emptied (λ f. list_any (nat_eq f) []) w
-emptied-nothing w = sym (emptied_none w)
-
--- One file more is emptied.
-pub emptied-more : (old mid : World) (done : List ℕ) (s : ℕ) → mid ≡ emptied (λ f. list_any (nat_eq f) done) old → emptied (nat_eq s) mid ≡ emptied (λ f. list_any (nat_eq f) (done ++ s ∷ [])) old
-emptied-more old mid done s before =
-    ap (emptied (nat_eq s)) before ∙ emptied-emptied (λ f. list_any (nat_eq f) done) (nat_eq s) old ∙ (λ i. emptied (λ f. told f i) old) where
-      or_none : (b : Bool) → b ≡ (b || false)
-      or_none true = refl
-      or_none false = refl
-
-      told : (f : ℕ) → (list_any (nat_eq f) done || nat_eq s f) ≡ list_any (nat_eq f) (done ++ s ∷ [])
-      told f = ap (λ b. list_any (nat_eq f) done || b) (turned s f ∙ or_none (nat_eq f s)) ∙ sym (list_any-append (nat_eq f) done (s ∷ []))

@@ -41,7 +41,7 @@ use Rattle.af_ledger.proofs.HeldAll.{has-dropped_all, has-held_all}
 use Rattle.af_ledger.proofs.Laws.{has-dropped, has-entered, has-held, has-struck, users-held}
 use Rattle.af_hold.specs.Agreement.{IsExact}
 use Rattle.af_hold.specs.Stored.{filled}
-use Rattle.af_hold.proofs.Agreement.{agrees-dequeued, agrees-empty, agrees-entered, agrees-gone, agrees-install, agrees-limited, agrees-new_file, agrees-push, agrees-remove_process, agrees-shed, agrees-spawned, agrees-struck, agrees-uninstall}
+use Rattle.af_hold.proofs.Agreement.{agrees-dequeued, agrees-empty, agrees-entered, agrees-gone, agrees-install, agrees-limited, agrees-new_file, agrees-push, agrees-refs, agrees-remove_process, agrees-shed, agrees-spawned, agrees-struck, agrees-uninstall}
 use Rattle.af_hold.proofs.Bounds.{can-drop-all}
 use Rattle.af_hold.proofs.Sheds.{Sheds}
 
@@ -142,7 +142,7 @@ pub exact-gone : (w : World) (f : ℕ) (x : File) (k : Kept) → finmap.get w.fi
 exact-gone w f x k is bare silent none h = record {
   whole = whole-unheld w f none h.whole;
   within = within-without w f h.within;
-  agrees = agrees-struck (without (nat_eq f) w) f k (h.agrees.refs f ∙ none) (agrees-gone w f x k is bare silent h.agrees);
+  agrees = agrees-struck (without (nat_eq f) w) f k (agrees-refs w k h.agrees f ∙ none) (agrees-gone w f x k is bare silent h.agrees);
   counted = λ g. has-struck k f g ∙ by g (nat_eq g f) refl ∙ sym (live-without (nat_eq f) w g);
 } where
   by : (g : ℕ) (b : Bool) → nat_eq g f ≡ b → cond b false (has_count k g) ≡ cond (not (nat_eq f g)) (is_live w g) false
@@ -257,7 +257,7 @@ by-three (Err e) a b c d f g = g d
 pub waits-unheld : (w : World) (k : Kept) (f : ℕ) → IsExact w k → is_waiting k.counts f ≡ true → IsLive w f × (refs w f ≡ 0)
 waits-unheld w k f h waits =
     let told = by (finmap.get k.counts f) waits in
-    (sym (h.counted f) ∙ told.0, sym (h.agrees.refs f) ∙ told.1) where
+    (sym (h.counted f) ∙ told.0, sym (agrees-refs w k h.agrees f) ∙ told.1) where
       by : (o : Option Count) → option_map_or (λ c. nat_eq (places_in c) 0) o false ≡ true → (is_some o ≡ true) × (places_in (unwrap_or o uncounted) ≡ 0)
       by None e = absurd (false≢true e)
       by (Some c) e = (refl, eqb-true (places_in c) 0 e)
@@ -266,7 +266,7 @@ waits-unheld w k f h waits =
 pub none-waits : (w : World) (k : Kept) → IsExact w k → ((f : ℕ) → is_waiting k.counts f ≡ false) → IsSound w
 none-waits w k h none = exact-sound w k h (λ f live.
     let some = by f (finmap.get k.counts f) (h.counted f ∙ live) (none f) in
-    let same = h.agrees.refs f in
+    let same = agrees-refs w k h.agrees f in
     omega (arith, some, same)) where
       positive : (n : ℕ) → nat_eq n 0 ≡ false → 0 < n
       positive zero e = absurd (false≢true (sym e))

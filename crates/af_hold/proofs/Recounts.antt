@@ -5,26 +5,29 @@ use Rattle.std.specs.Option.{option_map_or}
 use Rattle.std.specs.List.{sum_by}
 use Rattle.std.specs.FinMap as map
 use Rattle.std.proofs.lemmas.List.Sums.{sum_by-cons, sum_by-append}
-use Rattle.std.proofs.lemmas.Grind.{flat_map-append}
 use Rattle.af_base.specs.World.{AsSocket, Map, Message, Process, Socket, World}
 use Rattle.af_base.specs.Places.{backlog_of, carried, contents, queue_of}
-use Rattle.af_base.specs.Counts.{charge, charged, count_in, one, refs, tabled, total_of, waiting}
+use Rattle.af_base.specs.Counts.{charge, charged, count_in, inflight, one, refs, tabled, total_of, waiting}
 use Rattle.af_base.specs.Changes.{dequeued, file_with, install, push_message, uninstall, with_queue, with_socket}
 use Rattle.af_base.proofs.Held.{count-cons}
 use Rattle.af_base.proofs.Lookups.{none_some, remove-here, remove-other, same_or_not}
 use Rattle.af_base.proofs.Places.{count-append, refs-install, refs-uninstall}
-use Rattle.af_base.proofs.Replaced.{refs-replace}
 use Rattle.af_base.proofs.Sums.{total-change_at, total-insert, total-remove}
 use Rattle.af_base.proofs.Totals.{total-same}
 use Rattle.af_hold.proofs.Sheds.{Sheds}
 
+-- A total of sums is the sum of the totals.
+sums-added : {X : Type 0} (F G H : X → ℕ) → ((x : X) → F x ≡ G x + H x) → (es : List (ℕ × X)) → sum_by (λ e. F e.1) es ≡ sum_by (λ e. G e.1) es + sum_by (λ e. H e.1) es
+sums-added F G H each [] = refl
+sums-added F G H each (e ∷ es) = omega (arith, sums-added F G H each es, each e.1, sum_by-cons (λ d. F d.1) e es, sum_by-cons (λ d. G d.1) e es, sum_by-cons (λ d. H d.1) e es)
+
+-- A file is held in tables, in queues and in backlogs.
+pub refs-add_up : (w : World) (f : ℕ) → refs w f ≡ tabled w f + inflight w f + waiting w f
+refs-add_up w f = omega (arith, sums-added (λ x. count_in f (contents x)) (λ x. count_in f (carried (queue_of x))) (λ x. count_in f (backlog_of x)) (λ x. count-append f (carried (queue_of x)) (backlog_of x)) (map.entries w.files))
+
 -- A number taken into use stands for one file more.
 pub tabled-install : (w : World) (p n g f : ℕ) (q : Process) → map.get w.processes p ≡ Some q → map.get q.table n ≡ None → tabled (install w p n g) f ≡ tabled w f + one f g
 tabled-install w p n g f q at free = omega (arith, refs-install w p n g f q at free)
-
--- A number that stands for another file stands no more for the old one.
-pub tabled-replace : (w : World) (p n g h f : ℕ) (q : Process) → map.get w.processes p ≡ Some q → map.get q.table n ≡ Some h → tabled (install w p n g) f + one f h ≡ tabled w f + one f g
-tabled-replace w p n g h f q at is = omega (arith, refs-replace w p n g h f q at is)
 
 -- A number given up stands for one file less.
 pub tabled-uninstall : (w : World) (p n g f : ℕ) (q : Process) → map.get w.processes p ≡ Some q → map.get q.table n ≡ Some g → tabled (uninstall w p n) f + one f g ≡ tabled w f
@@ -48,26 +51,6 @@ charged-shed w s m rest u x at shed = omega (arith, total-change_at (λ y. sum_b
 pub waiting-dequeued : (w : World) (s n f : ℕ) (x : Socket) → map.get w.files s ≡ Some (AsSocket x) → x.backlog ≡ n ∷ drop 1 x.backlog → waiting (with_socket w s dequeued) f + one f n ≡ waiting w f
 waiting-dequeued w s n f x at first =
     omega (arith, ap (count_in f) first, count-cons f n (drop 1 x.backlog), total-change_at (λ y. count_in f (backlog_of y)) (file_with dequeued) w.files s (AsSocket x) at)
-
--- And it is held once less.
-pub refs-dequeued : (w : World) (s n f : ℕ) (x : Socket) → map.get w.files s ≡ Some (AsSocket x) → x.backlog ≡ n ∷ drop 1 x.backlog → refs (with_socket w s dequeued) f + one f n ≡ refs w f
-refs-dequeued w s n f x at first =
-    omega (
-      arith,
-      ap (count_in f) first,
-      count-cons f n (drop 1 x.backlog),
-      count-append f (carried x.queue) x.backlog,
-      count-append f (carried x.queue) (drop 1 x.backlog),
-      total-change_at (λ y. count_in f (contents y)) (file_with dequeued) w.files s (AsSocket x) at,
-    )
-
--- What two lists of messages carry is what the one does and then the other.
-pub carried-append : (ps qs : List Message) → carried (ps ++ qs) ≡ carried ps ++ carried qs
-carried-append ps qs = flat_map-append (λ m. m.attached) ps qs
-
--- What two lists of messages carry is counted in each.
-pub count-carried : (f : ℕ) (ps qs : List Message) → count_in f (carried (ps ++ qs)) ≡ count_in f (carried ps) + count_in f (carried qs)
-count-carried f ps qs = ap (count_in f) (carried-append ps qs) ∙ count-append f (carried ps) (carried qs)
 
 -- A value at a new key adds what it weighs.
 pub total-new : {X : Type 0} (F : X → ℕ) (m : Map X) (k : ℕ) (v : X) → map.get m k ≡ None → total_of F (map.insert m k v) ≡ total_of F m + F v

@@ -2,14 +2,13 @@
 use Rattle.std.specs.Prelude.{◌≡◌, ℕ, IsTrue, Some, false}
 use Rattle.std.specs.FinMap as map
 use Rattle.af_base.specs.World.{World, Process, is_live, IsLive}
-use Rattle.af_base.specs.Counts.{refs, tabled, inflight, waiting, charged, total}
+use Rattle.af_base.specs.Counts.{tabled, inflight, waiting, charged, total}
 use Rattle.af_base.specs.Whole.{IsWhole, IsWithin, IsProcessWithin}
 use Rattle.af_base.specs.Refusals.{is_crowded}
-use Rattle.af_ledger.specs.Kept.{Kept, count_of, refs_of, charge_of, has_count, is_user}
+use Rattle.af_ledger.specs.Kept.{Kept, count_of, charge_of, has_count, is_user}
 
 -- Each number kept is the recount of the world, and each process has a user who is kept (this project's profile).
 pub record Agrees (w : World) (k : Kept) : Type 0 where
-  pub refs : (f : ℕ) → refs_of k f ≡ refs w f
   pub tabled : (f : ℕ) → (count_of k f).tabled ≡ tabled w f
   pub inflight : (f : ℕ) → (count_of k f).inflight ≡ inflight w f
   pub waiting : (f : ℕ) → (count_of k f).waiting ≡ waiting w f

@@ -16,12 +16,12 @@ use Rattle.af_base.specs.Counts.{count_in, one}
 use Rattle.af_base.proofs.Elements.{Contains-first, Contains-later}
 use Rattle.af_base.proofs.Held.{count-cons}
 use Rattle.af_base.proofs.Lookups.{itself, some_is}
-use Rattle.af_ledger.specs.Kept.{CanDrop, CanDropAll, CanHold, CanHoldAll, Kept, charge_of, charged_by, count_of, dropped, dropped_all, freed_by, has_count, held, held_all, is_user, recharged, refs_of}
+use Rattle.af_ledger.specs.Kept.{CanDrop, CanDropAll, CanHold, CanHoldAll, Kept, charge_of, charged_by, count_of, dropped, dropped_all, freed_by, has_count, held, held_all, is_user, recharged}
 use Rattle.af_ledger.specs.Counted.{uncounted}
 use Rattle.af_ledger.specs.declared.count.Count.{Count}
 use Rattle.af_ledger.specs.declared.place.Place.{Place}
 use Rattle.af_ledger.specs.declared.place.Place.TheVariants.{Queue}
-use Rattle.af_ledger.proofs.Laws.{charge-queued, charge-unqueued, counted-there, has-dropped, has-held, inflight-queued, inflight-unqueued, refs-dropped, refs-held, tabled-queued, tabled-unqueued, total-queued, total-unqueued, users-dropped, users-held, waiting-queued, waiting-unqueued}
+use Rattle.af_ledger.proofs.Laws.{charge-queued, charge-unqueued, counted-there, has-dropped, has-held, inflight-queued, inflight-unqueued, tabled-queued, tabled-unqueued, total-queued, total-unqueued, users-dropped, users-held, waiting-queued, waiting-unqueued}
 
 -- Who is a user is one among the same users.
 pub same-user : (u : ℕ) (us vs : List (ℕ × ℕ)) → keys_of vs ≡ keys_of us → IsTrue (is_user u us) → IsTrue (is_user u vs)
@@ -53,11 +53,6 @@ pub count-length : (f : ℕ) (xs : List ℕ) → count_in f xs ≤ length xs
 count-length f [] = omega arith
 count-length f (x ∷ xs) = omega (arith, count-cons f x xs, one-most f x, count-length f xs)
 
--- Each file of a list has its places more, of whatever kind.
-pub places-held_all : (p : Place) (g : ℕ) (fs : List ℕ) (k : Kept) → refs_of (held_all p fs k) g ≡ refs_of k g + count_in g fs
-places-held_all p g [] k = omega arith
-places-held_all p g (f ∷ fs) k = omega (arith, places-held_all p g fs (held p f k), refs-held p f g k, count-cons g f fs)
-
 -- One more is held after the others.
 pub held-last : (p : Place) (fs : List ℕ) (f : ℕ) (k : Kept) → held_all p (fs ++ f ∷ []) k ≡ held p f (held_all p fs k)
 held-last p [] f k = refl
@@ -69,11 +64,6 @@ dropped-last p [] f k = refl
 dropped-last p (g ∷ fs) f k = dropped-last p fs f (dropped p g k)
 
 module _ (u : ℕ) where
-  -- Each file of a list has its places in queues more.
-  pub refs-held_all : (g : ℕ) (fs : List ℕ) (k : Kept) → refs_of (held_all (Queue u) fs k) g ≡ refs_of k g + count_in g fs
-  refs-held_all g [] k = omega arith
-  refs-held_all g (f ∷ fs) k = omega (arith, refs-held_all g fs (held (Queue u) f k), refs-held (Queue u) f g k, count-cons g f fs)
-
   -- None has a number of a table more.
   pub tabled-held_all : (g : ℕ) (fs : List ℕ) (k : Kept) → (count_of (held_all (Queue u) fs k) g).tabled ≡ (count_of k g).tabled
   tabled-held_all g [] k = refl
@@ -145,13 +135,6 @@ module _ (u : ℕ) where
           total = omega (arith, total, total-unqueued u f k all);
         },
       )
-
-  -- Each file of a list has its places in queues less.
-  pub refs-dropped_all : (g : ℕ) (fs : List ℕ) (k : Kept) → CanDropAll u fs k → refs_of (dropped_all (Queue u) fs k) g + count_in g fs ≡ refs_of k g
-  refs-dropped_all g [] k h = omega arith
-  refs-dropped_all g (f ∷ fs) k h =
-      let rest = can-drop-rest f fs k h in
-      omega (arith, refs-dropped_all g fs (dropped (Queue u) f k) rest.3, refs-dropped (Queue u) f g k rest.0, count-cons g f fs)
 
   -- None has a number of a table less.
   pub tabled-dropped_all : (g : ℕ) (fs : List ℕ) (k : Kept) → (count_of (dropped_all (Queue u) fs k) g).tabled ≡ (count_of k g).tabled

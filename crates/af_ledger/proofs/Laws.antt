@@ -7,13 +7,13 @@ use Rattle.std.specs.FinMap.{get-insert, get-remove}
 use Rattle.std.specs.Map.{lookup, set_value, keys_of}
 use Rattle.std.specs.List.{list_any}
 use Rattle.std.specs.Option.{option_map_or}
-use Rattle.std.proofs.lemmas.Bool.{eqb-true, eq-eqb, false≢true}
+use Rattle.std.proofs.lemmas.Bool.{eqb-true, false≢true}
 use Rattle.std.proofs.lemmas.Map.{lookup-set_value, keys-set_value}
 use Rattle.std.proofs.lemmas.Map.Made.{is_some-lookup}
 use Rattle.std.proofs.lemmas.List.{map-append}
 use Rattle.af_base.specs.World.{Map}
 use Rattle.af_base.specs.Counts.{one}
-use Rattle.af_ledger.specs.Counted.{uncounted, places_in, more, fewer, IsCounted}
+use Rattle.af_ledger.specs.Counted.{uncounted, places_in, more, fewer}
 use Rattle.af_ledger.specs.Kept.{Kept, count_in_map, count_of, has_count, refs_of, charge_in, charge_of, recharged, is_user, with_user, held, dropped}
 use Rattle.af_ledger.specs.declared.count.Count.{Count}
 use Rattle.af_ledger.specs.declared.place.Place.{Place}
@@ -45,12 +45,6 @@ falls F m f g c h = ap (λ x. F x + one g f) (looked m f g c) ∙ by (nat_eq g f
   by : (b : Bool) → nat_eq g f ≡ b → F (cond b c (count_in_map m g)) + cond b 1 0 ≡ F (count_in_map m g)
   by true e = h ∙ ap (λ x. F (count_in_map m x)) (sym (eqb-true g f e))
   by false e = omega arith
-
--- A place more of f is a reference more to f, and to no other file.
-pub refs-held : (p : Place) (f g : ℕ) (k : Kept) → refs_of (held p f k) g ≡ refs_of k g + one g f
-refs-held Table f g k = rises places_in k.counts f g (more Table (count_of k f)) (omega arith)
-refs-held (Queue u) f g k = rises places_in k.counts f g (more (Queue u) (count_of k f)) (omega arith)
-refs-held Backlog f g k = rises places_in k.counts f g (more Backlog (count_of k f)) (omega arith)
 
 -- A number of a table more.
 pub tabled-tabled : (f g : ℕ) (k : Kept) → (count_of (held Table f k) g).tabled ≡ (count_of k g).tabled + one g f
@@ -87,28 +81,6 @@ inflight-backlogged f g k = stays (λ c. c.inflight) k.counts f g (more Backlog 
 -- A place in a backlog more.
 pub waiting-backlogged : (f g : ℕ) (k : Kept) → (count_of (held Backlog f k) g).waiting ≡ (count_of k g).waiting + one g f
 waiting-backlogged f g k = rises (λ c. c.waiting) k.counts f g (more Backlog (count_of k f)) refl
-
--- The places that are left.
-left : (p : Place) (f g : ℕ) (k : Kept) → IsCounted p (count_of k f) → places_in (count_in_map (map.insert k.counts f (fewer p (count_of k f))) g) + one g f ≡ refs_of k g
-left p f g k some = falls places_in k.counts f g (fewer p (count_of k f)) (by p some) where
-  by : (p : Place) → IsCounted p (count_of k f) → places_in (fewer p (count_of k f)) + 1 ≡ refs_of k f
-  by Table h = omega arith
-  by (Queue u) h = omega arith
-  by Backlog h = omega arith
-
--- A place less of f is a reference less to f, and to no other file.
-pub refs-dropped : (p : Place) (f g : ℕ) (k : Kept) → IsCounted p (count_of k f) → refs_of (dropped p f k) g + one g f ≡ refs_of k g
-refs-dropped Table f g k some = left Table f g k some
-refs-dropped (Queue u) f g k some = left (Queue u) f g k some
-refs-dropped Backlog f g k some = left Backlog f g k some
-
--- Whether the place that goes is the last is seen before and after.
-pub last_left : (p : Place) (f : ℕ) (k new : Kept) → IsCounted p (count_of k f) → new.counts ≡ map.insert k.counts f (fewer p (count_of k f)) → nat_eq (refs_of k f) 1 ≡ nat_eq (refs_of new f) 0
-last_left p f k new some e =
-    let here = sym (left p f f k some) ∙ ap (λ b. places_in (count_in_map (map.insert k.counts f (fewer p (count_of k f))) f) + cond b 1 0) (eq-eqb f f refl) in
-    same _ _ (here ∙ ap (λ m. places_in (count_in_map m f) + 1) (sym e)) where
-      same : (n m : ℕ) → n ≡ m + 1 → nat_eq n 1 ≡ nat_eq m 0
-      same n m e = grind arith
 
 -- A number of a table less.
 pub tabled-untabled : (f g : ℕ) (k : Kept) → 0 < (count_of k f).tabled → (count_of (dropped Table f k) g).tabled + one g f ≡ (count_of k g).tabled
@@ -222,13 +194,6 @@ charge-added u v k = by (is_user u k.users) where
   by : (b : Bool) → charge_in (cond b k.users (k.users ++ (u, 0) ∷ [])) v ≡ charge_of k v
   by true = refl
   by false = charge_last k.users u v
-
--- What was looked up at a key that a map has is there.
-pub looked-there : (k : Kept) (f : ℕ) → IsTrue (has_count k f) → map.get k.counts f ≡ Some (count_of k f)
-looked-there k f = by (map.get k.counts f) where
-  by : (o : Option Count) → is_some o ≡ true → o ≡ Some (unwrap_or o uncounted)
-  by (Some c) h = refl
-  by None h = absurd (false≢true h)
 
 -- The numbers of f are kept where there is one.
 pub counted-there : (k : Kept) (f : ℕ) → 0 < refs_of k f → IsTrue (has_count k f)

@@ -148,10 +148,6 @@ washed_first m f y low is = by (finmap.get m f) (sym (get-change_at washed m 0 f
   by None is = absurd (none_some y is)
   by (Some x) is = subst (λ z. z.epoch ≤ 0) (some_same (washed x) y is) (omega arith)
 
--- The marks of earlier passes are of this one or earlier.
-pub upto_next : (e n : ℕ) (m : Map Mark) → e ≤ n → AreUpTo e m → AreUpTo n m
-upto_next e n m le h f x is = let low = h f x is in omega (arith, low, le)
-
 -- Marks up to the last number are all.
 pub washed_all : (m : Map Mark) (last : ℕ) → ((f : ℕ) (x : Mark) → f ≤ last → finmap.get m f ≡ Some x → x.epoch ≤ 0) → ((q : ℕ) → last < q → finmap.contains_key m q ≡ false) → AreUpTo 0 m
 washed_all m last low none f x is = elim (cases_lt last f) [

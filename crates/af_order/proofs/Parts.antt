@@ -1,7 +1,6 @@
 -- A part of each value, as values come, change and go.
 use Rattle.std.proofs.Common.{◌≡◌, ℕ, Bool, true, false, ◌&&◌, T, List, [], ◌∷◌, length, refl, sym, ap, ◌∙◌, subst, cond, map}
 use Rattle.std.specs.Prelude.{Option, Some, None, is_some, option_map}
-use Rattle.std.specs.Option.{option_map_or}
 use Rattle.std.specs.FinMap.Entries.{below_all}
 use Rattle.std.specs.Ordering.{eq_by_cmp, is_lt, nat_cmp}
 use Rattle.std.specs.Cmp.{nat_cmp_total, unsigned_tied}
@@ -9,7 +8,6 @@ use Rattle.std.specs.FinMap as finmap
 use Rattle.std.specs.FinMap.{entries-from_sorted, entries_sorted, get-empty, get-from_entries, get-from_sorted, get-insert, get-remove, is_sorted, nat_cmp-IsAntisymmetric, same_map}
 use Rattle.std.proofs.lemmas.List.{length-map}
 use Rattle.std.proofs.lemmas.Bool.{eqb-true}
-use Rattle.af_base.specs.Changes.{change_at}
 use Rattle.af_base.specs.World.{Map}
 use Rattle.af_order.specs.Parts.{part}
 
@@ -81,15 +79,5 @@ module _ {A B : Type 0} (g : A → B) where
         by q true is = ap Some e ∙ ap (option_map g) (sym at ∙ ap (finmap.get m) (sym (eqb-true q f (sym (unsigned_tied q f) ∙ is))))
         by q false is = refl
 
-  -- A part that changes.
-  pub part_changed : (h : B → B) (m : Map A) (f : ℕ) (x y : A) → finmap.get m f ≡ Some x → g y ≡ h (g x) → part g (finmap.insert m f y) ≡ change_at h (part g m) f
-  part_changed h m f x y at e =
-      part_put m f y ∙ ap (finmap.insert (part g m) f) e
-      ∙ ap (λ o. option_map_or (λ d. finmap.insert (part g m) f (h d)) o (part g m)) (sym (part_get m f ∙ ap (option_map g) at))
-
-  -- No change of a stranger.
-  pub part_stranger : (h : B → B) (m : Map A) (f : ℕ) → finmap.get m f ≡ None → part g m ≡ change_at h (part g m) f
-  part_stranger h m f none = ap (λ o. option_map_or (λ d. finmap.insert (part g m) f (h d)) o (part g m)) (sym (part_get m f ∙ ap (option_map g) none))
-
 -- What parts do as values come, change and go.
-pub ruleset parts = (part_get, part_known, part_many, part_put, part_taken, part_none, part_kept, part_changed, part_stranger)
+pub ruleset parts = (part_get, part_known, part_many, part_put, part_taken, part_none, part_kept)

@@ -1,0 +1,69 @@
+-- That the rows fit all else, whatever comes, goes or is counted.
+use Rattle.std.proofs.Common.{◌≡◌, ◌≤◌, ◌+◌, ℕ, ◌&&◌, false, not, List, sym, ap, ◌∙◌, subst, nat_eq, arith}
+use Rattle.std.specs.Prelude.{None}
+use Rattle.std.specs.FinMap as map
+use Rattle.std.specs.List.{IsDistinct, list_any}
+use Rattle.af_base.specs.World.{File, Map}
+use Rattle.af_ledger.specs.Counted.{uncounted}
+use Rattle.af_ledger.specs.Waiting.{AreWaiting}
+use Rattle.af_ledger.specs.declared.count.Count.{Count}
+use Rattle.af_ledger.proofs.Waiting.{waiting-struck}
+use Rattle.af_listen.specs.Named.{Named}
+use Rattle.af_order.proofs.Values.{gone_few}
+use Rattle.af_desc.specs.Filed.{AreNamed, IsFiled, name_of}
+use Rattle.af_desc.specs.Rowed.{Rowed}
+use Rattle.af_desc.proofs.Begun.{begun-made, begun-removed}
+use Rattle.af_desc.proofs.Naming.{named-new}
+
+module _ (old new : Rowed) (ws : List ℕ) (room : ℕ) (names : Named) (next : ℕ) (h : IsFiled old ws room names next) where
+  -- More room changes nothing.
+  pub filed-reserved : (vs : List ℕ) (most : ℕ) → new ≡ record old { room = new.room } → vs ≡ ws → room ≤ most → IsFiled new vs most names next
+  filed-reserved vs most is same more =
+      let low = h.0 in
+      let fits = h.4 in (
+        omega (arith, low, ap (λ r. r.last) is),
+        ap (λ r. map.contains_key r.files 0) is ∙ h.1,
+        subst (AreNamed names) (sym (ap (λ r. r.files) is)) h.2,
+        subst (AreWaiting new.counts) (sym same) (subst (λ m. AreWaiting m ws) (sym (ap (λ r. r.counts) is)) h.3),
+        omega (arith, fits, more, ap (λ r. map.len r.counts) is),
+      )
+
+  -- Other counts of the same files, and the list of those that wait then.
+  pub filed-counted : (m : Map Count) (vs : List ℕ) (most : ℕ) → new ≡ record old { counts = m } → AreWaiting new.counts vs → map.len new.counts ≡ map.len old.counts → room ≤ most → IsFiled new vs most names next
+  filed-counted m vs most is waits many more =
+      let low = h.0 in
+      let fits = h.4 in (
+        omega (arith, low, ap (λ r. r.last) is),
+        ap (λ r. map.contains_key r.files 0) is ∙ h.1,
+        subst (AreNamed names) (sym (ap (λ r. r.files) is)) h.2,
+        waits,
+        omega (arith, fits, many, more),
+      )
+
+  -- A file more, without a name, which waits.
+  pub filed-entered : (x : File) (vs : List ℕ) (most : ℕ) → new ≡ record old { files = map.insert old.files next x; counts = map.insert old.counts next uncounted; last = next; room = new.room } → map.contains_key old.files next ≡ false → name_of x ≡ None
+      → AreWaiting new.counts vs → map.len new.counts ≤ most → IsFiled new vs most names (next + 1)
+  filed-entered x vs most is stranger nameless waits fits =
+      let low = h.0 in
+      let files = ap (λ r. r.files) is in (
+        omega (arith, ap (λ r. r.last) is),
+        ap (λ m. map.contains_key m 0) files ∙ begun-made old.files next x (omega (arith, low)) h.1,
+        subst (AreNamed names) (sym files) (named-new names old.files h.2 next x stranger nameless),
+        waits,
+        fits,
+      )
+
+  -- A file less, with the names that are left, and those that wait without it.
+  pub filed-removed : (k : ℕ) (left : Named) (vs : List ℕ) (most : ℕ) → new ≡ record old { files = map.remove old.files k; counts = map.remove old.counts k; room = new.room } → AreNamed left (map.remove old.files k)
+      → ((f : ℕ) → list_any (nat_eq f) vs ≡ (not (nat_eq f k) && list_any (nat_eq f) ws)) → IsDistinct nat_eq vs → room ≤ most → IsFiled new vs most left next
+  filed-removed k left vs most is named off once more =
+      let low = h.0 in
+      let fits = h.4 in
+      let files = ap (λ r. r.files) is in
+      let counts = ap (λ r. r.counts) is in (
+        omega (arith, low, ap (λ r. r.last) is),
+        ap (λ m. map.contains_key m 0) files ∙ begun-removed old.files k h.1,
+        subst (AreNamed left) (sym files) named,
+        waiting-struck old.counts new.counts ws vs k counts h.3 off once,
+        omega (arith, fits, more, ap map.len counts, gone_few old.counts k),
+      )
