@@ -36,21 +36,45 @@ impl Hints {
         ensures there { IfSome result (λ i. slice_get (keys processes.now) i ≡ Some pid) }
         ensures none { IfNone result (get nat_eq processes.now pid ≡ None) }
     {
-        let hint = self.places[pid.0 as usize % HINTS] as usize;
-        match processes.get_index(hint) {
-            Some((there, _)) if *there == pid => Some(hint),
-            _ => processes.get_index_of(&pid),
+        match self.likely(processes, pid) {
+            Some(index) => Some(index),
+            None => search(processes, pid),
         }
     }
 
-    /// The same, and it is noted, so that the next look-up need not ask the map.
+    /// The same, and what the map said is noted, so that the next look-up need not ask it.
     #[inline(always)]
     pub fn found(&mut self, processes: &IndexMap<Pid, Process>, pid: Pid) -> Option<usize>
         ensures there { IfSome result (λ i. slice_get (keys processes.now) i ≡ Some pid) }
         ensures none { IfNone result (get nat_eq processes.now pid ≡ None) }
     {
-        let index = self.place(processes, pid)?;
+        if let Some(index) = self.likely(processes, pid) {
+            return Some(index);
+        }
+        let index = search(processes, pid)?;
         self.note(pid, index);
         Some(index)
     }
+
+    /// The hint, where the process of this pid stands there.
+    #[inline(always)]
+    fn likely(&self, processes: &IndexMap<Pid, Process>, pid: Pid) -> Option<usize>
+        ensures { IfSome result (λ i. slice_get (keys processes.now) i ≡ Some pid) }
+    {
+        let hint = self.places[pid.0 as usize % HINTS] as usize;
+        match processes.get_index(hint) {
+            Some((there, _)) if *there == pid => Some(hint),
+            _ => None,
+        }
+    }
+}
+
+/// Where the process of this pid stands: the map is asked, out of the way of most events.
+#[cold]
+#[inline(never)]
+fn search(processes: &IndexMap<Pid, Process>, pid: Pid) -> Option<usize>
+    ensures there { IfSome result (λ i. slice_get (keys processes.now) i ≡ Some pid) }
+    ensures none { IfNone result (get nat_eq processes.now pid ≡ None) }
+{
+    processes.get_index_of(&pid)
 }

@@ -105,6 +105,7 @@ impl Process {
     }
 
     /// Room for each number below the limit, and for none beyond that had none.
+    #[inline(always)]
     #[tactic(auto, using(crate::proofs::Tables::table_changes))]
     pub(crate) fn make_room(&mut self) -> Result<(), AllocError>
         ensures process { self.new.process ≡ self.old.process }
@@ -114,11 +115,24 @@ impl Process {
         ensures succeeds { self.old.process.limit ≤ self.old.row → IsOk result }
         ensures most { self.old.row < self.new.row → self.new.row ≤ self.old.process.limit }
     {
-        let limit = self.limit as usize;
-        if self.slots.len() >= limit {
+        if self.slots.len() >= self.limit as usize {
             return Ok(());
         }
-        self.slots.resize_with(limit, || FileRef::new(Ino(0), 0))
+        self.lengthen()
+    }
+
+    /// As many slots as the limit, which are more than there were. Few events come here.
+    #[cold]
+    #[inline(never)]
+    #[tactic(auto, using(crate::proofs::Tables::table_changes))]
+    fn lengthen(&mut self) -> Result<(), AllocError>
+        requires { self.old.row ≤ self.old.process.limit }
+        ensures process { self.new.process ≡ self.old.process }
+        ensures ok { OnOk result (self.new.row ≡ self.old.process.limit) }
+        ensures err { OnErr result (self.new ≡ self.old) }
+    {
+        self.slots
+            .resize_with(self.limit as usize, || FileRef::new(Ino(0), 0))
     }
 
     /// Its limit is this from now on. What is open stays open, also at or above the limit.
@@ -187,6 +201,7 @@ impl Process {
 
     /// The lowest free numbers, rising: so many, or all where there are fewer. The list is all that
     /// it takes memory for, and an empty list takes none.
+    #[inline(always)]
     #[tactic(auto, using(crate::proofs::Left::free_lists))]
     pub fn lowest_free(&self, alloc: Global, count: usize) -> Result<Vec<Fd>, AllocError>
         ensures value { IfOk result (λ fds. fds.items ≡ lowest_free count self.now.process) }

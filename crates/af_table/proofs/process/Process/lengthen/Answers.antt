@@ -1,7 +1,7 @@
 use Rattle.std.proofs.Common.{rules, ap, ◌∙◌}
 use Rattle.std.proofs.lemmas.Result.{on_err_weaker}
 use Rattle.af_table.proofs.Tables.{filled}
-use Rattle.af_table.proofs.process.Process.make_room.Goals as goal
+use Rattle.af_table.proofs.process.Process.lengthen.Goals as goal
 
 pub returns-clause-process : goal.returns-clause-process
 returns-clause-process c =

@@ -1,6 +1,0 @@
-use Rattle.std.specs.HashMap.{keys}
-use Rattle.af_table.proofs.Places.{position_is}
-use Rattle.af_table.proofs.hints.Hints.place.Goals as goal
-
-pub returns-in_default-clause-there : goal.returns-in_default-clause-there
-returns-in_default-clause-there c = position_is (keys c.args.processes.now) c.args.pid c.get_index_of.result c.get_index_of.ensures.index
