@@ -49,7 +49,7 @@ impl Bits {
     }
 
     /// The least number from `from` on and below `end` that is taken, or that is free. It looks at
-    /// each word once, and at none beyond.
+    /// each word once, but for the first, and at none beyond.
     #[inline(always)]
     pub fn next(&self, from: u32, end: u32, taken: bool) -> Option<u32>
         requires { end ≤ MAX_NOFILE }
@@ -59,6 +59,10 @@ impl Bits {
         ensures least { IfSome result (λ n. (q : ℕ) → from ≤ q → q < n → is_taken self.now.words q ≡ not taken) }
         ensures none { IfNone result ((q : ℕ) → from ≤ q → q < end → is_taken self.now.words q ≡ not taken) }
     {
+        // Most tables have no gaps: a walk over what is taken finds the very number.
+        if taken && from < end && self.has(from) {
+            return Some(from);
+        }
         for i in from / u64::BITS..end.div_ceil(u64::BITS) {
             let word = self.words[i as usize];
             if let Some(bit) = place_from(word, from.saturating_sub(u64::BITS * i), taken) {
