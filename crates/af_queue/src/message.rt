@@ -38,6 +38,7 @@ impl Model for Msg {
 
 impl Msg {
     /// A message of these parts, at most 253 files among them. It takes no memory.
+    #[inline(always)]
     pub fn new(bytes: Vec<u8>, attached: Attached, user: Uid) -> Msg
         requires few { small_vec_len attached ≤ SCM_MAX_FD }
         ensures { result ≡ record { bytes = bytes.items; attached = attached.items; user = user } }
@@ -51,6 +52,7 @@ impl Msg {
     }
 
     /// The bytes of it that were not received yet.
+    #[inline(always)]
     pub fn bytes(&self) -> &[u8]
         ensures { result.now ≡ self.now.bytes }
     {
@@ -58,6 +60,7 @@ impl Msg {
     }
 
     /// How many they are.
+    #[inline(always)]
     pub fn len(&self) -> usize
         ensures { result ≡ length self.now.bytes }
     {
@@ -65,6 +68,7 @@ impl Msg {
     }
 
     /// The files that travel with it.
+    #[inline(always)]
     pub fn attached(&self) -> &[FileRef]
         ensures value { result.now ≡ self.now.attached }
         ensures bound { length result.now ≤ SCM_MAX_FD }
@@ -73,6 +77,7 @@ impl Msg {
     }
 
     /// The user who is charged for the files that travel with it.
+    #[inline(always)]
     pub fn user(&self) -> Uid
         ensures { result ≡ self.now.user }
     {
@@ -112,6 +117,7 @@ impl Msg {
     }
 
     /// It as a receive of at most so many bytes takes it whole. It takes no memory.
+    #[inline(always)]
     pub(crate) fn into_taken(self, max: usize) -> Taken
         ensures { result ≡ record { message = record self { bytes = take max self.bytes }; trunc = nat_lt max (length self.bytes) } }
     {
@@ -122,8 +128,12 @@ impl Msg {
             attached,
             user,
         } = self;
-        bytes.drain(..begin);
-        bytes.truncate(max);
+        if begin > 0 {
+            bytes.drain(..begin);
+        }
+        if trunc {
+            bytes.truncate(max);
+        }
         Taken::new(bytes, attached, user, trunc)
     }
 }

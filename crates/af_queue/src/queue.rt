@@ -50,6 +50,7 @@ impl Queue {
     }
 
     /// How many messages it has.
+    #[inline(always)]
     pub fn len(&self) -> usize
         ensures value { result ≡ length self.now.messages }
         ensures bound { result ≤ MAX_MESSAGES }
@@ -75,6 +76,7 @@ impl Queue {
 
     /// Room for one message more. Most queues have one message at a time, so the first room is for
     /// one alone.
+    #[inline(always)]
     pub fn room(&mut self) -> Result<(), AllocError>
         ensures messages { self.new.messages ≡ self.old.messages }
         ensures ok { OnOk result (0 < self.new.room) }
@@ -88,6 +90,7 @@ impl Queue {
     }
 
     /// One message more, last, where there is room for it. It takes no memory.
+    #[inline(always)]
     pub fn push(&mut self, message: Msg)
         requires room { 0 < self.old.room }
         requires few { length self.old.messages < MAX_MESSAGES }
@@ -99,6 +102,7 @@ impl Queue {
     }
 
     /// The first message, whole, if there is one. It takes no memory, and leaves room for another.
+    #[inline(always)]
     pub fn pop(&mut self) -> Option<Msg>
         ensures some { IfSome result (λ m. self.old.messages ≡ m ∷ drop 1 self.old.messages) }
         ensures none { IfNone result (self.old.messages ≡ []) }
@@ -110,6 +114,7 @@ impl Queue {
 
     /// How many files a receive of at most so many bytes takes: those of one message at most. It
     /// looks at no message but those that the receive takes bytes of.
+    #[inline(always)]
     pub fn reach(&self, kind: SockType, max: usize) -> usize
         requires { 0 < max }
         ensures value { result ≡ length (take_from kind self.now.messages max).attached }
@@ -124,6 +129,7 @@ impl Queue {
     /// What a receive of at most so many bytes takes (recvmsg(2)). Of packets (SOCK_SEQPACKET) it is
     /// the first one, and it takes no memory; of a stream (SOCK_STREAM) the bytes up to the end of
     /// the first message with files, over the borders of messages. On an error nothing has changed.
+    #[inline(always)]
     pub fn take(&mut self, kind: SockType, max: usize) -> Result<Taken, AllocError>
         requires { 0 < max }
         ensures taken { IfOk result (λ t. t ≡ received kind self.old.messages max) }
@@ -187,6 +193,7 @@ impl Queue {
     }
 
     /// A packet: the first message, cut to so many bytes.
+    #[inline(always)]
     fn take_packet(&mut self, max: usize) -> Taken
         ensures taken { result ≡ received SockType.Seqpacket self.old.messages max }
         ensures rest { self.new.messages ≡ drop 1 self.old.messages }
@@ -224,6 +231,7 @@ impl Queue {
     }
 
     /// How many files the first message has.
+    #[inline(always)]
     fn front_files(&self) -> usize
         ensures value { result ≡ option_map_or (λ m. length m.attached) (slice_get self.now.messages 0) 0 }
         ensures bound { result ≤ SCM_MAX_FD }

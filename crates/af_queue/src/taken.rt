@@ -34,6 +34,7 @@ impl Model for Taken {
 
 impl Taken {
     /// These parts.
+    #[inline(always)]
     pub(crate) fn new(bytes: Vec<u8>, attached: Attached, user: Uid, trunc: bool) -> Taken
         requires few { small_vec_len attached ≤ SCM_MAX_FD }
         ensures { result ≡ record { message = record { bytes = bytes.items; attached = attached.items; user = user }; trunc = trunc } }
@@ -54,6 +55,7 @@ impl Taken {
     }
 
     /// The files that came.
+    #[inline(always)]
     pub fn attached(&self) -> &[FileRef]
         ensures value { result.now ≡ self.now.message.attached }
         ensures bound { length result.now ≤ SCM_MAX_FD }
@@ -62,6 +64,7 @@ impl Taken {
     }
 
     /// The user who was charged for them.
+    #[inline(always)]
     pub fn user(&self) -> Uid
         ensures { result ≡ self.now.message.user }
     {
@@ -69,6 +72,7 @@ impl Taken {
     }
 
     /// Whether bytes were dropped (recvmsg(2), MSG_TRUNC).
+    #[inline(always)]
     pub fn trunc(&self) -> bool
         ensures { result ≡ self.now.trunc }
     {
@@ -76,6 +80,7 @@ impl Taken {
     }
 
     /// The bytes that came.
+    #[inline(always)]
     pub fn into_bytes(self) -> Vec<u8>
         ensures { result.items ≡ self.message.bytes }
     {
