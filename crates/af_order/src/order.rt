@@ -336,8 +336,7 @@ fn next_in(rows: &[Row], ino: Ino) -> Option<FileRef>
     ensures least { IfSome result (λ n. (q : ℕ) → ino < q → q < n → map.contains_key (live_of rows.now) q ≡ false) }
     ensures none { IfNone result ((q : ℕ) → ino < q → map.contains_key (live_of rows.now) q ≡ false) }
 {
-    let number = ino.0;
-    let from = rows.partition_point(|row| row.ino.0 <= number);
+    let from = rows_up_to(rows, ino);
     let at = first_live(rows, from, rows.len());
     if at == rows.len() {
         return None;
@@ -347,4 +346,26 @@ fn next_in(rows: &[Row], ino: Ino) -> Option<FileRef>
         Some(key) => Some(FileRef::new(row.ino, key)),
         None => None,
     }
+}
+
+/// How many rows have a number up to this one. Most numbers stand one behind the other, so that its
+/// place is told from the last row's, before a search.
+#[inline(always)]
+fn rows_up_to(rows: &[Row], ino: Ino) -> usize
+    requires { Rise rows.now }
+    ensures bound { result ≤ length rows.now }
+    ensures up_to { (i : ℕ) → i < result → (row_at rows.now i).ino ≤ ino }
+    ensures beyond { (i : ℕ) → result ≤ i → i < length rows.now → ino < (row_at rows.now i).ino }
+{
+    let number = ino.0;
+    if let Some(last) = rows.last() {
+        let end = last.ino;
+        let until = rows
+            .len()
+            .saturating_sub(end.0.saturating_sub(number) as usize);
+        if until > 0 && rows[until - 1].ino == ino {
+            return until;
+        }
+    }
+    rows.partition_point(|row| row.ino.0 <= number)
 }

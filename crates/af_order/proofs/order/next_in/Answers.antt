@@ -1,18 +1,10 @@
-use Rattle.std.proofs.Common.{rules, ◌≡◌, ◌<◌, length, ◌∙◌, true, false, sym, ap, subst, arith}
+use Rattle.std.proofs.Common.{◌≡◌, ◌<◌, length, ◌∙◌, sym, ap, subst, arith}
 use Rattle.std.specs.Prelude.{is_some}
-use Rattle.std.proofs.lemmas.List.Sorted.{IsPartitionedBy-leb, IsPartitionPoint-from_clause}
-use Rattle.std.specs.List.Sorted.{IsPartitionPoint}
-use lib.Dec.{leb}
 use Rattle.af_order.specs.declared.order.Row.{Row}
 use Rattle.af_order.specs.Rows.{row_at}
 use Rattle.af_order.proofs.Rows.{held, at_place}
-use Rattle.af_order.proofs.Searches.{rising, up_to, beyond, passed, read_here}
+use Rattle.af_order.proofs.Searches.{passed, read_here}
 use Rattle.af_order.proofs.order.next_in.Goals as goal
-
--- Up to the partition the numbers are not above this one.
-parted : (c : goal.After-new) → IsPartitionPoint (λ (row : Row). leb row.ino c.ino.inside.0 ≡ true) (λ (row : Row). leb row.ino c.ino.inside.0 ≡ false) c.args.rows.now c.partition_point-from.result
-parted c = IsPartitionPoint-from_clause (λ (row : Row). leb row.ino c.ino.inside.0) c.args.rows.now c.partition_point-from.result c.partition_point-from.ensures.partitioned
-    (IsPartitionedBy-leb (λ (row : Row). row.ino) c.args.rows.now c.ino.inside.0 (rising c.args.rows.now c.requires c.ino.inside.0)) (λ a r g called. (search rules, search rules))
 
 -- The row that is answered.
 inside : (c : goal.After-new) → c.first_live-at.result < length c.args.rows.now
@@ -26,8 +18,8 @@ number c = c.new.ensures ∙ ap (λ r. r.ino) (answered c)
 
 pub returns-in-Some-clause-above : goal.returns-in-Some-clause-above
 returns-in-Some-clause-above c =
-    let above = beyond c.args.rows.now c.ino.inside.0 c.partition_point-from.result (parted c) c.partition_point-from.ensures.bound c.first_live-at.result c.first_live-at.ensures.from (inside c) in
-    subst (λ n. n < c.new.result) c.ino.view_is (subst (λ n. c.ino.inside.0 < n) (sym (number c)) above)
+    let above = c.rows_up_to-from.ensures.beyond c.first_live-at.result c.first_live-at.ensures.from (inside c) in
+    subst (λ n. c.args.ino < n) (sym (number c)) above
 
 pub returns-in-Some-clause-there : goal.returns-in-Some-clause-there
 returns-in-Some-clause-there c =
@@ -35,14 +27,12 @@ returns-in-Some-clause-there c =
 
 pub returns-in-Some-clause-least : goal.returns-in-Some-clause-least
 returns-in-Some-clause-least c = λ q above before.
-    ap is_some (passed c.args.rows.now c.requires c.ino.inside.0 c.partition_point-from.result c.first_live-at.result
-    (up_to c.args.rows.now c.ino.inside.0 c.partition_point-from.result (parted c) c.partition_point-from.ensures.bound)
-    c.first_live-at.ensures.dead q (subst (λ n. n < q) (sym c.ino.view_is) above) (λ l. subst (λ n. q < n) (number c) before))
+    ap is_some (passed c.args.rows.now c.requires c.args.ino c.rows_up_to-from.result c.first_live-at.result
+    c.rows_up_to-from.ensures.up_to
+    c.first_live-at.ensures.dead q above (λ l. subst (λ n. q < n) (number c) before))
 
 pub returns-then-at-rows-clause-none : goal.returns-then-at-rows-clause-none
 returns-then-at-rows-clause-none c = λ q above.
-    let parted = IsPartitionPoint-from_clause (λ (row : Row). leb row.ino c.ino.inside.0) c.args.rows.now c.partition_point-from.result c.partition_point-from.ensures.partitioned
-    (IsPartitionedBy-leb (λ (row : Row). row.ino) c.args.rows.now c.ino.inside.0 (rising c.args.rows.now c.requires c.ino.inside.0)) (λ a r g called. (search rules, search rules)) in
-    ap is_some (passed c.args.rows.now c.requires c.ino.inside.0 c.partition_point-from.result c.first_live-at.result
-    (up_to c.args.rows.now c.ino.inside.0 c.partition_point-from.result parted c.partition_point-from.ensures.bound)
-    c.first_live-at.ensures.dead q (subst (λ n. n < q) (sym c.ino.view_is) above) (λ l. let e = c.if-at-rows.true in absurd (omega arith)))
+    ap is_some (passed c.args.rows.now c.requires c.args.ino c.rows_up_to-from.result c.first_live-at.result
+    c.rows_up_to-from.ensures.up_to
+    c.first_live-at.ensures.dead q above (λ l. let e = c.if-at-rows.true in absurd (omega arith)))
