@@ -91,6 +91,7 @@ impl Store {
 
     /// Room to take so many numbers of the process into use. Where its row is as long as its limit,
     /// or none is to come, it needs no memory.
+    #[inline(always)]
     pub fn room_for(&mut self, pid: Pid, count: usize) -> Result<(), AllocError>
         ensures world { self.new.world ≡ self.old.world }
         ensures pass { self.new.pass ≡ self.old.pass }

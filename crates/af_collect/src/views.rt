@@ -16,6 +16,7 @@ use std::alloc::AllocError;
 
 impl Store {
     /// The processes with their tables.
+    #[inline(always)]
     pub fn procs(&self) -> &Procs
         ensures processes { result.now.processes ≡ self.now.world.processes }
         ensures next { result.now.next_pid ≡ self.now.world.next_pid }
@@ -33,6 +34,7 @@ impl Store {
     }
 
     /// The files.
+    #[inline(always)]
     pub fn files(&self) -> &Files
         ensures files { result.now.files ≡ self.now.world.files }
         ensures next { result.now.next ≡ self.now.world.next_ino }
