@@ -1,6 +1,6 @@
 -- What a call comes to, an answer or an error, is a step of the machine.
 use Rattle.std.proofs.Common.{◌≡◌, ℕ, Bool, true, false, inr, refl, sym, ap, subst}
-use Rattle.std.specs.Prelude.{Option, Some, None}
+use Rattle.std.specs.Prelude.{Option, Some, None, Result, Ok, Err, IfOk, IfErr}
 use Rattle.af_base.specs.declared.errno.Errno.{Errno}
 use Rattle.af_base.specs.declared.errno.Errno.TheVariants.{ENOMEM}
 use Rattle.af_base.specs.declared.events.Reply.{Reply}
@@ -34,3 +34,9 @@ module _ (old : Machine) (p : ℕ) (s : Step) (new : Machine) where
       let w = old.world in
       let kept = stays (refusal w p s) (needs_no_memory s) (answer w p s) (effect w p s) w e d.0 in
       subst (λ (m : Machine). ProcessStep w p s (reply.Refused e) m.world × SamePass old m) (sym d.1) (kept, (refl, refl))
+
+  -- What a call comes to is a step with the reply that tells it.
+  pub answers-step : {T : Type 0} (o : Result T Errno) (tells : T → Reply) (r : Reply) → IfOk o (λ t. Does old p s (tells t) new) → IfErr o (λ e. Refuses old p s e new)
+      → IfOk o (λ t. r ≡ tells t) → IfErr o (λ e. r ≡ reply.Refused e) → ProcessStep old.world p s r new.world × SamePass old new
+  answers-step (Ok t) tells r done refused ok err = subst (λ x. ProcessStep old.world p s x new.world × SamePass old new) (sym ok) (does-step (tells t) done)
+  answers-step (Err e) tells r done refused ok err = subst (λ x. ProcessStep old.world p s x new.world × SamePass old new) (sym err) (refuses-step e refused)

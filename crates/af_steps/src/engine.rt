@@ -1,7 +1,8 @@
 //! The engine: events in, replies out.
-ghost use Rattle.std.specs.Prelude.{◌≡◌, ◌<◌, IfOk, IfErr, length};
+ghost use Rattle.std.specs.Prelude.{◌≡◌, ◌<◌, IfOk, IfErr, Ok, OnOk, length};
 ghost use Rattle.std.specs.List.{zip};
 ghost use Rattle.af_base.specs.Run.{fresh, Run, Step};
+ghost use Rattle.af_base.specs.declared.events.Step.TheVariants as steps;
 ghost use Rattle.af_steps.specs.Outcome.{Answers, finished_reply, got_reply, progress_reply, reply_of};
 
 use crate::messages::Received;
@@ -9,7 +10,7 @@ use crate::passes::{Finished, Progress};
 use af_base::errno::Errno;
 use af_base::events;
 use af_base::events::{Event, Reply};
-use af_base::names::Pid;
+use af_base::names::{Fd, Pid};
 use af_collect::Store;
 use std::alloc::{AllocError, Global};
 use std::marker::Model;
@@ -69,54 +70,69 @@ impl Engine {
     pub fn step(&mut self, event: &Event) -> Reply
         ensures { Step self.old event.now result self.new }
     {
-        reply_of(match event {
+        match event {
             Event::Spawn {
                 uid,
                 nofile,
                 privileged,
-            } => self.spawn(*uid, *nofile, *privileged).map(Reply::Pid),
+            } => pid_reply(self.spawn(*uid, *nofile, *privileged)),
             Event::Proc(pid, step) => self.step_of(*pid, step),
-            Event::Begin => self.begin().map(Reply::Started),
-            Event::Slice(budget) => self.slice(*budget).map(progress_reply),
-            Event::Pass => self.pass().map(finished_reply),
-        })
+            Event::Begin => reply_of(self.begin().map(Reply::Started)),
+            Event::Slice(budget) => reply_of(self.slice(*budget).map(progress_reply)),
+            Event::Pass => reply_of(self.pass().map(finished_reply)),
+        }
     }
 
     /// A step of a process.
     #[inline(always)]
-    fn step_of(&mut self, pid: Pid, step: &events::Step) -> Result<Reply, Errno>
-        ensures { Answers self.old pid step.now result self.new }
+    fn step_of(&mut self, pid: Pid, step: &events::Step) -> Reply
+        ensures { Answers self.old pid step.now (Ok result) self.new }
     {
         match step {
-            events::Step::Open => self.open(pid).map(Reply::Fd),
-            events::Step::Dup(from) => self.dup(pid, *from).map(Reply::Fd),
-            events::Step::Dup2(from, to) => self.dup2(pid, *from, *to).map(Reply::Fd),
-            events::Step::Close(fd) => self.close(pid, *fd).map(|()| Reply::Ok),
-            events::Step::Fork => self.fork(pid).map(Reply::Pid),
-            events::Step::Exit => self.exit(pid).map(|()| Reply::Ok),
-            events::Step::Pair(kind) => self.pair(pid, *kind).map(|(n, m)| Reply::Fds(n, m)),
-            events::Step::Socket(kind) => self.socket(pid, *kind).map(Reply::Fd),
-            events::Step::Bind { on, name } => self.bind(pid, *on, name).map(|()| Reply::Ok),
-            events::Step::Listen { on, backlog } => self
-                .listen(pid, *on, *backlog)
-                .map(|()| Reply::Ok),
-            events::Step::Connect { on, name } => self.connect(pid, *on, name).map(|()| Reply::Ok),
-            events::Step::Accept(on) => self.accept(pid, *on).map(Reply::Fd),
-            events::Step::Send { on, bytes, attach } => self
-                .send(pid, *on, bytes.as_slice(), attach.as_slice())
-                .map(Reply::Sent),
+            events::Step::Open => fd_reply(self.open(pid)),
+            events::Step::Dup(from) => fd_reply(self.dup(pid, *from)),
+            events::Step::Dup2(from, to) => fd_reply(self.dup2(pid, *from, *to)),
+            events::Step::Close(fd) => done_reply(self.close(pid, *fd)),
+            events::Step::Fork => pid_reply(self.fork(pid)),
+            events::Step::Exit => done_reply(self.exit(pid)),
+            events::Step::Pair(kind) => fds_reply(self.pair(pid, *kind)),
+            events::Step::Socket(kind) => fd_reply(self.socket(pid, *kind)),
+            events::Step::Bind { on, name } => done_reply(self.bind(pid, *on, name)),
+            events::Step::Listen { on, backlog } => done_reply(self.listen(pid, *on, *backlog)),
+            events::Step::Connect { on, name } => done_reply(self.connect(pid, *on, name)),
+            events::Step::Accept(on) => fd_reply(self.accept(pid, *on)),
+            events::Step::Send { on, bytes, attach } => {
+                sent_reply(self.send(pid, *on, bytes.as_slice(), attach.as_slice()))
+            }
             events::Step::Recv {
                 on,
                 max_bytes,
                 max_fds,
-            } => self.recv(pid, *on, *max_bytes, *max_fds).map(got_reply),
+            } => self.recv_reply(pid, *on, *max_bytes, *max_fds),
             events::Step::Peek {
                 on,
                 max_bytes,
                 max_fds,
-            } => self.peek(pid, *on, *max_bytes, *max_fds).map(got_reply),
-            events::Step::Limit(nofile) => self.limit(pid, *nofile).map(|()| Reply::Ok),
+            } => self.peek_reply(pid, *on, *max_bytes, *max_fds),
+            events::Step::Limit(nofile) => done_reply(self.limit(pid, *nofile)),
         }
+    }
+
+    /// A receive as a step. It stands apart, so that other steps need not blank the room for what it
+    /// gives.
+    #[inline(never)]
+    fn recv_reply(&mut self, pid: Pid, on: Fd, max_bytes: u32, max_fds: u32) -> Reply
+        ensures { Answers self.old pid (steps.Recv on max_bytes max_fds) (Ok result) self.new }
+    {
+        received_reply(self.recv(pid, on, max_bytes, max_fds))
+    }
+
+    /// A peek as a step, which stands apart for the same reason.
+    #[inline(never)]
+    fn peek_reply(&mut self, pid: Pid, on: Fd, max_bytes: u32, max_fds: u32) -> Reply
+        ensures { Answers self.old pid (steps.Peek on max_bytes max_fds) (Ok result) self.new }
+    {
+        received_reply(self.peek(pid, on, max_bytes, max_fds))
     }
 
     /// Does these events in order. The error holds the replies of those that were done.
@@ -157,7 +173,80 @@ fn reply_of(outcome: Result<Reply, Errno>) -> Reply
     }
 }
 
+/// A number, or the error as a refusal.
+#[inline(always)]
+fn fd_reply(outcome: Result<Fd, Errno>) -> Reply
+    ensures ok { IfOk outcome (λ fd. result ≡ Reply.Fd fd) }
+    ensures err { IfErr outcome (λ e. result ≡ Reply.Refused e) }
+{
+    match outcome {
+        Ok(fd) => Reply::Fd(fd),
+        Err(error) => Reply::Refused(error),
+    }
+}
+
+/// Two numbers, or the error as a refusal.
+#[inline(always)]
+fn fds_reply(outcome: Result<(Fd, Fd), Errno>) -> Reply
+    ensures ok { IfOk outcome (λ fds. result ≡ Reply.Fds fds.0 fds.1) }
+    ensures err { IfErr outcome (λ e. result ≡ Reply.Refused e) }
+{
+    match outcome {
+        Ok((lower, higher)) => Reply::Fds(lower, higher),
+        Err(error) => Reply::Refused(error),
+    }
+}
+
+/// A process, or the error as a refusal.
+#[inline(always)]
+fn pid_reply(outcome: Result<Pid, Errno>) -> Reply
+    ensures ok { IfOk outcome (λ pid. result ≡ Reply.Pid pid) }
+    ensures err { IfErr outcome (λ e. result ≡ Reply.Refused e) }
+{
+    match outcome {
+        Ok(pid) => Reply::Pid(pid),
+        Err(error) => Reply::Refused(error),
+    }
+}
+
+/// That it is done, or the error as a refusal.
+#[inline(always)]
+fn done_reply(outcome: Result<(), Errno>) -> Reply
+    ensures ok { OnOk outcome (result ≡ Reply.Ok) }
+    ensures err { IfErr outcome (λ e. result ≡ Reply.Refused e) }
+{
+    match outcome {
+        Ok(()) => Reply::Ok,
+        Err(error) => Reply::Refused(error),
+    }
+}
+
+/// How many bytes were sent, or the error as a refusal.
+#[inline(always)]
+fn sent_reply(outcome: Result<u32, Errno>) -> Reply
+    ensures ok { IfOk outcome (λ count. result ≡ Reply.Sent count) }
+    ensures err { IfErr outcome (λ e. result ≡ Reply.Refused e) }
+{
+    match outcome {
+        Ok(count) => Reply::Sent(count),
+        Err(error) => Reply::Refused(error),
+    }
+}
+
+/// What was received, or the error as a refusal.
+#[inline(always)]
+fn received_reply(outcome: Result<Received, Errno>) -> Reply
+    ensures ok { IfOk outcome (λ received. result ≡ got_reply received) }
+    ensures err { IfErr outcome (λ e. result ≡ Reply.Refused e) }
+{
+    match outcome {
+        Ok(received) => got_reply(received),
+        Err(error) => Reply::Refused(error),
+    }
+}
+
 /// The reply of a receive or a peek.
+#[inline(always)]
 fn got_reply(received: Received) -> Reply
     ensures { result ≡ got_reply received }
 {

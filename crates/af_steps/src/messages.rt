@@ -35,6 +35,7 @@ pub enum Received {
 
 impl Engine {
     /// The socket; a plain file and a stranger are none.
+    #[inline(always)]
     pub(crate) fn socket_at(&self, file: &FileRef) -> Option<&Socket>
         ensures { option_copied result ≡ socket_at self.now.world file.now }
     {
@@ -169,6 +170,7 @@ fn peer_of(socket: &Socket) -> Result<FileRef, Errno>
 }
 
 /// Whether so many bytes can be received from the socket, or why not.
+#[inline(always)]
 fn check_receive(socket: &Socket, max_bytes: u32) -> Result<(), Errno>
     ensures ok { OnOk result (first_fit (on_receive socket.now max_bytes) ≡ None) }
     ensures err { IfErr result (λ e. first_fit (on_receive socket.now max_bytes) ≡ Some e) }
@@ -209,6 +211,7 @@ fn files_at(alloc: Global, process: &Process, fds: &[Fd]) -> Result<Attached, Al
 }
 
 /// The answer to a receive or a peek of this, whose first files were installed at these numbers.
+#[inline(always)]
 fn got(taken: Taken, fds: Vec<Fd>) -> Received
     ensures { result ≡ Received.Got taken.message.bytes fds.items taken.trunc (nat_lt (length fds.items) (length taken.message.attached)) }
 {

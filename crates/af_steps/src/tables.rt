@@ -1,6 +1,7 @@
 //! Steps that start and end processes, and those that change only tables.
-ghost use Rattle.std.specs.Prelude.{◌≡◌, IfErr, IfOk, OnOk};
+ghost use Rattle.std.specs.Prelude.{◌≡◌, IfErr, IfOk, OnOk, is_none, not};
 ghost use Rattle.af_base.specs.Changes.{uninstall};
+ghost use Rattle.af_base.specs.Places.{table_at};
 ghost use Rattle.af_steps.specs.Outcome.{Does, Refuses, RefusesStart, Starts};
 
 use crate::engine::Engine;
@@ -73,9 +74,10 @@ impl Engine {
         if to.0 >= process.limit() {
             return Err(Errno::EBADF);
         }
+        let taken = process.lookup(to).is_some();
         self.store.is_spared();
         self.store.room_for(pid, 1)?;
-        vacate(&mut self.store, pid, to);
+        vacate(&mut self.store, pid, to, taken);
         self.store.table_in(pid, to, file);
         self.store.release();
         Ok(to)
@@ -134,12 +136,13 @@ impl Engine {
     }
 }
 
-/// The number of the process is free from now on, whether it was open or not.
+/// The number of the process, which is open or not, is free from now on.
 #[inline(always)]
-fn vacate(store: &mut Store, pid: Pid, fd: Fd)
+fn vacate(store: &mut Store, pid: Pid, fd: Fd, taken: bool)
+    requires { is_none (table_at store.old.world pid fd) ≡ not taken }
     ensures { store.new ≡ record store.old { world = uninstall store.old.world pid fd } }
 {
-    if store.procs().lookup(pid, fd).is_some() {
+    if taken {
         store.table_out(pid, fd);
     }
 }
