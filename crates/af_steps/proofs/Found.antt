@@ -5,7 +5,7 @@ use Rattle.std.specs.FinMap as map
 use Rattle.std.specs.Option.{option_and_then, option_map_or, option_or}
 use Rattle.af_base.specs.declared.errno.Errno.{Errno}
 use Rattle.af_base.specs.Changes.{with_process}
-use Rattle.af_base.specs.Places.{InTable, table_at}
+use Rattle.af_base.specs.Places.{InTable, queue_at, queue_of, table_at}
 use Rattle.af_base.specs.Refusals.{Row, at_socket, first_fit, ino_on, no_process, no_socket, on_number, on_process, on_socket, process_at, socket_at, socket_of, socket_on}
 use Rattle.af_base.specs.World.{AsSocket, File, Plain, Process, Socket, World}
 use Rattle.af_base.proofs.Lookups.{none_some, some_same}
@@ -116,3 +116,7 @@ file-is w s x = by (map.get w.files s) where
   by None e = absurd (none_some x e)
   by (Some Plain) e = absurd (none_some x e)
   by (Some (AsSocket y)) e = ap (λ z. Some (AsSocket z)) (some_same y x e)
+
+-- And its queue.
+pub queue-is : (w : World) (s : ℕ) (x : Socket) → socket_at w s ≡ Some x → queue_at w s ≡ x.queue
+queue-is w s x heard = ap (λ o. option_map_or queue_of o []) (file-is w s x heard)

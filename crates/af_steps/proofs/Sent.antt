@@ -1,21 +1,18 @@
 -- A send: its row by its parts, and that what it puts where meets what a place in a queue asks for.
-use Rattle.std.proofs.Common.{◌≡◌, ◌≤◌, ℕ, ◌+◌, List, [], ◌++◌, length, sym, ap, ◌∙◌, subst, arith}
+use Rattle.std.proofs.Common.{◌≡◌, ◌≤◌, ℕ, ◌+◌, List, ◌++◌, length, sym, ap, ◌∙◌, subst, arith}
 use Rattle.std.specs.Prelude.{Some, None, filter_map}
 use Rattle.std.specs.FinMap as map
 use Rattle.std.specs.List.{Contains}
-use Rattle.std.specs.Option.{option_map_or}
 use Rattle.std.proofs.lemmas.Bool.{ltb-false}
 use Rattle.af_base.specs.declared.errno.Errno.{Errno}
 use Rattle.af_base.specs.declared.events.Step.TheVariants as step
 use Rattle.af_base.specs.declared.limits.TheConstants.{MAX_INFLIGHT}
-use Rattle.af_base.specs.Changes.{push_message}
 use Rattle.af_base.specs.Counts.{charged, total}
-use Rattle.af_base.specs.Places.{InTable, queue_at, queue_of, table_at}
+use Rattle.af_base.specs.Places.{InTable, queue_at, table_at}
 use Rattle.af_base.specs.Refusals.{Row, first_fit, on_charge, on_parts, on_peer, on_room, peer_of, refusal, socket_at}
-use Rattle.af_base.specs.Steps.{effect}
 use Rattle.af_base.specs.World.{Message, Process, Socket, World}
 use Rattle.af_base.proofs.Stepped.{attached-most, attached-tabled, none-fits}
-use Rattle.af_steps.proofs.Found.{HasSocket, after-socket, file-is, goes-on, is_process, looks, passes-on, socket-is}
+use Rattle.af_steps.proofs.Found.{HasSocket, after-socket, goes-on, looks, passes-on, queue-is}
 
 module _ {w : World} {p n f : ℕ} {q : Process} {x : Socket} (has : HasSocket w p q n f x) (bytes attach : List ℕ) where
   -- The part of its bytes and numbers, by what was found.
@@ -58,17 +55,11 @@ module _ {w : World} {p n f : ℕ} {q : Process} {x : Socket} (has : HasSocket w
 
       -- Whether the queue of the peer is full decides.
       pub after-charge : first_fit charges ≡ None → (g : ℕ) (y : Socket) → g ≡ peer_of x.state → socket_at w g ≡ Some y → refusal w p (step.Send n bytes attach) ≡ first_fit (on_room y.queue)
-      after-charge paid g y to heard = after-peer ∙ passes-on charges room paid ∙ ap (λ h. first_fit (on_room (queue_at w h))) (sym to) ∙ ap (λ o. first_fit (on_room (option_map_or queue_of o []))) (file-is w g y heard)
+      after-charge paid g y to heard = after-peer ∙ passes-on charges room paid ∙ ap (λ h. first_fit (on_room (queue_at w h))) (sym to) ∙ ap (λ q. first_fit (on_room q)) (queue-is w g y heard)
 
   -- The message that is sent.
-  abbrev sent : Message
+  abbrev pub sent : Message
   sent = record { bytes = bytes; attached = filter_map (map.get q.table) attach; user = q.user }
-
-  -- In the queue of the peer: that is where the step leads.
-  pub sent-leads : (g : ℕ) (m : Message) → g ≡ peer_of x.state → m ≡ sent → effect w p (step.Send n bytes attach) ≡ push_message w g m
-  sent-leads g m to is =
-      let process = has.number.process in
-      (λ i. push_message w (peer_of (socket-is has i).state) (record { bytes = bytes; attached = filter_map (looks process i) attach; user = (is_process process i).user })) ∙ (λ i. push_message w (sym to i) (sym is i))
 
   module _ (m : Message) (is : m ≡ sent) where
     -- What it carries is what the numbers stand for.

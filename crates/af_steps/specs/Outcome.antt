@@ -62,6 +62,6 @@ abbrev pub reply_of : Result Reply Errno → Reply
 reply_of (Ok r) = r
 reply_of (Err e) = reply.Refused e
 
--- A step of process p leads from `old` to `new`, and comes to this (this project's profile).
-abbrev pub Answers : Machine → ℕ → Step → Result Reply Errno → Machine → Type 0
-Answers old p s r new = ProcessStep old.world p s (reply_of r) new.world × SamePass old new
+-- A step of process p leads from `old` to `new` with this reply, and the collector stands still (this project's profile).
+abbrev pub Answers : Machine → ℕ → Step → Reply → Machine → Type 0
+Answers old p s r new = ProcessStep old.world p s r new.world × SamePass old new

@@ -1,5 +1,5 @@
 //! The engine: events in, replies out.
-ghost use Rattle.std.specs.Prelude.{◌≡◌, ◌<◌, IfOk, IfErr, Ok, OnOk, length};
+ghost use Rattle.std.specs.Prelude.{◌≡◌, ◌<◌, IfOk, IfErr, OnOk, length};
 ghost use Rattle.std.specs.List.{zip};
 ghost use Rattle.af_base.specs.Run.{fresh, Run, Step};
 ghost use Rattle.af_base.specs.declared.events.Step.TheVariants as steps;
@@ -83,10 +83,21 @@ impl Engine {
         }
     }
 
+    /// The same of an event that the caller gives away: the bytes of a send are moved into the message,
+    /// and not copied.
+    pub fn step_owned(&mut self, event: Event) -> Reply
+        ensures { Step self.old event result self.new }
+    {
+        match event {
+            Event::Proc(pid, step) => self.step_of_owned(pid, step),
+            other => self.step(&other),
+        }
+    }
+
     /// A step of a process.
     #[inline(always)]
     fn step_of(&mut self, pid: Pid, step: &events::Step) -> Reply
-        ensures { Answers self.old pid step.now (Ok result) self.new }
+        ensures { Answers self.old pid step.now result self.new }
     {
         match step {
             events::Step::Open => fd_reply(self.open(pid)),
@@ -122,7 +133,7 @@ impl Engine {
     /// gives.
     #[inline(never)]
     fn recv_reply(&mut self, pid: Pid, on: Fd, max_bytes: u32, max_fds: u32) -> Reply
-        ensures { Answers self.old pid (steps.Recv on max_bytes max_fds) (Ok result) self.new }
+        ensures { Answers self.old pid (steps.Recv on max_bytes max_fds) result self.new }
     {
         received_reply(self.recv(pid, on, max_bytes, max_fds))
     }
@@ -130,9 +141,22 @@ impl Engine {
     /// A peek as a step, which stands apart for the same reason.
     #[inline(never)]
     fn peek_reply(&mut self, pid: Pid, on: Fd, max_bytes: u32, max_fds: u32) -> Reply
-        ensures { Answers self.old pid (steps.Peek on max_bytes max_fds) (Ok result) self.new }
+        ensures { Answers self.old pid (steps.Peek on max_bytes max_fds) result self.new }
     {
         received_reply(self.peek(pid, on, max_bytes, max_fds))
+    }
+
+    /// The same of a step that is given away.
+    #[inline(always)]
+    fn step_of_owned(&mut self, pid: Pid, step: events::Step) -> Reply
+        ensures { Answers self.old pid step result self.new }
+    {
+        match step {
+            events::Step::Send { on, bytes, attach } => {
+                sent_reply(self.send_owned(pid, on, bytes, attach.as_slice()))
+            }
+            other => self.step_of(pid, &other),
+        }
     }
 
     /// Does these events in order. The error holds the replies of those that were done.

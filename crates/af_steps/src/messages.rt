@@ -2,15 +2,20 @@
 ghost use Rattle.std.specs.Prelude.{◌≡◌, ◌≤◌, Some, None, IfOk, IfErr, OnOk, length, filter_map, is_none, nat_lt, option_copied};
 ghost use Rattle.std.specs.List.{list_any};
 ghost use Rattle.std.specs.FinMap as map;
-ghost use Rattle.af_base.specs.Refusals.{first_fit, on_parts, on_peer, on_receive, peer_of, socket_at};
+ghost use Rattle.af_base.specs.Changes.{push_message};
+ghost use Rattle.af_base.specs.Pass.{SamePass};
+ghost use Rattle.af_base.specs.Refusals.{first_fit, on_parts, on_peer, on_receive, peer_of, refusal, socket_at};
+ghost use Rattle.af_base.specs.Steps.{effect};
+ghost use Rattle.af_base.specs.Unheld.{Settles};
 ghost use Rattle.af_steps.specs.Outcome.{Does, Refuses, got_reply};
+ghost use Rattle.af_steps.specs.Posted.{HasRoom, message_in};
 
 use crate::engine::Engine;
 use af_base::errno::Errno;
 use af_base::events::{Reply, State, Step};
 use af_base::items::Items;
 use af_base::limits::{MAX_BYTES, MAX_MESSAGES, SCM_MAX_FD};
-use af_base::names::{Fd, FileRef, Pid};
+use af_base::names::{Fd, FileRef, Pid, Uid};
 use af_desc::Socket;
 use af_queue::{Attached, Msg, Taken};
 use af_table::Process;
@@ -33,6 +38,14 @@ pub enum Received {
     End,
 }
 
+/// A message without its bytes, and whose queue it goes to.
+#[derive(Drop)]
+struct Envelope {
+    peer: FileRef,
+    attached: Attached,
+    user: Uid,
+}
+
 impl Engine {
     /// The socket; a plain file and a stranger are none.
     #[inline(always)]
@@ -48,22 +61,71 @@ impl Engine {
         ensures done { IfOk result (λ count. Does self.old pid (Step.Send on bytes.now attach.now) (Reply.Sent count) self.new) }
         ensures refused { IfErr result (λ e. Refuses self.old pid (Step.Send on bytes.now attach.now) e self.new) }
     {
+        let envelope = self.envelope(pid, on, bytes, attach)?;
+        let bytes = bytes.to_vec(self.alloc)?;
+        self.post(envelope, bytes)
+    }
+
+    /// The same of bytes that the caller gives away: they are not copied, and take no memory but what
+    /// they stand in. That stays with the message, with what room it has to spare. A refusal drops
+    /// them.
+    pub fn send_owned(
+        &mut self,
+        pid: Pid,
+        on: Fd,
+        bytes: Items<u8>,
+        attach: &[Fd],
+    ) -> Result<u32, Errno>
+        ensures done { IfOk result (λ count. Does self.old pid (Step.Send on bytes attach.now) (Reply.Sent count) self.new) }
+        ensures refused { IfErr result (λ e. Refuses self.old pid (Step.Send on bytes attach.now) e self.new) }
+    {
+        let envelope = self.envelope(pid, on, bytes.as_slice(), attach)?;
+        self.post(envelope, bytes.into_vec())
+    }
+
+    /// Whose queue the bytes go to, with which files and at whose charge, or why they cannot be sent.
+    #[inline(always)]
+    fn envelope(&self, pid: Pid, on: Fd, bytes: &[u8], attach: &[Fd]) -> Result<Envelope, Errno>
+        ensures fits { OnOk result (refusal self.now.world pid (Step.Send on bytes.now attach.now) ≡ None) }
+        ensures leads { IfOk result (λ e. effect self.now.world pid (Step.Send on bytes.now attach.now) ≡ push_message self.now.world e.peer (message_in e bytes.now)) }
+        ensures room { IfOk result (λ e. HasRoom self.now.world e.peer (message_in e bytes.now)) }
+        ensures refused { IfErr result (λ e. Refuses self.now pid (Step.Send on bytes.now attach.now) e self.now) }
+    {
         let process = self.store.procs().find(pid).ok_or(Errno::ESRCH)?;
         let file = process.lookup(on).ok_or(Errno::EBADF)?;
         let socket = self.socket_at(&file).ok_or(Errno::ENOTSOCK)?;
         check_parts(process, bytes, attach)?;
         let peer = peer_of(socket)?;
+        let user = process.user();
         let (limit, privileged) = (process.limit(), process.is_privileged());
-        self.store
-            .may_send(process.user(), limit, privileged, attach.len())?;
+        self.store.may_send(user, limit, privileged, attach.len())?;
         if self.socket_at(&peer).unwrap().queue().len() >= MAX_MESSAGES {
             return Err(Errno::EAGAIN);
         }
-        let message = message(self.alloc, process, bytes, attach)?;
+        let attached = files_at(self.alloc, process, attach)?;
+        Ok(Envelope {
+            peer,
+            attached,
+            user,
+        })
+    }
+
+    /// The bytes come into the queue that the envelope names: how many they are. Where memory is
+    /// refused, nothing has changed.
+    #[inline(always)]
+    fn post(&mut self, envelope: Envelope, bytes: Vec<u8>) -> Result<u32, Errno>
+        requires { HasRoom self.old.world envelope.peer (message_in envelope bytes.items) }
+        ensures count { IfOk result (λ count. count ≡ length bytes.items) }
+        ensures settles { OnOk result (Settles (push_message self.old.world envelope.peer (message_in envelope bytes.items)) self.new.world) }
+        ensures pass { OnOk result (SamePass self.old self.new) }
+        ensures err { IfErr result (λ e. (e ≡ Errno.ENOMEM) × (self.new ≡ self.old)) }
+    {
+        let count = bytes.len() as u32;
+        let message = Msg::new(bytes, envelope.attached, envelope.user);
         self.store.is_spared();
-        self.store.put_msg(&peer, message)?;
+        self.store.put_msg(&envelope.peer, message)?;
         self.store.release();
-        Ok(bytes.len() as u32)
+        Ok(count)
     }
 
     /// A process receives at most so many bytes and so many descriptors (recvmsg(2)). A packet's bytes
@@ -183,16 +245,6 @@ fn check_receive(socket: &Socket, max_bytes: u32) -> Result<(), Errno>
         State::Connected(_) if socket.queue().len() == 0 => Err(Errno::EAGAIN),
         State::Connected(_) | State::HungUp => Ok(()),
     }
-}
-
-/// The message that a send puts into the queue.
-fn message(alloc: Global, process: &Process, bytes: &[u8], attach: &[Fd]) -> Result<Msg, AllocError>
-    requires { length attach.now ≤ SCM_MAX_FD }
-    ensures { IfOk result (λ m. m ≡ record { bytes = bytes.now; attached = filter_map (map.get process.now.process.table) attach.now; user = process.now.process.user }) }
-{
-    let bytes = bytes.to_vec(alloc)?;
-    let attached = files_at(alloc, process, attach)?;
-    Ok(Msg::new(bytes, attached, process.user()))
 }
 
 /// What these numbers of the process stand for; those that are free are left out.

@@ -48,18 +48,19 @@ fn first_byte(word: &[u8]) -> Option<(u8, &[u8])>
     }
 }
 
-/// The bytes that a word's characters stand for.
+/// The bytes that a word's characters stand for, in a vector that has room for as many as the word
+/// has characters.
 #[tactic(auto, using(crate::proofs::PayloadLemmas::bytes_before_more))]
 fn unescaped(alloc: Global, word: &[u8]) -> Result<Option<Vec<u8>>, AllocError>
     ensures { IfOk result (λ found. option_map (λ v. v.items) found ≡ unescape word.now) }
 {
-    let mut bytes = Vec::new(alloc);
+    let mut bytes = Vec::with_capacity(alloc, word.len())?;
     let mut rest = word;
     while !rest.is_empty() {
         let Some((byte, tail)) = first_byte(rest) else {
             return Ok(None);
         };
-        bytes.push(byte)?;
+        bytes.push_reserved(byte);
         rest = tail;
     }
     Ok(Some(bytes))

@@ -58,7 +58,7 @@ fn answer(alloc: Global, engine: &mut Engine, says: Line, text: &mut Vec<u8>) ->
         Line::Event(event) => {
             // What a sound world answers is short.
             engine.is_sound();
-            let reply = engine.step(&event);
+            let reply = engine.step_owned(event);
             push_reply(text, &reply).unwrap();
             1
         }

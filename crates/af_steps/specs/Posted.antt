@@ -1,0 +1,24 @@
+-- A message that comes into a queue.
+use Rattle.std.specs.Prelude.{◌≡◌, ◌≤◌, ◌<◌, ◌+◌, ℕ, List, length, is_none, false}
+use Rattle.std.specs.List.{Contains}
+use Rattle.af_base.specs.declared.limits.TheConstants.{MAX_INFLIGHT, MAX_MESSAGES}
+use Rattle.af_base.specs.Counts.{total}
+use Rattle.af_base.specs.Places.{InTable, queue_at}
+use Rattle.af_base.specs.Refusals.{socket_at}
+use Rattle.af_base.specs.Whole.{IsMessageWithin}
+use Rattle.af_base.specs.World.{Message, World}
+use Rattle.af_hold.specs.Limits.{IsOfProcess}
+use Rattle.af_steps.specs.declared.messages.Envelope.{Envelope}
+
+-- The message of these bytes in the envelope.
+abbrev pub message_in : Envelope → List ℕ → Message
+message_in e bytes = record { bytes = bytes; attached = e.attached.items; user = e.user }
+
+-- Socket s of this world has room for the message: its queue is not full, tables hold what travels with the message, somebody is charged for it, and all limits are kept.
+pub record HasRoom (w : World) (s : ℕ) (m : Message) : Type 0 where
+  pub socket : is_none (socket_at w s) ≡ false
+  pub queue : length (queue_at w s) < MAX_MESSAGES
+  pub tabled : (f : ℕ) → Contains m.attached f → InTable w f
+  pub user : IsOfProcess w m.user
+  pub within : IsMessageWithin m
+  pub flying : total w + length m.attached ≤ MAX_INFLIGHT
