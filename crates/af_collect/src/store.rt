@@ -158,11 +158,4 @@ impl Store {
         self.parts.shade_table(pid);
         self.parts.places.remove_process(pid);
     }
-
-    /// Whether there can be no further process.
-    pub fn is_crowded(&self) -> bool
-        ensures { result ≡ is_crowded self.now.world }
-    {
-        self.parts.places.is_crowded()
-    }
 }

@@ -98,7 +98,9 @@ impl Engine {
         let peer = peer_of(socket)?;
         let user = process.user();
         let (limit, privileged) = (process.limit(), process.is_privileged());
-        self.store.may_send(user, limit, privileged, attach.len())?;
+        self.store
+            .holdings()
+            .may_send(user, limit, privileged, attach.len())?;
         if self.socket_at(&peer).unwrap().queue().len() >= MAX_MESSAGES {
             return Err(Errno::EAGAIN);
         }

@@ -20,7 +20,7 @@ impl Engine {
         if nofile > MAX_NOFILE {
             return Err(Errno::ERANGE);
         }
-        if self.store.is_crowded() {
+        if self.store.holdings().is_crowded() {
             return Err(Errno::EAGAIN);
         }
         let pid = self.store.spawn(uid, nofile, privileged)?;
@@ -101,7 +101,7 @@ impl Engine {
         ensures refused { IfErr result (λ e. Refuses self.old pid Step.Fork e self.new) }
     {
         self.store.procs().find(pid).ok_or(Errno::ESRCH)?;
-        if self.store.is_crowded() {
+        if self.store.holdings().is_crowded() {
             return Err(Errno::EAGAIN);
         }
         let child = self.store.copy_for_fork(pid)?;

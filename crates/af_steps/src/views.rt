@@ -35,7 +35,7 @@ impl Engine {
     pub fn refs(&self, ino: Ino) -> u64
         ensures { result ≡ refs self.now.world ino }
     {
-        self.store.refs(ino)
+        self.store.holdings().refs(ino)
     }
 
     /// How often the file is in flight (unix(7), SCM_RIGHTS): how many places in queues hold it,
@@ -43,7 +43,7 @@ impl Engine {
     pub fn inflight(&self, ino: Ino) -> u64
         ensures { result ≡ inflight self.now.world ino }
     {
-        self.store.inflight(ino)
+        self.store.holdings().inflight(ino)
     }
 
     /// How many descriptors in flight are charged to the user, repeats included (unix(7),
@@ -51,14 +51,14 @@ impl Engine {
     pub fn charged(&self, user: Uid) -> u64
         ensures { result ≡ charged self.now.world user }
     {
-        self.store.charged(user)
+        self.store.holdings().charged(user)
     }
 
     /// How many descriptors are in flight, repeats included.
     pub fn total(&self) -> u64
         ensures { result ≡ total self.now.world }
     {
-        self.store.total()
+        self.store.holdings().total()
     }
 
     /// How many files are live.
@@ -90,14 +90,14 @@ impl Engine {
     pub fn user_at(&self, i: usize) -> Option<Uid>
         ensures { result ≡ slice_get self.now.world.users i }
     {
-        self.store.user_at(i)
+        self.store.holdings().user_at(i)
     }
 
     /// How many users there are: a user stays when its last process is gone.
     pub fn users(&self) -> usize
         ensures { result ≡ length self.now.world.users }
     {
-        self.store.users()
+        self.store.holdings().users()
     }
 
     /// What the file is; nothing for a stranger.
@@ -131,6 +131,6 @@ impl Engine {
     pub fn listing(&self) -> Result<Listing, AllocError>
         ensures { IfOk result (λ l. l ≡ bare self.now.world) }
     {
-        self.store.listing()
+        self.store.holdings().listing()
     }
 }

@@ -20,11 +20,11 @@ use Rattle.af_steps.proofs.engine.Engine.envelope.Goals as goal
 has : (c : In_ok-socket) → HasSocket c.self.inside.store.world c.args.pid c.in_ok-process.process.now.process c.args.on c.in_ok-file.file c.in_ok-socket.socket.now
 has c = record { number = record { process = record { there = search rules }; stands = search rules }; found = search rules }
 
--- The charge was tested by what the process has.
+-- The charge was tested by what the process and the holdings have.
 charge : (c : After-may_send) (found : HasSocket c.self.inside.store.world c.args.pid c.in_ok-process.process.now.process c.args.on c.in_ok-file.file c.in_ok-socket.socket.now)
-    → first_fit (charges found c.args.bytes.now c.args.attach.now) ≡ first_fit (on_charge (charged c.self.inside.store.world c.user-user.result) (total c.self.inside.store.world) c.limit-limit.result c.is_privileged-privileged.result (length c.args.attach.now))
+    → first_fit (charges found c.args.bytes.now c.args.attach.now) ≡ first_fit (on_charge (charged c.holdings.result.now.world c.user-user.result) (total c.holdings.result.now.world) c.limit-limit.result c.is_privileged-privileged.result (length c.args.attach.now))
 charge c found =
-    λ i. first_fit (on_charge (charged c.self.inside.store.world (sym c.user-user.ensures i)) (total c.self.inside.store.world) (sym c.limit-limit.ensures.value i) (sym c.is_privileged-privileged.ensures i) (length c.args.attach.now))
+    λ i. first_fit (on_charge (charged (sym c.holdings.ensures.world i) (sym c.user-user.ensures i)) (total (sym c.holdings.ensures.world i)) (sym c.limit-limit.ensures.value i) (sym c.is_privileged-privileged.ensures i) (length c.args.attach.now))
 
 -- The queue of the peer has room.
 low : (c : After-files_at) → length c.unwrap.result.now.queue < MAX_MESSAGES
