@@ -22,9 +22,15 @@ use std::snapshot::Snapshot;
 
 /// The processes with their tables, the files, how many places hold each file, and the pass of the
 /// collector, if one runs.
-#[derive(Drop)]
 pub struct Store {
     pub(crate) parts: Parts,
+}
+
+/// It is written out, and not derived, so that what owns a store has one call where it drops it.
+impl Drop for Store {
+    fn drop(self) {
+        let Store { parts: _ } = self;
+    }
 }
 
 impl Model for Store {

@@ -20,12 +20,24 @@ use std::marker::Model;
 
 /// The processes with their tables, the files with how many places hold each, and what users are
 /// charged.
-#[derive(Drop)]
 pub struct Holdings {
     pub(crate) alloc: Global,
     pub(crate) procs: Procs,
     pub(crate) files: Files,
     pub(crate) ledger: Ledger,
+}
+
+/// It is written out, and not derived, so that what owns holdings has one call where it drops them, and
+/// not the drop of each of their parts.
+impl Drop for Holdings {
+    fn drop(self) {
+        let Holdings {
+            alloc: _,
+            procs: _,
+            files: _,
+            ledger: _,
+        } = self;
+    }
 }
 
 impl Model for Holdings {

@@ -17,12 +17,22 @@ use std::marker::Model;
 use thiserror::Error;
 
 /// A machine that does one event after another.
-#[derive(Drop)]
 pub struct Engine {
     pub(crate) alloc: Global,
     pub(crate) store: Store,
     /// The number of the last pass, 0 before the first.
     pub(crate) last_pass: u64,
+}
+
+/// It is written out, and not derived, so that what owns an engine has one call where it drops it.
+impl Drop for Engine {
+    fn drop(self) {
+        let Engine {
+            alloc: _,
+            store: _,
+            last_pass: _,
+        } = self;
+    }
 }
 
 impl Model for Engine {
