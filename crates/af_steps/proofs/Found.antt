@@ -1,4 +1,4 @@
--- What an event has looked up, and what of its row is left then.
+-- What of its row is left when an event has looked up what it needs.
 use Rattle.std.proofs.Common.{◌≡◌, ◌<◌, ◌≤◌, ℕ, Bool, true, false, [], ◌∷◌, ◌++◌, refl, sym, ap, ◌∙◌, subst, arith}
 use Rattle.std.specs.Prelude.{Option, Some, None, IsTrue, is_some, unwrap_or, if◌then◌else◌}
 use Rattle.std.specs.FinMap as map
@@ -11,20 +11,7 @@ use Rattle.af_base.specs.World.{AsSocket, File, Plain, Process, Socket, World}
 use Rattle.af_base.proofs.Lookups.{none_some, some_same}
 use Rattle.af_base.proofs.Moved.{there-table}
 use Rattle.af_hold.specs.Limits.{IsBelowLimit}
-
--- The process p is this one.
-pub record HasProcess (w : World) (p : ℕ) (q : Process) : Type 0 where
-  pub there : map.get w.processes p ≡ Some q
-
--- And its number n stands for this file.
-pub record HasNumber (w : World) (p : ℕ) (q : Process) (n f : ℕ) : Type 0 where
-  pub process : HasProcess w p q
-  pub stands : map.get q.table n ≡ Some f
-
--- Which is this socket.
-pub record HasSocket (w : World) (p : ℕ) (q : Process) (n f : ℕ) (x : Socket) : Type 0 where
-  pub number : HasNumber w p q n f
-  pub found : socket_at w f ≡ Some x
+use Rattle.af_steps.specs.Found.{HasNumber, HasProcess, HasSocket}
 
 -- The first of two rows with a test that fits decides.
 joined : (rows more : Row) → first_fit (rows ++ more) ≡ option_or (first_fit rows) (first_fit more)
@@ -41,6 +28,10 @@ goes-on rows more e is = joined rows more ∙ ap (λ o. option_or o (first_fit m
 -- No test of the first fits: the second decides.
 pub passes-on : (rows more : Row) → first_fit rows ≡ None → first_fit (rows ++ more) ≡ first_fit more
 passes-on rows more is = joined rows more ∙ ap (λ o. option_or o (first_fit more)) is
+
+-- No socket was found: that refuses each step that asks for one.
+pub no-socket : (w : World) (p n : ℕ) (rest : Row) (e : Errno) → first_fit (on_process (map.get w.processes p) ++ at_socket w p n) ≡ Some e → first_fit (on_process (map.get w.processes p) ++ (at_socket w p n ++ rest)) ≡ Some e
+no-socket w p n rest e is = goes-on (on_process (map.get w.processes p) ++ at_socket w p n) rest e is
 
 module _ {w : World} {p : ℕ} {q : Process} (has : HasProcess w p q) where
   -- The number of the process stands for it.

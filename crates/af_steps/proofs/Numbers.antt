@@ -1,5 +1,5 @@
 -- The lowest free numbers of a process.
-use Rattle.std.proofs.Common.{◌≡◌, ◌<◌, ◌≤◌, ℕ, false, List, [], ◌∷◌, length, take, sym, ap, ◌∙◌, subst, arith}
+use Rattle.std.proofs.Common.{◌≡◌, ◌<◌, ◌≤◌, ℕ, true, false, refl, List, [], ◌∷◌, length, take, sym, ap, ◌∙◌, subst, arith}
 use Rattle.std.specs.Prelude.{Some, None, nat_lt, slice_get, slice_index}
 use Rattle.std.specs.FinMap as map
 use Rattle.std.specs.List.{All}
@@ -10,7 +10,8 @@ use Rattle.af_base.specs.Table.{free_numbers, lowest_free}
 use Rattle.af_base.specs.World.{Process, World}
 use Rattle.af_base.proofs.Free.{AreFree, first-free, first-low, free-lowest_free}
 use Rattle.af_base.proofs.Lookups.{none_some, some_same}
-use Rattle.af_steps.proofs.Found.{HasProcess, is_process}
+use Rattle.af_steps.specs.Found.{HasProcess}
+use Rattle.af_steps.proofs.Found.{is_process}
 
 -- This is the lowest free number of the process.
 pub record IsLowest (q : Process) (n : ℕ) : Type 0 where
@@ -20,6 +21,13 @@ pub record IsLowest (q : Process) (n : ℕ) : Type 0 where
 begins : (xs : List ℕ) (n : ℕ) → slice_get xs 0 ≡ Some n → (take 1 xs ≡ n ∷ []) × (slice_index xs 0 ≡ n) × (nat_lt (length xs) 1 ≡ false)
 begins [] n e = absurd (none_some n e)
 begins (x ∷ xs) n e = (ap (λ y. y ∷ []) (some_same x n e), some_same x n e, le-ltb (length (x ∷ xs)) 1 (omega arith))
+
+-- Where none is the first of the free numbers, none is free.
+pub none-free : (q : Process) → slice_get (free_numbers q) 0 ≡ None → is_short q 1 ≡ true
+none-free q none = by (free_numbers q) none where
+  by : (xs : List ℕ) → slice_get xs 0 ≡ None → nat_lt (length xs) 1 ≡ true
+  by [] e = refl
+  by (x ∷ xs) e = absurd (none_some x (sym e))
 
 module _ {q : Process} {n : ℕ} (least : IsLowest q n) where
   -- As a list, it is free.

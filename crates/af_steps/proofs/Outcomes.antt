@@ -1,6 +1,7 @@
 -- A step that was done, one that is refused, and one for which memory was refused.
 use Rattle.std.proofs.Common.{◌≡◌, ℕ, false, refl, sym, ap, ◌∙◌, subst}
-use Rattle.std.specs.Prelude.{IfErr, Some, None, Result, Err}
+use Rattle.std.specs.Prelude.{IfErr, IsErrAnd, Option, Some, None, Result, Ok, Err}
+use Rattle.std.specs.Option.{ok_or}
 use Rattle.af_base.specs.declared.errno.Errno.{Errno}
 use Rattle.af_base.specs.declared.errno.Errno.TheVariants.{ENOMEM}
 use Rattle.af_base.specs.declared.events.Reply.{Reply}
@@ -43,3 +44,19 @@ module _ {inside old : Machine} (shown : inside ≡ old) (p : ℕ) (s : Step) wh
     -- No test fits, and memory was refused.
     pub starves : answered ≡ Err ENOMEM → refusal w p s ≡ None → needs_no_memory s ≡ false → IfErr answered (λ e. Refuses old p s e new)
     starves is fits may = by-error ENOMEM is (ap (λ o. error_of o (needs_no_memory s)) fits ∙ ap (error_of None) may)
+
+-- What an error was made into is answered.
+pub answered-is : {X : Type 0} (answered : Result X Errno) (e : Errno) → IsErrAnd answered (λ x. x ≡ e) → answered ≡ Err e
+answered-is (Ok x) e is = absurd is
+answered-is (Err x) e is = ap Err is
+
+-- An engine that shows `old`, has this inside, and answers an error.
+module _ {inside old : Machine} (shown : inside ≡ old) (p : ℕ) (s : Step) {X : Type 0} (answered : Result X Errno) (e : Errno) (is : IsErrAnd answered (λ x. x ≡ e)) where
+  -- A test fits, and nothing was changed.
+  pub turned-down : refusal inside.world p s ≡ Some e → IfErr answered (λ x. Refuses old p s x old)
+  turned-down fits = refuses shown p s old answered refl e (answered-is answered e is) fits
+
+-- Where an error stands for what is missing, it is missing, and that is the error.
+pub missing : {A : Type 0} (o : Option A) (d e : Errno) → Err e ≡ ok_or o d → (o ≡ None) × (e ≡ d)
+missing None d e is = (refl, cc)
+missing (Some x) d e is = absurd cc

@@ -16,7 +16,8 @@ use Rattle.af_base.specs.Whole.{IsSound}
 use Rattle.af_base.specs.World.{Process, Socket, World}
 use Rattle.af_base.proofs.Stepped.{same-with_queue}
 use Rattle.af_steps.specs.Outcome.{Does}
-use Rattle.af_steps.proofs.Found.{HasSocket, after-socket, file-is, ino-is, socket-is}
+use Rattle.af_steps.specs.Found.{HasSocket}
+use Rattle.af_steps.proofs.Found.{after-socket, file-is, ino-is, socket-is}
 use Rattle.af_steps.proofs.Outcomes.{does-nothing}
 
 -- A list beside an empty one makes no pair.

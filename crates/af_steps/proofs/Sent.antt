@@ -1,18 +1,20 @@
 -- A send: its row by its parts, and that what it puts where meets what a place in a queue asks for.
 use Rattle.std.proofs.Common.{◌≡◌, ◌≤◌, ℕ, ◌+◌, List, ◌++◌, length, sym, ap, ◌∙◌, subst, arith}
-use Rattle.std.specs.Prelude.{Some, None, filter_map}
+use Rattle.std.specs.Prelude.{Some, None, filter_map, nat_eq, nat_lt}
 use Rattle.std.specs.FinMap as map
 use Rattle.std.specs.List.{Contains}
-use Rattle.std.proofs.lemmas.Bool.{ltb-false}
+use Rattle.std.proofs.lemmas.Bool.{eqb-false, ltb-false, or_parts}
 use Rattle.af_base.specs.declared.errno.Errno.{Errno}
 use Rattle.af_base.specs.declared.events.Step.TheVariants as step
-use Rattle.af_base.specs.declared.limits.TheConstants.{MAX_INFLIGHT}
+use Rattle.af_base.specs.declared.limits.TheConstants.{MAX_BYTES, MAX_INFLIGHT, SCM_MAX_FD}
 use Rattle.af_base.specs.Counts.{charged, total}
 use Rattle.af_base.specs.Places.{InTable, queue_at, table_at}
 use Rattle.af_base.specs.Refusals.{Row, first_fit, on_charge, on_parts, on_peer, on_room, peer_of, refusal, socket_at}
+use Rattle.af_base.specs.Whole.{IsMessageWithin}
 use Rattle.af_base.specs.World.{Message, Process, Socket, World}
 use Rattle.af_base.proofs.Stepped.{attached-most, attached-tabled, none-fits}
-use Rattle.af_steps.proofs.Found.{HasSocket, after-socket, goes-on, looks, passes-on, queue-is}
+use Rattle.af_steps.specs.Found.{HasSocket}
+use Rattle.af_steps.proofs.Found.{after-socket, goes-on, looks, passes-on, queue-is}
 
 module _ {w : World} {p n f : ℕ} {q : Process} {x : Socket} (has : HasSocket w p q n f x) (bytes attach : List ℕ) where
   -- The part of its bytes and numbers, by what was found.
@@ -73,3 +75,16 @@ module _ {w : World} {p n f : ℕ} {q : Process} {x : Socket} (has : HasSocket w
     -- All queues have room for them.
     pub sent-flying : first_fit charges ≡ None → total w + length m.attached ≤ MAX_INFLIGHT
     sent-flying paid = let flying = ltb-false MAX_INFLIGHT (total w + length attach) (none-fits charges paid).rest.here in omega (arith, flying, attached-most w p attach, ap length carries)
+
+    -- The message is within the limits.
+    pub sent-within : first_fit parts ≡ None → IsMessageWithin m
+    sent-within given =
+        let tests = none-fits parts given in
+        let counted = or_parts (nat_eq (length bytes) 0) (nat_lt SCM_MAX_FD (length attach)) tests.here in
+        let some = eqb-false (length bytes) 0 counted.0 in
+        let few = ltb-false SCM_MAX_FD (length attach) counted.1 in
+        subst IsMessageWithin (sym is) (record {
+          some = omega (arith, some);
+          bytes = ltb-false MAX_BYTES (length bytes) tests.rest.here;
+          attached = omega (arith, few, attached-most w p attach, ap (λ look. length (filter_map look attach)) (looks has.number.process));
+        })

@@ -12,7 +12,8 @@ use Rattle.af_base.proofs.Lookups.{insert-here, insert-other, remove-here, remov
 use Rattle.af_base.proofs.Moved.{there-table}
 use Rattle.af_base.proofs.Trees.{insert_same}
 use Rattle.af_hold.proofs.Joined.{insert_twice}
-use Rattle.af_steps.proofs.Found.{HasProcess, changes}
+use Rattle.af_steps.specs.Found.{HasProcess}
+use Rattle.af_steps.proofs.Found.{changes}
 
 -- Maps with the same at a key and beside it are one.
 same-beside : {X : Type 0} (a b : Map X) (k : ℕ) → map.get a k ≡ map.get b k → ((q : ℕ) → nat_eq q k ≡ false → map.get a q ≡ map.get b q) → a ≡ b

@@ -5,6 +5,7 @@
 #![tactic(auto)]
 
 mod engine;
+mod lookups;
 mod messages;
 mod passes;
 mod sockets;

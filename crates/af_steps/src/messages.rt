@@ -1,16 +1,17 @@
 //! Steps that send and receive.
-ghost use Rattle.std.specs.Prelude.{◌≡◌, ◌≤◌, Some, None, IfOk, IfErr, OnOk, length, filter_map, is_none, nat_lt, option_copied};
+ghost use Rattle.std.specs.Prelude.{◌≡◌, ◌≤◌, Some, None, IfOk, IfErr, OnOk, length, filter_map, is_none, nat_lt};
 ghost use Rattle.std.specs.List.{list_any};
 ghost use Rattle.std.specs.FinMap as map;
 ghost use Rattle.af_base.specs.Changes.{push_message};
 ghost use Rattle.af_base.specs.Pass.{SamePass};
-ghost use Rattle.af_base.specs.Refusals.{first_fit, on_parts, on_peer, on_receive, peer_of, refusal, socket_at};
+ghost use Rattle.af_base.specs.Refusals.{first_fit, on_parts, on_peer, on_receive, peer_of, refusal};
 ghost use Rattle.af_base.specs.Steps.{effect};
 ghost use Rattle.af_base.specs.Unheld.{Settles};
 ghost use Rattle.af_steps.specs.Outcome.{Does, Refuses, got_reply};
 ghost use Rattle.af_steps.specs.Posted.{HasRoom, message_in};
 
 use crate::engine::Engine;
+use crate::lookups::{socket_at, socket_on};
 use af_base::errno::Errno;
 use af_base::events::{Reply, State, Step};
 use af_base::items::Items;
@@ -47,14 +48,6 @@ struct Envelope {
 }
 
 impl Engine {
-    /// The socket; a plain file and a stranger are none.
-    #[inline(always)]
-    pub(crate) fn socket_at(&self, file: &FileRef) -> Option<&Socket>
-        ensures { option_copied result ≡ socket_at self.now.world file.now }
-    {
-        self.store.files().get(file)?.socket()
-    }
-
     /// A process sends bytes, and with them what these numbers stand for (sendmsg(2)): the step `Send`
     /// of that process, for a caller whose bytes and numbers stand elsewhere. They are copied once.
     pub fn send(&mut self, pid: Pid, on: Fd, bytes: &[u8], attach: &[Fd]) -> Result<u32, Errno>
@@ -91,9 +84,7 @@ impl Engine {
         ensures room { IfOk result (λ e. HasRoom self.now.world e.peer (message_in e bytes.now)) }
         ensures refused { IfErr result (λ e. Refuses self.now pid (Step.Send on bytes.now attach.now) e self.now) }
     {
-        let process = self.store.procs().find(pid).ok_or(Errno::ESRCH)?;
-        let file = process.lookup(on).ok_or(Errno::EBADF)?;
-        let socket = self.socket_at(&file).ok_or(Errno::ENOTSOCK)?;
+        let (process, file, socket) = socket_on(&self.store, pid, on)?;
         check_parts(process, bytes, attach)?;
         let peer = peer_of(socket)?;
         let user = process.user();
@@ -101,7 +92,7 @@ impl Engine {
         self.store
             .holdings()
             .may_send(user, limit, privileged, attach.len())?;
-        if self.socket_at(&peer).unwrap().queue().len() >= MAX_MESSAGES {
+        if socket_at(&self.store, &peer).unwrap().queue().len() >= MAX_MESSAGES {
             return Err(Errno::EAGAIN);
         }
         let attached = files_at(self.alloc, process, attach)?;
@@ -143,9 +134,7 @@ impl Engine {
         ensures done { IfOk result (λ got. Does self.old pid (Step.Recv on max_bytes max_fds) (got_reply got) self.new) }
         ensures refused { IfErr result (λ e. Refuses self.old pid (Step.Recv on max_bytes max_fds) e self.new) }
     {
-        let process = self.store.procs().find(pid).ok_or(Errno::ESRCH)?;
-        let file = process.lookup(on).ok_or(Errno::EBADF)?;
-        let socket = self.socket_at(&file).ok_or(Errno::ENOTSOCK)?;
+        let (process, file, socket) = socket_on(&self.store, pid, on)?;
         check_receive(socket, max_bytes)?;
         if socket.queue().len() == 0 {
             return Ok(Received::End);
@@ -173,9 +162,7 @@ impl Engine {
         ensures done { IfOk result (λ got. Does self.old pid (Step.Peek on max_bytes max_fds) (got_reply got) self.new) }
         ensures refused { IfErr result (λ e. Refuses self.old pid (Step.Peek on max_bytes max_fds) e self.new) }
     {
-        let process = self.store.procs().find(pid).ok_or(Errno::ESRCH)?;
-        let file = process.lookup(on).ok_or(Errno::EBADF)?;
-        let socket = self.socket_at(&file).ok_or(Errno::ENOTSOCK)?;
+        let (process, file, socket) = socket_on(&self.store, pid, on)?;
         check_receive(socket, max_bytes)?;
         if socket.queue().len() == 0 {
             return Ok(Received::End);

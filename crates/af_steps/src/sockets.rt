@@ -6,6 +6,7 @@ ghost use Rattle.af_base.specs.Refusals.{first_fit, on_accept, on_bind, on_clien
 ghost use Rattle.af_steps.specs.Outcome.{Does, Refuses};
 
 use crate::engine::Engine;
+use crate::lookups::{socket_at, socket_on};
 use af_base::errno::Errno;
 use af_base::events::{Reply, SockType, State, Step};
 use af_base::items::Items;
@@ -54,9 +55,7 @@ impl Engine {
         ensures done { OnOk result (Does self.old pid (Step.Bind on name.now) Reply.Ok self.new) }
         ensures refused { IfErr result (λ e. Refuses self.old pid (Step.Bind on name.now) e self.new) }
     {
-        let process = self.store.procs().find(pid).ok_or(Errno::ESRCH)?;
-        let file = process.lookup(on).ok_or(Errno::EBADF)?;
-        let socket = self.socket_at(&file).ok_or(Errno::ENOTSOCK)?;
+        let (_, file, socket) = socket_on(&self.store, pid, on)?;
         check_bind(socket, name.as_slice())?;
         if self.store.files().named(name).is_some() {
             return Err(Errno::EADDRINUSE);
@@ -71,9 +70,7 @@ impl Engine {
         ensures done { OnOk result (Does self.old pid (Step.Listen on backlog) Reply.Ok self.new) }
         ensures refused { IfErr result (λ e. Refuses self.old pid (Step.Listen on backlog) e self.new) }
     {
-        let process = self.store.procs().find(pid).ok_or(Errno::ESRCH)?;
-        let file = process.lookup(on).ok_or(Errno::EBADF)?;
-        let socket = self.socket_at(&file).ok_or(Errno::ENOTSOCK)?;
+        let (_, file, socket) = socket_on(&self.store, pid, on)?;
         check_listen(socket, backlog)?;
         self.store.listen(&file, backlog)?;
         self.store.release();
@@ -86,13 +83,11 @@ impl Engine {
         ensures done { OnOk result (Does self.old pid (Step.Connect on name.now) Reply.Ok self.new) }
         ensures refused { IfErr result (λ e. Refuses self.old pid (Step.Connect on name.now) e self.new) }
     {
-        let process = self.store.procs().find(pid).ok_or(Errno::ESRCH)?;
-        let file = process.lookup(on).ok_or(Errno::EBADF)?;
-        let client = self.socket_at(&file).ok_or(Errno::ENOTSOCK)?;
+        let (_, file, client) = socket_on(&self.store, pid, on)?;
         check_client(client)?;
         let listener = self.store.files().named(name).ok_or(Errno::ECONNREFUSED)?;
         let kind = client.kind();
-        check_listener(self.socket_at(&listener).unwrap(), kind)?;
+        check_listener(socket_at(&self.store, &listener).unwrap(), kind)?;
         if self.store.files().is_full(1) {
             return Err(Errno::ENFILE);
         }
@@ -107,9 +102,7 @@ impl Engine {
         ensures done { IfOk result (λ fd. Does self.old pid (Step.Accept on) (Reply.Fd fd) self.new) }
         ensures refused { IfErr result (λ e. Refuses self.old pid (Step.Accept on) e self.new) }
     {
-        let process = self.store.procs().find(pid).ok_or(Errno::ESRCH)?;
-        let file = process.lookup(on).ok_or(Errno::EBADF)?;
-        let socket = self.socket_at(&file).ok_or(Errno::ENOTSOCK)?;
+        let (process, file, socket) = socket_on(&self.store, pid, on)?;
         check_accept(socket)?;
         let fd = process.lowest().ok_or(Errno::EMFILE)?;
         self.store.is_spared();

@@ -1,4 +1,4 @@
-use Rattle.std.proofs.Common.{rules, ◌≡◌, ◌<◌, length, ◌∙◌, refl, sym, ap, subst, arith}
+use Rattle.std.proofs.Common.{rules, ◌≡◌, ◌<◌, length, ◌∙◌, refl, sym, ap, subst, arith, ◌++◌, ◌∷◌, []}
 use Rattle.std.specs.Prelude.{Some, slice_get}
 use Rattle.af_base.specs.declared.events.Reply.TheVariants as reply
 use Rattle.af_base.specs.declared.events.Step.TheVariants as step
@@ -10,15 +10,43 @@ use Rattle.af_base.specs.World.{World}
 use Rattle.af_collect.specs.Shown.{Shown}
 use Rattle.af_pass.specs.Keeping.{Spares}
 use Rattle.af_steps.proofs.Connected.{accept-fits, first-waits}
-use Rattle.af_steps.proofs.Found.{HasSocket, below-limit, held, in-same, ino-is, is-free, is-there, room-below}
-use Rattle.af_steps.proofs.Numbers.{IsLowest, is-free_at, least-low, not-open, not-short}
-use Rattle.af_steps.proofs.Outcomes.{does, starves}
+use Rattle.af_steps.specs.Found.{HasSocket}
+use Rattle.af_steps.proofs.Found.{below-limit, held, in-same, ino-is, is-free, is-there, room-below, after-socket, goes-on, no-socket, passes-on}
+use Rattle.af_steps.proofs.Numbers.{IsLowest, is-free_at, least-low, not-open, not-short, none-free}
+use Rattle.af_steps.proofs.Outcomes.{does, starves, turned-down, missing}
 use Rattle.af_steps.proofs.engine.Engine.accept.Goals.{After-room_for}
+use Rattle.af_base.specs.declared.errno.Errno.TheVariants.{EMFILE}
+use Rattle.af_base.specs.Refusals.{first_fit, on_accept, on_free, process_at, socket_on}
 use Rattle.af_steps.proofs.engine.Engine.accept.Goals as goal
 
+pub returns-in_err-process-clause-refused : goal.returns-in_err-process-clause-refused
+returns-in_err-process-clause-refused c =
+    let w = c.self.inside.store.world in
+    let p = c.args.pid in
+    let e = c.in_err-process.field-0.0 in
+    turned-down c.self.view_is p (step.Accept c.args.on) c.from_residual.result e c.from_residual.ensures.1 (no-socket w p c.args.on (on_accept (socket_on w p c.args.on) ++ on_free (process_at w p) 1) e c.in_err-process.ensures.refused)
+
+pub returns-in_err-check_accept-clause-refused : goal.returns-in_err-check_accept-clause-refused
+returns-in_err-check_accept-clause-refused c =
+    let q = c.in_ok-process.process.now.process in
+    let x = c.in_ok-process.socket.now in
+    let e = c.in_err-check_accept.field-0.0 in
+    turned-down c.self.view_is c.args.pid (step.Accept c.args.on) c.from_residual-in_err-check_accept.result e c.from_residual-in_err-check_accept.ensures.1
+    (after-socket c.in_ok-process.ensures.found (λ r look s. on_accept s ++ on_free r 1) ∙ goes-on (on_accept x) (on_free q 1) e c.in_err-check_accept.ensures.err)
+
+pub returns-in_err-fd-clause-refused : goal.returns-in_err-fd-clause-refused
+returns-in_err-fd-clause-refused c =
+    let q = c.in_ok-process.process.now.process in
+    let x = c.in_ok-process.socket.now in
+    let e = c.in_err-fd.field-0.0 in
+    let missed = missing c.lowest.result EMFILE e c.in_err-fd.ensures.value in
+    turned-down c.self.view_is c.args.pid (step.Accept c.args.on) c.from_residual-in_err-fd.result e c.from_residual-in_err-fd.ensures.1
+    (after-socket c.in_ok-process.ensures.found (λ r look s. on_accept s ++ on_free r 1) ∙ passes-on (on_accept x) (on_free q 1) c.in_ok-check_accept.ensures.ok
+    ∙ ap (λ b. first_fit ((b, EMFILE) ∷ [])) (none-free q (sym c.lowest.ensures ∙ missed.0)) ∙ ap Some (sym missed.1))
+
 -- What was looked up.
-has : (c : After-room_for) → HasSocket c.self.inside.store.world c.args.pid c.in_ok-process.process.now.process c.args.on c.in_ok-file.file c.in_ok-socket.socket.now
-has c = record { number = record { process = record { there = search rules }; stands = search rules }; found = search rules }
+has : (c : After-room_for) → HasSocket c.self.inside.store.world c.args.pid c.in_ok-process.process.now.process c.args.on c.in_ok-process.file c.in_ok-process.socket.now
+has c = c.in_ok-process.ensures.found
 
 -- The number that is taken into use.
 least : (c : After-room_for) → IsLowest c.in_ok-process.process.now.process c.in_ok-fd.fd
@@ -34,7 +62,7 @@ pub take_embryo-requires : goal.take_embryo-requires
 take_embryo-requires c =
     let at = (goal.at.take_embryo-requires c).After-room_for in
     let fd = c.in_ok-fd.fd in
-    let f = c.in_ok-file.file in
+    let f = c.in_ok-process.file in
     let found = has at in
     let process = found.number.process in
     let kept = in-same process c.room_for.new.self.world (ap (λ (v : World). v.processes) c.room_for.ensures.world) in
@@ -50,7 +78,7 @@ take_embryo-requires c =
 pub returns-clause-done : goal.returns-clause-done
 returns-clause-done c =
     let at = (goal.at.returns-clause-done c).After-room_for in
-    let f = c.in_ok-file.file in
+    let f = c.in_ok-process.file in
     let e = first_embryo c.self.inside.store.world c.args.pid c.args.on in
     let found = has at in
     let first : slice_get (backlog_at c.room_for.new.self.world f) 0 ≡ Some e = ap (λ v. slice_get (backlog_at v f) 0) c.room_for.ensures.world ∙ first-waits found (search rules) in

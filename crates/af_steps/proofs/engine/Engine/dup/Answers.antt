@@ -1,9 +1,24 @@
-use Rattle.std.proofs.Common.{rules, sym, ap, subst, arith}
+use Rattle.std.proofs.Common.{rules, sym, ap, subst, arith, ◌++◌, ◌∙◌, ◌∷◌, []}
 use Rattle.af_base.specs.World.{IsLive, World}
 use Rattle.af_pass.specs.Keeping.{Spares}
-use Rattle.af_steps.proofs.Found.{HasNumber, below-limit, held, in-same, is-free, is-there, room-below}
-use Rattle.af_steps.proofs.Numbers.{IsLowest, least-low, not-open}
+use Rattle.af_steps.specs.Found.{HasNumber}
+use Rattle.af_steps.proofs.Found.{below-limit, held, in-same, is-free, is-there, room-below, after-number}
+use Rattle.af_steps.proofs.Numbers.{IsLowest, least-low, not-open, none-free}
+use Rattle.std.specs.Prelude.{Some}
+use Rattle.af_base.specs.declared.events.Step.TheVariants as step
+use Rattle.af_base.specs.declared.errno.Errno.TheVariants.{EMFILE}
+use Rattle.af_base.specs.Refusals.{first_fit, on_free}
+use Rattle.af_steps.proofs.Outcomes.{missing, turned-down}
 use Rattle.af_steps.proofs.engine.Engine.dup.Goals as goal
+
+pub returns-in_err-fd-clause-refused : goal.returns-in_err-fd-clause-refused
+returns-in_err-fd-clause-refused c =
+    let q = c.in_ok-process.process.now.process in
+    let has : HasNumber c.self.inside.store.world c.args.pid q c.args.from c.in_ok-file.file = record { process = record { there = search rules }; stands = search rules } in
+    let e = c.in_err-fd.field-0.0 in
+    let missed = missing c.lowest.result EMFILE e c.in_err-fd.ensures.value in
+    turned-down c.self.view_is c.args.pid (step.Dup c.args.from) c.from_residual-in_err-fd.result e c.from_residual-in_err-fd.ensures.1
+    (after-number has (λ r. on_free r 1) ∙ ap (λ b. first_fit ((b, EMFILE) ∷ [])) (none-free q (sym c.lowest.ensures ∙ missed.0)) ∙ ap Some (sym missed.1))
 
 pub table_in-requires : goal.table_in-requires
 table_in-requires c =

@@ -9,7 +9,8 @@ use Rattle.af_base.specs.Refusals.{first_fit, ino_on, on_place, refusal}
 use Rattle.af_base.specs.World.{IsLive, World}
 use Rattle.af_collect.specs.Shown.{Shown}
 use Rattle.af_pass.specs.Keeping.{Spares}
-use Rattle.af_steps.proofs.Found.{HasNumber, after-number, below-limit, held, in-same, ino-is, is-free, is-there}
+use Rattle.af_steps.specs.Found.{HasNumber}
+use Rattle.af_steps.proofs.Found.{after-number, below-limit, held, in-same, ino-is, is-free, is-there}
 use Rattle.af_steps.proofs.Untabled.{has-less, install-uninstalled, less-free}
 use Rattle.af_steps.proofs.Outcomes.{does, does-nothing}
 use Rattle.af_steps.proofs.engine.Engine.dup2.Goals.{In_ok-file}

@@ -3,7 +3,8 @@ use Rattle.af_base.specs.declared.errno.Errno.TheVariants.{EAGAIN}
 use Rattle.af_base.specs.declared.events.Reply.TheVariants as reply
 use Rattle.af_base.specs.declared.events.Step.TheVariants as step
 use Rattle.af_base.specs.Refusals.{first_fit, is_crowded, on_processes}
-use Rattle.af_steps.proofs.Found.{HasProcess, after-process}
+use Rattle.af_steps.specs.Found.{HasProcess}
+use Rattle.af_steps.proofs.Found.{after-process}
 use Rattle.af_steps.proofs.Outcomes.{does}
 use Rattle.af_steps.proofs.engine.Engine.fork.Goals as goal
 

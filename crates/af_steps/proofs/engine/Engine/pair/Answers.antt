@@ -1,17 +1,36 @@
-use Rattle.std.proofs.Common.{rules, ◌≡◌, ◌+◌, ◌∷◌, [], ◌∙◌, sym, ap, subst, arith}
+use Rattle.std.proofs.Common.{rules, ◌≡◌, ◌+◌, ◌++◌, ◌∷◌, [], ◌∙◌, sym, ap, subst, arith, ◌<◌, length}
 use Rattle.std.specs.FinMap as map
 use Rattle.af_base.specs.Changes.{add_file}
 use Rattle.af_base.specs.Steps.{connected_socket}
-use Rattle.af_base.specs.Table.{lowest_free}
+use Rattle.af_base.specs.Table.{lowest_free, free_numbers}
 use Rattle.af_base.specs.World.{AsSocket, IsLive, Process, World}
 use Rattle.af_base.proofs.Free.{AreFree, first-free, first-low, free-lowest_free, rest-free}
 use Rattle.af_base.proofs.Moved.{there-install}
 use Rattle.af_collect.specs.Shown.{Shown, room_at}
 use Rattle.af_pass.specs.Keeping.{Spares}
-use Rattle.af_steps.proofs.Found.{HasProcess, below-limit, in-same, is-free, is-there, room-below}
+use Rattle.af_steps.specs.Found.{HasProcess}
+use Rattle.af_steps.proofs.Found.{below-limit, in-same, is-free, is-there, room-below, after-process, goes-on}
 use Rattle.af_steps.proofs.Made.{added-live, first-live}
 use Rattle.af_steps.proofs.engine.Engine.pair.Goals.{After-room_for}
+use Rattle.std.specs.Prelude.{Some, None, IfNone}
+use Rattle.af_base.specs.declared.events.Step.TheVariants as step
+use Rattle.af_base.specs.declared.errno.Errno.TheVariants.{EMFILE}
+use Rattle.af_base.specs.Refusals.{first_fit, on_files, on_free}
+use Rattle.std.proofs.lemmas.Bool.{lt-ltb}
+use Rattle.af_steps.proofs.Outcomes.{missing, turned-down}
 use Rattle.af_steps.proofs.engine.Engine.pair.Goals as goal
+
+pub returns-in_err-lower-clause-refused : goal.returns-in_err-lower-clause-refused
+returns-in_err-lower-clause-refused c =
+    let w = c.self.inside.store.world in
+    let q = c.in_ok-process.process.now.process in
+    let found : HasProcess w c.args.pid q = record { there = search rules } in
+    let e = c.in_err-lower.field-0.0 in
+    let missed = missing c.lowest_two.result EMFILE e c.in_err-lower.ensures.value in
+    let few = subst (λ o. IfNone o (length (free_numbers q) < 2)) missed.0 c.lowest_two.ensures.none in
+    turned-down c.self.view_is c.args.pid (step.Pair c.args.kind) c.from_residual-in_err-lower.result e c.from_residual-in_err-lower.ensures.1
+    (after-process found (λ r look. on_free r 2 ++ on_files w 2)
+    ∙ goes-on (on_free q 2) (on_files w 2) e (ap (λ b. first_fit ((b, EMFILE) ∷ [])) (lt-ltb (length (free_numbers q)) 2 few) ∙ ap Some (sym missed.1)))
 
 -- The process, and its two lowest free numbers.
 has : (c : After-room_for) → HasProcess c.self.inside.store.world c.args.pid c.in_ok-process.process.now.process × AreFree c.in_ok-process.process.now.process (c.in_ok-lower.lower ∷ c.in_ok-lower.higher ∷ [])

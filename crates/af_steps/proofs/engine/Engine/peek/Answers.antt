@@ -1,22 +1,38 @@
 use Rattle.std.proofs.Common.{rules, length, sym, ap, ◌∙◌, subst, arith}
 use Rattle.af_pass.specs.Keeping.{Spares}
-use Rattle.af_steps.proofs.Found.{HasSocket, held}
+use Rattle.af_steps.specs.Found.{HasSocket}
+use Rattle.af_steps.proofs.Found.{held, after-socket, no-socket}
 use Rattle.af_steps.proofs.Numbers.{numbers-below}
 use Rattle.af_steps.proofs.Receiving.{peek-end}
-use Rattle.af_steps.proofs.engine.Engine.peek.Goals.{In_ok-socket}
+use Rattle.af_steps.proofs.engine.Engine.peek.Goals.{In_ok-process}
+use Rattle.af_base.specs.declared.events.Step.TheVariants as step
+use Rattle.af_base.specs.Refusals.{on_receive, socket_on}
+use Rattle.af_steps.proofs.Outcomes.{turned-down}
 use Rattle.af_steps.proofs.engine.Engine.peek.Goals as goal
 
+pub returns-in_err-process-clause-refused : goal.returns-in_err-process-clause-refused
+returns-in_err-process-clause-refused c =
+    let w = c.self.inside.store.world in
+    let e = c.in_err-process.field-0.0 in
+    turned-down c.self.view_is c.args.pid (step.Peek c.args.on c.args.max_bytes c.args.max_fds) c.from_residual.result e c.from_residual.ensures.1
+    (no-socket w c.args.pid c.args.on (on_receive (socket_on w c.args.pid c.args.on) c.args.max_bytes) e c.in_err-process.ensures.refused)
+
+pub returns-in_err-check_receive-clause-refused : goal.returns-in_err-check_receive-clause-refused
+returns-in_err-check_receive-clause-refused c =
+    turned-down c.self.view_is c.args.pid (step.Peek c.args.on c.args.max_bytes c.args.max_fds) c.from_residual-in_err-check_receive.result c.in_err-check_receive.field-0.0 c.from_residual-in_err-check_receive.ensures.1
+    (after-socket c.in_ok-process.ensures.found (λ r look s. on_receive s c.args.max_bytes) ∙ c.in_err-check_receive.ensures.err)
+
 -- What was looked up.
-has : (c : In_ok-socket) → HasSocket c.self.inside.store.world c.args.pid c.in_ok-process.process.now.process c.args.on c.in_ok-file.file c.in_ok-socket.socket.now
-has c = record { number = record { process = record { there = search rules }; stands = search rules }; found = search rules }
+has : (c : In_ok-process) → HasSocket c.self.inside.store.world c.args.pid c.in_ok-process.process.now.process c.args.on c.in_ok-process.file c.in_ok-process.socket.now
+has c = c.in_ok-process.ensures.found
 
 pub returns-then-len-eq0-clause-done : goal.returns-then-len-eq0-clause-done
 returns-then-len-eq0-clause-done c =
-    peek-end c.self.view_is (has (goal.at.returns-then-len-eq0-clause-done c).In_ok-socket) c.args.max_bytes c.args.max_fds (search rules) (sym (c.len.ensures.value ∙ ap length c.queue.ensures) ∙ c.if-len-eq0.true) c.self.invariant.0
+    peek-end c.self.view_is (has (goal.at.returns-then-len-eq0-clause-done c).In_ok-process) c.args.max_bytes c.args.max_fds (search rules) (sym (c.len.ensures.value ∙ ap length c.queue.ensures) ∙ c.if-len-eq0.true) c.self.invariant.0
 
 pub peek_msg-requires-clause-row : goal.peek_msg-requires-clause-row
 peek_msg-requires-clause-row c =
-    numbers-below (has (goal.at.peek_msg-requires-clause-row c).In_ok-socket).number.process c.deref.result.now c.min-count.result _ (search rules) (λ some. c.in_ok-room_for.ensures.row (omega (arith, some, c.deref.ensures.len, c.len.ensures)))
+    numbers-below (has (goal.at.peek_msg-requires-clause-row c).In_ok-process).number.process c.deref.result.now c.min-count.result _ (search rules) (λ some. c.in_ok-room_for.ensures.row (omega (arith, some, c.deref.ensures.len, c.len.ensures)))
 
 pub peek_msg-requires-clause-spared : goal.peek_msg-requires-clause-spared
-peek_msg-requires-clause-spared c = subst (λ s. Spares s c.in_ok-file.file) (sym c.room_for.ensures.pass) (c.is_spared.ensures c.in_ok-file.file (held (has (goal.at.peek_msg-requires-clause-spared c).In_ok-socket).number))
+peek_msg-requires-clause-spared c = subst (λ s. Spares s c.in_ok-process.file) (sym c.room_for.ensures.pass) (c.is_spared.ensures c.in_ok-process.file (held (has (goal.at.peek_msg-requires-clause-spared c).In_ok-process).number))

@@ -1,0 +1,31 @@
+//! What an event looks up before its own tests.
+ghost use Rattle.std.specs.Prelude.{◌≡◌, ◌++◌, Some, IfErr, IfOk, option_copied};
+ghost use Rattle.std.specs.FinMap as map;
+ghost use Rattle.af_base.specs.Refusals.{at_socket, first_fit, on_process, socket_at};
+ghost use Rattle.af_steps.specs.Found.{HasSocket};
+
+use af_base::errno::Errno;
+use af_base::names::{Fd, FileRef, Pid};
+use af_collect::Store;
+use af_desc::Socket;
+use af_table::Process;
+
+/// The process, what its number stands for, and the socket that this is; or why there is none.
+#[inline(always)]
+pub fn socket_on(store: &Store, pid: Pid, on: Fd) -> Result<(&Process, FileRef, &Socket), Errno>
+    ensures found { IfOk result (λ found. HasSocket store.now.world pid found.0.now.process on found.1 found.2.now) }
+    ensures refused { IfErr result (λ e. first_fit (on_process (map.get store.now.world.processes pid) ++ at_socket store.now.world pid on) ≡ Some e) }
+{
+    let process = store.procs().find(pid).ok_or(Errno::ESRCH)?;
+    let file = process.lookup(on).ok_or(Errno::EBADF)?;
+    let socket = socket_at(store, &file).ok_or(Errno::ENOTSOCK)?;
+    Ok((process, file, socket))
+}
+
+/// The socket; a plain file and a stranger are none.
+#[inline(always)]
+pub fn socket_at<'a>(store: &'a Store, file: &FileRef) -> Option<&'a Socket>
+    ensures { option_copied result ≡ socket_at store.now.world file.now }
+{
+    store.files().get(file)?.socket()
+}
