@@ -1,11 +1,14 @@
 -- A log grows by one entry as its machine makes one step.
-use Rattle.std.proofs.Common.{◌≡◌, ◌≤◌, ℕ, List, [], ◌∷◌, ◌++◌, map, refl, sym, ap, subst}
+use Rattle.std.proofs.Common.{◌≡◌, ◌≤◌, ℕ, List, [], ◌∷◌, ◌++◌, map, refl, sym, ap, subst, ◌∙◌}
+use Rattle.std.specs.Prelude.{IsErrAnd, Option, Some, None, Result, Ok, Err}
 use Rattle.std.proofs.lemmas.List.Elements.{All-push}
 use Rattle.std.proofs.lemmas.List.{map-append}
 use Rattle.af_base.specs.Pass.{Machine}
 use Rattle.af_base.specs.Run.{Run, Step, fresh}
 use Rattle.af_base.proofs.Runs.{run-push}
+use Rattle.af_layer.specs.declared.book.CallError.{CallError}
 use Rattle.af_layer.specs.declared.book.Entry.{Entry}
+use Rattle.af_layer.specs.Calls.{Answers}
 use Rattle.af_layer.specs.Log.{IsLegal, pair_of}
 
 -- An entry whose event and reply are one step goes last.
@@ -17,3 +20,14 @@ logged n b c log room more e same is low high legal step =
       of_seats = All-push (λ x. (1 ≤ x.seat) × (x.seat ≤ n)) log e legal.of_seats (low, high);
       run = subst (λ l. Run fresh l c) (sym (map-append pair_of log (e ∷ []))) (run-push fresh b c (map pair_of log) e.event e.reply legal.run step);
     }))
+
+-- An error of the tests, which is handed on, is answered as they say.
+pub answers-err : (A : Type 0) {B : Type 0} (o : Option CallError) (e : CallError) (r : Result B CallError) → IsErrAnd r (λ x. x ≡ e) → Answers {R = A} o (Err e) → Answers o r
+answers-err A o e (Ok b) made is = absurd made
+answers-err A (Some f) e (Err x) made is = cc
+answers-err A None e (Err x) made is = made ∙ is
+
+-- Where the tests let a call pass, it may answer anything.
+pub answers-ok : {A B : Type 0} (o : Option CallError) (a : A) (b : B) → Answers o (Ok a) → Answers o (Ok b)
+answers-ok (Some f) a b is = absurd cc
+answers-ok None a b is = is

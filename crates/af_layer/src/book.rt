@@ -1,8 +1,10 @@
 //! The engine, and the log of all that it did.
-ghost use Rattle.std.specs.Prelude.{◌≡◌, ◌≤◌, [], IfOk, OnErr};
+ghost use Rattle.std.specs.Prelude.{◌≡◌, ◌<◌, ◌≤◌, [], IfOk, OnErr, OnOk, vec_capacity, vec_len};
+ghost use Rattle.af_base.specs.Pass.{Machine};
 ghost use Rattle.af_base.specs.Run.{fresh};
 ghost use Rattle.af_layer.specs.Calls.{Answers, Calls, refusal};
 ghost use Rattle.af_layer.specs.Log.{IsLegal};
+ghost use Rattle.af_layer.specs.Room.{most_bytes, most_fds};
 
 use crate::room::ReplyRoom;
 use af_base::events::{Event, Reply};
@@ -110,18 +112,7 @@ impl Book {
         ensures refused { Answers (refusal self.old seat) result }
         ensures same { OnErr result (self.new ≡ self.old) }
     {
-        if seat == 0 || seat > self.seats {
-            return Err(CallError::NoSeat);
-        }
-        if self.log.len() >= MAX_LOG {
-            return Err(CallError::LogFull);
-        }
-        let Ok(room) = ReplyRoom::for_event(self.alloc, &event) else {
-            return Err(CallError::NoRoom);
-        };
-        if self.log.reserve(1).is_err() {
-            return Err(CallError::NoRoom);
-        }
+        let room = room_for(self.alloc, self.seats, &mut self.log, seat, &event)?;
         // What a sound world answers is no longer than the room.
         self.engine.is_sound();
         let reply = self.engine.step(&event);
@@ -133,4 +124,34 @@ impl Book {
         });
         Ok(reply)
     }
+}
+
+/// Room in the log of so many seats for an entry of this one, and for a copy of the reply to its event;
+/// or why the call does nothing. The log stays as it is.
+fn room_for(
+    alloc: Global,
+    seats: u32,
+    log: &mut Vec<Entry>,
+    seat: u32,
+    event: &Event,
+) -> Result<ReplyRoom, CallError>
+    ensures reply { IfOk result (λ room. (most_bytes event.now ≤ room.bytes) × (most_fds event.now ≤ room.fds)) }
+    ensures entry { OnOk result (vec_len log.new < vec_capacity log.new) }
+    ensures seat { OnOk result ((1 ≤ seat) × (seat ≤ seats)) }
+    ensures refused { (machine : Machine) → Answers (refusal (record { seats = seats; machine = machine; log = log.old.items }) seat) result }
+    ensures log { log.new.items ≡ log.old.items }
+{
+    if seat == 0 || seat > seats {
+        return Err(CallError::NoSeat);
+    }
+    if log.len() >= MAX_LOG {
+        return Err(CallError::LogFull);
+    }
+    let Ok(room) = ReplyRoom::for_event(alloc, event) else {
+        return Err(CallError::NoRoom);
+    };
+    if log.reserve(1).is_err() {
+        return Err(CallError::NoRoom);
+    }
+    Ok(room)
 }

@@ -1,5 +1,5 @@
 //! A seat: who calls, and what was answered to it.
-ghost use Rattle.std.specs.Prelude.{◌≡◌, ◌⊎◌, [], IfErr, IfOk, None, OnErr, OnOk, Some};
+ghost use Rattle.std.specs.Prelude.{◌≡◌, ◌<◌, ◌⊎◌, [], IfErr, IfOk, None, OnErr, OnOk, Some, vec_capacity, vec_len};
 ghost use Rattle.af_base.specs.declared.events.Reply.{Reply as Answer};
 ghost use Rattle.af_layer.specs.Calls.{Calls, refusal};
 ghost use Rattle.af_layer.specs.Seats.{grown};
@@ -61,16 +61,27 @@ impl Seat {
         ensures seat { OnErr result (self.new ≡ self.old) }
         ensures book { OnErr result (book.new ≡ book.old) }
     {
-        if self.list.reserve(1).is_err() {
-            return Err(CallError::NoRoom);
-        }
-        let Ok(kept) = copy_of(&event) else {
-            return Err(CallError::NoRoom);
-        };
+        let kept = copy_for(&mut self.list, &event)?;
         let reply = book.call(self.number, event)?;
         self.list.push_reserved((kept, reply));
         Ok(())
     }
+}
+
+/// A copy of an event for this list, which has room for it then. The list stays as it is.
+fn copy_for(list: &mut Vec<(Event, Reply)>, event: &Event) -> Result<Event, CallError>
+    ensures copy { IfOk result (λ copy. copy ≡ event.now) }
+    ensures room { OnOk result (vec_len list.new < vec_capacity list.new) }
+    ensures err { IfErr result (λ e. e ≡ CallError.NoRoom) }
+    ensures list { list.new.items ≡ list.old.items }
+{
+    if list.reserve(1).is_err() {
+        return Err(CallError::NoRoom);
+    }
+    let Ok(copy) = copy_of(event) else {
+        return Err(CallError::NoRoom);
+    };
+    Ok(copy)
 }
 
 /// A copy of an event.
