@@ -1,7 +1,10 @@
 //! The race itself.
-ghost use Rattle.std.specs.Prelude.{◌≡◌, ◌≤◌, ◌*◌, IfOk, OnOk};
+ghost use Rattle.std.specs.Prelude.{◌≡◌, ◌<◌, ◌≤◌, ◌+◌, ◌*◌, ℕ, [], IfOk, OnOk, slice_index_or, vec_len};
+ghost use Rattle.af_layer.specs.Audit.{IsWhole};
 ghost use Rattle.af_layer.specs.Drive.{Driven, Made};
-ghost use Rattle.scm_race.specs.Race.{EndsInPass, RacedTo, works_of_race};
+ghost use Rattle.af_layer.specs.Log.{IsLegal, Logged};
+ghost use Rattle.af_layer.specs.Seats.{Seated};
+ghost use Rattle.scm_race.specs.Race.{EndsInPass, Raced, RacedTo, works_of_race};
 ghost use Rattle.scm_work.specs.declared.script.TheConstants.{MIN_STEPS, MAX_STEPS};
 ghost use Rattle.scm_work.specs.declared.table.TheConstants.{MAX_WORKERS};
 
@@ -63,14 +66,34 @@ impl Race {
         ensures raced { IfOk result (RacedTo self.workers self.steps self.seed self.budget) }
         ensures steps { IfOk result (λ outcome. outcome.steps ≡ self.workers * self.steps) }
     {
-        let (layer, mut seats) = Layer::open(alloc, self.workers + 2)?;
-        let mut main = seats.pop().unwrap();
-        start_processes(rt, &layer, &mut main, self.workers)?;
-        let mut seats = self.work(rt, alloc, &layer, seats)?;
-        finish(rt, &layer, &mut main, seats.as_slice())?;
-        seats.push(main)?;
+        let (layer, seats) = Layer::open(alloc, self.workers + 2)?;
+        let seats = self.play(rt, alloc, &layer, seats)?;
         let closed = layer.close(seats)?;
         Ok(Outcome::of(&closed.book, self.workers))
+    }
+
+    /// Plays the whole race on a layer that was just opened, and gives its seats back.
+    ///
+    /// The layer is lent, so that what stops the race need not give up a whole engine.
+    fn play<R: Threads + Wait + Sync>(
+        self,
+        rt: &R,
+        alloc: Global,
+        layer: &Layer,
+        mut seats: Vec<Seat>,
+    ) -> Result<Vec<Seat>, RaceFault>
+        requires workers { (1 ≤ self.workers) × (self.workers ≤ MAX_WORKERS) }
+        requires steps { (MIN_STEPS ≤ self.steps) × (self.steps ≤ MAX_STEPS) }
+        requires count { vec_len seats ≡ self.workers + 2 }
+        requires fresh { (i : ℕ) (other : Seated) → i < self.workers + 2 → slice_index_or seats.items i other ≡ record { number = i + 1; list = [] } }
+        ensures { IfOk result (λ after. (b : Logged) → IsLegal b.seats b.machine b.log → IsWhole b after.items → Raced self.workers self.steps self.seed self.budget b) }
+    {
+        let mut main = seats.pop().unwrap();
+        start_processes(rt, layer, &mut main, self.workers)?;
+        let mut seats = self.work(rt, alloc, layer, seats)?;
+        finish(rt, layer, &mut main, seats.as_slice())?;
+        seats.push(main)?;
+        Ok(seats)
     }
 
     /// Lets the workers and the collector work, each in a thread of its own, and waits for them.

@@ -3,7 +3,7 @@ use Rattle.std.proofs.Common.{◌≡◌, ◌⊎◌, inl, inr, ℕ, ◌+◌, ◌-
 use Rattle.std.specs.Prelude.{map, slice_get, ⊤}
 use Rattle.std.specs.Str.Lines.{lines, strip_carriage_return}
 use Rattle.std.specs.Io.KnownBytes.{Appends, Consumes, IsAtEnd, Keeps}
-use Rattle.std.proofs.KnownBytes.{Appends-trans, Appends-nil}
+use Rattle.std.proofs.KnownBytes.{Appends-trans, Appends-nil, Consumes-trans}
 use Rattle.std.proofs.lemmas.List.Elements.{All-nil}
 use Rattle.std.proofs.lemmas.List.{take_at, take_all, map-append, length-map}
 use Rattle.scm_watched.specs.Watched.{AppendsFront}
@@ -11,7 +11,7 @@ use Rattle.scm_lines.specs.Versions.{read_in}
 use Rattle.scm_run.specs.Script.{FaultAt, LineText, NoFeed, Point, RanFirst, RanToEnd, RanToUnreadable, RunText, StopsBy, Tells, Wrote, WroteFirst, ended_by_feed, first_point, is_read_fault, RanAsRead}
 use Rattle.scm_run.specs.Gather.{Moves, Settles}
 use Rattle.scm_run.specs.Line.{LineDone, LineStops}
-use Rattle.scm_run.specs.Progress.{FaultIn, Halts, Progress, Ran, RanAll, Runs, TooLong, Waits, may_fit}
+use Rattle.scm_run.specs.Progress.{FaultIn, Halts, Progress, Ran, RanAll, Runs, TooLong, Waits, may_fit, nothing_read}
 use Rattle.scm_run.specs.declared.fault.RunFault.{RunFault}
 use Rattle.scm_run.specs.declared.fault.RunFault.TheVariants as fault
 use Rattle.scm_run.proofs.LinesLemmas.{all_lines, cut_end, cut_more, firsts, front_lines, last_line, line_at, long_first, slice_get_at}
@@ -177,7 +177,7 @@ run_bad taken text before last old run bad wrote = λ more.
     }
 
 -- nothing was taken
-pub ran_nothing : (before : Option (List ℕ)) → Ran [] before before (record { point = first_point; pending = []; gathered = []; events = 0; done = 0 })
+pub ran_nothing : (before : Option (List ℕ)) → Ran [] before before nothing_read
 ran_nothing before = record {
   written = [];
   runs = record {
@@ -468,6 +468,12 @@ stops_as_read told left before after taken state consumed ran none =
       cut = run.cut;
       all = record { text = text; point = state.point; runs = run.runs; wrote = wrote };
     }
+
+-- A read of no bytes takes none, and is the end of the input.
+pub ended : (told mid left : Option (List ℕ)) (bytes buffer : List ℕ) (n : ℕ) → Consumes told mid bytes → Consumes mid left (take n buffer) → (n ≡ 0 → 0 < length buffer → IsAtEnd left)
+    → n ≡ 0 → 0 < length buffer → Consumes told left bytes × IsAtEnd left
+ended told mid left bytes buffer n consumed more at_end none room =
+    (subst (Consumes told left) (append-nil bytes) (Consumes-trans told mid left bytes [] consumed (subst (λ (k : ℕ). Consumes mid left (take k buffer)) none more)), at_end none room)
 
 -- A reader that keeps its bytes has given none.
 pub keeps_none_taken : (old new : Option (List ℕ)) → Keeps old new → Consumes old new []

@@ -1,5 +1,5 @@
 -- How far a run has come.
-use Rattle.std.specs.Prelude.{◌≡◌, ℕ, ◌+◌, nat_le, List, ◌++◌, Option, Bool, length, map}
+use Rattle.std.specs.Prelude.{◌≡◌, ℕ, ◌+◌, nat_le, List, [], ◌++◌, Option, Bool, length, map}
 use Rattle.std.specs.Str.Lines.{lines, strip_carriage_return}
 use Rattle.std.specs.Io.KnownBytes.{Appends}
 use Rattle.scm_watched.specs.Watched.{AppendsFront}
@@ -15,6 +15,10 @@ pub record Progress : Type 0 where
   pub gathered : List ℕ
   pub events : ℕ
   pub done : ℕ
+
+-- Nothing was read yet (this project's own).
+abbrev pub nothing_read : Progress
+nothing_read = record { point = first_point; pending = []; gathered = []; events = 0; done = 0 }
 
 -- These bytes were taken, and the whole lines in them were run, with this text (this project's own).
 pub record Runs (taken text : List ℕ) (state : Progress) : Type 0 where

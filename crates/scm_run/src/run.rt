@@ -1,8 +1,8 @@
 //! The run of a script, from a reader to a writer.
 ghost use Rattle.std.specs.Prelude.{◌≡◌, ◌<◌, ℕ, List, [], ◌++◌, Option, length, OnOk, IfOk, IfErr, false};
 ghost use Rattle.std.specs.Str.Lines.{lines, strip_carriage_return};
-ghost use Rattle.scm_run.specs.Progress.{FaultIn, Halts, Ran, RanAll, TooLong, may_fit};
-ghost use Rattle.scm_run.specs.Script.{FaultAt, NoFeed, RanToEnd, StopsBy, Wrote, ended_by_feed, first_point, is_read_fault, is_write_fault};
+ghost use Rattle.scm_run.specs.Progress.{FaultIn, Halts, Ran, RanAll, TooLong, may_fit, nothing_read};
+ghost use Rattle.scm_run.specs.Script.{FaultAt, NoFeed, RanToEnd, StopsBy, Wrote, ended_by_feed, is_read_fault, is_write_fault};
 
 use crate::fault::RunFault;
 use crate::gather::{settle, write_out};
@@ -89,7 +89,7 @@ fn may_fit(bytes: &[u8]) -> bool
 impl Run {
     /// Nothing was read yet.
     fn new(alloc: Global) -> Result<Self, AllocError>
-        ensures { IfOk result (λ r. r ≡ record { point = first_point; pending = []; gathered = []; events = 0; done = 0 }) }
+        ensures { IfOk result (λ r. r ≡ nothing_read) }
     {
         Ok(Run {
             engine: Engine::new(alloc)?,
@@ -261,6 +261,37 @@ impl Run {
             Err(fault) => Err(settle(&mut self.text, fault, writer)),
         }
     }
+
+    /// Reads the script to its end, and does and writes its lines. Nothing was read of it before.
+    ///
+    /// The run is lent, so that what stops it need not give up a whole engine.
+    fn run_to_end<R: Read, W: Write>(
+        &mut self,
+        alloc: Global,
+        reader: &mut Watched<R>,
+        writer: &mut Watched<W>,
+    ) -> Result<u64, RunFault>
+        requires fresh { self.old ≡ nothing_read }
+        requires reader { reader.old.has_failed ≡ false }
+        requires writer { writer.old.has_failed ≡ false }
+        ensures done { IfOk result (RanToEnd (R.remaining reader.old.inner) (R.remaining reader.new.inner) (W.contents writer.old.inner) (W.contents writer.new.inner)) }
+        ensures stopped { IfErr result (StopsBy (R.remaining reader.old.inner) (R.remaining reader.new.inner) (W.contents writer.old.inner) (W.contents writer.new.inner)) }
+        ensures read { reader.new.has_failed ≡ is_read_fault result }
+        ensures write { writer.new.has_failed ≡ is_write_fault result }
+    {
+        let mut chunk = [0; CHUNK];
+        // The count stands for "for ever": no run comes to its end.
+        for _ in 0..u64::MAX {
+            let Ok(count) = reader.read(&mut chunk) else {
+                return Err(RunFault::Read);
+            };
+            if count == 0 {
+                return self.finish(alloc, writer);
+            }
+            self.feed(alloc, &chunk[..count], writer)?;
+        }
+        Err(RunFault::Memory)
+    }
 }
 
 /// Runs a script from the fresh machine, in the version that its first line gives: does each line as
@@ -291,16 +322,5 @@ pub fn run_script<R: Read, W: Write>(
     ensures write { writer.new.has_failed ≡ is_write_fault result }
 {
     let mut run = Run::new(alloc)?;
-    let mut chunk = [0; CHUNK];
-    // The count stands for "for ever": no run comes to its end.
-    for _ in 0..u64::MAX {
-        let Ok(count) = reader.read(&mut chunk) else {
-            return Err(RunFault::Read);
-        };
-        if count == 0 {
-            return run.finish(alloc, writer);
-        }
-        run.feed(alloc, &chunk[..count], writer)?;
-    }
-    Err(RunFault::Memory)
+    run.run_to_end(alloc, reader, writer)
 }
