@@ -72,7 +72,8 @@ impl From<DriveError> for RaceFault {
 impl From<CloseError> for RaceFault {
     ghost from_gives = { λ _ fault. fault ≡ Failed };
 
-    fn from(_error: CloseError) -> RaceFault {
+    fn from(error: CloseError) -> RaceFault {
+        drop(error);
         RaceFault::Failed
     }
 }

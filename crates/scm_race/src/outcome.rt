@@ -1,6 +1,7 @@
 //! What a race comes to.
 ghost use Rattle.std.specs.Prelude.{◌≡◌, IfOk, string_bytes};
 ghost use Rattle.std.specs.FinMap as map;
+ghost use Rattle.af_layer.specs.Log.{IsLegal};
 ghost use Rattle.scm_race.specs.Race.{OutcomeOf, outcome_text, worker_steps};
 
 use af_layer::{Book, Entry};
@@ -25,7 +26,8 @@ fn steps_up_to(log: &[Entry], workers: u32) -> usize
 impl Outcome {
     /// What this book shows, where its first seats are those of so many workers.
     pub(crate) fn of(book: &Book, workers: u32) -> Outcome
-        ensures { OutcomeOf workers book.now result }
+        ensures outcome { OutcomeOf workers book.now result }
+        ensures legal { IsLegal book.now.seats book.now.machine book.now.log }
     {
         Outcome {
             steps: steps_up_to(book.log(), workers),

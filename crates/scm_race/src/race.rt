@@ -69,7 +69,10 @@ impl Race {
         let (layer, seats) = Layer::open(alloc, self.workers + 2)?;
         let seats = self.play(rt, alloc, &layer, seats)?;
         let closed = layer.close(seats)?;
-        Ok(Outcome::of(&closed.book, self.workers))
+        let outcome = Outcome::of(&closed.book, self.workers);
+        // By a call, whose proof is short: at the end of the block each part of an engine is one of its own.
+        drop(closed);
+        Ok(outcome)
     }
 
     /// Plays the whole race on a layer that was just opened, and gives its seats back.

@@ -322,5 +322,8 @@ pub fn run_script<R: Read, W: Write>(
     ensures write { writer.new.has_failed ≡ is_write_fault result }
 {
     let mut run = Run::new(alloc)?;
-    run.run_to_end(alloc, reader, writer)
+    let outcome = run.run_to_end(alloc, reader, writer);
+    // By a call, whose proof is short: at the end of the block each part of an engine is one of its own.
+    drop(run);
+    outcome
 }

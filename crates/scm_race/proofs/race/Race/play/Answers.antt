@@ -1,4 +1,4 @@
-use Rattle.std.proofs.Common.{◌++◌, ap, ◌∙◌}
+use Rattle.std.proofs.Common.{rules, ◌≡◌, ◌+◌, [], ◌∷◌, ◌++◌, ap, length, ◌∙◌}
 use Rattle.std.specs.Prelude.{option_to_list}
 use Rattle.scm_race.proofs.Ended.{race-raced}
 use Rattle.scm_race.proofs.race.Race.play.Goals as goal
@@ -6,7 +6,8 @@ use Rattle.scm_race.proofs.race.Race.play.Goals as goal
 pub returns : goal.returns
 returns g c = λ b legal whole.
     let race = c.args.self in
-    let split = c.pop.ensures.items ∙ ap (λ o. c.pop.new.self.items ++ option_to_list o) c.unwrap-main.ensures in
+    let count : length c.args.seats.items ≡ race.workers + 2 = search rules in
+    let split : c.args.seats.items ≡ c.pop.new.self.items ++ c.unwrap-main.result ∷ [] = c.pop.ensures.items ∙ ap (λ o. c.pop.new.self.items ++ option_to_list o) c.unwrap-main.ensures in
     race-raced race.workers race.steps race.seed race.budget b c.args.seats.items c.pop.new.self.items c.in_ok-seats.seats.items c.push.new.self.items
-    c.unwrap-main.result c.start_processes.new.main c.finish.new.main c.requires.count c.requires.fresh split c.start_processes.ensures.number c.in_ok-start_processes.ensures.started
+    c.unwrap-main.result c.start_processes.new.main c.finish.new.main count c.requires.fresh split c.start_processes.ensures.number c.in_ok-start_processes.ensures.started
     c.in_ok-seats.ensures c.finish.ensures.number c.in_ok-finish.ensures.done legal c.in_ok-push.ensures.items whole
