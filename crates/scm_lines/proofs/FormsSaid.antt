@@ -231,20 +231,20 @@ SaysVerb word v = (words : List (List ℕ)) (st : Step) → step_of v words ≡ 
 step_said : Holds SaysVerb verbs
 unfolding step_of
 step_said =
-    (λ words st e. bare_said (codes "open") words step.Open st refl e)
+    send_said
+    ▸ recv_said
+    ▸ (λ words st e. bare_said (codes "open") words step.Open st refl e)
+    ▸ close_said
     ▸ dup_said
     ▸ dup2_said
-    ▸ close_said
-    ▸ (λ words st e. bare_said (codes "fork") words step.Fork st refl e)
-    ▸ (λ words st e. bare_said (codes "exit") words step.Exit st refl e)
-    ▸ pair_said
-    ▸ socket_said
-    ▸ bind_said
-    ▸ listen_said
     ▸ connect_said
     ▸ accept_said
-    ▸ send_said
-    ▸ recv_said
+    ▸ socket_said
+    ▸ pair_said
+    ▸ (λ words st e. bare_said (codes "fork") words step.Fork st refl e)
+    ▸ (λ words st e. bare_said (codes "exit") words step.Exit st refl e)
+    ▸ bind_said
+    ▸ listen_said
     ▸ peek_said
     ▸ limit_said
     ▸ tt

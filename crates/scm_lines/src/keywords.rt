@@ -66,23 +66,24 @@ pub enum Verb {
     Limit,
 }
 
-/// The words that may come after a process's number. The definitions take this table as it is, and
-/// the laws hold it against the table of forms, which spells each word out.
+/// The words that may come after a process's number, first those that scripts have most. The
+/// definitions take this table as it is, and the laws hold it against the table of forms, which
+/// spells each word out.
 pub const VERBS: [(&[u8], Verb); 16] = [
-    (b"open", Verb::Open),
-    (b"dup", Verb::Dup),
-    (b"dup2", Verb::Dup2),
-    (b"close", Verb::Close),
-    (b"fork", Verb::Fork),
-    (b"exit", Verb::Exit),
-    (b"pair", Verb::Pair),
-    (b"socket", Verb::Socket),
-    (b"bind", Verb::Bind),
-    (b"listen", Verb::Listen),
-    (b"connect", Verb::Connect),
-    (b"accept", Verb::Accept),
     (b"send", Verb::Send),
     (b"recv", Verb::Recv),
+    (b"open", Verb::Open),
+    (b"close", Verb::Close),
+    (b"dup", Verb::Dup),
+    (b"dup2", Verb::Dup2),
+    (b"connect", Verb::Connect),
+    (b"accept", Verb::Accept),
+    (b"socket", Verb::Socket),
+    (b"pair", Verb::Pair),
+    (b"fork", Verb::Fork),
+    (b"exit", Verb::Exit),
+    (b"bind", Verb::Bind),
+    (b"listen", Verb::Listen),
     (b"peek", Verb::Peek),
     (b"limit", Verb::Limit),
 ];
