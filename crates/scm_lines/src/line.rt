@@ -39,12 +39,12 @@ pub enum Line {
 fn all_printable(bytes: &[u8]) -> bool
     ensures { result ≡ all_printable bytes.now }
 {
+    // Nearly all lines are, and a loop that has no early end takes many bytes at once.
+    let mut all = true;
     for b in bytes {
-        if !matches!(*b, b' '..=b'~' | b'\t') {
-            return false;
-        }
+        all &= matches!(*b, b' '..=b'~' | b'\t');
     }
-    true
+    all
 }
 
 /// Whether the first word begins with `#`.
