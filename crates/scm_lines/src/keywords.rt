@@ -99,7 +99,7 @@ fn meaning<T: Copy>(table: &[(&[u8], T)], word: &[u8]) -> Option<T>
     ensures { result ≡ meaning (map (λ entry. (entry.0.now, entry.1)) table.now) word.now }
 {
     for entry in table {
-        if entry.0 == word {
+        if entry.0.len() == word.len() && entry.0 == word {
             return Some(entry.1);
         }
     }
