@@ -4,6 +4,7 @@ ghost use Rattle.use_kernel.specs.Calls.{Answers, asked, pair_asked, recv_asked,
 use crate::linux;
 use crate::linux::{answer_of, refusal};
 use jaywardrobe::{Engine, Fd, Items, Pid, Received};
+use std::alloc::{AllocError, Global};
 
 /// What a process has in its registers when it calls (syscall(2)): the number of the call, and its
 /// first three arguments. The room for a receive stands there too, where Linux reads a `msghdr`.
@@ -24,6 +25,19 @@ pub struct Memory {
     pub fds: Items<Fd>,
     /// The two numbers that a socketpair(2) writes (`sv`).
     pub pair: (Fd, Fd),
+}
+
+impl Memory {
+    /// A memory with this message.
+    pub fn of(alloc: Global, bytes: &[u8], fds: &[Fd]) -> Result<Memory, AllocError> {
+        let bytes = Vec::from_slice(alloc, bytes)?;
+        let fds = Vec::from_slice(alloc, fds)?;
+        Ok(Memory {
+            bytes: Items::of(bytes),
+            fds: Items::of(fds),
+            pair: (Fd(0), Fd(0)),
+        })
+    }
 }
 
 /// Makes the call that the registers ask for. It is one step of the machine, and answers its number,

@@ -6,7 +6,7 @@ mod linux;
 
 use crate::calls::{Memory, Registers, system_call};
 use crate::linux::{AF_UNIX, CLOSE, DUP2, EXIT, FORK, RECVMSG, SENDMSG, SOCKETPAIR};
-use jaywardrobe::{Engine, Fd, Items, Pid, Uid};
+use jaywardrobe::{Engine, Fd, Pid, Uid};
 use std::io;
 use std::io::Error;
 
@@ -33,19 +33,20 @@ const SESSION: [(u32, [u32; 4]); 16] = [
 
 fn main(rt: HostRuntime) -> io::Result<()> {
     let mut engine = Engine::new(rt.alloc())?;
-    let mut memory = Memory {
-        bytes: Items::of(Vec::from_slice(rt.alloc(), b"take this")?),
-        fds: Items::of(Vec::from_slice(rt.alloc(), &[Fd(0)])?),
-        pair: (Fd(0), Fd(0)),
-    };
-    boot(&rt, &mut engine, &mut memory)
+    boot(&rt, &mut engine)
 }
 
-/// Starts the first process, and makes all calls of the session.
-fn boot(rt: &HostRuntime, engine: &mut Engine, memory: &mut Memory) -> io::Result<()> {
+/// Starts the first process, and makes all calls of the session over one memory.
+fn boot(rt: &HostRuntime, engine: &mut Engine) -> io::Result<()> {
     if engine.spawn(Uid(1_000), 16, false).is_err() {
         return Err(Error::other("the first process did not start"));
     }
+    let mut memory = Memory::of(rt.alloc(), b"take this", &[Fd(0)])?;
+    make_calls(rt, engine, &mut memory)
+}
+
+/// Makes all calls of the session.
+fn make_calls(rt: &HostRuntime, engine: &mut Engine, memory: &mut Memory) -> io::Result<()> {
     for (pid, [number, first, second, third]) in SESSION {
         let registers = Registers {
             number,
@@ -53,8 +54,25 @@ fn boot(rt: &HostRuntime, engine: &mut Engine, memory: &mut Memory) -> io::Resul
             second,
             third,
         };
-        let answer = system_call(engine, Pid(pid), registers, memory);
-        println!(rt; "{pid}: {number}({first}, {second}, {third}) = {answer}")?;
+        trace(rt, engine, Pid(pid), registers, memory)?;
     }
     Ok(())
+}
+
+/// Makes one call, and prints it with its answer.
+fn trace(
+    rt: &HostRuntime,
+    engine: &mut Engine,
+    pid: Pid,
+    registers: Registers,
+    memory: &mut Memory,
+) -> io::Result<()> {
+    let answer = system_call(engine, pid, registers, memory);
+    let Registers {
+        number,
+        first,
+        second,
+        third,
+    } = registers;
+    println!(rt; "{pid}: {number}({first}, {second}, {third}) = {answer}")
 }
