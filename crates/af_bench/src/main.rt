@@ -84,7 +84,11 @@ fn measure_lines(
 /// Does the event of a line.
 fn do_line(alloc: Global, engine: &mut Engine, line: &str) -> io::Result<()> {
     let event = event_of(alloc, line)?;
-    do_event(engine, &event)
+    if is_done(engine, &event) {
+        Ok(())
+    } else {
+        Err(refused())
+    }
 }
 
 fn event_of(alloc: Global, line: &str) -> io::Result<Event> {
@@ -103,11 +107,14 @@ fn events_of(alloc: Global, lines: &mut Lines<'_>) -> io::Result<Vec<Event>> {
     Ok(events)
 }
 
-fn do_event(engine: &mut Engine, event: &Event) -> io::Result<()> {
-    match engine.step(event) {
-        Reply::Refused(_) => Err(io::Error::other("an event was refused")),
-        _ => Ok(()),
-    }
+/// Does the event, and says whether it was not refused.
+fn is_done(engine: &mut Engine, event: &Event) -> bool {
+    !matches!(engine.step(event), Reply::Refused(_))
+}
+
+/// The fault of a script with an event that is refused.
+fn refused() -> io::Error {
+    io::Error::other("an event was refused")
 }
 
 /// Measures all runs, and then prints what each took, so that no printing comes between them.
@@ -131,8 +138,18 @@ fn time_of_run(
     events: usize,
 ) -> io::Result<u128> {
     let start = Instant::now(rt)?;
-    for event in round.take(events) {
-        do_event(engine, event)?;
+    if !are_done(engine, round, events) {
+        return Err(refused());
     }
     Ok(start.elapsed(rt)?.as_nanos())
+}
+
+/// Does so many events, and says whether none was refused. It stops at the first that is.
+fn are_done(engine: &mut Engine, round: &mut Cycle<Iter<'_, Event>>, events: usize) -> bool {
+    for event in round.take(events) {
+        if !is_done(engine, event) {
+            return false;
+        }
+    }
+    true
 }
