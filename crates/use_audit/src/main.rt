@@ -3,7 +3,7 @@
 
 mod places;
 
-use crate::places::places_of;
+use crate::places::{Place, places_of};
 use jaywardrobe::report::graph;
 use jaywardrobe::{Engine, Errno, Fd, Items, Pid, SockType, Uid};
 use std::alloc::Global;
@@ -15,29 +15,42 @@ fn main(rt: HostRuntime) -> io::Result<()> {
     audit(&rt, &mut engine)
 }
 
-/// Prints who holds whom in a small world, and its picture, lets the collector take what nobody can
-/// come to, and prints what is left.
+/// Builds a small world, and prints who holds whom there.
 fn audit(rt: &HostRuntime, engine: &mut Engine) -> io::Result<()> {
-    if let Err(error) = build(rt.alloc(), engine) {
-        println!(rt; "the world was not built: {error}")?;
-        return Ok(());
+    match build(rt.alloc(), engine) {
+        Ok(()) => show(rt, engine),
+        Err(error) => println!(rt; "the world was not built: {error}"),
     }
+}
+
+/// Prints who holds whom, and its picture, lets the collector take what nobody can come to, and
+/// prints what is left.
+fn show(rt: &HostRuntime, engine: &mut Engine) -> io::Result<()> {
     print(rt, engine)?;
     draw(rt, engine)?;
-    if let Ok(finished) = engine.pass() {
-        println!(rt; "pass {} reclaimed {}", finished.pass, finished.reclaimed)?;
-    }
+    collect(rt, engine)?;
     print(rt, engine)
+}
+
+/// Lets the collector take what nobody can come to, and prints how much that was.
+fn collect(rt: &HostRuntime, engine: &mut Engine) -> io::Result<()> {
+    match engine.pass() {
+        Ok(finished) => println!(rt; "pass {} reclaimed {}", finished.pass, finished.reclaimed),
+        Err(error) => println!(rt; "no pass: {error}"),
+    }
 }
 
 /// Prints each place on a line of its own, by rising file.
 fn print(rt: &HostRuntime, engine: &Engine) -> io::Result<()> {
-    println!(rt;
-        "{} files, {} descriptors in flight",
-        engine.live(),
-        engine.total()
-    )?;
-    for place in &places_of(rt.alloc(), engine)? {
+    let (files, in_flight) = (engine.live(), engine.total());
+    println!(rt; "{files} files, {in_flight} descriptors in flight")?;
+    let places = places_of(rt.alloc(), engine)?;
+    print_places(rt, places.as_slice())
+}
+
+/// Prints these places.
+fn print_places(rt: &HostRuntime, places: &[Place]) -> io::Result<()> {
+    for place in places {
         println!(rt; "{place}")?;
     }
     Ok(())
@@ -57,19 +70,24 @@ fn build(alloc: Global, engine: &mut Engine) -> Result<(), Errno> {
     engine.fork(parent)?;
     let file = engine.open(parent)?;
     engine.send(parent, here, b"twice", &[file, file])?;
-    wait_at_listener(alloc, engine, parent)?;
+    wait_at_door(alloc, engine, parent)?;
     lose_cycle(engine, parent, file)?;
     engine.close(parent, file)
 }
 
-/// A client connects to a listener, and is not accepted.
-fn wait_at_listener(alloc: Global, engine: &mut Engine, pid: Pid) -> Result<(), Errno> {
+/// Somebody waits at a listener that is named door.
+fn wait_at_door(alloc: Global, engine: &mut Engine, pid: Pid) -> Result<(), Errno> {
     let name = Items::of(Vec::from_slice(alloc, b"door")?);
+    wait_at(engine, pid, &name)
+}
+
+/// A client connects to a listener of this name, and is not accepted.
+fn wait_at(engine: &mut Engine, pid: Pid, name: &Items<u8>) -> Result<(), Errno> {
     let listener = engine.socket(pid, SockType::Stream)?;
-    engine.bind(pid, listener, &name)?;
+    engine.bind(pid, listener, name)?;
     engine.listen(pid, listener, 4)?;
     let client = engine.socket(pid, SockType::Stream)?;
-    engine.connect(pid, client, &name)
+    engine.connect(pid, client, name)
 }
 
 /// A socket travels in its own queue, with a file, and is closed.
