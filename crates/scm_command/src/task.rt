@@ -1,6 +1,6 @@
 //! The command line.
 ghost use Rattle.std.specs.Prelude.{◌≡◌, ℕ, IfNone, IfOk, IfErr, IfSome, false, true, map};
-ghost use Rattle.clap.specs.Words.{app_of, found_of, kind_of, rows_of, rule_of, subcommand_rows_of};
+ghost use Rattle.clap.specs.Words.{app_of, found_of, kind_of, rows_of, rule_of, subcommand_rows_of, with_rule};
 ghost use Rattle.clap.specs.declared.builder.command.Command.TheViews.{out-Command};
 ghost use Rattle.clap.specs.declared.error.kind.ErrorKind.TheVariants.{OutOfMemory};
 ghost use Rattle.scm_command.specs.Task.{HasNumber, IsInRange, IsRace, Names, StandsFor, bare_app, fits, number_rule, race_app, run_app, whole_app};
@@ -62,45 +62,62 @@ fn number_option<'a>(alloc: Global, name: &'a str, least: u32, most: u32, help: 
         .value_parser(ValueParser::signed(i64::from(least), i64::from(most)))
 }
 
+/// The command with one option more: it must be given, and takes a number in this range.
+fn with_number<'a>(
+    alloc: Global,
+    command: Command<'a>,
+    name: &'a str,
+    least: u32,
+    most: u32,
+    help: &'a str,
+) -> Result<Command<'a>, AllocError>
+    requires { (out-Command command).has_globals ≡ false }
+    ensures shape { IfOk result (λ c. app_of c ≡ with_rule (app_of command.entry) (number_rule name.entry.now least most)) }
+    ensures local { IfOk result (λ c. (out-Command c).has_globals ≡ false) }
+{
+    command.arg(number_option(alloc, name, least, most, help))
+}
+
 /// The subcommand that lets workers race.
 fn race_command<'a>(alloc: Global) -> Result<Command<'a>, AllocError>
     ensures shape { IfOk result (λ c. app_of c ≡ race_app) }
     ensures local { IfOk result (λ c. (out-Command c).has_globals ≡ false) }
 {
-    let workers = number_option(
+    let command = Command::new(alloc, "race").about(
+        "Lets workers and a collector race on one layer, and audits its log",
+    );
+    let command = with_number(
         alloc,
+        command,
         "workers",
         1,
         MAX_WORKERS,
         "How many workers, 1 to 32",
-    );
-    let steps = number_option(
+    )?;
+    let command = with_number(
         alloc,
+        command,
         "steps",
         MIN_STEPS,
         MAX_STEPS,
         "How many events each worker does, 5 to 20000",
-    );
-    let seed = number_option(
+    )?;
+    let command = with_number(
         alloc,
+        command,
         "seed",
         0,
         u32::MAX,
         "The number that the events are drawn from, up to 4294967295",
-    );
-    let budget = number_option(
+    )?;
+    with_number(
         alloc,
+        command,
         "budget",
         1,
         MAX_BUDGET,
         "The budget of the collector's slices, 1 to 65536",
-    );
-    Command::new(alloc, "race")
-        .about("Lets workers and a collector race on one layer, and audits its log")
-        .arg(workers)?
-        .arg(steps)?
-        .arg(seed)?
-        .arg(budget)
+    )
 }
 
 /// The command without its subcommands.
@@ -162,10 +179,29 @@ fn chosen_task(matches: &ArgMatches<'_>) -> Option<Task>
     }
 }
 
+/// The task that a command line names, by the whole command.
+#[tactic(auto, unfolding(crate::specs::Task::fits, crate::specs::Task::Names))]
+fn task_by<'a, S: AsStr>(command: &mut Command<'a>, words: &'a [S]) -> Result<Task, Error>
+    requires { app_of command.old ≡ whole_app }
+    ensures ok { IfOk result (Names (map S.text words.entry.now)) }
+    ensures ranges { IfOk result IsInRange }
+    ensures fit { IfOk result (λ _. fits (map S.text words.entry.now) ≡ true) }
+    ensures err { IfErr result (λ error. (task : Asked) → fits (map S.text words.entry.now) ≡ true → Names (map S.text words.entry.now) task
+        → kind_of error ≡ OutOfMemory) }
+{
+    let matches = command.try_get_matches_from_mut(words)?;
+    let chosen = chosen_task(&matches);
+    // Dropped by a call: at the end of the block each part would be dropped, and proved, by itself.
+    drop(matches);
+    match chosen {
+        Some(task) => Ok(task),
+        None => Err(command.error(ErrorKind::MissingSubcommand, "no task is named")?),
+    }
+}
+
 /// The task that a command line names. Its first word is the program's name.
 ///
 /// A call for help or for the version is an error too, with that text.
-#[tactic(auto, unfolding(crate::specs::Task::fits, crate::specs::Task::Names))]
 pub fn task_of<'a, S: AsStr>(alloc: Global, words: &'a [S]) -> Result<Task, Error>
     ensures ok { IfOk result (Names (map S.text words.entry.now)) }
     ensures ranges { IfOk result IsInRange }
@@ -176,9 +212,8 @@ pub fn task_of<'a, S: AsStr>(alloc: Global, words: &'a [S]) -> Result<Task, Erro
         → kind_of error ≡ OutOfMemory) }
 {
     let mut command = whole_command(alloc)?;
-    let matches = command.try_get_matches_from_mut(words)?;
-    match chosen_task(&matches) {
-        Some(task) => Ok(task),
-        None => Err(command.error(ErrorKind::MissingSubcommand, "no task is named")?),
-    }
+    let task = task_by(&mut command, words);
+    // Dropped by a call: at the end of the block each part would be dropped, and proved, by itself.
+    drop(command);
+    task
 }

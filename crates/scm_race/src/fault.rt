@@ -73,6 +73,7 @@ impl From<CloseError> for RaceFault {
     ghost from_gives = { λ _ fault. fault ≡ Failed };
 
     fn from(error: CloseError) -> RaceFault {
+        // Dropped by a call: as a parameter each part would be dropped, and proved, by itself.
         drop(error);
         RaceFault::Failed
     }

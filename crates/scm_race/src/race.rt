@@ -70,7 +70,7 @@ impl Race {
         let seats = self.play(rt, alloc, &layer, seats)?;
         let closed = layer.close(seats)?;
         let outcome = Outcome::of(&closed.book, self.workers);
-        // By a call, whose proof is short: at the end of the block each part of an engine is one of its own.
+        // Dropped by a call: at the end of the block each part would be dropped, and proved, by itself.
         drop(closed);
         Ok(outcome)
     }

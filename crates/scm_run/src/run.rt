@@ -323,7 +323,7 @@ pub fn run_script<R: Read, W: Write>(
 {
     let mut run = Run::new(alloc)?;
     let outcome = run.run_to_end(alloc, reader, writer);
-    // By a call, whose proof is short: at the end of the block each part of an engine is one of its own.
+    // Dropped by a call: at the end of the block each part would be dropped, and proved, by itself.
     drop(run);
     outcome
 }
