@@ -122,11 +122,21 @@ fn time_of_scripts<R: Threads + Wait + Clock + Sync>(
 ) -> io::Result<u128> {
     let have_started = start_processes(rt, layer, seats.as_mut_slice());
     let start = Instant::now(rt);
-    let are_done = drive(rt, layer, seats, scripts, None, &OpenGate).is_ok();
+    let are_done = are_driven(rt, layer, seats, scripts);
     if !have_started || !are_done {
         return Err(io::Error::other("a call was refused"));
     }
     Ok(start?.elapsed(rt)?.as_nanos())
+}
+
+/// Does these scripts from these seats beside each other, and says whether no call was refused.
+fn are_driven<R: Threads + Wait + Sync>(
+    rt: &R,
+    layer: &Layer,
+    seats: Vec<Seat>,
+    scripts: Vec<Vec<Event>>,
+) -> bool {
+    drive(rt, layer, seats, scripts, None, &OpenGate).is_ok()
 }
 
 /// Starts a process from each seat, and says whether all have started.
