@@ -1,4 +1,4 @@
-use Rattle.std.proofs.Common.{rules, sym, ap, subst, arith, ◌++◌, ◌∙◌, ◌∷◌, []}
+use Rattle.std.proofs.Common.{rules, sym, ap, subst, arith, ◌∙◌, ◌∷◌, []}
 use Rattle.af_base.specs.World.{IsLive, World}
 use Rattle.af_pass.specs.Keeping.{Spares}
 use Rattle.af_steps.specs.Found.{HasNumber}

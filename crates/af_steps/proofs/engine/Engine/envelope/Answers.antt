@@ -1,4 +1,4 @@
-use Rattle.std.proofs.Common.{rules, ℕ, ◌≡◌, ◌<◌, ◌∷◌, [], true, false, length, refl, sym, ap, ◌∙◌, subst, arith, ◌++◌}
+use Rattle.std.proofs.Common.{ℕ, ◌≡◌, ◌<◌, ◌∷◌, [], true, false, length, refl, sym, ap, ◌∙◌, subst, ◌++◌}
 use Rattle.std.specs.Prelude.{None, Some, Err, is_none, nat_le}
 use Rattle.std.proofs.lemmas.Bool.{le-leb, lt-leb}
 use Rattle.std.specs.Option.{option_copied}

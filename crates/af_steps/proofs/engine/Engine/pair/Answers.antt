@@ -12,7 +12,7 @@ use Rattle.af_steps.specs.Found.{HasProcess}
 use Rattle.af_steps.proofs.Found.{below-limit, in-same, is-free, is-there, room-below, after-process, goes-on}
 use Rattle.af_steps.proofs.Made.{added-live, first-live}
 use Rattle.af_steps.proofs.engine.Engine.pair.Goals.{After-room_for}
-use Rattle.std.specs.Prelude.{Some, None, IfNone}
+use Rattle.std.specs.Prelude.{Some, IfNone}
 use Rattle.af_base.specs.declared.events.Step.TheVariants as step
 use Rattle.af_base.specs.declared.errno.Errno.TheVariants.{EMFILE}
 use Rattle.af_base.specs.Refusals.{first_fit, on_files, on_free}
