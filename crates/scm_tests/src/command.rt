@@ -1,4 +1,4 @@
 //! The whole program over memory.
-mod lines;
 mod programs;
 mod races;
+mod words;

@@ -2,7 +2,8 @@
 use af_base::events::{Event, SockType, Step};
 use af_base::names::{Fd, Pid, Uid};
 use scm_lines::{Line, MAX_LINE, Report, Version, line_of, read_in};
-use std::alloc::Global;
+use std::alloc::{AllocError, Global};
+use std::process::Abort;
 use std::test::Fail;
 
 /// Lines that say no step, with what each says.
@@ -79,7 +80,7 @@ const STEPS: [(&[u8], Step); 15] = [
 
 /// Lines, and whether a script has them: as its first line, later in version 1, and later in version
 /// 2.
-const VERSIONS: [(&[u8], bool, bool, bool); 5] = [
+static VERSIONS: [(&[u8], bool, bool, bool); 5] = [
     (b"version 2", true, false, false),
     (b"1 peek 0 10 8", false, false, true),
     (b"1 limit 8", false, false, true),
@@ -103,7 +104,7 @@ const MESSAGES: [(&[u8], &[u8], &[u32]); 4] = [
 ];
 
 /// Lines that cannot be read.
-const UNREADABLE: [&[u8]; 50] = [
+static UNREADABLE: [&[u8]; 50] = [
     b"spawn 01 4",
     b"spawn 4294967296 4",
     b"spawn 1 4 root",
@@ -169,14 +170,24 @@ fn step_of(alloc: Global, line: &[u8]) -> Option<Step> {
     }
 }
 
+/// These lines say this.
+fn say(rt: &impl Abort, alloc: Global, lines: &[(&[u8], Line)]) {
+    for (line, wanted) in lines {
+        assert!(rt; said(alloc, line).as_ref() == Some(wanted), "{line:?}");
+    }
+}
+
+/// These lines say these steps of process 1.
+fn say_steps(rt: &impl Abort, alloc: Global, lines: &[(&[u8], Step)]) {
+    for (line, wanted) in lines {
+        assert!(rt; step_of(alloc, line).as_ref() == Some(wanted), "{line:?}");
+    }
+}
+
 #[test]
 fn lines_of_each_form(rt: HostRuntime) {
-    for (line, wanted) in LINES {
-        assert!(rt; said(rt.alloc(), line) == Some(wanted), "{line:?}");
-    }
-    for (line, wanted) in STEPS {
-        assert!(rt; step_of(rt.alloc(), line) == Some(wanted), "{line:?}");
-    }
+    say(&rt, rt.alloc(), &LINES);
+    say_steps(&rt, rt.alloc(), &STEPS);
 }
 
 /// Whether the line gives socket 3 this name, or connects it there.
@@ -230,15 +241,21 @@ fn bytes_and_descriptors_are_spelled(rt: HostRuntime) {
     }
 }
 
+/// None of these lines can be read.
+fn are_unreadable(rt: &impl Abort, alloc: Global, lines: &[&[u8]]) -> Result<(), AllocError> {
+    for line in lines {
+        assert!(rt; line_of(alloc, line)?.is_none(), "{line:?}");
+    }
+    Ok(())
+}
+
 /// Lines that cannot be read, one of them since it is too long: blanks alone would say nothing.
 #[test]
 fn unreadable_lines(rt: HostRuntime) -> Result<(), Fail> {
-    for line in UNREADABLE {
-        assert_eq!(rt; line_of(rt.alloc(), line)?, None, "{line:?}");
-    }
+    are_unreadable(&rt, rt.alloc(), &UNREADABLE)?;
     let blanks = vec![in rt.alloc(); b' '; MAX_LINE + 1]?;
-    assert_eq!(rt; line_of(rt.alloc(), &blanks)?, None);
-    assert_eq!(rt; line_of(rt.alloc(), &blanks[1..])?, Some(Line::Silence));
+    are_unreadable(&rt, rt.alloc(), &[blanks.as_slice()])?;
+    say(&rt, rt.alloc(), &[(&blanks[1..], Line::Silence)]);
     Ok(())
 }
 
@@ -247,11 +264,16 @@ fn has(alloc: Global, version: Version, line: &[u8]) -> bool {
     matches!(read_in(alloc, version, line), Ok(Some(_)))
 }
 
+/// Scripts have these lines, or do not, as it is said of each state.
+fn have(rt: &impl Abort, alloc: Global, lines: &[(&[u8], bool, bool, bool)]) {
+    for (line, first, in_1, in_2) in lines {
+        assert_eq!(rt; has(alloc, Version::Unsaid, line), *first, "{line:?}");
+        assert_eq!(rt; has(alloc, Version::First, line), *in_1, "{line:?}");
+        assert_eq!(rt; has(alloc, Version::Second, line), *in_2, "{line:?}");
+    }
+}
+
 #[test]
 fn versions_have_lines_of_their_own(rt: HostRuntime) {
-    for (line, first, in_1, in_2) in VERSIONS {
-        assert_eq!(rt; has(rt.alloc(), Version::Unsaid, line), first, "{line:?}");
-        assert_eq!(rt; has(rt.alloc(), Version::First, line), in_1, "{line:?}");
-        assert_eq!(rt; has(rt.alloc(), Version::Second, line), in_2, "{line:?}");
-    }
+    have(&rt, rt.alloc(), &VERSIONS);
 }

@@ -45,20 +45,37 @@ impl Write for Small {
 
 /// How many bytes were read or written, or the kind of the error.
 fn kind_or_count(answer: io::Result<usize>) -> Result<usize, ErrorKind> {
-    answer.map_err(|error| error.kind())
+    match answer {
+        Ok(count) => Ok(count),
+        Err(error) => Err(error.kind()),
+    }
+}
+
+/// Reads once, and says how many bytes. A test looks at that and no further, so this promises nothing.
+fn read<R: Read>(input: &mut Watched<R>, buf: &mut [u8]) -> Result<usize, ErrorKind> {
+    kind_or_count(input.read(buf))
+}
+
+/// Writes once, and says how many bytes.
+fn write<W: Write>(output: &mut Watched<W>, bytes: &[u8]) -> Result<usize, ErrorKind> {
+    kind_or_count(output.write(bytes))
+}
+
+/// Flushes once, and says whether that was done.
+fn flushes<W: Write>(output: &mut Watched<W>) -> bool {
+    output.flush().is_ok()
 }
 
 #[test]
 fn a_read_is_handed_on(rt: HostRuntime) {
     let mut input = Watched::new(b"abc".as_slice());
     let mut buf = [0; 2];
-    assert_eq!(rt; kind_or_count(input.read(&mut buf)), Ok(2));
+    assert_eq!(rt; read(&mut input, &mut buf), Ok(2));
     assert_eq!(rt; buf.as_slice(), b"ab".as_slice());
     assert_eq!(rt; *input.inner(), b"c".as_slice());
     assert!(rt; !input.failed());
     let mut broken = Watched::new(Broken);
-    let answer = kind_or_count(broken.read(&mut buf));
-    assert_eq!(rt; answer, Err(ErrorKind::BrokenPipe));
+    assert_eq!(rt; read(&mut broken, &mut buf), Err(ErrorKind::BrokenPipe));
     assert!(rt; broken.failed());
 }
 
@@ -69,13 +86,12 @@ fn a_write_is_handed_on(rt: HostRuntime) {
         left: 2,
         flushed: false,
     });
-    assert_eq!(rt; kind_or_count(output.write(b"abc".as_slice())), Ok(2));
+    assert_eq!(rt; write(&mut output, b"abc"), Ok(2));
     assert!(rt; !output.failed());
-    assert_eq!(rt; kind_or_count(output.write(b"c".as_slice())), Ok(0));
+    assert_eq!(rt; write(&mut output, b"c"), Ok(0));
     assert!(rt; output.failed());
     let mut broken = Watched::new(Broken);
-    let answer = kind_or_count(broken.write(b"abc".as_slice()));
-    assert_eq!(rt; answer, Err(ErrorKind::BrokenPipe));
+    assert_eq!(rt; write(&mut broken, b"abc"), Err(ErrorKind::BrokenPipe));
     assert!(rt; broken.failed());
 }
 
@@ -86,13 +102,13 @@ fn a_flush_is_handed_on(rt: HostRuntime) {
         left: 0,
         flushed: false,
     });
-    assert!(rt; output.flush().is_ok());
+    assert!(rt; flushes(&mut output));
     assert!(rt; output.inner().flushed);
     assert!(rt; !output.failed());
-    assert_eq!(rt; kind_or_count(output.write(b"abc".as_slice())), Ok(0));
-    assert!(rt; output.flush().is_ok());
+    assert_eq!(rt; write(&mut output, b"abc"), Ok(0));
+    assert!(rt; flushes(&mut output));
     assert!(rt; output.failed());
     let mut broken = Watched::new(Broken);
-    assert!(rt; broken.flush().is_err());
+    assert!(rt; !flushes(&mut broken));
     assert!(rt; broken.failed());
 }

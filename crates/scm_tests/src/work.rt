@@ -3,14 +3,24 @@ use af_base::events::{Event, SockType, Step};
 use af_base::items::Items;
 use af_base::names::{Fd, Pid};
 use scm_work::{event_of_word, make_script};
-use std::alloc::AllocGlobal;
+use std::alloc::{AllocError, AllocGlobal};
 use std::process::Abort;
 use std::test::Fail;
 
-/// The word is this step of worker 2 of 4.
-fn stands_for<T: Abort + AllocGlobal>(rt: &T, word: u64, wanted: Step) -> Result<(), Fail> {
-    let found = event_of_word(rt.alloc(), 2, 4, word)?;
-    assert_eq!(rt; found, Event::Proc(Pid(2), wanted), "at word {word}");
+/// Whether the event is this step of this process.
+fn is_step(event: &Event, pid: u32, wanted: &Step) -> bool {
+    match event {
+        Event::Proc(Pid(found), step) => *found == pid && step == wanted,
+        _ => false,
+    }
+}
+
+/// These words are these steps of worker 2 of 4.
+fn stand_for<T: Abort + AllocGlobal>(rt: &T, words: &[(u64, Step)]) -> Result<(), AllocError> {
+    for (word, wanted) in words {
+        let found = event_of_word(rt.alloc(), 2, 4, *word)?;
+        assert!(rt; is_step(&found, 2, wanted), "word {word} is {found:?}");
+    }
     Ok(())
 }
 
@@ -35,54 +45,86 @@ fn connect<T: AllocGlobal>(rt: &T, on: u32, name: &[u8]) -> Result<Step, Fail> {
     })
 }
 
-/// A receive of 16 bytes and 4 descriptors at most.
-fn receive(on: u32) -> Step {
-    Step::Recv {
-        on: Fd(on),
-        max_bytes: 16,
-        max_fds: 4,
-    }
-}
+/// Words, with the steps that they stand for.
+const WORDS: [(u64, Step); 9] = [
+    (0, Step::Open),
+    (2, Step::Dup(Fd(0))),
+    (1_284, Step::Dup2(Fd(5), Fd(0))),
+    (9, Step::Fork),
+    ((1 << 40) + 9, Step::Close(Fd(4))),
+    (10, Step::Pair(SockType::Stream)),
+    ((1 << 40) + 12, Step::Socket(SockType::Seqpacket)),
+    (
+        31,
+        Step::Recv {
+            on: Fd(0),
+            max_bytes: 16,
+            max_fds: 4,
+        },
+    ),
+    (
+        u64::MAX,
+        Step::Recv {
+            on: Fd(3),
+            max_bytes: 16,
+            max_fds: 4,
+        },
+    ),
+];
 
 #[test]
 fn worked_words(rt: HostRuntime) -> Result<(), Fail> {
-    stands_for(&rt, 0, Step::Open)?;
-    stands_for(&rt, 2, Step::Dup(Fd(0)))?;
-    stands_for(&rt, 1_284, Step::Dup2(Fd(5), Fd(0)))?;
-    stands_for(&rt, 9, Step::Fork)?;
-    stands_for(&rt, (1 << 40) + 9, Step::Close(Fd(4)))?;
-    stands_for(&rt, 10, Step::Pair(SockType::Stream))?;
-    stands_for(&rt, (1 << 40) + 12, Step::Socket(SockType::Seqpacket))?;
-    stands_for(&rt, (1 << 33) + 13, connect(&rt, 8, b"w3")?)?;
-    stands_for(&rt, (1 << 42) + 18, send(&rt, 4, 5, &[Fd(4), Fd(4)])?)?;
-    stands_for(&rt, 31, receive(0))?;
-    stands_for(&rt, u64::MAX, receive(3))
+    stand_for(&rt, &WORDS)?;
+    let connect = connect(&rt, 8, b"w3")?;
+    let send = send(&rt, 4, 5, &[Fd(4), Fd(4)])?;
+    stand_for(&rt, &[((1 << 33) + 13, connect), ((1 << 42) + 18, send)])?;
+    Ok(())
 }
 
-/// The script has this event of the worker at this place.
-fn has(rt: &impl Abort, script: &[Event], place: usize, worker: u32, wanted: Step) {
-    assert_eq!(rt;
-        script.get(place),
-        Some(&Event::Proc(Pid(worker), wanted)),
-        "at {place}"
-    );
+/// Places of a script, with the steps there.
+const DRAWN: [(usize, Step); 9] = [
+    (0, Step::Socket(SockType::Stream)),
+    (
+        4,
+        Step::Recv {
+            on: Fd(1),
+            max_bytes: 16,
+            max_fds: 4,
+        },
+    ),
+    (5, Step::Accept(Fd(1))),
+    (6, Step::Accept(Fd(0))),
+    (7, Step::Close(Fd(3))),
+    (8, Step::Socket(SockType::Seqpacket)),
+    (9, Step::Open),
+    (
+        10,
+        Step::Recv {
+            on: Fd(5),
+            max_bytes: 16,
+            max_fds: 4,
+        },
+    ),
+    (12, Step::Exit),
+];
+
+/// The script has these steps of worker 3 at these places.
+fn has(rt: &impl Abort, script: &[Event], steps: &[(usize, Step)]) {
+    for (place, wanted) in steps {
+        let is_so = script
+            .get(*place)
+            .is_some_and(|event| is_step(event, 3, wanted));
+        assert!(rt; is_so, "at {place}");
+    }
 }
 
 /// The words were drawn by another program, from the reference code of the generator.
 #[test]
 fn drawn_script(rt: HostRuntime) -> Result<(), Fail> {
     let script = make_script(rt.alloc(), 3, 4, 13, 7)?;
-    has(&rt, &script, 0, 3, Step::Socket(SockType::Stream));
-    has(&rt, &script, 4, 3, receive(1));
-    has(&rt, &script, 5, 3, Step::Accept(Fd(1)));
-    has(&rt, &script, 6, 3, Step::Accept(Fd(0)));
-    has(&rt, &script, 7, 3, Step::Close(Fd(3)));
-    has(&rt, &script, 8, 3, Step::Socket(SockType::Seqpacket));
-    has(&rt, &script, 9, 3, Step::Open);
-    has(&rt, &script, 10, 3, receive(5));
-    has(&rt, &script, 11, 3, send(&rt, 1, 3, &[Fd(10)])?);
-    has(&rt, &script, 12, 3, Step::Exit);
     assert_eq!(rt; script.len(), 13);
+    has(&rt, &script, &DRAWN);
+    has(&rt, &script, &[(11, send(&rt, 1, 3, &[Fd(10)])?)]);
     Ok(())
 }
 

@@ -1,11 +1,11 @@
-//! The program over memory.
+//! The program over memory, and over streams that fail.
 use scm_command::program::program;
 use scm_watched::Watched;
-use std::alloc::{AllocError, AllocGlobal};
+use std::alloc::AllocGlobal;
 use std::io;
 use std::io::{ErrorKind, Read, Write};
+use std::process::Abort;
 use std::sync::Wait;
-use std::test::Fail;
 use std::thread::Threads;
 
 /// A reader whose every call fails.
@@ -40,111 +40,89 @@ pub struct Answer {
     pub errors: Vec<u8>,
 }
 
-/// Runs the program with these words on this input.
+/// Runs the program with these words over these streams, and answers its exit status. A test looks
+/// at what that left and no further, so this promises nothing.
+fn run_over<H: Threads + Wait + Sync + AllocGlobal, R: Read, W: Write>(
+    rt: &H,
+    words: &[&str],
+    input: &mut R,
+    output: &mut W,
+    errors: &mut Vec<u8>,
+) -> u8 {
+    let mut input = Watched::new(input);
+    let mut output = Watched::new(output);
+    program(rt, rt.alloc(), words, &mut input, &mut output, errors)
+}
+
+/// Runs the program with these words on this script.
 pub fn run<H: Threads + Wait + Sync + AllocGlobal>(
     rt: &H,
     words: &[&str],
     script: &[u8],
-) -> Result<Answer, AllocError> {
-    let alloc = rt.alloc();
-    let mut input = Watched::new(script);
-    let mut output = Watched::new(Vec::new(alloc));
-    let mut errors = Vec::new(alloc);
-    let status = program(rt, alloc, words, &mut input, &mut output, &mut errors);
-    Ok(Answer {
+) -> Answer {
+    let mut input = script;
+    let mut output = Vec::new(rt.alloc());
+    let mut errors = Vec::new(rt.alloc());
+    let status = run_over(rt, words, &mut input, &mut output, &mut errors);
+    Answer {
         status,
-        output: output.inner().as_slice().to_vec(alloc)?,
+        output,
         errors,
-    })
-}
-
-/// Whether these bytes stand somewhere in the text.
-fn has(text: &[u8], bytes: &[u8]) -> bool {
-    for at in 0..text.len() {
-        if text[at..].starts_with(bytes) {
-            return true;
-        }
     }
-    false
 }
 
-/// One line, and so one reply.
-const SCRIPT: &[u8] = b"spawn 1000 16\n";
+/// The program has this status, and writes these texts.
+pub fn answers<H: Threads + Wait + Sync + AllocGlobal + Abort>(
+    rt: &H,
+    words: &[&str],
+    script: &[u8],
+    wanted: (u8, &str, &str),
+) {
+    let (status, output, errors) = wanted;
+    let found = run(rt, words, script);
+    assert_eq!(rt; found.status, status, "{words:?} on {script:?}");
+    assert!(rt;
+        found.output.as_slice() == output.as_bytes(),
+        "{words:?} on {script:?}"
+    );
+    assert!(rt;
+        found.errors.as_slice() == errors.as_bytes(),
+        "{words:?} on {script:?}"
+    );
+}
+
+/// The words of a run of a script.
+const RUN: [&str; 2] = ["scmgc", "run"];
 
 #[test]
-fn reads_a_script_cut_anywhere(rt: HostRuntime) -> Result<(), Fail> {
+fn reads_a_script_cut_anywhere(rt: HostRuntime) {
     let script = b"spawn 1000 16\n1 pai".as_slice();
     for cut in 0..=script.len() {
-        let all = run(&rt, ["scmgc", "run"].as_slice(), &script[..cut])?;
-        let (status, output, errors) = match cut {
+        let wanted = match cut {
             0 => (0, "", ""),
             1..=11 => (2, "", "scmgc: line 1 cannot be read\n"),
             12..=14 => (0, "pid 1\n", ""),
             _ => (2, "pid 1\n", "scmgc: line 2 cannot be read\n"),
         };
-        assert_eq!(rt; all.status, status, "after {cut} bytes");
-        assert_eq!(rt; all.output.as_slice(), output.as_bytes());
-        assert_eq!(rt; all.errors.as_slice(), errors.as_bytes());
+        answers(&rt, &RUN, &script[..cut], wanted);
     }
-    Ok(())
 }
 
 #[test]
-fn a_failed_read_has_status_1(rt: HostRuntime) -> Result<(), Fail> {
-    let mut input = Watched::new(FailingReader);
-    let mut output = Watched::new(Vec::new(rt.alloc()));
+fn a_failed_read_has_status_1(rt: HostRuntime) {
+    let mut output = Vec::new(rt.alloc());
     let mut errors = Vec::new(rt.alloc());
-    let words = ["scmgc", "run"].as_slice();
-    let status = program(&rt, rt.alloc(), words, &mut input, &mut output, &mut errors);
+    let status = run_over(&rt, &RUN, &mut FailingReader, &mut output, &mut errors);
     assert_eq!(rt; status, 1);
-    assert_eq!(rt; output.inner().as_slice(), b"".as_slice());
+    assert!(rt; output.is_empty());
     assert_eq!(rt; errors.as_slice(), b"scmgc: reading failed\n".as_slice());
-    Ok(())
 }
 
 #[test]
-fn a_failed_write_has_status_1(rt: HostRuntime) -> Result<(), Fail> {
-    let mut input = Watched::new(SCRIPT);
-    let mut output = Watched::new(FullWriter);
+fn a_failed_write_has_status_1(rt: HostRuntime) {
+    let mut script = b"spawn 1000 16\n".as_slice();
     let mut errors = Vec::new(rt.alloc());
-    let words = ["scmgc", "run"].as_slice();
-    let status = program(&rt, rt.alloc(), words, &mut input, &mut output, &mut errors);
+    let status = run_over(&rt, &RUN, &mut script, &mut FullWriter, &mut errors);
     assert_eq!(rt; status, 1);
     assert_eq!(rt; errors.as_slice(), b"scmgc: writing failed\n".as_slice());
-    Ok(())
-}
-
-#[test]
-fn refuses_other_words(rt: HostRuntime) -> Result<(), Fail> {
-    for words in [
-        ["scmgc", "walk"].as_slice(),
-        ["scmgc"].as_slice(),
-        ["scmgc", "run", "fast"].as_slice(),
-        ["scmgc", "--help"].as_slice(),
-        ["scmgc", "--version"].as_slice(),
-        ["scmgc", "run", "--help"].as_slice(),
-        ["scmgc", "race", "--help"].as_slice(),
-    ] {
-        let all = run(&rt, words, SCRIPT)?;
-        assert_eq!(rt; all.status, 2, "{words:?}");
-        assert_eq!(rt; all.output.as_slice(), b"".as_slice());
-        assert!(rt; !all.errors.is_empty());
-    }
-    Ok(())
-}
-
-#[test]
-fn tells_of_scripts_of_version_2(rt: HostRuntime) -> Result<(), Fail> {
-    let all = run(&rt, ["scmgc", "run", "--help"].as_slice(), SCRIPT)?;
-    for said in ["version 2", "P peek N N N", "P limit N"] {
-        assert!(rt; has(all.errors.as_slice(), said.as_bytes()), "{said}");
-    }
-    Ok(())
-}
-
-#[test]
-fn tells_its_version(rt: HostRuntime) -> Result<(), Fail> {
-    let all = run(&rt, ["scmgc", "--version"].as_slice(), SCRIPT)?;
-    assert_eq!(rt; all.errors.as_slice(), b"scmgc 0.1.0\n".as_slice());
-    Ok(())
 }

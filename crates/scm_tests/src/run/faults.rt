@@ -2,13 +2,18 @@
 use super::cuts::{REPLIES, SCRIPT, first_lines};
 use super::streams::{AMPLE, Pace, PacedWriter, run_over, run_to};
 use scm_run::RunFault;
-use std::alloc::AllocGlobal;
+use std::alloc::{AllocError, AllocGlobal, Global};
 use std::process::Abort;
 use std::test::Fail;
 
 /// The replies to the whole lines among the first bytes of the script.
 fn replies_to(front: &[u8]) -> &'static [u8] {
-    let lines = front.iter().filter(|byte| **byte == b'\n').count();
+    let mut lines: usize = 0;
+    for byte in front {
+        if *byte == b'\n' {
+            lines = lines.saturating_add(1);
+        }
+    }
     first_lines(REPLIES, lines)
 }
 
@@ -41,22 +46,34 @@ fn ends_well<T: Abort + AllocGlobal>(rt: &T, reading: Pace, writing: Pace) {
     assert_eq!(rt; run_over(rt, SCRIPT, REPLIES, reading, writing), Ok(6));
 }
 
+/// How many bytes a call a reader gives, after how many calls it fails, and what was written then.
+static READS: [(usize, usize, &[u8]); 5] = [
+    (31, 0, b""),
+    (31, 1, b"pid 1\nfds 0 1\n"),
+    (31, 2, b"pid 1\nfds 0 1\nsent 2\nok\nuser 1000 inflight 1\n"),
+    (45, 1, b"pid 1\nfds 0 1\nsent 2\n"),
+    (97, 1, REPLIES),
+];
+
 /// What ends in the bytes that were read was answered when the next read fails.
 #[test]
 fn reads_that_fail(rt: HostRuntime) {
     for calls in 0..=SCRIPT.len() {
         fails_to_read(&rt, pace(1, calls), replies_to(&SCRIPT[..calls]));
     }
-    fails_to_read(&rt, pace(31, 0), b"");
-    fails_to_read(&rt, pace(31, 1), b"pid 1\nfds 0 1\n");
-    fails_to_read(
-        &rt,
-        pace(31, 2),
-        b"pid 1\nfds 0 1\nsent 2\nok\nuser 1000 inflight 1\n",
-    );
-    fails_to_read(&rt, pace(45, 1), b"pid 1\nfds 0 1\nsent 2\n");
-    fails_to_read(&rt, pace(97, 1), REPLIES);
+    for (at_once, calls, held) in READS {
+        fails_to_read(&rt, pace(at_once, calls), held);
+    }
 }
+
+/// How many bytes a call a writer takes, after how many calls it fails, and what it took.
+static WRITES: [(usize, usize, &[u8]); 5] = [
+    (0, 10, b""),
+    (10, 0, b""),
+    (10, 1, b"pid 1\nfds "),
+    (10, 2, b"pid 1\nfds 0 1\nsent 2"),
+    (10, 4, b"pid 1\nfds 0 1\nsent 2\nok\nuser 1000 inflig"),
+];
 
 /// Where ten bytes a call are taken, a line is cut, and those after it were done.
 #[test]
@@ -64,11 +81,9 @@ fn writes_that_fail(rt: HostRuntime) {
     for calls in 0..REPLIES.len() {
         fails_to_write(&rt, pace(1, calls), &REPLIES[..calls]);
     }
-    fails_to_write(&rt, pace(0, 10), b"");
-    fails_to_write(&rt, pace(10, 0), b"");
-    fails_to_write(&rt, pace(10, 1), b"pid 1\nfds ");
-    fails_to_write(&rt, pace(10, 2), b"pid 1\nfds 0 1\nsent 2");
-    fails_to_write(&rt, pace(10, 4), &REPLIES[..40]);
+    for (at_once, calls, held) in WRITES {
+        fails_to_write(&rt, pace(at_once, calls), held);
+    }
 }
 
 /// What is gathered is written before a bad line is told: where that fails, this is told.
@@ -89,19 +104,24 @@ fn little_and_much_at_once(rt: HostRuntime) {
     ends_well(&rt, AMPLE, pace(usize::MAX, 1));
 }
 
-/// 100 messages of 10,000 bytes are received in one read: 1 MB of text, in no more than 17 writes.
-/// Where the first of them fails there is no second.
-#[test]
-fn writes_each_64_kb(rt: HostRuntime) -> Result<(), Fail> {
-    let mut script = b"spawn 1000 16\n1 pair seqpacket\n".to_vec(rt.alloc())?;
-    let mut texts = b"pid 1\nfds 0 1\n".to_vec(rt.alloc())?;
-    let bytes = vec![in rt.alloc(); b'x'; 10_000]?;
+/// 100 messages of 10,000 bytes that are sent and received, and what is written of them: 1 MB.
+fn much_text(alloc: Global) -> Result<(Vec<u8>, Vec<u8>), AllocError> {
+    let mut script = b"spawn 1000 16\n1 pair seqpacket\n".to_vec(alloc)?;
+    let mut texts = b"pid 1\nfds 0 1\n".to_vec(alloc)?;
     for _ in 0..100 {
         script.extend_from_slice(b"1 send 1 *10000\n1 recv 0 10000 0\n")?;
         texts.extend_from_slice(b"sent 10000\ngot ")?;
-        texts.extend_from_slice(bytes.as_slice())?;
+        texts.extend_from_slice(&[b'x'; 10_000])?;
         texts.push(b'\n')?;
     }
+    Ok((script, texts))
+}
+
+/// What is read at once is written in no more than 17 writes. Where the first of them fails there is
+/// no second.
+#[test]
+fn writes_each_64_kb(rt: HostRuntime) -> Result<(), Fail> {
+    let (script, texts) = much_text(rt.alloc())?;
     let writing = pace(usize::MAX, 17);
     let done = run_over(&rt, script.as_slice(), texts.as_slice(), AMPLE, writing);
     assert_eq!(rt; done, Ok(202));

@@ -18,14 +18,22 @@ fn after_a_long_line<T: Abort + AllocGlobal>(
     Ok(())
 }
 
+/// What may stand behind a line as long as a line may be, and how a run of both ends.
+const ENDINGS: [(&[u8], Result<u64, RunFault>); 6] = [
+    (b"", Ok(0)),
+    (b"\n", Ok(0)),
+    (b"\r\n", Ok(0)),
+    (b" ", Err(RunFault::Unreadable(1))),
+    (b" \r\n", Err(RunFault::Unreadable(1))),
+    (b"\r \n", Err(RunFault::Unreadable(1))),
+];
+
 #[test]
 fn the_longest_line(rt: HostRuntime) -> Result<(), Fail> {
-    after_a_long_line(&rt, b"", Ok(0))?;
-    after_a_long_line(&rt, b"\n", Ok(0))?;
-    after_a_long_line(&rt, b"\r\n", Ok(0))?;
-    after_a_long_line(&rt, b" ", Err(RunFault::Unreadable(1)))?;
-    after_a_long_line(&rt, b" \r\n", Err(RunFault::Unreadable(1)))?;
-    after_a_long_line(&rt, b"\r \n", Err(RunFault::Unreadable(1)))
+    for (ending, end) in ENDINGS {
+        after_a_long_line(&rt, ending, end)?;
+    }
+    Ok(())
 }
 
 /// A line that is too long is refused before it is read whole.

@@ -1,7 +1,9 @@
 //! Readers and writers that do little at a time, and fail; and runs over them.
+ghost use Rattle.std.specs.Prelude.{◌≡◌, false};
+
 use scm_run::{RunFault, run_script};
 use scm_watched::Watched;
-use std::alloc::AllocGlobal;
+use std::alloc::{AllocGlobal, Global};
 use std::io;
 use std::io::{ErrorKind, Read, Write};
 use std::process::Abort;
@@ -71,6 +73,19 @@ impl Write for PacedWriter {
     }
 }
 
+/// Runs a script to its end or to its fault. A test looks at what that left and no further, so this
+/// promises nothing.
+pub fn run_all<R: Read, W: Write>(
+    alloc: Global,
+    input: &mut Watched<R>,
+    output: &mut Watched<W>,
+) -> Result<u64, RunFault>
+    requires input { input.old.has_failed ≡ false }
+    requires output { output.old.has_failed ≡ false }
+{
+    run_script(alloc, input, output)
+}
+
 /// Runs the script over a reader of this pace and this writer. It writes this, and just the stream
 /// that ended the run is one that failed.
 pub fn run_to<T: Abort + AllocGlobal>(
@@ -85,7 +100,7 @@ pub fn run_to<T: Abort + AllocGlobal>(
         pace: reading,
     });
     let mut output = Watched::new(writer);
-    let end = run_script(rt.alloc(), &mut input, &mut output);
+    let end = run_all(rt.alloc(), &mut input, &mut output);
     assert!(rt; output.inner().held.as_slice() == texts);
     assert_eq!(rt; input.failed(), end == Err(RunFault::Read));
     assert_eq!(rt; output.failed(), end == Err(RunFault::Write));

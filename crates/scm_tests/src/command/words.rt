@@ -1,0 +1,115 @@
+//! Command lines.
+use super::programs::{answers, run};
+use std::alloc::{AllocError, AllocGlobal, Global};
+use std::process::Abort;
+use std::sync::Wait;
+use std::test::Fail;
+use std::thread::Threads;
+
+/// Command lines that are refused, calls for help among them.
+static OTHER_WORDS: [&str; 7] = [
+    "scmgc walk",
+    "scmgc",
+    "scmgc run fast",
+    "scmgc --help",
+    "scmgc --version",
+    "scmgc run --help",
+    "scmgc race --help",
+];
+
+/// Races of which a number is out of range, or none.
+static OUT_OF_RANGE: [&str; 10] = [
+    "scmgc race --workers 33 --steps 5 --seed 0 --budget 1",
+    "scmgc race --workers 0 --steps 5 --seed 0 --budget 1",
+    "scmgc race --workers 1 --steps 4 --seed 0 --budget 1",
+    "scmgc race --workers 1 --steps 20001 --seed 0 --budget 1",
+    "scmgc race --workers 1 --steps 5 --seed 4294967296 --budget 1",
+    "scmgc race --workers 1 --steps 5 --seed -1 --budget 1",
+    "scmgc race --workers 1 --steps 5 --seed 0 --budget 0",
+    "scmgc race --workers 1 --steps 5 --seed 0 --budget 65537",
+    "scmgc race --workers one --steps 5 --seed 0 --budget 1",
+    "scmgc race --workers 1 --steps  --seed 0 --budget 1",
+];
+
+/// Races of which an option is left out.
+static LEFT_OUT: [&str; 4] = [
+    "scmgc race --steps 5 --seed 0 --budget 1",
+    "scmgc race --workers 1 --seed 0 --budget 1",
+    "scmgc race --workers 1 --steps 5 --budget 1",
+    "scmgc race --workers 1 --steps 5 --seed 0",
+];
+
+/// Races of which an option is given twice.
+static TWICE: [&str; 4] = [
+    "scmgc race --workers 1 --steps 5 --seed 0 --budget 1 --workers 1",
+    "scmgc race --workers 1 --steps 5 --seed 0 --budget 1 --steps 5",
+    "scmgc race --workers 1 --steps 5 --seed 0 --budget 1 --seed 0",
+    "scmgc race --workers 1 --steps 5 --seed 0 --budget 1 --budget 1",
+];
+
+/// The words of a command line, with one blank between them; two blanks have an empty word between
+/// them.
+pub fn words_of(alloc: Global, line: &str) -> Result<Vec<&str>, AllocError> {
+    let mut words = Vec::new(alloc);
+    for word in line.split(' ') {
+        words.push(word)?;
+    }
+    Ok(words)
+}
+
+/// Each of these command lines is refused: all that is written is a complaint.
+fn are_refused<H: Threads + Wait + Sync + AllocGlobal + Abort>(
+    rt: &H,
+    lines: &[&str],
+) -> Result<(), AllocError> {
+    for line in lines {
+        let words = words_of(rt.alloc(), line)?;
+        let found = run(rt, words.as_slice(), b"spawn 1000 16\n");
+        assert_eq!(rt; found.status, 2, "{line}");
+        assert!(rt; found.output.is_empty(), "{line}");
+        assert!(rt; !found.errors.is_empty(), "{line}");
+    }
+    Ok(())
+}
+
+#[test]
+fn refuses_other_words(rt: HostRuntime) -> Result<(), Fail> {
+    are_refused(&rt, &OTHER_WORDS)?;
+    Ok(())
+}
+
+#[test]
+fn numbers_out_of_range(rt: HostRuntime) -> Result<(), Fail> {
+    are_refused(&rt, &OUT_OF_RANGE)?;
+    Ok(())
+}
+
+#[test]
+fn each_option_is_wanted_once(rt: HostRuntime) -> Result<(), Fail> {
+    are_refused(&rt, &LEFT_OUT)?;
+    are_refused(&rt, &TWICE)?;
+    Ok(())
+}
+
+/// Whether these bytes stand somewhere in the text.
+fn has(text: &[u8], bytes: &[u8]) -> bool {
+    for at in 0..text.len() {
+        if text[at..].starts_with(bytes) {
+            return true;
+        }
+    }
+    false
+}
+
+#[test]
+fn tells_of_scripts_of_version_2(rt: HostRuntime) {
+    let found = run(&rt, &["scmgc", "run", "--help"], b"");
+    for said in ["version 2", "P peek N N N", "P limit N"] {
+        assert!(rt; has(found.errors.as_slice(), said.as_bytes()), "{said}");
+    }
+}
+
+#[test]
+fn tells_its_version(rt: HostRuntime) {
+    answers(&rt, &["scmgc", "--version"], b"", (2, "", "scmgc 0.1.0\n"));
+}
