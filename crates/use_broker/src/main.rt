@@ -51,23 +51,33 @@ fn deliver_all(
     worker: &End,
 ) -> io::Result<()> {
     for _ in 0..ROUNDS {
-        match request(engine, client.pid) {
-            Ok(fd) => match deliver(engine, client, fd, worker) {
-                Ok(got) => {
-                    println!(rt;
-                        "delivered: {} of client {} is {} of worker {}",
-                        fd, client.pid, got, worker.pid
-                    )?;
-                }
-                Err(fault) => println!(rt; "not delivered: {fault}")?,
-            },
-            Err(error) => println!(rt; "no request: {error}")?,
-        }
-        if let Some(finished) = reclaim(engine) {
-            println!(rt; "pass {} reclaimed {}", finished.pass, finished.reclaimed)?;
-        }
+        hand_over(rt, engine, client, worker)?;
+        collect(rt, engine)?;
     }
     Ok(())
+}
+
+/// Delivers what the client asks for, and prints what came of it.
+fn hand_over(rt: &HostRuntime, engine: &mut Engine, client: &End, worker: &End) -> io::Result<()> {
+    let fd = match request(engine, client.pid) {
+        Ok(fd) => fd,
+        Err(error) => return println!(rt; "no request: {error}"),
+    };
+    match deliver(engine, client, fd, worker) {
+        Ok(got) => println!(rt;
+            "delivered: {fd} of client {} is {got} of worker {}",
+            client.pid, worker.pid
+        ),
+        Err(fault) => println!(rt; "not delivered: {fault}"),
+    }
+}
+
+/// Lets the collector do its share, and prints a pass that is over.
+fn collect(rt: &HostRuntime, engine: &mut Engine) -> io::Result<()> {
+    match reclaim(engine) {
+        Some(finished) => println!(rt; "pass {} reclaimed {}", finished.pass, finished.reclaimed),
+        None => Ok(()),
+    }
 }
 
 /// A client opens a file, and is careless with a connection: it sends an end into its own queue, and
