@@ -19,11 +19,17 @@ pub extern "C" fn scm_engine_new(alloc: Global, engine: &mut Handle) -> i64
     let Ok(made) = Engine::new(alloc) else {
         return refusal(Errno::ENOMEM);
     };
-    let Ok(boxed) = Box::new(alloc, made) else {
-        return refusal(Errno::ENOMEM);
-    };
-    *engine = Handle::of(boxed);
-    0
+    match Box::new(alloc, made) {
+        Ok(boxed) => {
+            *engine = Handle::of(boxed);
+            0
+        }
+        Err(refused) => {
+            // Dropped by a call: at the end of the block each part would be dropped, and proved, by itself.
+            drop(refused);
+            refusal(Errno::ENOMEM)
+        }
+    }
 }
 
 /// Frees the engine, if there is one.
