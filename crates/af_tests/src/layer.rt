@@ -3,7 +3,6 @@
 mod audits;
 mod bench;
 mod books;
-mod calls;
 mod drives;
 mod gates;
 mod growths;

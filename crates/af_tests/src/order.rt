@@ -4,7 +4,8 @@ ghost use Rattle.std.specs.Prelude.{◌≡◌, ◌<◌, OnOk};
 
 use af_base::names::{FileRef, Ino};
 use af_order::Keyed;
-use std::alloc::AllocError;
+use std::alloc::{AllocError, Global};
+use std::process::Abort;
 use std::test::Fail;
 
 /// One more than how many values come.
@@ -52,19 +53,25 @@ fn most_go(values: &mut Keyed<u64>) {
     }
 }
 
+/// Most values go while others come, and most of the rest at the end: each number that 49 divides is
+/// left.
+fn thousands(rt: &impl Abort, values: &mut Keyed<u64>) -> Result<(), AllocError>
+    requires { values.old.last ≡ 0 }
+{
+    assert!(rt; come_and_go(values)? == 4_281);
+    most_go(values);
+    assert!(rt; values.len() == 102);
+    let next = values.next_after(Ino(49));
+    assert!(rt; next.is_some_and(|file| file.ino() == Ino(98)));
+    Ok(())
+}
+
 /// Under `rt try --test --fail-alloc N` the Nth allocation is refused: it is one of a reservation,
 /// which answers so, and none of a `push`, which could not.
 #[test]
 fn thousands_come_and_go(rt: HostRuntime) -> Result<(), Fail> {
     let mut values = Keyed::new(rt.alloc());
-    assert_eq!(rt; come_and_go(&mut values)?, 4_281);
-    most_go(&mut values);
-    assert_eq!(rt; values.len(), 102);
-    assert_eq!(rt;
-        values.next_after(Ino(49)).map(|file| file.ino()),
-        Some(Ino(98))
-    );
-    Ok(())
+    Ok(thousands(&rt, &mut values)?)
 }
 
 /// Values come while there is room, and no more is made. Each goes once so many came after it. How
@@ -82,13 +89,18 @@ fn come_while_there_is_room(values: &mut Keyed<u64>, stay: u64) -> u64
     MANY - 1
 }
 
+/// How many of these come where there is room for so many at first.
+fn come_into(alloc: Global, room: usize, stay: u64) -> Result<u64, AllocError> {
+    let mut values = Keyed::new(alloc);
+    values.reserve(room)?;
+    Ok(come_while_there_is_room(&mut values, stay))
+}
+
 /// There is room for a thousand, and many more come, a few of them at once: the rows of those that
 /// went are packed, or there would be none left.
 #[test]
 fn rows_are_packed(rt: HostRuntime) -> Result<(), Fail> {
-    let mut values = Keyed::new(rt.alloc());
-    values.reserve(1_000)?;
-    assert_eq!(rt; come_while_there_is_room(&mut values, 5), 4_999);
+    assert!(rt; come_into(rt.alloc(), 1_000, 5)? == 4_999);
     Ok(())
 }
 
@@ -96,8 +108,6 @@ fn rows_are_packed(rt: HostRuntime) -> Result<(), Fail> {
 /// at a time.
 #[test]
 fn the_newest_leaves_nothing(rt: HostRuntime) -> Result<(), Fail> {
-    let mut values = Keyed::new(rt.alloc());
-    values.reserve(1)?;
-    assert_eq!(rt; come_while_there_is_room(&mut values, 0), 4_999);
+    assert!(rt; come_into(rt.alloc(), 1, 0)? == 4_999);
     Ok(())
 }

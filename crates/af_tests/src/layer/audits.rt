@@ -1,13 +1,17 @@
 //! What an audit finds.
-use super::bench::{spawn_from, spawn_from_each};
-use af_layer::{CloseError, CloseFault, Closed, Layer, Seat};
+use super::bench::{Outcome, end, spawn_from};
+use af_layer::{CloseFault, Layer, Seat};
 use std::sync::Wait;
 use std::test::Fail;
 
-/// The fault, and how many entries and seats are handed back with it.
-fn found(closed: Result<Closed, CloseError>) -> Option<(CloseFault, usize, usize)> {
-    let error = closed.err()?;
-    Some((error.fault, error.book.log().len(), error.seats.len()))
+/// A process starts from each seat.
+fn spawn_from_each<R: Wait>(rt: &R, layer: &Layer, seats: &mut [Seat]) -> bool {
+    for seat in seats {
+        if !spawn_from(rt, layer, seat, 1) {
+            return false;
+        }
+    }
+    true
 }
 
 /// A process starts from each seat, but the second seat asks the other layer, where its process is
@@ -39,10 +43,12 @@ fn audit_finds_a_changed_answer(rt: HostRuntime) -> Result<(), Fail> {
         doubles.as_mut_slice(),
     );
     assert!(rt; changed);
-    assert_eq!(rt;
-        found(layer.close(seats)),
-        Some((CloseFault::Audit(2), 2, 2))
-    );
+    let found = Outcome {
+        fault: Some(CloseFault::Audit(2)),
+        entries: 2,
+        seats: 2,
+    };
+    assert_eq!(rt; end(layer, seats), found);
     Ok(())
 }
 
@@ -52,10 +58,12 @@ fn audit_finds_a_missing_seat(rt: HostRuntime) -> Result<(), Fail> {
     let called = spawn_from_each(&rt, &layer, seats.as_mut_slice());
     assert!(rt; called);
     seats.pop();
-    assert_eq!(rt;
-        found(layer.close(seats)),
-        Some((CloseFault::Missing(2), 2, 1))
-    );
+    let found = Outcome {
+        fault: Some(CloseFault::Missing(2)),
+        entries: 2,
+        seats: 1,
+    };
+    assert_eq!(rt; end(layer, seats), found);
     Ok(())
 }
 
@@ -66,9 +74,11 @@ fn audit_finds_a_double(rt: HostRuntime) -> Result<(), Fail> {
     if let Some(double) = others.pop() {
         seats.push(double)?;
     }
-    assert_eq!(rt;
-        found(layer.close(seats)),
-        Some((CloseFault::Stranger(2), 0, 3))
-    );
+    let found = Outcome {
+        fault: Some(CloseFault::Stranger(2)),
+        entries: 0,
+        seats: 3,
+    };
+    assert_eq!(rt; end(layer, seats), found);
     Ok(())
 }

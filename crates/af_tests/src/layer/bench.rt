@@ -1,8 +1,9 @@
-//! Events and scripts, a gate that is always open, and calls from seats that are lent.
+//! Events and scripts, a gate that is always open, calls from seats that are lent, and what becomes of
+//! a layer.
 use af_base::events::{Event, SockType, Step};
 use af_base::items::Items;
 use af_base::names::{Fd, Pid, Uid};
-use af_layer::{Gate, Layer, Seat};
+use af_layer::{CloseError, CloseFault, Closed, Gate, Layer, Seat};
 use std::alloc::{AllocError, Global};
 use std::sync::Wait;
 
@@ -83,16 +84,6 @@ impl Gate for AlwaysOpen {
     fn after(&self, _seat: u32, _nth: u32) {}
 }
 
-/// A process starts from each seat. A test looks at what that left, so this promises nothing.
-pub fn spawn_from_each<R: Wait>(rt: &R, layer: &Layer, seats: &mut [Seat]) -> bool {
-    for seat in seats {
-        if layer.call(rt, seat, spawn()).is_err() {
-            return false;
-        }
-    }
-    true
-}
-
 /// So many processes start from this seat. A test looks at what that left, so this promises nothing.
 pub fn spawn_from<R: Wait>(rt: &R, layer: &Layer, seat: &mut Seat, processes: u32) -> bool {
     for _ in 0..processes {
@@ -101,4 +92,42 @@ pub fn spawn_from<R: Wait>(rt: &R, layer: &Layer, seat: &mut Seat, processes: u3
         }
     }
     true
+}
+
+/// What became of a layer.
+#[derive(Clone, Copy, Debug, PartialEq, Eq)]
+pub struct Outcome {
+    /// What the audit found, if anything.
+    pub fault: Option<CloseFault>,
+    /// How many entries the log has.
+    pub entries: usize,
+    /// How many seats are handed back, which is none where the audit ended well.
+    pub seats: usize,
+}
+
+/// The layer is closed. A test looks at what came of it, so this promises nothing.
+fn close(layer: Layer, seats: Vec<Seat>) -> Result<Closed, CloseError> {
+    layer.close(seats)
+}
+
+/// What became of a layer that was closed.
+fn outcome_of(closed: &Result<Closed, CloseError>) -> Outcome {
+    match closed {
+        Ok(closed) => Outcome {
+            fault: None,
+            entries: closed.book.log().len(),
+            seats: 0,
+        },
+        Err(error) => Outcome {
+            fault: Some(error.fault),
+            entries: error.book.log().len(),
+            seats: error.seats.len(),
+        },
+    }
+}
+
+/// What becomes of the layer when these seats are handed in.
+pub fn end(layer: Layer, seats: Vec<Seat>) -> Outcome {
+    let closed = close(layer, seats);
+    outcome_of(&closed)
 }

@@ -1,11 +1,13 @@
-//! Calls on a book without a lock, one allocation refused, the Nth: `tools/stress` refuses each in
-//! turn.
+//! Calls on a book without a lock, and for a seat that it does not have. One allocation is refused, the
+//! Nth: `tools/stress` refuses each in turn.
+use super::bench::spawn;
 use super::growths::nth_event;
 use af_base::equality::events_equal;
 use af_base::errno::Errno;
 use af_base::events::{Event, Reply};
 use af_layer::{Book, CallError, Layer, Seat};
 use std::alloc::Global;
+use std::process::Abort;
 use std::test::Fail;
 
 /// What came of a call.
@@ -100,15 +102,29 @@ fn wants(alloc: Global, book: &mut Book, seat: &mut Seat) -> Option<u32> {
     Some(wants)
 }
 
-/// The seat is one of a layer that is let go.
+/// A seat of a layer that is let go.
+fn a_seat(alloc: Global) -> Option<Seat> {
+    let (_, mut seats) = Layer::open(alloc, 1).ok()?;
+    seats.pop()
+}
+
+/// Whether the book has no seat of this number, and logs no call of it.
+fn has_no_seat(book: &mut Book, seat: u32) -> bool {
+    book.call(seat, spawn()) == Err(CallError::NoSeat) && book.log().is_empty()
+}
+
+/// The book has two seats, from 1. Memory is wanted once at most; where there is no seat to call from,
+/// nothing is called.
+fn calls(rt: &impl Abort, alloc: Global, book: &mut Book) {
+    assert!(rt; has_no_seat(book, 0) && has_no_seat(book, 3));
+    if let Some(mut seat) = a_seat(alloc) {
+        assert!(rt; matches!(wants(alloc, book, &mut seat), Some(0 | 1)));
+    }
+}
+
 #[test]
 fn one_growth_refused(rt: HostRuntime) -> Result<(), Fail> {
     let mut book = Book::new(rt.alloc(), 2)?;
-    if let Ok((_, mut seats)) = Layer::open(rt.alloc(), 1)
-        && let Some(mut seat) = seats.pop()
-    {
-        let wants = wants(rt.alloc(), &mut book, &mut seat).ok_or("a call did otherwise")?;
-        assert!(rt; wants <= 1);
-    }
+    calls(&rt, rt.alloc(), &mut book);
     Ok(())
 }

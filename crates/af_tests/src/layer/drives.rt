@@ -1,7 +1,7 @@
-//! What a log has of the scripts of a drive.
-use super::bench::{AlwaysOpen, event_at, scripts, spawn_from};
+//! What seats and log have of the scripts of a drive.
+use super::bench::{AlwaysOpen, Outcome, end, event_at, scripts, spawn_from};
 use af_base::equality::events_equal;
-use af_layer::{Entry, Layer, Seat, Turns, drive};
+use af_layer::{Layer, Seat, Turns, drive};
 use std::alloc::{AllocError, Global};
 use std::sync::Wait;
 use std::test::Fail;
@@ -11,16 +11,16 @@ const WORKERS: u32 = 4;
 
 const STEPS: u32 = 500;
 
-/// What four workers leave, and a collector beside them: all seats. The last one lets the processes
-/// start.
+/// All seats behind four workers, and a collector beside them, where the lists keep the scripts. The
+/// last seat lets the processes start, and the drive leaves it alone.
 fn driven<R: Threads + Wait + Sync>(
     rt: &R,
     alloc: Global,
     layer: &Layer,
     mut seats: Vec<Seat>,
 ) -> Option<Vec<Seat>> {
-    let mut last = seats.pop()?;
-    if !spawn_from(rt, layer, &mut last, WORKERS) {
+    let last = seats.last_mut()?;
+    if !spawn_from(rt, layer, last, WORKERS) {
         return None;
     }
     let scripts = scripts(alloc, WORKERS, STEPS).ok()?;
@@ -28,41 +28,47 @@ fn driven<R: Threads + Wait + Sync>(
         turns: STEPS,
         budget: 8,
     };
-    let mut seats = drive(rt, layer, seats, scripts, Some(turns), &AlwaysOpen).ok()?;
-    seats.push(last).ok()?;
-    Some(seats)
+    let seats = drive(rt, layer, seats, scripts, Some(turns), &AlwaysOpen).ok()?;
+    if keep_the_scripts(alloc, &seats) {
+        Some(seats)
+    } else {
+        None
+    }
 }
 
 /// Whether the events of this seat are its script.
-fn keeps_its_script(alloc: Global, log: &[Entry], seat: u32) -> Result<bool, AllocError> {
+fn keeps_its_script(alloc: Global, seat: &Seat) -> Result<bool, AllocError> {
     let mut turn = 0u32;
-    for entry in log {
-        if entry.seat == seat {
-            if !events_equal(&entry.event, &event_at(alloc, seat, turn)?) {
-                return Ok(false);
-            }
-            turn = turn.saturating_add(1);
+    for (event, _) in seat.list() {
+        if !events_equal(event, &event_at(alloc, seat.number(), turn)?) {
+            return Ok(false);
         }
+        turn = turn.saturating_add(1);
     }
     Ok(turn == STEPS)
 }
 
-/// Whether each worker's events are its script, and the log has them, the collector's and the starts.
-fn keeps_the_scripts(alloc: Global, log: &[Entry]) -> Result<bool, AllocError> {
-    for seat in 1..=WORKERS {
-        if !keeps_its_script(alloc, log, seat)? {
-            return Ok(false);
+/// Whether each worker's events are its script.
+fn keep_the_scripts(alloc: Global, seats: &[Seat]) -> bool {
+    for seat in seats.iter().take(WORKERS as usize) {
+        if keeps_its_script(alloc, seat) != Ok(true) {
+            return false;
         }
     }
-    Ok(log.len() == 2_504)
+    true
 }
 
+/// The audit ends well: so the log has of each seat what its list has. These are the events of the
+/// scripts, the turns of the collector, and the starts.
 #[test]
 fn log_keeps_the_scripts(rt: HostRuntime) -> Result<(), Fail> {
     let (layer, seats) = Layer::open(rt.alloc(), WORKERS + 2)?;
     let seats = driven(&rt, rt.alloc(), &layer, seats).ok_or("a call or the drive failed")?;
-    let closed = layer.close(seats).ok().ok_or("the audit found a fault")?;
-    let kept = keeps_the_scripts(rt.alloc(), closed.book.log())?;
-    assert!(rt; kept);
+    let well = Outcome {
+        fault: None,
+        entries: 2_504,
+        seats: 0,
+    };
+    assert_eq!(rt; end(layer, seats), well);
     Ok(())
 }

@@ -1,7 +1,7 @@
 //! A gate of flags: each worker waits until all are inside, so that they run beside each other.
-use super::bench::{spawn_from, step};
+use super::bench::{Outcome, end, spawn_from, step};
 use af_base::events::{Event, Step};
-use af_layer::{CloseError, Closed, Gate, Layer, Seat, Turns, drive};
+use af_layer::{Gate, Layer, Seat, Turns, drive};
 use std::alloc::{AllocError, Global};
 use std::sync::Wait;
 use std::sync::atomic::{AtomicU64, Ordering};
@@ -103,8 +103,18 @@ fn opens(alloc: Global) -> Result<Vec<Vec<Event>>, AllocError> {
     ]?)
 }
 
+/// The scripts of the first two seats, and of a third one, which makes passes, where there is no
+/// collector.
+fn scripts(alloc: Global, collector: Option<Turns>) -> Result<Vec<Vec<Event>>, AllocError> {
+    let mut scripts = opens(alloc)?;
+    if collector.is_none() {
+        scripts.push(vec![in alloc; Event::Pass, Event::Pass]?)?;
+    }
+    Ok(scripts)
+}
+
 /// All seats, where all were inside at once: two with scripts of opens, and a third with one of passes,
-/// or the collector's. The last one lets the processes start.
+/// or the collector's. The fourth lets the processes start, and the drive leaves it alone.
 fn all_inside<R: Threads + Wait + Sync>(
     rt: &R,
     alloc: Global,
@@ -112,32 +122,28 @@ fn all_inside<R: Threads + Wait + Sync>(
     mut seats: Vec<Seat>,
     collector: Option<Turns>,
 ) -> Option<Vec<Seat>> {
-    let mut last = seats.pop()?;
-    if !spawn_from(rt, layer, &mut last, 2) {
+    let last = seats.last_mut()?;
+    if !spawn_from(rt, layer, last, 2) {
         return None;
     }
-    let mut scripts = opens(alloc).ok()?;
-    if collector.is_none() {
-        let passes = vec![in alloc; Event::Pass, Event::Pass].ok()?;
-        scripts.push(passes).ok()?;
-    }
+    let scripts = scripts(alloc, collector).ok()?;
     let flags = Flags::new();
-    let mut seats = drive(rt, layer, seats, scripts, collector, &flags).ok()?;
-    seats.push(last).ok()?;
+    let seats = drive(rt, layer, seats, scripts, collector, &flags).ok()?;
     if flags.is_passed() { Some(seats) } else { None }
 }
 
-/// How many entries a log has, where its layer was closed well.
-fn entries(closed: Result<Closed, CloseError>) -> Option<usize> {
-    let closed = closed.ok()?;
-    Some(closed.book.log().len())
-}
+/// The audit ended well. The log has two starts, and two calls of each of three seats.
+const WELL: Outcome = Outcome {
+    fault: None,
+    entries: 8,
+    seats: 0,
+};
 
 #[test]
 fn gate_three_workers(rt: HostRuntime) -> Result<(), Fail> {
     let (layer, seats) = Layer::open(rt.alloc(), 4)?;
     let seats = all_inside(&rt, rt.alloc(), &layer, seats, None).ok_or("not all were inside")?;
-    assert_eq!(rt; entries(layer.close(seats)), Some(8));
+    assert_eq!(rt; end(layer, seats), WELL);
     Ok(())
 }
 
@@ -151,6 +157,6 @@ fn gate_all_inside(rt: HostRuntime) -> Result<(), Fail> {
     let seats = all_inside(&rt, rt.alloc(), &layer, seats, Some(turns)).ok_or(
         "not all were inside",
     )?;
-    assert_eq!(rt; entries(layer.close(seats)), Some(8));
+    assert_eq!(rt; end(layer, seats), WELL);
     Ok(())
 }

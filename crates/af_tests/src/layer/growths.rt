@@ -1,7 +1,7 @@
 //! One allocation refused, the Nth: `tools/stress` refuses each in turn.
-use super::bench::{AlwaysOpen, event_at, scripts, spawn};
+use super::bench::{AlwaysOpen, end, event_at, scripts, spawn};
 use af_base::events::Event;
-use af_layer::{CallError, DriveFault, Layer, Seat, Turns, drive};
+use af_layer::{CallError, DriveError, DriveFault, Layer, Seat, Turns, drive};
 use std::alloc::{AllocError, Global};
 use std::sync::Wait;
 use std::thread::Threads;
@@ -16,9 +16,12 @@ pub fn nth_event(alloc: Global, nth: u32) -> Result<Event, AllocError> {
 
 /// Whether an event is done, at the second trial where the first was refused memory; then the seat was
 /// as before. So it is taken to be where the event itself could not be made.
-fn calls<R: Wait>(rt: &R, alloc: Global, layer: &Layer, seat: &mut Seat, nth: u32) -> bool {
+fn is_done<R: Wait>(rt: &R, alloc: Global, layer: &Layer, seat: &mut Seat, nth: u32) -> bool {
     let before = seat.list().len();
-    let (Ok(first), Ok(second)) = (nth_event(alloc, nth), nth_event(alloc, nth)) else {
+    let Ok(first) = nth_event(alloc, nth) else {
+        return true;
+    };
+    let Ok(second) = nth_event(alloc, nth) else {
         return true;
     };
     if layer.call(rt, seat, first).is_ok() {
@@ -27,14 +30,23 @@ fn calls<R: Wait>(rt: &R, alloc: Global, layer: &Layer, seat: &mut Seat, nth: u3
     seat.list().len() == before && layer.call(rt, seat, second).is_ok()
 }
 
-/// Whether no seat was asked for anything.
+/// Whether neither of the two seats of the drive was asked for anything.
 fn are_unused(seats: &[Seat]) -> bool {
-    seats.iter().all(|seat| seat.list().is_empty())
+    seats.iter().take(2).all(|seat| seat.list().is_empty())
 }
 
-/// The seats behind a drive, and whether it went as it says. Nothing, where its script could not be
-/// made.
-fn drives<R: Threads + Wait + Sync>(
+/// Whether a drive that stopped wanted memory.
+fn wants_memory(error: &DriveError) -> bool {
+    match error.fault {
+        DriveFault::TooFewSeats => false,
+        DriveFault::NoRoom => are_unused(error.seats.as_slice()),
+        DriveFault::Call(_, fault) => fault == CallError::NoRoom,
+    }
+}
+
+/// All seats behind a drive of a script and a collector, and whether it stopped for want of memory if it
+/// stopped. Nothing, where the script could not be made.
+fn driven<R: Threads + Wait + Sync>(
     rt: &R,
     alloc: Global,
     layer: &Layer,
@@ -48,41 +60,53 @@ fn drives<R: Threads + Wait + Sync>(
     match drive(rt, layer, seats, scripts, Some(turns), &AlwaysOpen) {
         Ok(seats) => Some((seats, true)),
         Err(error) => {
-            let as_told = match error.fault {
-                DriveFault::TooFewSeats => false,
-                DriveFault::NoRoom => are_unused(error.seats.as_slice()),
-                DriveFault::Call(_, fault) => fault == CallError::NoRoom,
-            };
+            let as_told = wants_memory(&error);
             Some((error.seats, as_told))
         }
     }
 }
 
-/// All seats, where calls and a drive go as they say with one growth refused. Nothing, where they do not,
-/// or where it was one of the test itself.
-fn as_told<R: Threads + Wait + Sync>(
+/// Whether all events are done from this seat.
+fn are_done<R: Wait>(rt: &R, alloc: Global, layer: &Layer, seat: &mut Seat) -> bool {
+    for nth in 0..34 {
+        if !is_done(rt, alloc, layer, seat, nth) {
+            return false;
+        }
+    }
+    true
+}
+
+/// All seats behind calls from the last one and a drive over the others, and whether all went as it
+/// says. Nothing, where the script could not be made.
+fn played<R: Threads + Wait + Sync>(
     rt: &R,
     alloc: Global,
     layer: &Layer,
     mut seats: Vec<Seat>,
 ) -> Option<(Vec<Seat>, bool)> {
-    let mut last = seats.pop()?;
-    let mut told = true;
-    for nth in 0..34 {
-        told = calls(rt, alloc, layer, &mut last, nth) && told;
-    }
-    let (mut seats, driven) = drives(rt, alloc, layer, seats)?;
-    seats.push(last).ok()?;
-    Some((seats, told && driven))
+    let last = seats.last_mut()?;
+    let done = are_done(rt, alloc, layer, last);
+    let (seats, as_told) = driven(rt, alloc, layer, seats)?;
+    let all_back = seats.len() == 3;
+    Some((seats, done && as_told && all_back))
 }
 
+/// Whether all went as it says, up to the audit. Nothing, where no layer was opened, or the script
+/// could not be made.
+fn is_as_told<R: Threads + Wait + Sync>(rt: &R, alloc: Global) -> Option<bool> {
+    let (layer, seats) = Layer::open(alloc, 3).ok()?;
+    let (seats, as_told) = played(rt, alloc, &layer, seats)?;
+    Some(end(layer, seats).fault.is_none() && as_told)
+}
+
+/// Where there was nothing to tell, all is done at a second trial.
 #[test]
 fn one_growth_refused(rt: HostRuntime) {
-    let first = Layer::open(rt.alloc(), 3).ok();
-    let second = first.or_else(|| Layer::open(rt.alloc(), 3).ok());
-    if let Some((layer, seats)) = second
-        && let Some((seats, told)) = as_told(&rt, rt.alloc(), &layer, seats)
-    {
-        assert!(rt; told && seats.len() == 3 && layer.close(seats).is_ok());
-    }
+    let first = is_as_told(&rt, rt.alloc());
+    let told = if first.is_none() {
+        is_as_told(&rt, rt.alloc())
+    } else {
+        first
+    };
+    assert_eq!(rt; told, Some(true));
 }

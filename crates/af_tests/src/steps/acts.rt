@@ -8,9 +8,9 @@ use std::alloc::{AllocError, Global};
 use std::process::Abort;
 
 /// An event. What has no pid is a step of process 1; sockets are of the type SOCK_STREAM.
-#[derive(Clone, Copy, Debug)]
+#[derive(Clone, Copy)]
 pub enum Act {
-    /// A process of this user starts, with 16 descriptors at most.
+    /// A process of this user starts, with 16 descriptors at most. User 0 is privileged.
     Spawn(u32),
     Open,
     Dup(u32),
@@ -38,7 +38,7 @@ pub enum Act {
 }
 
 /// A reply.
-#[derive(Clone, Copy, Debug)]
+#[derive(Clone, Copy)]
 pub enum Answer {
     Pid(u32),
     Fd(u32),
@@ -64,7 +64,7 @@ pub fn event_of(alloc: Global, act: Act) -> Result<Event, AllocError> {
             return Ok(Event::Spawn {
                 uid: Uid(uid),
                 nofile: 16,
-                privileged: false,
+                privileged: uid == 0,
             });
         }
         Act::Exit(pid) => return Ok(Event::Proc(Pid(pid), Step::Exit)),
@@ -155,6 +155,11 @@ pub fn reply_to(engine: &mut Engine, event: &Event) -> Reply {
     engine.step(event)
 }
 
+/// The event has this reply.
+pub fn answers(rt: &impl Abort, engine: &mut Engine, event: &Event, wanted: &Reply) {
+    assert!(rt; reply_to(engine, event) == *wanted, "{event:?}");
+}
+
 /// The events have these replies.
 pub fn play(
     rt: &impl Abort,
@@ -165,7 +170,23 @@ pub fn play(
     for (act, wanted) in rows {
         let event = event_of(alloc, *act)?;
         let wanted = reply_of(alloc, *wanted)?;
-        assert!(rt; reply_to(engine, &event) == wanted, "{act:?}");
+        answers(rt, engine, &event, &wanted);
     }
     Ok(())
+}
+
+/// What is tried on an engine.
+pub trait Trial {
+    /// It is tried on this engine, which is new.
+    fn on<T: Abort>(&self, rt: &T, alloc: Global, engine: &mut Engine) -> Result<(), AllocError>;
+}
+
+/// It is tried on a new engine. This alone owns one: each owner is proved to let go of all it has.
+pub fn on_new_engine<T: Trial>(
+    rt: &impl Abort,
+    alloc: Global,
+    trial: &T,
+) -> Result<(), AllocError> {
+    let mut engine = Engine::new(alloc)?;
+    trial.on(rt, alloc, &mut engine)
 }

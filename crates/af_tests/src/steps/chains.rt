@@ -1,80 +1,50 @@
 //! A long chain of sockets, which goes by one close.
-use super::acts::reply_to;
-use af_base::events::{Event, Reply, SockType, Step};
-use af_base::items::Items;
-use af_base::names::{Fd, Pid, Uid};
+use super::acts::{Act, Answer, Trial, on_new_engine, play};
 use af_steps::Engine;
 use std::alloc::{AllocError, Global};
 use std::process::Abort;
 use std::test::Fail;
 
-/// A step of the process.
-fn step(step: Step) -> Event {
-    Event::Proc(Pid(1), step)
+/// A process starts with a pair.
+static START: [(Act, Answer); 2] = [
+    (Act::Spawn(0), Answer::Pid(1)),
+    (Act::Pair, Answer::Fds(0, 1)),
+];
+
+/// Both ends of a new pair go to the end of the chain, whose other end is number 1, and the second
+/// one is kept in its place.
+static ROUND: [(Act, Answer); 5] = [
+    (Act::Pair, Answer::Fds(2, 3)),
+    (Act::Send(1, b"x", &[2, 3]), Answer::Sent(1)),
+    (Act::Dup2(3, 1), Answer::Fd(1)),
+    (Act::Close(2), Answer::Ok),
+    (Act::Close(3), Answer::Ok),
+];
+
+/// So many files are live, and so many descriptors in flight.
+fn has(rt: &impl Abort, engine: &Engine, live: usize, in_flight: u64) {
+    assert!(rt; engine.live() == live && engine.total() == in_flight);
 }
 
-fn pair() -> Event {
-    step(Step::Pair(SockType::Seqpacket))
-}
+/// Number 0 has a chain of 60,000 sockets behind it, two in each queue, and all go with it. No bound
+/// is proved for the stack.
+struct Chain;
 
-fn close(fd: u32) -> Event {
-    step(Step::Close(Fd(fd)))
-}
-
-/// The event has this reply.
-fn answers(rt: &impl Abort, engine: &mut Engine, event: &Event, wanted: &Reply) {
-    assert!(rt; reply_to(engine, event) == *wanted, "{event:?}");
-}
-
-/// Sends both ends of a new pair to the end of the chain, whose other end is number 1, and keeps the
-/// second one in its place.
-fn round(alloc: Global) -> Result<[(Event, Reply); 5], AllocError> {
-    let send = Step::Send {
-        on: Fd(1),
-        bytes: Items::of(b"x".to_vec(alloc)?),
-        attach: Items::of(vec![in alloc; Fd(2), Fd(3)]?),
-    };
-    Ok([
-        (pair(), Reply::Fds(Fd(2), Fd(3))),
-        (step(send), Reply::Sent(1)),
-        (step(Step::Dup2(Fd(3), Fd(1))), Reply::Fd(Fd(1))),
-        (close(2), Reply::Ok),
-        (close(3), Reply::Ok),
-    ])
-}
-
-/// Number 0 has a chain of 60,000 sockets behind it, two in each queue.
-fn build(rt: &impl Abort, alloc: Global, engine: &mut Engine) -> Result<(), AllocError> {
-    let spawn = Event::Spawn {
-        uid: Uid(1000),
-        nofile: 16,
-        privileged: true,
-    };
-    answers(rt, engine, &spawn, &Reply::Pid(Pid(1)));
-    answers(rt, engine, &pair(), &Reply::Fds(Fd(0), Fd(1)));
-    let round = round(alloc)?;
-    for _ in 0..30_000 {
-        for (event, wanted) in &round {
-            answers(rt, engine, event, wanted);
+impl Trial for Chain {
+    fn on<T: Abort>(&self, rt: &T, alloc: Global, engine: &mut Engine) -> Result<(), AllocError> {
+        play(rt, alloc, engine, &START)?;
+        for _ in 0..30_000 {
+            play(rt, alloc, engine, &ROUND)?;
         }
+        play(rt, alloc, engine, &[(Act::Close(1), Answer::Ok)])?;
+        has(rt, engine, 60_001, 60_000);
+        play(rt, alloc, engine, &[(Act::Close(0), Answer::Ok)])?;
+        has(rt, engine, 0, 0);
+        Ok(())
     }
-    answers(rt, engine, &close(1), &Reply::Ok);
-    Ok(())
-}
-
-/// The whole chain goes with number 0. No bound is proved for the stack.
-fn drop_all(rt: &impl Abort, engine: &mut Engine) {
-    assert_eq!(rt; engine.live(), 60_001);
-    assert_eq!(rt; engine.total(), 60_000);
-    answers(rt, engine, &close(0), &Reply::Ok);
-    assert_eq!(rt; engine.live(), 0);
-    assert_eq!(rt; engine.total(), 0);
 }
 
 #[test]
 fn long_chain(rt: HostRuntime) -> Result<(), Fail> {
-    let mut engine = Engine::new(rt.alloc())?;
-    build(&rt, rt.alloc(), &mut engine)?;
-    drop_all(&rt, &mut engine);
-    Ok(())
+    Ok(on_new_engine(&rt, rt.alloc(), &Chain)?)
 }

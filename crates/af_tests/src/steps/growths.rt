@@ -1,9 +1,10 @@
 //! One allocation refused, the Nth: `tools/stress` refuses each in turn.
-use super::acts::{Act, Answer, event_of, reply_of, reply_to};
+use super::acts::{Act, Answer, Trial, event_of, on_new_engine, reply_of, reply_to};
+use super::views::{counts, waiting};
 use af_base::errno::Errno;
 use af_base::events::{Event, Reply};
-use af_base::names::{Ino, Uid};
-use af_steps::{Engine, FileInfo};
+use af_base::names::Uid;
+use af_steps::Engine;
 use std::alloc::{AllocError, Global};
 use std::process::Abort;
 use std::test::Fail;
@@ -53,25 +54,6 @@ static ROWS: [(Act, Answer); 39] = [
     (Act::Pass, Answer::Done(2, 4)),
 ];
 
-/// How many places hold the file, and how many of these are in queues.
-fn counts(engine: &Engine, ino: u64) -> (u64, u64) {
-    (engine.refs(Ino(ino)), engine.inflight(Ino(ino)))
-}
-
-/// How many messages and embryos wait at the file.
-fn waiting(engine: &Engine, ino: u64) -> (u64, u64) {
-    match engine.file(Ino(ino)) {
-        Some(
-            FileInfo::Socket {
-                messages,
-                embryos,
-                ..
-            },
-        ) => (messages as u64, embryos as u64),
-        _ => (0, 0),
-    }
-}
-
 /// What the views count of the first four files, the last of which is to listen, of user 1000, and of
 /// all.
 fn shown(engine: &Engine) -> [(u64, u64); 9] {
@@ -100,34 +82,38 @@ fn done(rt: &impl Abort, engine: &mut Engine, event: &Event, wanted: &Reply) {
     assert!(rt; reply == *wanted, "{event:?}");
 }
 
-/// The event of a row is done so.
-fn row(
+/// The rows are done so.
+fn all_done(
     rt: &impl Abort,
     alloc: Global,
     engine: &mut Engine,
-    act: Act,
-    wanted: Answer,
+    rows: &[(Act, Answer)],
 ) -> Result<(), AllocError> {
-    let event = event_of(alloc, act)?;
-    let wanted = reply_of(alloc, wanted)?;
-    done(rt, engine, &event, &wanted);
+    for (act, wanted) in rows {
+        let event = event_of(alloc, *act)?;
+        let wanted = reply_of(alloc, *wanted)?;
+        done(rt, engine, &event, &wanted);
+    }
     Ok(())
 }
 
-/// All rows are played. Where the refused allocation is of an event or a reply that a row makes,
-/// they end there.
-fn play_rows(rt: &impl Abort, alloc: Global, engine: &mut Engine) {
-    for (act, wanted) in ROWS {
-        if row(rt, alloc, engine, act, wanted).is_err() {
-            return;
-        }
+/// All rows are played, and leave nothing.
+struct EachRow;
+
+impl Trial for EachRow {
+    fn on<T: Abort>(&self, rt: &T, alloc: Global, engine: &mut Engine) -> Result<(), AllocError> {
+        all_done(rt, alloc, engine, &ROWS)?;
+        assert!(rt; engine.live() == 0);
+        Ok(())
     }
-    assert_eq!(rt; engine.live(), 0);
 }
 
+/// Where the refused allocation is of an event or a reply that a row makes, all rows are played at a
+/// second trial.
 #[test]
 fn one_growth_refused(rt: HostRuntime) -> Result<(), Fail> {
-    let mut engine = Engine::new(rt.alloc())?;
-    play_rows(&rt, rt.alloc(), &mut engine);
+    if on_new_engine(&rt, rt.alloc(), &EachRow).is_err() {
+        on_new_engine(&rt, rt.alloc(), &EachRow)?;
+    }
     Ok(())
 }

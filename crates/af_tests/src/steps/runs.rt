@@ -1,11 +1,13 @@
 //! A run of a list: one reply for each event. It passes with one allocation refused, the Nth, too:
 //! `tools/stress` refuses each in turn.
+use super::acts::{Trial, on_new_engine};
 use af_base::errno::Errno;
 use af_base::events::{Event, Reply, Step};
 use af_base::names::{Fd, Pid, Uid};
 use af_steps::{Engine, RunStopped};
 use std::alloc::{AllocError, Global};
 use std::process::Abort;
+use std::test::Fail;
 
 /// A process starts, and opens and closes a number 50,000 times.
 fn rounds(alloc: Global) -> Result<Vec<Event>, AllocError> {
@@ -95,14 +97,23 @@ fn run_all(rt: &impl Abort, engine: &mut Engine, events: &[Event]) {
     let done = run(rt, engine, events, &mut told);
     let rest = events.get(done..).unwrap_or(&[]);
     let more = run(rt, engine, rest, &mut told);
-    assert_eq!(rt; done.saturating_add(more), events.len());
+    assert!(rt; done.saturating_add(more) == events.len());
     assert!(rt; told.wants <= 1);
 }
 
-/// Where the refused allocation is of the list of events, nothing is run.
-#[test]
-fn one_reply_for_each_event(rt: HostRuntime) {
-    if let (Ok(events), Ok(mut engine)) = (rounds(rt.alloc()), Engine::new(rt.alloc())) {
-        run_all(&rt, &mut engine, &events);
+/// All rounds are run. Where the refused allocation is of the list of events, nothing is.
+struct AllRounds;
+
+impl Trial for AllRounds {
+    fn on<T: Abort>(&self, rt: &T, alloc: Global, engine: &mut Engine) -> Result<(), AllocError> {
+        if let Ok(events) = rounds(alloc) {
+            run_all(rt, engine, &events);
+        }
+        Ok(())
     }
+}
+
+#[test]
+fn one_reply_for_each_event(rt: HostRuntime) -> Result<(), Fail> {
+    Ok(on_new_engine(&rt, rt.alloc(), &AllRounds)?)
 }

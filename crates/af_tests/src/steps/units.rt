@@ -1,8 +1,9 @@
 //! How many files a slice looks at. No report tells it, but how many slices a pass takes does.
-use super::acts::reply_to;
+use super::acts::{Trial, answers, on_new_engine, reply_to};
 use af_base::events::{Event, Reply, Step};
 use af_base::names::{Fd, Pid, Uid};
 use af_steps::Engine;
+use std::alloc::{AllocError, Global};
 use std::process::Abort;
 use std::test::Fail;
 
@@ -13,10 +14,10 @@ fn open_a_thousand(rt: &impl Abort, engine: &mut Engine, pid: Pid) {
         nofile: 1_000,
         privileged: false,
     };
-    assert!(rt; reply_to(engine, &spawn) == Reply::Pid(pid));
+    answers(rt, engine, &spawn, &Reply::Pid(pid));
     let open = Event::Proc(pid, Step::Open);
     for fd in 0..1_000 {
-        assert!(rt; reply_to(engine, &open) == Reply::Fd(Fd(fd)));
+        answers(rt, engine, &open, &Reply::Fd(Fd(fd)));
     }
 }
 
@@ -36,22 +37,25 @@ fn count_slices(engine: &mut Engine, budget: u32, other: &Reply) -> Option<u32> 
 
 /// A pass over 20,000 files, in slices, looks at each three times: to visit, to scan, and to sweep
 /// it. So 61 slices of 977 files do not end it, and the next does.
-fn pass(rt: &impl Abort, engine: &mut Engine) {
-    for pid in 1..=20 {
-        open_a_thousand(rt, engine, Pid(pid));
+struct Pass;
+
+impl Trial for Pass {
+    fn on<T: Abort>(&self, rt: &T, _alloc: Global, engine: &mut Engine) -> Result<(), AllocError> {
+        for pid in 1..=20 {
+            open_a_thousand(rt, engine, Pid(pid));
+        }
+        answers(rt, engine, &Event::Begin, &Reply::Started(1));
+        let done = Reply::Done {
+            pass: 1,
+            reclaimed: 0,
+        };
+        assert!(rt; count_slices(engine, 977, &done) == Some(61));
+        assert!(rt; engine.live() == 20_000);
+        Ok(())
     }
-    assert!(rt; reply_to(engine, &Event::Begin) == Reply::Started(1));
-    let done = Reply::Done {
-        pass: 1,
-        reclaimed: 0,
-    };
-    assert_eq!(rt; count_slices(engine, 977, &done), Some(61));
-    assert_eq!(rt; engine.live(), 20_000);
 }
 
 #[test]
 fn units_are_counted(rt: HostRuntime) -> Result<(), Fail> {
-    let mut engine = Engine::new(rt.alloc())?;
-    pass(&rt, &mut engine);
-    Ok(())
+    Ok(on_new_engine(&rt, rt.alloc(), &Pass)?)
 }

@@ -1,9 +1,9 @@
 //! Views that no report prints.
-use super::acts::{Act, Answer, play};
+use super::acts::{Act, Answer, Trial, on_new_engine, play};
 use af_base::events::{SockType, State};
 use af_base::names::{Ino, Pid, Uid};
 use af_steps::{Engine, FileInfo};
-use std::alloc::Global;
+use std::alloc::{AllocError, Global};
 use std::process::Abort;
 use std::test::Fail;
 
@@ -24,72 +24,93 @@ static ROWS: [(Act, Answer); 12] = [
     (Act::Send(2, b"a", &[2, 2]), Answer::Sent(1)),
 ];
 
-/// A stream of this state, with so many messages and embryos.
-fn stream(state: State, messages: usize, embryos: usize) -> Option<FileInfo> {
-    Some(FileInfo::Socket {
-        kind: SockType::Stream,
-        state,
-        messages,
-        embryos,
-    })
-}
-
 /// How many places hold the file, and how many of these are in queues.
-fn counts(engine: &Engine, ino: u64) -> (u64, u64) {
+pub fn counts(engine: &Engine, ino: u64) -> (u64, u64) {
     (engine.refs(Ino(ino)), engine.inflight(Ino(ino)))
 }
 
-/// No file has the number.
-fn is_a_stranger(rt: &impl Abort, engine: &Engine, ino: u64) {
-    assert_eq!(rt; engine.file(Ino(ino)), None);
-    assert!(rt; engine.name(Ino(ino)).is_none());
-    assert_eq!(rt; counts(engine, ino), (0, 0));
+/// How many messages and embryos wait at the file.
+pub fn waiting(engine: &Engine, ino: u64) -> (u64, u64) {
+    match engine.file(Ino(ino)) {
+        Some(
+            FileInfo::Socket {
+                messages,
+                embryos,
+                ..
+            },
+        ) => (messages as u64, embryos as u64),
+        _ => (0, 0),
+    }
 }
 
-fn shows_nothing(rt: &impl Abort, engine: &Engine) {
-    is_a_stranger(rt, engine, 1);
-    assert_eq!(rt; engine.live(), 0);
-    assert_eq!(rt; engine.next_after(Ino(0)), None);
-    assert_eq!(rt; engine.next_pid(), Pid(1));
-    assert_eq!(rt; engine.users(), 0);
-    assert_eq!(rt; engine.total(), 0);
+/// Whether the file is a stream of this state.
+fn is_stream(engine: &Engine, ino: u64, wanted: State) -> bool {
+    match engine.file(Ino(ino)) {
+        Some(FileInfo::Socket { kind, state, .. }) => kind == SockType::Stream && state == wanted,
+        _ => false,
+    }
 }
 
-/// What the rows leave of files.
-fn shows_files(rt: &impl Abort, engine: &Engine) {
-    is_a_stranger(rt, engine, 1);
-    is_a_stranger(rt, engine, 7);
-    assert_eq!(rt; engine.live(), 5);
-    assert_eq!(rt; engine.next_after(Ino(0)), Some(Ino(2)));
-    assert_eq!(rt; engine.next_after(Ino(6)), None);
-    assert_eq!(rt; engine.file(Ino(2)), stream(State::Listening(2), 0, 1));
-    assert_eq!(rt; engine.file(Ino(6)), stream(State::Connected(Ino(5)), 1, 0));
-    assert_eq!(rt; counts(engine, 4), (1, 0));
-    assert_eq!(rt; counts(engine, 5), (3, 2));
+/// Whether no file has the number.
+fn is_stranger(engine: &Engine, ino: u64) -> bool {
+    engine.file(Ino(ino)).is_none()
+        && engine.name(Ino(ino)).is_none()
+        && counts(engine, ino) == (0, 0)
 }
 
-/// What the rows leave of users, in the order of their first process.
-fn shows_users(rt: &impl Abort, engine: &Engine) {
-    assert_eq!(rt; engine.next_pid(), Pid(4));
-    assert_eq!(rt; engine.users(), 2);
-    assert_eq!(rt; engine.user_at(1), Some(Uid(5)));
-    assert_eq!(rt; engine.user_at(2), None, "user 7 was there");
-    assert_eq!(rt; engine.charged(Uid(5)), 0);
-    assert_eq!(rt; engine.charged(Uid(6)), 0, "nobody's");
-    assert_eq!(rt; engine.total(), 2);
+/// Whether the engine shows that nothing happened to it.
+fn shows_nothing(engine: &Engine) -> bool {
+    is_stranger(engine, 1)
+        && engine.live() == 0
+        && engine.next_after(Ino(0)).is_none()
+        && engine.next_pid() == Pid(1)
+        && engine.users() == 0
+        && engine.total() == 0
+}
+
+/// Whether it shows the files that the rows leave.
+fn shows_files(engine: &Engine) -> bool {
+    is_stranger(engine, 1)
+        && is_stranger(engine, 7)
+        && engine.live() == 5
+        && engine.next_after(Ino(0)) == Some(Ino(2))
+        && engine.next_after(Ino(6)).is_none()
+        && is_stream(engine, 2, State::Listening(2))
+        && waiting(engine, 2) == (0, 1)
+        && is_stream(engine, 6, State::Connected(Ino(5)))
+        && waiting(engine, 6) == (1, 0)
+        && counts(engine, 4) == (1, 0)
+        && counts(engine, 5) == (3, 2)
+}
+
+/// Whether it shows the users that the rows leave, in the order of their first process: user 7 is
+/// there once, and user 6 is nobody.
+fn shows_users(engine: &Engine) -> bool {
+    engine.next_pid() == Pid(4)
+        && engine.users() == 2
+        && engine.user_at(0) == Some(Uid(7))
+        && engine.user_at(1) == Some(Uid(5))
+        && engine.user_at(2).is_none()
+        && engine.charged(Uid(5)) == 0
+        && engine.charged(Uid(6)) == 0
+        && engine.charged(Uid(7)) == 2
+        && engine.total() == 2
 }
 
 /// The views, before and after the rows.
-fn shows(rt: &impl Abort, alloc: Global, engine: &mut Engine) -> Result<(), Fail> {
-    shows_nothing(rt, engine);
-    play(rt, alloc, engine, &ROWS)?;
-    shows_files(rt, engine);
-    shows_users(rt, engine);
-    Ok(())
+struct Views;
+
+impl Trial for Views {
+    fn on<T: Abort>(&self, rt: &T, alloc: Global, engine: &mut Engine) -> Result<(), AllocError> {
+        assert!(rt; shows_nothing(engine));
+        play(rt, alloc, engine, &ROWS)?;
+        assert!(rt; shows_files(engine));
+        assert!(rt; shows_users(engine));
+        Ok(())
+    }
 }
 
 #[test]
 fn views_of_an_engine(rt: HostRuntime) -> Result<(), Fail> {
-    let mut engine = Engine::new(rt.alloc())?;
-    shows(&rt, rt.alloc(), &mut engine)
+    Ok(on_new_engine(&rt, rt.alloc(), &Views)?)
 }
