@@ -45,7 +45,6 @@ stress: build
 
 bench:
 	cd crates/af_bench && rt run
-	cd crates/af_bench_layer && rt run
 	tools/bench
 
 lib:

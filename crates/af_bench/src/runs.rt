@@ -1,0 +1,48 @@
+//! Runs, and how long they take.
+
+use std::alloc::Global;
+use std::io::{self, Print};
+use std::time::{Clock, Instant};
+
+/// So many runs are made, of so many events each.
+#[derive(Clone, Copy)]
+pub struct Runs {
+    pub events: usize,
+    pub count: usize,
+}
+
+/// Makes so many runs by `time_of_run`, and then prints what each took, so that no printing comes between
+/// them.
+pub fn print_times<R: Print, F: FnMut() -> io::Result<u128>>(
+    rt: &R,
+    alloc: Global,
+    count: usize,
+    mut time_of_run: F,
+) -> io::Result<()>
+    requires can_run { F.IsAlwaysCallable time_of_run }
+{
+    let mut times = Vec::new(alloc);
+    for _ in 0..count {
+        times.push(time_of_run()?)?;
+    }
+    for time in &times {
+        println!(rt; "{time}")?;
+    }
+    Ok(())
+}
+
+/// How long `are_done` takes, in nanoseconds. It does events, and says whether none was refused.
+pub fn time_of<R: Clock, F: FnOnce() -> bool>(rt: &R, are_done: F) -> io::Result<u128>
+    requires can_do { F.IsAlwaysCallable are_done }
+{
+    let start = Instant::now(rt)?;
+    if !are_done() {
+        return Err(refused());
+    }
+    Ok(start.elapsed(rt)?.as_nanos())
+}
+
+/// The fault of an event that is refused.
+pub fn refused() -> io::Error {
+    io::Error::other("an event was refused")
+}

@@ -1,0 +1,94 @@
+//! What the events of a script cost an engine.
+//!
+//! Each line of the script is an event. Some lines come first, and are only done. The rest is done over
+//! and over: a run goes on where the one before it stopped, and the first line of the rest comes again
+//! behind the last.
+
+use crate::runs::{Runs, print_times, refused, time_of};
+use af_base::events::{Event, Reply};
+use af_steps::Engine;
+use scm_lines::{Line, line_of};
+use std::alloc::Global;
+use std::io;
+use std::iter::Cycle;
+use std::slice::Iter;
+use std::str::Lines;
+
+/// Measures the script from standard input, of which so many lines come first.
+pub fn measure_input(rt: &HostRuntime, setup: usize, runs: Runs) -> io::Result<()> {
+    let script = io::read_to_string(rt.alloc(), rt.stdin())?;
+    measure_script(rt, script.as_str(), setup, runs)
+}
+
+fn measure_script(rt: &HostRuntime, script: &str, setup: usize, runs: Runs) -> io::Result<()> {
+    let mut engine = Engine::new(rt.alloc())?;
+    let mut lines = script.lines();
+    measure_lines(rt, &mut engine, &mut lines, setup, runs)
+}
+
+/// Does the first lines, and measures the rest.
+fn measure_lines(
+    rt: &HostRuntime,
+    engine: &mut Engine,
+    lines: &mut Lines<'_>,
+    setup: usize,
+    runs: Runs,
+) -> io::Result<()> {
+    for line in lines.take(setup) {
+        do_line(rt.alloc(), engine, line)?;
+    }
+    let events = events_of(rt.alloc(), lines)?;
+    measure(rt, engine, events.as_slice(), runs)
+}
+
+/// Does the event of a line.
+fn do_line(alloc: Global, engine: &mut Engine, line: &str) -> io::Result<()> {
+    let event = event_of(alloc, line)?;
+    if is_done(engine, &event) {
+        Ok(())
+    } else {
+        Err(refused())
+    }
+}
+
+fn event_of(alloc: Global, line: &str) -> io::Result<Event> {
+    match line_of(alloc, line.as_bytes())? {
+        Some(Line::Event(event)) => Ok(event),
+        _ => Err(io::Error::other("a line is no event")),
+    }
+}
+
+/// The events of all lines that are left.
+fn events_of(alloc: Global, lines: &mut Lines<'_>) -> io::Result<Vec<Event>> {
+    let mut events = Vec::new(alloc);
+    for line in lines {
+        events.push(event_of(alloc, line)?)?;
+    }
+    Ok(events)
+}
+
+/// Does the event, and says whether it was not refused.
+fn is_done(engine: &mut Engine, event: &Event) -> bool {
+    !matches!(engine.step(event), Reply::Refused(_))
+}
+
+/// Does these events over and over, and prints what each run took.
+fn measure(rt: &HostRuntime, engine: &mut Engine, events: &[Event], runs: Runs) -> io::Result<()> {
+    let mut round = events.iter().cycle();
+    print_times(
+        rt,
+        rt.alloc(),
+        runs.count,
+        || time_of(rt, || are_done(engine, &mut round, runs.events)),
+    )
+}
+
+/// Does so many events, and says whether none was refused. It stops at the first that is.
+fn are_done(engine: &mut Engine, round: &mut Cycle<Iter<'_, Event>>, events: usize) -> bool {
+    for event in round.take(events) {
+        if !is_done(engine, event) {
+            return false;
+        }
+    }
+    true
+}
