@@ -26,13 +26,10 @@ enum Task {
 impl Task {
     /// The task that the words of a command line name, the program's own name first.
     fn of(words: &[String]) -> Option<Task> {
-        let [_, form, first, events, runs] = words else {
+        let [_, form, first, events, count] = words else {
             return None;
         };
-        let runs = Runs {
-            events: events.parse().ok()?,
-            count: runs.parse().ok()?,
-        };
+        let runs = Runs::of(events, count)?;
         match form.as_str() {
             "script" => Some(Task::Script(first.parse().ok()?, runs)),
             "layer" => Some(Task::Layer(first.parse().ok()?, runs)),

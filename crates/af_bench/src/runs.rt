@@ -11,6 +11,16 @@ pub struct Runs {
     pub count: usize,
 }
 
+impl Runs {
+    /// The runs that these words name.
+    pub fn of(events: &str, count: &str) -> Option<Runs> {
+        Some(Runs {
+            events: events.parse().ok()?,
+            count: count.parse().ok()?,
+        })
+    }
+}
+
 /// Makes so many runs by `time_of_run`, and then prints what each took, so that no printing comes between
 /// them.
 pub fn print_times<R: Print, F: FnMut() -> io::Result<u128>>(
