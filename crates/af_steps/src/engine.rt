@@ -77,6 +77,7 @@ impl Engine {
     /// Does one event. It is refused by the first test of its row that fits (`Refusals` in
     /// `af_base/specs`), and want of memory by ENOMEM, where no other refusal fits; after any refusal
     /// the engine is as it was.
+    #[inline(always)]
     pub fn step(&mut self, event: &Event) -> Reply
         ensures { Step self.old event.now result self.new }
     {
