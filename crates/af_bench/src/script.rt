@@ -7,8 +7,8 @@
 use crate::runs::{Runs, print_times, refused, time_of};
 use af_base::events::{Event, Reply};
 use af_steps::Engine;
-use scm_lines::{Line, line_of};
-use std::alloc::Global;
+use scm_lines::{Line, LineFault, line_of};
+use std::alloc::{AllocError, Global};
 use std::io;
 use std::iter::Cycle;
 use std::slice::Iter;
@@ -52,8 +52,9 @@ fn do_line(alloc: Global, engine: &mut Engine, line: &str) -> io::Result<()> {
 }
 
 fn event_of(alloc: Global, line: &str) -> io::Result<Event> {
-    match line_of(alloc, line.as_bytes())? {
-        Some(Line::Event(event)) => Ok(event),
+    match line_of(alloc, line.as_bytes()) {
+        Ok(Line::Event(event)) => Ok(event),
+        Err(LineFault::Memory) => Err(AllocError.into()),
         _ => Err(io::Error::other("a line is no event")),
     }
 }

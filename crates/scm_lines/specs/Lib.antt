@@ -7,3 +7,4 @@ pub mod Keywords
 pub mod Lines
 pub mod Says
 pub mod Versions
+pub mod Fault

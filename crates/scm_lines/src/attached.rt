@@ -1,9 +1,11 @@
 //! The descriptors that go with a message, as the last words of a line list them.
-ghost use Rattle.std.specs.Prelude.{◌≡◌, ◌≤◌, ◌<◌, ◌==◌, ◌++◌, IfOk, IfSome, OnOk, length, position, replicate};
+ghost use Rattle.std.specs.Prelude.{◌≡◌, ◌≤◌, ◌<◌, ◌==◌, ◌++◌, IfSome, OnOk, length, position, replicate};
 ghost use Rattle.std.specs.Option.{option_map};
+ghost use Rattle.scm_lines.specs.Fault.{Reads};
 ghost use Rattle.scm_lines.specs.Words.{words_of};
 ghost use Rattle.scm_lines.specs.Attached.{item_of, attached_of};
 
+use crate::fault::LineFault;
 use crate::numbers::number;
 use crate::words::first_word;
 use af_base::items::Items;
@@ -52,20 +54,18 @@ fn push_copies(fds: &mut Vec<Fd>, fd: Fd, copies: usize) -> Result<(), AllocErro
 
 /// The descriptors of all items that are left. No more than a line may have are ever held.
 #[tactic(auto, using(crate::proofs::AttachedLemmas::items_before_more, crate::proofs::AttachedLemmas::items_before_over))]
-pub fn attached(alloc: Global, bytes: &[u8]) -> Result<Option<Items<Fd>>, AllocError>
-    ensures { IfOk result (λ found. found ≡ attached_of (words_of bytes.now)) }
+pub fn attached(alloc: Global, bytes: &[u8]) -> Result<Items<Fd>, LineFault>
+    ensures { Reads (attached_of (words_of bytes.now)) result }
 {
     let mut fds = Vec::new(alloc);
     let mut rest = bytes;
     while let Some((word, tail)) = first_word(rest) {
-        let Some((fd, copies)) = item(word) else {
-            return Ok(None);
-        };
+        let (fd, copies) = item(word).ok_or(LineFault::Unreadable)?;
         if fds.len() + copies > MAX_ATTACHED {
-            return Ok(None);
+            return Err(LineFault::Unreadable);
         }
         push_copies(&mut fds, fd, copies)?;
         rest = tail;
     }
-    Ok(Some(Items::of(fds)))
+    Ok(Items::of(fds))
 }

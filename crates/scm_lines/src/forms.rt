@@ -1,9 +1,11 @@
 //! The forms of a line: one function for each, over the words after its keyword.
-ghost use Rattle.std.specs.Prelude.{◌≡◌, IfOk};
+ghost use Rattle.std.specs.Prelude.{◌≡◌};
+ghost use Rattle.scm_lines.specs.Fault.{Reads};
 ghost use Rattle.scm_lines.specs.Words.{words_of};
 ghost use Rattle.scm_lines.specs.Lines.{privilege_of, spawn_of, slice_of, dup_of, dup2_of, close_of, pair_of, socket_of, on_and_name, bind_of, listen_of, connect_of, accept_of, send_of, recv_of, peek_of, limit_of, version_of, step_of, process_of, form_of};
 
 use crate::attached::attached;
+use crate::fault::LineFault;
 use crate::keywords::{Opening, Verb, opening_named, type_named, verb_named};
 use crate::line::{Line, Report};
 use crate::numbers::number_in;
@@ -12,7 +14,7 @@ use crate::words::{first_word, is_end};
 use af_base::events::{Event, Step};
 use af_base::items::Items;
 use af_base::names::{Fd, Pid, Uid};
-use std::alloc::{AllocError, Global};
+use std::alloc::Global;
 
 /// `true` where `priv` is the only word left, `false` where none is, `None` otherwise.
 fn privilege(bytes: &[u8]) -> Option<bool>
@@ -99,27 +101,24 @@ fn socket(bytes: &[u8]) -> Option<Step>
 
 /// A socket and a name. Any word is read as a name: the step refuses a bad one.
 #[tactic(auto, unfolding(crate::specs::Lines::on_and_name))]
-fn on_and_name(alloc: Global, bytes: &[u8]) -> Result<Option<(Fd, Items<u8>)>, AllocError>
-    ensures { IfOk result (λ found. found ≡ on_and_name (words_of bytes.now)) }
+fn on_and_name(alloc: Global, bytes: &[u8]) -> Result<(Fd, Items<u8>), LineFault>
+    ensures { Reads (on_and_name (words_of bytes.now)) result }
 {
-    let Some((on, rest)) = number_in(bytes) else {
-        return Ok(None);
-    };
-    let Some((name, rest)) = first_word(rest) else {
-        return Ok(None);
-    };
+    let (on, rest) = number_in(bytes).ok_or(LineFault::Unreadable)?;
+    let (name, rest) = first_word(rest).ok_or(LineFault::Unreadable)?;
     if !is_end(rest) {
-        return Ok(None);
+        return Err(LineFault::Unreadable);
     }
-    Ok(Some((Fd(on), Items::of(name.to_vec(alloc)?))))
+    Ok((Fd(on), Items::of(name.to_vec(alloc)?)))
 }
 
 /// `P bind N NAME`.
 #[tactic(auto, unfolding(crate::specs::Lines::bind_of))]
-fn bind(alloc: Global, bytes: &[u8]) -> Result<Option<Step>, AllocError>
-    ensures { IfOk result (λ found. found ≡ bind_of (words_of bytes.now)) }
+fn bind(alloc: Global, bytes: &[u8]) -> Result<Step, LineFault>
+    ensures { Reads (bind_of (words_of bytes.now)) result }
 {
-    Ok(on_and_name(alloc, bytes)?.map(|(on, name)| Step::Bind { on, name }))
+    let (on, name) = on_and_name(alloc, bytes)?;
+    Ok(Step::Bind { on, name })
 }
 
 /// `P listen N N`.
@@ -137,10 +136,11 @@ fn listen(bytes: &[u8]) -> Option<Step>
 
 /// `P connect N NAME`.
 #[tactic(auto, unfolding(crate::specs::Lines::connect_of))]
-fn connect(alloc: Global, bytes: &[u8]) -> Result<Option<Step>, AllocError>
-    ensures { IfOk result (λ found. found ≡ connect_of (words_of bytes.now)) }
+fn connect(alloc: Global, bytes: &[u8]) -> Result<Step, LineFault>
+    ensures { Reads (connect_of (words_of bytes.now)) result }
 {
-    Ok(on_and_name(alloc, bytes)?.map(|(on, name)| Step::Connect { on, name }))
+    let (on, name) = on_and_name(alloc, bytes)?;
+    Ok(Step::Connect { on, name })
 }
 
 /// `P accept N`.
@@ -203,79 +203,63 @@ fn version(bytes: &[u8]) -> Option<Line>
 
 /// `P send N BYTES` and then items.
 #[tactic(auto, unfolding(crate::specs::Lines::send_of))]
-fn send(alloc: Global, bytes: &[u8]) -> Result<Option<Step>, AllocError>
-    ensures { IfOk result (λ found. found ≡ send_of (words_of bytes.now)) }
+fn send(alloc: Global, bytes: &[u8]) -> Result<Step, LineFault>
+    ensures { Reads (send_of (words_of bytes.now)) result }
 {
-    let Some((on, rest)) = number_in(bytes) else {
-        return Ok(None);
-    };
-    let Some((word, rest)) = first_word(rest) else {
-        return Ok(None);
-    };
-    let Some(bytes) = payload(alloc, word)? else {
-        return Ok(None);
-    };
-    let Some(attach) = attached(alloc, rest)? else {
-        return Ok(None);
-    };
-    Ok(Some(Step::Send {
+    let (on, rest) = number_in(bytes).ok_or(LineFault::Unreadable)?;
+    let (word, rest) = first_word(rest).ok_or(LineFault::Unreadable)?;
+    let bytes = payload(alloc, word)?;
+    let attach = attached(alloc, rest)?;
+    Ok(Step::Send {
         on: Fd(on),
         bytes,
         attach,
-    }))
+    })
 }
 
 /// The step that this verb begins.
 #[tactic(auto, unfolding(crate::specs::Lines::step_of))]
-fn step(alloc: Global, verb: Verb, rest: &[u8]) -> Result<Option<Step>, AllocError>
-    ensures { IfOk result (λ found. found ≡ step_of verb (words_of rest.now)) }
+fn step(alloc: Global, verb: Verb, rest: &[u8]) -> Result<Step, LineFault>
+    ensures { Reads (step_of verb (words_of rest.now)) result }
 {
-    match verb {
-        Verb::Open => Ok(is_end(rest).then_some(Step::Open)),
-        Verb::Dup => Ok(dup(rest)),
-        Verb::Dup2 => Ok(dup2(rest)),
-        Verb::Close => Ok(close(rest)),
-        Verb::Fork => Ok(is_end(rest).then_some(Step::Fork)),
-        Verb::Exit => Ok(is_end(rest).then_some(Step::Exit)),
-        Verb::Pair => Ok(pair(rest)),
-        Verb::Socket => Ok(socket(rest)),
-        Verb::Bind => bind(alloc, rest),
-        Verb::Listen => Ok(listen(rest)),
-        Verb::Connect => connect(alloc, rest),
-        Verb::Accept => Ok(accept(rest)),
-        Verb::Send => send(alloc, rest),
-        Verb::Recv => Ok(recv(rest)),
-        Verb::Peek => Ok(peek(rest)),
-        Verb::Limit => Ok(limit(rest)),
-    }
+    let read = match verb {
+        Verb::Open => is_end(rest).then_some(Step::Open),
+        Verb::Dup => dup(rest),
+        Verb::Dup2 => dup2(rest),
+        Verb::Close => close(rest),
+        Verb::Fork => is_end(rest).then_some(Step::Fork),
+        Verb::Exit => is_end(rest).then_some(Step::Exit),
+        Verb::Pair => pair(rest),
+        Verb::Socket => socket(rest),
+        Verb::Bind => return bind(alloc, rest),
+        Verb::Listen => listen(rest),
+        Verb::Connect => return connect(alloc, rest),
+        Verb::Accept => accept(rest),
+        Verb::Send => return send(alloc, rest),
+        Verb::Recv => recv(rest),
+        Verb::Peek => peek(rest),
+        Verb::Limit => limit(rest),
+    };
+    read.ok_or(LineFault::Unreadable)
 }
 
 /// What this process does.
 #[tactic(auto, unfolding(crate::specs::Lines::process_of))]
-fn process(alloc: Global, pid: Pid, bytes: &[u8]) -> Result<Option<Event>, AllocError>
-    ensures { IfOk result (λ found. found ≡ process_of pid (words_of bytes.now)) }
+fn process(alloc: Global, pid: Pid, bytes: &[u8]) -> Result<Event, LineFault>
+    ensures { Reads (process_of pid (words_of bytes.now)) result }
 {
-    let Some((word, rest)) = first_word(bytes) else {
-        return Ok(None);
-    };
-    let Some(verb) = verb_named(word) else {
-        return Ok(None);
-    };
-    let Some(step) = step(alloc, verb, rest)? else {
-        return Ok(None);
-    };
-    Ok(Some(Event::Proc(pid, step)))
+    let (word, rest) = first_word(bytes).ok_or(LineFault::Unreadable)?;
+    let verb = verb_named(word).ok_or(LineFault::Unreadable)?;
+    Ok(Event::Proc(pid, step(alloc, verb, rest)?))
 }
 
 /// What a line says that begins with this word.
 #[tactic(auto, unfolding(crate::specs::Lines::form_of))]
-pub fn form(alloc: Global, word: &[u8], rest: &[u8]) -> Result<Option<Line>, AllocError>
-    ensures { IfOk result (λ found. found ≡ form_of word.now (words_of rest.now)) }
+pub fn form(alloc: Global, word: &[u8], rest: &[u8]) -> Result<Line, LineFault>
+    ensures { Reads (form_of word.now (words_of rest.now)) result }
 {
-    let Some(opening) = opening_named(word) else {
-        return Ok(None);
-    };
-    Ok(match opening {
+    let read = match opening_named(word).ok_or(LineFault::Unreadable)? {
+        Opening::Process(pid) => return Ok(Line::Event(process(alloc, pid, rest)?)),
         Opening::Spawn => spawn(rest).map(|event| Line::Event(event)),
         Opening::Begin => is_end(rest).then_some(Line::Event(Event::Begin)),
         Opening::Slice => slice(rest).map(|event| Line::Event(event)),
@@ -284,6 +268,6 @@ pub fn form(alloc: Global, word: &[u8], rest: &[u8]) -> Result<Option<Line>, All
         Opening::Totals => is_end(rest).then_some(Line::Report(Report::Totals)),
         Opening::Check => is_end(rest).then_some(Line::Report(Report::Check)),
         Opening::Version => version(rest),
-        Opening::Process(pid) => process(alloc, pid, rest)?.map(|event| Line::Event(event)),
-    })
+    };
+    read.ok_or(LineFault::Unreadable)
 }

@@ -7,6 +7,7 @@
 #![tactic(auto)]
 
 mod attached;
+mod fault;
 mod forms;
 mod keywords;
 pub mod laws;
@@ -16,5 +17,6 @@ mod payload;
 mod version;
 mod words;
 
+pub use fault::LineFault;
 pub use line::{Line, MAX_LINE, Report, line_of};
 pub use version::{Version, read_in};

@@ -1,11 +1,13 @@
 //! One line of a script.
-ghost use Rattle.std.specs.Prelude.{◌≡◌, IfOk};
+ghost use Rattle.std.specs.Prelude.{◌≡◌};
+ghost use Rattle.scm_lines.specs.Fault.{Reads};
 ghost use Rattle.scm_lines.specs.Lines.{all_printable, is_comment, line_of};
 
+use crate::fault::LineFault;
 use crate::forms::form;
 use crate::words::{first_word, is_blank};
 use af_base::events::Event;
-use std::alloc::{AllocError, Global};
+use std::alloc::Global;
 
 /// The most bytes of a line, without its end.
 pub const MAX_LINE: usize = 262_144;
@@ -59,28 +61,27 @@ fn is_comment(bytes: &[u8]) -> bool
     false
 }
 
-/// What a line says in some version, or `None` where it cannot be read in any;
-/// [`crate::version::read_in`] asks the version too.
+/// What a line says in some version; [`crate::version::read_in`] asks the version too.
 ///
 /// `bytes` is the line without its end: the caller takes off the LF, and one CR before it. A line
-/// of more than [`MAX_LINE`] bytes cannot be read, not even a comment. Only `send` takes memory, for
-/// its bytes and its descriptors, and `bind` and `connect`, for a name; where it is refused, the call
-/// answers `AllocError`.
+/// of no form is [`LineFault::Unreadable`], and so is one of more than [`MAX_LINE`] bytes, even a
+/// comment. Only `send` takes memory, for its bytes and its descriptors, and `bind` and `connect`,
+/// for a name; where it is refused, the call answers [`LineFault::Memory`].
 #[tactic(auto, unfolding(crate::specs::Lines::line_of))]
-pub fn line_of(alloc: Global, bytes: &[u8]) -> Result<Option<Line>, AllocError>
-    ensures { IfOk result (λ found. found ≡ line_of bytes.now) }
+pub fn line_of(alloc: Global, bytes: &[u8]) -> Result<Line, LineFault>
+    ensures { Reads (line_of bytes.now) result }
 {
     if bytes.len() > MAX_LINE {
-        return Ok(None);
+        return Err(LineFault::Unreadable);
     }
     if is_comment(bytes) {
-        return Ok(Some(Line::Silence));
+        return Ok(Line::Silence);
     }
     if !all_printable(bytes) {
-        return Ok(None);
+        return Err(LineFault::Unreadable);
     }
-    let Some((word, rest)) = first_word(bytes) else {
-        return Ok(Some(Line::Silence));
-    };
-    form(alloc, word, rest)
+    match first_word(bytes) {
+        None => Ok(Line::Silence),
+        Some((word, rest)) => form(alloc, word, rest),
+    }
 }

@@ -1,11 +1,12 @@
 //! The bytes of a message, as a word spells them.
-ghost use Rattle.std.specs.Prelude.{◌≡◌, ◌<◌, length, IfOk, IfSome, IfNone, Some, None};
-ghost use Rattle.std.specs.Option.{option_map};
+ghost use Rattle.std.specs.Prelude.{◌≡◌, ◌<◌, ◌∷◌, length, IfSome, IfNone, Some, None};
+ghost use Rattle.scm_lines.specs.Fault.{Reads};
 ghost use Rattle.scm_lines.specs.Payload.{is_plain, hex_value, unescape, byte_before, payload_of};
 
+use crate::fault::LineFault;
 use crate::numbers::number;
 use af_base::items::Items;
-use std::alloc::{AllocError, Global};
+use std::alloc::Global;
 
 /// The most bytes that a word stands for: one more than a message may have, so that a script can
 /// ask for a message that is too long.
@@ -51,37 +52,41 @@ fn first_byte(word: &[u8]) -> Option<(u8, &[u8])>
 /// The bytes that a word's characters stand for, in a vector that has room for as many as the word
 /// has characters.
 #[tactic(auto, using(crate::proofs::PayloadLemmas::bytes_before_more))]
-fn unescaped(alloc: Global, word: &[u8]) -> Result<Option<Vec<u8>>, AllocError>
-    ensures { IfOk result (λ found. option_map (λ v. v.items) found ≡ unescape word.now) }
+fn unescaped(alloc: Global, word: &[u8]) -> Result<Items<u8>, LineFault>
+    ensures { Reads (unescape word.now) result }
 {
     let mut bytes = Vec::with_capacity(alloc, word.len())?;
     let mut rest = word;
     while !rest.is_empty() {
-        let Some((byte, tail)) = first_byte(rest) else {
-            return Ok(None);
-        };
+        let (byte, tail) = first_byte(rest).ok_or(LineFault::Unreadable)?;
         bytes.push_reserved(byte);
         rest = tail;
     }
-    Ok(Some(bytes))
+    Ok(Items::of(bytes))
+}
+
+/// As many letters x as the digits behind a `*` say.
+fn letters(alloc: Global, digits: &[u8]) -> Result<Items<u8>, LineFault>
+    ensures { Reads (payload_of (42 ∷ digits.now)) result }
+{
+    let count = number(digits).ok_or(LineFault::Unreadable)? as usize;
+    if count > MAX_PAYLOAD {
+        return Err(LineFault::Unreadable);
+    }
+    Ok(Items::of(vec![in alloc; b'x'; count]?))
 }
 
 /// The bytes that a word stands for: `*` and how many letters x, or the bytes by their characters.
-pub fn payload(alloc: Global, word: &[u8]) -> Result<Option<Items<u8>>, AllocError>
-    ensures { IfOk result (λ found. found ≡ payload_of word.now) }
+pub fn payload(alloc: Global, word: &[u8]) -> Result<Items<u8>, LineFault>
+    ensures { Reads (payload_of word.now) result }
 {
-    match word {
-        [] => Ok(None),
-        [b'*', digits @ ..] => match number(digits) {
-            Some(n) if n as usize <= MAX_PAYLOAD => {
-                let copies = vec![in alloc; b'x'; n as usize]?;
-                Ok(Some(Items::of(copies)))
-            }
-            _ => Ok(None),
-        },
-        _ => match unescaped(alloc, word)? {
-            Some(bytes) if bytes.len() <= MAX_PAYLOAD => Ok(Some(Items::of(bytes))),
-            _ => Ok(None),
-        },
+    let bytes = match word {
+        [] => return Err(LineFault::Unreadable),
+        [b'*', digits @ ..] => return letters(alloc, digits),
+        _ => unescaped(alloc, word)?,
+    };
+    if bytes.len() > MAX_PAYLOAD {
+        return Err(LineFault::Unreadable);
     }
+    Ok(bytes)
 }

@@ -2,12 +2,14 @@
 //!
 //! A script is of version 2 where its first line that is not silent is `version 2`. Then it may have
 //! `peek` and `limit` besides all lines of version 1.
-ghost use Rattle.std.specs.Prelude.{◌≡◌, IfOk};
+ghost use Rattle.std.specs.Prelude.{◌≡◌};
+ghost use Rattle.scm_lines.specs.Fault.{Reads};
 ghost use Rattle.scm_lines.specs.Versions.{has_line, is_later, read_in, version_after};
 
+use crate::fault::LineFault;
 use crate::line::{Line, line_of};
 use af_base::events::{Event, Step};
-use std::alloc::{AllocError, Global};
+use std::alloc::Global;
 
 /// What the lines of a script so far say of its version.
 #[derive(Clone, Copy, Debug, PartialEq, Eq)]
@@ -52,10 +54,15 @@ fn is_later(step: &Step) -> bool
     matches!(step, Step::Peek { .. } | Step::Limit(_))
 }
 
-/// What a line says that comes now in such a script, or `None` where it cannot be read. It takes
-/// memory as [`line_of`] does.
-pub fn read_in(alloc: Global, version: Version, bytes: &[u8]) -> Result<Option<Line>, AllocError>
-    ensures { IfOk result (λ found. found ≡ read_in version bytes.now) }
+/// What a line says that comes now in such a script. Beside a line that [`line_of`] cannot read, one
+/// that the script may not have now is [`LineFault::Unreadable`]. It takes memory as [`line_of`] does.
+pub fn read_in(alloc: Global, version: Version, bytes: &[u8]) -> Result<Line, LineFault>
+    ensures { Reads (read_in version bytes.now) result }
 {
-    Ok(line_of(alloc, bytes)?.filter(|line| version.has(line)))
+    let line = line_of(alloc, bytes)?;
+    if version.has(&line) {
+        Ok(line)
+    } else {
+        Err(LineFault::Unreadable)
+    }
 }

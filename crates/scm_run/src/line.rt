@@ -15,7 +15,7 @@ use af_base::errno::Errno;
 use af_base::events::Reply;
 use af_report::{check, table, totals};
 use af_steps::Engine;
-use scm_lines::{Line, Report, Version, read_in};
+use scm_lines::{Line, LineFault, Report, Version, read_in};
 use scm_watched::Watched;
 use std::alloc::{AllocError, Global};
 use std::io::Write;
@@ -90,8 +90,10 @@ pub fn do_line<W: Write>(
     ensures write { writer.new.has_failed ≡ is_write_fault result }
     ensures no_read { is_read_fault result ≡ false }
 {
-    let Some(says) = read_in(alloc, *version, bytes)? else {
-        return Err(RunFault::Unreadable(number));
+    let says = match read_in(alloc, *version, bytes) {
+        Ok(line) => line,
+        Err(LineFault::Unreadable) => return Err(RunFault::Unreadable(number)),
+        Err(LineFault::Memory) => return Err(RunFault::Memory),
     };
     make_room(text, writer)?;
     *version = version.after(&says);

@@ -1,8 +1,8 @@
 //! Lines with what each says, from the worked examples of the script language.
 use af_base::events::{Event, SockType, Step};
 use af_base::names::{Fd, Pid, Uid};
-use scm_lines::{Line, MAX_LINE, Report, Version, line_of, read_in};
-use std::alloc::{AllocError, Global};
+use scm_lines::{Line, LineFault, MAX_LINE, Report, Version, line_of, read_in};
+use std::alloc::Global;
 use std::process::Abort;
 use std::test::Fail;
 
@@ -159,7 +159,7 @@ static UNREADABLE: [&[u8]; 50] = [
 
 /// What the line says.
 fn said(alloc: Global, line: &[u8]) -> Option<Line> {
-    line_of(alloc, line).unwrap_or(None)
+    line_of(alloc, line).ok()
 }
 
 /// The step of process 1 that the line says.
@@ -242,26 +242,25 @@ fn bytes_and_descriptors_are_spelled(rt: HostRuntime) {
 }
 
 /// None of these lines can be read.
-fn are_unreadable(rt: &impl Abort, alloc: Global, lines: &[&[u8]]) -> Result<(), AllocError> {
+fn are_unreadable(rt: &impl Abort, alloc: Global, lines: &[&[u8]]) {
     for line in lines {
-        assert!(rt; line_of(alloc, line)?.is_none(), "{line:?}");
+        assert!(rt; line_of(alloc, line) == Err(LineFault::Unreadable), "{line:?}");
     }
-    Ok(())
 }
 
 /// Lines that cannot be read, one of them since it is too long: blanks alone would say nothing.
 #[test]
 fn unreadable_lines(rt: HostRuntime) -> Result<(), Fail> {
-    are_unreadable(&rt, rt.alloc(), &UNREADABLE)?;
+    are_unreadable(&rt, rt.alloc(), &UNREADABLE);
     let blanks = vec![in rt.alloc(); b' '; MAX_LINE + 1]?;
-    are_unreadable(&rt, rt.alloc(), &[blanks.as_slice()])?;
+    are_unreadable(&rt, rt.alloc(), &[blanks.as_slice()]);
     say(&rt, rt.alloc(), &[(&blanks[1..], Line::Silence)]);
     Ok(())
 }
 
 /// Whether a script in this state has the line.
 fn has(alloc: Global, version: Version, line: &[u8]) -> bool {
-    matches!(read_in(alloc, version, line), Ok(Some(_)))
+    read_in(alloc, version, line).is_ok()
 }
 
 /// Scripts have these lines, or do not, as it is said of each state.
