@@ -58,8 +58,7 @@ fn answer(alloc: Global, engine: &mut Engine, says: Line, text: &mut Vec<u8>) ->
         Line::Event(event) => {
             // What a sound world answers is short.
             engine.is_sound();
-            let reply = engine.step_owned(event);
-            push_reply(text, &reply).unwrap();
+            push_reply(text, &engine.step_owned(event)).unwrap();
             1
         }
         Line::Report(report) => {

@@ -244,7 +244,10 @@ fn bytes_and_descriptors_are_spelled(rt: HostRuntime) {
 /// None of these lines can be read.
 fn are_unreadable(rt: &impl Abort, alloc: Global, lines: &[&[u8]]) {
     for line in lines {
-        assert!(rt; line_of(alloc, line) == Err(LineFault::Unreadable), "{line:?}");
+        assert!(rt;
+            line_of(alloc, line) == Err(LineFault::Unreadable),
+            "{line:?}"
+        );
     }
 }
 

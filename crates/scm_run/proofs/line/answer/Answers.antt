@@ -8,5 +8,5 @@ use Rattle.scm_run.proofs.line.answer.Goals as goal
 -- There was room for the line.
 pub unwrap-requires : goal.unwrap-requires
 unwrap-requires c =
-    let short : IsShort c.step_owned-reply.result = step-short c.args.engine.now c.step_owned-reply.new.self c.in-Event.event c.step_owned-reply.result c.is_sound.ensures c.step_owned-reply.ensures in
+    let short : IsShort c.step_owned.result = step-short c.args.engine.now c.step_owned.new.self c.in-Event.event c.step_owned.result c.is_sound.ensures c.step_owned.ensures in
     room-ok c.push_reply.result _ _ _ c.requires short c.push_reply.ensures.full
