@@ -298,7 +298,7 @@ form_said word words said e =
     let (o, (e1, f1)) = bound (opening_of word) (λ o. opened_by o words) said e in
     opened_said word o words said (opening_said word o e1) f1
 
-words_said : (words : List (List ℕ)) (said : Line) → words_say words ≡ Some said → Says words said
+pub words_said : (words : List (List ℕ)) (said : Line) → words_say words ≡ Some said → Says words said
 words_said [] said e = let is : line.Silence ≡ said = cc in rw (← is) refl
 words_said (word ∷ words) said e = form_said word words said e
 

@@ -9,4 +9,5 @@ pub mod AttachedSays
 pub mod KeywordLemmas
 pub mod FormsSaid
 pub mod FormsRead
+pub mod Printable
 pub mod VersionsRead

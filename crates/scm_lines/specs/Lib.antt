@@ -5,6 +5,7 @@ pub mod Payload
 pub mod Attached
 pub mod Keywords
 pub mod Lines
+pub mod Names
 pub mod Says
 pub mod Versions
 pub mod Fault

@@ -2,11 +2,12 @@
 ghost use Rattle.std.specs.Prelude.{◌≡◌};
 ghost use Rattle.scm_lines.specs.Fault.{Reads};
 ghost use Rattle.scm_lines.specs.Lines.{all_printable, is_comment, line_of};
+ghost use Rattle.scm_lines.specs.Names.{name_printable};
 
 use crate::fault::LineFault;
 use crate::forms::form;
 use crate::words::{first_word, is_blank};
-use af_base::events::Event;
+use af_base::events::{Event, Step};
 use std::alloc::Global;
 
 /// The most bytes of a line, without its end.
@@ -41,12 +42,24 @@ pub enum Line {
 fn all_printable(bytes: &[u8]) -> bool
     ensures { result ≡ all_printable bytes.now }
 {
-    // Nearly all lines are, and a loop that has no early end takes many bytes at once.
+    // Nearly all names are, and a loop that has no early end takes many bytes at once.
     let mut all = true;
     for b in bytes {
         all &= matches!(*b, b' '..=b'~' | b'\t');
     }
     all
+}
+
+/// Whether the bytes of the line's name are printable, if it has one.
+fn is_name_printable(line: &Line) -> bool
+    ensures { result ≡ name_printable line.now }
+{
+    match line {
+        Line::Event(Event::Proc(_, Step::Bind { name, .. } | Step::Connect { name, .. })) => {
+            all_printable(name.as_slice())
+        }
+        _ => true,
+    }
 }
 
 /// Whether the first word begins with `#`.
@@ -67,7 +80,7 @@ fn is_comment(bytes: &[u8]) -> bool
 /// of no form is [`LineFault::Unreadable`], and so is one of more than [`MAX_LINE`] bytes, even a
 /// comment. Only `send` takes memory, for its bytes and its descriptors, and `bind` and `connect`,
 /// for a name; where it is refused, the call answers [`LineFault::Memory`].
-#[tactic(auto, unfolding(crate::specs::Lines::line_of))]
+#[tactic(auto, unfolding(crate::specs::Lines::line_of), using(crate::proofs::Printable::name_alone))]
 pub fn line_of(alloc: Global, bytes: &[u8]) -> Result<Line, LineFault>
     ensures { Reads (line_of bytes.now) result }
 {
@@ -77,11 +90,14 @@ pub fn line_of(alloc: Global, bytes: &[u8]) -> Result<Line, LineFault>
     if is_comment(bytes) {
         return Ok(Line::Silence);
     }
-    if !all_printable(bytes) {
-        return Err(LineFault::Unreadable);
-    }
-    match first_word(bytes) {
-        None => Ok(Line::Silence),
-        Some((word, rest)) => form(alloc, word, rest),
+    let Some((word, rest)) = first_word(bytes) else {
+        return Ok(Line::Silence);
+    };
+    // A name is any word. All other words that are read have printable bytes only, as blanks are.
+    let line = form(alloc, word, rest)?;
+    if is_name_printable(&line) {
+        Ok(line)
+    } else {
+        Err(LineFault::Unreadable)
     }
 }

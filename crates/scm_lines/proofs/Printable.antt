@@ -1,0 +1,157 @@
+-- What is read of a line has printable bytes only, but for a name.
+use Rattle.std.proofs.Common.{◌≡◌, ℕ, ◌==◌, ◌&&◌, ◌||◌, List, [], ◌∷◌, ◌++◌, Bool, true, false, cond, nat_le, Option, Some, None, refl, sym, ap, ◌∙◌, inl, inr, arith, codes}
+use Rattle.std.proofs.Math.Bool.{and_assoc, and-true}
+use Rattle.std.proofs.lemmas.Grind.{common_steps}
+use Rattle.af_base.specs.declared.events.SockType.{SockType}
+use Rattle.af_base.specs.declared.events.SockType.TheVariants.{Seqpacket, Stream}
+use Rattle.af_base.specs.declared.events.Step.{Step}
+use Rattle.af_base.specs.declared.events.Step.TheVariants as step
+use Rattle.af_base.specs.declared.events.Event.TheVariants as event
+use Rattle.scm_lines.specs.Words.{ends_word, is_blank, onto_word, words_of}
+use Rattle.scm_lines.specs.Numbers.{all_digits, is_digit}
+use Rattle.scm_lines.specs.Payload.{hex_value, is_plain}
+use Rattle.scm_lines.specs.Lines.{all_printable, words_say, ◌>>=◌}
+use Rattle.scm_lines.specs.Names.{name_printable, step_name_printable}
+use Rattle.scm_lines.specs.Says.{AreItems, IsItem, IsNumber, IsPayload, Says, SaysStep, Spells, type_name}
+use Rattle.scm_lines.specs.declared.line.Line.{Line}
+use Rattle.scm_lines.specs.declared.line.Line.TheVariants as line
+use Rattle.scm_lines.specs.declared.line.Report.TheVariants as report
+use Rattle.scm_lines.proofs.Choices.{split_and}
+use Rattle.scm_lines.proofs.NumberLemmas.{number_digits}
+use Rattle.scm_lines.proofs.FormsSaid.{words_said}
+
+abbrev byte_printable : ℕ → Bool
+byte_printable b = (nat_le 32 b && nat_le b 126) || (b == 9)
+
+-- Each word has printable bytes only.
+abbrev words_printable : List (List ℕ) → Bool
+words_printable [] = true
+words_printable (word ∷ words) = all_printable word && words_printable words
+
+-- two tests that both hold
+both : (a b : Bool) → a ≡ true → b ≡ true → (a && b) ≡ true
+both true b e f = f
+both false b e f = e
+
+-- ---- a line and its words
+
+blank_printable : (b : ℕ) → is_blank b ≡ true → byte_printable b ≡ true
+blank_printable b h = grind (arith, common_steps)
+
+-- a byte in front of the first word
+onto_printable : (b : ℕ) (words : List (List ℕ)) → words_printable (onto_word b words) ≡ (byte_printable b && words_printable words)
+onto_printable b [] = and_assoc (byte_printable b) true true
+onto_printable b (word ∷ words) = and_assoc (byte_printable b) (all_printable word) (words_printable words)
+
+-- a line's bytes are printable where those of its words are
+line_printable : (bytes : List ℕ) → all_printable bytes ≡ words_printable (words_of bytes)
+line_printable [] = refl
+line_printable (b ∷ bytes) = by_blank (is_blank b) refl (line_printable bytes)
+  where
+    by_end : (ends : Bool) → all_printable bytes ≡ words_printable (words_of bytes)
+        → (byte_printable b && all_printable bytes) ≡ words_printable (cond ends ((b ∷ []) ∷ words_of bytes) (onto_word b (words_of bytes)))
+    by_end true rest = ap (λ p. byte_printable b && p) rest ∙ sym (and_assoc (byte_printable b) true (words_printable (words_of bytes)))
+    by_end false rest = ap (λ p. byte_printable b && p) rest ∙ sym (onto_printable b (words_of bytes))
+
+    by_blank : (blank : Bool) → is_blank b ≡ blank → all_printable bytes ≡ words_printable (words_of bytes)
+        → (byte_printable b && all_printable bytes) ≡ words_printable (cond blank (words_of bytes) (cond (ends_word bytes) ((b ∷ []) ∷ words_of bytes) (onto_word b (words_of bytes))))
+    by_blank true h rest = ap (λ p. p && all_printable bytes) (blank_printable b h) ∙ rest
+    by_blank false h rest = by_end (ends_word bytes) rest
+
+-- ---- the words that are no names
+
+digit_printable : (b : ℕ) → is_digit b ≡ true → byte_printable b ≡ true
+digit_printable b h = grind (arith, common_steps)
+
+digits_printable : (word : List ℕ) → all_digits word ≡ true → all_printable word ≡ true
+digits_printable [] h = refl
+digits_printable (b ∷ word) h =
+    let (digit, digits) = split_and (is_digit b) (all_digits word) h in
+    both (byte_printable b) (all_printable word) (digit_printable b digit) (digits_printable word digits)
+
+number_printable : (word : List ℕ) (n : ℕ) → IsNumber word n → all_printable word ≡ true
+number_printable word n number = digits_printable word (number_digits word n number)
+
+plain_printable : (b : ℕ) → is_plain b ≡ true → byte_printable b ≡ true
+plain_printable b h = grind (arith, common_steps)
+
+hex_printable : (b v : ℕ) → hex_value b ≡ Some v → byte_printable b ≡ true
+hex_printable b v h = grind (arith, common_steps)
+
+spelt_printable : (word bytes : List ℕ) → Spells word bytes → all_printable word ≡ true
+spelt_printable word [] e = rw e refl
+spelt_printable word (b ∷ bytes) (rest, (byte, more)) = elim byte [
+  | inl (plain, e) ↦ rw e (both (byte_printable b) (all_printable rest) (plain_printable b plain) (spelt_printable rest bytes more))
+  | inr (high, low, h, l, e, e1, e2, e3) ↦ rw e (both (byte_printable high) (byte_printable low && all_printable rest) (hex_printable high h e1)
+      (both (byte_printable low) (all_printable rest) (hex_printable low l e2) (spelt_printable rest bytes more)))
+]
+
+payload_printable : (word bytes : List ℕ) → IsPayload word bytes → all_printable word ≡ true
+payload_printable word bytes (short, inl (digits, (n, e, number, copies))) = rw e (number_printable digits n number)
+payload_printable word bytes (short, inr (some, spelt)) = spelt_printable word bytes spelt
+
+joined_printable : (front back : List ℕ) → all_printable front ≡ true → all_printable back ≡ true → all_printable (front ++ back) ≡ true
+joined_printable [] back h k = k
+joined_printable (b ∷ front) back h k =
+    let (byte, bytes) = split_and (byte_printable b) (all_printable front) h in
+    both (byte_printable b) (all_printable (front ++ back)) byte (joined_printable front back bytes k)
+
+item_printable : (word fds : List ℕ) → IsItem word fds → all_printable word ≡ true
+item_printable word fds (inl (n, (number, e))) = number_printable word n number
+item_printable word fds (inr (front, back, (n, k, w, m, l, some, few, e))) =
+    rw w (joined_printable front (42 ∷ back) (number_printable front n m) (number_printable back k l))
+
+items_printable : (words : List (List ℕ)) (fds : List ℕ) → AreItems words fds → words_printable words ≡ true
+items_printable [] fds e = refl
+items_printable (word ∷ words) fds (first, others, (item, items, e)) =
+    both (all_printable word) (words_printable words) (item_printable word first item) (items_printable words others items)
+
+type_printable : (kind : SockType) → all_printable (type_name kind) ≡ true
+type_printable Stream = refl
+type_printable Seqpacket = refl
+
+-- ---- the words of a form
+
+step_printable : (words : List (List ℕ)) (st : Step) → SaysStep words st → words_printable words ≡ step_name_printable st
+step_printable words step.Open e = rw e refl
+step_printable words (step.Dup fd) (a, (e, n)) = rw (e, number_printable a fd n) refl
+step_printable words (step.Dup2 from to) (a, b, (e, n1, n2)) = rw (e, number_printable a from n1, number_printable b to n2) refl
+step_printable words step.Fork e = rw e refl
+step_printable words step.Exit e = rw e refl
+step_printable words (step.Close fd) (a, (e, n)) = rw (e, number_printable a fd n) refl
+step_printable words (step.Pair kind) e = rw (e, type_printable kind) refl
+step_printable words (step.Socket kind) e = rw (e, type_printable kind) refl
+step_printable words (step.Bind on name) (a, (e, n)) = rw (e, number_printable a on n) (and-true (all_printable name))
+step_printable words (step.Listen on backlog) (a, b, (e, n1, n2)) = rw (e, number_printable a on n1, number_printable b backlog n2) refl
+step_printable words (step.Connect on name) (a, (e, n)) = rw (e, number_printable a on n) (and-true (all_printable name))
+step_printable words (step.Accept fd) (a, (e, n)) = rw (e, number_printable a fd n) refl
+step_printable words (step.Send on bytes attach) (a, b, (items, e, n, payload, attached)) =
+    rw (e, number_printable a on n, payload_printable b bytes payload, items_printable items attach attached.1) refl
+step_printable words (step.Recv on max_bytes max_fds) (a, b, c, (e, n1, n2, n3)) = rw (e, number_printable a on n1, number_printable b max_bytes n2, number_printable c max_fds n3) refl
+step_printable words (step.Peek on max_bytes max_fds) (a, b, c, (e, n1, n2, n3)) = rw (e, number_printable a on n1, number_printable b max_bytes n2, number_printable c max_fds n3) refl
+step_printable words (step.Limit nofile) (a, (e, n)) = rw (e, number_printable a nofile n) refl
+
+says_printable : (words : List (List ℕ)) (said : Line) → Says words said → words_printable words ≡ name_printable said
+says_printable words line.Silence e = rw e refl
+says_printable words line.Version2 e = rw e refl
+says_printable words (line.Event (event.Spawn uid nofile false)) (a, b, (e, m, n)) = rw (e, number_printable a uid m, number_printable b nofile n) refl
+says_printable words (line.Event (event.Spawn uid nofile true)) (a, b, (e, m, n)) = rw (e, number_printable a uid m, number_printable b nofile n) refl
+says_printable words (line.Event (event.Proc pid st)) (a, (others, e, number, says)) = rw (e, number_printable a pid number) (step_printable others st says)
+says_printable words (line.Event event.Begin) e = rw e refl
+says_printable words (line.Event (event.Slice budget)) (a, (e, n)) = rw (e, number_printable a budget n) refl
+says_printable words (line.Event event.Pass) e = rw e refl
+says_printable words (line.Report report.Table) e = rw e refl
+says_printable words (line.Report report.Totals) e = rw e refl
+says_printable words (line.Report report.Check) e = rw e refl
+
+-- So it is enough to look at the name: a line is read where its bytes are printable, that is, where its words say something whose name is.
+pub name_alone : (bytes : List ℕ) → cond (all_printable bytes) (words_say (words_of bytes)) None ≡ (words_say (words_of bytes) >>= λ said. cond (name_printable said) (Some said) None)
+name_alone bytes = ap (λ b. cond b (words_say (words_of bytes)) None) (line_printable bytes) ∙ by (words_say (words_of bytes)) refl
+  where
+    neither : (b : Bool) → cond b (None {A = Line}) None ≡ None
+    neither true = refl
+    neither false = refl
+
+    by : (read : Option Line) → words_say (words_of bytes) ≡ read → cond (words_printable (words_of bytes)) read None ≡ (read >>= λ said. cond (name_printable said) (Some said) None)
+    by None e = neither (words_printable (words_of bytes))
+    by (Some said) e = ap (λ b. cond b (Some said) None) (says_printable (words_of bytes) said (words_said (words_of bytes) said e))
