@@ -1,5 +1,6 @@
 -- What is read of a line has printable bytes only, but for a name.
-use Rattle.std.proofs.Common.{◌≡◌, ℕ, ◌==◌, ◌&&◌, ◌||◌, List, [], ◌∷◌, ◌++◌, Bool, true, false, cond, nat_le, Option, Some, None, refl, sym, ap, ◌∙◌, inl, inr, arith, codes}
+use Rattle.std.proofs.Common.{◌≡◌, ℕ, ◌≤◌, ◌==◌, ◌&&◌, ◌||◌, List, [], ◌∷◌, ◌++◌, Bool, true, false, cond, length, nat_le, nat_lt, Option, Some, None, refl, sym, ap, ◌∙◌, inl, inr, arith, codes}
+use Rattle.std.specs.Cmp.Derive.{both_true}
 use Rattle.std.proofs.Math.Bool.{and_assoc, and-true}
 use Rattle.std.proofs.lemmas.Grind.{common_steps}
 use Rattle.af_base.specs.declared.events.SockType.{SockType}
@@ -10,13 +11,14 @@ use Rattle.af_base.specs.declared.events.Event.TheVariants as event
 use Rattle.scm_lines.specs.Words.{ends_word, is_blank, onto_word, words_of}
 use Rattle.scm_lines.specs.Numbers.{all_digits, is_digit}
 use Rattle.scm_lines.specs.Payload.{hex_value, is_plain}
-use Rattle.scm_lines.specs.Lines.{all_printable, words_say, ◌>>=◌}
+use Rattle.scm_lines.specs.Lines.{all_printable, is_comment, line_of, words_say, ◌>>=◌}
 use Rattle.scm_lines.specs.Names.{name_printable, step_name_printable}
 use Rattle.scm_lines.specs.Says.{AreItems, IsItem, IsNumber, IsPayload, Says, SaysStep, Spells, type_name}
 use Rattle.scm_lines.specs.declared.line.Line.{Line}
 use Rattle.scm_lines.specs.declared.line.Line.TheVariants as line
 use Rattle.scm_lines.specs.declared.line.Report.TheVariants as report
-use Rattle.scm_lines.proofs.Choices.{split_and}
+use Rattle.scm_lines.specs.declared.line.TheConstants.{MAX_LINE}
+use Rattle.scm_lines.proofs.Choices.{chosen, guarded, split_and}
 use Rattle.scm_lines.proofs.NumberLemmas.{number_digits}
 use Rattle.scm_lines.proofs.FormsSaid.{words_said}
 
@@ -27,11 +29,6 @@ byte_printable b = (nat_le 32 b && nat_le b 126) || (b == 9)
 abbrev words_printable : List (List ℕ) → Bool
 words_printable [] = true
 words_printable (word ∷ words) = all_printable word && words_printable words
-
--- two tests that both hold
-both : (a b : Bool) → a ≡ true → b ≡ true → (a && b) ≡ true
-both true b e f = f
-both false b e f = e
 
 -- ---- a line and its words
 
@@ -60,14 +57,15 @@ line_printable (b ∷ bytes) = by_blank (is_blank b) refl (line_printable bytes)
 
 -- ---- the words that are no names
 
-digit_printable : (b : ℕ) → is_digit b ≡ true → byte_printable b ≡ true
-digit_printable b h = grind (arith, common_steps)
+-- a byte of a range of printable ones
+between_printable : (low high b : ℕ) → 32 ≤ low → high ≤ 126 → (nat_le low b && nat_le b high) ≡ true → byte_printable b ≡ true
+between_printable low high b h k within = grind (arith, common_steps)
 
 digits_printable : (word : List ℕ) → all_digits word ≡ true → all_printable word ≡ true
 digits_printable [] h = refl
 digits_printable (b ∷ word) h =
     let (digit, digits) = split_and (is_digit b) (all_digits word) h in
-    both (byte_printable b) (all_printable word) (digit_printable b digit) (digits_printable word digits)
+    both_true (between_printable 48 57 b (omega arith) (omega arith) digit) (digits_printable word digits)
 
 number_printable : (word : List ℕ) (n : ℕ) → IsNumber word n → all_printable word ≡ true
 number_printable word n number = digits_printable word (number_digits word n number)
@@ -76,14 +74,21 @@ plain_printable : (b : ℕ) → is_plain b ≡ true → byte_printable b ≡ tru
 plain_printable b h = grind (arith, common_steps)
 
 hex_printable : (b v : ℕ) → hex_value b ≡ Some v → byte_printable b ≡ true
-hex_printable b v h = grind (arith, common_steps)
+hex_printable b v e = elim (chosen (is_digit b) _ _ _ e) [
+  | inl (digit, e1) ↦ between_printable 48 57 b (omega arith) (omega arith) digit
+  | inr (f, e2) ↦ elim (chosen (nat_le 65 b && nat_le b 70) _ _ _ e2) [
+    | inl (capital, e3) ↦ between_printable 65 70 b (omega arith) (omega arith) capital
+    | inr (g, e4) ↦ let (small, same) = guarded (nat_le 97 b && nat_le b 102) _ v e4 in between_printable 97 102 b (omega arith) (omega arith) small
+  ]
+]
 
 spelt_printable : (word bytes : List ℕ) → Spells word bytes → all_printable word ≡ true
 spelt_printable word [] e = rw e refl
 spelt_printable word (b ∷ bytes) (rest, (byte, more)) = elim byte [
-  | inl (plain, e) ↦ rw e (both (byte_printable b) (all_printable rest) (plain_printable b plain) (spelt_printable rest bytes more))
-  | inr (high, low, h, l, e, e1, e2, e3) ↦ rw e (both (byte_printable high) (byte_printable low && all_printable rest) (hex_printable high h e1)
-      (both (byte_printable low) (all_printable rest) (hex_printable low l e2) (spelt_printable rest bytes more)))
+  | inl (plain, e) ↦ rw e (both_true (plain_printable b plain) (spelt_printable rest bytes more))
+  | inr (high, low, h, l, e, e1, e2, e3) ↦
+      let digits : all_printable (high ∷ low ∷ rest) ≡ true = both_true (hex_printable high h e1) (both_true (hex_printable low l e2) (spelt_printable rest bytes more)) in
+      rw e digits
 ]
 
 payload_printable : (word bytes : List ℕ) → IsPayload word bytes → all_printable word ≡ true
@@ -94,7 +99,7 @@ joined_printable : (front back : List ℕ) → all_printable front ≡ true → 
 joined_printable [] back h k = k
 joined_printable (b ∷ front) back h k =
     let (byte, bytes) = split_and (byte_printable b) (all_printable front) h in
-    both (byte_printable b) (all_printable (front ++ back)) byte (joined_printable front back bytes k)
+    both_true byte (joined_printable front back bytes k)
 
 item_printable : (word fds : List ℕ) → IsItem word fds → all_printable word ≡ true
 item_printable word fds (inl (n, (number, e))) = number_printable word n number
@@ -104,7 +109,7 @@ item_printable word fds (inr (front, back, (n, k, w, m, l, some, few, e))) =
 items_printable : (words : List (List ℕ)) (fds : List ℕ) → AreItems words fds → words_printable words ≡ true
 items_printable [] fds e = refl
 items_printable (word ∷ words) fds (first, others, (item, items, e)) =
-    both (all_printable word) (words_printable words) (item_printable word first item) (items_printable words others items)
+    both_true (item_printable word first item) (items_printable words others items)
 
 type_printable : (kind : SockType) → all_printable (type_name kind) ≡ true
 type_printable Stream = refl
@@ -144,14 +149,20 @@ says_printable words (line.Report report.Table) e = rw e refl
 says_printable words (line.Report report.Totals) e = rw e refl
 says_printable words (line.Report report.Check) e = rw e refl
 
--- So it is enough to look at the name: a line is read where its bytes are printable, that is, where its words say something whose name is.
-pub name_alone : (bytes : List ℕ) → cond (all_printable bytes) (words_say (words_of bytes)) None ≡ (words_say (words_of bytes) >>= λ said. cond (name_printable said) (Some said) None)
+-- the words of a line, where its bytes are printable, say what its words say whose name is
+name_alone : (bytes : List ℕ) → cond (all_printable bytes) (words_say (words_of bytes)) None ≡ (words_say (words_of bytes) >>= λ said. cond (name_printable said) (Some said) None)
 name_alone bytes = ap (λ b. cond b (words_say (words_of bytes)) None) (line_printable bytes) ∙ by (words_say (words_of bytes)) refl
   where
-    neither : (b : Bool) → cond b (None {A = Line}) None ≡ None
-    neither true = refl
-    neither false = refl
+    either : (b : Bool) (same : Option Line) → cond b same same ≡ same
+    either true same = refl
+    either false same = refl
 
     by : (read : Option Line) → words_say (words_of bytes) ≡ read → cond (words_printable (words_of bytes)) read None ≡ (read >>= λ said. cond (name_printable said) (Some said) None)
-    by None e = neither (words_printable (words_of bytes))
+    by None e = either (words_printable (words_of bytes)) None
     by (Some said) e = ap (λ b. cond b (Some said) None) (says_printable (words_of bytes) said (words_said (words_of bytes) said e))
+
+-- So it is enough to look at the name of what the words say.
+pub line_by_name : (bytes : List ℕ) → line_of bytes
+    ≡ cond (nat_lt MAX_LINE (length bytes)) None (cond (is_comment bytes) (Some line.Silence) (words_say (words_of bytes) >>= λ said. cond (name_printable said) (Some said) None))
+unfolding line_of
+line_by_name bytes = ap (λ (o : Option Line). cond (nat_lt MAX_LINE (length bytes)) None (cond (is_comment bytes) (Some line.Silence) o)) (name_alone bytes)

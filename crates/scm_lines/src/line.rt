@@ -80,7 +80,7 @@ fn is_comment(bytes: &[u8]) -> bool
 /// of no form is [`LineFault::Unreadable`], and so is one of more than [`MAX_LINE`] bytes, even a
 /// comment. Only `send` takes memory, for its bytes and its descriptors, and `bind` and `connect`,
 /// for a name; where it is refused, the call answers [`LineFault::Memory`].
-#[tactic(auto, unfolding(crate::specs::Lines::line_of), using(crate::proofs::Printable::name_alone))]
+#[tactic(auto, using(crate::proofs::Printable::line_by_name))]
 pub fn line_of(alloc: Global, bytes: &[u8]) -> Result<Line, LineFault>
     ensures { Reads (line_of bytes.now) result }
 {
