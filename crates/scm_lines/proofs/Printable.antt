@@ -1,5 +1,5 @@
 -- What is read of a line has printable bytes only, but for a name.
-use Rattle.std.proofs.Common.{◌≡◌, ℕ, ◌≤◌, ◌==◌, ◌&&◌, ◌||◌, List, [], ◌∷◌, ◌++◌, Bool, true, false, cond, length, nat_le, nat_lt, Option, Some, None, refl, sym, ap, ◌∙◌, inl, inr, arith, codes}
+use Rattle.std.proofs.Common.{◌≡◌, ℕ, ◌≤◌, ◌==◌, ◌&&◌, ◌||◌, List, [], ◌∷◌, ◌++◌, Bool, true, false, cond, length, nat_le, nat_lt, Option, Some, None, refl, sym, ap, ◌∙◌, inl, inr, arith}
 use Rattle.std.specs.Cmp.Derive.{both_true}
 use Rattle.std.proofs.Math.Bool.{and_assoc, and-true}
 use Rattle.std.proofs.lemmas.Grind.{common_steps}
@@ -22,16 +22,18 @@ use Rattle.scm_lines.proofs.Choices.{chosen, guarded, split_and}
 use Rattle.scm_lines.proofs.NumberLemmas.{number_digits}
 use Rattle.scm_lines.proofs.FormsSaid.{words_said}
 
+-- A byte that a line may have.
 abbrev byte_printable : ℕ → Bool
 byte_printable b = (nat_le 32 b && nat_le b 126) || (b == 9)
 
--- Each word has printable bytes only.
+-- Words of printable bytes.
 abbrev words_printable : List (List ℕ) → Bool
 words_printable [] = true
 words_printable (word ∷ words) = all_printable word && words_printable words
 
 -- ---- a line and its words
 
+-- a space and a tab are printable
 blank_printable : (b : ℕ) → is_blank b ≡ true → byte_printable b ≡ true
 blank_printable b h = grind (arith, common_steps)
 
@@ -40,7 +42,7 @@ onto_printable : (b : ℕ) (words : List (List ℕ)) → words_printable (onto_w
 onto_printable b [] = and_assoc (byte_printable b) true true
 onto_printable b (word ∷ words) = and_assoc (byte_printable b) (all_printable word) (words_printable words)
 
--- a line's bytes are printable where those of its words are
+-- the bytes of a line are printable where its words are
 line_printable : (bytes : List ℕ) → all_printable bytes ≡ words_printable (words_of bytes)
 line_printable [] = refl
 line_printable (b ∷ bytes) = by_blank (is_blank b) refl (line_printable bytes)
@@ -61,18 +63,22 @@ line_printable (b ∷ bytes) = by_blank (is_blank b) refl (line_printable bytes)
 between_printable : (low high b : ℕ) → 32 ≤ low → high ≤ 126 → (nat_le low b && nat_le b high) ≡ true → byte_printable b ≡ true
 between_printable low high b h k within = grind (arith, common_steps)
 
+-- digits are printable
 digits_printable : (word : List ℕ) → all_digits word ≡ true → all_printable word ≡ true
 digits_printable [] h = refl
 digits_printable (b ∷ word) h =
     let (digit, digits) = split_and (is_digit b) (all_digits word) h in
     both_true (between_printable 48 57 b (omega arith) (omega arith) digit) (digits_printable word digits)
 
+-- so are the digits of a number
 number_printable : (word : List ℕ) (n : ℕ) → IsNumber word n → all_printable word ≡ true
 number_printable word n number = digits_printable word (number_digits word n number)
 
+-- so is a character that stands for itself
 plain_printable : (b : ℕ) → is_plain b ≡ true → byte_printable b ≡ true
 plain_printable b h = grind (arith, common_steps)
 
+-- so is a hexadecimal digit
 hex_printable : (b v : ℕ) → hex_value b ≡ Some v → byte_printable b ≡ true
 hex_printable b v e = elim (chosen (is_digit b) _ _ _ e) [
   | inl (digit, e1) ↦ between_printable 48 57 b (omega arith) (omega arith) digit
@@ -82,6 +88,7 @@ hex_printable b v e = elim (chosen (is_digit b) _ _ _ e) [
   ]
 ]
 
+-- so is a word that spells bytes
 spelt_printable : (word bytes : List ℕ) → Spells word bytes → all_printable word ≡ true
 spelt_printable word [] e = rw e refl
 spelt_printable word (b ∷ bytes) (rest, (byte, more)) = elim byte [
@@ -91,32 +98,38 @@ spelt_printable word (b ∷ bytes) (rest, (byte, more)) = elim byte [
       rw e digits
 ]
 
+-- so is a word for the bytes of a message
 payload_printable : (word bytes : List ℕ) → IsPayload word bytes → all_printable word ≡ true
 payload_printable word bytes (short, inl (digits, (n, e, number, copies))) = rw e (number_printable digits n number)
 payload_printable word bytes (short, inr (some, spelt)) = spelt_printable word bytes spelt
 
+-- so are two printable parts together
 joined_printable : (front back : List ℕ) → all_printable front ≡ true → all_printable back ≡ true → all_printable (front ++ back) ≡ true
 joined_printable [] back h k = k
 joined_printable (b ∷ front) back h k =
     let (byte, bytes) = split_and (byte_printable b) (all_printable front) h in
     both_true byte (joined_printable front back bytes k)
 
+-- so is an item
 item_printable : (word fds : List ℕ) → IsItem word fds → all_printable word ≡ true
 item_printable word fds (inl (n, (number, e))) = number_printable word n number
 item_printable word fds (inr (front, back, (n, k, w, m, l, some, few, e))) =
     rw w (joined_printable front (42 ∷ back) (number_printable front n m) (number_printable back k l))
 
+-- so are items
 items_printable : (words : List (List ℕ)) (fds : List ℕ) → AreItems words fds → words_printable words ≡ true
 items_printable [] fds e = refl
 items_printable (word ∷ words) fds (first, others, (item, items, e)) =
     both_true (item_printable word first item) (items_printable words others items)
 
+-- so is the name of a type
 type_printable : (kind : SockType) → all_printable (type_name kind) ≡ true
 type_printable Stream = refl
 type_printable Seqpacket = refl
 
 -- ---- the words of a form
 
+-- the words of a step are printable where its name is
 step_printable : (words : List (List ℕ)) (st : Step) → SaysStep words st → words_printable words ≡ step_name_printable st
 step_printable words step.Open e = rw e refl
 step_printable words (step.Dup fd) (a, (e, n)) = rw (e, number_printable a fd n) refl
@@ -136,6 +149,7 @@ step_printable words (step.Recv on max_bytes max_fds) (a, b, c, (e, n1, n2, n3))
 step_printable words (step.Peek on max_bytes max_fds) (a, b, c, (e, n1, n2, n3)) = rw (e, number_printable a on n1, number_printable b max_bytes n2, number_printable c max_fds n3) refl
 step_printable words (step.Limit nofile) (a, (e, n)) = rw (e, number_printable a nofile n) refl
 
+-- the words of a line are printable where its name is
 says_printable : (words : List (List ℕ)) (said : Line) → Says words said → words_printable words ≡ name_printable said
 says_printable words line.Silence e = rw e refl
 says_printable words line.Version2 e = rw e refl
@@ -149,7 +163,7 @@ says_printable words (line.Report report.Table) e = rw e refl
 says_printable words (line.Report report.Totals) e = rw e refl
 says_printable words (line.Report report.Check) e = rw e refl
 
--- the words of a line, where its bytes are printable, say what its words say whose name is
+-- to ask for printable bytes before the words are read is to ask for a printable name afterwards
 name_alone : (bytes : List ℕ) → cond (all_printable bytes) (words_say (words_of bytes)) None ≡ (words_say (words_of bytes) >>= λ said. cond (name_printable said) (Some said) None)
 name_alone bytes = ap (λ b. cond b (words_say (words_of bytes)) None) (line_printable bytes) ∙ by (words_say (words_of bytes)) refl
   where
@@ -161,7 +175,7 @@ name_alone bytes = ap (λ b. cond b (words_say (words_of bytes)) None) (line_pri
     by None e = either (words_printable (words_of bytes)) None
     by (Some said) e = ap (λ b. cond b (Some said) None) (says_printable (words_of bytes) said (words_said (words_of bytes) said e))
 
--- So it is enough to look at the name of what the words say.
+-- so a line is read by its words, with a look at the name that they say
 pub line_by_name : (bytes : List ℕ) → line_of bytes
     ≡ cond (nat_lt MAX_LINE (length bytes)) None (cond (is_comment bytes) (Some line.Silence) (words_say (words_of bytes) >>= λ said. cond (name_printable said) (Some said) None))
 unfolding line_of

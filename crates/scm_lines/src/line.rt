@@ -93,7 +93,7 @@ pub fn line_of(alloc: Global, bytes: &[u8]) -> Result<Line, LineFault>
     let Some((word, rest)) = first_word(bytes) else {
         return Ok(Line::Silence);
     };
-    // A name is any word. All other words that are read have printable bytes only, as blanks are.
+    // Only a name is any word: all others that are read are printable, and so are blanks.
     let line = form(alloc, word, rest)?;
     if is_name_printable(&line) {
         Ok(line)
