@@ -143,10 +143,8 @@ impl Engine {
 /// Whether these bytes are a name: 1 to 107 letters, digits, `-`, `.` and `_` (unix(7)).
 fn is_name(bytes: &[u8]) -> bool {
     for byte in bytes {
-        match *byte {
-            b'a'..=b'z' | b'A'..=b'Z' | b'0'..=b'9' => {}
-            b'-' | b'.' | b'_' => {}
-            _ => return false,
+        if !byte.is_ascii_alphanumeric() && !b"-._".contains(byte) {
+            return false;
         }
     }
     !bytes.is_empty() && bytes.len() <= MAX_NAME

@@ -5,8 +5,6 @@
 #[cfg(test)]
 mod command;
 #[cfg(test)]
-mod lines;
-#[cfg(test)]
 mod race;
 #[cfg(test)]
 mod run;

@@ -70,13 +70,9 @@ fn flushes<W: Write>(output: &mut Watched<W>) -> bool {
 fn a_read_is_handed_on(rt: HostRuntime) {
     let mut input = Watched::new(b"abc".as_slice());
     let mut buf = [0; 2];
-    assert_eq!(rt; read(&mut input, &mut buf), Ok(2));
-    assert_eq!(rt; buf.as_slice(), b"ab".as_slice());
-    assert_eq!(rt; *input.inner(), b"c".as_slice());
-    assert!(rt; !input.failed());
-    let mut broken = Watched::new(Broken);
-    assert_eq!(rt; read(&mut broken, &mut buf), Err(ErrorKind::BrokenPipe));
-    assert!(rt; broken.failed());
+    assert!(rt; read(&mut input, &mut buf) == Ok(2));
+    assert!(rt; buf.as_slice() == b"ab".as_slice());
+    assert!(rt; *input.inner() == b"c".as_slice() && !input.failed());
 }
 
 /// A short write is no failure, and one that takes nothing is.
@@ -86,13 +82,8 @@ fn a_write_is_handed_on(rt: HostRuntime) {
         left: 2,
         flushed: false,
     });
-    assert_eq!(rt; write(&mut output, b"abc"), Ok(2));
-    assert!(rt; !output.failed());
-    assert_eq!(rt; write(&mut output, b"c"), Ok(0));
-    assert!(rt; output.failed());
-    let mut broken = Watched::new(Broken);
-    assert_eq!(rt; write(&mut broken, b"abc"), Err(ErrorKind::BrokenPipe));
-    assert!(rt; broken.failed());
+    assert!(rt; write(&mut output, b"abc") == Ok(2) && !output.failed());
+    assert!(rt; write(&mut output, b"c") == Ok(0) && output.failed());
 }
 
 /// A flush that is done leaves a failure as it is.
@@ -103,12 +94,19 @@ fn a_flush_is_handed_on(rt: HostRuntime) {
         flushed: false,
     });
     assert!(rt; flushes(&mut output));
-    assert!(rt; output.inner().flushed);
-    assert!(rt; !output.failed());
-    assert_eq!(rt; write(&mut output, b"abc"), Ok(0));
-    assert!(rt; flushes(&mut output));
-    assert!(rt; output.failed());
-    let mut broken = Watched::new(Broken);
-    assert!(rt; !flushes(&mut broken));
-    assert!(rt; broken.failed());
+    assert!(rt; output.inner().flushed && !output.failed());
+    assert!(rt; write(&mut output, b"abc") == Ok(0));
+    assert!(rt; flushes(&mut output) && output.failed());
+}
+
+/// An error is handed on, and is a failure.
+#[test]
+fn errors_are_handed_on(rt: HostRuntime) {
+    let error = Err(ErrorKind::BrokenPipe);
+    let mut input = Watched::new(Broken);
+    assert!(rt; read(&mut input, &mut [0]) == error && input.failed());
+    let mut output = Watched::new(Broken);
+    assert!(rt; write(&mut output, b"abc") == error && output.failed());
+    let mut output = Watched::new(Broken);
+    assert!(rt; !flushes(&mut output) && output.failed());
 }

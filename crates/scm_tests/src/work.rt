@@ -25,7 +25,7 @@ fn stand_for<T: Abort + AllocGlobal>(rt: &T, words: &[(u64, Step)]) -> Result<()
 }
 
 /// A send of so many letters x, with these numbers.
-fn send<T: AllocGlobal>(rt: &T, on: u32, letters: usize, attach: &[Fd]) -> Result<Step, Fail> {
+fn send<T: AllocGlobal>(rt: &T, on: u32, letters: usize, attach: &[Fd]) -> Result<Step, AllocError> {
     let mut fds = Vec::new(rt.alloc());
     fds.extend_from_slice(attach)?;
     Ok(Step::Send {
@@ -36,7 +36,7 @@ fn send<T: AllocGlobal>(rt: &T, on: u32, letters: usize, attach: &[Fd]) -> Resul
 }
 
 /// A connect to the listener of this name.
-fn connect<T: AllocGlobal>(rt: &T, on: u32, name: &[u8]) -> Result<Step, Fail> {
+fn connect<T: AllocGlobal>(rt: &T, on: u32, name: &[u8]) -> Result<Step, AllocError> {
     let mut bytes = Vec::new(rt.alloc());
     bytes.extend_from_slice(name)?;
     Ok(Step::Connect {

@@ -185,7 +185,7 @@ impl Met {
             Aim::Done => self.done > self.refused && self.has_taken_all() && self.has_done_all(),
             Aim::Refused => self.refused > self.done,
             Aim::Cut => self.has_cut_all() && self.has_refused(Kind::Send, Errno::ETOOMANYREFS),
-            Aim::Seen => self.shown > 0 && self.hidden > 0 && self.above > 0,
+            Aim::Seen => are_some(&[self.shown, self.hidden, self.above]),
             Aim::Full => self.has_refused(Kind::Send, Errno::EAGAIN),
         }
     }
@@ -203,17 +203,19 @@ impl Met {
     /// Whether receives installed files and closed others, passes reclaimed sockets, and embryos were
     /// accepted with messages, went with their listener, and were taken by passes.
     fn has_taken_all(&self) -> bool {
-        self.installed > 0
-            && self.cut > 0
-            && self.reclaimed > 0
-            && self.greeted > 0
-            && self.lost > 0
-            && self.purged > 0
+        are_some(&[
+            self.installed,
+            self.cut,
+            self.reclaimed,
+            self.greeted,
+            self.lost,
+            self.purged,
+        ])
     }
 
     /// Whether packets were cut, and messages of streams were cut, joined and kept apart.
     fn has_cut_all(&self) -> bool {
-        self.dropped > 0 && self.split > 0 && self.joined > 0 && self.stopped > 0
+        are_some(&[self.dropped, self.split, self.joined, self.stopped])
     }
 
     /// What the other has met was met here too.
@@ -300,6 +302,16 @@ impl Met {
         self.joined = self.joined.saturating_add(u64::from(taken > found.first));
         self.stopped = self.stopped.saturating_add(u64::from(is_stopped));
     }
+}
+
+/// Whether none of these counts is 0.
+fn are_some(counts: &[u64]) -> bool {
+    for count in counts {
+        if *count == 0 {
+            return false;
+        }
+    }
+    true
 }
 
 /// What an event finds.

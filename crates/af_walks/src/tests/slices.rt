@@ -63,21 +63,26 @@ impl Sliced {
         engine: &mut Engine,
         before: &Listing,
     ) -> Result<(), AllocError> {
-        self.draw(rt, engine)?;
+        self.draw(rt, engine, before)?;
         self.went_rightly(rt, engine, before)?;
         let told = check(self.alloc, engine)?;
         assert!(rt; told.starts_with(b"check ok"));
         Ok(())
     }
 
-    /// One event in four is the collector's.
-    fn draw<T: Abort>(&mut self, rt: &T, engine: &mut Engine) -> Result<(), AllocError> {
+    /// One event in four is the collector's. This is what there is before it.
+    fn draw<T: Abort>(
+        &mut self,
+        rt: &T,
+        engine: &mut Engine,
+        before: &Listing,
+    ) -> Result<(), AllocError> {
         if !self.source.is_rare(4) {
             self.step(engine)
         } else if self.is_passing {
-            self.slice(rt, engine)
+            self.slice(rt, engine, before)
         } else {
-            self.begin(rt, engine)
+            self.begin(rt, engine, before)
         }
     }
 
@@ -89,8 +94,13 @@ impl Sliced {
     }
 
     /// A pass begins. It is noted what is garbage then.
-    fn begin<T: Abort>(&mut self, rt: &T, engine: &mut Engine) -> Result<(), AllocError> {
-        self.lost = lost(self.alloc, engine)?;
+    fn begin<T: Abort>(
+        &mut self,
+        rt: &T,
+        engine: &mut Engine,
+        before: &Listing,
+    ) -> Result<(), AllocError> {
+        self.lost = garbage(self.alloc, before)?;
         self.sockets = sockets_among(engine, &self.lost);
         self.is_passing = true;
         assert!(rt; matches!(answer(engine, &Event::Begin), Reply::Started(_)));
@@ -98,8 +108,13 @@ impl Sliced {
     }
 
     /// A slice takes nothing that is reached.
-    fn slice<T: Abort>(&mut self, rt: &T, engine: &mut Engine) -> Result<(), AllocError> {
-        let safe = safe(self.alloc, engine)?;
+    fn slice<T: Abort>(
+        &mut self,
+        rt: &T,
+        engine: &mut Engine,
+        before: &Listing,
+    ) -> Result<(), AllocError> {
+        let safe = reached(self.alloc, before)?;
         let budget = self.source.rng.random_range(1..=12u32);
         if let Some(reclaimed) = done_by(rt, engine, budget) {
             self.is_done(rt, engine, reclaimed);
@@ -131,18 +146,6 @@ impl Sliced {
         }
         Ok(())
     }
-}
-
-/// The live files that nothing reaches.
-fn lost(alloc: Global, engine: &Engine) -> Result<Vec<Ino>, AllocError> {
-    let listing = engine.listing()?;
-    garbage(alloc, &listing)
-}
-
-/// The files that are reached.
-fn safe(alloc: Global, engine: &Engine) -> Result<Vec<Ino>, AllocError> {
-    let listing = engine.listing()?;
-    reached(alloc, &listing)
 }
 
 /// A slice of this budget. How many sockets were reclaimed, where the pass is done.

@@ -40,6 +40,20 @@ pub struct Answer {
     pub errors: Vec<u8>,
 }
 
+impl Answer {
+    /// Whether it has this status and these texts.
+    fn is(&self, status: u8, output: &str, errors: &str) -> bool {
+        self.status == status
+            && self.output.as_slice() == output.as_bytes()
+            && self.errors.as_slice() == errors.as_bytes()
+    }
+
+    /// Whether the command line was refused: all that is written is a complaint.
+    pub fn is_refusal(&self) -> bool {
+        self.status == 2 && self.output.is_empty() && !self.errors.is_empty()
+    }
+}
+
 /// Runs the program with these words over these streams, and answers its exit status. A test looks
 /// at what that left and no further, so this promises nothing.
 fn run_over<H: Threads + Wait + Sync + AllocGlobal, R: Read, W: Write>(
@@ -80,15 +94,7 @@ pub fn answers<H: Threads + Wait + Sync + AllocGlobal + Abort>(
 ) {
     let (status, output, errors) = wanted;
     let found = run(rt, words, script);
-    assert_eq!(rt; found.status, status, "{words:?} on {script:?}");
-    assert!(rt;
-        found.output.as_slice() == output.as_bytes(),
-        "{words:?} on {script:?}"
-    );
-    assert!(rt;
-        found.errors.as_slice() == errors.as_bytes(),
-        "{words:?} on {script:?}"
-    );
+    assert!(rt; found.is(status, output, errors), "{words:?} on {script:?}");
 }
 
 /// The words of a run of a script.
@@ -108,21 +114,27 @@ fn reads_a_script_cut_anywhere(rt: HostRuntime) {
     }
 }
 
+/// The program, of which a stream fails, has status 1 and says so.
+fn fails<H: Threads + Wait + Sync + AllocGlobal + Abort, R: Read, W: Write>(
+    rt: &H,
+    input: &mut R,
+    output: &mut W,
+    complaint: &str,
+) {
+    let mut errors = Vec::new(rt.alloc());
+    let status = run_over(rt, &RUN, input, output, &mut errors);
+    assert!(rt; status == 1 && errors.as_slice() == complaint.as_bytes());
+}
+
 #[test]
 fn a_failed_read_has_status_1(rt: HostRuntime) {
     let mut output = Vec::new(rt.alloc());
-    let mut errors = Vec::new(rt.alloc());
-    let status = run_over(&rt, &RUN, &mut FailingReader, &mut output, &mut errors);
-    assert_eq!(rt; status, 1);
+    fails(&rt, &mut FailingReader, &mut output, "scmgc: reading failed\n");
     assert!(rt; output.is_empty());
-    assert_eq!(rt; errors.as_slice(), b"scmgc: reading failed\n".as_slice());
 }
 
 #[test]
 fn a_failed_write_has_status_1(rt: HostRuntime) {
     let mut script = b"spawn 1000 16\n".as_slice();
-    let mut errors = Vec::new(rt.alloc());
-    let status = run_over(&rt, &RUN, &mut script, &mut FullWriter, &mut errors);
-    assert_eq!(rt; status, 1);
-    assert_eq!(rt; errors.as_slice(), b"scmgc: writing failed\n".as_slice());
+    fails(&rt, &mut script, &mut FullWriter, "scmgc: writing failed\n");
 }

@@ -57,7 +57,7 @@ pub fn words_of(alloc: Global, line: &str) -> Result<Vec<&str>, AllocError> {
     Ok(words)
 }
 
-/// Each of these command lines is refused: all that is written is a complaint.
+/// Each of these command lines is refused.
 fn are_refused<H: Threads + Wait + Sync + AllocGlobal + Abort>(
     rt: &H,
     lines: &[&str],
@@ -65,9 +65,7 @@ fn are_refused<H: Threads + Wait + Sync + AllocGlobal + Abort>(
     for line in lines {
         let words = words_of(rt.alloc(), line)?;
         let found = run(rt, words.as_slice(), b"spawn 1000 16\n");
-        assert_eq!(rt; found.status, 2, "{line}");
-        assert!(rt; found.output.is_empty(), "{line}");
-        assert!(rt; !found.errors.is_empty(), "{line}");
+        assert!(rt; found.is_refusal(), "{line}");
     }
     Ok(())
 }

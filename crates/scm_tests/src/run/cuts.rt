@@ -1,7 +1,7 @@
 //! A script that is cut after each of its bytes.
 use super::streams::{AMPLE, run_over};
 use scm_run::RunFault;
-use std::alloc::AllocGlobal;
+use std::alloc::{AllocError, AllocGlobal, Global};
 use std::process::Abort;
 use std::test::Fail;
 
@@ -70,26 +70,39 @@ fn reply_to(line: &[u8], cut: usize, whole: &'static [u8]) -> Option<&'static [u
     None
 }
 
+/// Two texts, one behind the other.
+fn joined(alloc: Global, front: &[u8], back: &[u8]) -> Result<Vec<u8>, AllocError> {
+    let mut text = Vec::new(alloc);
+    for part in [front, back] {
+        text.extend_from_slice(part)?;
+    }
+    Ok(text)
+}
+
+/// Whether a run ends so: well, where the line behind so many whole lines can be read.
+fn ends_so(end: Result<u64, RunFault>, is_readable: bool, lines: usize) -> bool {
+    let number = lines.saturating_add(1) as u64;
+    if is_readable {
+        end.is_ok()
+    } else {
+        end == Err(RunFault::Unreadable(number))
+    }
+}
+
 /// Runs a beginning of the script: so many whole lines, and one more from this place on.
 fn run_cut<T: Abort + AllocGlobal>(
     rt: &T,
     script: &[u8],
     lines: usize,
     place: usize,
-) -> Result<(), Fail> {
+) -> Result<(), AllocError> {
     let line = script.get(place..).unwrap_or(b"");
     let before = first_lines(REPLIES, lines);
     let behind = REPLIES.get(before.len()..).unwrap_or(b"");
-    let mut texts = before.to_vec(rt.alloc())?;
     let reply = reply_to(line, script.len(), first_lines(behind, 1));
-    texts.extend_from_slice(reply.unwrap_or(b""))?;
+    let texts = joined(rt.alloc(), before, reply.unwrap_or(b""))?;
     let end = run_over(rt, script, texts.as_slice(), AMPLE, AMPLE);
-    let number = lines.saturating_add(1) as u64;
-    let is_so = match reply {
-        Some(_) => end.is_ok(),
-        None => end == Err(RunFault::Unreadable(number)),
-    };
-    assert!(rt; is_so, "after {} bytes: {end:?}", script.len());
+    assert!(rt; ends_so(end, reply.is_some(), lines), "after {} bytes", script.len());
     Ok(())
 }
 
