@@ -25,7 +25,12 @@ fn stand_for<T: Abort + AllocGlobal>(rt: &T, words: &[(u64, Step)]) -> Result<()
 }
 
 /// A send of so many letters x, with these numbers.
-fn send<T: AllocGlobal>(rt: &T, on: u32, letters: usize, attach: &[Fd]) -> Result<Step, AllocError> {
+fn send<T: AllocGlobal>(
+    rt: &T,
+    on: u32,
+    letters: usize,
+    attach: &[Fd],
+) -> Result<Step, AllocError> {
     let mut fds = Vec::new(rt.alloc());
     fds.extend_from_slice(attach)?;
     Ok(Step::Send {

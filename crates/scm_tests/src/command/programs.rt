@@ -129,7 +129,12 @@ fn fails<H: Threads + Wait + Sync + AllocGlobal + Abort, R: Read, W: Write>(
 #[test]
 fn a_failed_read_has_status_1(rt: HostRuntime) {
     let mut output = Vec::new(rt.alloc());
-    fails(&rt, &mut FailingReader, &mut output, "scmgc: reading failed\n");
+    fails(
+        &rt,
+        &mut FailingReader,
+        &mut output,
+        "scmgc: reading failed\n",
+    );
     assert!(rt; output.is_empty());
 }
 

@@ -1,5 +1,5 @@
 //! Races that end well, and what they come to.
-ghost use Rattle.std.specs.Prelude.{◌≤◌, ◌×◌};
+ghost use Rattle.std.specs.Prelude.{◌≤◌};
 
 use scm_race::{Outcome, Race, RaceFault};
 use std::alloc::Global;
@@ -11,7 +11,7 @@ use std::thread::Threads;
 /// Runs a race. A test looks at what it comes to and no further, so this promises nothing.
 fn run<R: Threads + Wait + Sync>(rt: &R, alloc: Global, race: Race) -> Result<Outcome, RaceFault>
     requires workers { (1 ≤ race.workers) × (race.workers ≤ 32) }
-    requires steps { (5 ≤ race.steps) × (race.steps ≤ 20_000) }
+    requires steps { (5 ≤ race.steps) × (race.steps ≤ 20000) }
 {
     race.run(rt, alloc)
 }

@@ -102,7 +102,11 @@ fn run_cut<T: Abort + AllocGlobal>(
     let reply = reply_to(line, script.len(), first_lines(behind, 1));
     let texts = joined(rt.alloc(), before, reply.unwrap_or(b""))?;
     let end = run_over(rt, script, texts.as_slice(), AMPLE, AMPLE);
-    assert!(rt; ends_so(end, reply.is_some(), lines), "after {} bytes", script.len());
+    assert!(rt;
+        ends_so(end, reply.is_some(), lines),
+        "after {} bytes",
+        script.len()
+    );
     Ok(())
 }
 
