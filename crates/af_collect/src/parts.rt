@@ -17,14 +17,15 @@ use af_mark::Marks;
 use af_pass::{Progress, Stage};
 use std::snapshot::Snapshot;
 
-/// The holdings with the marks of a pass, what they were when it began (for contracts alone), and how
-/// far it is.
+/// The holdings with the marks of a pass, what they were when it began (for contracts alone), how far
+/// it is, and where the file stands that it looked at last: a hint.
 #[derive(Drop)]
 pub struct Parts {
     pub places: Holdings,
     pub marks: Marks,
     pub begun: Snapshot<Holdings>,
     pub progress: Progress,
+    pub near: usize,
 }
 
 impl Parts {

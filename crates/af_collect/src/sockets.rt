@@ -34,7 +34,7 @@ impl Store {
         self.parts.places.is_whole();
         self.parts.marks.reserve(1)?;
         let file = self.parts.places.make_sock(kind)?;
-        self.parts.marks.born(file.ino());
+        self.parts.marks.born(&file);
         Ok(file)
     }
 
@@ -52,7 +52,7 @@ impl Store {
         self.parts.places.is_whole();
         self.parts.marks.reserve(1)?;
         let embryo = self.parts.places.make_embryo(kind, client)?;
-        self.parts.marks.born(embryo.ino());
+        self.parts.marks.born(&embryo);
         Ok(embryo)
     }
 

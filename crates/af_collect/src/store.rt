@@ -68,6 +68,7 @@ impl Store {
                     looked: 0,
                     reclaimed: 0,
                 },
+                near: 0,
             },
         }
     }
@@ -121,7 +122,7 @@ impl Store {
         self.parts.places.is_whole();
         self.parts.marks.reserve(1)?;
         let file = self.parts.places.make_plain()?;
-        self.parts.marks.born(file.ino());
+        self.parts.marks.born(&file);
         Ok(file)
     }
 
@@ -137,8 +138,8 @@ impl Store {
         self.parts.places.is_whole();
         self.parts.marks.reserve(2)?;
         let (first, second) = self.parts.places.make_two(kind)?;
-        self.parts.marks.born(first.ino());
-        self.parts.marks.born(second.ino());
+        self.parts.marks.born(&first);
+        self.parts.marks.born(&second);
         Ok((first, second))
     }
 

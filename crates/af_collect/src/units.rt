@@ -138,7 +138,8 @@ impl Parts {
         ensures least { IfSome result (λ f. (g : ℕ) → from ≤ g → g < f → is_live self.now.places.world g ≡ false) }
         ensures none { IfNone result ((g : ℕ) → from ≤ g → g < self.now.marks.bound → is_live self.now.places.world g ≡ false) }
     {
-        let file = self.places.files().next_after(Ino(from.saturating_sub(1)))?;
+        let before = FileRef::new(Ino(from.saturating_sub(1)), self.near);
+        let file = self.places.files().next_after(&before)?;
         if file.ino() >= self.marks.bound() {
             return None;
         }
@@ -160,6 +161,7 @@ impl Parts {
         // Files' numbers are below the next one: that is what a whole world says of them.
         self.places.is_whole();
         self.shade_tabled(file);
+        self.near = file.key();
         self.progress.visited = file.ino().0 + 1;
         self.progress.looked += 1;
     }
@@ -208,6 +210,7 @@ impl Parts {
         ensures looked { self.new.progress.looked ≡ self.old.progress.looked + 1 }
         ensures purged { ArePurged self.old.begun.value.world self.old.places.world self.new.places.world 1 }
     {
+        self.near = file.key();
         self.progress.swept = file.ino().0 + 1;
         self.progress.looked += 1;
         if self.marks.is_marked(file) {

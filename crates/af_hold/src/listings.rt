@@ -42,10 +42,10 @@ impl Holdings {
         ensures ordered { IfOk result (λ files. AreFiles files.items) }
     {
         let mut files = Vec::new(self.alloc);
-        let mut last = Ino(0);
-        while let Some(file) = self.files.next_after(last) {
-            last = file.ino();
+        let mut last = FileRef::new(Ino(0), 0);
+        while let Some(file) = self.files.next_after(&last) {
             files.push(self.listed_file(&file)?)?;
+            last = file;
         }
         Ok(files)
     }

@@ -1,16 +1,16 @@
 -- The colours behind marks, as marks come, change and go.
-use Rattle.std.proofs.Common.{◌≡◌, ◌≤◌, ◌<◌, ℕ, ◌+◌, Bool, true, false, List, [], ◌∷◌, refl, sym, ap, ◌∙◌, subst, cond, map, nat_eq, arith, inl, inr, ⊎_elim}
+use Rattle.std.proofs.Common.{◌≡◌, ◌≤◌, ℕ, ◌+◌, Bool, true, false, List, [], ◌∷◌, refl, sym, ap, ◌∙◌, subst, cond, map, nat_eq, arith}
 use Rattle.std.specs.Prelude.{Option, Some, None, is_some, option_map}
 use Rattle.std.specs.Ordering.{eq_by_cmp, nat_cmp}
 use Rattle.std.specs.Cmp.{nat_cmp_total, unsigned_tied}
 use Rattle.std.specs.FinMap as finmap
 use Rattle.std.specs.FinMap.{get-insert, get-remove, get-empty, same_map, nat_cmp-IsAntisymmetric}
-use Rattle.std.proofs.lemmas.Bool.{cases_lt, eq-eqb, false≢true}
+use Rattle.std.proofs.lemmas.Bool.{eq-eqb}
 use Rattle.af_base.specs.Changes.{change_at}
 use Rattle.af_base.specs.World.{Map}
-use Rattle.af_base.proofs.Lookups.{none_some, not_same, some_same, told_apart}
+use Rattle.af_base.proofs.Lookups.{none_some, some_same, told_apart}
 use Rattle.af_base.proofs.Stepping.{get-change_at}
-use Rattle.af_mark.specs.Grey.{AreUpTo, color_in, colors_in, placed, washed}
+use Rattle.af_mark.specs.Grey.{AreUpTo, color_in, colors_in, placed}
 use Rattle.af_mark.specs.Marked.{Marked}
 use Rattle.af_mark.specs.declared.color.Color.{Color}
 use Rattle.af_mark.specs.declared.color.Color.TheVariants.{White}
@@ -119,41 +119,19 @@ unmarked_next e m f h = color_get (e + 1) m f ∙ by (finmap.get m f) refl where
   by None is = refl
   by (Some x) is = let low = h f x is in ap (λ b. Some (cond b x.color White)) (told_apart x.epoch (e + 1) (λ same. omega (arith, low, same)))
 
--- Who has a mark has one when some mark was changed.
-pub known_changed : (g : Mark → Mark) (m : Map Mark) (f q : ℕ) → finmap.contains_key (change_at g m f) q ≡ finmap.contains_key m q
-known_changed g m f q = ap is_some (get-change_at g m f q) ∙ by (finmap.get m q) where
-  by : (o : Option Mark) → is_some (option_map (λ x. cond (eq_by_cmp nat_cmp q f) (g x) x) o) ≡ is_some o
-  by None = refl
-  by (Some x) = refl
-
--- The marks up to the next number are of no pass.
-pub washed_next : (m : Map Mark) (last n : ℕ) → ((f : ℕ) (x : Mark) → f ≤ last → finmap.get m f ≡ Some x → x.epoch ≤ 0) → ((q : ℕ) → last < q → q < n → finmap.contains_key m q ≡ false)
-    → (f : ℕ) (x : Mark) → f ≤ n → finmap.get (change_at washed m n) f ≡ Some x → x.epoch ≤ 0
-washed_next m last n low none f y upto is = by (nat_eq f n) refl (finmap.get m f) refl (sym (get-change_at washed m n f ∙ ap (λ b. option_map (λ x. cond b (washed x) x) (finmap.get m f)) (unsigned_tied f n)) ∙ is) where
-  old : (x : Mark) → nat_eq f n ≡ false → finmap.get m f ≡ Some x → x.epoch ≤ 0
-  old x apart was = elim (cases_lt last f) [
-    | inl above ↦ absurd (false≢true (sym (none f above (let not = not_same f n apart in ⊎_elim (λ low. low) (λ le. absurd (not (omega (arith, le, upto)))) (cases_lt f n))) ∙ ap is_some was))
-    | inr le ↦ low f x le was
-  ]
-
-  by : (b : Bool) → nat_eq f n ≡ b → (o : Option Mark) → finmap.get m f ≡ o → option_map (λ x. cond b (washed x) x) o ≡ Some y → y.epoch ≤ 0
-  by b same None was is = absurd (none_some y is)
-  by true same (Some x) was is = subst (λ z. z.epoch ≤ 0) (some_same (washed x) y is) (omega arith)
-  by false apart (Some x) was is = subst (λ z. z.epoch ≤ 0) (some_same x y is) (old x apart was)
-
--- The mark of number 0 is of no pass.
-pub washed_first : (m : Map Mark) (f : ℕ) (x : Mark) → f ≤ 0 → finmap.get (change_at washed m 0) f ≡ Some x → x.epoch ≤ 0
-washed_first m f y low is = by (finmap.get m f) (sym (get-change_at washed m 0 f ∙ ap (λ b. option_map (λ x. cond b (washed x) x) (finmap.get m f)) (unsigned_tied f 0 ∙ eq-eqb f 0 (omega (arith, low)))) ∙ is) where
-  by : (o : Option Mark) → option_map washed o ≡ Some y → y.epoch ≤ 0
+-- Where all have a mark of no pass, none is of a pass.
+pub upto_filled : (m n : Map Mark) (x : Mark) → x.epoch ≡ 0 → ((f : ℕ) → finmap.get n f ≡ option_map (λ y. x) (finmap.get m f)) → AreUpTo 0 n
+upto_filled m n x none each f y at = by (finmap.get m f) (sym (each f) ∙ at) where
+  by : (o : Option Mark) → option_map (λ y. x) o ≡ Some y → y.epoch ≤ 0
   by None is = absurd (none_some y is)
-  by (Some x) is = subst (λ z. z.epoch ≤ 0) (some_same (washed x) y is) (omega arith)
+  by (Some z) is = subst (λ w. w.epoch ≤ 0) (some_same x y is) (omega (arith, none))
 
--- Marks up to the last number are all.
-pub washed_all : (m : Map Mark) (last : ℕ) → ((f : ℕ) (x : Mark) → f ≤ last → finmap.get m f ≡ Some x → x.epoch ≤ 0) → ((q : ℕ) → last < q → finmap.contains_key m q ≡ false) → AreUpTo 0 m
-washed_all m last low none f x is = elim (cases_lt last f) [
-  | inl above ↦ absurd (false≢true (sym (none f above) ∙ ap is_some is))
-  | inr le ↦ low f x le is
-]
+-- Who has a mark has one then.
+pub known_filled : (m n : Map Mark) (x : Mark) → ((f : ℕ) → finmap.get n f ≡ option_map (λ y. x) (finmap.get m f)) → (f : ℕ) → finmap.contains_key n f ≡ finmap.contains_key m f
+known_filled m n x each f = ap is_some (each f) ∙ by (finmap.get m f) where
+  by : (o : Option Mark) → is_some (option_map (λ y. x) o) ≡ is_some o
+  by None = refl
+  by (Some z) = refl
 
 -- Two that agree in all are one.
 pub same_marked : (a b : Marked) → a.colors ≡ b.colors → a.bound ≡ b.bound → a.last ≡ b.last → a.room ≡ b.room → a ≡ b

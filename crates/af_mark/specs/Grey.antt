@@ -22,10 +22,6 @@ colors_in epoch m = keyed (λ x. x.0) (λ x. color_in epoch x.1) (map.entries m)
 abbrev pub placed : ℕ → Mark → Mark
 placed at x = record x { at = at }
 
--- A mark of no pass (this project's own).
-abbrev pub washed : Mark → Mark
-washed x = record x { epoch = 0 }
-
 -- No mark is of a later pass (this project's own).
 abbrev pub AreUpTo : ℕ → Map Mark → Type 0
 AreUpTo epoch m = (f : ℕ) (x : Mark) → map.get m f ≡ Some x → x.epoch ≤ epoch

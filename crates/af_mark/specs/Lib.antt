@@ -1,3 +1,4 @@
 -- What is known of each file's mark.
 pub mod Grey
 pub mod Marked
+pub mod Slotted

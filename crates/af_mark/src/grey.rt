@@ -1,15 +1,15 @@
 //! The marks under their keys, and the list of the grey files.
-ghost use Rattle.std.specs.Prelude.{◌≡◌, ◌<◌, ◌+◌, ◌-◌, ℕ, Some, IsTrue, IfSome, IfNone, cond, false, length, nat_eq, option_map, slice_get, slice_index_or, vec_capacity};
+ghost use Rattle.std.specs.Prelude.{◌≡◌, ◌<◌, ◌+◌, ◌-◌, ℕ, Some, IfSome, IfNone, cond, false, length, nat_eq, option_map, slice_get, slice_index_or, vec_capacity};
 ghost use Rattle.std.specs.FinMap as map;
 ghost use Rattle.af_base.specs.Counts.{count_in};
 ghost use Rattle.af_base.specs.Changes.{change_at};
 ghost use Rattle.af_mark.specs.declared.color.Color.TheVariants.{White};
-ghost use Rattle.af_mark.specs.Grey.{AreUpTo, color_in, colors_in, placed, washed};
+ghost use Rattle.af_mark.specs.Grey.{AreUpTo, color_in, colors_in, placed};
 ghost use Rattle.af_mark.specs.Marked.{is_grey_color};
 
 use crate::color::Color;
+use crate::slots::Slots;
 use af_base::names::{FileRef, Ino};
-use af_order::Keyed;
 
 /// A file's colour, and of which pass it is.
 #[derive(Clone, Copy)]
@@ -19,7 +19,7 @@ pub struct Mark {
     /// The colour that it got then.
     pub color: Color,
     /// Its place in the list of the grey files: a hint.
-    pub at: usize,
+    pub at: u32,
 }
 
 impl Mark {
@@ -44,23 +44,19 @@ impl Mark {
     }
 }
 
-/// A file that is known gets this mark.
-#[tactic(auto, using(af_order::proofs::Values::lent))]
-pub fn paint(marks: &mut Keyed<Mark>, file: &FileRef, mark: Mark)
-    requires { IsTrue (map.contains_key marks.old.values file.now) }
-    ensures marks { marks.new ≡ record marks.old { values = map.insert marks.old.values file.now mark } }
-    ensures len { map.len marks.new.values ≡ map.len marks.old.values }
-{
-    *marks.get_mut(file).unwrap() = mark;
+/// A place in the list, as far as a mark can tell it.
+#[inline(always)]
+pub fn noted(at: usize) -> u32 {
+    at.min(u32::MAX as usize) as u32
 }
 
 /// A place in the list is noted beside a file's mark.
-#[tactic(auto, using(af_order::proofs::Values::lent))]
-fn note(marks: &mut Keyed<Mark>, file: &FileRef, at: usize)
+fn note(marks: &mut Slots, file: &FileRef, at: u32)
     ensures { marks.new ≡ record marks.old { values = change_at (placed at) marks.old.values file.now } }
 {
-    if let Some(mark) = marks.get_mut(file) {
-        mark.at = at;
+    if let Some(mark) = marks.get(file) {
+        let Mark { epoch, color, .. } = mark;
+        marks.set(file, Mark { epoch, color, at });
     }
 }
 
@@ -89,7 +85,7 @@ fn take_off(grey: &mut Vec<FileRef>, ino: Ino, at: usize) -> Option<usize>
 }
 
 /// The same; the place of what was moved is noted.
-pub fn strike(marks: &mut Keyed<Mark>, grey: &mut Vec<FileRef>, ino: Ino, at: usize)
+pub fn strike(marks: &mut Slots, grey: &mut Vec<FileRef>, ino: Ino, at: usize)
     ensures each { (f : ℕ) → count_in f grey.new.items ≡ count_in f grey.old.items - cond (nat_eq f ino) 1 0 }
     ensures capacity { vec_capacity grey.new ≡ vec_capacity grey.old }
     ensures colors { (epoch : ℕ) → colors_in epoch marks.new.values ≡ colors_in epoch marks.old.values }
@@ -100,37 +96,12 @@ pub fn strike(marks: &mut Keyed<Mark>, grey: &mut Vec<FileRef>, ino: Ino, at: us
     if let Some(at) = take_off(grey, ino, at)
         && let Some(moved) = grey.get(at)
     {
-        note(marks, moved, at);
-    }
-}
-
-/// A file's mark is of no pass.
-#[tactic(auto, using(af_order::proofs::Values::lent))]
-fn bleach(marks: &mut Keyed<Mark>, file: &FileRef)
-    ensures { marks.new ≡ record marks.old { values = change_at washed marks.old.values file.now } }
-{
-    if let Some(mark) = marks.get_mut(file) {
-        mark.epoch = 0;
-    }
-}
-
-/// All marks are of no pass, one after the other: once in 2^64 passes.
-fn wash(marks: &mut Keyed<Mark>)
-    ensures marks { AreUpTo 0 marks.new.values }
-    ensures known { (f : ℕ) → map.contains_key marks.new.values f ≡ map.contains_key marks.old.values f }
-    ensures len { map.len marks.new.values ≡ map.len marks.old.values }
-    ensures rest { marks.new ≡ record marks.old { values = marks.new.values } }
-{
-    let mut last = Ino(0);
-    bleach(marks, &FileRef::new(last, 0));
-    while let Some(file) = marks.next_after(last) {
-        bleach(marks, &file);
-        last = file.ino();
+        note(marks, moved, noted(at));
     }
 }
 
 /// The pass after this one: what any earlier one marked is not marked in it.
-pub fn next_epoch(marks: &mut Keyed<Mark>, epoch: u64) -> u64
+pub fn next_epoch(marks: &mut Slots, epoch: u64) -> u64
     requires { AreUpTo epoch marks.old.values }
     ensures white { (f : ℕ) → map.get (colors_in result marks.new.values) f ≡ option_map (λ x. White) (map.get marks.new.values f) }
     ensures marks { AreUpTo result marks.new.values }
@@ -141,6 +112,11 @@ pub fn next_epoch(marks: &mut Keyed<Mark>, epoch: u64) -> u64
     if epoch < u64::MAX {
         return epoch + 1;
     }
-    wash(marks);
+    // Once in 2^64 passes.
+    marks.fill(Mark {
+        epoch: 0,
+        color: Color::White,
+        at: 0,
+    });
     1
 }

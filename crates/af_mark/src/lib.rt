@@ -4,6 +4,7 @@
 mod color;
 mod grey;
 mod marks;
+mod slots;
 
 pub use color::Color;
 pub use marks::Marks;

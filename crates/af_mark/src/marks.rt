@@ -5,16 +5,16 @@ ghost use Rattle.af_mark.specs.Marked.{Marked, blackened, is_grey, is_marked, is
 ghost use Rattle.af_mark.specs.declared.color.Color.TheVariants.{Black, Grey, White};
 
 use crate::color::Color;
-use crate::grey::{Mark, next_epoch, paint, strike};
+use crate::grey::{Mark, next_epoch, noted, strike};
+use crate::slots::Slots;
 use af_base::names::{FileRef, Ino};
-use af_order::Keyed;
 use std::alloc::{AllocError, Global};
 use std::marker::Model;
 
 /// The colour of each file, from its birth until it is forgotten.
 #[derive(Drop)]
 pub struct Marks {
-    marks: Keyed<Mark>,
+    marks: Slots,
     /// The files that are marked and not scanned.
     grey: Vec<FileRef>,
     /// The pass: what an earlier one marked is not marked.
@@ -46,7 +46,7 @@ impl Marks {
         ensures last { result.last ≡ 0 }
     {
         Marks {
-            marks: Keyed::new(alloc),
+            marks: Slots::new(alloc),
             grey: Vec::new(alloc),
             epoch: 0,
             bound: 0,
@@ -72,11 +72,11 @@ impl Marks {
 
     /// A file more, above all others that there were; it is not marked. There is room for it.
     #[inline(always)]
-    pub fn born(&mut self, ino: Ino)
+    pub fn born(&mut self, file: &FileRef)
         requires room { 0 < self.old.room }
-        requires above { self.old.last < ino }
-        ensures born { self.new ≡ record self.old { colors = map.insert self.old.colors ino White; last = ino; room = self.new.room } }
-        ensures new { knows self.old ino ≡ false }
+        requires above { self.old.last < file.now }
+        ensures born { self.new ≡ record self.old { colors = map.insert self.old.colors file.now White; last = file.now; room = self.new.room } }
+        ensures new { knows self.old file.now ≡ false }
         ensures room { self.old.room ≤ self.new.room + 1 }
     {
         let mark = Mark {
@@ -84,7 +84,7 @@ impl Marks {
             color: Color::White,
             at: 0,
         };
-        self.marks.push(ino, mark);
+        self.marks.push(file, mark);
     }
 
     /// A pass begins, over the files below this number: none is marked. It costs the same however
@@ -126,9 +126,9 @@ impl Marks {
         let mark = Mark {
             epoch: self.epoch,
             color: Color::Grey,
-            at: self.grey.len(),
+            at: noted(self.grey.len()),
         };
-        paint(&mut self.marks, file, mark);
+        self.marks.set(file, mark);
         self.grey.push_reserved(file.again());
     }
 
@@ -145,11 +145,11 @@ impl Marks {
     pub fn scanned(&mut self, file: &FileRef)
         ensures { self.new ≡ blackened file.now self.old }
     {
-        let Some(mark) = self.marks.get(file).copied() else {
+        let Some(mark) = self.marks.get(file) else {
             return;
         };
         if mark.is_grey_in(self.epoch) {
-            self.take_grey(file, mark.at);
+            self.take_grey(file, mark.at as usize);
         }
     }
 
@@ -163,7 +163,7 @@ impl Marks {
             color: Color::Black,
             at: 0,
         };
-        paint(&mut self.marks, file, mark);
+        self.marks.set(file, mark);
         strike(&mut self.marks, &mut self.grey, file.ino(), at);
     }
 
@@ -202,7 +202,7 @@ impl Marks {
             return;
         };
         if mark.is_grey_in(self.epoch) {
-            strike(&mut self.marks, &mut self.grey, file.ino(), mark.at);
+            strike(&mut self.marks, &mut self.grey, file.ino(), mark.at as usize);
         }
     }
 }

@@ -4,7 +4,7 @@ ghost use Rattle.std.specs.FinMap as map;
 ghost use Rattle.std.specs.Option.{option_copied_mut};
 ghost use Rattle.std.specs.Borrow.{sem};
 
-use crate::entry::{Entry, key_of, put, reserve, take};
+use crate::entry::{Entry, key_of, next_after, put, reserve, take};
 use crate::order::Order;
 use af_base::names::{FileRef, Ino};
 use slab::Slab;
@@ -137,14 +137,15 @@ impl<T> Keyed<T> {
         Some(FileRef::new(ino, key))
     }
 
-    /// The least number above this one that has a value, if there is one; this one need not have one.
+    /// The least number above this file's that has a value, if there is one; the file need not have
+    /// one. No search where it has, and its hint is right.
     #[tactic(auto, using(crate::proofs::Standing::finds))]
-    pub fn next_after(&self, ino: Ino) -> Option<FileRef>
-        ensures above { IfSome result (λ n. ino < n) }
+    pub fn next_after(&self, file: &FileRef) -> Option<FileRef>
+        ensures above { IfSome result (λ n. file.now < n) }
         ensures there { IfSome result (λ n. IsTrue (map.contains_key self.now.values n)) }
-        ensures least { IfSome result (λ n. (q : ℕ) → ino < q → q < n → map.contains_key self.now.values q ≡ false) }
-        ensures none { IfNone result ((q : ℕ) → ino < q → map.contains_key self.now.values q ≡ false) }
+        ensures least { IfSome result (λ n. (q : ℕ) → file.now < q → q < n → map.contains_key self.now.values q ≡ false) }
+        ensures none { IfNone result ((q : ℕ) → file.now < q → map.contains_key self.now.values q ≡ false) }
     {
-        self.order.next_after(ino)
+        next_after(&self.order, &self.slab, file)
     }
 }

@@ -159,16 +159,16 @@ impl Order {
     }
 
     /// The least number above this one, if there is one, with its key as a hint; this one need not be
-    /// there.
-    pub fn next_after(&self, ino: Ino) -> Option<FileRef>
+    /// there. The place is a hint where it stands.
+    pub fn next_after(&self, ino: Ino, at: usize) -> Option<FileRef>
         ensures above { IfSome result (λ n. ino < n) }
         ensures there { IfSome result (λ n. IsTrue (map.contains_key self.now.keys n)) }
         ensures least { IfSome result (λ n. (q : ℕ) → ino < q → q < n → map.contains_key self.now.keys q ≡ false) }
         ensures none { IfNone result ((q : ℕ) → ino < q → map.contains_key self.now.keys q ≡ false) }
     {
-        match next_in(&self.packed, ino) {
+        match next_in(&self.packed, ino, at) {
             Some(file) => Some(file),
-            None => next_in(&self.rows, ino),
+            None => next_in(&self.rows, ino, at),
         }
     }
 
@@ -328,15 +328,19 @@ fn first_live(rows: &[Row], from: usize, end: usize) -> usize
     end
 }
 
-/// The least live number above this one among these rows.
-fn next_in(rows: &[Row], ino: Ino) -> Option<FileRef>
+/// The least live number above this one among these rows. The place is a hint where it stands.
+fn next_in(rows: &[Row], ino: Ino, at: usize) -> Option<FileRef>
     requires { Rise rows.now }
     ensures above { IfSome result (λ n. ino < n) }
     ensures there { IfSome result (λ n. IsTrue (map.contains_key (live_of rows.now) n)) }
     ensures least { IfSome result (λ n. (q : ℕ) → ino < q → q < n → map.contains_key (live_of rows.now) q ≡ false) }
     ensures none { IfNone result ((q : ℕ) → ino < q → map.contains_key (live_of rows.now) q ≡ false) }
 {
-    let from = rows_up_to(rows, ino);
+    // Mostly nothing is being packed.
+    if rows.is_empty() {
+        return None;
+    }
+    let from = rows_up_to(rows, ino, at);
     let at = first_live(rows, from, rows.len());
     if at == rows.len() {
         return None;
@@ -348,10 +352,25 @@ fn next_in(rows: &[Row], ino: Ino) -> Option<FileRef>
     }
 }
 
-/// How many rows have a number up to this one. Most numbers stand one behind the other, so that its
-/// place is told from the last row's, before a search.
+/// How many rows have a number up to this one. This place is tried first, before a search.
 #[inline(always)]
-fn rows_up_to(rows: &[Row], ino: Ino) -> usize
+fn rows_up_to(rows: &[Row], ino: Ino, at: usize) -> usize
+    requires { Rise rows.now }
+    ensures bound { result ≤ length rows.now }
+    ensures up_to { (i : ℕ) → i < result → (row_at rows.now i).ino ≤ ino }
+    ensures beyond { (i : ℕ) → result ≤ i → i < length rows.now → ino < (row_at rows.now i).ino }
+{
+    if let Some(row) = rows.get(at)
+        && row.ino == ino
+    {
+        return at + 1;
+    }
+    searched_up_to(rows, ino)
+}
+
+/// The same by a search. Most numbers stand one behind the other, so that the place is told from the
+/// last row's first.
+fn searched_up_to(rows: &[Row], ino: Ino) -> usize
     requires { Rise rows.now }
     ensures bound { result ≤ length rows.now }
     ensures up_to { (i : ℕ) → i < result → (row_at rows.now i).ino ≤ ino }

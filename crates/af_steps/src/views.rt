@@ -11,7 +11,7 @@ use crate::engine::Engine;
 use af_base::events::{SockType, State};
 use af_base::items::Items;
 use af_base::listing::Listing;
-use af_base::names::{Ino, Pid, Uid};
+use af_base::names::{FileRef, Ino, Pid, Uid};
 use std::alloc::AllocError;
 
 /// What a file is.
@@ -75,7 +75,7 @@ impl Engine {
         ensures least { IfSome result (λ n. (q : ℕ) → ino < q → q < n → is_live self.now.world q ≡ false) }
         ensures none { IfNone result ((q : ℕ) → ino < q → is_live self.now.world q ≡ false) }
     {
-        let next = self.store.files().next_after(ino)?;
+        let next = self.store.files().next_after(&FileRef::new(ino, 0))?;
         Some(next.ino())
     }
 

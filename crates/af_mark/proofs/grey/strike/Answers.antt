@@ -12,4 +12,4 @@ pub returns-in-Some-get-clause-epochs : goal.returns-in-Some-get-clause-epochs
 returns-in-Some-get-clause-epochs c = λ epoch h. subst (AreUpTo epoch) (sym (ap (λ k. k.values) c.note.ensures)) (upto_noted epoch c.args.marks.now.values _ _ h)
 
 pub returns-in-Some-get-clause-len : goal.returns-in-Some-get-clause-len
-returns-in-Some-get-clause-len c = ap (λ k. map.len k.values) c.note.ensures ∙ len-change_at (placed c.in-Some.at) c.args.marks.now.values _
+returns-in-Some-get-clause-len c = ap (λ k. map.len k.values) c.note.ensures ∙ len-change_at (placed c.noted.result) c.args.marks.now.values _

@@ -1,8 +1,8 @@
-use Rattle.std.proofs.Common.{◌≡◌, ◌<◌, length, ◌∙◌, sym, ap, subst, arith}
+use Rattle.std.proofs.Common.{rules, ◌≡◌, ◌<◌, length, ◌∙◌, sym, ap, subst, arith}
 use Rattle.std.specs.Prelude.{is_some}
 use Rattle.af_order.specs.declared.order.Row.{Row}
 use Rattle.af_order.specs.Rows.{row_at}
-use Rattle.af_order.proofs.Rows.{held, at_place}
+use Rattle.af_order.proofs.Rows.{held, at_place, nowhere}
 use Rattle.af_order.proofs.Searches.{passed, read_here}
 use Rattle.af_order.proofs.order.next_in.Goals as goal
 
@@ -36,3 +36,8 @@ returns-then-at-rows-clause-none c = λ q above.
     ap is_some (passed c.args.rows.now c.requires c.args.ino c.rows_up_to-from.result c.first_live-at.result
     c.rows_up_to-from.ensures.up_to
     c.first_live-at.ensures.dead q above (λ l. let e = c.if-at-rows.true in absurd (omega arith)))
+
+pub returns-then-is_empty-clause-none : goal.returns-then-is_empty-clause-none
+returns-then-is_empty-clause-none c = λ q above.
+    let none : length c.args.rows.now ≡ 0 = search (rules, arith) in
+    ap is_some (nowhere c.args.rows.now q (λ i l e. omega (arith, none, l)))

@@ -28,4 +28,4 @@ invariant_of-self-2 c =
     let v = add_file w x in
     subst (λ (s : Stored). IsKept s.world begun c.born.new.self p.progress) (sym c.in_ok-embryo.ensures.ok)
     (kept_socket s (connected w.next_ino) (λ _. moves_same v s (connected w.next_ino) (λ y. refl) begun) (λ _. covers_same v s (connected w.next_ino) (λ y. refl) begun (is_marked c.born.new.self) (below p.progress.visited))
-    (kept_made x c.born.new.self c.ino.result refl c.is_whole.ensures.whole.files_numbered (c.ino.ensures ∙ c.in_ok-embryo.ensures.ino) c.born.ensures.new c.born.ensures.born roomy))
+    (kept_made x c.born.new.self _ refl c.is_whole.ensures.whole.files_numbered c.in_ok-embryo.ensures.ino c.born.ensures.new c.born.ensures.born roomy))

@@ -19,4 +19,4 @@ invariant_of-self-2 c =
     let p = c.self.inside.parts in
     let roomy = kept_room c.reserve.new.self c.reserve.ensures.same c.self.invariant in
     subst (λ (s : Stored). IsKept s.world p.begun.value.world c.born.new.self p.progress) (sym c.in_ok-file.ensures.ok)
-    (kept_made (AsSocket (idle_socket c.args.kind)) c.born.new.self c.ino.result refl c.is_whole.ensures.whole.files_numbered (c.ino.ensures ∙ c.in_ok-file.ensures.ino) c.born.ensures.new c.born.ensures.born roomy)
+    (kept_made (AsSocket (idle_socket c.args.kind)) c.born.new.self _ refl c.is_whole.ensures.whole.files_numbered c.in_ok-file.ensures.ino c.born.ensures.new c.born.ensures.born roomy)

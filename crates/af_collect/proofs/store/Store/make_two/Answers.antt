@@ -23,5 +23,5 @@ invariant_of-self-2 c =
     let numbered = c.is_whole.ensures.whole.files_numbered in
     let first = AsSocket (connected_socket c.args.kind (w.next_ino + 1)) in
     subst (λ (s : Stored). IsKept s.world p.begun.value.world c.born-2.new.self p.progress) (sym c.in_ok-first.ensures.ok)
-    (kept_made (AsSocket (connected_socket c.args.kind w.next_ino)) c.born-2.new.self c.ino-2.result refl (below-add_file w first numbered) (c.ino-2.ensures ∙ c.in_ok-first.ensures.inos.1) c.born-2.ensures.new c.born-2.ensures.born
-    (kept_made first c.born.new.self c.ino.result refl numbered (c.ino.ensures ∙ c.in_ok-first.ensures.inos.0) c.born.ensures.new c.born.ensures.born roomy))
+    (kept_made (AsSocket (connected_socket c.args.kind w.next_ino)) c.born-2.new.self _ refl (below-add_file w first numbered) c.in_ok-first.ensures.inos.1 c.born-2.ensures.new c.born-2.ensures.born
+    (kept_made first c.born.new.self _ refl numbered c.in_ok-first.ensures.inos.0 c.born.ensures.new c.born.ensures.born roomy))

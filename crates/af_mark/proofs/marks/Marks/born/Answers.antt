@@ -13,7 +13,7 @@ invariant_of-self c =
     let e = c.self.inside.epoch in
     let m = c.self.inside.marks.values in
     let n = c.push.new.self.values in
-    let ino = c.args.ino in
+    let ino = c.args.file.now in
     let x : Mark = record { epoch = e; color = White; at = 0 } in
     let is : n ≡ map.insert m ino x = ap (λ k. k.values) c.push.ensures.pushed in
     let colors = color_after e m n ino x White is (color_white e x refl) in
@@ -27,16 +27,16 @@ invariant_of-self c =
 pub returns-clause-born : goal.returns-clause-born
 returns-clause-born c =
     let e = c.self.inside.epoch in
-    let ino = c.args.ino in
+    let ino = c.args.file.now in
     let x : Mark = record { epoch = e; color = White; at = 0 } in
     let colors = color_after e c.self.inside.marks.values c.push.new.self.values ino x White (ap (λ k. k.values) c.push.ensures.pushed) (color_white e x refl) in
     same_marked _ _ (colors ∙ ap (λ k. map.insert k.colors ino White) c.self.view_is) (ap (λ k. k.bound) c.self.view_is) (ap (λ k. k.last) c.push.ensures.pushed) refl
 
 pub returns-clause-new : goal.returns-clause-new
-returns-clause-new c = ap (λ k. map.contains_key k.colors c.args.ino) (sym c.self.view_is) ∙ color_known c.self.inside.epoch c.self.inside.marks.values c.args.ino ∙ c.push.ensures.new
+returns-clause-new c = ap (λ k. map.contains_key k.colors c.args.file.now) (sym c.self.view_is) ∙ color_known c.self.inside.epoch c.self.inside.marks.values c.args.file.now ∙ c.push.ensures.new
 
 pub returns-clause-room : goal.returns-clause-room
 returns-clause-room c =
     let x : Mark = record { epoch = c.self.inside.epoch; color = White; at = 0 } in
     let more = ap (λ k. map.len k.values) c.push.ensures.pushed in
-    omega (arith, ap (λ k. k.room) c.self.view_is, c.push.ensures.room, more, len-insert_most c.self.inside.marks.values c.args.ino x)
+    omega (arith, ap (λ k. k.room) c.self.view_is, c.push.ensures.room, more, len-insert_most c.self.inside.marks.values c.args.file.now x)

@@ -32,7 +32,7 @@ returns-in_default-clause-forgotten c =
 
 pub returns-in_default-clause-room : goal.returns-in_default-clause-room
 returns-in_default-clause-room c =
-    omega (arith, ap (λ k. k.room) c.self.view_is, c.remove.ensures.room, ap (λ k. map.len k.values) c.remove.ensures.removed, gone_few c.self.inside.marks.values c.args.file.now)
+    omega (arith, ap (λ k. k.room) c.self.view_is, ap (λ k. k.room) c.remove.ensures.removed, ap (λ k. map.len k.values) c.remove.ensures.removed, gone_few c.self.inside.marks.values c.args.file.now)
 
 pub invariant_of-self-then-is_grey_in : goal.invariant_of-self-then-is_grey_in
 invariant_of-self-then-is_grey_in c =
@@ -77,7 +77,7 @@ returns-then-is_grey_in-clause-forgotten c =
 pub returns-then-is_grey_in-clause-room : goal.returns-then-is_grey_in-clause-room
 returns-then-is_grey_in-clause-room c =
     let size = c.strike.ensures.len ∙ ap (λ k. map.len k.values) c.remove.ensures.removed in
-    omega (arith, ap (λ k. k.room) c.self.view_is, c.remove.ensures.room, ap (λ k. k.room) c.strike.ensures.rest, c.strike.ensures.capacity, size, gone_few c.self.inside.marks.values c.args.file.now)
+    omega (arith, ap (λ k. k.room) c.self.view_is, ap (λ k. k.room) c.remove.ensures.removed, ap (λ k. k.room) c.strike.ensures.rest, c.strike.ensures.capacity, size, gone_few c.self.inside.marks.values c.args.file.now)
 
 pub returns-else-is_grey_in-clause-forgotten : goal.returns-else-is_grey_in-clause-forgotten
 returns-else-is_grey_in-clause-forgotten c =
@@ -88,4 +88,4 @@ returns-else-is_grey_in-clause-forgotten c =
 
 pub returns-else-is_grey_in-clause-room : goal.returns-else-is_grey_in-clause-room
 returns-else-is_grey_in-clause-room c =
-    omega (arith, ap (λ k. k.room) c.self.view_is, c.remove.ensures.room, ap (λ k. map.len k.values) c.remove.ensures.removed, gone_few c.self.inside.marks.values c.args.file.now)
+    omega (arith, ap (λ k. k.room) c.self.view_is, ap (λ k. k.room) c.remove.ensures.removed, ap (λ k. map.len k.values) c.remove.ensures.removed, gone_few c.self.inside.marks.values c.args.file.now)

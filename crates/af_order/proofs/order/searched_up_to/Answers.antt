@@ -5,8 +5,8 @@ use lib.Dec.{leb}
 use Rattle.af_order.specs.declared.order.Row.{Row}
 use Rattle.af_order.specs.Rows.{row_at}
 use Rattle.af_order.proofs.Searches.{beyond, climb, read_here, rising, up_to}
-use Rattle.af_order.proofs.order.rows_up_to.Goals.{Then-eq}
-use Rattle.af_order.proofs.order.rows_up_to.Goals as goal
+use Rattle.af_order.proofs.order.searched_up_to.Goals.{Then-eq}
+use Rattle.af_order.proofs.order.searched_up_to.Goals as goal
 
 -- The row at the place that was told has this number.
 within : (c : Then-eq) → c.saturating_sub-until.result - 1 < length c.args.rows.now
