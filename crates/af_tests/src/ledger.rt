@@ -7,12 +7,14 @@ fn has_a_user(ledger: &mut Ledger, user: Uid) -> bool {
     ledger.add_user(user).is_ok() || ledger.add_user(user).is_ok()
 }
 
+/// Whether the user can be had so, and no other is there then.
+fn has_just(ledger: &mut Ledger, user: Uid) -> bool {
+    has_a_user(ledger, user) && ledger.user_at(0) == Some(user) && ledger.user_at(1).is_none()
+}
+
 /// One allocation refused, the Nth: `tools/stress` refuses each in turn.
 #[test]
 fn one_refused(rt: HostRuntime) {
     let mut ledger = Ledger::new(rt.alloc());
-    let user = Uid(1000);
-    assert!(rt; has_a_user(&mut ledger, user));
-    assert_eq!(rt; ledger.user_at(0), Some(user));
-    assert_eq!(rt; ledger.user_at(1), None);
+    assert!(rt; has_just(&mut ledger, Uid(1000)));
 }

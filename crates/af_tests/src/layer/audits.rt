@@ -1,8 +1,9 @@
 //! What an audit finds.
-use super::bench::{Outcome, end, spawn_from};
+use super::bench::{Outcome, Play, end_of, spawn_from, stray_seat};
 use af_layer::{CloseFault, Layer, Seat};
+use std::alloc::Global;
 use std::sync::Wait;
-use std::test::Fail;
+use std::thread::Threads;
 
 /// A process starts from each seat.
 fn spawn_from_each<R: Wait>(rt: &R, layer: &Layer, seats: &mut [Seat]) -> bool {
@@ -16,7 +17,7 @@ fn spawn_from_each<R: Wait>(rt: &R, layer: &Layer, seats: &mut [Seat]) -> bool {
 
 /// A process starts from each seat, but the second seat asks the other layer, where its process is
 /// the first. Its double, a seat of that layer, asks this one, and is answered with the second.
-fn change_an_answer<R: Wait>(
+fn ask_each_other<R: Wait>(
     rt: &R,
     layer: &Layer,
     other: &Layer,
@@ -31,54 +32,91 @@ fn change_an_answer<R: Wait>(
         && spawn_from(rt, other, &mut seats[1], 1)
 }
 
-#[test]
-fn audit_finds_a_changed_answer(rt: HostRuntime) -> Result<(), Fail> {
-    let (layer, mut seats) = Layer::open(rt.alloc(), 2)?;
-    let (other, mut doubles) = Layer::open(rt.alloc(), 2)?;
-    let changed = change_an_answer(
-        &rt,
-        &layer,
-        &other,
-        seats.as_mut_slice(),
-        doubles.as_mut_slice(),
-    );
-    assert!(rt; changed);
-    let found = Outcome {
-        fault: Some(CloseFault::Audit(2)),
-        entries: 2,
-        seats: 2,
-    };
-    assert_eq!(rt; end(layer, seats), found);
-    Ok(())
-}
-
-#[test]
-fn audit_finds_a_missing_seat(rt: HostRuntime) -> Result<(), Fail> {
-    let (layer, mut seats) = Layer::open(rt.alloc(), 2)?;
-    let called = spawn_from_each(&rt, &layer, seats.as_mut_slice());
-    assert!(rt; called);
-    seats.pop();
-    let found = Outcome {
-        fault: Some(CloseFault::Missing(2)),
-        entries: 2,
-        seats: 1,
-    };
-    assert_eq!(rt; end(layer, seats), found);
-    Ok(())
-}
-
-#[test]
-fn audit_finds_a_double(rt: HostRuntime) -> Result<(), Fail> {
-    let (layer, mut seats) = Layer::open(rt.alloc(), 2)?;
-    let (_, mut others) = Layer::open(rt.alloc(), 2)?;
-    if let Some(double) = others.pop() {
-        seats.push(double)?;
+/// The second seat and its double have each other's answer.
+fn change_an_answer<R: Wait>(rt: &R, alloc: Global, layer: &Layer, seats: &mut [Seat]) -> bool {
+    match Layer::open(alloc, 2) {
+        Ok((other, mut doubles)) => ask_each_other(rt, layer, &other, seats, &mut doubles),
+        Err(_) => false,
     }
-    let found = Outcome {
-        fault: Some(CloseFault::Stranger(2)),
-        entries: 0,
-        seats: 3,
-    };
-    assert_eq!(rt; end(layer, seats), found);
-    Ok(())
+}
+
+/// An answer is changed.
+struct Changed;
+
+impl Play for Changed {
+    fn on<R: Threads + Wait + Sync>(
+        &self,
+        rt: &R,
+        alloc: Global,
+        layer: &Layer,
+        mut seats: Vec<Seat>,
+    ) -> Option<Vec<Seat>> {
+        if change_an_answer(rt, alloc, layer, &mut seats) {
+            Some(seats)
+        } else {
+            None
+        }
+    }
+}
+
+/// The last seat is kept back.
+struct Missing;
+
+impl Play for Missing {
+    fn on<R: Threads + Wait + Sync>(
+        &self,
+        rt: &R,
+        _alloc: Global,
+        layer: &Layer,
+        mut seats: Vec<Seat>,
+    ) -> Option<Vec<Seat>> {
+        let called = spawn_from_each(rt, layer, &mut seats);
+        seats.pop();
+        if called { Some(seats) } else { None }
+    }
+}
+
+/// A seat of another layer is handed in too.
+struct Double;
+
+impl Play for Double {
+    fn on<R: Threads + Wait + Sync>(
+        &self,
+        _rt: &R,
+        alloc: Global,
+        _layer: &Layer,
+        mut seats: Vec<Seat>,
+    ) -> Option<Vec<Seat>> {
+        let double = stray_seat(alloc, 2)?;
+        seats.push(double).ok()?;
+        Some(seats)
+    }
+}
+
+/// The audit of a layer of two seats finds this fault. The log has so many entries, and so many seats
+/// are handed back.
+fn found(fault: CloseFault, entries: usize, seats: usize) -> Option<Outcome> {
+    Some(Outcome {
+        fault: Some(fault),
+        entries,
+        seats,
+    })
+}
+
+#[test]
+fn audit_finds_a_changed_answer(rt: HostRuntime) {
+    let outcome = end_of(&rt, rt.alloc(), 2, &Changed);
+    assert!(rt; outcome == found(CloseFault::Audit(2), 2, 2));
+}
+
+#[test]
+fn audit_finds_a_missing_seat(rt: HostRuntime) {
+    let outcome = end_of(&rt, rt.alloc(), 2, &Missing);
+    assert!(rt; outcome == found(CloseFault::Missing(2), 2, 1));
+}
+
+#[test]
+fn audit_finds_a_double(rt: HostRuntime) {
+    let outcome = end_of(&rt, rt.alloc(), 2, &Double);
+    assert!(rt; outcome == found(CloseFault::Stranger(2), 0, 3));
 }

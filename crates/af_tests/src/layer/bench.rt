@@ -1,11 +1,14 @@
 //! Events and scripts, a gate that is always open, calls from seats that are lent, and what becomes of
 //! a layer.
+ghost use Rattle.std.specs.Thread.{IsSync};
+
 use af_base::events::{Event, SockType, Step};
 use af_base::items::Items;
 use af_base::names::{Fd, Pid, Uid};
 use af_layer::{CloseError, CloseFault, Closed, Gate, Layer, Seat};
 use std::alloc::{AllocError, Global};
 use std::sync::Wait;
+use std::thread::Threads;
 
 /// A process starts.
 pub fn spawn() -> Event {
@@ -95,7 +98,7 @@ pub fn spawn_from<R: Wait>(rt: &R, layer: &Layer, seat: &mut Seat, processes: u3
 }
 
 /// What became of a layer.
-#[derive(Clone, Copy, Debug, PartialEq, Eq)]
+#[derive(Clone, Copy, PartialEq, Eq)]
 pub struct Outcome {
     /// What the audit found, if anything.
     pub fault: Option<CloseFault>,
@@ -130,4 +133,37 @@ fn outcome_of(closed: &Result<Closed, CloseError>) -> Outcome {
 pub fn end(layer: Layer, seats: Vec<Seat>) -> Outcome {
     let closed = close(layer, seats);
     outcome_of(&closed)
+}
+
+/// What is done to a layer.
+pub trait Play {
+    /// It is done from these seats, which are all that the layer has. The seats that are to be handed
+    /// in, or nothing where it could not be done. An impl has no bound `Sync` but by the clause.
+    fn on<R: Threads + Wait + Sync>(
+        &self,
+        rt: &R,
+        alloc: Global,
+        layer: &Layer,
+        seats: Vec<Seat>,
+    ) -> Option<Vec<Seat>>
+        requires { IsSync R.row };
+}
+
+/// What becomes of a new layer with so many seats. This owns it, so that no test does: each owner is
+/// proved to let go of all it has, at each of its ends.
+pub fn end_of<R: Threads + Wait + Sync, P: Play>(
+    rt: &R,
+    alloc: Global,
+    seats: u32,
+    play: &P,
+) -> Option<Outcome> {
+    let (layer, seats) = Layer::open(alloc, seats).ok()?;
+    let seats = play.on(rt, alloc, &layer, seats)?;
+    Some(end(layer, seats))
+}
+
+/// The seat of this number, of a layer that is let go.
+pub fn stray_seat(alloc: Global, number: u32) -> Option<Seat> {
+    let (_, mut seats) = Layer::open(alloc, number).ok()?;
+    seats.pop()
 }

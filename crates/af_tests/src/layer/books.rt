@@ -1,17 +1,17 @@
 //! Calls on a book without a lock, and for a seat that it does not have. One allocation is refused, the
 //! Nth: `tools/stress` refuses each in turn.
-use super::bench::spawn;
+use super::bench::{spawn, stray_seat};
 use super::growths::nth_event;
 use af_base::equality::events_equal;
 use af_base::errno::Errno;
 use af_base::events::{Event, Reply};
-use af_layer::{Book, CallError, Layer, Seat};
+use af_layer::{Book, CallError, Seat};
 use std::alloc::Global;
 use std::process::Abort;
 use std::test::Fail;
 
 /// What came of a call.
-#[derive(Clone, Copy, Debug, PartialEq, Eq, Drop)]
+#[derive(Clone, Copy, Drop)]
 enum Came {
     /// It was done and logged.
     Done,
@@ -102,12 +102,6 @@ fn wants(alloc: Global, book: &mut Book, seat: &mut Seat) -> Option<u32> {
     Some(wants)
 }
 
-/// A seat of a layer that is let go.
-fn a_seat(alloc: Global) -> Option<Seat> {
-    let (_, mut seats) = Layer::open(alloc, 1).ok()?;
-    seats.pop()
-}
-
 /// Whether the book has no seat of this number, and logs no call of it.
 fn has_no_seat(book: &mut Book, seat: u32) -> bool {
     book.call(seat, spawn()) == Err(CallError::NoSeat) && book.log().is_empty()
@@ -117,7 +111,7 @@ fn has_no_seat(book: &mut Book, seat: u32) -> bool {
 /// nothing is called.
 fn calls(rt: &impl Abort, alloc: Global, book: &mut Book) {
     assert!(rt; has_no_seat(book, 0) && has_no_seat(book, 3));
-    if let Some(mut seat) = a_seat(alloc) {
+    if let Some(mut seat) = stray_seat(alloc, 1) {
         assert!(rt; matches!(wants(alloc, book, &mut seat), Some(0 | 1)));
     }
 }

@@ -1,10 +1,9 @@
 //! What seats and log have of the scripts of a drive.
-use super::bench::{AlwaysOpen, Outcome, end, event_at, scripts, spawn_from};
+use super::bench::{AlwaysOpen, Outcome, Play, end_of, event_at, scripts, spawn_from};
 use af_base::equality::events_equal;
 use af_layer::{Layer, Seat, Turns, drive};
 use std::alloc::{AllocError, Global};
 use std::sync::Wait;
-use std::test::Fail;
 use std::thread::Threads;
 
 const WORKERS: u32 = 4;
@@ -58,17 +57,29 @@ fn keep_the_scripts(alloc: Global, seats: &[Seat]) -> bool {
     true
 }
 
+/// The workers and the collector do their scripts.
+struct Scripts;
+
+impl Play for Scripts {
+    fn on<R: Threads + Wait + Sync>(
+        &self,
+        rt: &R,
+        alloc: Global,
+        layer: &Layer,
+        seats: Vec<Seat>,
+    ) -> Option<Vec<Seat>> {
+        driven(rt, alloc, layer, seats)
+    }
+}
+
 /// The audit ends well: so the log has of each seat what its list has. These are the events of the
 /// scripts, the turns of the collector, and the starts.
 #[test]
-fn log_keeps_the_scripts(rt: HostRuntime) -> Result<(), Fail> {
-    let (layer, seats) = Layer::open(rt.alloc(), WORKERS + 2)?;
-    let seats = driven(&rt, rt.alloc(), &layer, seats).ok_or("a call or the drive failed")?;
+fn log_keeps_the_scripts(rt: HostRuntime) {
     let well = Outcome {
         fault: None,
         entries: 2_504,
         seats: 0,
     };
-    assert_eq!(rt; end(layer, seats), well);
-    Ok(())
+    assert!(rt; end_of(&rt, rt.alloc(), WORKERS + 2, &Scripts) == Some(well));
 }

@@ -1,11 +1,10 @@
 //! A gate of flags: each worker waits until all are inside, so that they run beside each other.
-use super::bench::{Outcome, end, spawn_from, step};
+use super::bench::{Outcome, Play, end_of, spawn_from, step};
 use af_base::events::{Event, Step};
 use af_layer::{Gate, Layer, Seat, Turns, drive};
 use std::alloc::{AllocError, Global};
 use std::sync::Wait;
 use std::sync::atomic::{AtomicU64, Ordering};
-use std::test::Fail;
 use std::thread;
 use std::thread::Threads;
 
@@ -113,23 +112,41 @@ fn scripts(alloc: Global, collector: Option<Turns>) -> Result<Vec<Vec<Event>>, A
     Ok(scripts)
 }
 
-/// All seats, where all were inside at once: two with scripts of opens, and a third with one of passes,
-/// or the collector's. The fourth lets the processes start, and the drive leaves it alone.
+/// All seats, where all were inside at once.
 fn all_inside<R: Threads + Wait + Sync>(
     rt: &R,
     alloc: Global,
     layer: &Layer,
-    mut seats: Vec<Seat>,
+    seats: Vec<Seat>,
     collector: Option<Turns>,
 ) -> Option<Vec<Seat>> {
-    let last = seats.last_mut()?;
-    if !spawn_from(rt, layer, last, 2) {
-        return None;
-    }
     let scripts = scripts(alloc, collector).ok()?;
     let flags = Flags::new();
     let seats = drive(rt, layer, seats, scripts, collector, &flags).ok()?;
     if flags.is_passed() { Some(seats) } else { None }
+}
+
+/// All are inside at once: two seats with scripts of opens, and a third with one of passes, or the
+/// collector's. The fourth lets the processes start, and the drive leaves it alone.
+#[derive(Clone, Copy)]
+struct Inside {
+    collector: Option<Turns>,
+}
+
+impl Play for Inside {
+    fn on<R: Threads + Wait + Sync>(
+        &self,
+        rt: &R,
+        alloc: Global,
+        layer: &Layer,
+        mut seats: Vec<Seat>,
+    ) -> Option<Vec<Seat>> {
+        let last = seats.last_mut()?;
+        if !spawn_from(rt, layer, last, 2) {
+            return None;
+        }
+        all_inside(rt, alloc, layer, seats, self.collector)
+    }
 }
 
 /// The audit ended well. The log has two starts, and two calls of each of three seats.
@@ -140,23 +157,19 @@ const WELL: Outcome = Outcome {
 };
 
 #[test]
-fn gate_three_workers(rt: HostRuntime) -> Result<(), Fail> {
-    let (layer, seats) = Layer::open(rt.alloc(), 4)?;
-    let seats = all_inside(&rt, rt.alloc(), &layer, seats, None).ok_or("not all were inside")?;
-    assert_eq!(rt; end(layer, seats), WELL);
-    Ok(())
+fn gate_three_workers(rt: HostRuntime) {
+    let inside = Inside { collector: None };
+    assert!(rt; end_of(&rt, rt.alloc(), 4, &inside) == Some(WELL));
 }
 
 #[test]
-fn gate_all_inside(rt: HostRuntime) -> Result<(), Fail> {
-    let (layer, seats) = Layer::open(rt.alloc(), 4)?;
+fn gate_all_inside(rt: HostRuntime) {
     let turns = Turns {
         turns: 2,
         budget: 8,
     };
-    let seats = all_inside(&rt, rt.alloc(), &layer, seats, Some(turns)).ok_or(
-        "not all were inside",
-    )?;
-    assert_eq!(rt; end(layer, seats), WELL);
-    Ok(())
+    let inside = Inside {
+        collector: Some(turns),
+    };
+    assert!(rt; end_of(&rt, rt.alloc(), 4, &inside) == Some(WELL));
 }
