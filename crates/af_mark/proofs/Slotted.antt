@@ -133,7 +133,7 @@ pub stranger : (ss : List Slot) (q : ℕ) → ((i : ℕ) → i < length ss → 0
 stranger ss q h = found ss q ∙ by (nat_eq q 0) refl where
   by : (b : Bool) → nat_eq q 0 ≡ b → cond b None (raw ss q) ≡ None
   by true e = refl
-  by false e = nowhere ss q (λ i l. h i l (let apart = eqb-false q 0 e in elim (cases_lt 0 q) [ | inl low ↦ low | inr le ↦ absurd (apart (omega (arith, le))) ]))
+  by false e = nowhere ss q (λ i l. h i l (let apart = eqb-false q 0 e in elim (cases_lt 0 q) [ inl low ↦ low | inr le ↦ absurd (apart (omega (arith, le))) ]))
 
 -- Who has a mark has a place.
 pub has_place : (ss : List Slot) (f : ℕ) (o : Option ℕ) → IfNone o (IsNowhere ss f) → finmap.contains_key (marks_of ss) f ≡ true → IsSome o

@@ -202,7 +202,12 @@ impl Marks {
             return;
         };
         if mark.is_grey_in(self.epoch) {
-            strike(&mut self.marks, &mut self.grey, file.ino(), mark.at as usize);
+            strike(
+                &mut self.marks,
+                &mut self.grey,
+                file.ino(),
+                mark.at as usize,
+            );
         }
     }
 }
