@@ -2,7 +2,8 @@
 # make try      play the example script unproved: a minute after a fresh clone
 # make run      play the example script by the proved program
 # make check    before a commit: prove what has changed and all above it, and play the cases
-# make test     the gate: every proof from nothing, the tests, the cases, programs in C and Rust, the wrong bodies
+# make test     the gate: every proof from nothing, the tests, the cases, programs in C and Rust, walks, the wrong bodies
+# make walks    random scripts by the proved program, compared with a plain engine in Python
 # make stress   each request for memory refused in turn, and the largest worlds, by the proved program and tests
 # make bench    nanoseconds for each event, over named workloads, and calls a second from threads
 # make lib      prove and build the library for C and Rust programs, with all that it needs: out/libscmgc.a
@@ -36,6 +37,9 @@ check:
 # Where the time went, crate by crate, stands in out/times.md after it.
 test:
 	tools/gate-times out/times.md tools/gate
+
+walks: build
+	tools/walks
 
 # The tests stay in the folders out/ of their crates.
 stress: build
@@ -74,4 +78,4 @@ install: build lib
 clean:
 	rm -rf out crates/*/out
 
-.PHONY: all try build run check test stress bench lib archive embed bench-c install clean
+.PHONY: all try build run check test walks stress bench lib archive embed bench-c install clean
