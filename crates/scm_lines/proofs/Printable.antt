@@ -8,7 +8,7 @@ use Rattle.af_base.specs.declared.events.SockType.TheVariants.{Seqpacket, Stream
 use Rattle.af_base.specs.declared.events.Step.{Step}
 use Rattle.af_base.specs.declared.events.Step.TheVariants as step
 use Rattle.af_base.specs.declared.events.Event.TheVariants as event
-use Rattle.scm_lines.specs.Words.{ends_word, is_blank, onto_word, words_of}
+use Rattle.scm_lines.specs.Words.{begins_comment, ends_word, is_blank, onto_word, words_of}
 use Rattle.scm_lines.specs.Numbers.{all_digits, is_digit}
 use Rattle.scm_lines.specs.Payload.{hex_value, is_plain}
 use Rattle.scm_lines.specs.Lines.{all_printable, is_comment, line_of, words_say, ◌>>=◌}
@@ -175,8 +175,33 @@ name_alone bytes = ap (λ b. cond b (words_say (words_of bytes)) None) (line_pri
     by None e = either (words_printable (words_of bytes)) None
     by (Some said) e = ap (λ b. cond b (Some said) None) (says_printable (words_of bytes) said (words_said (words_of bytes) said e))
 
--- so a line is read by its words, with a look at the name that they say
-pub line_by_name : (bytes : List ℕ) → line_of bytes
-    ≡ cond (nat_lt MAX_LINE (length bytes)) None (cond (is_comment bytes) (Some line.Silence) (words_say (words_of bytes) >>= λ said. cond (name_printable said) (Some said) None))
+-- the first word begins with #
+abbrev pub is_comment_of : List (List ℕ) → Bool
+is_comment_of [] = false
+is_comment_of (word ∷ words) = begins_comment word
+
+-- a comment is known by its first word
+comment_by_word : (bytes : List ℕ) → is_comment bytes ≡ is_comment_of (words_of bytes)
+comment_by_word [] = refl
+comment_by_word (b ∷ bytes) = by_blank (is_blank b) (comment_by_word bytes)
+  where
+    onto : (words : List (List ℕ)) → (b == 35) ≡ is_comment_of (onto_word b words)
+    onto [] = refl
+    onto (word ∷ words) = refl
+
+    by_end : (ends : Bool) → (b == 35) ≡ is_comment_of (cond ends ((b ∷ []) ∷ words_of bytes) (onto_word b (words_of bytes)))
+    by_end true = refl
+    by_end false = onto (words_of bytes)
+
+    by_blank : (blank : Bool) → is_comment bytes ≡ is_comment_of (words_of bytes)
+        → cond blank (is_comment bytes) (b == 35) ≡ is_comment_of (cond blank (words_of bytes) (cond (ends_word bytes) ((b ∷ []) ∷ words_of bytes) (onto_word b (words_of bytes))))
+    by_blank true rest = rest
+    by_blank false rest = by_end (ends_word bytes)
+
+-- so a line is read by its words alone, with a look at the name that they say
+pub line_by_words : (bytes : List ℕ) → line_of bytes
+    ≡ cond (nat_lt MAX_LINE (length bytes)) None (cond (is_comment_of (words_of bytes)) (Some line.Silence) (words_say (words_of bytes) >>= λ said. cond (name_printable said) (Some said) None))
 unfolding line_of
-line_by_name bytes = ap (λ (o : Option Line). cond (nat_lt MAX_LINE (length bytes)) None (cond (is_comment bytes) (Some line.Silence) o)) (name_alone bytes)
+line_by_words bytes =
+    ap (λ (o : Option Line). cond (nat_lt MAX_LINE (length bytes)) None (cond (is_comment bytes) (Some line.Silence) o)) (name_alone bytes)
+    ∙ ap (λ b. cond (nat_lt MAX_LINE (length bytes)) None (cond b (Some line.Silence) (words_say (words_of bytes) >>= λ said. cond (name_printable said) (Some said) None))) (comment_by_word bytes)

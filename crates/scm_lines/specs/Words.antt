@@ -33,6 +33,11 @@ abbrev pub word_in : List (List ℕ) → Option (List ℕ × List (List ℕ))
 word_in [] = None
 word_in (word ∷ words) = Some (word, words)
 
+-- A comment begins with this word.
+abbrev pub begins_comment : List ℕ → Bool
+begins_comment [] = false
+begins_comment (b ∷ bytes) = b == 35
+
 -- No word is left.
 abbrev pub no_words : List (List ℕ) → Bool
 no_words [] = true

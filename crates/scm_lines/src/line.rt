@@ -1,12 +1,13 @@
 //! One line of a script.
 ghost use Rattle.std.specs.Prelude.{◌≡◌};
 ghost use Rattle.scm_lines.specs.Fault.{Reads};
-ghost use Rattle.scm_lines.specs.Lines.{all_printable, is_comment, line_of};
+ghost use Rattle.scm_lines.specs.Lines.{all_printable, line_of};
+ghost use Rattle.scm_lines.specs.Words.{begins_comment};
 ghost use Rattle.scm_lines.specs.Names.{name_printable};
 
 use crate::fault::LineFault;
 use crate::forms::form;
-use crate::words::{first_word, is_blank};
+use crate::words::first_word;
 use af_base::events::{Event, Step};
 use std::alloc::Global;
 
@@ -62,16 +63,11 @@ fn is_name_printable(line: &Line) -> bool
     }
 }
 
-/// Whether the first word begins with `#`.
-fn is_comment(bytes: &[u8]) -> bool
-    ensures { result ≡ is_comment bytes.now }
+/// Whether a line whose first word this is is a comment.
+fn begins_comment(word: &[u8]) -> bool
+    ensures { result ≡ begins_comment word.now }
 {
-    for b in bytes {
-        if !is_blank(*b) {
-            return *b == b'#';
-        }
-    }
-    false
+    matches!(word, [b'#', ..])
 }
 
 /// What a line says in some version; [`crate::version::read_in`] asks the version too.
@@ -80,19 +76,19 @@ fn is_comment(bytes: &[u8]) -> bool
 /// of no form is [`LineFault::Unreadable`], and so is one of more than [`MAX_LINE`] bytes, even a
 /// comment. Only `send` takes memory, for its bytes and its descriptors, and `bind` and `connect`,
 /// for a name; where it is refused, the call answers [`LineFault::Memory`].
-#[tactic(auto, using(crate::proofs::Printable::line_by_name))]
+#[tactic(auto, using(crate::proofs::Printable::line_by_words))]
 pub fn line_of(alloc: Global, bytes: &[u8]) -> Result<Line, LineFault>
     ensures { Reads (line_of bytes.now) result }
 {
     if bytes.len() > MAX_LINE {
         return Err(LineFault::Unreadable);
     }
-    if is_comment(bytes) {
-        return Ok(Line::Silence);
-    }
     let Some((word, rest)) = first_word(bytes) else {
         return Ok(Line::Silence);
     };
+    if begins_comment(word) {
+        return Ok(Line::Silence);
+    }
     // Only a name is any word: all others that are read are printable, and so are blanks.
     let line = form(alloc, word, rest)?;
     if is_name_printable(&line) {

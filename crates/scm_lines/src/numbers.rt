@@ -13,6 +13,10 @@ const MAX_DIGITS: usize = 10;
 pub fn number(word: &[u8]) -> Option<u32>
     ensures { result ≡ number_of word.now }
 {
+    // Most numbers have one digit.
+    if let [digit @ b'0'..=b'9'] = word {
+        return Some(u32::from(*digit - b'0'));
+    }
     if word.is_empty() || word.len() > MAX_DIGITS || (word[0] == b'0' && word.len() > 1) {
         return None;
     }

@@ -3,7 +3,7 @@ ghost use Rattle.std.specs.Prelude.{◌≡◌, ◌∷◌, ◌≤◌, ◌<◌, []
 ghost use Rattle.scm_lines.specs.Words.{is_blank, words_of, ends_word, no_words, StartsWord};
 
 /// A space or a tab.
-pub fn is_blank(b: u8) -> bool
+fn is_blank(b: u8) -> bool
     ensures { result ≡ is_blank b }
 {
     b == b' ' || b == b'\t'
