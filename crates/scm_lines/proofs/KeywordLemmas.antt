@@ -1,5 +1,5 @@
 -- Keywords and their names.
-use Rattle.std.proofs.Common.{◌≡◌, ◌∷◌, [], ℕ, Bool, true, List, cond, Option, Some, None, find, is_some, false, refl, inl, inr, subst, codes}
+use Rattle.std.proofs.Common.{◌≡◌, ◌≢◌, ◌∷◌, [], ℕ, Bool, true, List, cond, Option, Some, None, find, is_some, false, refl, inl, inr, subst, codes}
 use Rattle.std.specs.Str.{bytes_eq}
 use Rattle.std.specs.Option.{option_map}
 use Rattle.af_base.specs.declared.events.SockType.{SockType}
@@ -27,6 +27,18 @@ meaning_said {A} P (entry ∷ table) (first, others) word x e = by_test (bytes_e
         → (meaning table word ≡ Some x → P word x) → P word x
     by_test true t e1 later = let is : entry.1 ≡ x = cc in subst (λ (y : A). P word y) is (subst (λ (w : List ℕ). P w entry.1) (same_word entry.0 word t) first)
     by_test false f e1 later = later e1
+
+-- two words that are not the same
+two_words : (one other : List ℕ) → one ≢ other → bytes_eq one other ≡ false
+two_words one other apart = by (bytes_eq one other) refl where
+  by : (b : Bool) → bytes_eq one other ≡ b → b ≡ false
+  by true same = absurd (apart (same_word one other same))
+  by false differ = refl
+
+-- a word that a table does not have stands for nothing
+pub no_meaning : {A : Type 0} (table : List (List ℕ × A)) (word : List ℕ) → Holds (λ text x. text ≢ word) table → meaning table word ≡ None
+no_meaning [] word others = refl
+no_meaning (entry ∷ table) word (apart, others) = rw (two_words entry.0 word apart) (no_meaning table word others)
 
 -- the word that says an opening
 abbrev pub Opens : List ℕ → Opening → Type 0

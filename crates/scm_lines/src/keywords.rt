@@ -1,6 +1,6 @@
 //! The words that say which form a line has.
-ghost use Rattle.std.specs.Prelude.{◌≡◌, map};
-ghost use Rattle.scm_lines.specs.Keywords.{keyword_of, meaning, opening_of, verb_of, type_of};
+ghost use Rattle.std.specs.Prelude.{◌≡◌};
+ghost use Rattle.scm_lines.specs.Keywords.{keyword_of, opening_of, verb_of, type_of};
 
 use crate::numbers::number;
 use af_base::events::SockType;
@@ -66,46 +66,6 @@ pub enum Verb {
     Limit,
 }
 
-/// The words that may come after a process's number, first those that scripts have most. The
-/// definitions take this table as it is, and the laws hold it against the table of forms, which
-/// spells each word out.
-pub const VERBS: [(&[u8], Verb); 16] = [
-    (b"send", Verb::Send),
-    (b"recv", Verb::Recv),
-    (b"open", Verb::Open),
-    (b"close", Verb::Close),
-    (b"dup", Verb::Dup),
-    (b"dup2", Verb::Dup2),
-    (b"connect", Verb::Connect),
-    (b"accept", Verb::Accept),
-    (b"socket", Verb::Socket),
-    (b"pair", Verb::Pair),
-    (b"fork", Verb::Fork),
-    (b"exit", Verb::Exit),
-    (b"bind", Verb::Bind),
-    (b"listen", Verb::Listen),
-    (b"peek", Verb::Peek),
-    (b"limit", Verb::Limit),
-];
-
-/// The types of sockets.
-pub const TYPES: [(&[u8], SockType); 2] = [
-    (b"stream", SockType::Stream),
-    (b"seqpacket", SockType::Seqpacket),
-];
-
-/// What a word stands for in a table of words, each with its meaning.
-fn meaning<T: Copy>(table: &[(&[u8], T)], word: &[u8]) -> Option<T>
-    ensures { result ≡ meaning (map (λ entry. (entry.0.now, entry.1)) table.now) word.now }
-{
-    for entry in table {
-        if entry.0.len() == word.len() && entry.0 == word {
-            return Some(entry.1);
-        }
-    }
-    None
-}
-
 /// What a line's first word stands for, if it is a keyword.
 fn keyword_named(word: &[u8]) -> Option<Opening>
     ensures { result ≡ keyword_of word.now }
@@ -148,16 +108,38 @@ pub fn opening_named(word: &[u8]) -> Option<Opening>
     keyword_named(word)
 }
 
-/// What the word after a process's number stands for.
+/// What the word after a process's number stands for. Those that scripts have most come first.
 pub fn verb_named(word: &[u8]) -> Option<Verb>
     ensures { result ≡ verb_of word.now }
 {
-    meaning(&VERBS, word)
+    Some(match word {
+        b"send" => Verb::Send,
+        b"recv" => Verb::Recv,
+        b"open" => Verb::Open,
+        b"close" => Verb::Close,
+        b"dup" => Verb::Dup,
+        b"dup2" => Verb::Dup2,
+        b"connect" => Verb::Connect,
+        b"accept" => Verb::Accept,
+        b"socket" => Verb::Socket,
+        b"pair" => Verb::Pair,
+        b"fork" => Verb::Fork,
+        b"exit" => Verb::Exit,
+        b"bind" => Verb::Bind,
+        b"listen" => Verb::Listen,
+        b"peek" => Verb::Peek,
+        b"limit" => Verb::Limit,
+        _ => return None,
+    })
 }
 
 /// The type of sockets that a word names.
 pub fn type_named(word: &[u8]) -> Option<SockType>
     ensures { result ≡ type_of word.now }
 {
-    meaning(&TYPES, word)
+    match word {
+        b"stream" => Some(SockType::Stream),
+        b"seqpacket" => Some(SockType::Seqpacket),
+        _ => None,
+    }
 }

@@ -122,6 +122,7 @@ fn push_bytes(text: &mut Vec<u8>, bytes: &[u8]) -> Result<(), AllocError>
 }
 
 /// Appends a word, and a number behind it.
+#[tactic(auto, using(std::proofs::lemmas::Fmt::decimal_digit))]
 fn push_named(text: &mut Vec<u8>, word: &str, number: u64) -> Result<(), AllocError>
     ensures bytes { OnOk result (text.new.items ≡ text.old.items ++ word.now ++ decimal number) }
     ensures most { OnOk result (vec_len text.new ≤ vec_len text.old + (length word.now + 20)) }
@@ -129,6 +130,11 @@ fn push_named(text: &mut Vec<u8>, word: &str, number: u64) -> Result<(), AllocEr
     ensures full { OnErr result (vec_capacity text.old < vec_len text.old + (length word.now + 20)) }
 {
     push_word(text, word)?;
+    // Most numbers have one digit.
+    if number < 10 {
+        text.push(b'0' + number as u8)?;
+        return Ok(());
+    }
     let mut buffer = Buffer::new();
     push_word(text, buffer.format(number))
 }
