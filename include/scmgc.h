@@ -13,7 +13,8 @@
  *     scm_engine_free(&engine);
  *
  * Every call answers 0 or more, or a negative error: the negative of one of `enum scm_error`. After
- * an error the engine is as it was, and nothing was written to the caller's places.
+ * an error the engine is as it was, and nothing was written to the caller's places. scm_engine_new
+ * alone is otherwise: an engine that was in the handle is freed, also where the new one is refused.
  *
  * Where several errors fit, the first of those that a call lists here is answered.
  *
@@ -71,7 +72,7 @@ enum scm_error {
     SCM_EIDLE = 19,       /* No pass runs. */
     SCM_ERANGE = 20,      /* The limit on descriptors is too large. */
     SCM_ENOENGINE = 100,  /* The handle has no engine: it was never made, or was freed. */
-    SCM_EDIFFERS = 101    /* A number that is kept is no recount: no engine comes to it. */
+    SCM_EDIFFERS = 101    /* A number that is kept is no recount: proved never to be answered. */
 };
 
 /* What there may be at once, and how long things may be. */

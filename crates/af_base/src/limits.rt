@@ -39,8 +39,8 @@ pub const MAX_PASS: u64 = 1_000_000_000_000;
 /// The largest budget of a slice; none is 0.
 pub const MAX_BUDGET: u32 = 65_536;
 
-/// Entries of a log. Not used yet.
+/// Entries of a log.
 pub const MAX_LOG: usize = 1_048_576;
 
-/// Seats of a layer. Not used yet.
+/// Seats of a layer.
 pub const MAX_SEATS: u32 = 64;

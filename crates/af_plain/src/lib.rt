@@ -1,6 +1,6 @@
 //! A second, independent count: each number is counted in the sorted places of a listing, and each
 //! reach is found by a walk over its lists. It shares no walk and no count with the engine, so that
-//! to compare the two compares two things.
+//! to compare the two compares two independent results.
 #![tactic(auto)]
 
 mod agreement;
