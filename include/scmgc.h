@@ -56,7 +56,8 @@ enum scm_error {
     SCM_EINVAL = 3,       /* An argument is out of range, or does not fit the socket's state. */
     SCM_EMFILE = 4,       /* The table of the process is full. */
     SCM_ENFILE = 5,       /* There are too many files. */
-    SCM_EAGAIN = 6,       /* Not now: a queue is full or empty, or no further process may start. */
+    SCM_EAGAIN = 6,       /* Not now: a queue or a backlog is full or empty, or no further process
+                           * may start. */
     SCM_EMSGSIZE = 7,     /* The message has too many bytes. */
     SCM_ETOOMANYREFS = 8, /* The user has too many descriptors in flight (unix(7)). */
     SCM_ENOBUFS = 9,      /* All users together have too many descriptors in flight. */

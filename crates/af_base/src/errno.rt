@@ -9,7 +9,7 @@ use std::fmt;
 /// An error's name, with the number that this project gives it.
 #[derive(Clone, Copy, Debug, PartialEq, Eq)]
 pub enum Errno {
-    /// The number is not open.
+    /// The number is not open, or the new number of a dup2(2) is not below the limit.
     EBADF = 1,
     /// The file is no socket.
     ENOTSOCK,
@@ -19,7 +19,7 @@ pub enum Errno {
     EMFILE,
     /// There are too many files, or no inode number is left.
     ENFILE,
-    /// Not now: a queue is full or empty, or no further process may start.
+    /// Not now: a queue or a backlog is full or empty, or no further process may start.
     EAGAIN,
     /// The message has too many bytes.
     EMSGSIZE,
@@ -59,7 +59,7 @@ impl Errno {
         self as u8
     }
 
-    /// The error's name in capitals, as in errno(3).
+    /// The error's name in capitals, as in errno(3); EIDLE is this project's own.
     pub fn name(self) -> &'static str
         ensures { result.now ≡ name_of self }
     {

@@ -17,7 +17,8 @@ pub enum SockType {
 pub enum State {
     /// Never connected, and not listening.
     Idle,
-    /// Waits for connections; it holds so many embryos at most.
+    /// Waits for connections. At most so many embryos, the other ends of connections that nobody
+    /// has accepted yet, wait at it.
     Listening(u32),
     /// Connected to a live peer.
     Connected(Ino),
@@ -87,7 +88,8 @@ pub enum Step {
 /// What may happen.
 #[derive(Clone, Debug, PartialEq, Eq, Drop)]
 pub enum Event {
-    /// A process of this user starts, with a limit on its descriptors (RLIMIT_NOFILE).
+    /// A process of this user starts, with a limit on its descriptors (RLIMIT_NOFILE). A privileged
+    /// one is not held to its user's share of descriptors in flight (unix(7), CAP_SYS_RESOURCE).
     Spawn {
         uid: Uid,
         nofile: u32,

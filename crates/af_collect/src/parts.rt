@@ -17,14 +17,15 @@ use af_mark::Marks;
 use af_pass::{Progress, Stage};
 use std::snapshot::Snapshot;
 
-/// The holdings with the marks of a pass, what they were when it began (for contracts alone), how far
-/// it is, and where the file stands that it looked at last: a hint.
+/// The holdings, the marks, and how far a pass is.
 #[derive(Drop)]
 pub struct Parts {
     pub places: Holdings,
     pub marks: Marks,
+    /// The holdings when the pass began: for contracts alone.
     pub begun: Snapshot<Holdings>,
     pub progress: Progress,
+    /// The key of the file that a pass visited or swept last: a hint.
     pub near: usize,
 }
 

@@ -1,6 +1,6 @@
-//! Place changes of single numbers and messages. Each is one change of the world, and keeps the numbers
-//! in step with it. A file that lost its last place waits, with all that it holds, until `release`
-//! comes to it.
+//! Place changes of single numbers and messages. Each is one change of the world, and keeps the
+//! counts in step with it. A file that lost its last place waits, with all that it holds, until
+//! `release` comes to it.
 ghost use Rattle.std.specs.Prelude.{◌≡◌, ◌<◌, ◌≤◌, ◌+◌, ◌∷◌, ◌^◌, [], ℕ, None, IsTrue, IfOk, OnOk, OnErr, length, map, drop, false, is_none};
 ghost use Rattle.std.specs.List.{zip, All, Contains};
 ghost use Rattle.std.specs.FinMap as finmap;
@@ -111,8 +111,9 @@ impl Store {
         ensures world { OnOk result (self.new ≡ record self.old { world = install_all self.old.world pid (zip fds.now (taken_at self.old.world socket.now max).attached) }) }
         ensures err { OnErr result (self.new ≡ self.old) }
     {
-        // Nothing leaves a place, so nothing is to be marked: a table's place asks for no mark.
+        // Messages have bytes: that is what a world within the limits says of them.
         self.parts.places.is_whole();
+        // Nothing leaves a place, so nothing is to be marked.
         self.parts.places.peek_msg(socket, max, pid, fds)
     }
 }

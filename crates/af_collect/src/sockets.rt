@@ -1,5 +1,5 @@
 //! Sockets that are made, named, made to listen and connected, and the embryos that wait to be
-//! accepted. Each call is one change of the world, and keeps the numbers in step with it.
+//! accepted. Each call is one change of the world, and keeps the counts in step with it.
 ghost use Rattle.std.specs.Prelude.{◌≡◌, ◌<◌, ◌≤◌, ℕ, None, Some, IsTrue, IfOk, IfSome, OnOk, OnErr, length, false, is_none, slice_get, true};
 ghost use Rattle.std.specs.FinMap as finmap;
 ghost use Rattle.af_base.specs.World as world;
@@ -49,6 +49,7 @@ impl Store {
         ensures spared { IfOk result (λ ino. Spares self.new.pass ino) }
         ensures err { OnErr result (self.new ≡ self.old) }
     {
+        // Files' numbers are below the next one: that is what a whole world says of them.
         self.parts.places.is_whole();
         self.parts.marks.reserve(1)?;
         let embryo = self.parts.places.make_embryo(kind, client)?;

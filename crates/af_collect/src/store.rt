@@ -135,6 +135,7 @@ impl Store {
         ensures spared { IfOk result (λ both. Spares self.new.pass both.0 × Spares self.new.pass both.1) }
         ensures err { OnErr result (self.new ≡ self.old) }
     {
+        // Files' numbers are below the next one: that is what a whole world says of them.
         self.parts.places.is_whole();
         self.parts.marks.reserve(2)?;
         let (first, second) = self.parts.places.make_two(kind)?;
@@ -153,6 +154,7 @@ impl Store {
         ensures pid { IfOk result (λ child. child ≡ self.old.world.next_pid) }
         ensures err { OnErr result (self.new ≡ self.old) }
     {
+        // Pids are below the next one: that is what a whole world says of them.
         self.parts.places.is_whole();
         self.parts.places.copy_for_fork(pid)
     }

@@ -9,7 +9,7 @@ use af_hold::Holdings;
 use af_table::Procs;
 
 impl Store {
-    /// The processes, the files, and the numbers that are kept of them.
+    /// The processes, the files, and the counts that are kept of them.
     #[inline(always)]
     pub fn holdings(&self) -> &Holdings
         ensures world { result.now.world ≡ self.now.world }
@@ -37,7 +37,8 @@ impl Store {
         self.parts.places.files()
     }
 
-    /// What a table holds is no garbage of the begin of a pass that runs.
+    /// Nothing at run time: it says that what a table holds is no garbage of the begin of a pass
+    /// that runs.
     pub fn is_spared(&self)
         ensures { (f : ℕ) → InTable self.now.world f → Spares self.now.pass f }
     {

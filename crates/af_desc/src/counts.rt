@@ -10,7 +10,7 @@ use af_base::names::{FileRef, Ino};
 use af_ledger::{Count, Place, take_off};
 
 impl Files {
-    /// The numbers of a file; all are 0 where no place holds it.
+    /// The counts of a file; all are 0 where no place holds it.
     #[inline(always)]
     fn count_at(&self, file: &FileRef) -> Count
         ensures { result ≡ count_in_map self.now.counts file.now }

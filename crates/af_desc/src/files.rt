@@ -248,7 +248,7 @@ impl Files {
         desc.push(message)
     }
 
-    /// The socket of this number; a plain file and a stranger are none.
+    /// The socket that the file is; a plain file and a stranger are none.
     fn socket(&self, file: &FileRef) -> Option<&Socket>
         ensures { option_copied result ≡ socket_in self.now.files file.now }
     {

@@ -198,7 +198,7 @@ impl Socket {
         bound.backlog.dequeue()
     }
 
-    /// Where the peer stands. Nothing that a contract sees changes.
+    /// The peer stands where this says: a hint. Nothing that a contract sees changes.
     pub(crate) fn point(&mut self, peer: &FileRef)
         ensures { self.new ≡ self.old }
     {

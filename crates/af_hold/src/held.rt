@@ -1,4 +1,4 @@
-//! The places of a whole message: in the numbers of each file, and in what its user is charged. None
+//! The places of a whole message: in the counts of each file, and in what its user is charged. None
 //! takes memory.
 ghost use Rattle.std.specs.Prelude.{◌≡◌};
 ghost use Rattle.af_ledger.specs.Kept.{CanDropAll, CanHoldAll, dropped_all, held_all, kept_of};

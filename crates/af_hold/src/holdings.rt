@@ -1,4 +1,4 @@
-//! All that is there: the processes, the files, and the numbers that are kept of them.
+//! All that is there: the processes, the files, and the counts that are kept of them.
 ghost use Rattle.std.specs.Prelude.{◌≡◌, ◌<◌, ◌≤◌, ◌+◌, ℕ, false, None, Some, IsTrue, IsOk, IfOk, OnOk, OnErr};
 ghost use Rattle.std.specs.FinMap as map;
 ghost use Rattle.af_base.specs.World.{Plain, empty_world};

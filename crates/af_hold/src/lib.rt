@@ -1,8 +1,9 @@
-//! Processes, files and the numbers that are kept of them, always in step: which places hold which
+//! Processes, files and the counts that are kept of them, always in step: which places hold which
 //! files.
 //!
-//! Places come and go by the calls of `places` and `sockets`, by whole processes (`copy_for_fork` and
-//! `remove_process`), and by no other. A file that lost its last place waits until it is taken away.
+//! Places come and go by the calls of `places` and `sockets`, by whole processes (`copy_for_fork`
+//! and `remove_process`), and by `empty`, which drops what a file holds; by no other. A file that
+//! lost its last place waits until it is taken away.
 #![tactic(auto)]
 
 mod held;

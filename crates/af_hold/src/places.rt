@@ -1,6 +1,6 @@
-//! Place changes of single numbers and messages. Each is one change of the world, and keeps the numbers
-//! in step with it. A file that lost its last place waits, with all that it holds, until it is taken
-//! away.
+//! Place changes of single numbers and messages. Each is one change of the world, and keeps the
+//! counts in step with it. A file that lost its last place waits, with all that it holds, until it
+//! is taken away.
 ghost use Rattle.std.specs.Prelude.{◌≡◌, ◌<◌, ◌≤◌, ◌+◌, ◌∷◌, ◌^◌, [], ℕ, None, IsTrue, IfOk, OnOk, OnErr, length, map, drop, false, is_none};
 ghost use Rattle.std.specs.List.{zip, All, Contains};
 ghost use Rattle.std.specs.FinMap as finmap;
@@ -30,7 +30,7 @@ use af_table::Procs;
 use std::alloc::AllocError;
 
 /// Files into the table of a process, at these numbers one after the other, as long as there are
-/// both: each number has room, and the numbers of each file are kept.
+/// both: each number has room, and counts are kept of each file.
 fn table_in_all(procs: &mut Procs, files: &mut Files, pid: Pid, fds: &[Fd], attached: &[FileRef])
     requires row { All (λ n. n < row_in procs.old.rows pid) fds.now }
     requires known { (f : ℕ) → Contains attached.now f → IsTrue (finmap.contains_key files.old.counts f) }

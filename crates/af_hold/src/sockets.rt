@@ -1,5 +1,5 @@
 //! Sockets that are made, named, made to listen and connected, and the embryos that wait to be
-//! accepted. Each call is one change of the world, and keeps the numbers in step with it.
+//! accepted. Each call is one change of the world, and keeps the counts in step with it.
 ghost use Rattle.std.specs.Prelude.{◌≡◌, ◌<◌, ◌≤◌, ℕ, None, Some, IsTrue, IfOk, IfSome, OnOk, OnErr, length, false, is_none, slice_get, true};
 ghost use Rattle.std.specs.FinMap as finmap;
 ghost use Rattle.af_base.specs.World as world;

@@ -1,4 +1,4 @@
-//! The parts, lent for reading, and the numbers that are kept. None takes memory.
+//! The parts, lent for reading, and the counts that are kept. None takes memory.
 ghost use Rattle.std.specs.Prelude.{◌≡◌, IfErr, None, OnOk, Some, length, slice_get};
 ghost use Rattle.af_base.specs.Counts.{charged, inflight, refs, tabled, total};
 ghost use Rattle.af_base.specs.Refusals.{first_fit, on_charge};

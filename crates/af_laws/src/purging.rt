@@ -48,7 +48,7 @@ pub fn pass_is_one_slice()
 {}
 
 /// A slice changes no table, and no queue or backlog of what is reached, while no garbage of the
-/// begin is.
+/// begin is reached.
 pub fn slices_spare_the_reached()
     ensures { SlicesSpareTheReached }
 {}

@@ -1,4 +1,4 @@
-//! The lock, and the audit that ends it.
+//! The layer: its lock, and the audit that closes it.
 ghost use Rattle.std.specs.Prelude.{◌≡◌, ◌+◌, ◌<◌, ℕ, [], Err, IfErr, IfOk, MatchBool, OnErr, OnOk, slice_index_or, vec_len};
 ghost use Rattle.af_base.specs.declared.events.Reply.{Reply as Answer};
 ghost use Rattle.af_layer.specs.Audit.{HasFault, IsWhole};

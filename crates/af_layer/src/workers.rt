@@ -90,7 +90,7 @@ fn play<R: Wait, G: Gate>(
     ensures made { OnOk result (Made (Some (Script script.items)) seat.old.list seat.new.list) }
     ensures short { OnErr result (Short (Some (Script script.items)) seat.old.list seat.new.list) }
 {
-    // A log is full long before as many calls were made as can be counted.
+    // A log is full long before this count could stop rising.
     let mut nth = 0u32;
     for event in script {
         nth = nth.saturating_add(1);

@@ -1,4 +1,4 @@
-//! The marks under their keys, and the list of the grey files.
+//! A file's mark, and the list of the grey files.
 ghost use Rattle.std.specs.Prelude.{◌≡◌, ◌<◌, ◌+◌, ◌-◌, ℕ, Some, IfSome, IfNone, cond, false, length, nat_eq, option_map, slice_get, slice_index_or, vec_capacity};
 ghost use Rattle.std.specs.FinMap as map;
 ghost use Rattle.af_base.specs.Counts.{count_in};
@@ -73,8 +73,8 @@ fn place_of(grey: &[FileRef], ino: Ino, at: usize) -> Option<usize>
     grey.iter().rposition(|file| file.ino() == ino)
 }
 
-/// The file is in the list once less, if it was there; the last takes its place, and is the result if
-/// it was another.
+/// The file is in the list once less, if it was there, and the last takes its place. Which place
+/// that was; nothing where it was not there.
 fn take_off(grey: &mut Vec<FileRef>, ino: Ino, at: usize) -> Option<usize>
     ensures each { (f : ℕ) → count_in f grey.new.items ≡ count_in f grey.old.items - cond (nat_eq f ino) 1 0 }
     ensures capacity { vec_capacity grey.new ≡ vec_capacity grey.old }
@@ -84,7 +84,8 @@ fn take_off(grey: &mut Vec<FileRef>, ino: Ino, at: usize) -> Option<usize>
     Some(at)
 }
 
-/// The same; the place of what was moved is noted.
+/// The file is in the list once less, if it was there. The last takes its place, which is noted
+/// beside that one's mark.
 pub fn strike(marks: &mut Slots, grey: &mut Vec<FileRef>, ino: Ino, at: usize)
     ensures each { (f : ℕ) → count_in f grey.new.items ≡ count_in f grey.old.items - cond (nat_eq f ino) 1 0 }
     ensures capacity { vec_capacity grey.new ≡ vec_capacity grey.old }

@@ -17,8 +17,8 @@ struct Slot {
 }
 
 /// A mark beside each of some files. It stands in the slot that the file's key names, as long as
-/// files come and go here as they do where the keys are from; elsewhere, and found by a search, if
-/// not.
+/// files come and go here as they do where the keys are from. Otherwise it stands elsewhere, and a
+/// search finds it.
 #[derive(Drop)]
 pub struct Slots {
     slots: Vec<Slot>,

@@ -1,4 +1,8 @@
 //! The order of numbers that only rise.
+//!
+//! A packing reads `rows` from the front, and moves each live row to the end of `packed`; what it
+//! has read is dead. When all was read, the two lists change places. So a number is live in
+//! `packed` or in the part of `rows` that was not read, and a look-up asks both.
 ghost use Rattle.std.specs.Prelude.{◌≡◌, ℕ, ◌+◌, ◌≤◌, ◌<◌, length, false, None, IsTrue, IsOk, IfSome, IfNone, OnOk, OnErr, ◌++◌, ◌≢◌};
 ghost use Rattle.std.specs.FinMap as map;
 ghost use Rattle.af_order.specs.Ordered.{Ordered};
@@ -9,7 +13,7 @@ use std::alloc::{AllocError, Global};
 use std::marker::Model;
 use std::mem;
 
-/// A packing begins when so many rows are dead, and more than half of them.
+/// A packing begins when at least so many rows are dead, and more than half of all.
 const LEAST_DEAD: usize = 64;
 
 /// So many dead rows at most are passed over in one step of packing.
@@ -368,8 +372,8 @@ fn rows_up_to(rows: &[Row], ino: Ino, at: usize) -> usize
     searched_up_to(rows, ino)
 }
 
-/// The same by a search. Most numbers stand one behind the other, so that the place is told from the
-/// last row's first.
+/// The same by a search. Most numbers stand one behind the other, so the place is first reckoned
+/// from the number of the last row.
 fn searched_up_to(rows: &[Row], ino: Ino) -> usize
     requires { Rise rows.now }
     ensures bound { result ≤ length rows.now }

@@ -116,7 +116,7 @@ impl Msg {
         Ok(Taken::new(bytes, attached, self.user(), self.len() > max))
     }
 
-    /// It as a receive of at most so many bytes takes it whole. It takes no memory.
+    /// What a receive of at most so many bytes takes of it as a packet. It takes no memory.
     #[inline(always)]
     pub(crate) fn into_taken(self, max: usize) -> Taken
         ensures { result ≡ record { message = record self { bytes = take max self.bytes }; trunc = nat_lt max (length self.bytes) } }

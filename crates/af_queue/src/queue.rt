@@ -295,7 +295,7 @@ impl Queue {
         parts
     }
 
-    /// The first message goes, where it has fewer bytes than that: how many more they are.
+    /// The first message goes, where it has fewer bytes than so many: how many are left to go then.
     fn drop_shorter(&mut self, count: usize) -> Option<usize>
         ensures cut { IfSome result (λ rest. cut rest self.new.messages ≡ cut count self.old.messages) }
         ensures at { IfSome result (λ rest. message_at rest self.new.messages ≡ message_at count self.old.messages) }

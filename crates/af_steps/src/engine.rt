@@ -75,7 +75,7 @@ impl Engine {
     }
 
     /// Does one event. It is refused by the first test of its row that fits (`Refusals` in
-    /// `af_base/specs`), and want of memory by ENOMEM, where no other refusal fits; after any refusal
+    /// `af_base/specs`), and with ENOMEM where none fits and memory is refused; after any refusal
     /// the engine is as it was.
     #[inline(always)]
     pub fn step(&mut self, event: &Event) -> Reply
@@ -140,8 +140,8 @@ impl Engine {
         }
     }
 
-    /// A receive as a step. It stands apart, so that other steps need not blank the room for what it
-    /// gives.
+    /// A receive as a step. It stands apart, so that no other step clears room on the stack for
+    /// what it gives.
     #[inline(never)]
     fn recv_reply(&mut self, pid: Pid, on: Fd, max_bytes: u32, max_fds: u32) -> Reply
         ensures { Answers self.old pid (steps.Recv on max_bytes max_fds) result self.new }
@@ -188,7 +188,8 @@ impl Engine {
         Ok(done)
     }
 
-    /// What an engine shows is whole, within all limits, and settled, whatever happened before.
+    /// Nothing at run time: it says that what the engine shows is whole, within all limits, and
+    /// settled, whatever happened before.
     pub fn is_sound(&self)
         ensures { IsSound self.now.world }
     {

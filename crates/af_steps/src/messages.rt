@@ -35,7 +35,7 @@ pub enum Received {
         /// Descriptors of the message were not installed (MSG_CTRUNC).
         ctrunc: bool,
     },
-    /// Nothing is left to receive, and the peer is gone: as a receive of no bytes.
+    /// Nothing is left to receive, and the peer is gone: recvmsg(2) answers 0.
     End,
 }
 
@@ -48,8 +48,11 @@ struct Envelope {
 }
 
 impl Engine {
-    /// A process sends bytes, and with them what these numbers stand for (sendmsg(2)): the step `Send`
-    /// of that process, for a caller whose bytes and numbers stand elsewhere. They are copied once.
+    /// A process sends bytes, and with them what these numbers stand for (sendmsg(2)): the step
+    /// `Send` of that process, for a caller whose bytes and numbers stand elsewhere. They are
+    /// copied once. Answers how many bytes were sent. Refused, in this order: ESRCH, EBADF,
+    /// ENOTSOCK, EINVAL (no byte, or over 253 numbers), EMSGSIZE (over 65,536 bytes), EBADF of an
+    /// attached number, ENOTCONN, EPIPE, ETOOMANYREFS, ENOBUFS, EAGAIN, ENOMEM.
     pub fn send(&mut self, pid: Pid, on: Fd, bytes: &[u8], attach: &[Fd]) -> Result<u32, Errno>
         ensures done { IfOk result (λ count. Does self.old pid (Step.Send on bytes.now attach.now) (Reply.Sent count) self.new) }
         ensures refused { IfErr result (λ e. Refuses self.old pid (Step.Send on bytes.now attach.now) e self.new) }
@@ -59,9 +62,9 @@ impl Engine {
         self.post(envelope, bytes)
     }
 
-    /// The same of bytes that the caller gives away: they are not copied, and take no memory but what
-    /// they stand in. That stays with the message, with what room it has to spare. A refusal drops
-    /// them.
+    /// The same of bytes that the caller gives away: they are not copied, and take no memory but
+    /// what they stand in. That stays with the message, with what room it has to spare. A refusal
+    /// drops them. The refusals are those of `send`.
     pub fn send_owned(
         &mut self,
         pid: Pid,
@@ -115,15 +118,18 @@ impl Engine {
     {
         let count = bytes.len() as u32;
         let message = Msg::new(bytes, envelope.attached, envelope.user);
+        // What tables hold is no garbage of a pass that runs.
         self.store.is_spared();
         self.store.put_msg(&envelope.peer, message)?;
         self.store.release();
         Ok(count)
     }
 
-    /// A process receives at most so many bytes and so many descriptors (recvmsg(2)). A packet's bytes
-    /// beyond `max_bytes` are dropped (recvmsg(2), MSG_TRUNC); a stream's wait for the next receive.
-    /// Descriptors beyond `max_fds` or the free numbers are closed (unix(7), SCM_RIGHTS; MSG_CTRUNC).
+    /// A process receives at most so many bytes and so many descriptors (recvmsg(2)). A packet's
+    /// bytes beyond `max_bytes` are dropped (recvmsg(2), MSG_TRUNC); a stream's wait for the next
+    /// receive. Descriptors beyond `max_fds` or the free numbers are closed (unix(7), SCM_RIGHTS;
+    /// MSG_CTRUNC). Refused, in this order: ESRCH, EBADF, ENOTSOCK, EINVAL (`max_bytes` is not 1 to
+    /// 65,536), ENOTCONN, EAGAIN, ENOMEM.
     pub fn recv(
         &mut self,
         pid: Pid,
@@ -142,6 +148,7 @@ impl Engine {
         let max = max_bytes as usize;
         let files = socket.queue().reach(socket.kind(), max);
         let fds = process.lowest_free(self.alloc, files.min(max_fds as usize))?;
+        // What tables hold is no garbage of a pass that runs.
         self.store.is_spared();
         self.store.room_for(pid, fds.len())?;
         let taken = self.store.take_msg(&file, max, pid, &fds)?;
@@ -151,7 +158,8 @@ impl Engine {
 
     /// A process sees what a receive would take, which stays in the queue (recvmsg(2), MSG_PEEK).
     /// Descriptors that are installed stand in a table and in the queue then, and the others in the
-    /// queue alone. A second peek sees the same.
+    /// queue alone. A second peek sees the same. Refused, in this order: ESRCH, EBADF, ENOTSOCK,
+    /// EINVAL (`max_bytes` is not 1 to 65,536), ENOTCONN, EAGAIN, ENOMEM.
     pub fn peek(
         &mut self,
         pid: Pid,
@@ -173,6 +181,7 @@ impl Engine {
             .reach(socket.kind(), max)
             .min(max_fds as usize);
         let fds = process.lowest_free(self.alloc, count)?;
+        // What tables hold is no garbage of a pass that runs.
         self.store.is_spared();
         self.store.room_for(pid, fds.len())?;
         let seen = self.store.peek_msg(&file, max, pid, &fds)?;

@@ -28,6 +28,7 @@ pub enum Progress {
 
 impl Engine {
     /// A pass begins, over the files that are there. It costs the same however many there are.
+    /// Answers its number. Refused with EBUSY while a pass runs.
     pub fn begin(&mut self) -> Result<u64, Errno>
         ensures done { IfOk result (λ number. Begins self.old.pass self.old (Reply.Started number) self.new) }
         ensures refused { IfErr result (λ e. Begins self.old.pass self.old (Reply.Refused e) self.new) }
@@ -41,6 +42,8 @@ impl Engine {
     }
 
     /// The pass that runs goes on, by at most so many units: each visits, scans or sweeps one file.
+    /// Refused with EIDLE where none runs, and else with EINVAL where the budget is not 1 to
+    /// 65,536.
     pub fn slice(&mut self, budget: u32) -> Result<Progress, Errno>
         ensures done { IfOk result (λ progress. GoesOn self.old.pass self.old budget (progress_reply progress) self.new) }
         ensures refused { IfErr result (λ e. GoesOn self.old.pass self.old budget (Reply.Refused e) self.new) }
@@ -60,7 +63,8 @@ impl Engine {
         })
     }
 
-    /// A whole pass: all garbage goes, with what nothing but garbage held.
+    /// A whole pass: all garbage goes, with what nothing but garbage held. Refused with EBUSY while
+    /// a pass runs.
     pub fn pass(&mut self) -> Result<Finished, Errno>
         ensures done { IfOk result (λ finished. PassesWhole self.old.pass self.old (finished_reply finished) self.new) }
         ensures refused { IfErr result (λ e. PassesWhole self.old.pass self.old (Reply.Refused e) self.new) }

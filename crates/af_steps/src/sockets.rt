@@ -15,7 +15,8 @@ use af_base::names::{Fd, Pid};
 use af_desc::Socket;
 
 impl Engine {
-    /// A process makes two sockets that are connected to each other (socketpair(2)).
+    /// A process makes two sockets that are connected to each other (socketpair(2)). Answers the
+    /// two lowest free numbers, rising. Refused, in this order: ESRCH, EMFILE, ENFILE, ENOMEM.
     pub fn pair(&mut self, pid: Pid, kind: SockType) -> Result<(Fd, Fd), Errno>
         ensures done { IfOk result (λ fds. Does self.old pid (Step.Pair kind) (Reply.Fds fds.0 fds.1) self.new) }
         ensures refused { IfErr result (λ e. Refuses self.old pid (Step.Pair kind) e self.new) }
@@ -33,7 +34,8 @@ impl Engine {
         Ok((lower, higher))
     }
 
-    /// A process makes a socket (socket(2)).
+    /// A process makes a socket (socket(2)). Answers its lowest free number. Refused, in this
+    /// order: ESRCH, EMFILE, ENFILE, ENOMEM.
     pub fn socket(&mut self, pid: Pid, kind: SockType) -> Result<Fd, Errno>
         ensures done { IfOk result (λ fd. Does self.old pid (Step.Socket kind) (Reply.Fd fd) self.new) }
         ensures refused { IfErr result (λ e. Refuses self.old pid (Step.Socket kind) e self.new) }
@@ -50,7 +52,8 @@ impl Engine {
         Ok(fd)
     }
 
-    /// A process gives a socket an abstract name (bind(2); unix(7)).
+    /// A process gives a socket an abstract name (bind(2); unix(7)). Refused, in this order: ESRCH,
+    /// EBADF, ENOTSOCK, EINVAL, EADDRINUSE, ENOMEM.
     pub fn bind(&mut self, pid: Pid, on: Fd, name: &Items<u8>) -> Result<(), Errno>
         ensures done { OnOk result (Does self.old pid (Step.Bind on name.now) Reply.Ok self.new) }
         ensures refused { IfErr result (λ e. Refuses self.old pid (Step.Bind on name.now) e self.new) }
@@ -65,7 +68,8 @@ impl Engine {
         Ok(())
     }
 
-    /// A process lets a socket wait for connections, so many at most (listen(2)).
+    /// A process lets a socket wait for connections, so many at most (listen(2)). Refused, in this
+    /// order: ESRCH, EBADF, ENOTSOCK, EINVAL (also where the backlog is not 1 to 128), ENOMEM.
     pub fn listen(&mut self, pid: Pid, on: Fd, backlog: u32) -> Result<(), Errno>
         ensures done { OnOk result (Does self.old pid (Step.Listen on backlog) Reply.Ok self.new) }
         ensures refused { IfErr result (λ e. Refuses self.old pid (Step.Listen on backlog) e self.new) }
@@ -78,7 +82,8 @@ impl Engine {
     }
 
     /// A process connects a socket to the listener of this name: to an embryo, which waits there to
-    /// be accepted (connect(2)).
+    /// be accepted (connect(2)). Refused, in this order: ESRCH, EBADF, ENOTSOCK, EINVAL, EISCONN,
+    /// ECONNREFUSED, EPROTOTYPE, EAGAIN, ENFILE, ENOMEM.
     pub fn connect(&mut self, pid: Pid, on: Fd, name: &Items<u8>) -> Result<(), Errno>
         ensures done { OnOk result (Does self.old pid (Step.Connect on name.now) Reply.Ok self.new) }
         ensures refused { IfErr result (λ e. Refuses self.old pid (Step.Connect on name.now) e self.new) }
@@ -97,7 +102,9 @@ impl Engine {
         Ok(())
     }
 
-    /// A process accepts the embryo that waits longest at a listener (accept(2)).
+    /// A process accepts the embryo that waits longest at a listener (accept(2)). Answers its
+    /// lowest free number, which the embryo gets. Refused, in this order: ESRCH, EBADF, ENOTSOCK,
+    /// EINVAL, EAGAIN, EMFILE, ENOMEM.
     pub fn accept(&mut self, pid: Pid, on: Fd) -> Result<Fd, Errno>
         ensures done { IfOk result (λ fd. Does self.old pid (Step.Accept on) (Reply.Fd fd) self.new) }
         ensures refused { IfErr result (λ e. Refuses self.old pid (Step.Accept on) e self.new) }
@@ -105,6 +112,7 @@ impl Engine {
         let (process, file, socket) = socket_on(&self.store, pid, on)?;
         check_accept(socket)?;
         let fd = process.lowest().ok_or(Errno::EMFILE)?;
+        // What tables hold is no garbage of a pass that runs.
         self.store.is_spared();
         self.store.room_for(pid, 1)?;
         self.store.take_embryo(&file, pid, fd);

@@ -85,7 +85,8 @@ impl Process {
         self.limit
     }
 
-    /// Whether it may have any number of descriptors in flight.
+    /// Whether it is exempt from the bound on its user's descriptors in flight (unix(7),
+    /// CAP_SYS_RESOURCE).
     pub fn is_privileged(&self) -> bool
         ensures { result ≡ self.now.process.privileged }
     {

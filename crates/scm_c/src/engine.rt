@@ -52,7 +52,7 @@ pub(crate) fn reply_to(alloc: Global, engine: &mut Handle, event: &Event) -> Opt
     Some(reply)
 }
 
-/// Does one event, and answers its number.
+/// Does one event, and answers the number of its reply.
 // Inlined, as the next one is, so that an event is made where it is read: to move one costs more than
 // a call.
 #[inline(always)]
@@ -65,7 +65,7 @@ pub(crate) fn call(alloc: Global, engine: &mut Handle, event: &Event) -> i64
     }
 }
 
-/// Does a step of a process, and answers its number.
+/// Does a step of a process, and answers the number of its reply.
 #[inline(always)]
 pub(crate) fn call_of(alloc: Global, engine: &mut Handle, pid: u32, step: Step) -> i64
     ensures { Calls engine.old.shown (Event.Proc pid step) result engine.new.shown }

@@ -15,7 +15,7 @@ use std::alloc::Global;
 /// As many numbers as a message may have, and one more: with that many it is refused.
 const MOST: usize = SCM_MAX_FD + 1;
 
-/// What a receive or a peek tells beside bytes and numbers.
+/// What a receive or a peek tells besides bytes and numbers.
 #[repr(C)]
 #[derive(Clone, Copy)]
 pub struct Received {

@@ -132,7 +132,7 @@ pub fn program<H: Threads + Wait + Sync, S: AsStr, R: Read, W: Write, E: Write>(
         × (result ≢ 0 → WroteNoRace output.old.has_failed (W.contents output.old.inner) output.new.has_failed (W.contents output.new.inner)) }
 
     // Where they do not fit the command, or name no task, nothing is read or written but the
-    // complaint: the status is 2, or 1 where there is no memory to read them.
+    // complaint: the status is 1 or 2.
     ensures unfit { fits (map S.text words.now) ≡ false
         → (1 ≤ result) × (input.new ≡ input.old) × (output.new ≡ output.old) }
     ensures refused { ((asked : Asked) → ¬ (Names (map S.text words.now) asked))

@@ -7,7 +7,7 @@ use std::alloc::{AllocError, AllocFailed};
 /// Why a line was not read.
 #[derive(Clone, Copy, Debug, PartialEq, Eq)]
 pub enum LineFault {
-    /// The line is none of the language, or none that its script may have there.
+    /// The line is not of the language, or not one that its script may have there.
     Unreadable,
     /// Memory for the line's bytes, descriptors or name was refused. Whether the line can be read
     /// stays open.

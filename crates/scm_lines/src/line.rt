@@ -63,7 +63,7 @@ fn is_name_printable(line: &Line) -> bool
     }
 }
 
-/// Whether a line whose first word this is is a comment.
+/// Whether a line with this first word is a comment.
 fn begins_comment(word: &[u8]) -> bool
     ensures { result ≡ begins_comment word.now }
 {

@@ -54,8 +54,9 @@ fn is_later(step: &Step) -> bool
     matches!(step, Step::Peek { .. } | Step::Limit(_))
 }
 
-/// What a line says that comes now in such a script. Beside a line that [`line_of`] cannot read, one
-/// that the script may not have now is [`LineFault::Unreadable`]. It takes memory as [`line_of`] does.
+/// What a line says that comes now in such a script. Besides a line that [`line_of`] cannot read,
+/// one that the script may not have now is [`LineFault::Unreadable`]. It takes memory as
+/// [`line_of`] does.
 pub fn read_in(alloc: Global, version: Version, bytes: &[u8]) -> Result<Line, LineFault>
     ensures { Reads (read_in version bytes.now) result }
 {

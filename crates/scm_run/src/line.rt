@@ -1,4 +1,4 @@
-//! One line of a script: read, done, and its text written.
+//! One line of a script: read, done, and its text gathered.
 ghost use Rattle.std.specs.Prelude.{◌≡◌, ◌≤◌, ◌+◌, ◌++◌, ◌⊎◌, List, ℕ, IfOk, IfErr, vec_capacity, vec_len, false};
 ghost use Rattle.af_base.specs.declared.errno.Errno.TheVariants.{ENOMEM};
 ghost use Rattle.af_base.specs.declared.events.Reply.TheVariants as reply;
@@ -69,8 +69,8 @@ fn answer(alloc: Global, engine: &mut Engine, says: Line, text: &mut Vec<u8>) ->
 }
 
 /// Does the line of this number, appends its text to what is gathered, and says how many events
-/// that were. Whether it can be read hangs on the version that the lines before it gave, and it may
-/// give one.
+/// that were. Whether it can be read depends on the version that the lines before it gave, and it
+/// may give one.
 ///
 /// What was gathered before is written first where too little room is left.
 pub fn do_line<W: Write>(

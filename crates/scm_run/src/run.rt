@@ -294,8 +294,9 @@ impl Run {
     }
 }
 
-/// Runs a script from the fresh machine, in the version that its first line gives: does each line as
-/// soon as its end was read, writes the line of its reply, and says how many events were done.
+/// Runs a script from the fresh machine, in the version that its first line that is not silent
+/// gives: does each line as soon as its end was read, writes the line of its reply, and says how
+/// many events were done.
 ///
 /// Neither stream may have failed before. Lines are cut as by `str::lines`: a last line needs no
 /// line feed. Memory does not grow with the length of the script: a line that is too long is
