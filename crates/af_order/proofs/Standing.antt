@@ -108,6 +108,13 @@ module _ {V : Type 0} (m : Map ℕ) (s : Slab (Entry V)) (h : AreInPlace m s) wh
   pub hinted : (f key : ℕ) (x : Entry V) → slab.get s key ≡ Some x → x.ino ≡ f → Some key ≡ map.get m f
   hinted f key x at e = sym (h.found key x at) ∙ ap (map.get m) e
 
+  -- And so it has this key.
+  pub stood : (f key : ℕ) → option_map (λ x. x.ino) (slab.get s key) ≡ Some f → map.get m f ≡ Some key
+  stood f key here = by (slab.get s key) refl here where
+    by : (o : Option (Entry V)) → slab.get s key ≡ o → option_map (λ x. x.ino) o ≡ Some f → map.get m f ≡ Some key
+    by None at none = absurd (none_some f none)
+    by (Some x) at is = sym (hinted f key x at (some_same x.ino f is))
+
 -- The numbers change at f alone, and the slab at a key that no other number has.
 module _ {V : Type 0} (m n : Map ℕ) (s t : Slab (Entry V)) (f key : ℕ) (w : Option ℕ) (x : Option (Entry V))
     (keys : (q : ℕ) → map.get n q ≡ cond (nat_eq f q) w (map.get m q)) (slots : slab.Updates s t key x)
@@ -271,7 +278,7 @@ module _ {V : Type 0} (m : Map ℕ) (s : Slab (Entry V)) (key : ℕ) (x y : Entr
   noted_in_place e = write_in_place m s x.ino key x y h (h.found key x at) at e
 
 -- Look-ups.
-pub ruleset finds = (looked, missing, keyed, hinted)
+pub ruleset finds = (looked, missing, keyed, hinted, stood)
 
 -- Values that come and go.
 pub ruleset comes_and_goes = (looked, no_values, none_in_place, values_grown, grown_in_place, missing, keyed, put_values, put_in_place, put_new, take_values, take_in_place, take_nothing)

@@ -1,6 +1,8 @@
 //! Values under keys, each with its number beside it.
-ghost use Rattle.std.specs.Prelude.{◌≡◌, ℕ, ◌+◌, ◌≤◌, ◌<◌, false, IsTrue, IsOk, IfSome, IfNone, OnOk};
+ghost use Rattle.std.specs.Prelude.{◌≡◌, ℕ, ◌+◌, ◌≤◌, ◌<◌, false, Some, IsTrue, IsOk, IfSome, IfNone, OnOk};
+ghost use Rattle.std.specs.Option.{option_map};
 ghost use Rattle.std.specs.FinMap as map;
+ghost use Rattle.slab.specs.Slab as slots;
 ghost use Rattle.slab.specs.Slab.{HasRoomFor, slab_len};
 ghost use Rattle.af_base.specs.World.{Map};
 ghost use Rattle.af_order.specs.Standing.{AreInPlace, values_of};
@@ -39,19 +41,28 @@ impl<T> Entry<T> {
     }
 }
 
+/// Whether this number's value stands under this key.
+#[inline(always)]
+pub fn stands_at<T>(slab: &Slab<Entry<T>>, key: usize, ino: Ino) -> bool
+    ensures { IsTrue result → option_map (λ x. x.ino) (slots.get slab.now key) ≡ Some ino }
+{
+    match slab.get(key) {
+        Some(entry) => entry.ino == ino,
+        None => false,
+    }
+}
+
 /// The key of a file. The file's own key is tried first; where another number stands there, or none,
 /// the order is asked.
 #[inline(always)]
 #[tactic(auto, using(crate::proofs::Standing::finds))]
-pub fn key_of<T>(order: &Order, slab: &Slab<Entry<T>>, file: &FileRef) -> Option<usize>
+fn key_of<T>(order: &Order, slab: &Slab<Entry<T>>, file: &FileRef) -> Option<usize>
     requires { AreInPlace order.now.keys slab.now }
     ensures { result ≡ map.get order.now.keys file.now }
 {
     let key = file.key();
     let ino = file.ino();
-    if let Some(entry) = slab.get(key)
-        && entry.ino == ino
-    {
+    if stands_at(slab, key, ino) {
         return Some(key);
     }
     order.key_of(ino)

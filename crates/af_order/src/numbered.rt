@@ -4,7 +4,7 @@ ghost use Rattle.std.specs.FinMap as map;
 ghost use Rattle.std.specs.Option.{option_copied_mut};
 ghost use Rattle.std.specs.Borrow.{sem};
 
-use crate::entry::{Entry, key_of, next_after, put, reserve, take};
+use crate::entry::{Entry, next_after, put, reserve, stands_at, take};
 use crate::order::Order;
 use af_base::names::{FileRef, Ino};
 use slab::Slab;
@@ -110,7 +110,12 @@ impl<T> Keyed<T> {
     pub fn get(&self, file: &FileRef) -> Option<&T>
         ensures { option_copied result ≡ map.get self.now.values file.now }
     {
-        let key = key_of(&self.order, &self.slab, file)?;
+        if let Some(entry) = self.slab.get(file.key())
+            && entry.ino == file.ino()
+        {
+            return Some(&entry.value);
+        }
+        let key = self.order.key_of(file.ino())?;
         let entry = self.slab.get(key)?;
         Some(&entry.value)
     }
@@ -122,7 +127,12 @@ impl<T> Keyed<T> {
         ensures* writes_back { sem 𝓛 (lends_at T.row self.entry file.now result) }
         ensures value { option_copied_mut result ≡ map.get self.old.values file.now }
     {
-        let key = key_of(&self.order, &self.slab, file)?;
+        let key = file.key();
+        // A way out of its own, so that the entry is looked at once.
+        if stands_at(&self.slab, key, file.ino()) {
+            return Some(self.slab[key].value_mut());
+        }
+        let key = self.order.key_of(file.ino())?;
         Some(self.slab[key].value_mut())
     }
 
