@@ -102,7 +102,7 @@ fn add_place(rows: &mut Rows, place: &Place, file: &FileRef) -> bool
     ensures first { result ≡ nat_eq (places_in (count_in_map rows.old.counts file.now)) 0 }
 {
     let count = rows.count_mut(file).unwrap();
-    let first = count.places() == 0;
+    let first = count.is_none();
     count.add(place);
     first
 }
@@ -117,7 +117,6 @@ fn sub_place(rows: &mut Rows, place: &Place, file: &FileRef) -> bool
     ensures last { result ≡ nat_eq (places_in (count_in_map rows.old.counts file.now)) 1 }
 {
     let count = rows.count_mut(file).unwrap();
-    let last = count.places() == 1;
     count.sub(place);
-    last
+    count.is_none()
 }

@@ -1,5 +1,5 @@
 //! What is kept of one file.
-ghost use Rattle.std.specs.Prelude.{◌≡◌, ◌+◌};
+ghost use Rattle.std.specs.Prelude.{◌≡◌, ◌+◌, nat_eq};
 ghost use Rattle.af_ledger.specs.Counted.{uncounted, more, fewer, places_in, IsCountable, IsCounted};
 
 use crate::place::Place;
@@ -35,6 +35,14 @@ impl Count {
         ensures { result ≡ places_in self }
     {
         u64::from(self.tabled) + u64::from(self.inflight) + u64::from(self.waiting)
+    }
+
+    /// Whether there is no place.
+    #[inline(always)]
+    pub fn is_none(self) -> bool
+        ensures { result ≡ nat_eq (places_in self) 0 }
+    {
+        self.tabled == 0 && self.inflight == 0 && self.waiting == 0
     }
 
     /// One place more.
