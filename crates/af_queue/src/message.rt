@@ -10,8 +10,8 @@ use std::alloc::{AllocError, Global};
 use std::marker::Model;
 use std::mem;
 
-/// The files that travel with a message: up to four of them need no allocation.
-pub type Attached = SmallVec<FileRef, 4>;
+/// The files that travel with a message: one or two need no allocation.
+pub type Attached = SmallVec<FileRef, 2>;
 
 /// A message in a queue: its bytes, the files that travel with it, and who is charged for them.
 #[derive(Drop)]
