@@ -1,11 +1,12 @@
 -- What a store shows, and what its parts keep.
-use Rattle.std.specs.Prelude.{ℕ, Option, None, Some}
+use Rattle.std.specs.Prelude.{◌≡◌, ℕ, Option, None, Some, true}
 use Rattle.af_base.specs.declared.events.Reply.{Reply}
 use Rattle.af_base.specs.declared.events.Reply.TheVariants as reply
 use Rattle.af_base.specs.Pass.{Pass}
-use Rattle.af_base.specs.World.{Map, World}
+use Rattle.af_base.specs.World.{IsLive, Map, World}
 use Rattle.af_table.specs.Procs.{row_in}
-use Rattle.af_pass.specs.Keeping.{IsKept}
+use Rattle.af_mark.specs.Marked.{is_marked}
+use Rattle.af_pass.specs.Keeping.{IsKept, is_marking}
 use Rattle.af_collect.specs.declared.parts.Parts.{Parts}
 
 -- The world, below which number each table has room, the pass that runs, and how many files were looked at since it began (this project's profile).
@@ -22,6 +23,10 @@ room_at s p = row_in s.rows p
 -- All that is kept of a pass, of these parts.
 abbrev pub AreKept : Parts → Type 0
 AreKept p = IsKept p.places.world p.begun.value.world p.marks p.progress
+
+-- Where a pass marks, each of these files that was there at its begin is marked (this project's profile).
+abbrev pub MarksAll : (ℕ → Type 0) → Parts → Parts → Type 0
+MarksAll these old new = is_marking old.progress.stage ≡ true → (f : ℕ) → these f → IsLive old.begun.value.world f → is_marked new.marks f ≡ true
 
 -- The reply to a slice: the pass goes on, or it is done, and so many sockets were garbage.
 abbrev pub slice_reply : ℕ → Option ℕ → Reply

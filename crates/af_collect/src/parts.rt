@@ -7,8 +7,7 @@ ghost use Rattle.af_base.specs.Reached.{Garbage};
 ghost use Rattle.af_base.specs.Unheld.{Settles, without};
 ghost use Rattle.af_base.specs.Whole.{IsSound};
 ghost use Rattle.af_pass.specs.Keeping.{counted, first_held, is_counted, is_marking, is_running, shaded_all, shaded_in};
-ghost use Rattle.af_mark.specs.Marked.{is_marked};
-ghost use Rattle.af_collect.specs.Shown.{AreKept};
+ghost use Rattle.af_collect.specs.Shown.{AreKept, MarksAll};
 
 use crate::shading::{is_socket, shade_all, shade_embryo, shade_first};
 use af_base::names::{Fd, FileRef, Pid};
@@ -73,7 +72,7 @@ impl Parts {
         requires kept { AreKept self.old }
         ensures kept { AreKept self.new }
         ensures frame { self.new ≡ record self.old { marks = self.new.marks } }
-        ensures marked { is_marking self.old.progress.stage ≡ true → (f : ℕ) → table_at self.old.places.world pid fd ≡ Some f → IsLive self.old.begun.value.world f → is_marked self.new.marks f ≡ true }
+        ensures marked { MarksAll (λ f. table_at self.old.places.world pid fd ≡ Some f) self.old self.new }
     {
         if !self.is_marking() {
             return;
@@ -90,7 +89,7 @@ impl Parts {
         requires kept { AreKept self.old }
         ensures kept { AreKept self.new }
         ensures frame { self.new ≡ record self.old { marks = self.new.marks } }
-        ensures marked { is_marking self.old.progress.stage ≡ true → (n f : ℕ) → table_at self.old.places.world pid n ≡ Some f → IsLive self.old.begun.value.world f → is_marked self.new.marks f ≡ true }
+        ensures marked { MarksAll (λ f. (n : ℕ) × (table_at self.old.places.world pid n ≡ Some f)) self.old self.new }
     {
         if !self.is_marking() {
             return;
@@ -110,7 +109,7 @@ impl Parts {
         requires spared { is_running self.old.progress.stage ≡ true → ¬ (Garbage self.old.begun.value.world listener.now) }
         ensures kept { AreKept self.new }
         ensures frame { self.new ≡ record self.old { marks = self.new.marks } }
-        ensures marked { is_marking self.old.progress.stage ≡ true → (f : ℕ) → slice_get (backlog_at self.old.places.world listener.now) 0 ≡ Some f → IsLive self.old.begun.value.world f → is_marked self.new.marks f ≡ true }
+        ensures marked { MarksAll (λ f. slice_get (backlog_at self.old.places.world listener.now) 0 ≡ Some f) self.old self.new }
     {
         if self.is_marking() {
             // Backlogs hold live files: that is what a whole world says of them.

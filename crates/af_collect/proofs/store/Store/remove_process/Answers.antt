@@ -6,6 +6,7 @@ use Rattle.af_base.specs.Places.{table_at}
 use Rattle.af_mark.specs.Marked.{is_marked}
 use Rattle.af_pass.specs.Keeping.{IsKept, below, is_marking}
 use Rattle.af_pass.proofs.Placing.{covers_remove_process, moves_remove_process}
+use Rattle.af_collect.specs.Shown.{MarksAll}
 use Rattle.af_collect.specs.declared.parts.Parts.{Parts}
 use Rattle.af_collect.proofs.Placed.{kept_tables}
 use Rattle.af_collect.proofs.store.Store.remove_process.Goals as goal
@@ -17,6 +18,6 @@ invariant_of-self c =
     let begun = q.begun.value.world in
     let pid = c.args.pid in
     let e = c.shade_table.ensures in
-    let marked = subst (λ (o : Parts). is_marking o.progress.stage ≡ true → (n f : ℕ) → table_at o.places.world pid n ≡ Some f → IsLive o.begun.value.world f → is_marked q.marks f ≡ true) (sym e.frame) e.marked in
+    let marked = subst (λ (o : Parts). MarksAll (λ f. (n : ℕ) × (table_at o.places.world pid n ≡ Some f)) o q) (sym e.frame) e.marked in
     subst (λ (v : World). IsKept v begun q.marks q.progress) (sym c.remove_process.ensures)
-    (kept_tables (remove_process w pid) refl refl (λ _. moves_remove_process begun w pid) (λ t. covers_remove_process begun w pid (is_marked q.marks) (below q.progress.visited) (marked t)) e.kept)
+    (kept_tables (remove_process w pid) refl refl (λ _. moves_remove_process begun w pid) (λ t. covers_remove_process begun w pid (is_marked q.marks) (below q.progress.visited) (λ n f at. marked t f (n, at))) e.kept)

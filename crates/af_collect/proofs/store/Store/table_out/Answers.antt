@@ -7,6 +7,7 @@ use Rattle.af_mark.specs.Marked.{is_marked}
 use Rattle.af_hold.specs.Stored.{Stored}
 use Rattle.af_pass.specs.Keeping.{IsKept, below, is_marking}
 use Rattle.af_pass.proofs.Placing.{covers_uninstall, moves_uninstall}
+use Rattle.af_collect.specs.Shown.{MarksAll}
 use Rattle.af_collect.specs.declared.parts.Parts.{Parts}
 use Rattle.af_collect.proofs.Placed.{kept_tables}
 use Rattle.af_collect.proofs.store.Store.table_out.Goals as goal
@@ -19,6 +20,6 @@ invariant_of-self c =
     let pid = c.args.pid in
     let fd = c.args.fd in
     let e = c.shade_number.ensures in
-    let marked = subst (λ (o : Parts). is_marking o.progress.stage ≡ true → (f : ℕ) → table_at o.places.world pid fd ≡ Some f → IsLive o.begun.value.world f → is_marked q.marks f ≡ true) (sym e.frame) e.marked in
+    let marked = subst (λ (o : Parts). MarksAll (λ f. table_at o.places.world pid fd ≡ Some f) o q) (sym e.frame) e.marked in
     subst (λ (s : Stored). IsKept s.world begun q.marks q.progress) (sym c.table_out.ensures)
     (kept_tables (uninstall w pid fd) refl refl (λ _. moves_uninstall begun w pid fd) (λ t. covers_uninstall begun w pid fd (is_marked q.marks) (below q.progress.visited) (marked t)) e.kept)

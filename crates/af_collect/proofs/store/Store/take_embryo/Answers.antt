@@ -10,7 +10,7 @@ use Rattle.af_pass.specs.Keeping.{IsKept, Spares, below, is_marking, is_running,
 use Rattle.af_pass.proofs.Placing.{covers_install, moves_install}
 use Rattle.af_pass.proofs.Sockets.{covers_dequeued, moves_dequeued}
 use Rattle.af_pass.proofs.Spared.{held_spared, marking_runs, spared_running}
-use Rattle.af_collect.specs.Shown.{Shown}
+use Rattle.af_collect.specs.Shown.{MarksAll, Shown}
 use Rattle.af_collect.specs.declared.parts.Parts.{Parts}
 use Rattle.af_collect.proofs.Losing.{embryo_held, first_taken}
 use Rattle.af_collect.proofs.Placed.{first_of, kept_socket, kept_tables}
@@ -31,7 +31,7 @@ invariant_of-self c =
     let spared = subst (λ (o : Parts). Spares (pass_of o.progress.stage o.begun.value.world o.progress.looked) s) on (subst (λ (v : Shown). Spares v.pass s) back r.spared) in
     let free = subst (λ (o : Parts). table_at o.places.world pid fd ≡ None) on (subst (λ (v : Shown). table_at v.world pid fd ≡ None) back r.free) in
     let some = subst (λ (o : Parts). 0 < length (backlog_at o.places.world s)) on (subst (λ (v : Shown). 0 < length (backlog_at v.world s)) back r.some) in
-    let marked = subst (λ (o : Parts). is_marking o.progress.stage ≡ true → (f : ℕ) → slice_get (backlog_at o.places.world s) 0 ≡ Some f → IsLive o.begun.value.world f → is_marked q.marks f ≡ true) on e.marked in
+    let marked = subst (λ (o : Parts). MarksAll (λ f. slice_get (backlog_at o.places.world s) 0 ≡ Some f) o q) on e.marked in
     let none : (f : ℕ) → slice_get (backlog_at w s) 0 ≡ Some f → is_running q.progress.stage ≡ true → ¬ (Garbage begun f) = λ f is run. spared_running q.progress.stage begun q.progress.looked f run (held_spared q.progress.looked s f e.kept (embryo_held w s f (first_taken (backlog_at w s) f is)) spared) in
     let first = first_of (backlog_at w s) some in
     let v = with_socket w s dequeued in
