@@ -33,6 +33,10 @@ pub record Ran (taken : List ℕ) (before after : Option (List ℕ)) (state : Pr
   pub runs : Runs taken (written ++ state.gathered) state
   pub wrote : Appends before after written
 
+-- Wherever a run stood, it took these bytes more (this project's own).
+abbrev pub Took : List ℕ → Option (List ℕ) → Progress → Option (List ℕ) → Progress → Type 0
+Took bytes was old is new = (taken : List ℕ) (before : Option (List ℕ)) → Ran taken before was old → Ran (taken ++ bytes) before is new
+
 -- All lines of this input were run, and their text was written but for what is gathered (this project's own).
 pub record RanAll (input : List ℕ) (before after : Option (List ℕ)) (state : Progress) : Type 0 where
   pub written : List ℕ
@@ -67,3 +71,7 @@ Halts says before after gathered (fault.Unreadable n) = Waits says before after 
 Halts says before after gathered fault.Read = ⊥
 Halts says before after gathered fault.Write = says after fault.Write
 Halts says before after gathered fault.Memory = Waits says before after gathered fault.Memory
+
+-- Wherever a run stood, it stopped at this fault in these bytes more (this project's own).
+abbrev pub Stopped : List ℕ → Option (List ℕ) → Progress → Option (List ℕ) → Progress → RunFault → Type 0
+Stopped bytes was old is new f = (taken : List ℕ) (before : Option (List ℕ)) → Ran taken before was old → Halts (FaultIn (taken ++ bytes) before) before is new.gathered f

@@ -1,7 +1,7 @@
 //! The run of a script, from a reader to a writer.
 ghost use Rattle.std.specs.Prelude.{◌≡◌, ◌<◌, ℕ, List, [], ◌++◌, Option, length, OnOk, IfOk, IfErr, false};
 ghost use Rattle.std.specs.Str.Lines.{lines, strip_carriage_return};
-ghost use Rattle.scm_run.specs.Progress.{FaultIn, Halts, Ran, RanAll, TooLong, may_fit, nothing_read};
+ghost use Rattle.scm_run.specs.Progress.{FaultIn, Halts, Ran, RanAll, Stopped, TooLong, Took, may_fit, nothing_read};
 ghost use Rattle.scm_run.specs.Script.{FaultAt, NoFeed, RanToEnd, StopsBy, Wrote, ended_by_feed, is_read_fault, is_write_fault};
 
 use crate::fault::RunFault;
@@ -37,7 +37,7 @@ impl Model for Run {
     ghost use Rattle.std.specs.Prelude.{◌≤◌};
     ghost use Rattle.std.specs.FinMap as map;
     ghost use Rattle.std.specs.Coded.{codes};
-    ghost use Rattle.scm_run.specs.Progress.{Progress};
+    ghost use Rattle.scm_run.specs.Progress.{Progress, Stopped, Took};
 
     ghost Value = { Progress };
 
@@ -110,10 +110,8 @@ impl Run {
     ) -> Result<(), RunFault>
         requires failed { writer.old.has_failed ≡ false }
         requires feed { NoFeed back.now }
-        ensures ok { OnOk result ((taken : List ℕ) (before : Option (List ℕ)) → Ran taken before (W.contents writer.old.inner) self.old
-            → Ran (taken ++ ended_by_feed back.now) before (W.contents writer.new.inner) self.new) }
-        ensures err { IfErr result (λ f. (taken : List ℕ) (before : Option (List ℕ)) → Ran taken before (W.contents writer.old.inner) self.old
-            → Halts (FaultIn (taken ++ ended_by_feed back.now) before) before (W.contents writer.new.inner) self.new.gathered f) }
+        ensures ok { OnOk result (Took (ended_by_feed back.now) (W.contents writer.old.inner) self.old (W.contents writer.new.inner) self.new) }
+        ensures err { IfErr result (Stopped (ended_by_feed back.now) (W.contents writer.old.inner) self.old (W.contents writer.new.inner) self.new) }
         ensures write { writer.new.has_failed ≡ is_write_fault result }
         ensures no_read { is_read_fault result ≡ false }
     {
@@ -171,10 +169,8 @@ impl Run {
         writer: &mut Watched<W>,
     ) -> Result<(), RunFault>
         requires { writer.old.has_failed ≡ false }
-        ensures ok { OnOk result ((taken : List ℕ) (before : Option (List ℕ)) → Ran taken before (W.contents writer.old.inner) self.old
-            → Ran (taken ++ bytes.now) before (W.contents writer.new.inner) self.new) }
-        ensures err { IfErr result (λ f. (taken : List ℕ) (before : Option (List ℕ)) → Ran taken before (W.contents writer.old.inner) self.old
-            → Halts (FaultIn (taken ++ bytes.now) before) before (W.contents writer.new.inner) self.new.gathered f) }
+        ensures ok { OnOk result (Took bytes.now (W.contents writer.old.inner) self.old (W.contents writer.new.inner) self.new) }
+        ensures err { IfErr result (Stopped bytes.now (W.contents writer.old.inner) self.old (W.contents writer.new.inner) self.new) }
         ensures write { writer.new.has_failed ≡ is_write_fault result }
         ensures no_read { is_read_fault result ≡ false }
     {
@@ -228,8 +224,7 @@ impl Run {
         writer: &mut Watched<W>,
     ) -> Result<(), RunFault>
         requires { writer.old.has_failed ≡ false }
-        ensures ok { OnOk result ((taken : List ℕ) (before : Option (List ℕ)) → Ran taken before (W.contents writer.old.inner) self.old
-            → Ran (taken ++ chunk.now) before (W.contents writer.new.inner) self.new) }
+        ensures ok { OnOk result (Took chunk.now (W.contents writer.old.inner) self.old (W.contents writer.new.inner) self.new) }
         ensures out { OnOk result (self.new.gathered ≡ []) }
         ensures err { IfErr result (λ f. (taken : List ℕ) (before : Option (List ℕ)) → Ran taken before (W.contents writer.old.inner) self.old
             → FaultIn (taken ++ chunk.now) before (W.contents writer.new.inner) f) }
