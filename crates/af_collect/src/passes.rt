@@ -20,13 +20,6 @@ impl Store {
         self.parts.is_running()
     }
 
-    /// How many files were visited, scanned and swept since the last pass began.
-    pub fn looked(&self) -> u64
-        ensures { result ≡ self.now.looked }
-    {
-        self.parts.progress.looked
-    }
-
     /// A pass begins, over the world as it stands. It costs the same however many files there are.
     pub fn begin(&mut self)
         requires idle { runs self.old.pass ≡ false }

@@ -46,10 +46,7 @@ impl Ledger {
     pub fn charged(&self, uid: Uid) -> u64
         ensures { result ≡ charge_in self.now.users uid }
     {
-        match self.users.get(&uid) {
-            Some(charge) => *charge,
-            None => 0,
-        }
+        self.users.get(&uid).copied().unwrap_or(0)
     }
 
     /// What all users together are charged, in the same units.

@@ -95,7 +95,7 @@ impl Msg {
         mem::replace(&mut self.attached, SmallVec::new(alloc))
     }
 
-    /// The files that travel with it, once more. Up to four need no memory.
+    /// The files that travel with it, once more. Up to two need no memory.
     pub(crate) fn copy_attached(&self, alloc: Global) -> Result<Attached, AllocError>
         ensures value { IfOk result (λ files. files.items ≡ self.now.attached) }
         ensures bound { IfOk result (λ files. small_vec_len files ≤ SCM_MAX_FD) }

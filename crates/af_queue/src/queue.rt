@@ -66,14 +66,6 @@ impl Queue {
         &self.messages
     }
 
-    /// The one that was put in last.
-    pub fn last(&self) -> Option<&Msg>
-        ensures some { IfSome result (λ m. slice_get self.now.messages (length self.now.messages - 1) ≡ Some m.now) }
-        ensures none { IfNone result (self.now.messages ≡ []) }
-    {
-        self.messages.back()
-    }
-
     /// Room for one message more. Most queues have one message at a time, so the first room is for
     /// one alone.
     #[inline(always)]

@@ -8,4 +8,4 @@ mod process;
 mod procs;
 
 pub use process::Process;
-pub use procs::{Procs, Who};
+pub use procs::Procs;

@@ -1,10 +1,9 @@
 //! The processes by pid.
-ghost use Rattle.std.specs.Prelude.{◌≡◌, ℕ, ◌+◌, ◌≤◌, ◌<◌, [], ◌∷◌, length, slice_get, IsTrue, IfSome, IfNone, IfOk, OnOk, OnErr, OnSome, IsOk};
+ghost use Rattle.std.specs.Prelude.{◌≡◌, ℕ, ◌+◌, ◌≤◌, ◌<◌, IsTrue, IfSome, IfNone, IfOk, OnOk, OnErr, IsOk};
 ghost use Rattle.std.specs.FinMap as map;
 ghost use Rattle.af_base.specs.Changes.{change_at, installed, limited, taken_out};
 ghost use Rattle.af_base.specs.Places.{number_in};
 ghost use Rattle.af_base.specs.Refusals.{process_in};
-ghost use Rattle.af_base.specs.Table.{free_numbers, lowest_free};
 ghost use Rattle.af_table.specs.Procs.{row_in, started};
 
 use crate::hints::Hints;
@@ -14,14 +13,6 @@ use af_base::names::{Fd, FileRef, Pid, Uid};
 use indexmap::IndexMap;
 use std::alloc::{AllocError, Global};
 use std::marker::Model;
-
-/// Whose a process is, its limit on descriptors, and whether it is privileged.
-#[derive(Clone, Copy, Debug, PartialEq, Eq)]
-pub struct Who {
-    pub user: Uid,
-    pub limit: u32,
-    pub privileged: bool,
-}
 
 /// The processes with their tables.
 #[derive(Drop)]
@@ -90,23 +81,6 @@ impl Procs {
         Some(process)
     }
 
-    /// Whose the process is, its limit, and whether it is privileged; nothing of a stranger.
-    pub fn who(&self, pid: Pid) -> Option<Who>
-        ensures there { OnSome result (IsTrue (map.contains_key self.now.processes pid)) }
-        ensures user { IfSome result (λ w. w.user ≡ (process_in self.now.processes pid).user) }
-        ensures limit { IfSome result (λ w. w.limit ≡ (process_in self.now.processes pid).limit) }
-        ensures privileged { IfSome result (λ w. w.privileged ≡ (process_in self.now.processes pid).privileged) }
-        ensures bound { IfSome result (λ w. w.limit ≤ MAX_NOFILE) }
-        ensures none { IfNone result (map.get self.now.processes pid ≡ None) }
-    {
-        let process = self.find(pid)?;
-        Some(Who {
-            user: process.user(),
-            limit: process.limit(),
-            privileged: process.is_privileged(),
-        })
-    }
-
     /// What the number of the process stands for: nothing where it is free, or there is no such
     /// process.
     #[inline(always)]
@@ -114,35 +88,6 @@ impl Procs {
         ensures { result ≡ number_in self.now.processes pid fd }
     {
         self.find(pid)?.lookup(fd)
-    }
-
-    /// The lowest free number of the process, if one below its limit is free (open(2)); a stranger
-    /// has none.
-    pub fn lowest(&self, pid: Pid) -> Option<Fd>
-        ensures { result ≡ slice_get (free_numbers (process_in self.now.processes pid)) 0 }
-    {
-        self.find(pid)?.lowest()
-    }
-
-    /// The two lowest free numbers of the process, rising; nothing where it has not two, or of a
-    /// stranger.
-    pub fn lowest_two(&self, pid: Pid) -> Option<(Fd, Fd)>
-        ensures two { IfSome result (λ t. lowest_free 2 (process_in self.now.processes pid) ≡ t.0 ∷ t.1 ∷ []) }
-        ensures none { IfNone result (length (free_numbers (process_in self.now.processes pid)) < 2) }
-    {
-        self.find(pid)?.lowest_two()
-    }
-
-    /// The lowest free numbers of the process, rising: so many, or all where there are fewer; of a
-    /// stranger an empty list. The list is all that it takes memory for, and an empty list takes none.
-    pub fn lowest_free(&self, pid: Pid, count: usize) -> Result<Vec<Fd>, AllocError>
-        ensures value { IfOk result (λ fds. fds.items ≡ lowest_free count (process_in self.now.processes pid)) }
-        ensures none { length (lowest_free count (process_in self.now.processes pid)) ≡ 0 → IsOk result }
-    {
-        let Some(process) = self.find(pid) else {
-            return Ok(Vec::new(self.alloc));
-        };
-        process.lowest_free(self.alloc, count)
     }
 
     /// The least open number of the process from this one on, with what it stands for, if there is
