@@ -1,11 +1,11 @@
 -- Keywords and their names.
-use Rattle.std.proofs.Common.{◌≡◌, ◌≢◌, ◌∷◌, [], ℕ, Bool, true, List, cond, Option, Some, None, find, is_some, false, refl, inl, inr, subst, codes}
+use Rattle.std.proofs.Common.{◌≡◌, ◌≢◌, ◌∷◌, [], ℕ, Bool, true, List, cond, Some, None, find, is_some, false, refl, inl, inr, subst, codes}
 use Rattle.std.specs.Str.{bytes_eq}
 use Rattle.std.specs.Option.{option_map}
 use Rattle.af_base.specs.declared.events.SockType.{SockType}
 use Rattle.af_base.specs.declared.events.SockType.TheVariants.{Seqpacket, Stream}
 use Rattle.scm_lines.specs.Numbers.{all_digits, number_of}
-use Rattle.scm_lines.specs.Keywords.{keyword_of, meaning, opening_of, type_of, types}
+use Rattle.scm_lines.specs.Keywords.{keyword_of, keywords, meaning, opening_of, type_of, types}
 use Rattle.scm_lines.specs.Says.{IsNumber, type_name}
 use Rattle.scm_lines.specs.declared.keywords.Opening.{Opening}
 use Rattle.scm_lines.specs.declared.keywords.Opening.TheVariants as opening
@@ -52,26 +52,8 @@ Opens word opening.Check = word ≡ codes "check"
 Opens word opening.Version = word ≡ codes "version"
 Opens word (opening.Process pid) = IsNumber word pid
 
--- this keyword, or one of the others
-opened : (word keyword : List ℕ) (one o : Opening) (others : Option Opening) → (word ≡ keyword → Opens word one) → cond (bytes_eq word keyword) (Some one) others ≡ Some o → (others ≡ Some o → Opens word o) → Opens word o
-opened word keyword one o others opens e else = elim (chosen (bytes_eq word keyword) _ _ _ e) [
-  | inl (t, e1) ↦ let is : one ≡ o = cc in subst (λ (x : Opening). Opens word x) is (opens (same_word word keyword t))
-  | inr (f, e2) ↦ else e2
-]
-
-none_opened : (word : List ℕ) (o : Opening) → None ≡ Some o → Opens word o
-none_opened word o e = cc
-
 keyword_said : (word : List ℕ) (o : Opening) → keyword_of word ≡ Some o → Opens word o
-keyword_said word o e =
-    opened word (codes "spawn") opening.Spawn o _ (λ w. w) e (λ e1.
-    opened word (codes "begin") opening.Begin o _ (λ w. w) e1 (λ e2.
-    opened word (codes "slice") opening.Slice o _ (λ w. w) e2 (λ e3.
-    opened word (codes "pass") opening.Pass o _ (λ w. w) e3 (λ e4.
-    opened word (codes "table") opening.Table o _ (λ w. w) e4 (λ e5.
-    opened word (codes "totals") opening.Totals o _ (λ w. w) e5 (λ e6.
-    opened word (codes "check") opening.Check o _ (λ w. w) e6 (λ e7.
-    opened word (codes "version") opening.Version o _ (λ w. w) e7 (none_opened word o))))))))
+keyword_said = meaning_said Opens keywords (refl, (refl, (refl, (refl, (refl, (refl, (refl, (refl, tt))))))))
 
 pub opening_said : (word : List ℕ) (o : Opening) → opening_of word ≡ Some o → Opens word o
 opening_said word o e = elim (chosen (is_some (keyword_of word)) _ _ _ e) [
@@ -89,8 +71,9 @@ opening_read word opening.Totals e = rw e refl
 opening_read word opening.Check e = rw e refl
 opening_read word opening.Version e = rw e refl
 opening_read word (opening.Process pid) number =
-    let other : (text : List ℕ) → all_digits text ≡ false → bytes_eq word text ≡ false = λ text letters. no_keyword word text pid number letters in
-    rw (other (codes "spawn") refl, other (codes "begin") refl, other (codes "slice") refl, other (codes "pass") refl, other (codes "table") refl, other (codes "totals") refl, other (codes "check") refl, other (codes "version") refl, number_read word pid number) refl
+    let other : (text : List ℕ) → all_digits text ≡ false → text ≢ word = λ text letters. no_keyword word text pid number letters in
+    let none : keyword_of word ≡ None = no_meaning keywords word (other _ refl, (other _ refl, (other _ refl, (other _ refl, (other _ refl, (other _ refl, (other _ refl, (other _ refl, tt)))))))) in
+    rw (none, number_read word pid number) refl
 
 pub type_said : (word : List ℕ) (kind : SockType) → type_of word ≡ Some kind → word ≡ type_name kind
 type_said = meaning_said (λ word kind. word ≡ type_name kind) types (refl, (refl, tt))

@@ -1,8 +1,6 @@
 -- A numeral is the decimal digits of its number.
-use Rattle.std.proofs.Common.{◌≡◌, ℕ, ◌^◌, ◌<◌, ◌≤◌, ◌==◌, ◌&&◌, List, [], ◌∷◌, Bool, true, false, length, Some, refl, sym, ap, ◌∙◌, arith, rules, subst, get_or, nat_lt, suc, zero}
-use Rattle.std.specs.Str.{bytes_eq}
+use Rattle.std.proofs.Common.{◌≡◌, ◌≢◌, ℕ, ◌^◌, ◌<◌, ◌≤◌, ◌==◌, ◌&&◌, List, [], ◌∷◌, true, false, length, Some, refl, sym, ap, ◌∙◌, arith, rules, subst, get_or, nat_lt, suc, zero}
 use Rattle.std.specs.Fmt.{decimal}
-use Rattle.std.proofs.lemmas.Slice.Eq.{bytes_eq-Decides}
 use Rattle.std.proofs.lemmas.Fmt.{decimal_digit, decimal_nonempty, digits_decimal, digits_value-decimal, first_decimal, length-decimal-le, decimal-digits_value}
 use Rattle.std.proofs.lemmas.Str.Parse.{IsNumeralModel, numerals_by_fold}
 use Rattle.std.proofs.lemmas.Grind.{common_steps}
@@ -74,9 +72,7 @@ pub number_digits : (word : List ℕ) (n : ℕ) → IsNumber word n → all_digi
 number_digits word n (small, e) = subst (λ (w : List ℕ). all_digits w ≡ true) (sym e) (digits_decimal own n (omega arith))
 
 -- a number is no keyword
-pub no_keyword : (word text : List ℕ) (n : ℕ) → IsNumber word n → all_digits text ≡ false → bytes_eq word text ≡ false
-no_keyword word text n number h = go (bytes_eq word text) refl (number_digits word n number)
-  where
-    go : (b : Bool) → bytes_eq word text ≡ b → all_digits word ≡ true → b ≡ false
-    go true t digits = let same : word ≡ text = (bytes_eq-Decides word text).0 t in cc
-    go false t digits = refl
+pub no_keyword : (word text : List ℕ) (n : ℕ) → IsNumber word n → all_digits text ≡ false → text ≢ word
+no_keyword word text n number letters same =
+    let digits : all_digits text ≡ true = subst (λ (w : List ℕ). all_digits w ≡ true) (sym same) (number_digits word n number) in
+    cc

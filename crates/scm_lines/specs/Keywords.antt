@@ -1,5 +1,5 @@
 -- The words that say which form a line has. This project's profile.
-use Rattle.std.specs.Prelude.{ℕ, List, [], ◌∷◌, find, if◌then◌else◌, Option, Some, None, is_some, codes}
+use Rattle.std.specs.Prelude.{ℕ, List, [], ◌∷◌, find, if◌then◌else◌, Option, is_some, codes}
 use Rattle.std.specs.Option.{option_map}
 use Rattle.std.specs.Str.{bytes_eq}
 use Rattle.af_base.specs.declared.events.SockType.{SockType}
@@ -14,18 +14,21 @@ use Rattle.scm_lines.specs.declared.keywords.Verb.TheVariants as verb
 abbrev pub meaning : {A : Type 0} → List (List ℕ × A) → List ℕ → Option A
 meaning table word = option_map (λ entry. entry.1) (find (λ entry. bytes_eq entry.0 word) table)
 
+-- The keywords, each with what it stands for.
+abbrev pub keywords : List (List ℕ × Opening)
+keywords =
+    (codes "spawn", opening.Spawn) ∷
+    (codes "begin", opening.Begin) ∷
+    (codes "slice", opening.Slice) ∷
+    (codes "pass", opening.Pass) ∷
+    (codes "table", opening.Table) ∷
+    (codes "totals", opening.Totals) ∷
+    (codes "check", opening.Check) ∷
+    (codes "version", opening.Version) ∷ []
+
 -- What a line's first word stands for, if it is a keyword.
 abbrev pub keyword_of : List ℕ → Option Opening
-keyword_of word =
-    if bytes_eq word (codes "spawn") then Some opening.Spawn
-    else if bytes_eq word (codes "begin") then Some opening.Begin
-    else if bytes_eq word (codes "slice") then Some opening.Slice
-    else if bytes_eq word (codes "pass") then Some opening.Pass
-    else if bytes_eq word (codes "table") then Some opening.Table
-    else if bytes_eq word (codes "totals") then Some opening.Totals
-    else if bytes_eq word (codes "check") then Some opening.Check
-    else if bytes_eq word (codes "version") then Some opening.Version
-    else None
+keyword_of word = meaning keywords word
 
 -- What the first word of a line stands for: a keyword, or else a process by its number.
 abbrev pub opening_of : List ℕ → Option Opening

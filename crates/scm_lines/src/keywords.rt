@@ -70,31 +70,17 @@ pub enum Verb {
 fn keyword_named(word: &[u8]) -> Option<Opening>
     ensures { result ≡ keyword_of word.now }
 {
-    if word == b"spawn".as_slice() {
-        return Some(Opening::Spawn);
-    }
-    if word == b"begin".as_slice() {
-        return Some(Opening::Begin);
-    }
-    if word == b"slice".as_slice() {
-        return Some(Opening::Slice);
-    }
-    if word == b"pass".as_slice() {
-        return Some(Opening::Pass);
-    }
-    if word == b"table".as_slice() {
-        return Some(Opening::Table);
-    }
-    if word == b"totals".as_slice() {
-        return Some(Opening::Totals);
-    }
-    if word == b"check".as_slice() {
-        return Some(Opening::Check);
-    }
-    if word == b"version".as_slice() {
-        return Some(Opening::Version);
-    }
-    None
+    Some(match word {
+        b"spawn" => Opening::Spawn,
+        b"begin" => Opening::Begin,
+        b"slice" => Opening::Slice,
+        b"pass" => Opening::Pass,
+        b"table" => Opening::Table,
+        b"totals" => Opening::Totals,
+        b"check" => Opening::Check,
+        b"version" => Opening::Version,
+        _ => return None,
+    })
 }
 
 /// What the first word of a line stands for.

@@ -1,4 +1,4 @@
-use Rattle.std.proofs.Common.{◌≡◌, ◌≢◌, ◌≤◌, ◌<◌, ℕ, List, codes, length, get_or, sym, ap, arith}
+use Rattle.std.proofs.Common.{◌≢◌, ◌≤◌, ℕ, List, codes, length, get_or, sym, ap, arith}
 use Rattle.scm_lines.specs.Keywords.{verbs}
 use Rattle.scm_lines.proofs.KeywordLemmas.{Holds, no_meaning}
 use Rattle.scm_lines.proofs.keywords.verb_named.Goals as goal
