@@ -4,6 +4,7 @@ ghost use Rattle.std.specs.Option.{option_map};
 ghost use Rattle.scm_lines.specs.Fault.{Reads};
 ghost use Rattle.scm_lines.specs.Words.{words_of};
 ghost use Rattle.scm_lines.specs.Attached.{item_of, attached_of};
+ghost use Rattle.scm_lines.specs.declared.attached.TheConstants.{MAX_ATTACHED};
 
 use crate::fault::LineFault;
 use crate::numbers::number;
@@ -26,7 +27,7 @@ fn star_at(word: &[u8]) -> Option<usize>
 /// A descriptor, and how often it is named.
 fn item(word: &[u8]) -> Option<(Fd, usize)>
     ensures value { option_map (λ found. replicate found.1 found.0) result ≡ item_of word.now }
-    ensures few { IfSome result (λ found. found.1 ≤ 1024) }
+    ensures few { IfSome result (λ found. found.1 ≤ MAX_ATTACHED) }
 {
     let Some(at) = star_at(word) else {
         return Some((Fd(number(word)?), 1));
@@ -35,7 +36,7 @@ fn item(word: &[u8]) -> Option<(Fd, usize)>
     let (_, back) = word.split_at(at + 1);
     let fd = number(front)?;
     let copies = number(back)? as usize;
-    if 1 <= copies && copies <= MAX_ATTACHED {
+    if (1..=MAX_ATTACHED).contains(&copies) {
         Some((Fd(fd), copies))
     } else {
         None

@@ -260,9 +260,9 @@ pub fn form(alloc: Global, word: &[u8], rest: &[u8]) -> Result<Line, LineFault>
 {
     let read = match opening_named(word).ok_or(LineFault::Unreadable)? {
         Opening::Process(pid) => return Ok(Line::Event(process(alloc, pid, rest)?)),
-        Opening::Spawn => spawn(rest).map(|event| Line::Event(event)),
+        Opening::Spawn => spawn(rest).map(Line::Event),
         Opening::Begin => is_end(rest).then_some(Line::Event(Event::Begin)),
-        Opening::Slice => slice(rest).map(|event| Line::Event(event)),
+        Opening::Slice => slice(rest).map(Line::Event),
         Opening::Pass => is_end(rest).then_some(Line::Event(Event::Pass)),
         Opening::Table => is_end(rest).then_some(Line::Report(Report::Table)),
         Opening::Totals => is_end(rest).then_some(Line::Report(Report::Totals)),
