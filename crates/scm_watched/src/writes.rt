@@ -3,7 +3,7 @@ ghost use Rattle.std.specs.Prelude.{◌≡◌, OnOk, OnErr, true, false};
 ghost use Rattle.std.specs.Io.KnownBytes.{Appends};
 ghost use Rattle.scm_watched.specs.Watched.{AppendsFront};
 
-use super::watched::Watched;
+use crate::watched::Watched;
 use std::io::Write;
 use thiserror::Error;
 
