@@ -180,6 +180,7 @@ fn push_flag(text: &mut Vec<u8>, flag: bool, word: &str) -> Result<(), AllocErro
 }
 
 /// Appends what a receive took.
+#[inline(never)]
 fn push_got(
     text: &mut Vec<u8>,
     bytes: &[u8],
@@ -200,6 +201,7 @@ fn push_got(
 }
 
 /// Appends a reply, without the end of its line.
+#[inline(always)]
 fn push_text(text: &mut Vec<u8>, reply: &Reply) -> Result<(), AllocError>
     ensures bytes { OnOk result (text.new.items ≡ text.old.items ++ reply_text reply.now) }
     ensures most { OnOk result (IsShort reply.now → vec_len text.new < vec_len text.old + MAX_REPLY_LINE) }
@@ -236,6 +238,7 @@ fn push_text(text: &mut Vec<u8>, reply: &Reply) -> Result<(), AllocError>
 ///
 /// Where memory runs out, some beginning of the line may stand in the text. It does not where there
 /// was room for a line of `MAX_REPLY_LINE` bytes, and the reply is one that a step may give.
+#[inline(always)]
 #[tactic(auto, unfolding(crate::specs::Text::reply_line))]
 pub fn push_reply(text: &mut Vec<u8>, reply: &Reply) -> Result<(), AllocError>
     ensures bytes { OnOk result (text.new.items ≡ text.old.items ++ reply_line reply.now) }
