@@ -12,7 +12,7 @@ pub(crate) const NO_ENGINE: i64 = -100;
 pub(crate) fn refusal(error: Errno) -> i64
     ensures { result ≡ error_code error }
 {
-    0 - i64::from(error.number())
+    -i64::from(error.number())
 }
 
 /// A reply as the number that a call answers.

@@ -129,7 +129,7 @@ fn receive(
 fn as_u32(length: usize) -> u32
     ensures { result ≡ as_u32 length }
 {
-    length.min(4_294_967_295) as u32
+    length.min(u32::MAX as usize) as u32
 }
 
 /// Writes what a receive or a peek got.

@@ -62,13 +62,11 @@ fn write_pair(reply: &Reply, out: &mut Pair)
 fn type_named(kind: u32) -> Option<SockType>
     ensures { result ≡ type_named kind }
 {
-    if kind == 1 {
-        return Some(SockType::Stream);
+    match kind {
+        1 => Some(SockType::Stream),
+        2 => Some(SockType::Seqpacket),
+        _ => None,
     }
-    if kind == 2 {
-        return Some(SockType::Seqpacket);
-    }
-    None
 }
 
 /// A process makes a socket (socket(2)). Answers its number. A type that is none is refused by EINVAL.
