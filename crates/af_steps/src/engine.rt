@@ -2,7 +2,6 @@
 ghost use Rattle.std.specs.Prelude.{◌≡◌, ◌<◌, IfOk, IfErr, OnOk, length};
 ghost use Rattle.std.specs.List.{zip};
 ghost use Rattle.af_base.specs.Run.{fresh, Run, Step};
-ghost use Rattle.af_base.specs.declared.events.Step.TheVariants as steps;
 ghost use Rattle.af_steps.specs.Outcome.{Answers, finished_reply, got_reply, progress_reply, reply_of};
 
 use crate::messages::Received;
@@ -130,31 +129,14 @@ impl Engine {
                 on,
                 max_bytes,
                 max_fds,
-            } => self.recv_reply(pid, *on, *max_bytes, *max_fds),
+            } => received_reply(self.recv(pid, *on, *max_bytes, *max_fds)),
             events::Step::Peek {
                 on,
                 max_bytes,
                 max_fds,
-            } => self.peek_reply(pid, *on, *max_bytes, *max_fds),
+            } => received_reply(self.peek(pid, *on, *max_bytes, *max_fds)),
             events::Step::Limit(nofile) => done_reply(self.limit(pid, *nofile)),
         }
-    }
-
-    /// A receive as a step. It stands apart, so that no other step clears room on the stack for
-    /// what it gives.
-    #[inline(never)]
-    fn recv_reply(&mut self, pid: Pid, on: Fd, max_bytes: u32, max_fds: u32) -> Reply
-        ensures { Answers self.old pid (steps.Recv on max_bytes max_fds) result self.new }
-    {
-        received_reply(self.recv(pid, on, max_bytes, max_fds))
-    }
-
-    /// A peek as a step, which stands apart for the same reason.
-    #[inline(never)]
-    fn peek_reply(&mut self, pid: Pid, on: Fd, max_bytes: u32, max_fds: u32) -> Reply
-        ensures { Answers self.old pid (steps.Peek on max_bytes max_fds) result self.new }
-    {
-        received_reply(self.peek(pid, on, max_bytes, max_fds))
     }
 
     /// The same of a step that is given away.

@@ -130,6 +130,8 @@ impl Engine {
     /// receive. Descriptors beyond `max_fds` or the free numbers are closed (unix(7), SCM_RIGHTS;
     /// MSG_CTRUNC). Refused, in this order: ESRCH, EBADF, ENOTSOCK, EINVAL (`max_bytes` is not 1 to
     /// 65,536), ENOTCONN, EAGAIN, ENOMEM.
+    // Apart, so that no other step clears room on the stack for what it gives.
+    #[inline(never)]
     pub fn recv(
         &mut self,
         pid: Pid,
@@ -160,6 +162,8 @@ impl Engine {
     /// Descriptors that are installed stand in a table and in the queue then, and the others in the
     /// queue alone. A second peek sees the same. Refused, in this order: ESRCH, EBADF, ENOTSOCK,
     /// EINVAL (`max_bytes` is not 1 to 65,536), ENOTCONN, EAGAIN, ENOMEM.
+    // Apart for the same reason.
+    #[inline(never)]
     pub fn peek(
         &mut self,
         pid: Pid,
