@@ -19,4 +19,4 @@ pub use book::{Book, CallError, Entry};
 pub use driving::{DriveError, DriveFault, drive};
 pub use layer::{CloseError, Closed, Layer, OpenError};
 pub use seat::Seat;
-pub use workers::{Gate, Turns};
+pub use workers::{Gate, OpenGate, Turns};

@@ -24,6 +24,16 @@ pub trait Gate {
     fn after(&self, seat: u32, nth: u32);
 }
 
+/// A gate that is always open.
+#[derive(Clone, Copy, Debug, PartialEq, Eq)]
+pub struct OpenGate;
+
+impl Gate for OpenGate {
+    fn before(&self, _seat: u32, _nth: u32) {}
+
+    fn after(&self, _seat: u32, _nth: u32) {}
+}
+
 /// How often the collector calls in a drive, and the budget of its slices.
 #[derive(Clone, Copy, Debug, PartialEq, Eq)]
 pub struct Turns {

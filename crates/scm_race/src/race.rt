@@ -12,7 +12,7 @@ use crate::fault::RaceFault;
 use crate::finish::{end_children, end_pass, last_pass};
 use crate::outcome::Outcome;
 use crate::start::{scripts, start_processes};
-use af_layer::{Gate, Layer, Seat, Turns, drive};
+use af_layer::{Layer, OpenGate, Seat, Turns, drive};
 use std::alloc::Global;
 use std::sync::Wait;
 use std::thread::Threads;
@@ -28,16 +28,6 @@ pub struct Race {
     pub seed: u32,
     /// The budget of the collector's slices, 1 to 65,536.
     pub budget: u32,
-}
-
-/// A gate that is always open.
-#[derive(Drop)]
-struct OpenGate;
-
-impl Gate for OpenGate {
-    fn before(&self, _seat: u32, _nth: u32) {}
-
-    fn after(&self, _seat: u32, _nth: u32) {}
 }
 
 /// Lets all children exit that the workers forked, ends the pass that runs, and makes a last one.
