@@ -6,7 +6,7 @@
 use crate::runs::{Runs, print_times, refused, time_of};
 use af_base::events::{Event, Step};
 use af_base::names::{Fd, Pid, Uid};
-use af_layer::{Gate, Layer, Seat, drive};
+use af_layer::{Layer, OpenGate, Seat, drive};
 use std::alloc::Global;
 use std::io::{self, Print};
 use std::sync::Wait;
@@ -106,14 +106,4 @@ fn are_driven<R: Threads + Wait + Sync>(
     scripts: Vec<Vec<Event>>,
 ) -> bool {
     drive(rt, layer, seats, scripts, None, &OpenGate).is_ok()
-}
-
-/// A gate that is always open.
-#[derive(Drop)]
-struct OpenGate;
-
-impl Gate for OpenGate {
-    fn before(&self, _seat: u32, _nth: u32) {}
-
-    fn after(&self, _seat: u32, _nth: u32) {}
 }

@@ -5,7 +5,7 @@ ghost use Rattle.std.specs.Thread.{IsSync};
 use af_base::events::{Event, SockType, Step};
 use af_base::items::Items;
 use af_base::names::{Fd, Pid, Uid};
-use af_layer::{CloseError, CloseFault, Closed, Gate, Layer, Seat};
+use af_layer::{CloseError, CloseFault, Closed, Layer, Seat};
 use std::alloc::{AllocError, Global};
 use std::sync::Wait;
 use std::thread::Threads;
@@ -75,16 +75,6 @@ pub fn scripts(alloc: Global, count: u32, turns: u32) -> Result<Vec<Vec<Event>>,
         scripts.push(script(alloc, before.saturating_add(1), turns)?)?;
     }
     Ok(scripts)
-}
-
-/// A gate that lets everybody through.
-#[derive(Drop)]
-pub struct AlwaysOpen;
-
-impl Gate for AlwaysOpen {
-    fn before(&self, _seat: u32, _nth: u32) {}
-
-    fn after(&self, _seat: u32, _nth: u32) {}
 }
 
 /// So many processes start from this seat. A test looks at what that left, so this promises nothing.

@@ -1,7 +1,7 @@
 //! What seats and log have of the scripts of a drive.
-use super::bench::{AlwaysOpen, Outcome, Play, end_of, event_at, scripts, spawn_from};
+use super::bench::{Outcome, Play, end_of, event_at, scripts, spawn_from};
 use af_base::equality::events_equal;
-use af_layer::{Layer, Seat, Turns, drive};
+use af_layer::{Layer, OpenGate, Seat, Turns, drive};
 use std::alloc::{AllocError, Global};
 use std::sync::Wait;
 use std::thread::Threads;
@@ -27,7 +27,7 @@ fn driven<R: Threads + Wait + Sync>(
         turns: STEPS,
         budget: 8,
     };
-    let seats = drive(rt, layer, seats, scripts, Some(turns), &AlwaysOpen).ok()?;
+    let seats = drive(rt, layer, seats, scripts, Some(turns), &OpenGate).ok()?;
     if keep_the_scripts(alloc, &seats) {
         Some(seats)
     } else {

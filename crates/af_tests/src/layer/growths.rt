@@ -1,7 +1,7 @@
 //! One allocation refused, the Nth: `tools/stress` refuses each in turn.
-use super::bench::{AlwaysOpen, end, event_at, scripts, spawn};
+use super::bench::{end, event_at, scripts, spawn};
 use af_base::events::Event;
-use af_layer::{CallError, DriveError, DriveFault, Layer, Seat, Turns, drive};
+use af_layer::{CallError, DriveError, DriveFault, Layer, OpenGate, Seat, Turns, drive};
 use std::alloc::{AllocError, Global};
 use std::sync::Wait;
 use std::thread::Threads;
@@ -57,7 +57,7 @@ fn driven<R: Threads + Wait + Sync>(
         turns: 8,
         budget: 1,
     };
-    match drive(rt, layer, seats, scripts, Some(turns), &AlwaysOpen) {
+    match drive(rt, layer, seats, scripts, Some(turns), &OpenGate) {
         Ok(seats) => Some((seats, true)),
         Err(error) => {
             let as_told = wants_memory(&error);

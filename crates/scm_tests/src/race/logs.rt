@@ -1,7 +1,7 @@
 //! What the log has of the workers' scripts, with a collector beside them.
 use af_base::events::Event;
 use af_base::names::Uid;
-use af_layer::{Book, Entry, Gate, Layer, Seat, Turns, drive};
+use af_layer::{Book, Entry, Layer, OpenGate, Seat, Turns, drive};
 use scm_work::make_script;
 use std::alloc::{AllocError, Global};
 use std::process::Abort;
@@ -13,16 +13,6 @@ const WORKERS: u32 = 4;
 const STEPS: u32 = 500;
 
 const SEED: u32 = 7;
-
-/// A gate that lets everybody through.
-#[derive(Drop)]
-struct AlwaysOpen;
-
-impl Gate for AlwaysOpen {
-    fn before(&self, _seat: u32, _nth: u32) {}
-
-    fn after(&self, _seat: u32, _nth: u32) {}
-}
 
 /// The scripts of the workers, in order.
 fn scripts(alloc: Global) -> Result<Vec<Vec<Event>>, AllocError> {
@@ -64,7 +54,7 @@ fn work<R: Threads + Wait + Sync>(
         turns: STEPS,
         budget: 8,
     };
-    drive(rt, layer, seats, scripts, Some(turns), &AlwaysOpen).ok()
+    drive(rt, layer, seats, scripts, Some(turns), &OpenGate).ok()
 }
 
 /// What four workers leave, and a collector beside them.
