@@ -57,6 +57,35 @@ pub enum Answer {
     Refused(Errno),
 }
 
+/// The most bytes that a receive or a peek takes.
+const MAX_BYTES: u32 = 9;
+
+/// The most descriptors that a receive or a peek takes.
+const MAX_FDS: u32 = 8;
+
+fn listen(on: u32, backlog: u32) -> Step {
+    Step::Listen {
+        on: Fd(on),
+        backlog,
+    }
+}
+
+fn receive(on: u32) -> Step {
+    Step::Recv {
+        on: Fd(on),
+        max_bytes: MAX_BYTES,
+        max_fds: MAX_FDS,
+    }
+}
+
+fn peek(on: u32) -> Step {
+    Step::Peek {
+        on: Fd(on),
+        max_bytes: MAX_BYTES,
+        max_fds: MAX_FDS,
+    }
+}
+
 /// The event in full.
 pub fn event_of(alloc: Global, act: Act) -> Result<Event, AllocError> {
     let step = match act {
@@ -78,21 +107,10 @@ pub fn event_of(alloc: Global, act: Act) -> Result<Event, AllocError> {
         Act::Fork => Step::Fork,
         Act::Pair => Step::Pair(SockType::Stream),
         Act::Socket => Step::Socket(SockType::Stream),
-        Act::Listen(on, backlog) => Step::Listen {
-            on: Fd(on),
-            backlog,
-        },
+        Act::Listen(on, backlog) => listen(on, backlog),
         Act::Accept(on) => Step::Accept(Fd(on)),
-        Act::Recv(on) => Step::Recv {
-            on: Fd(on),
-            max_bytes: 9,
-            max_fds: 8,
-        },
-        Act::Peek(on) => Step::Peek {
-            on: Fd(on),
-            max_bytes: 9,
-            max_fds: 8,
-        },
+        Act::Recv(on) => receive(on),
+        Act::Peek(on) => peek(on),
         Act::Limit(limit) => Step::Limit(limit),
         Act::Bind(on, name) => Step::Bind {
             on: Fd(on),
