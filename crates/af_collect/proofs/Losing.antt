@@ -52,7 +52,7 @@ carried_there (m ∷ q) f h = elim (Contains-append_cases m.attached [] f h) [
 
 module _ (w : World) (s : ℕ) where
   -- A file holds what its queue carries, and then its embryos.
-  held_parts : held_by w s ≡ carried (queue_at w s) ++ backlog_at w s
+  pub held_parts : held_by w s ≡ carried (queue_at w s) ++ backlog_at w s
   held_parts = by (map.get w.files s) where
     by : (o : Option File) → option_map_or contents o [] ≡ carried (option_map_or queue_of o []) ++ option_map_or backlog_of o []
     by None = refl
@@ -101,7 +101,7 @@ module _ (w : World) (s : ℕ) where
 module _ {w begun : World} {m : Marked} {c : Progress} where
   -- A live file that is one of these is marked where they are shaded, if it is of the begin.
   pub marked_there : (fs : List ℕ) (f : ℕ) → is_marking c.stage ≡ true → Contains fs f → IsLive w f → IsKept w begun m c → IsLive begun f → is_marked (shaded_all fs m) f ≡ true
-  marked_there fs f t h l k b = all_marked fs m f h (k.known.known f ∙ l) ((in_marking (marking_only c.stage t) k).running.since.below f b)
+  marked_there fs f t h l k b = all_marked fs m f h (k.known f ∙ l) ((in_marking (marking_only c.stage t) k).running.since.below f b)
 
   -- What a table holds is shaded.
   pub kept_tabled : (f : ℕ) → IsWhole w → is_marking c.stage ≡ true → InTable w f → IsKept w begun m c → IsKept w begun (shaded f m) c

@@ -1,11 +1,11 @@
 -- Each change of places, and each file more, keeps what is kept.
-use Rattle.std.proofs.Common.{◌≡◌, ◌<◌, ℕ, Bool, true, false, List, [], ◌∷◌, ◌++◌, nat_eq, refl, sym, ap, ◌∙◌, subst, arith}
+use Rattle.std.proofs.Common.{◌≡◌, ◌<◌, ℕ, Bool, true, false, List, [], ◌∷◌, ◌++◌, inl, inr, nat_eq, refl, sym, ap, ◌∙◌, subst, arith}
 use Rattle.std.specs.Prelude.{Some, IsTrue, is_some, length, slice_get, if◌then◌else◌}
 use Rattle.std.specs.List.{Contains, list_any, zip}
 use Rattle.std.specs.FinMap as map
-use Rattle.std.proofs.lemmas.Bool.{false≢true}
+use Rattle.std.proofs.lemmas.Bool.{cases_Bool, false≢true}
 use Rattle.std.proofs.lemmas.List.Elements.{Contains-append_left}
-use Rattle.af_base.specs.World.{AsSocket, File, IsLive, Socket, World}
+use Rattle.af_base.specs.World.{AsSocket, File, IsLive, Socket, World, is_live}
 use Rattle.af_base.specs.Changes.{add_file, add_process, install_all, set_limit, with_queue, with_socket}
 use Rattle.af_base.specs.Places.{Holds, carried, contents}
 use Rattle.af_base.specs.Reached.{Garbage}
@@ -18,8 +18,7 @@ use Rattle.af_base.proofs.Lookups.{insert-other, told_apart}
 use Rattle.af_base.proofs.Moved.{live-changed, there-holds}
 use Rattle.af_base.proofs.Takes.{AreWithin, leaves-taken}
 use Rattle.af_hold.proofs.Exact.{install-filled}
-use Rattle.af_mark.specs.Marked.{Marked, is_marked, knows}
-use Rattle.af_mark.specs.declared.color.Color.TheVariants.{White}
+use Rattle.af_mark.specs.Marked.{Marked, born, is_marked, knows}
 use Rattle.af_pass.specs.declared.Stage.{Stage}
 use Rattle.af_pass.specs.declared.Stage.TheVariants.{Marking, Resting, Sweeping}
 use Rattle.af_pass.specs.declared.Progress.{Progress}
@@ -27,9 +26,9 @@ use Rattle.af_pass.specs.Since.{Covers, Moves}
 use Rattle.af_pass.specs.Keeping.{IsKept, IsRunning, Spares, below, is_marking, is_running, pass_of, shaded_all, shaded_in}
 use Rattle.af_pass.proofs.Born.{AreFilesBelow, covers_add_file, moves_add_file}
 use Rattle.af_pass.proofs.Keeping.{in_marking, in_sweeping, kept_born, kept_moves, kept_shaded_all}
-use Rattle.af_pass.proofs.Known.{known_made, known_marks}
+use Rattle.af_pass.proofs.Known.{known_made}
 use Rattle.af_pass.proofs.Marked.{grey_born, marked_born}
-use Rattle.af_pass.proofs.Placing.{covers_install_lowest, covers_itself, covers_limited, moves_install_files, moves_itself, moves_limited}
+use Rattle.af_pass.proofs.Placing.{covers_install_lowest, covers_limited, moves_install_files, moves_limited}
 use Rattle.af_pass.proofs.Sockets.{covers_receive, moves_receive}
 use Rattle.af_pass.proofs.Spared.{held_spared, marking_runs, spared_running}
 use Rattle.af_collect.proofs.Losing.{marked_there}
@@ -54,12 +53,6 @@ taken_held w s max x at within f h =
     (subst (λ xs. Contains xs f) (leaves-taken x.kind x.queue max within).carried (Contains-append_left t.attached (carried t.rest) f h)))
 
 module _ {w begun : World} {m : Marked} {c : Progress} where
-  -- Room for more marks keeps what is kept.
-  pub kept_room : (n : Marked) → n ≡ record m { room = n.room } → IsKept w begun m c → IsKept w begun n c
-  kept_room n e k =
-      let o : Marked = record m { room = n.room } in
-      subst (λ o. IsKept w begun o c) (sym e) (kept_born m o c (known_marks w m o (λ f. refl) refl k.known) refl refl refl (omega arith) (λ f l _. l) (λ _. moves_itself begun w) (λ _. covers_itself begun w (is_marked m) (below c.visited)) k)
-
   -- A change of tables keeps what is kept.
   pub kept_tables : (v : World) → v.files ≡ w.files → v.next_ino ≡ w.next_ino → (is_running c.stage ≡ true → Moves begun w v) → (is_marking c.stage ≡ true → Covers begun w v (is_marked m) (below c.visited)) → IsKept w begun m c → IsKept v begun m c
   kept_tables v files next moves covers k = kept_moves m c (omega (arith, next)) (λ f. ap (λ fs. map.contains_key fs f) files) moves covers k
@@ -80,11 +73,12 @@ module _ {w begun : World} {m : Marked} {c : Progress} where
     by Sweeping d e = low (in_sweeping d k).running
 
   -- A file more, which holds nothing and is born, keeps what is kept.
-  pub kept_made : (x : File) (n : Marked) (ino : ℕ) → contents x ≡ [] → AreFilesBelow w w.next_ino → ino ≡ w.next_ino → knows m ino ≡ false → n ≡ record m { colors = map.insert m.colors ino White; last = ino; room = n.room }
-      → IsKept w begun m c → IsKept (add_file w x) begun n c
-  kept_made x n ino empty numbered is new born k =
-      kept_born m n c (known_made w x m n ino is born k.known) (marked_born m n ino n.room new born) (grey_born m n ino n.room new born) (ap (λ o. o.bound) born) (omega arith)
-      (λ f l low. sym (ap is_some (insert-other w.files w.next_ino x f (told_apart f w.next_ino (λ e. omega (arith, e, low))))) ∙ l)
+  pub kept_made : (x : File) → contents x ≡ [] → AreFilesBelow w w.next_ino → IsKept w begun m c → IsKept (add_file w x) begun (born w.next_ino m) c
+  kept_made x empty numbered k =
+      let n = w.next_ino in
+      let new : knows m n ≡ false = k.known n ∙ elim (cases_Bool (is_live w n)) [ inl l ↦ let low = numbered n l in absurd (omega (arith, low)) | inr none ↦ none ] in
+      kept_born m (born n m) c (known_made w x m k.known) (marked_born m n new) (grey_born m n new) refl (omega arith)
+      (λ f l low. sym (ap is_some (insert-other w.files n x f (told_apart f n (λ e. omega (arith, e, low))))) ∙ l)
       (λ e. moves_add_file w x begun empty (begun_below k e)) (λ _. covers_add_file w x begun (is_marked m) (below c.visited) numbered) k
 
   -- What is taken out of a queue is shaded where marking goes on.

@@ -1,11 +1,14 @@
 -- What a store shows, and what its parts keep.
-use Rattle.std.specs.Prelude.{◌≡◌, ℕ, Option, None, Some, true}
+use Rattle.std.specs.Prelude.{◌≡◌, ℕ, List, [], Option, None, Some, slice_get, true}
+use Rattle.std.specs.Option.{option_map_or}
 use Rattle.af_base.specs.declared.events.Reply.{Reply}
 use Rattle.af_base.specs.declared.events.Reply.TheVariants as reply
 use Rattle.af_base.specs.Pass.{Pass}
+use Rattle.af_base.specs.Places.{queue_at}
 use Rattle.af_base.specs.World.{IsLive, Map, World}
 use Rattle.af_table.specs.Procs.{row_in}
-use Rattle.af_mark.specs.Marked.{is_marked}
+use Rattle.af_hold.specs.Stored.{Stored}
+use Rattle.af_mark.specs.Marked.{Marked, is_marked}
 use Rattle.af_pass.specs.Keeping.{IsKept, is_marking}
 use Rattle.af_collect.specs.declared.parts.Parts.{Parts}
 
@@ -20,15 +23,27 @@ pub record Shown : Type 0 where
 abbrev pub room_at : Shown → ℕ → ℕ
 room_at s p = row_in s.rows p
 
--- All that is kept of a pass, of these parts.
+-- All that is kept of the pass of these parts, with other holdings.
+abbrev pub AreKeptWith : Parts → Stored → Type 0
+AreKeptWith p s = IsKept s.world p.begun.value.world s.marks p.progress
+
+-- The same, with their own.
 abbrev pub AreKept : Parts → Type 0
-AreKept p = IsKept p.places.world p.begun.value.world p.marks p.progress
+AreKept p = AreKeptWith p p.places
+
+-- The same parts with these marks.
+abbrev pub with_marks : Marked → Parts → Parts
+with_marks m p = record p { places = record p.places { marks = m } }
 
 -- Where a pass marks, each of these files that was there at its begin is marked (this project's profile).
 abbrev pub MarksAll : (ℕ → Type 0) → Parts → Parts → Type 0
-MarksAll these old new = is_marking old.progress.stage ≡ true → (f : ℕ) → these f → IsLive old.begun.value.world f → is_marked new.marks f ≡ true
+MarksAll these old new = is_marking old.progress.stage ≡ true → (f : ℕ) → these f → IsLive old.begun.value.world f → is_marked new.places.marks f ≡ true
 
 -- The reply to a slice: the pass goes on, or it is done, and so many sockets were garbage.
 abbrev pub slice_reply : ℕ → Option ℕ → Reply
 slice_reply pass None = reply.Working
 slice_reply pass (Some n) = reply.Done pass n
+
+-- What the message at this place of the queue of s carries; nothing past the last.
+abbrev pub attached_at : World → ℕ → ℕ → List ℕ
+attached_at w s at = option_map_or (λ m. m.attached) (slice_get (queue_at w s) at) []

@@ -1,4 +1,4 @@
-//! The holdings, the marks, and how far a pass is: what each change of one owes to the others.
+//! The holdings, and how far a pass is: what each change of one owes to the other.
 ghost use Rattle.std.specs.Prelude.{◌≡◌, ℕ, Some, [], true, nat_eq, slice_get};
 ghost use Rattle.af_base.specs.World.{IsLive};
 ghost use Rattle.af_base.specs.Counts.{refs};
@@ -7,20 +7,19 @@ ghost use Rattle.af_base.specs.Reached.{Garbage};
 ghost use Rattle.af_base.specs.Unheld.{Settles, without};
 ghost use Rattle.af_base.specs.Whole.{IsSound};
 ghost use Rattle.af_pass.specs.Keeping.{counted, first_held, is_counted, is_marking, is_running, shaded_all, shaded_in};
-ghost use Rattle.af_collect.specs.Shown.{AreKept, MarksAll};
+ghost use Rattle.af_mark.specs.Marked.{forgotten};
+ghost use Rattle.af_collect.specs.Shown.{AreKept, MarksAll, with_marks};
 
 use crate::shading::{is_socket, shade_all, shade_embryo, shade_first};
 use af_base::names::{Fd, FileRef, Pid};
 use af_hold::Holdings;
-use af_mark::Marks;
 use af_pass::{Progress, Stage};
 use std::snapshot::Snapshot;
 
-/// The holdings, the marks, and how far a pass is.
+/// The holdings, with what is marked, and how far a pass is.
 #[derive(Drop)]
 pub struct Parts {
     pub places: Holdings,
-    pub marks: Marks,
     /// The holdings when the pass began: for contracts alone.
     pub begun: Snapshot<Holdings>,
     pub progress: Progress,
@@ -44,8 +43,8 @@ impl Parts {
         !matches!(self.progress.stage, Stage::Resting)
     }
 
-    /// Takes away what nothing holds, one file after another, and its mark with it. Where marking goes
-    /// on, what a file loses is marked first; where sweeping does, the garbage that goes is counted.
+    /// Takes away what nothing holds, one file after another. Where marking goes on, what a file loses
+    /// is marked first; where sweeping does, the garbage that goes is counted.
     #[inline(never)]
     pub fn release(&mut self)
         requires kept { AreKept self.old }
@@ -71,7 +70,7 @@ impl Parts {
     pub fn shade_number(&mut self, pid: Pid, fd: Fd)
         requires kept { AreKept self.old }
         ensures kept { AreKept self.new }
-        ensures frame { self.new ≡ record self.old { marks = self.new.marks } }
+        ensures frame { self.new ≡ with_marks self.new.places.marks self.old }
         ensures marked { MarksAll (λ f. table_at self.old.places.world pid fd ≡ Some f) self.old self.new }
     {
         if !self.is_marking() {
@@ -80,7 +79,7 @@ impl Parts {
         if let Some(file) = self.places.procs().lookup(pid, fd) {
             // Tables hold live files: that is what a whole world says of them.
             self.places.is_whole();
-            self.marks.shade(&file);
+            self.places.shade(&file);
         }
     }
 
@@ -88,7 +87,7 @@ impl Parts {
     pub fn shade_table(&mut self, pid: Pid)
         requires kept { AreKept self.old }
         ensures kept { AreKept self.new }
-        ensures frame { self.new ≡ record self.old { marks = self.new.marks } }
+        ensures frame { self.new ≡ with_marks self.new.places.marks self.old }
         ensures marked { MarksAll (λ f. (n : ℕ) × (table_at self.old.places.world pid n ≡ Some f)) self.old self.new }
     {
         if !self.is_marking() {
@@ -98,7 +97,7 @@ impl Parts {
         self.places.is_whole();
         let mut next = Fd(0);
         while let Some((fd, file)) = self.places.procs().next_open(pid, next) {
-            self.marks.shade(&file);
+            self.places.shade(&file);
             next = Fd(fd.0 + 1);
         }
     }
@@ -108,23 +107,23 @@ impl Parts {
         requires kept { AreKept self.old }
         requires spared { is_running self.old.progress.stage ≡ true → ¬ (Garbage self.old.begun.value.world listener.now) }
         ensures kept { AreKept self.new }
-        ensures frame { self.new ≡ record self.old { marks = self.new.marks } }
+        ensures frame { self.new ≡ with_marks self.new.places.marks self.old }
         ensures marked { MarksAll (λ f. slice_get (backlog_at self.old.places.world listener.now) 0 ≡ Some f) self.old self.new }
     {
         if self.is_marking() {
             // Backlogs hold live files: that is what a whole world says of them.
             self.places.is_whole();
-            shade_embryo(&self.places, listener, &mut self.marks);
+            shade_embryo(&mut self.places, listener, 0);
         }
     }
 
     /// Marks what was taken out of a queue, where marking goes on.
     #[inline(always)]
     pub fn shade_taken(&mut self, files: &[FileRef])
-        ensures { self.new ≡ record self.old { marks = shaded_in self.old.progress.stage files.now self.old.marks } }
+        ensures { self.new ≡ with_marks (shaded_in self.old.progress.stage files.now self.old.places.marks) self.old }
     {
         if self.is_marking() {
-            shade_all(files, &mut self.marks);
+            shade_all(&mut self.places, files);
         }
     }
 
@@ -134,13 +133,13 @@ impl Parts {
         requires live { IsLive self.old.places.world file.now }
         requires unheld { refs self.old.places.world file.now ≡ 0 }
         ensures kept { AreKept self.new }
-        ensures frame { self.new ≡ record self.old { marks = self.new.marks } }
-        ensures marked { is_marking self.old.progress.stage ≡ true → self.new.marks ≡ shaded_all (first_held self.old.places.world file.now) self.old.marks }
+        ensures frame { self.new ≡ with_marks self.new.places.marks self.old }
+        ensures marked { is_marking self.old.progress.stage ≡ true → self.new.places.marks ≡ shaded_all (first_held self.old.places.world file.now) self.old.places.marks }
     {
         if self.is_marking() {
             // What a file holds is live: that is what a whole world says of places.
             self.places.is_whole();
-            shade_first(&self.places, file, &mut self.marks);
+            shade_first(&mut self.places, file);
         }
     }
 
@@ -152,19 +151,18 @@ impl Parts {
         requires bare { held_by self.old.places.world file.now ≡ [] }
         requires silent { queue_at self.old.places.world file.now ≡ [] }
         ensures kept { AreKept self.new }
-        ensures places { self.new.places ≡ record self.old.places { world = without (nat_eq file.now) self.old.places.world } }
+        ensures places { self.new.places ≡ record self.old.places { world = without (nat_eq file.now) self.old.places.world; marks = forgotten file.now self.old.places.marks } }
         ensures begun { self.new.begun ≡ self.old.begun }
         ensures progress { self.new.progress ≡ record self.old.progress { reclaimed = self.new.progress.reclaimed } }
     {
         self.tally(file);
         self.places.take_away(file);
-        self.marks.forget(file);
     }
 
     /// Counts a file as reclaimed, where it is to be.
     fn tally(&mut self, file: &FileRef)
         requires kept { AreKept self.old }
-        ensures { self.new ≡ record self.old { progress = counted self.old.places.world self.old.marks file.now self.old.progress } }
+        ensures { self.new ≡ record self.old { progress = counted self.old.places.world self.old.places.marks file.now self.old.progress } }
     {
         if self.is_counted(file) {
             self.progress.reclaimed += 1;
@@ -174,11 +172,11 @@ impl Parts {
     /// Whether the file counts as reclaimed when it goes: while sweeping goes on, and it is an unmarked
     /// socket that was there when the pass began.
     fn is_counted(&self, file: &FileRef) -> bool
-        ensures { result ≡ is_counted self.now.places.world self.now.marks self.now.progress file.now }
+        ensures { result ≡ is_counted self.now.places.world self.now.places.marks self.now.progress file.now }
     {
         matches!(self.progress.stage, Stage::Sweeping)
             && is_socket(&self.places, file)
-            && file.ino() < self.marks.bound()
-            && !self.marks.is_marked(file)
+            && file.ino() < self.places.files().bound()
+            && !self.places.files().is_marked(file)
     }
 }

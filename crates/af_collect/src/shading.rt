@@ -1,69 +1,129 @@
-//! What a file holds, or is about to lose, is marked.
-ghost use Rattle.std.specs.Prelude.{◌≡◌, option_copied, take};
-ghost use Rattle.af_base.specs.Places.{backlog_at, held_by};
+//! What a file holds, or is about to lose, is marked. A mark stands beside the file that it is of, so
+//! what a file holds is looked up anew for each.
+ghost use Rattle.std.specs.Prelude.{◌≡◌, [], drop, length, option_copied, slice_get, take};
+ghost use Rattle.std.specs.Option.{option_map_or};
+ghost use Rattle.af_base.specs.Places.{backlog_at, carried, held_by, queue_at};
 ghost use Rattle.af_base.specs.Refusals.{socket_at};
 ghost use Rattle.af_pass.specs.Keeping.{first_held, shaded_all};
 ghost use Rattle.af_pass.specs.Since.{is_socket_at};
+ghost use Rattle.af_collect.specs.Shown.{attached_at};
 
 use af_base::names::FileRef;
 use af_desc::Socket;
 use af_hold::Holdings;
-use af_mark::Marks;
 
 /// Marks these files.
-pub fn shade_all(files: &[FileRef], marks: &mut Marks)
-    ensures { marks.new ≡ shaded_all files.now marks.old }
+pub fn shade_all(places: &mut Holdings, files: &[FileRef])
+    ensures { places.new ≡ record places.old { marks = shaded_all files.now places.old.marks } }
 {
     for file in files {
-        marks.shade(file);
+        places.shade(file);
     }
 }
 
 /// Marks all that the file holds.
-pub fn shade_held(places: &Holdings, file: &FileRef, marks: &mut Marks)
-    ensures { marks.new ≡ shaded_all (held_by places.now.world file.now) marks.old }
+#[tactic(auto, using(crate::proofs::Losing::held_parts, af_pass::proofs::Shaded::shaded_append))]
+pub fn shade_held(places: &mut Holdings, file: &FileRef)
+    ensures { places.new ≡ record places.old { marks = shaded_all (held_by places.old.world file.now) places.old.marks } }
 {
-    let Some(socket) = socket(places, file) else {
-        return;
-    };
-    for message in socket.queue().messages() {
-        shade_all(message.attached(), marks);
+    shade_queue(places, file);
+    shade_backlog(places, file);
+}
+
+/// Marks what the messages of the file's queue carry.
+#[tactic(auto, using(crate::proofs::Holding::carried_next, af_pass::proofs::Shaded::shaded_append))]
+fn shade_queue(places: &mut Holdings, file: &FileRef)
+    ensures { places.new ≡ record places.old { marks = shaded_all (carried (queue_at places.old.world file.now)) places.old.marks } }
+{
+    for at in 0..messages(places, file) {
+        shade_message(places, file, at);
     }
-    let Some(backlog) = socket.backlog() else {
-        return;
-    };
-    for embryo in backlog.files() {
-        marks.shade(embryo);
+}
+
+/// Marks the embryos of the file's backlog.
+#[tactic(auto, using(crate::proofs::Holding::rest_next, af_pass::proofs::Shaded::shaded_append))]
+fn shade_backlog(places: &mut Holdings, file: &FileRef)
+    ensures { places.new ≡ record places.old { marks = shaded_all (backlog_at places.old.world file.now) places.old.marks } }
+{
+    for at in 0..embryos(places, file) {
+        shade_embryo(places, file, at);
+    }
+}
+
+/// Marks what the message at this place of the file's queue carries; nothing past the last.
+fn shade_message(places: &mut Holdings, file: &FileRef, at: usize)
+    ensures { places.new ≡ record places.old { marks = shaded_all (attached_at places.old.world file.now at) places.old.marks } }
+{
+    for index in 0..attached(places, file, at).len() {
+        let held = attached(places, file, at)[index].again();
+        places.shade(&held);
     }
 }
 
 /// Marks what the file would lose first: what its first message carries, or else its first embryo.
-pub fn shade_first(places: &Holdings, file: &FileRef, marks: &mut Marks)
-    ensures { marks.new ≡ shaded_all (first_held places.now.world file.now) marks.old }
+#[tactic(auto, using(crate::proofs::Holding::carried_first))]
+pub fn shade_first(places: &mut Holdings, file: &FileRef)
+    ensures { places.new ≡ record places.old { marks = shaded_all (first_held places.old.world file.now) places.old.marks } }
 {
-    let Some(socket) = socket(places, file) else {
-        return;
-    };
-    if let Some(message) = socket.queue().messages().front() {
-        shade_all(message.attached(), marks);
-        return;
+    if messages(places, file) > 0 {
+        shade_message(places, file, 0);
+    } else {
+        shade_embryo(places, file, 0);
     }
-    shade_embryo(places, file, marks);
 }
 
-/// Marks the embryo that waits longest at the file, if one does.
-pub fn shade_embryo(places: &Holdings, file: &FileRef, marks: &mut Marks)
-    ensures { marks.new ≡ shaded_all (take 1 (backlog_at places.now.world file.now)) marks.old }
+/// Marks the embryo at this place of the file's backlog; nothing past the last.
+#[tactic(auto, using(crate::proofs::Holding::first_left, crate::proofs::Holding::none_left))]
+pub fn shade_embryo(places: &mut Holdings, file: &FileRef, at: usize)
+    ensures { places.new ≡ record places.old { marks = shaded_all (take 1 (drop at (backlog_at places.old.world file.now))) places.old.marks } }
+{
+    if let Some(embryo) = embryo_at(places, file, at) {
+        places.shade(&embryo);
+    }
+}
+
+/// How many messages the file has to receive.
+fn messages(places: &Holdings, file: &FileRef) -> usize
+    ensures { result ≡ length (queue_at places.now.world file.now) }
+{
+    match socket(places, file) {
+        Some(socket) => socket.queue().messages().len(),
+        None => 0,
+    }
+}
+
+/// How many embryos wait at the file.
+fn embryos(places: &Holdings, file: &FileRef) -> usize
+    ensures { result ≡ length (backlog_at places.now.world file.now) }
 {
     let Some(socket) = socket(places, file) else {
-        return;
+        return 0;
     };
-    let Some(backlog) = socket.backlog() else {
-        return;
-    };
-    if let Some(embryo) = backlog.first() {
-        marks.shade(embryo);
+    match socket.backlog() {
+        Some(backlog) => backlog.files().len(),
+        None => 0,
     }
+}
+
+/// What the message at this place of the file's queue carries; nothing past the last.
+fn attached<'a>(places: &'a Holdings, file: &FileRef, at: usize) -> &'a [FileRef]
+    ensures { result.now ≡ attached_at places.now.world file.now at }
+{
+    let Some(socket) = socket(places, file) else {
+        return &[];
+    };
+    match socket.queue().messages().get(at) {
+        Some(message) => message.attached(),
+        None => &[],
+    }
+}
+
+/// The embryo at this place of the file's backlog, if there is one.
+fn embryo_at(places: &Holdings, file: &FileRef, at: usize) -> Option<FileRef>
+    ensures { result ≡ slice_get (backlog_at places.now.world file.now) at }
+{
+    let embryo = socket(places, file)?.backlog()?.files().get(at)?;
+    Some(embryo.again())
 }
 
 /// Whether the file is a socket.

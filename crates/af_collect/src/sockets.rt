@@ -32,10 +32,7 @@ impl Store {
     {
         // Files' numbers are below the next one: that is what a whole world says of them.
         self.parts.places.is_whole();
-        self.parts.marks.reserve(1)?;
-        let file = self.parts.places.make_sock(kind)?;
-        self.parts.marks.born(&file);
-        Ok(file)
+        self.parts.places.make_sock(kind)
     }
 
     /// An embryo: a socket more, and this client, which was never connected, are connected to each
@@ -51,10 +48,7 @@ impl Store {
     {
         // Files' numbers are below the next one: that is what a whole world says of them.
         self.parts.places.is_whole();
-        self.parts.marks.reserve(1)?;
-        let embryo = self.parts.places.make_embryo(kind, client)?;
-        self.parts.marks.born(&embryo);
-        Ok(embryo)
+        self.parts.places.make_embryo(kind, client)
     }
 
     /// A socket that has no name and never listened has this one from now on, which is nobody's

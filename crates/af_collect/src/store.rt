@@ -14,7 +14,6 @@ use af_base::events::SockType;
 use af_base::limits::MAX_NOFILE;
 use af_base::names::{FileRef, Pid, Uid};
 use af_hold::Holdings;
-use af_mark::Marks;
 use af_pass::{Progress, Stage};
 use std::alloc::{AllocError, Global};
 use std::marker::Model;
@@ -59,7 +58,6 @@ impl Store {
         Store {
             parts: Parts {
                 places,
-                marks: Marks::new(alloc),
                 begun,
                 progress: Progress {
                     stage: Stage::Resting,
@@ -120,10 +118,7 @@ impl Store {
     {
         // Files' numbers are below the next one: that is what a whole world says of them.
         self.parts.places.is_whole();
-        self.parts.marks.reserve(1)?;
-        let file = self.parts.places.make_plain()?;
-        self.parts.marks.born(&file);
-        Ok(file)
+        self.parts.places.make_plain()
     }
 
     /// Two sockets more, connected to each other, which wait for their first places. Both or, on an
@@ -137,11 +132,7 @@ impl Store {
     {
         // Files' numbers are below the next one: that is what a whole world says of them.
         self.parts.places.is_whole();
-        self.parts.marks.reserve(2)?;
-        let (first, second) = self.parts.places.make_two(kind)?;
-        self.parts.marks.born(&first);
-        self.parts.marks.born(&second);
-        Ok((first, second))
+        self.parts.places.make_two(kind)
     }
 
     /// A process more, by a fork: of the same user, with the same limit and privilege, and the same

@@ -7,7 +7,7 @@ ghost use Rattle.af_mark.specs.Marked.{is_grey};
 ghost use Rattle.af_pass.specs.declared.Stage.TheVariants as stage;
 ghost use Rattle.af_pass.specs.Keeping.{is_running, shaded_tabled};
 ghost use Rattle.af_pass.specs.Purged.{ArePurged};
-ghost use Rattle.af_collect.specs.Shown.{AreKept};
+ghost use Rattle.af_collect.specs.Shown.{AreKept, with_marks};
 
 use crate::parts::Parts;
 use crate::shading::shade_held;
@@ -21,13 +21,13 @@ impl Parts {
         requires kept { AreKept self.old }
         requires sound { IsSound self.old.places.world }
         ensures kept { AreKept self.new }
-        ensures places { self.new.places ≡ self.old.places }
+        ensures places { self.new.places ≡ record self.old.places { marks = self.new.places.marks } }
         ensures begun { self.new.begun.value ≡ self.old.places }
         ensures stage { self.new.progress.stage ≡ stage.Marking }
         ensures looked { self.new.progress.looked ≡ 0 }
     {
-        self.marks.begin(self.places.files().next_ino());
         self.begun = Snapshot::of(&self.places);
+        self.places.unmark();
         self.progress = Progress {
             stage: Stage::Marking,
             visited: 0,
@@ -90,7 +90,7 @@ impl Parts {
         requires marking { self.old.progress.stage ≡ stage.Marking }
         requires sound { IsSound self.old.places.world }
         ensures kept { AreKept self.new }
-        ensures places { self.new.places ≡ self.old.places }
+        ensures places { self.new.places ≡ record self.old.places { marks = self.new.places.marks } }
         ensures begun { self.new.begun ≡ self.old.begun }
         ensures went { result ≡ true → (self.new.progress.looked ≡ self.old.progress.looked + 1) × (self.new.progress.stage ≡ stage.Marking) }
         ensures over { result ≡ false → (self.new.progress.looked ≡ self.old.progress.looked) × (self.new.progress.stage ≡ stage.Sweeping) }
@@ -99,11 +99,11 @@ impl Parts {
             self.visit(&file);
             return true;
         }
-        if let Some(file) = self.marks.next_grey() {
+        if let Some(file) = self.places.files().next_grey() {
             self.scan(&file);
             return true;
         }
-        self.progress.visited = self.marks.bound().0;
+        self.progress.visited = self.places.files().bound().0;
         self.progress.stage = Stage::Sweeping;
         false
     }
@@ -134,13 +134,13 @@ impl Parts {
     /// The live file with the least number from this one on, of those that the pass goes over.
     fn next_from(&self, from: u64) -> Option<FileRef>
         ensures live { IfSome result (λ f. IsLive self.now.places.world f) }
-        ensures within { IfSome result (λ f. (from ≤ f) × (f < self.now.marks.bound)) }
+        ensures within { IfSome result (λ f. (from ≤ f) × (f < self.now.places.marks.bound)) }
         ensures least { IfSome result (λ f. (g : ℕ) → from ≤ g → g < f → is_live self.now.places.world g ≡ false) }
-        ensures none { IfNone result ((g : ℕ) → from ≤ g → g < self.now.marks.bound → is_live self.now.places.world g ≡ false) }
+        ensures none { IfNone result ((g : ℕ) → from ≤ g → g < self.now.places.marks.bound → is_live self.now.places.world g ≡ false) }
     {
         let before = FileRef::new(Ino(from.saturating_sub(1)), self.near);
         let file = self.places.files().next_after(&before)?;
-        if file.ino() >= self.marks.bound() {
+        if file.ino() >= self.places.files().bound() {
             return None;
         }
         Some(file)
@@ -151,10 +151,10 @@ impl Parts {
         requires kept { AreKept self.old }
         requires marking { self.old.progress.stage ≡ stage.Marking }
         requires live { IsLive self.old.places.world file.now }
-        requires within { (self.old.progress.visited ≤ file.now) × (file.now < self.old.marks.bound) }
+        requires within { (self.old.progress.visited ≤ file.now) × (file.now < self.old.places.marks.bound) }
         requires least { (g : ℕ) → self.old.progress.visited ≤ g → g < file.now → is_live self.old.places.world g ≡ false }
         ensures kept { AreKept self.new }
-        ensures places { self.new.places ≡ self.old.places }
+        ensures places { self.new.places ≡ record self.old.places { marks = self.new.places.marks } }
         ensures begun { self.new.begun ≡ self.old.begun }
         ensures progress { self.new.progress ≡ record self.old.progress { visited = file.now + 1; looked = self.old.progress.looked + 1 } }
     {
@@ -168,11 +168,10 @@ impl Parts {
 
     /// A file is marked if a table holds it.
     fn shade_tabled(&mut self, file: &FileRef)
-        ensures frame { self.new ≡ record self.old { marks = self.new.marks } }
-        ensures marks { self.new.marks ≡ shaded_tabled self.old.places.world file.now self.old.marks }
+        ensures { self.new ≡ with_marks (shaded_tabled self.old.places.world file.now self.old.places.marks) self.old }
     {
         if self.places.tabled(file) > 0 {
-            self.marks.shade(file);
+            self.places.shade(file);
         }
     }
 
@@ -180,16 +179,16 @@ impl Parts {
     fn scan(&mut self, file: &FileRef)
         requires kept { AreKept self.old }
         requires marking { self.old.progress.stage ≡ stage.Marking }
-        requires grey { is_grey self.old.marks file.now ≡ true }
+        requires grey { is_grey self.old.places.marks file.now ≡ true }
         ensures kept { AreKept self.new }
-        ensures places { self.new.places ≡ self.old.places }
+        ensures places { self.new.places ≡ record self.old.places { marks = self.new.places.marks } }
         ensures begun { self.new.begun ≡ self.old.begun }
         ensures progress { self.new.progress ≡ record self.old.progress { looked = self.old.progress.looked + 1 } }
     {
         // What a file holds is live: that is what a whole world says of places.
         self.places.is_whole();
-        shade_held(&self.places, file, &mut self.marks);
-        self.marks.scanned(file);
+        shade_held(&mut self.places, file);
+        self.places.scanned(file);
         self.progress.looked += 1;
     }
 
@@ -200,7 +199,7 @@ impl Parts {
         requires sweeping { self.old.progress.stage ≡ stage.Sweeping }
         requires sound { IsSound self.old.places.world }
         requires live { IsLive self.old.places.world file.now }
-        requires within { (self.old.progress.swept ≤ file.now) × (file.now < self.old.marks.bound) }
+        requires within { (self.old.progress.swept ≤ file.now) × (file.now < self.old.places.marks.bound) }
         requires least { (g : ℕ) → self.old.progress.swept ≤ g → g < file.now → is_live self.old.places.world g ≡ false }
         ensures kept { AreKept self.new }
         ensures sound { IsSound self.new.places.world }
@@ -213,7 +212,7 @@ impl Parts {
         self.near = file.key();
         self.progress.swept = file.ino().0 + 1;
         self.progress.looked += 1;
-        if self.marks.is_marked(file) {
+        if self.places.files().is_marked(file) {
             return;
         }
         self.places.empty(file);

@@ -9,6 +9,8 @@ use Rattle.af_ledger.specs.Waiting.{AreWaiting}
 use Rattle.af_ledger.specs.declared.count.Count.{Count}
 use Rattle.af_ledger.proofs.Waiting.{waiting-struck}
 use Rattle.af_listen.specs.Named.{Named}
+use Rattle.af_mark.specs.Grey.{unmarked}
+use Rattle.af_mark.specs.declared.mark.Mark.{Mark}
 use Rattle.af_order.proofs.Values.{gone_few}
 use Rattle.af_desc.specs.Filed.{AreNamed, IsFiled, name_of}
 use Rattle.af_desc.specs.Rowed.{Rowed}
@@ -28,6 +30,14 @@ module _ (old new : Rowed) (ws : List ℕ) (room : ℕ) (names : Named) (next : 
         omega (arith, fits, more, ap (λ r. map.len r.counts) is),
       )
 
+  -- Other marks of the same files.
+  pub filed-marked : (m : Map Mark) → new ≡ record old { marks = m } → IsFiled new ws room names next
+  filed-marked m is = subst (λ r. IsFiled r ws room names next) (sym is) h
+
+  -- Other files of the same numbers, with the names that are theirs.
+  pub filed-named : (fs : Map File) (left : Named) → new ≡ record old { files = fs } → map.contains_key fs 0 ≡ false → AreNamed left fs → IsFiled new ws room left next
+  filed-named fs left is begun named = subst (λ r. IsFiled r ws room left next) (sym is) (h.0, begun, named, h.3, h.4)
+
   -- Other counts of the same files, and the list of those that wait then.
   pub filed-counted : (m : Map Count) (vs : List ℕ) (most : ℕ) → new ≡ record old { counts = m } → AreWaiting new.counts vs → map.len new.counts ≡ map.len old.counts → room ≤ most → IsFiled new vs most names next
   filed-counted m vs most is waits many more =
@@ -41,7 +51,7 @@ module _ (old new : Rowed) (ws : List ℕ) (room : ℕ) (names : Named) (next : 
       )
 
   -- A file more, without a name, which waits.
-  pub filed-entered : (x : File) (vs : List ℕ) (most : ℕ) → new ≡ record old { files = map.insert old.files next x; counts = map.insert old.counts next uncounted; last = next; room = new.room } → map.contains_key old.files next ≡ false → name_of x ≡ None
+  pub filed-entered : (x : File) (vs : List ℕ) (most : ℕ) → new ≡ record old { files = map.insert old.files next x; counts = map.insert old.counts next uncounted; marks = map.insert old.marks next unmarked; last = next; room = new.room } → map.contains_key old.files next ≡ false → name_of x ≡ None
       → AreWaiting new.counts vs → map.len new.counts ≤ most → IsFiled new vs most names (next + 1)
   filed-entered x vs most is stranger nameless waits fits =
       let low = h.0 in
@@ -54,7 +64,7 @@ module _ (old new : Rowed) (ws : List ℕ) (room : ℕ) (names : Named) (next : 
       )
 
   -- A file less, with the names that are left, and those that wait without it.
-  pub filed-removed : (k : ℕ) (left : Named) (vs : List ℕ) (most : ℕ) → new ≡ record old { files = map.remove old.files k; counts = map.remove old.counts k; room = new.room } → AreNamed left (map.remove old.files k)
+  pub filed-removed : (k : ℕ) (left : Named) (vs : List ℕ) (most : ℕ) → new ≡ record old { files = map.remove old.files k; counts = map.remove old.counts k; marks = map.remove old.marks k; room = new.room } → AreNamed left (map.remove old.files k)
       → ((f : ℕ) → list_any (nat_eq f) vs ≡ (not (nat_eq f k) && list_any (nat_eq f) ws)) → IsDistinct nat_eq vs → room ≤ most → IsFiled new vs most left next
   filed-removed k left vs most is named off once more =
       let low = h.0 in

@@ -2,3 +2,4 @@ pub mod Begun
 pub mod Naming
 pub mod Filing
 pub mod Rowed
+pub mod Washing

@@ -11,13 +11,15 @@ use Rattle.af_base.specs.Take.{take_from}
 use Rattle.af_ledger.specs.Waiting.{AreWaiting}
 use Rattle.af_ledger.specs.declared.count.Count.{Count}
 use Rattle.af_listen.specs.Named.{Named}
+use Rattle.af_mark.specs.Marked.{Marked}
 use Rattle.af_queue.specs.Received.{Received, received}
 use Rattle.af_desc.specs.Rowed.{Rowed}
 
--- The world's files, how many places hold each, and the number that the next one gets (this project's own).
+-- The world's files, how many places hold each, what a pass knows of each, and the number that the next one gets (this project's own).
 pub record Filed : Type 0 where
   pub files : Map File
   pub counts : Map Count
+  pub marks : Marked
   pub next : ℕ
 
 -- Whether k files more are too many, or have no inode numbers left (open(2), ENFILE).

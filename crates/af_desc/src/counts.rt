@@ -1,11 +1,10 @@
 //! How many places hold each file, and which files wait for one.
-ghost use Rattle.std.specs.Prelude.{◌≡◌, ℕ, false, true, IfSome, IfNone, IsTrue, nat_eq};
+ghost use Rattle.std.specs.Prelude.{◌≡◌, ℕ, false, true, IfSome, IfNone, IsTrue};
 ghost use Rattle.std.specs.FinMap as map;
 ghost use Rattle.af_ledger.specs.Counted.{fewer, more, places_in, IsCountable, IsCounted};
 ghost use Rattle.af_ledger.specs.Kept.{count_in_map, is_waiting};
 
 use crate::files::Files;
-use crate::rows::Rows;
 use af_base::names::{FileRef, Ino};
 use af_ledger::{Count, Place, take_off};
 
@@ -71,7 +70,7 @@ impl Files {
         requires countable { IsCountable place.now (count_in_map self.old.counts file.now) }
         ensures { self.new ≡ record self.old { counts = map.insert self.old.counts file.now (more place.now (count_in_map self.old.counts file.now)) } }
     {
-        let first = add_place(&mut self.rows, place, file);
+        let first = self.rows.add_place(place, file);
         if first {
             take_off(&mut self.waiting, file.ino());
         }
@@ -84,39 +83,9 @@ impl Files {
         requires { IsCounted place.now (count_in_map self.old.counts file.now) }
         ensures { self.new ≡ record self.old { counts = map.insert self.old.counts file.now (fewer place.now (count_in_map self.old.counts file.now)) } }
     {
-        let last = sub_place(&mut self.rows, place, file);
+        let last = self.rows.sub_place(place, file);
         if last {
             self.waiting.push_reserved(file.again());
         }
     }
-}
-
-/// One place more of a file, which is there. Whether it had none.
-#[inline(always)]
-#[tactic(auto, using(af_order::proofs::Values::lent, af_ledger::proofs::Waiting::counted))]
-fn add_place(rows: &mut Rows, place: &Place, file: &FileRef) -> bool
-    requires known { IsTrue (map.contains_key rows.old.counts file.now) }
-    requires countable { IsCountable place.now (count_in_map rows.old.counts file.now) }
-    ensures counts { rows.new ≡ record rows.old { counts = map.insert rows.old.counts file.now (more place.now (count_in_map rows.old.counts file.now)) } }
-    ensures len { map.len rows.new.counts ≡ map.len rows.old.counts }
-    ensures first { result ≡ nat_eq (places_in (count_in_map rows.old.counts file.now)) 0 }
-{
-    let count = rows.count_mut(file).unwrap();
-    let first = count.is_none();
-    count.add(place);
-    first
-}
-
-/// One place less of a file, which has one. Whether it was the last.
-#[inline(always)]
-#[tactic(auto, using(af_order::proofs::Values::lent, af_ledger::proofs::Waiting::counted))]
-fn sub_place(rows: &mut Rows, place: &Place, file: &FileRef) -> bool
-    requires { IsCounted place.now (count_in_map rows.old.counts file.now) }
-    ensures counts { rows.new ≡ record rows.old { counts = map.insert rows.old.counts file.now (fewer place.now (count_in_map rows.old.counts file.now)) } }
-    ensures len { map.len rows.new.counts ≡ map.len rows.old.counts }
-    ensures last { result ≡ nat_eq (places_in (count_in_map rows.old.counts file.now)) 1 }
-{
-    let count = rows.count_mut(file).unwrap();
-    count.sub(place);
-    count.is_none()
 }

@@ -10,6 +10,8 @@ ghost use Rattle.af_base.specs.Steps.{connected_socket, idle_socket};
 ghost use Rattle.af_base.specs.Whole.{IsMessageWithin};
 ghost use Rattle.af_ledger.specs.Counted.{uncounted};
 ghost use Rattle.af_ledger.specs.Waiting.{AreWaiting};
+ghost use Rattle.af_mark.specs.Grey.{unmarked};
+ghost use Rattle.af_mark.specs.Marked.{born, forgotten, is_grey};
 ghost use Rattle.af_desc.specs.Filed.{is_full, is_live, name_of, with_pair, hung_up, popped, received_from, received_of, socket_in};
 
 use crate::desc::Desc;
@@ -25,15 +27,22 @@ use af_queue::{Msg, Taken};
 use std::alloc::{AllocError, Global};
 use std::marker::Model;
 
-/// The files, each under a number that is never used again, with how many places hold it, and the
-/// names of those that have one. A `FileRef` that was handed out has a hint where its file stands.
+/// The files, each under a number that is never used again, with how many places hold it and what a
+/// pass of the collector has marked, and the names of those that have one. A `FileRef` that was handed
+/// out has a hint where its file stands.
 #[derive(Drop)]
 pub struct Files {
     pub(crate) alloc: Global,
     pub(crate) rows: Rows,
     /// The files that no place holds.
     pub(crate) waiting: Vec<FileRef>,
-    next: u64,
+    /// The files that are marked and not scanned.
+    pub(crate) grey: Vec<FileRef>,
+    /// The pass: what an earlier one marked is not marked.
+    pub(crate) epoch: u64,
+    /// Files from this number on were born since the pass began.
+    pub(crate) bound: u64,
+    pub(crate) next: u64,
     pub(crate) names: Names,
 }
 
@@ -41,27 +50,31 @@ impl Model for Files {
     ghost use Rattle.std.specs.FinMap as map;
     ghost use Rattle.std.specs.Coded.{codes};
     ghost use Rattle.std.specs.Prelude.{vec_capacity};
+    ghost use Rattle.af_mark.specs.Grey.{AreListed, colors_in};
     ghost use Rattle.af_desc.specs.Filed.{Filed, IsFiled};
 
     ghost Value = { Filed };
 
     ghost coded = { Prim.hlevel (codes, map.code) };
 
-    ghost view = { λ a. record { files = a.rows.files; counts = a.rows.counts; next = a.next } };
+    ghost view = { λ a. record { files = a.rows.files; counts = a.rows.counts; marks = record { colors = colors_in a.epoch a.rows.marks; bound = a.bound }; next = a.next } };
 
-    ghost invariant = { λ a. IsFiled a.rows a.waiting.items (vec_capacity a.waiting) a.names a.next };
+    ghost invariant = { λ a. IsFiled a.rows a.waiting.items (vec_capacity a.waiting) a.names a.next × AreListed a.rows.marks a.epoch a.grey.items (vec_capacity a.grey) };
 }
 
 impl Files {
     /// No file; numbers begin at 1. It takes no memory.
     #[tactic(auto, using(crate::proofs::Begun::begun))]
     pub fn new(alloc: Global) -> Files
-        ensures { result ≡ record { files = map.empty; counts = map.empty; next = 1 } }
+        ensures { result ≡ record { files = map.empty; counts = map.empty; marks = record { colors = map.empty; bound = 0 }; next = 1 } }
     {
         Files {
             alloc,
             rows: Rows::new(alloc),
             waiting: Vec::new(alloc),
+            grey: Vec::new(alloc),
+            epoch: 0,
+            bound: 0,
             next: 1,
             names: Names::new(alloc),
         }
@@ -137,9 +150,10 @@ impl Files {
         ensures files { OnOk result (self.new.files ≡ map.insert self.old.files self.old.next desc) }
         ensures next { OnOk result (self.new.next ≡ self.old.next + 1) }
         ensures counts { OnOk result (self.new.counts ≡ map.insert self.old.counts self.old.next uncounted) }
+        ensures marks { OnOk result (self.new.marks ≡ born self.old.next self.old.marks) }
         ensures err { OnErr result (self.new ≡ self.old) }
     {
-        reserve(&mut self.rows, &mut self.waiting, 1)?;
+        reserve(&mut self.rows, &mut self.waiting, &mut self.grey, 1)?;
         let file = enter(&mut self.rows, &mut self.waiting, Ino(self.next), desc);
         self.next += 1;
         Ok(file)
@@ -153,6 +167,7 @@ impl Files {
         ensures files { OnOk result (self.new.files ≡ map.insert self.old.files self.old.next world.Plain) }
         ensures next { OnOk result (self.new.next ≡ self.old.next + 1) }
         ensures counts { OnOk result (self.new.counts ≡ map.insert self.old.counts self.old.next uncounted) }
+        ensures marks { OnOk result (self.new.marks ≡ born self.old.next self.old.marks) }
         ensures err { OnErr result (self.new ≡ self.old) }
     {
         self.make(Desc::plain())
@@ -166,6 +181,7 @@ impl Files {
         ensures files { OnOk result (self.new.files ≡ map.insert self.old.files self.old.next (world.AsSocket (idle_socket kind))) }
         ensures next { OnOk result (self.new.next ≡ self.old.next + 1) }
         ensures counts { OnOk result (self.new.counts ≡ map.insert self.old.counts self.old.next uncounted) }
+        ensures marks { OnOk result (self.new.marks ≡ born self.old.next self.old.marks) }
         ensures err { OnErr result (self.new ≡ self.old) }
     {
         self.make(Desc::idle(self.alloc, kind))
@@ -181,9 +197,10 @@ impl Files {
         ensures files { OnOk result (self.new.files ≡ with_pair kind self.old.next self.old.files) }
         ensures next { OnOk result (self.new.next ≡ self.old.next + 2) }
         ensures counts { OnOk result (self.new.counts ≡ map.insert (map.insert self.old.counts self.old.next uncounted) (self.old.next + 1) uncounted) }
+        ensures marks { OnOk result (self.new.marks ≡ born (self.old.next + 1) (born self.old.next self.old.marks)) }
         ensures err { OnErr result (self.new ≡ self.old) }
     {
-        reserve(&mut self.rows, &mut self.waiting, 2)?;
+        reserve(&mut self.rows, &mut self.waiting, &mut self.grey, 2)?;
         let (lower, higher) = (Ino(self.next), Ino(self.next + 1));
         // Where the second will stand is told once it stands there.
         let desc = Desc::connected(self.alloc, kind, &FileRef::new(higher, 0));
@@ -198,12 +215,28 @@ impl Files {
     /// The file goes, and is handed on; nothing of a stranger. Its number is never given again, and
     /// its name is free. It takes no memory.
     #[inline(always)]
-    #[tactic(auto, using(crate::proofs::Begun::begun))]
+    #[tactic(auto, using(af_mark::proofs::Listed::gone))]
     pub fn remove(&mut self, file: &FileRef) -> Option<Desc>
         ensures value { result ≡ map.get self.old.files file.now }
         ensures files { self.new.files ≡ map.remove self.old.files file.now }
         ensures next { self.new.next ≡ self.old.next }
         ensures counts { self.new.counts ≡ map.remove self.old.counts file.now }
+        ensures marks { self.new.marks ≡ forgotten file.now self.old.marks }
+    {
+        self.scanned(file);
+        self.take_out(file)
+    }
+
+    /// A file that is not grey goes, and is handed on.
+    #[inline(always)]
+    #[tactic(auto, using(crate::proofs::Begun::begun))]
+    fn take_out(&mut self, file: &FileRef) -> Option<Desc>
+        requires white { is_grey self.old.marks file.now ≡ false }
+        ensures value { result ≡ map.get self.old.files file.now }
+        ensures files { self.new.files ≡ map.remove self.old.files file.now }
+        ensures next { self.new.next ≡ self.old.next }
+        ensures counts { self.new.counts ≡ map.remove self.old.counts file.now }
+        ensures marks { self.new.marks ≡ forgotten file.now self.old.marks }
     {
         let gone = self.rows.remove(file);
         take_off(&mut self.waiting, file.ino());
@@ -222,6 +255,7 @@ impl Files {
         ensures files { self.new.files ≡ change_socket_at hung_up self.old.files file.now }
         ensures next { self.new.next ≡ self.old.next }
         ensures counts { self.new.counts ≡ self.old.counts }
+        ensures marks { self.new.marks ≡ self.old.marks }
     {
         let Some(desc) = self.rows.desc_mut(file) else {
             return;
@@ -239,6 +273,7 @@ impl Files {
         ensures files { OnOk result (self.new.files ≡ change_socket_at (pushed message) self.old.files file.now) }
         ensures next { self.new.next ≡ self.old.next }
         ensures counts { self.new.counts ≡ self.old.counts }
+        ensures marks { self.new.marks ≡ self.old.marks }
         ensures back { IfErr result (λ refused. refused ≡ message) }
         ensures err { OnErr result (self.new ≡ self.old) }
     {
@@ -276,6 +311,7 @@ impl Files {
         ensures files { OnOk result (self.new.files ≡ change_socket_at (received_from max) self.old.files file.now) }
         ensures next { self.new.next ≡ self.old.next }
         ensures counts { self.new.counts ≡ self.old.counts }
+        ensures marks { self.new.marks ≡ self.old.marks }
         ensures err { OnErr result (self.new ≡ self.old) }
     {
         let Some(desc) = self.rows.desc_mut(file) else {
@@ -292,6 +328,7 @@ impl Files {
         ensures files { self.new.files ≡ change_socket_at popped self.old.files file.now }
         ensures next { self.new.next ≡ self.old.next }
         ensures counts { self.new.counts ≡ self.old.counts }
+        ensures marks { self.new.marks ≡ self.old.marks }
     {
         let desc = self.rows.desc_mut(file)?;
         desc.pop()
@@ -306,6 +343,7 @@ impl Files {
         ensures files { OnOk result (self.new.files ≡ change_socket_at (connected self.old.next) (map.insert self.old.files self.old.next (world.AsSocket (connected_socket kind client.now))) client.now) }
         ensures next { OnOk result (self.new.next ≡ self.old.next + 1) }
         ensures counts { OnOk result (self.new.counts ≡ map.insert self.old.counts self.old.next uncounted) }
+        ensures marks { OnOk result (self.new.marks ≡ born self.old.next self.old.marks) }
         ensures err { OnErr result (self.new ≡ self.old) }
     {
         let embryo = self.make(Desc::connected(self.alloc, kind, client))?;
@@ -320,6 +358,7 @@ impl Files {
         ensures files { self.new.files ≡ change_socket_at (connected peer.now) self.old.files file.now }
         ensures next { self.new.next ≡ self.old.next }
         ensures counts { self.new.counts ≡ self.old.counts }
+        ensures marks { self.new.marks ≡ self.old.marks }
     {
         let Some(desc) = self.rows.desc_mut(file) else {
             return;
@@ -336,6 +375,7 @@ impl Files {
         ensures files { OnOk result (self.new.files ≡ change_socket_at (bound name.now) self.old.files file.now) }
         ensures next { self.new.next ≡ self.old.next }
         ensures counts { self.new.counts ≡ self.old.counts }
+        ensures marks { self.new.marks ≡ self.old.marks }
         ensures err { OnErr result (self.new ≡ self.old) }
     {
         let Some(desc) = self.get(file) else {
@@ -363,6 +403,7 @@ impl Files {
         ensures files { OnOk result (self.new.files ≡ change_socket_at (listening most) self.old.files file.now) }
         ensures next { self.new.next ≡ self.old.next }
         ensures counts { self.new.counts ≡ self.old.counts }
+        ensures marks { self.new.marks ≡ self.old.marks }
         ensures err { OnErr result (self.new ≡ self.old) }
     {
         let Some(desc) = self.rows.desc_mut(file) else {
@@ -379,6 +420,7 @@ impl Files {
         ensures files { self.new.files ≡ change_socket_at (queued embryo) self.old.files file.now }
         ensures next { self.new.next ≡ self.old.next }
         ensures counts { self.new.counts ≡ self.old.counts }
+        ensures marks { self.new.marks ≡ self.old.marks }
     {
         let Some(desc) = self.rows.desc_mut(file) else {
             return;
@@ -394,28 +436,48 @@ impl Files {
         ensures files { self.new.files ≡ change_socket_at dequeued self.old.files file.now }
         ensures next { self.new.next ≡ self.old.next }
         ensures counts { self.new.counts ≡ self.old.counts }
+        ensures marks { self.new.marks ≡ self.old.marks }
     {
         let desc = self.rows.desc_mut(file)?;
         desc.dequeue()
     }
 }
 
-/// Room for so many further files, and for all files to wait at once. Nothing else changes, also on an
-/// error.
+/// Room for so many further files, and for all files to wait, and to be grey, at once. Nothing else
+/// changes, also on an error.
 #[inline(always)]
-fn reserve(rows: &mut Rows, waiting: &mut Vec<FileRef>, files: usize) -> Result<(), AllocError>
+fn reserve(
+    rows: &mut Rows,
+    waiting: &mut Vec<FileRef>,
+    grey: &mut Vec<FileRef>,
+    files: usize,
+) -> Result<(), AllocError>
     ensures rows { rows.new ≡ record rows.old { room = rows.new.room } }
     ensures waiting { waiting.new.items ≡ waiting.old.items }
+    ensures grey { grey.new.items ≡ grey.old.items }
     ensures room { OnOk result (files ≤ rows.new.room) }
     ensures fits { OnOk result (map.len rows.old.counts + files ≤ vec_capacity waiting.new) }
+    ensures marks { OnOk result (map.len rows.old.marks + files ≤ vec_capacity grey.new) }
     ensures capacity { vec_capacity waiting.old ≤ vec_capacity waiting.new }
+    ensures greys { vec_capacity grey.old ≤ vec_capacity grey.new }
 {
     rows.reserve(files)?;
-    let wanted = rows.len().saturating_add(files);
-    if wanted <= waiting.capacity() {
+    let all = rows.len().saturating_add(files);
+    widen(waiting, all)?;
+    widen(grey, all)
+}
+
+/// Room for so many files in a list. Nothing else changes, also on an error.
+#[inline(always)]
+fn widen(list: &mut Vec<FileRef>, files: usize) -> Result<(), AllocError>
+    ensures items { list.new.items ≡ list.old.items }
+    ensures ok { OnOk result (files ≤ vec_capacity list.new) }
+    ensures capacity { vec_capacity list.old ≤ vec_capacity list.new }
+{
+    if files <= list.capacity() {
         return Ok(());
     }
-    waiting.reserve(wanted - waiting.len())
+    list.reserve(files - list.len())
 }
 
 /// A file more, above all others that there were, which waits for its first place. There is room for
@@ -427,10 +489,12 @@ fn enter(rows: &mut Rows, waiting: &mut Vec<FileRef>, ino: Ino, desc: Desc) -> F
     requires fits { map.len rows.old.counts < vec_capacity waiting.old }
     requires waiting { AreWaiting rows.old.counts waiting.old.items }
     ensures file { result ≡ ino }
-    ensures entered { rows.new ≡ record rows.old { files = map.insert rows.old.files ino desc; counts = map.insert rows.old.counts ino uncounted; last = ino; room = rows.new.room } }
+    ensures entered { rows.new ≡ record rows.old { files = map.insert rows.old.files ino desc; counts = map.insert rows.old.counts ino uncounted; marks = map.insert rows.old.marks ino unmarked; last = ino; room = rows.new.room } }
     ensures new { map.contains_key rows.old.files ino ≡ false }
+    ensures unmarked { map.contains_key rows.old.marks ino ≡ false }
     ensures room { rows.old.room ≤ rows.new.room + 1 }
     ensures len { map.len rows.new.counts ≤ map.len rows.old.counts + 1 }
+    ensures more { map.len rows.new.marks ≤ map.len rows.old.marks + 1 }
     ensures waiting { AreWaiting rows.new.counts waiting.new.items }
     ensures capacity { vec_capacity waiting.new ≡ vec_capacity waiting.old }
 {

@@ -1,10 +1,11 @@
-//! Open file descriptions: plain files and sockets with their queues, and how many places hold each,
-//! under inode numbers that are never used again.
+//! Open file descriptions: plain files and sockets with their queues, how many places hold each, and
+//! what a pass of the collector has marked, under inode numbers that are never used again.
 #![tactic(auto)]
 
 mod counts;
 mod desc;
 mod files;
+mod marks;
 mod row;
 mod rows;
 mod socket;

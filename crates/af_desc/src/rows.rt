@@ -1,20 +1,23 @@
 //! One row for each file.
-ghost use Rattle.std.specs.Prelude.{◌≡◌, ℕ, ◌+◌, ◌≤◌, ◌<◌, false, IsTrue, IsOk, IfSome, IfNone, OnOk, option_copied};
+ghost use Rattle.std.specs.Prelude.{◌≡◌, ℕ, ◌+◌, ◌≤◌, ◌<◌, false, IsTrue, IsOk, IfSome, IfNone, OnOk, nat_eq, option_copied};
 ghost use Rattle.std.specs.FinMap as map;
 ghost use Rattle.std.specs.Option.{option_copied_mut};
 ghost use Rattle.std.specs.Borrow.{sem};
-ghost use Rattle.af_ledger.specs.Counted.{uncounted};
+ghost use Rattle.af_ledger.specs.Counted.{fewer, more, places_in, uncounted, IsCountable, IsCounted};
+ghost use Rattle.af_ledger.specs.Kept.{count_in_map};
+ghost use Rattle.af_mark.specs.Grey.{unmarked};
 
 use crate::desc::Desc;
 use crate::row::Row;
 use af_base::names::{FileRef, Ino};
-use af_ledger::Count;
+use af_ledger::{Count, Place};
+use af_mark::Mark;
 use af_order::Keyed;
 use std::alloc::{AllocError, Global};
 use std::marker::Model;
 
-/// A row for each file: what it is, and how many places hold it. They come and go together, and stand
-/// in one table; a contract sees them as two maps.
+/// A row for each file: what it is, how many places hold it, and its mark. They come and go together,
+/// and stand in one table; a contract sees them as three maps.
 #[derive(Drop)]
 pub struct Rows {
     rows: Keyed<Row>,
@@ -23,23 +26,24 @@ pub struct Rows {
 impl Model for Rows {
     ghost use Rattle.std.specs.FinMap as map;
     ghost use Rattle.std.specs.Coded.{codes};
-    ghost use Rattle.af_desc.specs.Rowed.{Rowed, counts_of, files_of};
+    ghost use Rattle.af_desc.specs.Rowed.{Rowed, counts_of, files_of, marks_of};
 
     ghost Value = { Rowed };
 
     ghost coded = { Prim.hlevel (codes, map.code) };
 
-    ghost view = { λ a. record { files = files_of a.rows.values; counts = counts_of a.rows.values; last = a.rows.last; room = a.rows.room } };
+    ghost view = { λ a. record { files = files_of a.rows.values; counts = counts_of a.rows.values; marks = marks_of a.rows.values; last = a.rows.last; room = a.rows.room } };
 }
 
 impl Rows {
-    ghost use Rattle.af_desc.specs.Lending.{lends_count_at, lends_desc_at};
+    ghost use Rattle.af_desc.specs.Lending.{lends_desc_at};
 
     /// No row. It takes no memory.
     #[tactic(auto, using(af_order::proofs::Parts::parts))]
     pub fn new(alloc: Global) -> Rows
         ensures files { result.files ≡ map.empty }
         ensures counts { result.counts ≡ map.empty }
+        ensures marks { result.marks ≡ map.empty }
         ensures last { result.last ≡ 0 }
     {
         Rows {
@@ -53,6 +57,7 @@ impl Rows {
     pub fn len(&self) -> usize
         ensures files { result ≡ map.len self.now.files }
         ensures counts { result ≡ map.len self.now.counts }
+        ensures marks { result ≡ map.len self.now.marks }
     {
         self.rows.len()
     }
@@ -69,22 +74,24 @@ impl Rows {
         self.rows.reserve(rows)
     }
 
-    /// A file more, under a number above all others that there were, which no place holds yet. There
-    /// is room for it.
+    /// A file more, under a number above all others that there were, which no place holds yet, and
+    /// which is not marked. There is room for it.
     #[inline(always)]
     #[tactic(auto, using(af_order::proofs::Parts::parts))]
     pub fn push(&mut self, ino: Ino, desc: Desc) -> FileRef
         requires room { 0 < self.old.room }
         requires above { self.old.last < ino }
         ensures file { result ≡ ino }
-        ensures pushed { self.new ≡ record self.old { files = map.insert self.old.files ino desc; counts = map.insert self.old.counts ino uncounted; last = ino; room = self.new.room } }
+        ensures pushed { self.new ≡ record self.old { files = map.insert self.old.files ino desc; counts = map.insert self.old.counts ino uncounted; marks = map.insert self.old.marks ino unmarked; last = ino; room = self.new.room } }
         ensures new { map.contains_key self.old.files ino ≡ false }
         ensures uncounted { map.contains_key self.old.counts ino ≡ false }
+        ensures unmarked { map.contains_key self.old.marks ino ≡ false }
         ensures room { self.old.room ≤ self.new.room + 1 }
     {
         let row = Row {
             desc,
             count: Count::none(),
+            mark: Mark::none(),
         };
         self.rows.push(ino, row)
     }
@@ -94,7 +101,7 @@ impl Rows {
     #[tactic(auto, using(af_order::proofs::Parts::parts))]
     pub fn remove(&mut self, file: &FileRef) -> Option<Desc>
         ensures value { result ≡ map.get self.old.files file.now }
-        ensures removed { self.new ≡ record self.old { files = map.remove self.old.files file.now; counts = map.remove self.old.counts file.now; room = self.new.room } }
+        ensures removed { self.new ≡ record self.old { files = map.remove self.old.files file.now; counts = map.remove self.old.counts file.now; marks = map.remove self.old.marks file.now; room = self.new.room } }
         ensures room { self.old.room ≤ self.new.room }
     {
         let row = self.rows.remove(file)?;
@@ -132,15 +139,65 @@ impl Rows {
         Some(row.desc_mut())
     }
 
-    /// How many places hold a file, to write to; nothing of a stranger.
+    /// One place more of a file, which is there. Whether it had none. It takes no memory.
+    #[inline(always)]
+    #[tactic(auto, using(af_order::proofs::Parts::parts, af_order::proofs::Values::lent, af_ledger::proofs::Waiting::counted))]
+    pub fn add_place(&mut self, place: &Place, file: &FileRef) -> bool
+        requires known { IsTrue (map.contains_key self.old.counts file.now) }
+        requires countable { IsCountable place.now (count_in_map self.old.counts file.now) }
+        ensures counts { self.new ≡ record self.old { counts = map.insert self.old.counts file.now (more place.now (count_in_map self.old.counts file.now)) } }
+        ensures len { map.len self.new.counts ≡ map.len self.old.counts }
+        ensures first { result ≡ nat_eq (places_in (count_in_map self.old.counts file.now)) 0 }
+    {
+        let row = self.rows.get_mut(file).unwrap();
+        let first = row.count.is_none();
+        row.count.add(place);
+        first
+    }
+
+    /// One place less of a file, which has one. Whether it was the last. It takes no memory.
+    #[inline(always)]
+    #[tactic(auto, using(af_order::proofs::Parts::parts, af_order::proofs::Values::lent, af_ledger::proofs::Waiting::counted))]
+    pub fn sub_place(&mut self, place: &Place, file: &FileRef) -> bool
+        requires { IsCounted place.now (count_in_map self.old.counts file.now) }
+        ensures counts { self.new ≡ record self.old { counts = map.insert self.old.counts file.now (fewer place.now (count_in_map self.old.counts file.now)) } }
+        ensures len { map.len self.new.counts ≡ map.len self.old.counts }
+        ensures last { result ≡ nat_eq (places_in (count_in_map self.old.counts file.now)) 1 }
+    {
+        let row = self.rows.get_mut(file).unwrap();
+        row.count.sub(place);
+        row.count.is_none()
+    }
+
+    /// The mark of a file; nothing of a stranger.
     #[inline(always)]
     #[tactic(auto, using(af_order::proofs::Parts::parts))]
-    pub fn count_mut(&mut self, file: &FileRef) -> Option<&mut Count>
-        ensures* writes_back { sem 𝓛 (lends_count_at self.entry file.now result) }
-        ensures value { option_copied_mut result ≡ map.get self.old.counts file.now }
+    pub fn mark(&self, file: &FileRef) -> Option<Mark>
+        ensures { result ≡ map.get self.now.marks file.now }
     {
-        let row = self.rows.get_mut(file)?;
-        Some(row.count_mut())
+        let row = self.rows.get(file)?;
+        Some(row.mark)
+    }
+
+    /// A file, which is there, gets this mark. It takes no memory.
+    #[inline(always)]
+    #[tactic(auto, using(af_order::proofs::Parts::parts, af_order::proofs::Values::lent))]
+    pub fn set_mark(&mut self, file: &FileRef, mark: Mark)
+        requires { IsTrue (map.contains_key self.old.marks file.now) }
+        ensures set { self.new ≡ record self.old { marks = map.insert self.old.marks file.now mark } }
+        ensures len { map.len self.new.marks ≡ map.len self.old.marks }
+    {
+        let row = self.rows.get_mut(file).unwrap();
+        row.mark = mark;
+    }
+
+    /// Nothing at run time: it says that what is kept of a file comes and goes together.
+    #[tactic(auto, using(af_order::proofs::Parts::parts))]
+    pub fn are_one(&self)
+        ensures { (f : ℕ) → map.contains_key self.now.marks f ≡ map.contains_key self.now.files f }
+    {
+        // The view says it: it is enough to look at a field.
+        let _rows = &self.rows;
     }
 
     /// Where the row of a number stands; nothing of a stranger. A search: who has a `FileRef` needs

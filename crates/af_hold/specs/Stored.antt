@@ -4,13 +4,15 @@ use Rattle.std.specs.Map.{keys_of}
 use Rattle.af_base.specs.World.{World, Map, Process}
 use Rattle.af_desc.specs.Filed.{Filed}
 use Rattle.af_ledger.specs.Kept.{Charged}
+use Rattle.af_mark.specs.Marked.{Marked}
 use Rattle.af_base.specs.Changes.{change_at, installed}
 use Rattle.af_table.specs.Procs.{Procs, row_in}
 
--- The world, and below which number each table has room (this project's profile).
+-- The world, below which number each table has room, and what a pass has marked (this project's profile).
 pub record Stored : Type 0 where
   pub world : World
   pub rows : Map ℕ
+  pub marks : Marked
 
 -- Below which number process p has room: below none, where there is no such process (this project's profile).
 abbrev pub row_at : Stored → ℕ → ℕ

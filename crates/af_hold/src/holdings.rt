@@ -6,6 +6,7 @@ ghost use Rattle.af_base.specs.Changes.{add_file, add_process, remove_process, s
 ghost use Rattle.af_base.specs.Places.{table_at};
 ghost use Rattle.af_base.specs.Refusals.{is_full, is_crowded, process_at};
 ghost use Rattle.af_base.specs.Steps.{spawned, with_pair};
+ghost use Rattle.af_mark.specs.Marked.{born};
 ghost use Rattle.af_hold.specs.Stored.{row_at};
 
 use crate::numbers::{drop_numbers, hold_numbers};
@@ -51,7 +52,7 @@ impl Model for Holdings {
 
     ghost coded = { Prim.hlevel (codes, map.code) };
 
-    ghost view = { λ a. record { world = world_of a.procs a.files a.ledger; rows = a.procs.rows } };
+    ghost view = { λ a. record { world = world_of a.procs a.files a.ledger; rows = a.procs.rows; marks = a.files.marks } };
 
     ghost invariant = { λ a. IsExact (world_of a.procs a.files a.ledger) (kept_of a.files.counts a.ledger) };
 }
@@ -59,7 +60,8 @@ impl Model for Holdings {
 impl Holdings {
     /// Nothing at all. It takes no memory.
     pub fn new(alloc: Global) -> Holdings
-        ensures { result.world ≡ empty_world }
+        ensures world { result.world ≡ empty_world }
+        ensures marks { result.marks.colors ≡ map.empty }
     {
         Holdings {
             alloc,
@@ -74,6 +76,7 @@ impl Holdings {
         requires limit { limit ≤ MAX_NOFILE }
         requires room { is_crowded self.old.world ≡ false }
         ensures ok { OnOk result (self.new.world ≡ spawned self.old.world uid limit privileged) }
+        ensures marks { self.new.marks ≡ self.old.marks }
         ensures pid { IfOk result (λ pid. pid ≡ self.old.world.next_pid) }
         ensures err { OnErr result (self.new ≡ self.old) }
     {
@@ -95,6 +98,7 @@ impl Holdings {
     /// or none is to come, it needs no memory.
     pub fn room_for(&mut self, pid: Pid, count: usize) -> Result<(), AllocError>
         ensures world { self.new.world ≡ self.old.world }
+        ensures marks { self.new.marks ≡ self.old.marks }
         ensures row { OnOk result (0 < count → (process_at self.old.world pid).limit ≤ row_at self.new pid) }
         ensures none { count ≡ 0 → IsOk result }
         ensures ready { (process_at self.old.world pid).limit ≤ row_at self.old pid → IsOk result }
@@ -106,7 +110,7 @@ impl Holdings {
     /// an error nothing has changed.
     pub fn make_plain(&mut self) -> Result<FileRef, AllocError>
         requires { is_full self.old.world 1 ≡ false }
-        ensures ok { OnOk result (self.new ≡ record self.old { world = add_file self.old.world Plain }) }
+        ensures ok { OnOk result (self.new ≡ record self.old { world = add_file self.old.world Plain; marks = born self.old.world.next_ino self.old.marks }) }
         ensures ino { IfOk result (λ ino. ino ≡ self.old.world.next_ino) }
         ensures err { OnErr result (self.new ≡ self.old) }
     {
@@ -117,7 +121,7 @@ impl Holdings {
     /// error, none, and nothing has changed.
     pub fn make_two(&mut self, kind: SockType) -> Result<(FileRef, FileRef), AllocError>
         requires { is_full self.old.world 2 ≡ false }
-        ensures ok { OnOk result (self.new ≡ record self.old { world = with_pair self.old.world kind }) }
+        ensures ok { OnOk result (self.new ≡ record self.old { world = with_pair self.old.world kind; marks = born (self.old.world.next_ino + 1) (born self.old.world.next_ino self.old.marks) }) }
         ensures inos { IfOk result (λ both. (both.0 ≡ self.old.world.next_ino) × (both.1 ≡ self.old.world.next_ino + 1)) }
         ensures err { OnErr result (self.new ≡ self.old) }
     {
@@ -130,6 +134,7 @@ impl Holdings {
         requires there { IsTrue (map.contains_key self.old.world.processes pid) }
         requires room { is_crowded self.old.world ≡ false }
         ensures ok { OnOk result (self.new.world ≡ add_process self.old.world (process_at self.old.world pid)) }
+        ensures marks { self.new.marks ≡ self.old.marks }
         ensures pid { IfOk result (λ child. child ≡ self.old.world.next_pid) }
         ensures err { OnErr result (self.new ≡ self.old) }
     {
@@ -140,7 +145,8 @@ impl Holdings {
 
     /// A process goes, and all its numbers are free. It takes no memory.
     pub fn remove_process(&mut self, pid: Pid)
-        ensures { self.new.world ≡ remove_process self.old.world pid }
+        ensures world { self.new.world ≡ remove_process self.old.world pid }
+        ensures marks { self.new.marks ≡ self.old.marks }
     {
         let Some(process) = self.procs.remove(pid) else {
             return;

@@ -9,6 +9,7 @@
 mod held;
 mod holdings;
 mod listings;
+mod marks;
 mod numbers;
 mod places;
 mod release;

@@ -7,6 +7,7 @@ ghost use Rattle.af_base.specs.Places.{held_by, queue_at};
 ghost use Rattle.af_base.specs.Pass.{emptied};
 ghost use Rattle.af_base.specs.Unheld.{without};
 ghost use Rattle.af_base.specs.Whole.{AreMutual, IsSound};
+ghost use Rattle.af_mark.specs.Marked.{forgotten};
 
 use crate::holdings::Holdings;
 use af_base::names::FileRef;
@@ -35,7 +36,7 @@ impl Holdings {
         requires unheld { refs self.old.world file.now ≡ 0 }
         requires bare { held_by self.old.world file.now ≡ [] }
         requires silent { queue_at self.old.world file.now ≡ [] }
-        ensures { self.new ≡ record self.old { world = without (nat_eq file.now) self.old.world } }
+        ensures { self.new ≡ record self.old { world = without (nat_eq file.now) self.old.world; marks = forgotten file.now self.old.marks } }
     {
         remove(&mut self.files, file);
     }
@@ -46,6 +47,7 @@ fn remove(files: &mut Files, file: &FileRef)
     ensures gone { (w : World) → w.files ≡ files.old.files → AreMutual w → record w { files = files.new.files } ≡ without (nat_eq file.now) w }
     ensures next { files.new.next ≡ files.old.next }
     ensures counts { files.new.counts ≡ map.remove files.old.counts file.now }
+    ensures marks { files.new.marks ≡ forgotten file.now files.old.marks }
 {
     let Some(desc) = files.remove(file) else {
         return;

@@ -9,6 +9,7 @@ ghost use Rattle.af_base.specs.Changes.{add_file, bound, connected, dequeued, in
 ghost use Rattle.af_base.specs.Counts.{waiting};
 ghost use Rattle.af_base.specs.Refusals.{is_full, room_of, socket_at};
 ghost use Rattle.af_base.specs.Steps.{connected_socket, idle_socket};
+ghost use Rattle.af_mark.specs.Marked.{born};
 ghost use Rattle.af_hold.specs.Limits.{IsBelowLimit};
 ghost use Rattle.af_hold.specs.Stored.{row_at};
 
@@ -25,7 +26,7 @@ impl Holdings {
     /// error nothing has changed.
     pub fn make_sock(&mut self, kind: SockType) -> Result<FileRef, AllocError>
         requires { is_full self.old.world 1 ≡ false }
-        ensures ok { OnOk result (self.new ≡ record self.old { world = add_file self.old.world (world.AsSocket (idle_socket kind)) }) }
+        ensures ok { OnOk result (self.new ≡ record self.old { world = add_file self.old.world (world.AsSocket (idle_socket kind)); marks = born self.old.world.next_ino self.old.marks }) }
         ensures ino { IfOk result (λ ino. ino ≡ self.old.world.next_ino) }
         ensures err { OnErr result (self.new ≡ self.old) }
     {
@@ -38,7 +39,7 @@ impl Holdings {
         requires room { is_full self.old.world 1 ≡ false }
         requires socket { is_none (socket_at self.old.world client.now) ≡ false }
         requires idle { IfSome (socket_at self.old.world client.now) (λ s. s.state ≡ State.Idle) }
-        ensures ok { OnOk result (self.new ≡ record self.old { world = with_socket (add_file self.old.world (world.AsSocket (connected_socket kind client.now))) client.now (connected self.old.world.next_ino) }) }
+        ensures ok { OnOk result (self.new ≡ record self.old { world = with_socket (add_file self.old.world (world.AsSocket (connected_socket kind client.now))) client.now (connected self.old.world.next_ino); marks = born self.old.world.next_ino self.old.marks }) }
         ensures ino { IfOk result (λ ino. ino ≡ self.old.world.next_ino) }
         ensures err { OnErr result (self.new ≡ self.old) }
     {

@@ -24,6 +24,7 @@ impl Holdings {
     pub fn files(&self) -> &Files
         ensures files { result.now.files ≡ self.now.world.files }
         ensures next { result.now.next ≡ self.now.world.next_ino }
+        ensures marks { result.now.marks ≡ self.now.marks }
     {
         &self.files
     }

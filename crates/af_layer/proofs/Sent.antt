@@ -3,7 +3,6 @@ use denote.Param.Send.{IsSend, IsSync, sendable}
 use denote.Param.SendFields.{declared_send}
 use Rattle.std.proofs.Crossing.{crosses}
 use Rattle.af_hold.proofs.holdings.Holdings.TheSendSync as holdings
-use Rattle.af_mark.proofs.marks.Marks.TheSendSync as marks
 use Rattle.af_pass.proofs.Progress.TheSendSync as progress
 use Rattle.af_collect.specs.contracts.parts.Parts as Parts
 use Rattle.af_collect.specs.contracts.store.Store as Store
@@ -16,7 +15,7 @@ use Rattle.af_layer.specs.contracts.book.Book.TheInside as BookInside
 use Rattle.af_layer.specs.contracts.layer.Layer as Layer
 
 parts_send : IsSend Parts.the_row
-parts_send = search (sendable, crosses, holdings.the_send, marks.the_send, progress.the_field_send) depth 40
+parts_send = search (sendable, crosses, holdings.the_send, progress.the_field_send) depth 40
 
 store_inside : IsSend StoreInside.the_row
 store_inside = declared_send StoreInside.the_type (parts_send, tt)

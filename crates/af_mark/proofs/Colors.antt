@@ -1,6 +1,6 @@
 -- The colours behind marks, as marks come, change and go.
-use Rattle.std.proofs.Common.{◌≡◌, ◌≤◌, ℕ, ◌+◌, Bool, true, false, List, [], ◌∷◌, refl, sym, ap, ◌∙◌, subst, cond, map, nat_eq, arith}
-use Rattle.std.specs.Prelude.{Option, Some, None, is_some, option_map}
+use Rattle.std.proofs.Common.{◌≡◌, ◌≤◌, ℕ, ◌+◌, Bool, true, false, refl, sym, ap, ◌∙◌, subst, cond, nat_eq, arith}
+use Rattle.std.specs.Prelude.{Option, Some, None, option_map}
 use Rattle.std.specs.Ordering.{eq_by_cmp, nat_cmp}
 use Rattle.std.specs.Cmp.{nat_cmp_total, unsigned_tied}
 use Rattle.std.specs.FinMap as finmap
@@ -10,61 +10,29 @@ use Rattle.af_base.specs.Changes.{change_at}
 use Rattle.af_base.specs.World.{Map}
 use Rattle.af_base.proofs.Lookups.{none_some, some_same, told_apart}
 use Rattle.af_base.proofs.Stepping.{get-change_at}
+use Rattle.af_order.proofs.Parts.{part_get, part_known, part_put, part_taken}
 use Rattle.af_mark.specs.Grey.{AreUpTo, color_in, colors_in, placed}
 use Rattle.af_mark.specs.Marked.{Marked}
 use Rattle.af_mark.specs.declared.color.Color.{Color}
 use Rattle.af_mark.specs.declared.color.Color.TheVariants.{White}
-use Rattle.af_mark.specs.declared.grey.Mark.{Mark}
+use Rattle.af_mark.specs.declared.mark.Mark.{Mark}
 
 module _ (e : ℕ) where
-  -- The entry of a colour.
-  abbrev entry : ℕ × Mark → ℕ × Color
-  entry x = (x.0, color_in e x.1)
-
-  -- The colour that is found is that of the mark that is found.
-  found : (es : List (ℕ × Mark)) (q : ℕ) → finmap.find nat_cmp q (map entry es) ≡ option_map (color_in e) (finmap.find nat_cmp q es)
-  found [] q = refl
-  found (x ∷ es) q = ap (cond (eq_by_cmp nat_cmp q x.0) (Some (color_in e x.1))) (found es q) ∙ by (eq_by_cmp nat_cmp q x.0) where
-    by : (b : Bool) → cond b (Some (color_in e x.1)) (option_map (color_in e) (finmap.find nat_cmp q es)) ≡ option_map (color_in e) (cond b (Some x.1) (finmap.find nat_cmp q es))
-    by true = refl
-    by false = refl
-
   -- The colour of a file is that of its mark.
   pub color_get : (m : Map Mark) (q : ℕ) → finmap.get (colors_in e m) q ≡ option_map (color_in e) (finmap.get m q)
-  color_get m q = finmap.get-from_entries nat_cmp_total (map entry (finmap.entries m)) q ∙ found (finmap.entries m) q ∙ ap (option_map (color_in e)) (sym (finmap.get-entries m q))
+  color_get m q = part_get (color_in e) m q
 
   -- Who has a mark has a colour.
   pub color_known : (m : Map Mark) (q : ℕ) → finmap.contains_key (colors_in e m) q ≡ finmap.contains_key m q
-  color_known m q = ap is_some (color_get m q) ∙ by (finmap.get m q) where
-    by : (o : Option Mark) → is_some (option_map (color_in e) o) ≡ is_some o
-    by None = refl
-    by (Some x) = refl
-
-  -- A mark that is put in is a colour that is put in.
-  pub color_put : (m : Map Mark) (f : ℕ) (x : Mark) → colors_in e (finmap.insert m f x) ≡ finmap.insert (colors_in e m) f (color_in e x)
-  color_put m f x = same_map nat_cmp_total nat_cmp-IsAntisymmetric _ _ (λ q.
-      color_get (finmap.insert m f x) q ∙ ap (option_map (color_in e)) (get-insert nat_cmp_total m f x q) ∙ by q (eq_by_cmp nat_cmp q f)
-      ∙ sym (get-insert nat_cmp_total (colors_in e m) f (color_in e x) q ∙ ap (cond (eq_by_cmp nat_cmp q f) (Some (color_in e x))) (color_get m q))) where
-        by : (q : ℕ) (b : Bool) → option_map (color_in e) (cond b (Some x) (finmap.get m q)) ≡ cond b (Some (color_in e x)) (option_map (color_in e) (finmap.get m q))
-        by q true = refl
-        by q false = refl
+  color_known m q = part_known (color_in e) m q
 
   -- The colours after a mark was put in.
   pub color_after : (m n : Map Mark) (f : ℕ) (x : Mark) (c : Color) → n ≡ finmap.insert m f x → color_in e x ≡ c → colors_in e n ≡ finmap.insert (colors_in e m) f c
-  color_after m n f x c is shows = ap (colors_in e) is ∙ color_put m f x ∙ ap (finmap.insert (colors_in e m) f) shows
+  color_after m n f x c is shows = ap (colors_in e) is ∙ part_put (color_in e) m f x ∙ ap (finmap.insert (colors_in e m) f) shows
 
-  -- A mark that is taken out is a colour that is taken out.
-  pub color_taken : (m : Map Mark) (f : ℕ) → colors_in e (finmap.remove m f) ≡ finmap.remove (colors_in e m) f
-  color_taken m f = same_map nat_cmp_total nat_cmp-IsAntisymmetric _ _ (λ q.
-      color_get (finmap.remove m f) q ∙ ap (option_map (color_in e)) (get-remove nat_cmp_total m f q) ∙ by q (eq_by_cmp nat_cmp q f)
-      ∙ sym (get-remove nat_cmp_total (colors_in e m) f q ∙ ap (cond (eq_by_cmp nat_cmp q f) None) (color_get m q))) where
-        by : (q : ℕ) (b : Bool) → option_map (color_in e) (cond b None (finmap.get m q)) ≡ cond b None (option_map (color_in e) (finmap.get m q))
-        by q true = refl
-        by q false = refl
-
-  -- No mark, no colour.
-  pub no_colors : (m : Map Mark) → m ≡ finmap.empty → colors_in e m ≡ finmap.empty
-  no_colors m none = same_map nat_cmp_total nat_cmp-IsAntisymmetric _ _ (λ q. color_get m q ∙ ap (option_map (color_in e)) (ap (λ m. finmap.get m q) none ∙ get-empty nat_cmp q) ∙ sym (get-empty nat_cmp q))
+  -- The colours after a mark was taken out.
+  pub color_without : (m n : Map Mark) (f : ℕ) → n ≡ finmap.remove m f → colors_in e n ≡ finmap.remove (colors_in e m) f
+  color_without m n f is = ap (colors_in e) is ∙ part_taken (color_in e) m f
 
   -- Beside a mark its place is noted: no colour changes.
   pub color_noted : (m : Map Mark) (f at : ℕ) → colors_in e (change_at (placed at) m f) ≡ colors_in e m
@@ -119,20 +87,6 @@ unmarked_next e m f h = color_get (e + 1) m f ∙ by (finmap.get m f) refl where
   by None is = refl
   by (Some x) is = let low = h f x is in ap (λ b. Some (cond b x.color White)) (told_apart x.epoch (e + 1) (λ same. omega (arith, low, same)))
 
--- Where all have a mark of no pass, none is of a pass.
-pub upto_filled : (m n : Map Mark) (x : Mark) → x.epoch ≡ 0 → ((f : ℕ) → finmap.get n f ≡ option_map (λ y. x) (finmap.get m f)) → AreUpTo 0 n
-upto_filled m n x none each f y at = by (finmap.get m f) (sym (each f) ∙ at) where
-  by : (o : Option Mark) → option_map (λ y. x) o ≡ Some y → y.epoch ≤ 0
-  by None is = absurd (none_some y is)
-  by (Some z) is = subst (λ w. w.epoch ≤ 0) (some_same x y is) (omega (arith, none))
-
--- Who has a mark has one then.
-pub known_filled : (m n : Map Mark) (x : Mark) → ((f : ℕ) → finmap.get n f ≡ option_map (λ y. x) (finmap.get m f)) → (f : ℕ) → finmap.contains_key n f ≡ finmap.contains_key m f
-known_filled m n x each f = ap is_some (each f) ∙ by (finmap.get m f) where
-  by : (o : Option Mark) → is_some (option_map (λ y. x) o) ≡ is_some o
-  by None = refl
-  by (Some z) = refl
-
 -- Two that agree in all are one.
-pub same_marked : (a b : Marked) → a.colors ≡ b.colors → a.bound ≡ b.bound → a.last ≡ b.last → a.room ≡ b.room → a ≡ b
-same_marked a b colors bound last room = λ i. record { colors = colors i; bound = bound i; last = last i; room = room i }
+pub same_marked : (a b : Marked) → a.colors ≡ b.colors → a.bound ≡ b.bound → a ≡ b
+same_marked a b colors bound = λ i. record { colors = colors i; bound = bound i }

@@ -1,11 +1,10 @@
 -- The list of the grey files, as they come and go.
-use Rattle.std.proofs.Common.{◌≡◌, ◌≤◌, ◌<◌, ℕ, ◌+◌, ◌-◌, Bool, true, false, ◌||◌, List, [], ◌∷◌, ◌++◌, length, suc, zero, refl, sym, ap, ◌∙◌, subst, cond, nat_eq, arith, length-append}
-use Rattle.std.specs.Prelude.{Option, Some, None, IsSome, IsTrue, is_some, option_map, ◌&&◌, not, count_by, slice_get, slice_index_or}
+use Rattle.std.proofs.Common.{◌≡◌, ◌≤◌, ◌<◌, ℕ, ◌+◌, ◌-◌, Bool, true, false, ◌||◌, List, [], ◌∷◌, ◌++◌, length, suc, refl, sym, ap, ◌∙◌, subst, cond, nat_eq, arith, length-append}
+use Rattle.std.specs.Prelude.{Option, Some, None, IsSome, IsTrue, is_some, ◌&&◌, not, slice_get, slice_index_or}
 use Rattle.std.specs.Cmp.{nat_cmp_total, nat_eq_equiv, unsigned_tied}
 use Rattle.std.specs.FinMap as map
 use Rattle.std.specs.FinMap.{get-insert, get-remove}
 use Rattle.std.specs.List.{AllByRecursion, IsDistinct, list_any, swap_remove}
-use Rattle.std.specs.Map.{lookup}
 use Rattle.std.specs.Ordering.{nat_cmp}
 use Rattle.std.specs.Option.{option_map_or}
 use Rattle.std.proofs.lemmas.Bool.{eqb-true, false≢true}
@@ -17,12 +16,10 @@ use Rattle.af_base.specs.World.{Map}
 use Rattle.af_base.proofs.Hashed.{find_is}
 use Rattle.af_base.proofs.Held.{count-cons}
 use Rattle.af_base.proofs.Lookups.{itself}
-use Rattle.af_mark.specs.Grey.{AreGrey, color_in, colors_in}
+use Rattle.af_mark.specs.Grey.{AreGrey}
 use Rattle.af_mark.specs.Marked.{is_grey_color, is_mark}
 use Rattle.af_mark.specs.declared.color.Color.{Color}
 use Rattle.af_mark.specs.declared.color.Color.TheVariants.{Black, Grey, White}
-use Rattle.af_mark.specs.declared.grey.Mark.{Mark}
-use Rattle.af_mark.proofs.Colors.{color_get}
 
 -- ---- counts in lists
 
@@ -191,14 +188,6 @@ white_here cs k = by (map.get cs k) where
   by (Some White) e = refl
   by (Some Grey) e = absurd (false≢true e)
   by (Some Black) e = absurd (false≢true e)
-
--- How grey a file is by its mark.
-pub grey_mark : (e : ℕ) (m : Map Mark) (f : ℕ) (x : Mark) → map.get m f ≡ Some x → grey_of (colors_in e m) f ≡ cond (is_grey_color (color_in e x)) 1 0
-grey_mark e m f x is = grey_here (colors_in e m) f (color_in e x) (color_get e m f ∙ ap (option_map (color_in e)) is)
-
--- And without one.
-pub grey_markless : (e : ℕ) (m : Map Mark) (f : ℕ) → map.get m f ≡ None → grey_of (colors_in e m) f ≡ 0
-grey_markless e m f none = ap {B = ℕ} (λ o. cond (option_map_or is_grey_color o false) 1 0) (color_get e m f ∙ ap (option_map (color_in e)) none)
 
 -- What is grey counts once.
 pub grey_once : (cs : Map Color) (k : ℕ) → option_map_or is_grey_color (map.get cs k) false ≡ true → grey_of cs k ≡ 1

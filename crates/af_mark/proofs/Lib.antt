@@ -1,4 +1,4 @@
 -- Lemmas.
 pub mod Colors
 pub mod Greys
-pub mod Slotted
+pub mod Listed

@@ -1,14 +1,18 @@
 -- The colours behind the marks, and the list of the grey files beside them.
-use Rattle.std.specs.Prelude.{◌≡◌, ◌≤◌, ◌-◌, ℕ, List, min, nat_eq, Some, cond, if◌then◌else◌, false}
+use Rattle.std.specs.Prelude.{◌≡◌, ◌≤◌, ℕ, List, nat_eq, Some, if◌then◌else◌, false}
 use Rattle.std.specs.FinMap as map
 use Rattle.std.specs.Option.{option_map_or}
 use Rattle.af_base.specs.Counts.{count_in}
-use Rattle.af_base.specs.Listing.{keyed}
 use Rattle.af_base.specs.World.{Map}
+use Rattle.af_order.specs.Parts.{part}
 use Rattle.af_mark.specs.Marked.{is_grey_color}
 use Rattle.af_mark.specs.declared.color.Color.{Color}
 use Rattle.af_mark.specs.declared.color.Color.TheVariants.{White}
-use Rattle.af_mark.specs.declared.grey.Mark.{Mark}
+use Rattle.af_mark.specs.declared.mark.Mark.{Mark}
+
+-- A mark of no pass (this project's own).
+abbrev pub unmarked : Mark
+unmarked = record { epoch = 0; color = White; at = 0 }
 
 -- The colour of a mark in this pass: one of an earlier pass is none (this project's own).
 abbrev pub color_in : ℕ → Mark → Color
@@ -16,7 +20,7 @@ color_in epoch x = if nat_eq x.epoch epoch then x.color else White
 
 -- The colours in this pass (this project's own).
 abbrev pub colors_in : ℕ → Map Mark → Map Color
-colors_in epoch m = keyed (λ x. x.0) (λ x. color_in epoch x.1) (map.entries m)
+colors_in epoch m = part (color_in epoch) m
 
 -- A mark with another place in the list beside it (this project's own).
 abbrev pub placed : ℕ → Mark → Mark
@@ -30,6 +34,6 @@ AreUpTo epoch m = (f : ℕ) (x : Mark) → map.get m f ≡ Some x → x.epoch �
 abbrev pub AreGrey : Map Color → List ℕ → Type 0
 AreGrey colors fs = (f : ℕ) → count_in f fs ≡ (if option_map_or is_grey_color (map.get colors f) false then 1 else 0)
 
--- For how many further files there is room: among the marks, and in the list beside so many as there are (this project's own).
-abbrev pub room_left : ℕ → ℕ → ℕ → ℕ
-room_left marks files capacity = min marks (capacity - files)
+-- The marks are of this pass or earlier ones, and the list has just the grey files, and room for as many as have a mark (this project's own).
+abbrev pub AreListed : Map Mark → ℕ → List ℕ → ℕ → Type 0
+AreListed marks epoch grey room = AreUpTo epoch marks × AreGrey (colors_in epoch marks) grey × (map.len marks ≤ room)

@@ -1,4 +1,3 @@
 -- What is known of each file's mark.
 pub mod Grey
 pub mod Marked
-pub mod Slotted

@@ -1,17 +1,15 @@
 -- What is known of each file's mark.
-use Rattle.std.specs.Prelude.{ℕ, ◌&&◌, Bool, true, false, not, nat_lt, unwrap_or, if◌then◌else◌}
+use Rattle.std.specs.Prelude.{ℕ, ◌&&◌, Bool, true, false, not, nat_lt, if◌then◌else◌}
 use Rattle.std.specs.FinMap as map
 use Rattle.std.specs.Option.{option_map_or}
 use Rattle.af_base.specs.World.{Map}
 use Rattle.af_mark.specs.declared.color.Color.{Color}
 use Rattle.af_mark.specs.declared.color.Color.TheVariants.{Black, Grey, White}
 
--- The colour of each file that was born and not forgotten since, the bound of the pass, the last number that was born, and for how many further files there is room (this project's own).
+-- The colour of each file that was born and not forgotten since, and the bound of the pass (this project's own).
 pub record Marked : Type 0 where
   pub colors : Map Color
   pub bound : ℕ
-  pub last : ℕ
-  pub room : ℕ
 
 -- Whether it is marked (this project's own).
 abbrev pub is_mark : Color → Bool
@@ -40,6 +38,14 @@ is_grey m f = option_map_or is_grey_color (map.get m.colors f) false
 -- Whether f is known and not marked (this project's own).
 abbrev pub is_white : Marked → ℕ → Bool
 is_white m f = knows m f && not (is_marked m f)
+
+-- f was born: it is known, and not marked (this project's own).
+abbrev pub born : ℕ → Marked → Marked
+born f m = record m { colors = map.insert m.colors f White }
+
+-- f is known no more (this project's own).
+abbrev pub forgotten : ℕ → Marked → Marked
+forgotten f m = record m { colors = map.remove m.colors f }
 
 -- f is grey where it was born before the pass and not marked (this project's own).
 abbrev pub shaded : ℕ → Marked → Marked

@@ -1,10 +1,11 @@
-//! Which files a pass of the collector has marked, and which of these it has still to scan.
+//! What a pass of the collector keeps of each file: its mark; and the list of the files that are
+//! marked and still to be scanned.
 #![tactic(auto)]
 
 mod color;
 mod grey;
-mod marks;
-mod slots;
+mod mark;
 
 pub use color::Color;
-pub use marks::Marks;
+pub use grey::{noted, unlist};
+pub use mark::Mark;

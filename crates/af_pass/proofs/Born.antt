@@ -1,5 +1,5 @@
 -- Files that are made, as changes of places.
-use Rattle.std.proofs.Common.{◌≡◌, ◌<◌, ℕ, ◌+◌, Bool, false, ◌⊎◌, inl, inr, [], refl, sym, ap, ◌∙◌, subst, arith}
+use Rattle.std.proofs.Common.{◌≡◌, ◌<◌, ℕ, ◌+◌, Bool, false, ◌⊎◌, inl, inr, [], sym, ap, ◌∙◌, subst, arith}
 use Rattle.std.specs.Prelude.{is_some}
 use Rattle.std.specs.Option.{option_map_or}
 use Rattle.std.specs.List.{Contains}
@@ -7,15 +7,13 @@ use Rattle.std.specs.FinMap as map
 use Rattle.af_base.specs.declared.events.SockType.{SockType}
 use Rattle.af_base.specs.World.{AsSocket, File, IsLive, World}
 use Rattle.af_base.specs.Places.{Holds, contents}
-use Rattle.af_base.specs.Reached.{Garbage, is_socket}
-use Rattle.af_base.specs.Changes.{add_file, connected, with_socket}
-use Rattle.af_base.specs.Steps.{connected_socket, with_pair}
+use Rattle.af_base.specs.Reached.{is_socket}
+use Rattle.af_base.specs.Changes.{add_file}
+use Rattle.af_base.specs.Steps.{connected_socket}
 use Rattle.af_base.proofs.Lookups.{insert-here, insert-other, same_or_not}
 use Rattle.af_base.proofs.Moved.{holds-there, there-holds}
 use Rattle.af_base.proofs.Settling.{none_in}
 use Rattle.af_pass.specs.Since.{Covers, Moves}
-use Rattle.af_pass.proofs.Placing.{covers_then, moves_then}
-use Rattle.af_pass.proofs.Sockets.{covers_same, moves_same}
 
 -- All files of the world have numbers below this one.
 abbrev pub AreFilesBelow : World → ℕ → Type 0

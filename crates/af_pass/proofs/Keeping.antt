@@ -2,7 +2,6 @@
 use Rattle.std.proofs.Common.{◌≡◌, ◌<◌, ◌≤◌, ℕ, ◌+◌, Bool, true, false, not, ◌&&◌, inl, inr, List, [], ◌∷◌, refl, sym, ap, ◌∙◌, subst, nat_eq, nat_lt, arith, add-zero}
 use Rattle.std.specs.Prelude.{if◌then◌else◌}
 use Rattle.std.specs.List.{Contains}
-use Rattle.std.specs.FinMap as map
 use Rattle.std.proofs.lemmas.Bool.{and_parts, cases_Bool, cases_lt, eqb-true, false≢true, le-ltb, lt-ltb, ltb-false, ltb-true, or_cases}
 use Rattle.af_base.specs.World.{IsLive, World, is_live}
 use Rattle.af_base.specs.Counts.{tabled}
@@ -15,7 +14,7 @@ use Rattle.af_base.proofs.Elements.{Contains-first, Contains-later, Contains-non
 use Rattle.af_base.proofs.Held.{InTable-tabled, tabled-InTable}
 use Rattle.af_base.proofs.Lookups.{not_same}
 use Rattle.af_base.proofs.Purging.{live-emptied}
-use Rattle.af_mark.specs.Marked.{Marked, blackened, is_grey, is_marked, knows, shaded}
+use Rattle.af_mark.specs.Marked.{blackened, forgotten, is_grey, is_marked, knows, Marked, shaded}
 use Rattle.af_pass.specs.declared.Stage.{Stage}
 use Rattle.af_pass.specs.declared.Stage.TheVariants.{Marking, Resting, Sweeping}
 use Rattle.af_pass.specs.declared.Progress.{Progress}
@@ -23,7 +22,7 @@ use Rattle.af_pass.specs.Since.{AreCounted, Covers, IsMarking, IsSince, IsSweepi
 use Rattle.af_pass.specs.Keeping.{AreKnown, IsInMarking, IsInSweeping, IsKept, IsRunning, IsStage, below, counted, is_counted, is_marking, is_running, is_sweeping, shaded_all, shaded_tabled}
 use Rattle.af_pass.proofs.Going.{counted_drop, is_reclaimed, marking_drop, never_garbage, since_drop, sweeping_drop}
 use Rattle.af_pass.proofs.Known.{known_gone, known_marks, known_world}
-use Rattle.af_pass.proofs.Marked.{bound_blackened, bound_shaded, grey_blackened, grey_forgotten, grey_marked, grey_shaded, knows_blackened, knows_shaded, last_blackened, last_shaded, marked_blackened, marked_forgotten, marked_known, marked_shaded, shaded_beyond}
+use Rattle.af_pass.proofs.Marked.{bound_blackened, bound_shaded, grey_blackened, grey_forgotten, grey_marked, grey_shaded, knows_blackened, knows_shaded, marked_blackened, marked_forgotten, marked_known, marked_shaded, shaded_beyond}
 use Rattle.af_pass.proofs.Moving.{counted_moves, marking_moves, since_moves, sweeping_moves}
 use Rattle.af_pass.proofs.Shaded.{all_marked, itself_marked, stays_grey_all}
 use Rattle.af_pass.proofs.Shading.{scan_counted, scan_marking, shade_counted, shade_marking, skip_counted, skip_marking, sweep_counted, visit_counted, visit_marking}
@@ -104,7 +103,7 @@ module _ {w w' begun : World} where
   -- A change of places keeps what is kept.
   pub kept_moves : (m : Marked) (c : Progress) → w.next_ino ≤ w'.next_ino → ((f : ℕ) → is_live w' f ≡ is_live w f)
       → (is_running c.stage ≡ true → Moves begun w w') → (is_marking c.stage ≡ true → Covers begun w w' (is_marked m) (below c.visited)) → IsKept w begun m c → IsKept w' begun m c
-  kept_moves m c next same moves covers k = kept_born m m c (known_world w' w m same next k.known) refl refl refl next (λ f l _. sym (same f) ∙ l) moves covers k
+  kept_moves m c next same moves covers k = kept_born m m c (known_world w' w m same k.known) refl refl refl next (λ f l _. sym (same f) ∙ l) moves covers k
 
 module _ {w begun : World} where
   -- What is kept while marking goes on.
@@ -131,7 +130,7 @@ module _ {w begun : World} where
         let e = marking_only c.stage t in
         let p = in_marking e k in
         let r = p.running in
-        let known = k.known.known x ∙ l in
+        let known = k.known x ∙ l in
         let is = marked_shaded m x known low in
         let waits = grey_shaded m x known low in
         let q : IsInMarking w begun (shaded x m) c = record {
@@ -143,7 +142,7 @@ module _ {w begun : World} where
           none_reclaimed = p.none_reclaimed;
           visited_low = subst (λ b. c.visited ≤ b) (sym (bound_shaded m x)) p.visited_low;
         } in
-        record { known = known_marks w m (shaded x m) (knows_shaded m x) (last_shaded m x) k.known; stage = subst (λ s. IsStage s w begun (shaded x m) c) (sym e) q }
+        record { known = known_marks w m (shaded x m) (knows_shaded m x) k.known; stage = subst (λ s. IsStage s w begun (shaded x m) c) (sym e) q }
   ]
 
   -- Live files that are no garbage of the begin are shaded.
@@ -159,7 +158,7 @@ module _ {w begun : World} where
       let p = in_marking e k in
       let r = p.running in
       let marked = grey_marked m x grey in
-      let live : IsLive w x = sym (k.known.known x) ∙ marked_known m x marked in
+      let live : IsLive w x = sym (k.known x) ∙ marked_known m x marked in
       let is = marked_blackened m x in
       let waits = grey_blackened m x in
       let d : Progress = record c { looked = c.looked + 1 } in
@@ -170,14 +169,14 @@ module _ {w begun : World} where
         none_reclaimed = p.none_reclaimed;
         visited_low = subst (λ b. c.visited ≤ b) (sym (bound_blackened m x)) p.visited_low;
       } in
-      record { known = known_marks w m (blackened x m) (knows_blackened m x) (last_blackened m x) k.known; stage = subst (λ s. IsStage s w begun (blackened x m) d) (sym e) q }
+      record { known = known_marks w m (blackened x m) (knows_blackened m x) k.known; stage = subst (λ s. IsStage s w begun (blackened x m) d) (sym e) q }
 
   -- A grey file is scanned: what it holds is shaded, and it is grey no more.
   pub kept_scan : (m : Marked) (c : Progress) (x : ℕ) → IsWhole w → c.stage ≡ Marking → is_grey m x ≡ true → IsKept w begun m c → IsKept w begun (blackened x (shaded_all (held_by w x) m)) (record c { looked = c.looked + 1 })
   kept_scan m c x whole e grey k =
       let r = (in_marking e k).running in
       scan_held (shaded_all (held_by w x) m) c x e (stays_grey_all (held_by w x) m x grey)
-      (λ f b h. all_marked (held_by w x) m f h (k.known.known f ∙ whole.queues_live x f h) (r.since.below f b))
+      (λ f b h. all_marked (held_by w x) m f h (k.known f ∙ whole.queues_live x f h) (r.since.below f b))
       (kept_shaded_all (held_by w x) m c (ap is_marking e) (held_kept x whole r (grey_spared x e grey k)) k)
 
   -- A live file is visited, which is marked if a table holds it.
@@ -209,7 +208,7 @@ module _ {w begun : World} where
     by : (b : Bool) → nat_lt 0 (tabled w x) ≡ b → IsKept w begun (if b then shaded x m else m) (record c { visited = x + 1; looked = c.looked + 1 })
     by true d =
         let t = InTable-tabled w x (ltb-true 0 (tabled w x) d) in
-        visit_tabled (shaded x m) c x whole e l from (subst (λ b. x < b) (sym (bound_shaded m x)) low) none (λ _. itself_marked m x (k.known.known x ∙ l) low)
+        visit_tabled (shaded x m) c x whole e l from (subst (λ b. x < b) (sym (bound_shaded m x)) low) none (λ _. itself_marked m x (k.known x ∙ l) low)
         (kept_shaded m c x (ap is_marking e) l (λ g. (in_marking e k).running.since.stray.tables x g t) k)
     by false d =
         let untabled = ltb-false 0 (tabled w x) d in
@@ -280,7 +279,7 @@ module _ {w begun : World} where
         };
         sweeping = sweeping_sweep begun w x (is_marked m) (below c.swept) (below (x + 1)) c.reclaimed (past_one w x c.swept from none) p.sweeping;
       } in
-      record { known = known_world (emptied (nat_eq x) w) w m (live-emptied (nat_eq x) w) (omega arith) k.known; stage = subst (λ s. IsStage s (emptied (nat_eq x) w) begun m d) (sym e) q }
+      record { known = known_world (emptied (nat_eq x) w) w m (live-emptied (nat_eq x) w) k.known; stage = subst (λ s. IsStage s (emptied (nat_eq x) w) begun m d) (sym e) q }
 
   -- A live file of the begin that is not marked while sweeping goes on is garbage of the begin.
   pub swept_garbage : (m : Marked) (c : Progress) (x : ℕ) → c.stage ≡ Sweeping → IsLive w x → x < m.bound → is_marked m x ≡ false → IsKept w begun m c → Garbage begun x
@@ -299,29 +298,28 @@ module _ {w begun : World} where
       ] in
       (none_left m.bound r.since (is_marked m) (below c.swept) c.reclaimed p.sweeping settled all, reclaimed_all m.bound r.since (is_marked m) (below c.swept) c.reclaimed p.sweeping settled all)
 
-module _ (w begun : World) (m n : Marked) (c : Progress) (x : ℕ) (l : IsLive w x) (t : ¬ (InTable w x)) (hs : (q : ℕ) → ¬ (Holds w q x)) (bare : held_by w x ≡ [])
-    (gone : n ≡ record m { colors = map.remove m.colors x; room = n.room }) where
+module _ (w begun : World) (m : Marked) (c : Progress) (x : ℕ) (l : IsLive w x) (t : ¬ (InTable w x)) (hs : (q : ℕ) → ¬ (Holds w q x)) (bare : held_by w x ≡ []) where
   -- With x forgotten the pass runs in the world without x.
-  rest_running : IsRunning w begun m c → IsRunning (without (nat_eq x) w) begun n (counted w m x c)
+  rest_running : IsRunning w begun m c → IsRunning (without (nat_eq x) w) begun (forgotten x m) (counted w m x c)
   rest_running r =
-      running_of n (counted w m x c) (marked_forgotten m n x n.room gone) (grey_forgotten m n x n.room gone) (ap (λ o. o.bound) gone) (since_drop begun w x m.bound r.since)
+      running_of (forgotten x m) (counted w m x c) (marked_forgotten m x) (grey_forgotten m x) refl (since_drop begun w x m.bound r.since)
       (λ f e. r.marked f (and_parts (is_marked m f) (not (nat_eq x f)) e).0) (counted_drop begun w x (is_marked m) (is_grey m) (below c.visited) (below c.swept) c.looked r.counted) r.low
 
   -- A file that has no place and holds nothing goes: it is forgotten, and counted where it is an unmarked socket of the begin that sweeping goes on for.
-  pub kept_gone : IsKept w begun m c → IsKept (without (nat_eq x) w) begun n (counted w m x c)
-  kept_gone k = record { known = known_gone w x m n gone k.known; stage = by c.stage refl k.stage } where
-    by : (s : Stage) → c.stage ≡ s → IsStage s w begun m c → IsStage s (without (nat_eq x) w) begun n (counted w m x c)
+  pub kept_gone : IsKept w begun m c → IsKept (without (nat_eq x) w) begun (forgotten x m) (counted w m x c)
+  kept_gone k = record { known = known_gone w x m k.known; stage = by c.stage refl k.stage } where
+    by : (s : Stage) → c.stage ≡ s → IsStage s w begun m c → IsStage s (without (nat_eq x) w) begun (forgotten x m) (counted w m x c)
     by Resting e p = tt
     by Marking e p =
         let s = p.running.since in
         let spared = never_garbage m.bound s (is_marked m) (is_grey m) (below c.visited) p.marking x l t hs in
         record {
           running = rest_running p.running;
-          marking = marking_of (below c.visited) (marked_forgotten m n x n.room gone) (grey_forgotten m n x n.room gone)
+          marking = marking_of (below c.visited) (marked_forgotten m x) (grey_forgotten m x)
               (marking_drop begun w x m.bound s (is_marked m) (is_grey m) (below c.visited) spared (λ f _ h. absurd (Contains-none f (subst (λ fs. Contains fs f) bare h))) p.marking);
           unswept = p.unswept;
           none_reclaimed = ap (λ z. c.reclaimed + (if is_sweeping z && (is_socket_at w x && (nat_lt x m.bound && not (is_marked m x))) then 1 else 0)) e ∙ add-zero c.reclaimed ∙ p.none_reclaimed;
-          visited_low = subst (λ b. c.visited ≤ b) (sym (ap (λ o. o.bound) gone)) p.visited_low;
+          visited_low = p.visited_low;
         }
     by Sweeping e p =
         let r = p.running in
@@ -333,15 +331,15 @@ module _ (w begun : World) (m n : Marked) (c : Progress) (x : ℕ) (l : IsLive w
         ap (λ z. is_sweeping z && (is_socket_at w x && (nat_lt x m.bound && not (is_marked m x)))) e ∙ ap (λ b. is_socket_at w x && (b && not (is_marked m x))) of_begun in
         record {
           running = rest_running r;
-          sweeping = subst (λ a. a) (λ i. IsSweeping begun (without (nat_eq x) w) (sym (marked_forgotten m n x n.room gone) i) (below c.swept) (c.reclaimed + (if sym same i then 1 else 0)))
+          sweeping = subst (λ a. a) (λ i. IsSweeping begun (without (nat_eq x) w) (sym (marked_forgotten m x) i) (below c.swept) (c.reclaimed + (if sym same i then 1 else 0)))
               (sweeping_drop begun w x m.bound r.since (is_marked m) (below c.swept) c.reclaimed l p.sweeping);
         }
 
 -- A pass begins in a sound world, with no file marked.
-pub kept_begin : (w : World) (m n : Marked) (d : Progress) → IsSound w → AreKnown w m → ((f : ℕ) → is_marked n f ≡ false) → ((f : ℕ) → knows n f ≡ knows m f) → n.bound ≡ w.next_ino → n.last ≡ m.last
+pub kept_begin : (w : World) (m n : Marked) (d : Progress) → IsSound w → AreKnown w m → ((f : ℕ) → is_marked n f ≡ false) → ((f : ℕ) → knows n f ≡ knows m f) → n.bound ≡ w.next_ino
     → d ≡ record { stage = Marking; visited = 0; swept = 0; looked = 0; reclaimed = 0 } → IsKept w w n d
-kept_begin w m n d sound known unmarked same bound last is = subst (λ d. IsKept w w n d) (sym is) (record {
-  known = known_marks w m n same last known;
+kept_begin w m n d sound known unmarked same bound is = subst (λ d. IsKept w w n d) (sym is) (record {
+  known = known_marks w m n same known;
   stage = record {
     running = record {
       since = since_begin w n.bound sound (λ f l. let low = sound.whole.files_numbered f l in omega (arith, low, bound));

@@ -8,7 +8,7 @@ use Rattle.std.proofs.lemmas.Bool.{eq-eqb, eqb-true, false≢true, le-ltb, lt-lt
 use Rattle.std.proofs.Math.Bool.{or-false, or-true, and-true, and-false}
 use Rattle.af_base.specs.World.{Map}
 use Rattle.af_base.proofs.Same.{both}
-use Rattle.af_mark.specs.Marked.{Marked, blackened, is_grey, is_grey_color, is_mark, is_marked, is_white, knows, shaded}
+use Rattle.af_mark.specs.Marked.{blackened, born, forgotten, is_grey, is_grey_color, is_mark, is_marked, is_white, knows, Marked, shaded}
 use Rattle.af_mark.specs.declared.color.Color.{Color}
 use Rattle.af_mark.specs.declared.color.Color.TheVariants.{Black, Grey, White}
 use Rattle.af_pass.specs.Since.{also, also_grey, but}
@@ -119,13 +119,6 @@ module _ (m : Marked) (x : ℕ) where
     by true = refl
     by false = refl
 
-  -- Where a file is shaded the last number stays.
-  pub last_shaded : (shaded x m).last ≡ m.last
-  last_shaded = by (nat_lt x m.bound && is_white m x) where
-    by : (b : Bool) → (cond b (put m x Grey) m).last ≡ m.last
-    by true = refl
-    by false = refl
-
   -- A scanned file is grey no more.
   pub grey_blackened : is_grey (blackened x m) ≡ but (is_grey m) x
   grey_blackened = λ i f. at f (is_grey m x) refl i where
@@ -166,32 +159,25 @@ module _ (m : Marked) (x : ℕ) where
     by true = refl
     by false = refl
 
-  -- Where a file was scanned the last number stays.
-  pub last_blackened : (blackened x m).last ≡ m.last
-  last_blackened = by (is_grey m x) where
-    by : (b : Bool) → (cond b (put m x Black) m).last ≡ m.last
-    by true = refl
-    by false = refl
-
 -- x is forgotten
-module _ (m new : Marked) (x r : ℕ) (e : new ≡ record m { colors = map.remove m.colors x; room = r }) where
+module _ (m : Marked) (x : ℕ) where
   -- A forgotten file is marked no more.
-  pub marked_forgotten : is_marked new ≡ but (is_marked m) x
-  marked_forgotten = ap is_marked e ∙ (λ i f. seen_taken is_mark m.colors x f i)
+  pub marked_forgotten : is_marked (forgotten x m) ≡ but (is_marked m) x
+  marked_forgotten = λ i f. seen_taken is_mark m.colors x f i
 
   -- A forgotten file is grey no more.
-  pub grey_forgotten : is_grey new ≡ but (is_grey m) x
-  grey_forgotten = ap is_grey e ∙ (λ i f. seen_taken is_grey_color m.colors x f i)
+  pub grey_forgotten : is_grey (forgotten x m) ≡ but (is_grey m) x
+  grey_forgotten = λ i f. seen_taken is_grey_color m.colors x f i
 
   -- A forgotten file is known no more.
-  pub knows_forgotten : (f : ℕ) → knows new f ≡ (knows m f && not (nat_eq x f))
-  knows_forgotten f = ap (λ n. knows n f) e ∙ ap is_some (map.get-remove nat_cmp_total m.colors x f ∙ ap (λ b. cond b None (map.get m.colors f)) (unsigned_tied f x ∙ turned f x)) ∙ by (nat_eq x f) where
+  pub knows_forgotten : (f : ℕ) → knows (forgotten x m) f ≡ (knows m f && not (nat_eq x f))
+  knows_forgotten f = ap is_some (map.get-remove nat_cmp_total m.colors x f ∙ ap (λ b. cond b None (map.get m.colors f)) (unsigned_tied f x ∙ turned f x)) ∙ by (nat_eq x f) where
     by : (b : Bool) → is_some (cond b None (map.get m.colors f)) ≡ (knows m f && not b)
     by true = sym (and-false (knows m f))
     by false = sym (and-true (knows m f))
 
 -- x is born
-module _ (m new : Marked) (x r : ℕ) (stranger : knows m x ≡ false) (e : new ≡ record m { colors = map.insert m.colors x White; last = x; room = r }) where
+module _ (m : Marked) (x : ℕ) (stranger : knows m x ≡ false) where
   -- A test that no white file passes, and no stranger.
   same_test : (t : Color → Bool) → t White ≡ false → (f : ℕ) → option_map_or t (map.get (map.insert m.colors x White) f) false ≡ option_map_or t (map.get m.colors f) false
   same_test t white f = seen_put t m.colors x White f ∙ by (nat_eq x f) refl where
@@ -204,9 +190,9 @@ module _ (m new : Marked) (x r : ℕ) (stranger : knows m x ≡ false) (e : new 
     by false d = refl
 
   -- Where a file is born the same files are marked.
-  pub marked_born : is_marked new ≡ is_marked m
-  marked_born = ap is_marked e ∙ (λ i f. same_test is_mark refl f i)
+  pub marked_born : is_marked (born x m) ≡ is_marked m
+  marked_born = λ i f. same_test is_mark refl f i
 
   -- Where a file is born the same files are grey.
-  pub grey_born : is_grey new ≡ is_grey m
-  grey_born = ap is_grey e ∙ (λ i f. same_test is_grey_color refl f i)
+  pub grey_born : is_grey (born x m) ≡ is_grey m
+  grey_born = λ i f. same_test is_grey_color refl f i

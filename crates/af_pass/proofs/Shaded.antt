@@ -10,7 +10,7 @@ use Rattle.af_base.proofs.Lookups.{itself, not_same, same_or_not}
 use Rattle.af_mark.specs.Marked.{Marked, is_grey, is_marked, knows, shaded}
 use Rattle.af_mark.specs.declared.color.Color.TheVariants.{Grey}
 use Rattle.af_pass.specs.Keeping.{shaded_all}
-use Rattle.af_pass.proofs.Marked.{bound_shaded, grey_shaded, knows_shaded, last_shaded, marked_shaded, shaded_beyond}
+use Rattle.af_pass.proofs.Marked.{bound_shaded, grey_shaded, knows_shaded, marked_shaded, shaded_beyond}
 
 module _ (m : Marked) (x : ℕ) where
   -- A stranger is not shaded.

@@ -15,7 +15,7 @@ use Rattle.af_pass.specs.declared.Progress.{Progress}
 use Rattle.af_pass.specs.Since.{but, is_scanned, is_socket_at, live_count}
 use Rattle.af_pass.specs.Keeping.{IsKept, IsRunning, IsStage, Spares, below, is_counted, is_marking, is_running, is_sweeping, pass_of}
 use Rattle.af_pass.proofs.Going.{never_garbage}
-use Rattle.af_pass.proofs.Keeping.{grey_spared, in_marking, in_sweeping, marking_only}
+use Rattle.af_pass.proofs.Keeping.{in_marking, in_sweeping, marking_only}
 use Rattle.af_pass.proofs.Marked.{grey_marked, marked_known}
 use Rattle.af_pass.proofs.Shading.{but_other}
 use Rattle.af_pass.proofs.Tallies.{live_more}
@@ -71,7 +71,7 @@ module _ {w begun : World} {m : Marked} {c : Progress} where
       let r = in_running t k in
       let most = r.counted.at_most in
       let marked = grey_marked m x grey in
-      let some = live_some begun w (λ f. not (is_scanned (is_marked m) (is_grey m) f)) x (r.marked x marked) (sym (k.known.known x) ∙ marked_known m x marked) (ap not (and_right (is_marked m x) (not (is_grey m x)) (ap not grey))) in
+      let some = live_some begun w (λ f. not (is_scanned (is_marked m) (is_grey m) f)) x (r.marked x marked) (sym (k.known x) ∙ marked_known m x marked) (ap not (and_right (is_marked m x) (not (is_grey m x)) (ap not grey))) in
       omega (arith, most, some)
 
   -- Where a live file is still to be swept, the pass can look once more.

@@ -11,7 +11,7 @@ use Rattle.std.proofs.lemmas.List.Sums.{sum_by-cons}
 use Rattle.af_base.specs.World.{World, Map, IsLive, is_live}
 use Rattle.af_base.proofs.Sums.{first, second}
 use Rattle.af_base.proofs.Held.{here, later, none_below}
-use Rattle.af_base.proofs.Lookups.{itself, none_some, same_or_not, some_same, there, told_apart}
+use Rattle.af_base.proofs.Lookups.{none_some, same_or_not, some_same, there, told_apart}
 use Rattle.af_pass.specs.Since.{live_count}
 
 module _ {X : Type 0} where

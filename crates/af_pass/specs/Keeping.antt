@@ -1,5 +1,5 @@
 -- The whole of what is kept: the world, and beside it the marks and how far the pass is.
-use Rattle.std.specs.Prelude.{◌≡◌, ◌≤◌, ◌<◌, ◌+◌, ◌&&◌, ℕ, Bool, true, false, not, nat_eq, nat_lt, List, [], ◌∷◌, length, take, if◌then◌else◌}
+use Rattle.std.specs.Prelude.{◌≡◌, ◌≤◌, ◌+◌, ◌&&◌, ℕ, Bool, true, false, not, nat_eq, nat_lt, List, [], ◌∷◌, length, take, if◌then◌else◌}
 use Rattle.af_base.specs.World.{World, IsLive, is_live}
 use Rattle.af_base.specs.Counts.{tabled}
 use Rattle.af_base.specs.Pass.{Idle, Pass, Running}
@@ -11,10 +11,9 @@ use Rattle.af_pass.specs.declared.Stage.TheVariants.{Marking, Resting, Sweeping}
 use Rattle.af_pass.specs.declared.Progress.{Progress}
 use Rattle.af_pass.specs.Since.{AreCounted, IsMarking, IsSince, IsSweeping, is_scanned, is_socket_at}
 
--- The marks know just the live files, and the next file has a number above all that they ever knew (this project's profile).
-pub record AreKnown (w : World) (m : Marked) : Type 0 where
-  pub known : (f : ℕ) → knows m f ≡ is_live w f
-  pub born : m.last < w.next_ino
+-- The marks know just the live files (this project's profile).
+abbrev pub AreKnown : World → Marked → Type 0
+AreKnown w m = (f : ℕ) → knows m f ≡ is_live w f
 
 -- Whether the file is below the number.
 abbrev pub below : ℕ → ℕ → Bool

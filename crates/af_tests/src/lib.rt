@@ -6,7 +6,7 @@ mod layer;
 #[cfg(test)]
 mod ledger;
 #[cfg(test)]
-mod mark;
+mod marks;
 #[cfg(test)]
 mod order;
 #[cfg(test)]

@@ -4,4 +4,7 @@ use Rattle.af_pass.specs.Keeping.{shaded_all}
 use Rattle.af_collect.proofs.shading.shade_all.Given as goal
 
 abbrev pub invariant-loop-file : goal.invariant-loop-file
-invariant-loop-file l = shaded_all (drop l.file-index l.files) l.marks ≡ shaded_all l.files l.fn.marks
+invariant-loop-file l = record {
+  frame : l.places ≡ record l.fn.places { marks = l.places.marks };
+  marks : shaded_all (drop l.file-index l.files) l.places.marks ≡ shaded_all l.files l.fn.places.marks;
+}

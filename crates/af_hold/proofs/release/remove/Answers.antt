@@ -39,4 +39,5 @@ returns c = record {
       ∙ gone_connected w c.args.file.now peers c.in-Some-peer.peer (is ∙ c.in-Some-peer.ensures.some);
   next = c.hang_up.ensures.next ∙ c.remove.ensures.next;
   counts = c.hang_up.ensures.counts ∙ c.remove.ensures.counts;
+  marks = c.hang_up.ensures.marks ∙ c.remove.ensures.marks;
 }

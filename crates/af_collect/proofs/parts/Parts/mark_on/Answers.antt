@@ -1,4 +1,5 @@
-use Rattle.std.proofs.Common.{sym, subst, ◌∙◌}
+use Rattle.std.proofs.Common.{◌≡◌, ℕ, false, ap, sym, subst, ◌∙◌}
+use Rattle.af_mark.specs.Marked.{Marked, is_grey}
 use Rattle.af_pass.specs.Keeping.{IsKept}
 use Rattle.af_pass.specs.declared.Stage.TheVariants.{Sweeping}
 use Rattle.af_pass.proofs.Keeping.{kept_finish}
@@ -9,6 +10,7 @@ pub returns-clause-kept : goal.returns-clause-kept
 returns-clause-kept c =
     let now = c.args.self.now in
     let r = c.requires in
-    let visited = sym c.bound.ensures ∙ sym c.self.view_is in
-    subst (λ n. IsKept now.places.world now.begun.value.world now.marks (record now.progress { stage = Sweeping; visited = n })) visited
-    (kept_finish now.marks now.progress r.sound.whole r.marking c.in_default.ensures.none c.in_default-next_grey.ensures.none r.kept)
+    let none = subst (λ (m : Marked). (f : ℕ) → is_grey m f ≡ false) c.files.ensures.marks c.in_default-next_grey.ensures.none in
+    let visited = sym (ap (λ (m : Marked). m.bound) c.files-2.ensures.marks) ∙ sym c.bound.ensures ∙ sym c.self.view_is in
+    subst (λ n. IsKept now.places.world now.begun.value.world now.places.marks (record now.progress { stage = Sweeping; visited = n })) visited
+    (kept_finish now.places.marks now.progress r.sound.whole r.marking c.in_default.ensures.none none r.kept)

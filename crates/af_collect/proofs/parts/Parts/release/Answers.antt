@@ -11,12 +11,12 @@ use Rattle.af_hold.proofs.Losing.{burden-lost, none-held, none-lost, none-silent
 use Rattle.af_hold.proofs.Shedding.{burden, burden-gone}
 use Rattle.af_pass.specs.declared.Progress.{Progress}
 use Rattle.af_pass.specs.Keeping.{IsKept}
-use Rattle.af_collect.specs.Shown.{AreKept}
+use Rattle.af_collect.specs.Shown.{AreKept, AreKeptWith, with_marks}
 use Rattle.af_collect.specs.declared.parts.Parts.{Parts}
 use Rattle.af_collect.proofs.Losing.{kept_lost}
 use Rattle.af_collect.proofs.parts.Parts.release.Goals as goal
 
-module _ (p q : Parts) (h : Stored) (f : ℕ) (frame : q ≡ record p { marks = q.marks }) (is : h ≡ record q.places { world = without_place q.places.world f }) where
+module _ (p q : Parts) (h : Stored) (f : ℕ) (frame : q ≡ with_marks q.places.marks p) (is : h ≡ record q.places { world = without_place q.places.world f }) where
   -- The file lost the first of what it held.
   lost : h.world ≡ without_place p.places.world f
   lost = ap (λ (s : Stored). s.world) is ∙ ap (λ (o : Parts). without_place o.places.world f) frame
@@ -29,40 +29,21 @@ module _ (p q : Parts) (h : Stored) (f : ℕ) (frame : q ≡ record p { marks = 
   stays : places_at q.places.world f ≡ 0 → h.world ≡ p.places.world
   stays none = lost ∙ none-lost p.places.world f (sym had ∙ none)
 
--- A file that had nothing to lose: all that was kept is kept.
-pub take_away-requires-clause-kept : goal.take_away-requires-clause-kept
-take_away-requires-clause-kept c =
+-- A file that had nothing to lose is as it was before, and all that was kept is kept.
+pub take_away-requires : goal.take_away-requires
+take_away-requires c =
     let q = c.shade_first.new.self in
-    let same = ap (λ (s : Stored). s.world) c.drop_place.ensures.world ∙ none-lost q.places.world c.in-Some.file (c.drop_place.ensures.none c.if-not-drop_place.true) in
-    subst (λ v. IsKept v q.begun.value.world q.marks q.progress) (sym same) c.shade_first.ensures.kept
-
--- It is live as before.
-pub take_away-requires-clause-live : goal.take_away-requires-clause-live
-take_away-requires-clause-live c =
-    let same = stays c.loop-file.self c.shade_first.new.self c.drop_place.new.self c.in-Some.file c.shade_first.ensures.frame c.drop_place.ensures.world (c.drop_place.ensures.none c.if-not-drop_place.true) in
-    subst (λ v. IsLive v c.in-Some.file) (sym same) c.in-Some.ensures.live
-
--- Nothing holds it, as before.
-pub take_away-requires-clause-unheld : goal.take_away-requires-clause-unheld
-take_away-requires-clause-unheld c =
-    let same = stays c.loop-file.self c.shade_first.new.self c.drop_place.new.self c.in-Some.file c.shade_first.ensures.frame c.drop_place.ensures.world (c.drop_place.ensures.none c.if-not-drop_place.true) in
-    subst (λ v. refs v c.in-Some.file ≡ 0) (sym same) c.in-Some.ensures.unheld
-
--- It holds nothing.
-pub take_away-requires-clause-bare : goal.take_away-requires-clause-bare
-take_away-requires-clause-bare c =
-    let q = c.shade_first.new.self in
+    let f = c.in-Some.file in
     let none = c.drop_place.ensures.none c.if-not-drop_place.true in
-    let same = ap (λ (s : Stored). s.world) c.drop_place.ensures.world ∙ none-lost q.places.world c.in-Some.file none in
-    subst (λ v. held_by v c.in-Some.file ≡ []) (sym same) (none-held q.places.world c.in-Some.file none)
-
--- It has no messages.
-pub take_away-requires-clause-silent : goal.take_away-requires-clause-silent
-take_away-requires-clause-silent c =
-    let q = c.shade_first.new.self in
-    let none = c.drop_place.ensures.none c.if-not-drop_place.true in
-    let same = ap (λ (s : Stored). s.world) c.drop_place.ensures.world ∙ none-lost q.places.world c.in-Some.file none in
-    subst (λ v. queue_at v c.in-Some.file ≡ []) (sym same) (none-silent q.places.world c.in-Some.file none)
+    let same = ap (λ (s : Stored). s.world) c.drop_place.ensures.world ∙ none-lost q.places.world f none in
+    let before = stays c.loop-file.self q c.drop_place.new.self f c.shade_first.ensures.frame c.drop_place.ensures.world none in
+    record {
+      kept = subst (AreKeptWith q) (sym c.drop_place.ensures.world) (subst (λ v. IsKept v q.begun.value.world q.places.marks q.progress) (sym (none-lost q.places.world f none)) c.shade_first.ensures.kept);
+      live = subst (λ v. IsLive v f) (sym before) c.in-Some.ensures.live;
+      unheld = subst (λ v. refs v f ≡ 0) (sym before) c.in-Some.ensures.unheld;
+      bare = subst (λ v. held_by v f ≡ []) (sym same) (none-held q.places.world f none);
+      silent = subst (λ v. queue_at v f ≡ []) (sym same) (none-silent q.places.world f none);
+    }
 
 -- A file less is less to do.
 pub loop-file-smaller-then-not-drop_place : goal.loop-file-smaller-then-not-drop_place
@@ -112,8 +93,8 @@ loop-file-preserved c =
     let popped = lost p q h f frame c.drop_place.ensures.world in
     let some = subst (λ n. 0 < n) (had p q h f frame c.drop_place.ensures.world) (c.drop_place.ensures.some c.if-not-drop_place.false) in
     record {
-      kept = subst (λ t. t) (λ j. IsKept (sym popped j) (sym frame j).begun.value.world q.marks (sym frame j).progress)
-          (kept_lost f c.is_whole.ensures.whole c.in-Some.ensures.live c.in-Some.ensures.unheld q.marks c.shade_first.ensures.marked i.kept (subst AreKept frame c.shade_first.ensures.kept));
+      kept = subst (λ t. t) (λ j. IsKept (sym popped j) (sym frame j).begun.value.world (sym (ap (λ (s : Stored). s.marks) c.drop_place.ensures.world) j) (sym frame j).progress)
+          (kept_lost f c.is_whole.ensures.whole c.in-Some.ensures.live c.in-Some.ensures.unheld q.places.marks c.shade_first.ensures.marked i.kept (subst AreKept frame c.shade_first.ensures.kept));
       settles = λ end s. i.settles end (settles-lost p.places.world h.world f popped c.in-Some.ensures.live c.in-Some.ensures.unheld some end s);
       rows = ap (λ (s : Stored). s.rows) c.drop_place.ensures.world ∙ ap (λ (o : Parts). o.places.rows) frame ∙ i.rows;
       begun = ap (λ (o : Parts). o.begun) frame ∙ i.begun;

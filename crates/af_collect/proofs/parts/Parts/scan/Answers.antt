@@ -1,5 +1,6 @@
-use Rattle.std.proofs.Common.{◌+◌, ap, sym, subst, ◌∙◌}
+use Rattle.std.proofs.Common.{◌+◌, sym, subst}
 use Rattle.af_mark.specs.Marked.{blackened}
+use Rattle.af_hold.specs.Stored.{Stored}
 use Rattle.af_pass.specs.Keeping.{IsKept}
 use Rattle.af_pass.proofs.Keeping.{kept_scan}
 use Rattle.af_collect.proofs.parts.Parts.scan.Goals as goal
@@ -10,6 +11,7 @@ returns-clause-kept c =
     let now = c.args.self.now in
     let x = c.args.file.now in
     let r = c.requires in
-    let marks = c.scanned.ensures ∙ ap (blackened x) c.shade_held.ensures in
-    subst (λ m. IsKept now.places.world now.begun.value.world m (record now.progress { looked = now.progress.looked + 1 })) (sym marks)
-    (kept_scan now.marks now.progress x c.is_whole.ensures.whole r.marking r.grey r.kept)
+    let d = record now.progress { looked = now.progress.looked + 1 } in
+    subst (λ (s : Stored). IsKept s.world now.begun.value.world s.marks d) (sym c.scanned.ensures)
+    (subst (λ (s : Stored). IsKept s.world now.begun.value.world (blackened x s.marks) d) (sym c.shade_held.ensures)
+    (kept_scan now.places.marks now.progress x c.is_whole.ensures.whole r.marking r.grey r.kept))

@@ -1,5 +1,5 @@
 use Rattle.std.proofs.Common.{sym, ◌∙◌, subst}
-use Rattle.af_pass.specs.Keeping.{IsKept}
+use Rattle.af_collect.specs.Shown.{AreKeptWith}
 use Rattle.af_collect.proofs.Losing.{kept_first}
 use Rattle.af_collect.proofs.parts.Parts.shade_first.Goals as goal
 
@@ -7,5 +7,5 @@ use Rattle.af_collect.proofs.parts.Parts.shade_first.Goals as goal
 pub returns-then-is_marking-clause-kept : goal.returns-then-is_marking-clause-kept
 returns-then-is_marking-clause-kept c =
     let p = c.args.self.now in
-    subst (λ n. IsKept p.places.world p.begun.value.world n p.progress) (sym c.shade_first.ensures)
+    subst (AreKeptWith p) (sym c.shade_first.ensures)
     (kept_first c.args.file.now c.is_whole.ensures.whole c.requires.live c.requires.unheld (sym c.is_marking.ensures ∙ c.if-is_marking.true) c.requires.kept)

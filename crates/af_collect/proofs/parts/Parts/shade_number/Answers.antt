@@ -2,7 +2,8 @@ use Rattle.std.proofs.Common.{sym, ap, ◌∙◌, subst}
 use Rattle.af_base.specs.Places.{number_in}
 use Rattle.af_base.specs.World.{Map, Process}
 use Rattle.af_mark.specs.Marked.{is_marked}
-use Rattle.af_pass.specs.Keeping.{IsKept}
+use Rattle.af_hold.specs.Stored.{Stored}
+use Rattle.af_collect.specs.Shown.{AreKeptWith}
 use Rattle.af_collect.proofs.Losing.{kept_tabled, marked_number}
 use Rattle.af_collect.proofs.parts.Parts.shade_number.Goals as goal
 
@@ -11,11 +12,11 @@ pub returns-in-Some-clause-kept : goal.returns-in-Some-clause-kept
 returns-in-Some-clause-kept c =
     let p = c.args.self.now in
     let here = ap (λ (m : Map Process). number_in m c.args.pid c.args.fd) (sym c.procs.ensures.processes) ∙ sym c.in-Some.ensures in
-    subst (λ n. IsKept p.places.world p.begun.value.world n p.progress) (sym c.shade.ensures)
+    subst (AreKeptWith p) (sym c.shade.ensures)
     (kept_tabled c.in-Some.file c.is_whole.ensures.whole (sym c.is_marking.ensures ∙ c.if-not-is_marking.false) (c.args.pid, c.args.fd, here) c.requires.kept)
 
 -- It is what was shaded.
 pub returns-in-Some-clause-marked : goal.returns-in-Some-clause-marked
 returns-in-Some-clause-marked c = λ t f at b.
     let here = ap (λ (m : Map Process). number_in m c.args.pid c.args.fd) (sym c.procs.ensures.processes) ∙ sym c.in-Some.ensures in
-    ap (λ n. is_marked n f) c.shade.ensures ∙ marked_number c.args.pid c.args.fd c.in-Some.file f c.is_whole.ensures.whole t here c.requires.kept at b
+    ap (λ (s : Stored). is_marked s.marks f) c.shade.ensures ∙ marked_number c.args.pid c.args.fd c.in-Some.file f c.is_whole.ensures.whole t here c.requires.kept at b

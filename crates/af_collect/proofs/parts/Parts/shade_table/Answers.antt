@@ -4,7 +4,9 @@ use Rattle.af_base.specs.Places.{number_in, table_at}
 use Rattle.af_base.specs.Whole.{IsWhole}
 use Rattle.af_base.specs.World.{IsLive, Map, Process}
 use Rattle.af_mark.specs.Marked.{is_marked}
-use Rattle.af_pass.specs.Keeping.{IsKept, is_marking}
+use Rattle.af_hold.specs.Stored.{Stored}
+use Rattle.af_pass.specs.Keeping.{is_marking}
+use Rattle.af_collect.specs.Shown.{AreKeptWith, with_marks}
 use Rattle.af_collect.specs.declared.parts.Parts.{Parts}
 use Rattle.af_collect.proofs.Losing.{kept_tabled, marked_next}
 use Rattle.af_collect.proofs.parts.Parts.shade_table.Goals as goal
@@ -24,12 +26,12 @@ loop-fd-preserved c =
     let t = ap (λ (o : Parts). is_marking o.progress.stage) i.frame ∙ sym c.is_marking.ensures ∙ c.if-not-is_marking.false in
     let whole = subst (λ (o : Parts). IsWhole o.places.world) (sym i.frame) c.is_whole.ensures.whole in
     let here = seen pid _ processes c.in-Some.ensures.«open» in
-    let before = subst (λ (o : Parts). (q f : ℕ) → q < next → table_at o.places.world pid q ≡ Some f → IsLive o.begun.value.world f → is_marked p.marks f ≡ true) (sym i.frame) i.marked in
-    let marked = subst (λ (o : Parts). (q f : ℕ) → q < c.fd.inside.0 + 1 → table_at o.places.world pid q ≡ Some f → IsLive o.begun.value.world f → is_marked c.shade.new.self f ≡ true) i.frame
-    (λ q f low at b. ap (λ n. is_marked n f) c.shade.ensures ∙ marked_next pid next _ _ whole t here (λ q y z. seen pid q processes (c.in-Some.ensures.least q y z)) i.kept before q f (omega (arith, low, c.fd.view_is)) at b) in
+    let before = subst (λ (o : Parts). (q f : ℕ) → q < next → table_at o.places.world pid q ≡ Some f → IsLive o.begun.value.world f → is_marked p.places.marks f ≡ true) (sym i.frame) i.marked in
+    let marked = subst (λ (o : Parts). (q f : ℕ) → q < c.fd.inside.0 + 1 → table_at o.places.world pid q ≡ Some f → IsLive o.begun.value.world f → is_marked c.shade.new.self.marks f ≡ true) i.frame
+    (λ q f low at b. ap (λ (s : Stored). is_marked s.marks f) c.shade.ensures ∙ marked_next pid next _ _ whole t here (λ q y z. seen pid q processes (c.in-Some.ensures.least q y z)) i.kept before q f (omega (arith, low, c.fd.view_is)) at b) in
     record {
-      kept = subst (λ n. IsKept p.places.world p.begun.value.world n p.progress) (sym c.shade.ensures) (kept_tabled _ whole t (pid, _, here) i.kept);
-      frame = ap (λ (o : Parts). record o { marks = c.shade.new.self }) i.frame;
+      kept = subst (AreKeptWith p) (sym c.shade.ensures) (kept_tabled _ whole t (pid, _, here) i.kept);
+      frame = ap (λ (s : Stored). record p { places = s }) (c.shade.ensures ∙ ap (λ m. record p.places { marks = m }) (sym (ap (λ (s : Stored). s.marks) c.shade.ensures))) ∙ ap (with_marks c.shade.new.self.marks) i.frame;
       marked = marked;
       low = omega (arith, c.in-Some.ensures.low, c.fd.view_is);
     }

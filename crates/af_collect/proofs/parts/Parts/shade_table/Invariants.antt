@@ -5,14 +5,14 @@ use Rattle.af_base.specs.World.{IsLive}
 use Rattle.af_base.specs.declared.limits.TheConstants.{MAX_NOFILE}
 use Rattle.af_base.specs.Places.{table_at}
 use Rattle.af_mark.specs.Marked.{is_marked}
-use Rattle.af_collect.specs.Shown.{AreKept}
+use Rattle.af_collect.specs.Shown.{AreKept, with_marks}
 use Rattle.af_collect.proofs.parts.Parts.shade_table.Given as goal
 
 abbrev pub invariant-loop-fd : goal.invariant-loop-fd
 invariant-loop-fd l = record {
   kept : AreKept l.self;
-  frame : l.self ≡ record l.fn.self { marks = l.self.marks };
-  marked : (n f : ℕ) → n < l.next → table_at l.fn.self.places.world l.fn.pid n ≡ Some f → IsLive l.fn.self.begun.value.world f → is_marked l.self.marks f ≡ true;
+  frame : l.self ≡ with_marks l.self.places.marks l.fn.self;
+  marked : (n f : ℕ) → n < l.next → table_at l.fn.self.places.world l.fn.pid n ≡ Some f → IsLive l.fn.self.begun.value.world f → is_marked l.self.places.marks f ≡ true;
   low : l.next ≤ MAX_NOFILE;
 }
 

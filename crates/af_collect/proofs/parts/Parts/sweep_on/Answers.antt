@@ -11,11 +11,11 @@ pub returns-in_default-clause-gone : goal.returns-in_default-clause-gone
 returns-in_default-clause-gone c = λ _.
     let now = c.args.self.now in
     let r = c.requires in
-    (kept_over now.marks now.progress r.sweeping r.sound.settled c.in_default.ensures.none r.kept).0
+    (kept_over now.places.marks now.progress r.sweeping r.sound.settled c.in_default.ensures.none r.kept).0
 
 -- Its sockets were counted.
 pub returns-in_default-clause-counted : goal.returns-in_default-clause-counted
 returns-in_default-clause-counted c = λ _.
     let now = c.args.self.now in
     let r = c.requires in
-    (kept_over now.marks now.progress r.sweeping r.sound.settled c.in_default.ensures.none r.kept).1
+    (kept_over now.places.marks now.progress r.sweeping r.sound.settled c.in_default.ensures.none r.kept).1

@@ -1,10 +1,10 @@
 use Rattle.std.proofs.Common.{refl, subst, sym}
 use Rattle.af_base.specs.Changes.{listening}
 use Rattle.af_mark.specs.Marked.{is_marked}
-use Rattle.af_hold.specs.Stored.{Stored}
 use Rattle.af_hold.proofs.Exact.{by-result}
-use Rattle.af_pass.specs.Keeping.{IsKept, below}
+use Rattle.af_pass.specs.Keeping.{below}
 use Rattle.af_pass.proofs.Sockets.{covers_same, moves_same}
+use Rattle.af_collect.specs.Shown.{AreKeptWith}
 use Rattle.af_collect.proofs.Placed.{kept_socket}
 use Rattle.af_collect.proofs.store.Store.listen.Goals as goal
 
@@ -15,7 +15,7 @@ invariant_of-self c =
     let begun = p.begun.value.world in
     let s = c.args.socket.now in
     let g = listening c.args.most in
-    let keeps = λ (v : Stored). IsKept v.world begun p.marks p.progress in
+    let keeps = AreKeptWith p in
     by-result c.listen.result c.listen.ensures.ok c.listen.ensures.ok c.listen.ensures.err
-    (λ done _. subst keeps (sym done) (kept_socket s g (λ _. moves_same w s g (λ x. refl) begun) (λ _. covers_same w s g (λ x. refl) begun (is_marked p.marks) (below p.progress.visited)) c.self.invariant))
+    (λ done _. subst keeps (sym done) (kept_socket s g (λ _. moves_same w s g (λ x. refl) begun) (λ _. covers_same w s g (λ x. refl) begun (is_marked p.places.marks) (below p.progress.visited)) c.self.invariant))
     (λ same. subst keeps (sym same) c.self.invariant)

@@ -1,22 +1,14 @@
-use Rattle.std.proofs.Common.{◌∙◌, refl, subst, sym}
+use Rattle.std.proofs.Common.{refl, subst, sym}
 use Rattle.af_base.specs.World.{AsSocket}
 use Rattle.af_base.specs.Steps.{idle_socket}
-use Rattle.af_hold.specs.Stored.{Stored}
-use Rattle.af_pass.specs.Keeping.{IsKept}
-use Rattle.af_collect.proofs.Placed.{kept_made, kept_room}
+use Rattle.af_hold.proofs.Exact.{by-result}
+use Rattle.af_collect.specs.Shown.{AreKeptWith}
+use Rattle.af_collect.proofs.Placed.{kept_made}
 use Rattle.af_collect.proofs.store.Store.make_sock.Goals as goal
 
 pub invariant_of-self : goal.invariant_of-self
-invariant_of-self c = kept_room c.reserve.new.self c.reserve.ensures.same c.self.invariant
-
-pub invariant_of-self-in_err-file : goal.invariant_of-self-in_err-file
-invariant_of-self-in_err-file c =
+invariant_of-self c =
     let p = c.self.inside.parts in
-    subst (λ (s : Stored). IsKept s.world p.begun.value.world c.reserve.new.self p.progress) (sym c.in_err-file.ensures.err) (kept_room c.reserve.new.self c.reserve.ensures.same c.self.invariant)
-
-pub invariant_of-self-2 : goal.invariant_of-self-2
-invariant_of-self-2 c =
-    let p = c.self.inside.parts in
-    let roomy = kept_room c.reserve.new.self c.reserve.ensures.same c.self.invariant in
-    subst (λ (s : Stored). IsKept s.world p.begun.value.world c.born.new.self p.progress) (sym c.in_ok-file.ensures.ok)
-    (kept_made (AsSocket (idle_socket c.args.kind)) c.born.new.self _ refl c.is_whole.ensures.whole.files_numbered c.in_ok-file.ensures.ino c.born.ensures.new c.born.ensures.born roomy)
+    by-result c.make_sock.result c.make_sock.ensures.ok c.make_sock.ensures.ok c.make_sock.ensures.err
+    (λ done _. subst (AreKeptWith p) (sym done) (kept_made (AsSocket (idle_socket c.args.kind)) refl c.is_whole.ensures.whole.files_numbered c.self.invariant))
+    (λ same. subst (AreKeptWith p) (sym same) c.self.invariant)

@@ -5,4 +5,6 @@ use Rattle.af_pass.proofs.Known.{known_empty}
 use Rattle.af_collect.proofs.store.Store.new.Goals as goal
 
 pub invariant_of-result : goal.invariant_of-result
-invariant_of-result c = record { known = subst (λ (w : World). AreKnown w c.new.result) (sym c.new-places.ensures) (known_empty c.new.result c.new.ensures.colors c.new.ensures.last); stage = tt }
+invariant_of-result c =
+    let p = c.new-places.result in
+    record { known = subst (λ (w : World). AreKnown w p.marks) (sym c.new-places.ensures.world) (known_empty p.marks c.new-places.ensures.marks); stage = tt }

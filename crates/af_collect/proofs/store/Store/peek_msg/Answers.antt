@@ -3,11 +3,10 @@ use Rattle.std.specs.Prelude.{IsTrue, is_none, unwrap_or}
 use Rattle.std.specs.FinMap as map
 use Rattle.af_base.specs.Refusals.{no_socket, process_at, socket_at}
 use Rattle.af_base.specs.Table.{lowest_free}
-use Rattle.af_hold.specs.Stored.{Stored}
 use Rattle.af_hold.proofs.Exact.{by-result}
 use Rattle.af_hold.proofs.Putting.{is-socket}
-use Rattle.af_pass.specs.Keeping.{IsKept, Spares}
-use Rattle.af_collect.specs.Shown.{Shown}
+use Rattle.af_pass.specs.Keeping.{Spares}
+use Rattle.af_collect.specs.Shown.{AreKeptWith, Shown}
 use Rattle.af_collect.proofs.Placed.{kept_peeked}
 use Rattle.af_collect.proofs.store.Store.peek_msg.Goals as goal
 
@@ -23,7 +22,7 @@ invariant_of-self c =
     let spared = subst (λ (v : Shown). Spares v.pass s) back r.spared in
     let there = subst (λ (v : Shown). IsTrue (map.contains_key v.world.processes c.args.pid)) back r.there in
     let lowest = subst (λ (v : Shown). (k : ℕ) × (c.args.fds.now ≡ lowest_free k (process_at v.world c.args.pid))) back r.free in
-    let keeps = λ (v : Stored). IsKept v.world p.begun.value.world p.marks p.progress in
+    let keeps = AreKeptWith p in
     by-result c.peek_msg.result c.peek_msg.ensures.world c.peek_msg.ensures.world c.peek_msg.ensures.err
     (λ done _. subst keeps (sym done) (kept_peeked c.is_whole.ensures.whole s c.args.max x at (c.is_whole.ensures.within.sockets s x at).messages p.progress.looked c.args.pid c.args.fds.now spared there lowest c.self.invariant))
     (λ same. subst keeps (sym same) c.self.invariant)

@@ -1,16 +1,14 @@
 use Rattle.std.proofs.Common.{◌≡◌, ◌<◌, ℕ, true, refl, subst, sym}
 use Rattle.std.specs.Prelude.{None, Some, length, slice_get}
-use Rattle.af_base.specs.World.{IsLive}
 use Rattle.af_base.specs.Changes.{dequeued, install, with_socket}
 use Rattle.af_base.specs.Places.{backlog_at, table_at}
 use Rattle.af_base.specs.Reached.{Garbage}
 use Rattle.af_mark.specs.Marked.{is_marked}
-use Rattle.af_hold.specs.Stored.{Stored}
-use Rattle.af_pass.specs.Keeping.{IsKept, Spares, below, is_marking, is_running, pass_of}
+use Rattle.af_pass.specs.Keeping.{Spares, below, is_running, pass_of}
 use Rattle.af_pass.proofs.Placing.{covers_install, moves_install}
 use Rattle.af_pass.proofs.Sockets.{covers_dequeued, moves_dequeued}
 use Rattle.af_pass.proofs.Spared.{held_spared, marking_runs, spared_running}
-use Rattle.af_collect.specs.Shown.{MarksAll, Shown}
+use Rattle.af_collect.specs.Shown.{AreKeptWith, MarksAll, Shown}
 use Rattle.af_collect.specs.declared.parts.Parts.{Parts}
 use Rattle.af_collect.proofs.Losing.{embryo_held, first_taken}
 use Rattle.af_collect.proofs.Placed.{first_of, kept_socket, kept_tables}
@@ -35,6 +33,6 @@ invariant_of-self c =
     let none : (f : ℕ) → slice_get (backlog_at w s) 0 ≡ Some f → is_running q.progress.stage ≡ true → ¬ (Garbage begun f) = λ f is run. spared_running q.progress.stage begun q.progress.looked f run (held_spared q.progress.looked s f e.kept (embryo_held w s f (first_taken (backlog_at w s) f is)) spared) in
     let first = first_of (backlog_at w s) some in
     let v = with_socket w s dequeued in
-    subst (λ (h : Stored). IsKept h.world begun q.marks q.progress) (sym (c.take_embryo.ensures first.0 first.1))
-    (kept_tables (install v pid fd first.0) refl refl (λ t. moves_install begun v pid fd first.0 (none first.0 first.1 t)) (λ _. covers_install begun v pid fd first.0 (is_marked q.marks) (below q.progress.visited) free)
-    (kept_socket s dequeued (λ _. moves_dequeued begun w s) (λ t. covers_dequeued begun w s (is_marked q.marks) (below q.progress.visited) (marked t) (λ f is. none f is (marking_runs q.progress.stage t))) e.kept))
+    subst (AreKeptWith q) (sym (c.take_embryo.ensures first.0 first.1))
+    (kept_tables (install v pid fd first.0) refl refl (λ t. moves_install begun v pid fd first.0 (none first.0 first.1 t)) (λ _. covers_install begun v pid fd first.0 (is_marked q.places.marks) (below q.progress.visited) free)
+    (kept_socket s dequeued (λ _. moves_dequeued begun w s) (λ t. covers_dequeued begun w s (is_marked q.places.marks) (below q.progress.visited) (marked t) (λ f is. none f is (marking_runs q.progress.stage t))) e.kept))

@@ -26,6 +26,6 @@ invariant_of-self-2 c =
     let lowest = subst (λ (v : Shown). (k : ℕ) × (c.args.fds.now ≡ lowest_free k (process_at v.world c.args.pid))) back r.free in
     let files = c.attached.ensures.value ∙ ap (λ o. o.message.attached) c.in_ok-taken.ensures.taken in
     subst AreKept (sym c.shade_taken.ensures)
-    (subst (λ fs. IsKept c.take_msg.new.self.world p.begun.value.world (shaded_in p.progress.stage fs p.marks) p.progress) (sym files)
-    (subst (λ (v : Stored). IsKept v.world p.begun.value.world (shaded_in p.progress.stage t.attached p.marks) p.progress) (sym c.in_ok-taken.ensures.world)
+    (subst (λ fs. IsKept c.take_msg.new.self.world p.begun.value.world (shaded_in p.progress.stage fs c.take_msg.new.self.marks) p.progress) (sym files)
+    (subst (λ (v : Stored). IsKept v.world p.begun.value.world (shaded_in p.progress.stage t.attached v.marks) p.progress) (sym c.in_ok-taken.ensures.world)
     (kept_taken c.is_whole.ensures.whole s c.args.max x at (c.is_whole.ensures.within.sockets s x at).messages p.progress.looked c.args.pid c.args.fds.now spared there lowest c.self.invariant)))

@@ -1,14 +1,18 @@
-use Rattle.std.proofs.Common.{◌+◌, ap, sym, subst, arith}
+use Rattle.std.proofs.Common.{◌+◌, ◌∙◌, ap, sym, subst, arith, refl}
 use Rattle.std.specs.Prelude.{vec_capacity}
 use Rattle.std.specs.FinMap as map
 use Rattle.af_desc.specs.Filed.{IsFiled, name_of}
+use Rattle.af_mark.specs.Grey.{colors_in, unmarked}
+use Rattle.af_mark.specs.declared.color.Color.TheVariants.{White}
+use Rattle.af_mark.proofs.Colors.{color_after, color_white, same_marked}
+use Rattle.af_mark.proofs.Listed.{listed-born, listed-same}
 use Rattle.af_desc.proofs.Filing.{filed-entered, filed-reserved}
 use Rattle.af_desc.proofs.files.Files.make_two.Goals as goal
 
 pub enter-first-requires : goal.enter-first-requires
 enter-first-requires c =
     let a = c.self.inside in
-    let reserved = filed-reserved a.rows c.reserve.new.rows a.waiting.items (vec_capacity a.waiting) a.names a.next c.self.invariant c.reserve.new.waiting.items (vec_capacity c.reserve.new.waiting) c.reserve.ensures.rows c.reserve.ensures.waiting c.reserve.ensures.capacity in
+    let reserved = filed-reserved a.rows c.reserve.new.rows a.waiting.items (vec_capacity a.waiting) a.names a.next c.self.invariant.0 c.reserve.new.waiting.items (vec_capacity c.reserve.new.waiting) c.reserve.ensures.rows c.reserve.ensures.waiting c.reserve.ensures.capacity in
     let low = reserved.0 in
     let room = c.in_ok-reserve.ensures.room in
     let fits = c.in_ok-reserve.ensures.fits in
@@ -31,12 +35,16 @@ enter-second-requires c =
     }
 
 pub invariant_of-self : goal.invariant_of-self
-invariant_of-self c = let a = c.self.inside in filed-reserved a.rows c.reserve.new.rows a.waiting.items (vec_capacity a.waiting) a.names a.next c.self.invariant c.reserve.new.waiting.items (vec_capacity c.reserve.new.waiting) c.reserve.ensures.rows c.reserve.ensures.waiting c.reserve.ensures.capacity
+invariant_of-self c =
+    let a = c.self.inside in (
+      filed-reserved a.rows c.reserve.new.rows a.waiting.items (vec_capacity a.waiting) a.names a.next c.self.invariant.0 c.reserve.new.waiting.items (vec_capacity c.reserve.new.waiting) c.reserve.ensures.rows c.reserve.ensures.waiting c.reserve.ensures.capacity,
+      listed-same a.rows.marks c.reserve.new.rows.marks a.epoch a.grey.items (vec_capacity a.grey) c.self.invariant.1 c.reserve.new.grey.items (vec_capacity c.reserve.new.grey) (ap (λ r. r.marks) c.reserve.ensures.rows) c.reserve.ensures.grey c.reserve.ensures.greys,
+    )
 
 pub invariant_of-self-2 : goal.invariant_of-self-2
 invariant_of-self-2 c =
     let a = c.self.inside in
-    let reserved = filed-reserved a.rows c.reserve.new.rows a.waiting.items (vec_capacity a.waiting) a.names a.next c.self.invariant c.reserve.new.waiting.items (vec_capacity c.reserve.new.waiting) c.reserve.ensures.rows c.reserve.ensures.waiting c.reserve.ensures.capacity in
+    let reserved = filed-reserved a.rows c.reserve.new.rows a.waiting.items (vec_capacity a.waiting) a.names a.next c.self.invariant.0 c.reserve.new.waiting.items (vec_capacity c.reserve.new.waiting) c.reserve.ensures.rows c.reserve.ensures.waiting c.reserve.ensures.capacity in
     let first = c.enter-first in
     let second = c.enter-second in
     let fits = c.in_ok-reserve.ensures.fits in
@@ -47,4 +55,27 @@ invariant_of-self-2 c =
     second.ensures.entered second.ensures.new (ap name_of c.connected-desc-2.ensures) second.ensures.waiting (omega (arith, fits, same, first.ensures.len, first.ensures.capacity, second.ensures.len, second.ensures.capacity)) in
     let all = subst (λ r. IsFiled r second.new.waiting.items (vec_capacity second.new.waiting) a.names (a.next + 1 + 1)) (sym c.point.ensures) two in
     let low = all.0 in
-    (omega (arith, low), all.1, all.2, all.3, all.4)
+    let room = vec_capacity c.reserve.new.grey in
+    let grey = c.reserve.new.grey.items in
+    let marks = c.in_ok-reserve.ensures.marks in
+    let many = ap (λ r. map.len r.marks) c.reserve.ensures.rows in
+    let listed = listed-same a.rows.marks c.reserve.new.rows.marks a.epoch a.grey.items (vec_capacity a.grey) c.self.invariant.1 c.reserve.new.grey.items (vec_capacity c.reserve.new.grey) (ap (λ r. r.marks) c.reserve.ensures.rows) c.reserve.ensures.grey c.reserve.ensures.greys in
+    let lower = listed-born c.reserve.new.rows.marks first.new.rows.marks a.epoch grey room listed a.next room (ap (λ r. r.marks) first.ensures.entered) first.ensures.unmarked (omega (arith, marks, many, first.ensures.more)) in
+    let higher = listed-born first.new.rows.marks second.new.rows.marks a.epoch grey room lower (a.next + 1) room (ap (λ r. r.marks) second.ensures.entered) second.ensures.unmarked (omega (arith, marks, many, first.ensures.more, second.ensures.more)) in (
+      (omega (arith, low), all.1, all.2, all.3, all.4),
+      listed-same second.new.rows.marks c.point.new.rows.marks a.epoch grey room higher grey room (ap (λ r. r.marks) c.point.ensures) refl (omega arith),
+    )
+
+-- Both are born unmarked.
+pub returns-clause-marks : goal.returns-clause-marks
+returns-clause-marks c =
+    let a = c.self.inside in
+    let e = a.epoch in
+    let first = c.enter-first in
+    let second = c.enter-second in
+    let one = color_after e c.reserve.new.rows.marks first.new.rows.marks a.next unmarked White (ap (λ r. r.marks) first.ensures.entered) (color_white e unmarked refl) in
+    let two = color_after e first.new.rows.marks second.new.rows.marks (a.next + 1) unmarked White (ap (λ r. r.marks) second.ensures.entered) (color_white e unmarked refl) in
+    same_marked _ _
+    (ap (λ r. colors_in e r.marks) c.point.ensures ∙ two ∙ ap (λ cs. map.insert cs (a.next + 1) White) (one ∙ ap (λ r. map.insert (colors_in e r.marks) a.next White) c.reserve.ensures.rows)
+    ∙ ap (λ v. map.insert (map.insert v.marks.colors v.next White) (v.next + 1) White) c.self.view_is)
+    (ap (λ v. v.marks.bound) c.self.view_is)

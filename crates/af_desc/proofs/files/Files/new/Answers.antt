@@ -4,16 +4,33 @@ use Rattle.std.specs.Prelude.{is_some}
 use Rattle.std.specs.Ordering.{nat_cmp}
 use Rattle.af_ledger.specs.declared.count.Count.{Count}
 use Rattle.af_ledger.proofs.Waiting.{nothing-waits}
+use Rattle.af_mark.specs.Grey.{color_in, colors_in}
+use Rattle.af_mark.specs.declared.mark.Mark.{Mark}
+use Rattle.af_mark.proofs.Colors.{upto_none}
+use Rattle.af_mark.proofs.Greys.{grey_empty, nothing_grey}
+use Rattle.af_order.proofs.Parts.{part_none}
 use Rattle.af_desc.proofs.Naming.{named-none-yet}
 use Rattle.af_desc.proofs.files.Files.new.Goals as goal
 
 pub invariant_of-result : goal.invariant_of-result
 invariant_of-result c =
     let none = c.new.ensures.files in
-    let uncounted = c.new.ensures.counts in (
-      subst (λ n. n < 1) (sym c.new.ensures.last) (omega arith),
-      ap (λ m. map.contains_key m 0) none ∙ ap is_some (map.get-empty nat_cmp 0),
-      named-none-yet c.new-3.result c.new.result.files c.new-3.ensures none,
-      nothing-waits c.new.result.counts _ uncounted c.new-2.ensures.items,
-      omega (arith, ap map.len uncounted ∙ map.len-empty nat_cmp Count),
+    let uncounted = c.new.ensures.counts in
+    let m = c.new.result.marks in
+    let markless = c.new.ensures.marks in (
+      (
+        subst (λ n. n < 1) (sym c.new.ensures.last) (omega arith),
+        ap (λ m. map.contains_key m 0) none ∙ ap is_some (map.get-empty nat_cmp 0),
+        named-none-yet c.new-4.result c.new.result.files c.new-4.ensures none,
+        nothing-waits c.new.result.counts _ uncounted c.new-2.ensures.items,
+        omega (arith, ap map.len uncounted ∙ map.len-empty nat_cmp Count),
+      ),
+      (
+        upto_none 0 m markless,
+        nothing_grey (colors_in 0 m) _ c.new-3.ensures.items (grey_empty (colors_in 0 m) (part_none (color_in 0) m markless)),
+        omega (arith, ap map.len markless ∙ map.len-empty nat_cmp Mark),
+      ),
     )
+
+pub returns : goal.returns
+returns c = λ i. record { files = c.new.ensures.files i; counts = c.new.ensures.counts i; marks = record { colors = part_none (color_in 0) c.new.result.marks c.new.ensures.marks i; bound = 0 }; next = 1 }

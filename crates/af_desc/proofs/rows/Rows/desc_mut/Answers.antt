@@ -1,11 +1,11 @@
 -- A write through the reference changes this part of this file's row alone.
-use Rattle.std.proofs.Common.{◌≡◌, ◌∙◌, inl, sym, ap}
+use Rattle.std.proofs.Common.{◌≡◌, ◌∙◌, inl, refl, sym, ap}
 use Rattle.std.specs.Prelude.{Some}
 use Rattle.std.specs.FinMap as map
 use Rattle.std.specs.Option.{option_copied_mut}
 use Rattle.af_order.proofs.Parts.{part_put}
 use Rattle.af_desc.specs.Rowed.{Rowed}
-use Rattle.af_desc.proofs.Rowed.{counts_kept, file_is, shows}
+use Rattle.af_desc.proofs.Rowed.{counts_kept, file_is, marks_kept}
 use Rattle.af_desc.proofs.rows.Rows.desc_mut.Goals as goal
 
 pub returns : goal.returns
@@ -17,7 +17,7 @@ returns c =
     let at : map.get m f ≡ Some x = sym c.get_mut.ensures.value ∙ ap option_copied_mut c.in_ok-row.was in (
       (λ i. inl (
         c.desc_mut.result.ghost_name,
-        λ w. (shows a.rows.last a.rows.room (part_put (λ r. r.desc) m f (record x { desc = w })) (counts_kept m f x at w) ∙ ap {A = Rowed} {B = Rowed} (λ v. record v { files = map.insert v.files f w }) c.self.view_is) i,
+        λ w. ((λ j. record { files = part_put (λ r. r.desc) m f (record x { desc = w }) j; counts = counts_kept m f x at (record x { desc = w }) refl j; marks = marks_kept m f x at (record x { desc = w }) refl j; last = a.rows.last; room = a.rows.room }) ∙ ap {A = Rowed} {B = Rowed} (λ v. record v { files = map.insert v.files f w }) c.self.view_is) i,
       )),
       record {
         writes_back = tt;

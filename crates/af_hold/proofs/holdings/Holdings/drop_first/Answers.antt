@@ -1,6 +1,5 @@
 use Rattle.std.proofs.Common.{◌≡◌, [], drop, refl, sym, ap, ◌∙◌, subst}
 use Rattle.std.specs.Map.{keys_of}
-use Rattle.af_base.specs.World.{World}
 use Rattle.af_base.specs.Places.{queue_at}
 use Rattle.af_base.specs.Changes.{with_queue}
 use Rattle.af_ledger.specs.Kept.{CanDropAll, dropped_all, kept_of}
@@ -54,5 +53,6 @@ invariant_of-self-2 c =
 
 pub returns-clause-world : goal.returns-clause-world
 returns-clause-world c =
-    ap {A = World} {B = Stored} (λ w. record { world = w; rows = c.self.inside.procs.rows }) (popped c)
+    let marks = ap (λ v. v.marks) c.drop_all.ensures.rest ∙ c.pop.ensures.marks in
+    (λ i. record { world = popped c i; rows = c.self.inside.procs.rows; marks = marks i })
     ∙ ap {A = Stored} {B = Stored} (λ s. record s { world = with_queue s.world c.args.file.now (drop 1 (queue_at s.world c.args.file.now)) }) c.self.view_is

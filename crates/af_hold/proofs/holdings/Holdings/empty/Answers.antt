@@ -11,6 +11,7 @@ loop-preserved c =
     record {
       emptied = ap (λ (s : Stored). emptied (nat_eq c.args.file.now) s.world) c.drop_place.ensures.world ∙ emptied-lost w c.args.file.now ∙ c.loop.invariant.emptied;
       rows = ap (λ (s : Stored). s.rows) c.drop_place.ensures.world ∙ c.loop.invariant.rows;
+      marks = ap (λ (s : Stored). s.marks) c.drop_place.ensures.world ∙ c.loop.invariant.marks;
     }
 
 pub loop-smaller : goal.loop-smaller
@@ -23,4 +24,5 @@ returns c =
     let none = c.drop_place.ensures.none c.loop-test.false in
     let world = ap (λ (s : Stored). s.world) c.drop_place.ensures.world ∙ none-lost w f none ∙ sym (emptied-bare w f (none-silent w f none) (none-held w f none)) ∙ c.loop.invariant.emptied in
     let rows = ap (λ (s : Stored). s.rows) c.drop_place.ensures.world ∙ c.loop.invariant.rows in
-    λ i. record { world = world i; rows = rows i }
+    let marks = ap (λ (s : Stored). s.marks) c.drop_place.ensures.world ∙ c.loop.invariant.marks in
+    λ i. record { world = world i; rows = rows i; marks = marks i }

@@ -8,6 +8,7 @@ abbrev pub invariant-loop : goal.invariant-loop
 invariant-loop l = record {
   emptied : emptied (nat_eq l.file) l.self.world ≡ emptied (nat_eq l.file) l.initial.self.world;
   rows : l.self.rows ≡ l.initial.self.rows;
+  marks : l.self.marks ≡ l.initial.self.marks;
 }
 
 abbrev pub decreases-loop : goal.decreases-loop

@@ -51,5 +51,6 @@ returns-clause-world c =
     let taken = taken_at (the_view c.self.inside).world c.args.socket.now c.args.max in
     let world = seen c ∙ sym (install-filled (the_view c.self.inside).world c.args.pid (zip c.args.fds.now taken.attached)) in
     let rows = c.table_in_all.ensures.rows in
-    (λ i. record { world = world i; rows = rows i })
+    let marks = ap (λ v. v.marks) c.table_in_all.ensures.rest in
+    (λ i. record { world = world i; rows = rows i; marks = marks i })
     ∙ ap {A = Stored} {B = Stored} (λ s. record s { world = install_all s.world c.args.pid (zip c.args.fds.now (taken_at s.world c.args.socket.now c.args.max).attached) }) c.self.view_is

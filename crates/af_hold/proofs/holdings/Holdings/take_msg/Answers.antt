@@ -76,5 +76,6 @@ returns-clause-world c =
     let taken = taken_at (the_view c.self.inside).world c.args.socket.now c.args.max in
     let world = left c ∙ sym (install-filled (with_queue (the_view c.self.inside).world c.args.socket.now taken.rest) c.args.pid (zip c.args.fds.now taken.attached)) in
     let rows = c.table_in_all.ensures.rows in
-    (λ i. record { world = world i; rows = rows i })
+    let marks = ap (λ v. v.marks) c.drop_all.ensures.rest ∙ ap (λ v. v.marks) c.table_in_all.ensures.rest ∙ c.take.ensures.marks in
+    (λ i. record { world = world i; rows = rows i; marks = marks i })
     ∙ ap {A = Stored} {B = Stored} (λ s. let taken = taken_at s.world c.args.socket.now c.args.max in record s { world = install_all (with_queue s.world c.args.socket.now taken.rest) c.args.pid (zip c.args.fds.now taken.attached) }) c.self.view_is

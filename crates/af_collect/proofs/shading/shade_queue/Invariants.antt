@@ -1,0 +1,12 @@
+-- What is left, from the marks now, comes to what all come to.
+use Rattle.std.proofs.Common.{◌≡◌, drop, length}
+use Rattle.af_base.specs.Places.{carried, queue_at}
+use Rattle.af_pass.specs.Keeping.{shaded_all}
+use Rattle.af_collect.proofs.shading.shade_queue.Given as goal
+
+abbrev pub invariant-loop-at : goal.invariant-loop-at
+invariant-loop-at l = record {
+  frame : l.places ≡ record l.fn.places { marks = l.places.marks };
+  end : l.at-end ≡ length (queue_at l.fn.places.world l.fn.file);
+  marks : shaded_all (carried (drop l.at (queue_at l.fn.places.world l.fn.file))) l.places.marks ≡ shaded_all (carried (queue_at l.fn.places.world l.fn.file)) l.fn.places.marks;
+}

@@ -1,0 +1,43 @@
+use Rattle.std.proofs.Common.{rules, ◌≡◌, ◌∷◌, [], ◌++◌, refl, sym, ap, ◌∙◌, arith}
+use Rattle.std.specs.Prelude.{is_some, vec_capacity}
+use Rattle.std.specs.FinMap as map
+use Rattle.af_mark.specs.Grey.{colors_in}
+use Rattle.af_mark.specs.declared.color.Color.TheVariants.{Grey, White}
+use Rattle.af_mark.specs.declared.mark.Mark.{Mark}
+use Rattle.af_mark.proofs.Colors.{color_after, color_known, color_now, same_marked}
+use Rattle.af_mark.proofs.Greys.{grey_here, white_here}
+use Rattle.af_mark.proofs.Listed.{listed-grey, listed-same}
+use Rattle.af_desc.proofs.Filing.{filed-marked}
+use Rattle.af_desc.proofs.files.Files.push_grey.Goals as goal
+
+pub set_mark-requires : goal.set_mark-requires
+set_mark-requires c =
+    let was = ap (λ v. map.get v.marks.colors c.args.file.now) c.self.view_is ∙ white_here c.args.self.now.marks.colors c.args.file.now c.requires in
+    sym (color_known c.self.inside.epoch c.self.inside.rows.marks c.args.file.now) ∙ ap is_some was
+
+pub push_reserved-requires : goal.push_reserved-requires
+push_reserved-requires c =
+    let a = c.self.inside in
+    let f = c.args.file.now in
+    let was = ap (λ v. map.get v.marks.colors f) c.self.view_is ∙ white_here c.args.self.now.marks.colors f c.requires in
+    let listed = listed-grey a.rows.marks c.set_mark.new.self.marks a.epoch a.grey.items (vec_capacity a.grey) c.self.invariant.1 f (record { epoch = a.epoch; color = Grey; at = c.noted.result }) (ap (λ r. r.marks) c.set_mark.ensures.set) refl c.set_mark.ensures.len refl (grey_here (colors_in a.epoch a.rows.marks) f White was) in
+    let low = listed.0 in
+    omega (arith, low)
+
+pub invariant_of-self : goal.invariant_of-self
+invariant_of-self c =
+    let a = c.self.inside in
+    let f = c.args.file.now in
+    let was = ap (λ v. map.get v.marks.colors f) c.self.view_is ∙ white_here c.args.self.now.marks.colors f c.requires in
+    let listed = listed-grey a.rows.marks c.set_mark.new.self.marks a.epoch a.grey.items (vec_capacity a.grey) c.self.invariant.1 f (record { epoch = a.epoch; color = Grey; at = c.noted.result }) (ap (λ r. r.marks) c.set_mark.ensures.set) refl c.set_mark.ensures.len refl (grey_here (colors_in a.epoch a.rows.marks) f White was) in
+    let items : c.push_reserved.new.self.items ≡ a.grey.items ++ f ∷ [] = search rules in (
+      filed-marked a.rows _ a.waiting.items (vec_capacity a.waiting) a.names a.next c.self.invariant.0 _ c.set_mark.ensures.set,
+      listed-same c.set_mark.new.self.marks c.set_mark.new.self.marks a.epoch (a.grey.items ++ f ∷ []) (vec_capacity a.grey) listed.1 _ (vec_capacity c.push_reserved.new.self) refl items (omega (arith, c.push_reserved.ensures.capacity)),
+    )
+
+pub returns-clause-colors : goal.returns-clause-colors
+returns-clause-colors c =
+    let a = c.self.inside in
+    let f = c.args.file.now in
+    let x : Mark = record { epoch = a.epoch; color = Grey; at = c.noted.result } in
+    same_marked _ _ (color_after a.epoch a.rows.marks c.set_mark.new.self.marks f x Grey (ap (λ r. r.marks) c.set_mark.ensures.set) (color_now a.epoch x refl) ∙ ap (λ v. map.insert v.marks.colors f Grey) c.self.view_is) (ap (λ v. v.marks.bound) c.self.view_is)

@@ -1,0 +1,191 @@
+//! Which files a pass of the collector has marked, and which of these it has still to scan. No call
+//! takes memory.
+ghost use Rattle.std.specs.Prelude.{◌≡◌, ℕ, ◌-◌, Some, IsTrue, IfSome, IfNone, cond, false, nat_eq, option_map, true, vec_capacity};
+ghost use Rattle.std.specs.FinMap as map;
+ghost use Rattle.af_base.specs.Counts.{count_in};
+ghost use Rattle.af_base.specs.Changes.{change_at};
+ghost use Rattle.af_mark.specs.Grey.{AreUpTo, colors_in, placed};
+ghost use Rattle.af_mark.specs.Marked.{blackened, is_grey, is_marked, is_white, knows, shaded};
+ghost use Rattle.af_mark.specs.declared.color.Color.TheVariants.{Black, Grey, White};
+
+use crate::files::Files;
+use crate::rows::Rows;
+use af_base::names::{FileRef, Ino};
+use af_mark::{Color, Mark, noted, unlist};
+
+impl Files {
+    /// A pass begins, over the files that are there: none is marked. It costs the same however many
+    /// there are, but for one time in 2^64.
+    pub fn unmark(&mut self)
+        ensures unmarked { (f : ℕ) → is_marked self.new.marks f ≡ false }
+        ensures known { (f : ℕ) → knows self.new.marks f ≡ knows self.old.marks f }
+        ensures bound { self.new.marks.bound ≡ self.old.next }
+        ensures rest { self.new ≡ record self.old { marks = self.new.marks } }
+    {
+        self.epoch = next_epoch(&mut self.rows, self.epoch);
+        self.grey.clear();
+        self.bound = self.next;
+    }
+
+    /// The bound of the pass: files from this number on were born since it began.
+    pub fn bound(&self) -> Ino
+        ensures { result ≡ self.now.marks.bound }
+    {
+        Ino(self.bound)
+    }
+
+    /// A file is marked, and is to be scanned, if it was born before the pass and is not marked.
+    pub fn shade(&mut self, file: &FileRef)
+        ensures { self.new ≡ record self.old { marks = shaded file.now self.old.marks } }
+    {
+        if file.ino().0 < self.bound && self.is_white(file) {
+            self.push_grey(file);
+        }
+    }
+
+    /// A white file is marked, and is to be scanned.
+    fn push_grey(&mut self, file: &FileRef)
+        requires { is_white self.old.marks file.now ≡ true }
+        ensures colors { self.new.marks ≡ record self.old.marks { colors = map.insert self.old.marks.colors file.now Grey } }
+        ensures rest { self.new ≡ record self.old { marks = self.new.marks } }
+    {
+        let mark = Mark {
+            epoch: self.epoch,
+            color: Color::Grey,
+            at: noted(self.grey.len()),
+        };
+        self.rows.set_mark(file, mark);
+        self.grey.push_reserved(file.again());
+    }
+
+    /// A file that is to be scanned, if there is one. It stays so until it is `scanned`.
+    pub fn next_grey(&self) -> Option<FileRef>
+        ensures some { IfSome result (λ f. is_grey self.now.marks f ≡ true) }
+        ensures none { IfNone result ((f : ℕ) → is_grey self.now.marks f ≡ false) }
+    {
+        let file = self.grey.last()?;
+        Some(file.again())
+    }
+
+    /// A file that was to be scanned is so no more, and stays marked.
+    #[inline(always)]
+    pub fn scanned(&mut self, file: &FileRef)
+        ensures { self.new ≡ record self.old { marks = blackened file.now self.old.marks } }
+    {
+        // While no pass marks nothing is grey, and there is nothing to look up.
+        let Some(_) = self.next_grey() else {
+            return;
+        };
+        let Some(mark) = self.rows.mark(file) else {
+            return;
+        };
+        if mark.is_grey_in(self.epoch) {
+            self.take_grey(file, mark.at as usize);
+        }
+    }
+
+    /// A grey file is scanned. Its place in the list is a hint.
+    fn take_grey(&mut self, file: &FileRef, at: usize)
+        requires { is_grey self.old.marks file.now ≡ true }
+        ensures colors { self.new.marks ≡ record self.old.marks { colors = map.insert self.old.marks.colors file.now Black } }
+        ensures rest { self.new ≡ record self.old { marks = self.new.marks } }
+    {
+        let mark = Mark {
+            epoch: self.epoch,
+            color: Color::Black,
+            at: 0,
+        };
+        self.rows.set_mark(file, mark);
+        strike(&mut self.rows, &mut self.grey, file.ino(), at);
+    }
+
+    /// The colour of a file, if it is known.
+    fn color(&self, file: &FileRef) -> Option<Color>
+        ensures { result ≡ map.get self.now.marks.colors file.now }
+    {
+        let mark = self.rows.mark(file)?;
+        Some(mark.color_in(self.epoch))
+    }
+
+    /// Whether a file is known, and not marked.
+    fn is_white(&self, file: &FileRef) -> bool
+        ensures { result ≡ is_white self.now.marks file.now }
+    {
+        matches!(self.color(file), Some(Color::White))
+    }
+
+    /// Whether a file is marked. A stranger is not.
+    pub fn is_marked(&self, file: &FileRef) -> bool
+        ensures { result ≡ is_marked self.now.marks file.now }
+    {
+        match self.color(file) {
+            Some(Color::Grey | Color::Black) => true,
+            Some(Color::White) | None => false,
+        }
+    }
+}
+
+/// The file is in the list of the grey files once less, if it was there. The last takes its place,
+/// which is noted beside that one's mark.
+fn strike(rows: &mut Rows, grey: &mut Vec<FileRef>, ino: Ino, at: usize)
+    ensures each { (f : ℕ) → count_in f grey.new.items ≡ count_in f grey.old.items - cond (nat_eq f ino) 1 0 }
+    ensures capacity { vec_capacity grey.new ≡ vec_capacity grey.old }
+    ensures colors { (epoch : ℕ) → colors_in epoch rows.new.marks ≡ colors_in epoch rows.old.marks }
+    ensures epochs { (epoch : ℕ) → AreUpTo epoch rows.old.marks → AreUpTo epoch rows.new.marks }
+    ensures len { map.len rows.new.marks ≡ map.len rows.old.marks }
+    ensures rest { rows.new ≡ record rows.old { marks = rows.new.marks } }
+{
+    if let Some(at) = unlist(grey, ino, at)
+        && let Some(moved) = grey.get(at)
+    {
+        note(rows, moved, noted(at));
+    }
+}
+
+/// A place in the list is noted beside a file's mark.
+fn note(rows: &mut Rows, file: &FileRef, at: u32)
+    ensures { rows.new ≡ record rows.old { marks = change_at (placed at) rows.old.marks file.now } }
+{
+    if let Some(mark) = rows.mark(file) {
+        let Mark { epoch, color, .. } = mark;
+        rows.set_mark(file, Mark { epoch, color, at });
+    }
+}
+
+/// The pass after this one: what any earlier one marked is not marked in it.
+fn next_epoch(rows: &mut Rows, epoch: u64) -> u64
+    requires upto { AreUpTo epoch rows.old.marks }
+    requires begins { map.contains_key rows.old.files 0 ≡ false }
+    ensures white { (f : ℕ) → map.get (colors_in result rows.new.marks) f ≡ option_map (λ x. White) (map.get rows.new.marks f) }
+    ensures marks { AreUpTo result rows.new.marks }
+    ensures known { (f : ℕ) → map.contains_key rows.new.marks f ≡ map.contains_key rows.old.marks f }
+    ensures len { map.len rows.new.marks ≡ map.len rows.old.marks }
+    ensures rest { rows.new ≡ record rows.old { marks = rows.new.marks } }
+{
+    if epoch < u64::MAX {
+        return epoch + 1;
+    }
+    // Once in 2^64 passes.
+    wash(rows);
+    1
+}
+
+/// No file has a mark of any pass.
+#[cold]
+fn wash(rows: &mut Rows)
+    requires begins { map.contains_key rows.old.files 0 ≡ false }
+    ensures marks { AreUpTo 0 rows.new.marks }
+    ensures known { (f : ℕ) → map.contains_key rows.new.marks f ≡ map.contains_key rows.old.marks f }
+    ensures len { map.len rows.new.marks ≡ map.len rows.old.marks }
+    ensures rest { rows.new ≡ record rows.old { marks = rows.new.marks } }
+{
+    let mut last = FileRef::new(Ino(0), 0);
+    while let Some(file) = rows.next_after(&last) {
+        // Who is a file has a mark.
+        rows.are_one();
+        rows.set_mark(&file, Mark::none());
+        last = file;
+    }
+    // And nobody else has one.
+    rows.are_one();
+}

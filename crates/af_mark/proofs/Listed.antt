@@ -1,0 +1,91 @@
+-- That marks and list stay right, whatever comes, goes or changes.
+use Rattle.std.proofs.Common.{◌≡◌, ◌≤◌, ◌<◌, ◌-◌, ℕ, Bool, true, false, cond, List, [], ◌∷◌, ◌++◌, length, refl, ap, ◌∙◌, subst, sym, arith}
+use Rattle.std.specs.Prelude.{Some, None, if◌then◌else◌}
+use Rattle.std.specs.Cmp.{nat_cmp_total}
+use Rattle.std.specs.FinMap as map
+use Rattle.std.specs.FinMap.{get-insert, get-remove, nat_cmp-IsAntisymmetric, same_map}
+use Rattle.std.specs.Option.{option_map_or}
+use Rattle.std.specs.Ordering.{eq_by_cmp, nat_cmp}
+use Rattle.af_base.proofs.Lookups.{insert-here}
+use Rattle.af_base.specs.Counts.{count_in}
+use Rattle.af_base.specs.World.{Map}
+use Rattle.af_order.proofs.Values.{gone_few}
+use Rattle.af_mark.specs.Grey.{AreGrey, AreListed, AreUpTo, colors_in, unmarked}
+use Rattle.af_mark.specs.Marked.{Marked, blackened, forgotten, is_grey, is_grey_color}
+use Rattle.af_mark.specs.declared.color.Color.TheVariants.{Black, Grey, White}
+use Rattle.af_mark.specs.declared.mark.Mark.{Mark}
+use Rattle.af_mark.proofs.Colors.{color_after, color_known, color_now, color_white, color_without, same_marked, upto_put, upto_taken}
+use Rattle.af_mark.proofs.Greys.{grey_of, grey_put, grey_same_put, grey_same_taken, grey_stranger, kept_grey, pushed_grey, same, struck_grey}
+
+module _ (m n : Map Mark) (e : ℕ) (fs : List ℕ) (room : ℕ) (h : AreListed m e fs room) where
+  -- More room changes nothing.
+  pub listed-same : (gs : List ℕ) (most : ℕ) → n ≡ m → gs ≡ fs → room ≤ most → AreListed n e gs most
+  listed-same gs most is same more = let fits = h.2 in (
+    subst (AreUpTo e) (sym is) h.0,
+    subst (AreGrey (colors_in e n)) (sym same) (subst (λ o. AreGrey (colors_in e o) fs) (sym is) h.1),
+    omega (arith, fits, more, ap map.len is),
+  )
+
+  -- Other marks of the same colours.
+  pub listed-moved : colors_in e n ≡ colors_in e m → (AreUpTo e m → AreUpTo e n) → map.len n ≡ map.len m → AreListed n e fs room
+  listed-moved colors upto many = let fits = h.2 in (upto h.0, subst (λ cs. AreGrey cs fs) (sym colors) h.1, omega (arith, fits, many))
+
+  -- A file more has a mark of no pass.
+  pub listed-born : (f most : ℕ) → n ≡ map.insert m f unmarked → map.contains_key m f ≡ false → map.len n ≤ most → AreListed n e fs most
+  listed-born f most is new fits =
+      let colors = color_after e m n f unmarked White is (color_white e unmarked refl) in (
+        subst (AreUpTo e) (sym is) (upto_put e m f unmarked (omega arith) h.0),
+        kept_grey (colors_in e m) (colors_in e n) fs f h.1 (λ g. ap (λ cs. grey_of cs g) colors ∙ grey_same_put (colors_in e m) f White refl (grey_stranger (colors_in e m) f (color_known e m f ∙ new)) g),
+        fits,
+      )
+
+  -- A file less, which was not grey.
+  pub listed-gone : (f : ℕ) → n ≡ map.remove m f → option_map_or is_grey_color (map.get (colors_in e m) f) false ≡ false → AreListed n e fs room
+  listed-gone f is white =
+      let fits = h.2 in
+      let colors = color_without e m n f is in (
+        subst (AreUpTo e) (sym is) (upto_taken e m f h.0),
+        kept_grey (colors_in e m) (colors_in e n) fs f h.1 (λ g. ap (λ cs. grey_of cs g) colors ∙ grey_same_taken (colors_in e m) f (ap {B = ℕ} (λ b. cond b 1 0) white) g),
+        omega (arith, fits, ap map.len is, gone_few m f),
+      )
+
+  module _ (f : ℕ) (x : Mark) (is : n ≡ map.insert m f x) (now : x.epoch ≡ e) (many : map.len n ≡ map.len m) where
+    -- A white file is grey, and the last of the list, which has room for it.
+    pub listed-grey : x.color ≡ Grey → grey_of (colors_in e m) f ≡ 0 → (length fs < room) × AreListed n e (fs ++ f ∷ []) room
+    listed-grey grey white =
+        let fits = h.2 in
+        let pushed = pushed_grey (colors_in e m) (colors_in e n) n fs f Grey h.1 (color_after e m n f x Grey is (color_now e x now ∙ grey)) refl white (color_known e n) in
+        let low = pushed.1 in (
+          omega (arith, fits, low, many),
+          (subst (AreUpTo e) (sym is) (upto_put e m f x (omega (arith, now)) h.0), pushed.0, omega (arith, fits, many)),
+        )
+
+    -- A grey file is black, and in the list no more.
+    pub listed-black : (gs : List ℕ) (most : ℕ) → x.color ≡ Black → grey_of (colors_in e m) f ≡ 1 → ((g : ℕ) → count_in g gs ≡ count_in g fs - same g f) → room ≤ most → AreListed n e gs most
+    listed-black gs most black grey less more =
+        let fits = h.2 in
+        let colors = color_after e m n f x Black is (color_now e x now ∙ black) in (
+          subst (AreUpTo e) (sym is) (upto_put e m f x (omega (arith, now)) h.0),
+          struck_grey (colors_in e m) (colors_in e n) fs f h.1 gs (λ g. ap (λ cs. grey_of cs g) colors ∙ grey_put (colors_in e m) f Black g) grey less,
+          omega (arith, fits, many, more),
+        )
+
+-- Who is black is not grey.
+pub black-spared : (f : ℕ) (m : Marked) → is_grey (blackened f m) f ≡ false
+black-spared f m = by (is_grey m f) refl where
+  by : (b : Bool) → is_grey m f ≡ b → is_grey (if b then record m { colors = map.insert m.colors f Black } else m) f ≡ false
+  by true e = ap (λ o. option_map_or is_grey_color o false) (insert-here m.colors f Black)
+  by false e = e
+
+-- Who is scanned and then forgotten is forgotten.
+pub black-forgotten : (f : ℕ) (m : Marked) → forgotten f (blackened f m) ≡ forgotten f m
+black-forgotten f m = by (is_grey m f) where
+  by : (b : Bool) → forgotten f (if b then record m { colors = map.insert m.colors f Black } else m) ≡ forgotten f m
+  by true = same_marked _ _ (same_map nat_cmp_total nat_cmp-IsAntisymmetric _ _ (λ q.
+      get-remove nat_cmp_total (map.insert m.colors f Black) f q ∙ ap (cond (eq_by_cmp nat_cmp q f) None) (get-insert nat_cmp_total m.colors f Black q) ∙ at q (eq_by_cmp nat_cmp q f) ∙ sym (get-remove nat_cmp_total m.colors f q))) refl where
+        at : (q : ℕ) (b : Bool) → cond b None (cond b (Some Black) (map.get m.colors q)) ≡ cond b None (map.get m.colors q)
+        at q true = refl
+        at q false = refl
+  by false = refl
+
+pub ruleset gone = (black-spared, black-forgotten)

@@ -1,0 +1,51 @@
+//! A file's mark.
+ghost use Rattle.std.specs.Prelude.{◌≡◌};
+ghost use Rattle.af_mark.specs.Grey.{color_in, unmarked};
+ghost use Rattle.af_mark.specs.Marked.{is_grey_color};
+
+use crate::color::Color;
+
+/// A file's colour, and of which pass it is.
+#[derive(Clone, Copy)]
+pub struct Mark {
+    /// The pass; 0 is none.
+    pub epoch: u64,
+    /// The colour that it got then.
+    pub color: Color,
+    /// Its place in the list of the grey files: a hint.
+    pub at: u32,
+}
+
+impl Mark {
+    /// A mark of no pass.
+    #[inline(always)]
+    pub fn none() -> Mark
+        ensures { result ≡ unmarked }
+    {
+        Mark {
+            epoch: 0,
+            color: Color::White,
+            at: 0,
+        }
+    }
+
+    /// The colour in this pass.
+    #[inline(always)]
+    pub fn color_in(&self, epoch: u64) -> Color
+        ensures { result ≡ color_in epoch self.now }
+    {
+        if self.epoch == epoch {
+            self.color
+        } else {
+            Color::White
+        }
+    }
+
+    /// Whether it is grey in this pass.
+    #[inline(always)]
+    pub fn is_grey_in(&self, epoch: u64) -> bool
+        ensures { result ≡ is_grey_color (color_in epoch self.now) }
+    {
+        matches!(self.color_in(epoch), Color::Grey)
+    }
+}

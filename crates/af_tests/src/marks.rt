@@ -1,0 +1,66 @@
+//! What no clause says: that ample memory is enough, and that a second trial is after a refusal.
+
+use af_base::names::{FileRef, Ino};
+use af_desc::Files;
+use std::alloc::AllocError;
+use std::process::Abort;
+use std::test::Fail;
+
+/// A plain file more.
+fn file(rt: &impl Abort, files: &mut Files) -> Result<FileRef, AllocError> {
+    assert!(rt; !files.is_full(1));
+    files.make_plain()
+}
+
+/// Two files are there when a pass begins, and a third is made after that; a fourth never was.
+fn marks_two(rt: &impl Abort, files: &mut Files) -> Result<(FileRef, FileRef), AllocError> {
+    let (first, second) = (file(rt, files)?, file(rt, files)?);
+    files.unmark();
+    let third = file(rt, files)?;
+    let stranger = FileRef::new(Ino(4), 0);
+    for file in [&second, &first, &second, &third, &stranger] {
+        files.shade(file);
+    }
+    assert!(rt; files.is_marked(&first) && files.is_marked(&second));
+    assert!(rt; !files.is_marked(&third) && !files.is_marked(&stranger));
+    Ok((first, second))
+}
+
+/// One of the two is scanned, and the other is gone. The next pass has marked none.
+fn passes(rt: &impl Abort, files: &mut Files) -> Result<(), AllocError> {
+    let (first, second) = marks_two(rt, files)?;
+    files.scanned(&second);
+    assert!(rt; files.is_marked(&second));
+    assert!(rt;
+        files
+            .next_grey()
+            .is_some_and(|grey| grey.ino() == first.ino())
+    );
+    assert!(rt; files.remove(&first).is_some());
+    assert!(rt; files.next_grey().is_none() && !files.is_marked(&first));
+    files.unmark();
+    assert!(rt; !files.is_marked(&second));
+    Ok(())
+}
+
+#[test]
+fn a_pass_marks(rt: HostRuntime) -> Result<(), Fail> {
+    let mut files = Files::new(rt.alloc());
+    Ok(passes(&rt, &mut files)?)
+}
+
+/// A file is made, at the second trial where the first found no room. It is not marked.
+fn one_is_made(rt: &impl Abort, files: &mut Files) {
+    let made = match file(rt, files) {
+        Ok(made) => made,
+        Err(_) => file(rt, files).unwrap_or_default(),
+    };
+    assert!(rt; files.live() == 1 && !files.is_marked(&made));
+}
+
+/// One allocation refused, the Nth: `tools/stress` refuses each in turn.
+#[test]
+fn one_refused(rt: HostRuntime) {
+    let mut files = Files::new(rt.alloc());
+    one_is_made(&rt, &mut files);
+}
