@@ -2,4 +2,5 @@
 pub mod Holding
 pub mod Losing
 pub mod Placed
+pub mod Standing
 pub mod Passing

@@ -1,6 +1,6 @@
 -- Each change of places, and each file more, keeps what is kept.
-use Rattle.std.proofs.Common.{◌≡◌, ◌<◌, ℕ, Bool, true, false, List, [], ◌∷◌, ◌++◌, inl, inr, nat_eq, refl, sym, ap, ◌∙◌, subst, arith}
-use Rattle.std.specs.Prelude.{Some, IsTrue, is_some, length, slice_get, if◌then◌else◌}
+use Rattle.std.proofs.Common.{◌≡◌, ℕ, Bool, true, false, List, [], ◌∷◌, ◌++◌, inl, inr, nat_eq, refl, sym, ap, ◌∙◌, subst, arith}
+use Rattle.std.specs.Prelude.{Some, IsTrue, is_some, if◌then◌else◌}
 use Rattle.std.specs.List.{Contains, list_any, zip}
 use Rattle.std.specs.FinMap as map
 use Rattle.std.proofs.lemmas.Bool.{cases_Bool, false≢true}
@@ -32,11 +32,6 @@ use Rattle.af_pass.proofs.Placing.{covers_install_lowest, covers_limited, moves_
 use Rattle.af_pass.proofs.Sockets.{covers_receive, moves_receive}
 use Rattle.af_pass.proofs.Spared.{held_spared, marking_runs, spared_running}
 use Rattle.af_collect.proofs.Losing.{marked_there}
-
--- A list that is not empty has a first.
-pub first_of : (xs : List ℕ) → 0 < length xs → (x : ℕ) × (slice_get xs 0 ≡ Some x)
-first_of [] some = absurd (omega (arith, some))
-first_of (x ∷ xs) some = (x, refl)
 
 -- A process started changes no file.
 pub files_spawned : (w : World) (uid nofile : ℕ) (privileged : Bool) → ((spawned w uid nofile privileged).files ≡ w.files) × ((spawned w uid nofile privileged).next_ino ≡ w.next_ino)

@@ -4,13 +4,19 @@
 //! (`copy_for_fork` and `remove_process`), and by `release`, `slice` and `collect`, and by no other.
 #![tactic(auto)]
 
+mod holdings;
+mod listings;
+mod marks;
 mod parts;
 mod passes;
 mod places;
+mod reads;
+mod release;
 mod shading;
 mod sockets;
 mod store;
 mod units;
 mod views;
 
+pub use holdings::Holdings;
 pub use store::Store;

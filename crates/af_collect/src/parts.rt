@@ -6,13 +6,13 @@ ghost use Rattle.af_base.specs.Places.{backlog_at, held_by, queue_at, table_at};
 ghost use Rattle.af_base.specs.Reached.{Garbage};
 ghost use Rattle.af_base.specs.Unheld.{Settles, without};
 ghost use Rattle.af_base.specs.Whole.{IsSound};
-ghost use Rattle.af_pass.specs.Keeping.{counted, first_held, is_counted, is_marking, is_running, shaded_all, shaded_in};
+ghost use Rattle.af_pass.specs.Keeping.{counted, first_held, is_counted, is_marking, is_running, shaded_all};
 ghost use Rattle.af_mark.specs.Marked.{forgotten};
 ghost use Rattle.af_collect.specs.Shown.{AreKept, MarksAll, with_marks};
 
-use crate::shading::{is_socket, shade_all, shade_embryo, shade_first};
+use crate::holdings::Holdings;
+use crate::shading::{is_socket, shade_embryo, shade_first};
 use af_base::names::{Fd, FileRef, Pid};
-use af_hold::Holdings;
 use af_pass::{Progress, Stage};
 use std::snapshot::Snapshot;
 
@@ -114,16 +114,6 @@ impl Parts {
             // Backlogs hold live files: that is what a whole world says of them.
             self.places.is_whole();
             shade_embryo(&mut self.places, listener, 0);
-        }
-    }
-
-    /// Marks what was taken out of a queue, where marking goes on.
-    #[inline(always)]
-    pub fn shade_taken(&mut self, files: &[FileRef])
-        ensures { self.new ≡ with_marks (shaded_in self.old.progress.stage files.now self.old.places.marks) self.old }
-    {
-        if self.is_marking() {
-            shade_all(&mut self.places, files);
         }
     }
 

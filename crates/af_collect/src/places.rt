@@ -17,9 +17,12 @@ ghost use Rattle.af_pass.specs.Keeping.{Spares};
 ghost use Rattle.af_collect.specs.Shown.{room_at};
 ghost use Rattle.af_desc.specs.Filed.{received_of};
 
+use crate::shading::shade_taken;
 use crate::store::Store;
 use af_base::limits::{MAX_INFLIGHT, MAX_MESSAGES};
 use af_base::names::{Fd, FileRef, Pid};
+use af_hold::{drop_all, hold_all, table_in_all};
+use af_ledger::Place;
 use af_queue::{Msg, Taken};
 use std::alloc::AllocError;
 
@@ -35,7 +38,9 @@ impl Store {
         requires spared { Spares self.old.pass file }
         ensures { self.new ≡ record self.old { world = install self.old.world pid fd file } }
     {
-        self.parts.places.table_in(pid, fd, file);
+        let places = &mut self.parts.places;
+        places.files.raise(&Place::Table, &file);
+        places.procs.install(pid, fd, file);
     }
 
     /// An open number of a process is free from now on. It takes no memory.
@@ -45,7 +50,9 @@ impl Store {
         ensures { self.new ≡ record self.old { world = uninstall self.old.world pid fd } }
     {
         self.parts.shade_number(pid, fd);
-        self.parts.places.table_out(pid, fd);
+        let places = &mut self.parts.places;
+        let file = places.procs.take_out(pid, fd).unwrap();
+        places.files.lower(&Place::Table, &file);
     }
 
     /// A message into the queue of a socket, last. It carries live files, and each of these places is
@@ -61,7 +68,24 @@ impl Store {
         ensures ok { OnOk result (self.new ≡ record self.old { world = push_message self.old.world socket.now message }) }
         ensures err { OnErr result (self.new ≡ self.old) }
     {
-        self.parts.places.put_msg(socket, message)
+        let places = &mut self.parts.places;
+        hold_all(
+            &mut places.files,
+            &mut places.ledger,
+            message.user(),
+            message.attached(),
+        );
+        let Err(refused) = places.files.push(socket, message) else {
+            return Ok(());
+        };
+        // It has no place after all: what it carries is as it was.
+        drop_all(
+            &mut places.files,
+            &mut places.ledger,
+            refused.user(),
+            refused.attached(),
+        );
+        Err(AllocError)
     }
 
     /// What a receive of at most `max` bytes takes out of a queue (recvmsg(2)): its first files come
@@ -84,10 +108,18 @@ impl Store {
         ensures world { OnOk result (self.new ≡ record self.old { world = install_all (with_queue self.old.world socket.now (taken_at self.old.world socket.now max).rest) pid (zip fds.now (taken_at self.old.world socket.now max).attached) }) }
         ensures err { OnErr result (self.new ≡ self.old) }
     {
-        // Messages have bytes: that is what a world within the limits says of them.
-        self.parts.places.is_whole();
-        let taken = self.parts.places.take_msg(socket, max, pid, fds)?;
-        self.parts.shade_taken(taken.attached());
+        let places = &mut self.parts.places;
+        let taken = places.files.take(socket, max)?;
+        let attached = taken.attached();
+        // Into the table first, so that no file waits in between.
+        table_in_all(&mut places.procs, &mut places.files, pid, fds, attached);
+        drop_all(
+            &mut places.files,
+            &mut places.ledger,
+            taken.user(),
+            attached,
+        );
+        shade_taken(&self.parts.progress, &mut places.files, attached);
         Ok(taken)
     }
 
@@ -111,9 +143,16 @@ impl Store {
         ensures world { OnOk result (self.new ≡ record self.old { world = install_all self.old.world pid (zip fds.now (taken_at self.old.world socket.now max).attached) }) }
         ensures err { OnErr result (self.new ≡ self.old) }
     {
-        // Messages have bytes: that is what a world within the limits says of them.
-        self.parts.places.is_whole();
+        let places = &mut self.parts.places;
+        let seen = places.files.peek(socket, max)?;
         // Nothing leaves a place, so nothing is to be marked.
-        self.parts.places.peek_msg(socket, max, pid, fds)
+        table_in_all(
+            &mut places.procs,
+            &mut places.files,
+            pid,
+            fds,
+            seen.attached(),
+        );
+        Ok(seen)
     }
 }

@@ -4,20 +4,30 @@ ghost use Rattle.std.specs.Prelude.{◌≡◌, [], drop, length, option_copied, 
 ghost use Rattle.std.specs.Option.{option_map_or};
 ghost use Rattle.af_base.specs.Places.{backlog_at, carried, held_by, queue_at};
 ghost use Rattle.af_base.specs.Refusals.{socket_at};
-ghost use Rattle.af_pass.specs.Keeping.{first_held, shaded_all};
+ghost use Rattle.af_pass.specs.Keeping.{first_held, shaded_all, shaded_in};
 ghost use Rattle.af_pass.specs.Since.{is_socket_at};
 ghost use Rattle.af_collect.specs.Shown.{attached_at};
 
+use crate::holdings::Holdings;
 use af_base::names::FileRef;
-use af_desc::Socket;
-use af_hold::Holdings;
+use af_desc::{Files, Socket};
+use af_pass::{Progress, Stage};
+
+/// Marks what was taken out of a queue, where marking goes on.
+pub fn shade_taken(progress: &Progress, files: &mut Files, taken: &[FileRef])
+    ensures { files.new ≡ record files.old { marks = shaded_in progress.now.stage taken.now files.old.marks } }
+{
+    if matches!(progress.stage, Stage::Marking) {
+        shade_all(files, taken);
+    }
+}
 
 /// Marks these files.
-pub fn shade_all(places: &mut Holdings, files: &[FileRef])
-    ensures { places.new ≡ record places.old { marks = shaded_all files.now places.old.marks } }
+fn shade_all(files: &mut Files, taken: &[FileRef])
+    ensures { files.new ≡ record files.old { marks = shaded_all taken.now files.old.marks } }
 {
-    for file in files {
-        places.shade(file);
+    for file in taken {
+        files.shade(file);
     }
 }
 

@@ -18,6 +18,7 @@ use af_base::events::{SockType, State};
 use af_base::items::Items;
 use af_base::limits::MAX_BACKLOG;
 use af_base::names::{Fd, FileRef, Pid};
+use af_ledger::Place;
 use std::alloc::AllocError;
 
 impl Store {
@@ -30,9 +31,8 @@ impl Store {
         ensures spared { IfOk result (λ ino. Spares self.new.pass ino) }
         ensures err { OnErr result (self.new ≡ self.old) }
     {
-        // Files' numbers are below the next one: that is what a whole world says of them.
-        self.parts.places.is_whole();
-        self.parts.places.make_sock(kind)
+        let places = &mut self.parts.places;
+        places.files.make_sock(kind)
     }
 
     /// An embryo: a socket more, and this client, which was never connected, are connected to each
@@ -46,9 +46,8 @@ impl Store {
         ensures spared { IfOk result (λ ino. Spares self.new.pass ino) }
         ensures err { OnErr result (self.new ≡ self.old) }
     {
-        // Files' numbers are below the next one: that is what a whole world says of them.
-        self.parts.places.is_whole();
-        self.parts.places.make_embryo(kind, client)
+        let places = &mut self.parts.places;
+        places.files.make_embryo(kind, client)
     }
 
     /// A socket that has no name and never listened has this one from now on, which is nobody's
@@ -60,7 +59,8 @@ impl Store {
         ensures ok { OnOk result (self.new ≡ record self.old { world = with_socket self.old.world socket.now (bound name.now) }) }
         ensures err { OnErr result (self.new ≡ self.old) }
     {
-        self.parts.places.bind(socket, name)
+        let places = &mut self.parts.places;
+        places.files.bind(socket, name)
     }
 
     /// A socket that has a name and was never connected waits for connections from now on, so many
@@ -72,7 +72,8 @@ impl Store {
         ensures ok { OnOk result (self.new ≡ record self.old { world = with_socket self.old.world socket.now (listening most) }) }
         ensures err { OnErr result (self.new ≡ self.old) }
     {
-        self.parts.places.listen(socket, most)
+        let places = &mut self.parts.places;
+        places.files.listen(socket, most)
     }
 
     /// An embryo into the backlog of a listener that has room for it, last. It takes no memory.
@@ -84,7 +85,9 @@ impl Store {
         requires socket { is_none (socket_at self.old.world listener.now) ≡ false }
         ensures { self.new ≡ record self.old { world = with_socket self.old.world listener.now (queued embryo) } }
     {
-        self.parts.places.put_embryo(listener, embryo);
+        let places = &mut self.parts.places;
+        places.files.raise(&Place::Backlog, &embryo);
+        places.files.enqueue(listener, embryo);
     }
 
     /// The first embryo of a listener out of its backlog and into a table, at a free number for which
@@ -99,6 +102,11 @@ impl Store {
         ensures { (embryo : ℕ) → slice_get (backlog_at self.old.world listener.now) 0 ≡ Some embryo → self.new ≡ record self.old { world = install (with_socket self.old.world listener.now dequeued) pid fd embryo } }
     {
         self.parts.shade_embryo(listener);
-        self.parts.places.take_embryo(listener, pid, fd);
+        let places = &mut self.parts.places;
+        let embryo = places.files.dequeue(listener).unwrap();
+        // Into the table first, so that it does not wait in between.
+        places.files.raise(&Place::Table, &embryo);
+        places.files.lower(&Place::Backlog, &embryo);
+        places.procs.install(pid, fd, embryo);
     }
 }

@@ -9,11 +9,12 @@ ghost use Rattle.af_base.specs.Steps.{spawned, with_pair};
 ghost use Rattle.af_pass.specs.Keeping.{Spares};
 ghost use Rattle.af_collect.specs.Shown.{room_at};
 
+use crate::holdings::Holdings;
 use crate::parts::Parts;
 use af_base::events::SockType;
 use af_base::limits::MAX_NOFILE;
 use af_base::names::{FileRef, Pid, Uid};
-use af_hold::Holdings;
+use af_hold::{drop_numbers, hold_numbers};
 use af_pass::{Progress, Stage};
 use std::alloc::{AllocError, Global};
 use std::marker::Model;
@@ -80,9 +81,10 @@ impl Store {
         ensures pid { IfOk result (λ pid. pid ≡ self.old.world.next_pid) }
         ensures err { OnErr result (self.new ≡ self.old) }
     {
-        // Pids are below the next one: that is what a whole world says of them.
-        self.parts.places.is_whole();
-        self.parts.places.spawn(uid, limit, privileged)
+        let places = &mut self.parts.places;
+        places.procs.room_to_spawn()?;
+        places.ledger.add_user(uid)?;
+        Ok(places.procs.spawn(uid, limit, privileged))
     }
 
     /// A process has this limit on its descriptors from now on (setrlimit(2), RLIMIT_NOFILE); no number
@@ -91,7 +93,8 @@ impl Store {
         requires { limit ≤ MAX_NOFILE }
         ensures { self.new ≡ record self.old { world = set_limit self.old.world pid limit } }
     {
-        self.parts.places.set_limit(pid, limit);
+        let places = &mut self.parts.places;
+        places.procs.set_limit(pid, limit);
     }
 
     /// Room to take so many numbers of the process into use. Where its row is as long as its limit,
@@ -104,7 +107,8 @@ impl Store {
         ensures none { count ≡ 0 → IsOk result }
         ensures ready { (process_at self.old.world pid).limit ≤ room_at self.old pid → IsOk result }
     {
-        self.parts.places.room_for(pid, count)
+        let places = &mut self.parts.places;
+        places.procs.room_for(pid, count)
     }
 
     /// A plain file more, which waits for its first place: without one, `release` takes it away. On
@@ -116,9 +120,8 @@ impl Store {
         ensures spared { IfOk result (λ ino. Spares self.new.pass ino) }
         ensures err { OnErr result (self.new ≡ self.old) }
     {
-        // Files' numbers are below the next one: that is what a whole world says of them.
-        self.parts.places.is_whole();
-        self.parts.places.make_plain()
+        let places = &mut self.parts.places;
+        places.files.make_plain()
     }
 
     /// Two sockets more, connected to each other, which wait for their first places. Both or, on an
@@ -130,9 +133,8 @@ impl Store {
         ensures spared { IfOk result (λ both. Spares self.new.pass both.0 × Spares self.new.pass both.1) }
         ensures err { OnErr result (self.new ≡ self.old) }
     {
-        // Files' numbers are below the next one: that is what a whole world says of them.
-        self.parts.places.is_whole();
-        self.parts.places.make_two(kind)
+        let places = &mut self.parts.places;
+        places.files.make_two(kind)
     }
 
     /// A process more, by a fork: of the same user, with the same limit and privilege, and the same
@@ -145,9 +147,10 @@ impl Store {
         ensures pid { IfOk result (λ child. child ≡ self.old.world.next_pid) }
         ensures err { OnErr result (self.new ≡ self.old) }
     {
-        // Pids are below the next one: that is what a whole world says of them.
-        self.parts.places.is_whole();
-        self.parts.places.copy_for_fork(pid)
+        let places = &mut self.parts.places;
+        let child = places.procs.copy_for_fork(pid)?;
+        hold_numbers(&mut places.files, &child);
+        Ok(places.procs.add(child))
     }
 
     /// A process goes, and all its numbers are free. It takes no memory.
@@ -156,6 +159,10 @@ impl Store {
         ensures pass { self.new.pass ≡ self.old.pass }
     {
         self.parts.shade_table(pid);
-        self.parts.places.remove_process(pid);
+        let places = &mut self.parts.places;
+        let Some(process) = places.procs.remove(pid) else {
+            return;
+        };
+        drop_numbers(&mut places.files, &process);
     }
 }

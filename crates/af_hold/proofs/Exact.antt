@@ -248,10 +248,10 @@ pub by-result : {T E : Type 0} (r : Result T E) {A B C R : Type 0} → OnOk r A 
 by-result (Ok x) a b c f g = f a b
 by-result (Err e) a b c f g = g c
 
--- The same of three things that are so on success.
-pub by-three : {T E : Type 0} (r : Result T E) {A B C D R : Type 0} → OnOk r A → OnOk r B → OnOk r C → OnErr r D → (A → B → C → R) → (D → R) → R
-by-three (Ok x) a b c d f g = f a b c
-by-three (Err e) a b c d f g = g d
+-- The same of four things that are so on success.
+pub by-four : {T E : Type 0} (r : Result T E) {A B C D F R : Type 0} → OnOk r A → OnOk r B → OnOk r C → OnOk r D → OnErr r F → (A → B → C → D → R) → (F → R) → R
+by-four (Ok x) a b c d e f g = f a b c d
+by-four (Err x) a b c d e f g = g e
 
 -- A file that waits is live, and no place holds it.
 pub waits-unheld : (w : World) (k : Kept) (f : ℕ) → IsExact w k → is_waiting k.counts f ≡ true → IsLive w f × (refs w f ≡ 0)

@@ -1,4 +1,4 @@
--- What a store shows.
+-- What holdings show.
 use Rattle.std.specs.Prelude.{ℕ, List, [], ◌∷◌}
 use Rattle.std.specs.Map.{keys_of}
 use Rattle.af_base.specs.World.{World, Map, Process}
@@ -6,17 +6,13 @@ use Rattle.af_desc.specs.Filed.{Filed}
 use Rattle.af_ledger.specs.Kept.{Charged}
 use Rattle.af_mark.specs.Marked.{Marked}
 use Rattle.af_base.specs.Changes.{change_at, installed}
-use Rattle.af_table.specs.Procs.{Procs, row_in}
+use Rattle.af_table.specs.Procs.{Procs}
 
 -- The world, below which number each table has room, and what a pass has marked (this project's profile).
 pub record Stored : Type 0 where
   pub world : World
   pub rows : Map ℕ
   pub marks : Marked
-
--- Below which number process p has room: below none, where there is no such process (this project's profile).
-abbrev pub row_at : Stored → ℕ → ℕ
-row_at s p = row_in s.rows p
 
 -- The world that processes, files and users make up (this project's profile).
 abbrev pub world_of : Procs → Filed → Charged → World

@@ -1,19 +1,9 @@
-//! Processes, files and the counts that are kept of them, always in step: which places hold which
-//! files.
-//!
-//! Places come and go by the calls of `places` and `sockets`, by whole processes (`copy_for_fork`
-//! and `remove_process`), and by `empty`, which drops what a file holds; by no other. A file that
-//! lost its last place waits until it is taken away.
+//! What it is that processes, files and charges are in step, and the places that come and go by many at
+//! once: those of a whole message, of a whole process, and of all that a receive puts into a table.
 #![tactic(auto)]
 
 mod held;
-mod holdings;
-mod listings;
-mod marks;
 mod numbers;
-mod places;
-mod release;
-mod sockets;
-mod views;
 
-pub use holdings::Holdings;
+pub use held::{drop_all, hold_all};
+pub use numbers::{drop_numbers, hold_numbers, table_in_all};

@@ -1,15 +1,43 @@
-//! The open numbers of a whole process as places: counted where it comes, and dropped where it goes.
-ghost use Rattle.std.specs.Prelude.{◌≡◌, ℕ, Some};
+//! Numbers of a process as places, many at once: what is received comes into its table, and all that is
+//! open in it is counted where it comes, and dropped where it goes.
+ghost use Rattle.std.specs.Prelude.{◌≡◌, ◌<◌, ◌+◌, ◌^◌, ℕ, IsTrue, Some, length, map as mapped};
+ghost use Rattle.std.specs.List.{All, Contains, zip};
 ghost use Rattle.std.specs.FinMap as map;
 ghost use Rattle.af_base.specs.Changes.{add_process, remove_process};
 ghost use Rattle.af_base.specs.World.{World};
-ghost use Rattle.af_ledger.specs.Kept.{Charged, kept_of};
+ghost use Rattle.af_ledger.specs.Kept.{Charged, count_in_map, held_all, kept_of};
 ghost use Rattle.af_hold.specs.Agreement.{IsExact, Joins};
+ghost use Rattle.af_hold.specs.Stored.{filled};
+ghost use Rattle.af_table.specs.Procs.{row_in};
 
-use af_base::names::Fd;
+use af_base::names::{Fd, FileRef, Pid};
 use af_desc::Files;
 use af_ledger::Place;
-use af_table::Process;
+use af_table::{Process, Procs};
+
+/// Files into the table of a process, at these numbers one after the other, as long as there are
+/// both: each number has room, and counts are kept of each file.
+pub fn table_in_all(
+    procs: &mut Procs,
+    files: &mut Files,
+    pid: Pid,
+    fds: &[Fd],
+    attached: &[FileRef],
+)
+    requires row { All (λ n. n < row_in procs.old.rows pid) fds.now }
+    requires known { (f : ℕ) → Contains attached.now f → IsTrue (map.contains_key files.old.counts f) }
+    requires fits { (f : ℕ) → (count_in_map files.old.counts f).tabled + length attached.now < 2 ^ 31 }
+    ensures processes { procs.new.processes ≡ filled procs.old.processes pid (zip fds.now attached.now) }
+    ensures rows { procs.new.rows ≡ procs.old.rows }
+    ensures next { procs.new.next_pid ≡ procs.old.next_pid }
+    ensures kept { (c : Charged) → kept_of files.new.counts c ≡ held_all Place.Table (mapped (λ e. e.1) (zip fds.now attached.now)) (kept_of files.old.counts c) }
+    ensures rest { files.new ≡ record files.old { counts = files.new.counts } }
+{
+    for (fd, file) in fds.iter().zip(attached) {
+        files.raise(&Place::Table, file);
+        procs.install(pid, *fd, file.again());
+    }
+}
 
 /// Each open number of a process that joins the world is a place more of what it stands for. It takes
 /// no memory.

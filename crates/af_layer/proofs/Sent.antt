@@ -2,7 +2,7 @@
 use denote.Param.Send.{IsSend, IsSync, sendable}
 use denote.Param.SendFields.{declared_send}
 use Rattle.std.proofs.Crossing.{crosses}
-use Rattle.af_hold.proofs.holdings.Holdings.TheSendSync as holdings
+use Rattle.af_collect.proofs.holdings.Holdings.TheSendSync as holdings
 use Rattle.af_pass.proofs.Progress.TheSendSync as progress
 use Rattle.af_collect.specs.contracts.parts.Parts as Parts
 use Rattle.af_collect.specs.contracts.store.Store as Store

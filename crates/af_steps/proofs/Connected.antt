@@ -1,5 +1,5 @@
 -- A connect and an accept, by what was looked up.
-use Rattle.std.proofs.Common.{◌≡◌, ◌<◌, ℕ, true, false, List, [], ◌∷◌, ◌++◌, length, nat_eq, refl, sym, ap, ◌∙◌, subst, arith}
+use Rattle.std.proofs.Common.{◌≡◌, ◌<◌, ℕ, false, List, [], ◌∷◌, ◌++◌, length, nat_eq, refl, sym, ap, ◌∙◌, subst, arith}
 use Rattle.std.specs.Prelude.{Option, Some, None, is_none, is_some, not, unwrap_or, slice_get}
 use Rattle.std.specs.Option.{IsSome, option_and_then, option_map_or}
 use Rattle.std.proofs.lemmas.Bool.{false≢true, leb-false}

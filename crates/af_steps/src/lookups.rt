@@ -16,7 +16,7 @@ pub fn socket_on(store: &Store, pid: Pid, on: Fd) -> Result<(&Process, FileRef, 
     ensures found { IfOk result (λ found. HasSocket store.now.world pid found.0.now.process on found.1 found.2.now) }
     ensures refused { IfErr result (λ e. first_fit (on_process (map.get store.now.world.processes pid) ++ at_socket store.now.world pid on) ≡ Some e) }
 {
-    let process = store.procs().find(pid).ok_or(Errno::ESRCH)?;
+    let process = store.holdings().procs().find(pid).ok_or(Errno::ESRCH)?;
     let file = process.lookup(on).ok_or(Errno::EBADF)?;
     let socket = socket_at(store, &file).ok_or(Errno::ENOTSOCK)?;
     Ok((process, file, socket))
@@ -27,5 +27,5 @@ pub fn socket_on(store: &Store, pid: Pid, on: Fd) -> Result<(&Process, FileRef, 
 pub fn socket_at<'a>(store: &'a Store, file: &FileRef) -> Option<&'a Socket>
     ensures { option_copied result ≡ socket_at store.now.world file.now }
 {
-    store.files().get(file)?.socket()
+    store.holdings().files().get(file)?.socket()
 }

@@ -21,9 +21,9 @@ impl Engine {
         ensures done { IfOk result (λ fds. Does self.old pid (Step.Pair kind) (Reply.Fds fds.0 fds.1) self.new) }
         ensures refused { IfErr result (λ e. Refuses self.old pid (Step.Pair kind) e self.new) }
     {
-        let process = self.store.procs().find(pid).ok_or(Errno::ESRCH)?;
+        let process = self.store.holdings().procs().find(pid).ok_or(Errno::ESRCH)?;
         let (lower, higher) = process.lowest_two().ok_or(Errno::EMFILE)?;
-        if self.store.files().is_full(2) {
+        if self.store.holdings().files().is_full(2) {
             return Err(Errno::ENFILE);
         }
         self.store.room_for(pid, 2)?;
@@ -40,9 +40,9 @@ impl Engine {
         ensures done { IfOk result (λ fd. Does self.old pid (Step.Socket kind) (Reply.Fd fd) self.new) }
         ensures refused { IfErr result (λ e. Refuses self.old pid (Step.Socket kind) e self.new) }
     {
-        let process = self.store.procs().find(pid).ok_or(Errno::ESRCH)?;
+        let process = self.store.holdings().procs().find(pid).ok_or(Errno::ESRCH)?;
         let fd = process.lowest().ok_or(Errno::EMFILE)?;
-        if self.store.files().is_full(1) {
+        if self.store.holdings().files().is_full(1) {
             return Err(Errno::ENFILE);
         }
         self.store.room_for(pid, 1)?;
@@ -60,7 +60,7 @@ impl Engine {
     {
         let (_, file, socket) = socket_on(&self.store, pid, on)?;
         check_bind(socket, name.as_slice())?;
-        if self.store.files().named(name).is_some() {
+        if self.store.holdings().files().named(name).is_some() {
             return Err(Errno::EADDRINUSE);
         }
         self.store.bind(&file, name)?;
@@ -90,10 +90,15 @@ impl Engine {
     {
         let (_, file, client) = socket_on(&self.store, pid, on)?;
         check_client(client)?;
-        let listener = self.store.files().named(name).ok_or(Errno::ECONNREFUSED)?;
+        let listener = self
+            .store
+            .holdings()
+            .files()
+            .named(name)
+            .ok_or(Errno::ECONNREFUSED)?;
         let kind = client.kind();
         check_listener(socket_at(&self.store, &listener).unwrap(), kind)?;
-        if self.store.files().is_full(1) {
+        if self.store.holdings().files().is_full(1) {
             return Err(Errno::ENFILE);
         }
         let embryo = self.store.make_embryo(kind, &file)?;

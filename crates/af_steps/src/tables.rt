@@ -36,9 +36,9 @@ impl Engine {
         ensures done { IfOk result (λ fd. Does self.old pid Step.Open (Reply.Fd fd) self.new) }
         ensures refused { IfErr result (λ e. Refuses self.old pid Step.Open e self.new) }
     {
-        let process = self.store.procs().find(pid).ok_or(Errno::ESRCH)?;
+        let process = self.store.holdings().procs().find(pid).ok_or(Errno::ESRCH)?;
         let fd = process.lowest().ok_or(Errno::EMFILE)?;
-        if self.store.files().is_full(1) {
+        if self.store.holdings().files().is_full(1) {
             return Err(Errno::ENFILE);
         }
         self.store.room_for(pid, 1)?;
@@ -54,7 +54,7 @@ impl Engine {
         ensures done { IfOk result (λ fd. Does self.old pid (Step.Dup from) (Reply.Fd fd) self.new) }
         ensures refused { IfErr result (λ e. Refuses self.old pid (Step.Dup from) e self.new) }
     {
-        let process = self.store.procs().find(pid).ok_or(Errno::ESRCH)?;
+        let process = self.store.holdings().procs().find(pid).ok_or(Errno::ESRCH)?;
         let file = process.lookup(from).ok_or(Errno::EBADF)?;
         let fd = process.lowest().ok_or(Errno::EMFILE)?;
         // What tables hold is no garbage of a pass that runs.
@@ -72,7 +72,7 @@ impl Engine {
         ensures done { IfOk result (λ fd. Does self.old pid (Step.Dup2 from to) (Reply.Fd fd) self.new) }
         ensures refused { IfErr result (λ e. Refuses self.old pid (Step.Dup2 from to) e self.new) }
     {
-        let process = self.store.procs().find(pid).ok_or(Errno::ESRCH)?;
+        let process = self.store.holdings().procs().find(pid).ok_or(Errno::ESRCH)?;
         let file = process.lookup(from).ok_or(Errno::EBADF)?;
         if to == from {
             return Ok(to);
@@ -96,7 +96,7 @@ impl Engine {
         ensures done { OnOk result (Does self.old pid (Step.Close fd) Reply.Ok self.new) }
         ensures refused { IfErr result (λ e. Refuses self.old pid (Step.Close fd) e self.new) }
     {
-        let process = self.store.procs().find(pid).ok_or(Errno::ESRCH)?;
+        let process = self.store.holdings().procs().find(pid).ok_or(Errno::ESRCH)?;
         process.lookup(fd).ok_or(Errno::EBADF)?;
         self.store.table_out(pid, fd);
         self.store.release();
@@ -109,7 +109,7 @@ impl Engine {
         ensures done { IfOk result (λ child. Does self.old pid Step.Fork (Reply.Pid child) self.new) }
         ensures refused { IfErr result (λ e. Refuses self.old pid Step.Fork e self.new) }
     {
-        self.store.procs().find(pid).ok_or(Errno::ESRCH)?;
+        self.store.holdings().procs().find(pid).ok_or(Errno::ESRCH)?;
         if self.store.holdings().is_crowded() {
             return Err(Errno::EAGAIN);
         }
@@ -125,7 +125,7 @@ impl Engine {
         ensures done { OnOk result (Does self.old pid (Step.Limit nofile) Reply.Ok self.new) }
         ensures refused { IfErr result (λ e. Refuses self.old pid (Step.Limit nofile) e self.new) }
     {
-        self.store.procs().find(pid).ok_or(Errno::ESRCH)?;
+        self.store.holdings().procs().find(pid).ok_or(Errno::ESRCH)?;
         if nofile > MAX_NOFILE {
             return Err(Errno::ERANGE);
         }
@@ -140,7 +140,7 @@ impl Engine {
         ensures done { OnOk result (Does self.old pid Step.Exit Reply.Ok self.new) }
         ensures refused { IfErr result (λ e. Refuses self.old pid Step.Exit e self.new) }
     {
-        self.store.procs().find(pid).ok_or(Errno::ESRCH)?;
+        self.store.holdings().procs().find(pid).ok_or(Errno::ESRCH)?;
         self.store.remove_process(pid);
         self.store.release();
         Ok(())

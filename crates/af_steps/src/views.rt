@@ -65,7 +65,7 @@ impl Engine {
     pub fn live(&self) -> usize
         ensures { result ≡ map.len self.now.world.files }
     {
-        self.store.files().live()
+        self.store.holdings().files().live()
     }
 
     /// The least live file above that number; nothing where none is above it.
@@ -75,7 +75,8 @@ impl Engine {
         ensures least { IfSome result (λ n. (q : ℕ) → ino < q → q < n → is_live self.now.world q ≡ false) }
         ensures none { IfNone result ((q : ℕ) → ino < q → is_live self.now.world q ≡ false) }
     {
-        let next = self.store.files().next_after(&FileRef::new(ino, 0))?;
+        let files = self.store.holdings().files();
+        let next = files.next_after(&FileRef::new(ino, 0))?;
         Some(next.ino())
     }
 
@@ -83,7 +84,7 @@ impl Engine {
     pub fn next_pid(&self) -> Pid
         ensures { result ≡ self.now.world.next_pid }
     {
-        self.store.procs().next_pid()
+        self.store.holdings().procs().next_pid()
     }
 
     /// The i-th user, from 0, in the order of their first process; nothing past the last.
@@ -104,7 +105,7 @@ impl Engine {
     pub fn file(&self, ino: Ino) -> Option<FileInfo>
         ensures { result ≡ shown_of (map.get self.now.world.files ino) }
     {
-        let files = self.store.files();
+        let files = self.store.holdings().files();
         let file = files.find(ino)?;
         let Some(socket) = files.get(&file)?.socket() else {
             return Some(FileInfo::Plain);
@@ -121,7 +122,7 @@ impl Engine {
     pub fn name(&self, ino: Ino) -> Option<&Items<u8>>
         ensures { option_copied result ≡ name_at self.now.world ino }
     {
-        let files = self.store.files();
+        let files = self.store.holdings().files();
         let file = files.find(ino)?;
         files.get(&file)?.socket()?.name()
     }

@@ -5,6 +5,6 @@ use Rattle.af_collect.proofs.shading.shade_all.Given as goal
 
 abbrev pub invariant-loop-file : goal.invariant-loop-file
 invariant-loop-file l = record {
-  frame : l.places ≡ record l.fn.places { marks = l.places.marks };
-  marks : shaded_all (drop l.file-index l.files) l.places.marks ≡ shaded_all l.files l.fn.places.marks;
+  frame : l.files ≡ record l.fn.files { marks = l.files.marks };
+  marks : shaded_all (drop l.file-index l.taken) l.files.marks ≡ shaded_all l.taken l.fn.files.marks;
 }

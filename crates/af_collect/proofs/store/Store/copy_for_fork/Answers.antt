@@ -1,24 +1,54 @@
-use Rattle.std.proofs.Common.{refl, subst, sym}
-use Rattle.std.specs.Prelude.{IsTrue}
+use Rattle.std.proofs.Common.{◌+◌, ◌∙◌, ◌≡◌, ap, false, refl, subst, sym}
 use Rattle.std.specs.FinMap as map
-use Rattle.af_base.specs.World.{World}
+use Rattle.std.specs.Prelude.{IsTrue}
 use Rattle.af_base.specs.Changes.{add_process}
-use Rattle.af_base.specs.Refusals.{process_at}
+use Rattle.af_base.specs.Refusals.{is_crowded}
+use Rattle.af_base.specs.World.{World}
+use Rattle.af_ledger.specs.Kept.{kept_of}
 use Rattle.af_mark.specs.Marked.{is_marked}
-use Rattle.af_hold.proofs.Exact.{by-result}
-use Rattle.af_pass.specs.Keeping.{IsKept, below}
+use Rattle.af_hold.specs.Stored.{Stored}
+use Rattle.af_hold.proofs.Exact.{world-is}
+use Rattle.af_hold.proofs.Joined.{joins-copy}
+use Rattle.af_pass.specs.Keeping.{below}
+use Rattle.af_pass.specs.Since.{Moves}
 use Rattle.af_pass.proofs.Placing.{covers_add_process, moves_fork}
-use Rattle.af_collect.specs.Shown.{AreKeptWith, Shown}
+use Rattle.af_collect.specs.Shown.{Shown}
+use Rattle.af_collect.specs.contracts.holdings.Holdings.{the_view}
 use Rattle.af_collect.proofs.Placed.{kept_tables}
+use Rattle.af_collect.proofs.Standing.{Stands, both-same, stood}
 use Rattle.af_collect.proofs.store.Store.copy_for_fork.Goals as goal
 
-pub invariant_of-self : goal.invariant_of-self
-invariant_of-self c =
+pub hold_numbers-requires : goal.hold_numbers-requires
+hold_numbers-requires c =
+    let h = c.places.inside in
+    let w = (the_view h).world in
+    let back = sym (ap (λ (t : Stored). t.world) c.places.view_is ∙ ap (λ (t : Shown). t.world) c.self.view_is) in
+    let room = subst (λ (v : World). is_crowded v ≡ false) back c.requires.room in
+    let there = subst (λ (v : World). IsTrue (map.contains_key v.processes c.args.pid)) back c.requires.there in
+    (w, h.ledger, joins-copy w c.args.pid c.in_ok-child.child.process (kept_of h.files.counts h.ledger) room there c.in_ok-child.ensures.copy c.places.invariant)
+
+both : (c : goal.After-add) → Stands c.self.inside.parts c.add.new.self c.hold_numbers.new.files c.places.inside.ledger
+both c =
     let p = c.self.inside.parts in
-    let w = p.places.world in
+    let h = c.places.inside in
+    let w = (the_view h).world in
     let begun = p.begun.value.world in
-    let q = process_at w c.args.pid in
-    let there = subst (λ (v : Shown). IsTrue (map.contains_key v.world.processes c.args.pid)) (sym c.self.view_is) c.requires.there in
-    by-result c.copy_for_fork.result c.copy_for_fork.ensures.ok c.copy_for_fork.ensures.ok c.copy_for_fork.ensures.err
-    (λ done _. subst (λ m. IsKept c.copy_for_fork.new.self.world begun m p.progress) (sym c.copy_for_fork.ensures.marks) (subst (λ (v : World). IsKept v begun p.places.marks p.progress) (sym done) (kept_tables (add_process w q) refl refl (λ _. moves_fork begun w c.args.pid there) (λ _. covers_add_process begun w q (is_marked p.places.marks) (below p.progress.visited) c.is_whole.ensures.whole.processes_numbered) c.self.invariant)))
-    (λ same. subst (AreKeptWith p) (sym same) c.self.invariant)
+    let pid = c.args.pid in
+    let was = stood p h c.places.view_is c.places.invariant c.self.invariant in
+    let back = sym (ap (λ (t : Stored). t.world) c.places.view_is ∙ ap (λ (t : Shown). t.world) c.self.view_is) in
+    let room = subst (λ (v : World). is_crowded v ≡ false) back c.requires.room in
+    let there = subst (λ (v : World). IsTrue (map.contains_key v.processes pid)) back c.requires.there in
+    let child = c.in_ok-child.child.process in
+    let copy = c.in_ok-child.ensures.copy in
+    let processes = c.add.ensures.processes ∙ (λ i. map.insert (c.in_ok-child.ensures.processes i) (c.in_ok-child.ensures.next i) child) in
+    let next = c.add.ensures.next ∙ ap (λ n. n + 1) c.in_ok-child.ensures.next in
+    let rest = c.hold_numbers.ensures.rest in
+    both-same _ (add_process w child) _ _ _ _ (world-is _ _ processes (ap (λ v. v.files) rest) (ap (λ v. v.next) rest) next refl) refl (ap (λ v. v.marks) rest)
+    (c.hold_numbers.ensures.exact w h.ledger (joins-copy w pid child (kept_of h.files.counts h.ledger) room there copy was.0))
+    (kept_tables (add_process w child) refl refl (λ _. subst (λ q. Moves begun w (add_process w q)) (sym copy) (moves_fork begun w pid there)) (λ _. covers_add_process begun w child (is_marked h.files.marks) (below p.progress.visited) was.0.whole.processes_numbered) was.1)
+
+pub invariant_of-places-2 : goal.invariant_of-places-2
+invariant_of-places-2 c = (both c).0
+
+pub invariant_of-self-2 : goal.invariant_of-self-2
+invariant_of-self-2 c = (both c).1

@@ -1,13 +1,35 @@
-use Rattle.std.proofs.Common.{refl, subst, sym}
-use Rattle.af_base.specs.World.{Plain}
-use Rattle.af_hold.proofs.Exact.{by-result}
-use Rattle.af_collect.specs.Shown.{AreKeptWith}
+use Rattle.std.proofs.Common.{◌∙◌, ◌≡◌, ap, false, refl, subst, sym}
+use Rattle.af_base.specs.Changes.{add_file}
+use Rattle.af_base.specs.Refusals.{is_full}
+use Rattle.af_base.specs.World.{Plain, World}
+use Rattle.af_ledger.specs.Kept.{kept_of}
+use Rattle.af_hold.specs.Stored.{Stored}
+use Rattle.af_hold.proofs.Exact.{by-four, exact-plain, world-is}
+use Rattle.af_collect.specs.Shown.{Shown}
+use Rattle.af_collect.specs.contracts.holdings.Holdings.{the_view}
 use Rattle.af_collect.proofs.Placed.{kept_made}
+use Rattle.af_collect.proofs.Standing.{Stands, both-same, stood}
 use Rattle.af_collect.proofs.store.Store.make_plain.Goals as goal
 
-pub invariant_of-self : goal.invariant_of-self
-invariant_of-self c =
+both : (c : goal.After-make_plain) → Stands c.self.inside.parts c.places.inside.procs c.make_plain.new.self c.places.inside.ledger
+both c =
     let p = c.self.inside.parts in
-    by-result c.make_plain.result c.make_plain.ensures.ok c.make_plain.ensures.ok c.make_plain.ensures.err
-    (λ done _. subst (AreKeptWith p) (sym done) (kept_made Plain refl c.is_whole.ensures.whole.files_numbered c.self.invariant))
-    (λ same. subst (AreKeptWith p) (sym same) c.self.invariant)
+    let h = c.places.inside in
+    let w = (the_view h).world in
+    let k = kept_of h.files.counts h.ledger in
+    let was = stood c.self.inside.parts h c.places.view_is c.places.invariant c.self.invariant in
+    let back = sym (ap (λ (t : Stored). t.world) c.places.view_is ∙ ap (λ (t : Shown). t.world) c.self.view_is) in
+    let fits = subst (λ (v : World). is_full v 1 ≡ false) back c.requires in
+    let numbered = was.0.whole.files_numbered in
+    let made = c.make_plain.ensures in
+    by-four c.make_plain.result made.files made.next made.counts made.marks made.err
+    (λ files next counts marks. both-same _ (add_file w Plain) _ _ _ _ (world-is _ _ refl files next refl refl) (ap (λ cs. kept_of cs h.ledger) counts) marks
+    (exact-plain w k fits was.0)
+    (kept_made Plain refl numbered was.1))
+    (λ same. subst (λ fs. Stands p h.procs fs h.ledger) (sym same) was)
+
+pub invariant_of-places : goal.invariant_of-places
+invariant_of-places c = (both c).0
+
+pub invariant_of-self : goal.invariant_of-self
+invariant_of-self c = (both c).1

@@ -1,28 +1,83 @@
-use Rattle.std.proofs.Common.{◌≡◌, ℕ, false, subst, sym}
-use Rattle.std.specs.Prelude.{IsTrue, is_none, unwrap_or}
+use Rattle.std.proofs.Common.{◌∙◌, ◌≡◌, ℕ, ap, arith, false, refl, subst, sym}
 use Rattle.std.specs.FinMap as map
+use Rattle.std.specs.List.{Contains, zip}
+use Rattle.std.specs.Prelude.{IsTrue, is_none, unwrap_or}
+use Rattle.af_base.specs.Changes.{install_all}
 use Rattle.af_base.specs.Refusals.{no_socket, process_at, socket_at}
 use Rattle.af_base.specs.Table.{lowest_free}
-use Rattle.af_hold.proofs.Exact.{by-result}
+use Rattle.af_base.specs.World.{World}
+use Rattle.af_ledger.specs.Kept.{kept_of}
+use Rattle.af_hold.specs.Receiving.{taken_at}
+use Rattle.af_hold.specs.Stored.{Stored, filled}
+use Rattle.af_hold.proofs.Bounds.{tabled-most}
+use Rattle.af_hold.proofs.Exact.{exact-same, install-filled, world-is}
 use Rattle.af_hold.proofs.Putting.{is-socket}
+use Rattle.af_hold.proofs.Receiving.{counted, exact-tabled, received-live, received_at, tabled}
 use Rattle.af_pass.specs.Keeping.{Spares}
-use Rattle.af_collect.specs.Shown.{AreKeptWith, Shown}
+use Rattle.af_collect.specs.Shown.{Shown}
+use Rattle.af_collect.specs.contracts.holdings.Holdings.{the_view}
 use Rattle.af_collect.proofs.Placed.{kept_peeked}
+use Rattle.af_collect.proofs.Standing.{Stands, both-same, seen-changed, shown, stood}
 use Rattle.af_collect.proofs.store.Store.peek_msg.Goals as goal
 
-pub invariant_of-self : goal.invariant_of-self
-invariant_of-self c =
-    let p = c.self.inside.parts in
-    let w = p.places.world in
+pub table_in_all-requires-clause-known : goal.table_in_all-requires-clause-known
+table_in_all-requires-clause-known c = λ f there.
+    let h = c.places.inside in
+    let w = (the_view h).world in
     let s = c.args.socket.now in
+    let back = sym (ap (λ (t : Stored). t.world) c.places.view_is ∙ ap (λ (t : Shown). t.world) c.self.view_is) in
+    let socket = subst (λ (v : World). is_none (socket_at v s) ≡ false) back c.requires.socket in
+    let attached = c.attached.ensures.value ∙ ap (λ t. t.message.attached) c.in_ok-seen.ensures in
+    c.places.invariant.counted f ∙ received-live w s c.args.max (kept_of h.files.counts h.ledger) c.places.invariant c.requires.some socket f (subst (λ l. Contains l f) attached there)
+
+pub table_in_all-requires-clause-fits : goal.table_in_all-requires-clause-fits
+table_in_all-requires-clause-fits c = λ f. let few = c.attached.ensures.bound in omega (arith, few, tabled-most (the_view c.places.inside).world f (kept_of c.places.inside.files.counts c.places.inside.ledger) c.places.invariant.within c.places.invariant.agrees)
+
+-- The world when the files are in the table.
+seen : (c : goal.After-table_in_all) → let w = (the_view c.places.inside).world in let taken = taken_at w c.args.socket.now c.args.max in
+    (the_view (record c.places.inside { procs = c.table_in_all.new.procs; files = c.table_in_all.new.files })).world ≡ install_all w c.args.pid (zip c.args.fds.now taken.attached)
+seen c =
+    let w = (the_view c.places.inside).world in
+    let all = zip c.args.fds.now (taken_at w c.args.socket.now c.args.max).attached in
+    let attached = c.attached.ensures.value ∙ ap (λ t. t.message.attached) c.in_ok-seen.ensures in
+    let processes = c.table_in_all.ensures.processes ∙ ap (λ l. filled w.processes c.args.pid (zip c.args.fds.now l)) attached in
+    let rest = c.table_in_all.ensures.rest in
+    world-is _ (tabled w c.args.pid c.args.fds.now (received_at w c.args.socket.now c.args.max).attached) processes (ap (λ v. v.files) rest) (ap (λ v. v.next) rest) c.table_in_all.ensures.next refl ∙ sym (install-filled w c.args.pid all)
+
+both : (c : goal.After-table_in_all) → Stands c.self.inside.parts c.table_in_all.new.procs c.table_in_all.new.files c.places.inside.ledger
+both c =
+    let p = c.self.inside.parts in
+    let h = c.places.inside in
+    let w = (the_view h).world in
+    let k = kept_of h.files.counts h.ledger in
+    let s = c.args.socket.now in
+    let max = c.args.max in
+    let pid = c.args.pid in
+    let fds = c.args.fds.now in
+    let was = stood p h c.places.view_is c.places.invariant c.self.invariant in
+    let back = sym (ap (λ (t : Stored). t.world) c.places.view_is ∙ ap (λ (t : Shown). t.world) c.self.view_is) in
+    let socket = subst (λ (v : World). is_none (socket_at v s) ≡ false) back c.requires.socket in
+    let there = subst (λ (v : World). IsTrue (map.contains_key v.processes pid)) back c.requires.there in
+    let lowest = subst (λ (v : World). (n : ℕ) × (fds ≡ lowest_free n (process_at v pid))) back c.requires.free in
+    let spared = subst (λ (t : Shown). Spares t.pass s) (sym c.self.view_is) c.requires.spared in
     let x = unwrap_or (socket_at w s) no_socket in
-    let r = c.requires in
-    let back = sym c.self.view_is in
-    let at = is-socket w s (subst (λ (v : Shown). is_none (socket_at v.world s) ≡ false) back r.socket) in
-    let spared = subst (λ (v : Shown). Spares v.pass s) back r.spared in
-    let there = subst (λ (v : Shown). IsTrue (map.contains_key v.world.processes c.args.pid)) back r.there in
-    let lowest = subst (λ (v : Shown). (k : ℕ) × (c.args.fds.now ≡ lowest_free k (process_at v.world c.args.pid))) back r.free in
-    let keeps = AreKeptWith p in
-    by-result c.peek_msg.result c.peek_msg.ensures.world c.peek_msg.ensures.world c.peek_msg.ensures.err
-    (λ done _. subst keeps (sym done) (kept_peeked c.is_whole.ensures.whole s c.args.max x at (c.is_whole.ensures.within.sockets s x at).messages p.progress.looked c.args.pid c.args.fds.now spared there lowest c.self.invariant))
-    (λ same. subst keeps (sym same) c.self.invariant)
+    let at = is-socket w s socket in
+    let all = zip fds (taken_at w s max).attached in
+    let attached = c.attached.ensures.value ∙ ap (λ t. t.message.attached) c.in_ok-seen.ensures in
+    let kept = c.table_in_all.ensures.kept h.ledger ∙ ap (counted k fds) attached in
+    both-same _ (install_all w pid all) _ _ _ _ (seen c) kept (ap (λ v. v.marks) c.table_in_all.ensures.rest)
+    (exact-same _ _ _ _ (install-filled w pid all) refl (exact-tabled w s max k was.0 c.requires.some socket pid fds there lowest))
+    (kept_peeked was.0.whole s max x at (was.0.within.sockets s x at).messages p.progress.looked pid fds spared there lowest was.1)
+
+pub invariant_of-places : goal.invariant_of-places
+invariant_of-places c = (both c).0
+
+pub invariant_of-self-2 : goal.invariant_of-self-2
+invariant_of-self-2 c = (both c).1
+
+pub returns-clause-world : goal.returns-clause-world
+returns-clause-world c =
+    let p = c.self.inside.parts in
+    let h = c.places.inside in
+    (λ i. shown p (record { world = seen c i; rows = c.table_in_all.ensures.rows i; marks = c.table_in_all.new.files.marks }))
+    ∙ seen-changed p h _ (λ v. install_all v c.args.pid (zip c.args.fds.now (taken_at v c.args.socket.now c.args.max).attached)) c.places.view_is c.self.view_is

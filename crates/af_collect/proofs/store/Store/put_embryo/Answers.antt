@@ -1,20 +1,49 @@
-use Rattle.std.proofs.Common.{subst, sym}
-use Rattle.af_base.specs.Changes.{queued}
+use Rattle.std.proofs.Common.{◌<◌, ◌∙◌, ◌≡◌, ap, false, length, refl, subst, sym}
+use Rattle.std.specs.Option.{option_and_then}
+use Rattle.std.specs.Prelude.{IfSome, is_none, unwrap_or}
+use Rattle.af_base.specs.Changes.{change_socket_at, queued, with_socket}
+use Rattle.af_base.specs.Counts.{waiting}
+use Rattle.af_base.specs.Refusals.{no_socket, room_of, socket_at, socket_of}
+use Rattle.af_base.specs.World.{IsLive, World}
+use Rattle.af_ledger.specs.Kept.{kept_of}
 use Rattle.af_mark.specs.Marked.{is_marked}
+use Rattle.af_hold.specs.Stored.{Stored}
+use Rattle.af_hold.proofs.Connecting.{exact-queued}
+use Rattle.af_hold.proofs.Exact.{world-is}
+use Rattle.af_hold.proofs.Putting.{is-socket}
 use Rattle.af_pass.specs.Keeping.{Spares, below}
 use Rattle.af_pass.proofs.Sockets.{covers_queued, moves_queued}
 use Rattle.af_pass.proofs.Spared.{spared_running}
-use Rattle.af_collect.specs.Shown.{AreKeptWith, Shown}
+use Rattle.af_collect.specs.Shown.{Shown}
+use Rattle.af_collect.specs.contracts.holdings.Holdings.{the_view}
 use Rattle.af_collect.proofs.Placed.{kept_socket}
+use Rattle.af_collect.proofs.Standing.{Stands, both-same, stood}
 use Rattle.af_collect.proofs.store.Store.put_embryo.Goals as goal
 
-pub invariant_of-self : goal.invariant_of-self
-invariant_of-self c =
+both : (c : goal.After-enqueue) → Stands c.self.inside.parts c.places.inside.procs c.enqueue.new.self c.places.inside.ledger
+both c =
     let p = c.self.inside.parts in
-    let w = p.places.world in
+    let h = c.places.inside in
+    let w = (the_view h).world in
     let begun = p.begun.value.world in
     let s = c.args.listener.now in
     let f = c.args.embryo in
-    let spared = subst (λ (v : Shown). Spares v.pass f) (sym c.self.view_is) c.requires.spared in
-    subst (AreKeptWith p) (sym c.put_embryo.ensures)
-    (kept_socket s (queued f) (λ e. moves_queued begun w s f (spared_running p.progress.stage begun p.progress.looked f e spared)) (λ _. covers_queued begun w s f (is_marked p.places.marks) (below p.progress.visited)) c.self.invariant)
+    let was = stood c.self.inside.parts h c.places.view_is c.places.invariant c.self.invariant in
+    let back = sym (ap (λ (t : Stored). t.world) c.places.view_is ∙ ap (λ (t : Shown). t.world) c.self.view_is) in
+    let at = is-socket w s (subst (λ (v : World). is_none (socket_at v s) ≡ false) back c.requires.socket) in
+    let live = subst (λ (v : World). IsLive v f) back c.requires.live in
+    let none = subst (λ (v : World). waiting v f ≡ 0) back c.requires.new in
+    let fits = subst (λ (v : World). IfSome (socket_at v s) (λ x. length x.backlog < room_of x.state)) back c.requires.room in
+    let room = subst (λ o. IfSome (option_and_then socket_of o) (λ x. length x.backlog < room_of x.state)) at fits in
+    let spared = subst (λ (t : Shown). Spares t.pass f) (sym c.self.view_is) c.requires.spared in
+    let raised = c.raise.ensures in
+    let e = c.enqueue.ensures in
+    both-same _ (with_socket w s (queued f)) _ _ _ _ (world-is _ _ refl (e.files ∙ ap (λ v. change_socket_at (queued f) v.files s) raised) (e.next ∙ ap (λ v. v.next) raised) refl refl) (ap (λ cs. kept_of cs h.ledger) (e.counts ∙ ap (λ v. v.counts) raised)) (e.marks ∙ ap (λ v. v.marks) raised)
+    (exact-queued w s f (unwrap_or (socket_at w s) no_socket) (kept_of h.files.counts h.ledger) at live none room was.0)
+    (kept_socket s (queued f) (λ e. moves_queued begun w s f (spared_running p.progress.stage begun p.progress.looked f e spared)) (λ _. covers_queued begun w s f (is_marked h.files.marks) (below p.progress.visited)) was.1)
+
+pub invariant_of-places : goal.invariant_of-places
+invariant_of-places c = (both c).0
+
+pub invariant_of-self : goal.invariant_of-self
+invariant_of-self c = (both c).1

@@ -1,9 +1,23 @@
-use Rattle.std.proofs.Common.{subst, sym}
-use Rattle.af_collect.specs.Shown.{AreKeptWith}
+use Rattle.std.proofs.Common.{refl}
+use Rattle.af_base.specs.Changes.{set_limit}
+use Rattle.af_ledger.specs.Kept.{kept_of}
+use Rattle.af_hold.proofs.Exact.{exact-limited, world-is}
+use Rattle.af_collect.specs.contracts.holdings.Holdings.{the_view}
 use Rattle.af_collect.proofs.Placed.{kept_limited}
+use Rattle.af_collect.proofs.Standing.{Stands, both-same, stood}
 use Rattle.af_collect.proofs.store.Store.set_limit.Goals as goal
 
+both : (c : goal.After-set_limit) → Stands c.self.inside.parts c.set_limit.new.self c.places.inside.files c.places.inside.ledger
+both c =
+    let h = c.places.inside in
+    let w = (the_view h).world in
+    let e = c.set_limit.ensures in
+    let was = stood c.self.inside.parts h c.places.view_is c.places.invariant c.self.invariant in
+    both-same _ (set_limit w c.args.pid c.args.limit) _ _ _ _ (world-is _ _ e.processes refl refl e.next refl) refl refl
+    (exact-limited w c.args.pid c.args.limit (kept_of h.files.counts h.ledger) c.requires was.0) (kept_limited c.args.pid c.args.limit was.1)
+
+pub invariant_of-places : goal.invariant_of-places
+invariant_of-places c = (both c).0
+
 pub invariant_of-self : goal.invariant_of-self
-invariant_of-self c =
-    let p = c.self.inside.parts in
-    subst (AreKeptWith p) (sym c.set_limit.ensures) (kept_limited c.args.pid c.args.limit c.self.invariant)
+invariant_of-self c = (both c).1

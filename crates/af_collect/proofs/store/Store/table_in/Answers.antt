@@ -1,21 +1,54 @@
-use Rattle.std.proofs.Common.{◌≡◌, None, refl, subst, sym}
+use Rattle.std.proofs.Common.{◌∙◌, ◌≡◌, None, ap, not, refl, subst, sym}
+use Rattle.std.specs.FinMap as map
+use Rattle.std.specs.Prelude.{IsTrue}
 use Rattle.af_base.specs.Changes.{install}
 use Rattle.af_base.specs.Places.{table_at}
+use Rattle.af_base.specs.Refusals.{process_at}
+use Rattle.af_base.specs.World.{IsLive, World}
+use Rattle.af_base.proofs.Moved.{there-table}
+use Rattle.af_base.proofs.Stepped.{process-there}
+use Rattle.af_base.proofs.Within.{below-most}
+use Rattle.af_ledger.specs.Kept.{kept_of}
 use Rattle.af_mark.specs.Marked.{is_marked}
+use Rattle.af_hold.specs.Limits.{IsBelowLimit}
+use Rattle.af_hold.specs.Stored.{Stored}
+use Rattle.af_hold.proofs.Bounds.{can-hold-table}
+use Rattle.af_hold.proofs.Exact.{exact-install, world-is}
 use Rattle.af_pass.specs.Keeping.{Spares, below}
 use Rattle.af_pass.proofs.Placing.{covers_install, moves_install}
 use Rattle.af_pass.proofs.Spared.{spared_running}
-use Rattle.af_collect.specs.Shown.{AreKeptWith, Shown}
+use Rattle.af_collect.specs.Shown.{Shown}
+use Rattle.af_collect.specs.contracts.holdings.Holdings.{the_view}
 use Rattle.af_collect.proofs.Placed.{kept_tables}
+use Rattle.af_collect.proofs.Standing.{Stands, both-same, stood}
 use Rattle.af_collect.proofs.store.Store.table_in.Goals as goal
 
-pub invariant_of-self : goal.invariant_of-self
-invariant_of-self c =
+pub raise-requires-clause-countable : goal.raise-requires-clause-countable
+raise-requires-clause-countable c = (can-hold-table (the_view c.places.inside).world c.args.file (kept_of c.places.inside.files.counts c.places.inside.ledger) c.places.invariant.within c.places.invariant.agrees).0
+
+both : (c : goal.After-install) → Stands c.self.inside.parts c.install.new.self c.raise.new.self c.places.inside.ledger
+both c =
     let p = c.self.inside.parts in
-    let w = p.places.world in
+    let h = c.places.inside in
+    let w = (the_view h).world in
     let begun = p.begun.value.world in
-    let r = c.requires in
-    let spared = subst (λ (s : Shown). Spares s.pass c.args.file) (sym c.self.view_is) r.spared in
-    let free = subst (λ (s : Shown). table_at s.world c.args.pid c.args.fd ≡ None) (sym c.self.view_is) r.free in
-    subst (AreKeptWith p) (sym c.table_in.ensures)
-    (kept_tables (install w c.args.pid c.args.fd c.args.file) refl refl (λ e. moves_install begun w c.args.pid c.args.fd c.args.file (spared_running p.progress.stage begun p.progress.looked c.args.file e spared)) (λ _. covers_install begun w c.args.pid c.args.fd c.args.file (is_marked p.places.marks) (below p.progress.visited) free) c.self.invariant)
+    let pid = c.args.pid in
+    let fd = c.args.fd in
+    let f = c.args.file in
+    let was = stood c.self.inside.parts h c.places.view_is c.places.invariant c.self.invariant in
+    let back = sym (ap (λ (t : Stored). t.world) c.places.view_is ∙ ap (λ (t : Shown). t.world) c.self.view_is) in
+    let there = process-there w pid (ap not (subst (λ (v : World). IsTrue (map.contains_key v.processes pid)) back c.requires.there)) in
+    let free = subst (λ (v : World). table_at v pid fd ≡ None) back c.requires.free in
+    let none = sym (there-table w pid fd (process_at w pid) there) ∙ free in
+    let low = below-most w pid fd (process_at w pid) was.0.within there (subst (λ (v : World). IsBelowLimit v pid fd) back c.requires.limit (process_at w pid) there) in
+    let live = subst (λ (v : World). IsLive v f) back c.requires.live in
+    let spared = subst (λ (t : Shown). Spares t.pass f) (sym c.self.view_is) c.requires.spared in
+    both-same _ (install w pid fd f) _ _ _ _ (world-is _ _ c.install.ensures.processes (ap (λ v. v.files) c.raise.ensures) (ap (λ v. v.next) c.raise.ensures) c.install.ensures.next refl) (ap (λ v. kept_of v.counts h.ledger) c.raise.ensures) (ap (λ v. v.marks) c.raise.ensures)
+    (exact-install w pid fd f (process_at w pid) (kept_of h.files.counts h.ledger) there none low live was.0)
+    (kept_tables (install w pid fd f) refl refl (λ e. moves_install begun w pid fd f (spared_running p.progress.stage begun p.progress.looked f e spared)) (λ _. covers_install begun w pid fd f (is_marked h.files.marks) (below p.progress.visited) free) was.1)
+
+pub invariant_of-places : goal.invariant_of-places
+invariant_of-places c = (both c).0
+
+pub invariant_of-self : goal.invariant_of-self
+invariant_of-self c = (both c).1

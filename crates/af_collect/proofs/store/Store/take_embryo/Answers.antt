@@ -1,38 +1,99 @@
-use Rattle.std.proofs.Common.{◌≡◌, ◌<◌, ℕ, true, refl, subst, sym}
-use Rattle.std.specs.Prelude.{None, Some, length, slice_get}
+use Rattle.std.proofs.Common.{◌∙◌, ◌∷◌, ◌≡◌, None, ℕ, ap, drop, not, refl, subst, sym, true}
+use Rattle.std.specs.FinMap as map
+use Rattle.std.specs.Prelude.{IfSome, IsTrue, Some, slice_get}
 use Rattle.af_base.specs.Changes.{dequeued, install, with_socket}
 use Rattle.af_base.specs.Places.{backlog_at, table_at}
 use Rattle.af_base.specs.Reached.{Garbage}
+use Rattle.af_base.specs.Refusals.{process_at}
+use Rattle.af_base.specs.World.{World}
+use Rattle.af_base.proofs.Moved.{there-table}
+use Rattle.af_base.proofs.Stepped.{process-there}
+use Rattle.af_base.proofs.Within.{below-most}
+use Rattle.af_ledger.specs.Counted.{IsCountable}
+use Rattle.af_ledger.specs.Kept.{CanDrop, count_in_map, dropped, held, kept_of}
+use Rattle.af_ledger.specs.declared.place.Place.TheVariants.{Backlog, Table}
 use Rattle.af_mark.specs.Marked.{is_marked}
+use Rattle.af_hold.specs.Limits.{IsBelowLimit}
+use Rattle.af_hold.specs.Stored.{Stored}
+use Rattle.af_hold.proofs.Accepting.{can-drop-first, embryo-taken, exact-accepted, live-first}
+use Rattle.af_hold.proofs.Bounds.{can-hold-table}
+use Rattle.af_hold.proofs.Exact.{world-is}
 use Rattle.af_pass.specs.Keeping.{Spares, below, is_running, pass_of}
 use Rattle.af_pass.proofs.Placing.{covers_install, moves_install}
 use Rattle.af_pass.proofs.Sockets.{covers_dequeued, moves_dequeued}
 use Rattle.af_pass.proofs.Spared.{held_spared, marking_runs, spared_running}
-use Rattle.af_collect.specs.Shown.{AreKeptWith, MarksAll, Shown}
+use Rattle.af_collect.specs.Shown.{MarksAll, Shown}
+use Rattle.af_collect.specs.contracts.holdings.Holdings.{the_view}
 use Rattle.af_collect.specs.declared.parts.Parts.{Parts}
 use Rattle.af_collect.proofs.Losing.{embryo_held, first_taken}
-use Rattle.af_collect.proofs.Placed.{first_of, kept_socket, kept_tables}
+use Rattle.af_collect.proofs.Placed.{kept_socket, kept_tables}
+use Rattle.af_collect.proofs.Standing.{Stands, both-same, stood}
 use Rattle.af_collect.proofs.store.Store.take_embryo.Goals as goal
 
-pub invariant_of-self : goal.invariant_of-self
-invariant_of-self c =
+pub raise-requires-clause-known : goal.raise-requires-clause-known
+raise-requires-clause-known c =
+    let h = c.places.inside in
+    let w = (the_view h).world in
+    let s = c.args.listener.now in
+    let f = c.unwrap-embryo.result in
+    let x = embryo-taken w s f c.dequeue.result c.unwrap-embryo.ensures c.dequeue.ensures.some in
+    ap (λ cs. map.contains_key cs f) c.dequeue.ensures.counts ∙ c.places.invariant.counted f ∙ live-first w s f x.0 (kept_of h.files.counts h.ledger) x.1 x.2 c.places.invariant
+
+pub raise-requires-clause-countable : goal.raise-requires-clause-countable
+raise-requires-clause-countable c =
+    let h = c.places.inside in
+    let f = c.unwrap-embryo.result in
+    subst (λ cs. IsCountable Table (count_in_map cs f)) (sym c.dequeue.ensures.counts) (can-hold-table (the_view h).world f (kept_of h.files.counts h.ledger) c.places.invariant.within c.places.invariant.agrees).0
+
+pub lower-requires : goal.lower-requires
+lower-requires c =
+    let h = c.places.inside in
+    let w = (the_view h).world in
+    let s = c.args.listener.now in
+    let pid = c.args.pid in
+    let f = c.unwrap-embryo.result in
+    let back = sym (ap (λ (t : Stored). t.world) c.places.view_is ∙ ap (λ (o : Parts). o.places.world) c.shade_embryo.ensures.frame ∙ ap (λ (t : Shown). t.world) c.self.view_is) in
+    let x = embryo-taken w s f c.dequeue.result c.unwrap-embryo.ensures c.dequeue.ensures.some in
+    let there = process-there w pid (ap not (subst (λ (v : World). IsTrue (map.contains_key v.processes pid)) back c.requires.there)) in
+    let free = sym (there-table w pid c.args.fd (process_at w pid) there) ∙ subst (λ (v : World). table_at v pid c.args.fd ≡ None) back c.requires.free in
+    let kept = ap (λ v. kept_of v.counts h.ledger) c.raise.ensures ∙ ap (λ cs. held Table f (kept_of cs h.ledger)) c.dequeue.ensures.counts in
+    (subst (CanDrop Backlog f) (sym kept) (can-drop-first w s f x.0 (kept_of h.files.counts h.ledger) x.1 x.2 c.places.invariant pid c.args.fd (process_at w pid) there free)).0
+
+both : (c : goal.After-install) → Stands c.shade_embryo.new.self c.install.new.self c.lower.new.self c.places.inside.ledger
+both c =
     let q = c.shade_embryo.new.self in
-    let w = q.places.world in
+    let h = c.places.inside in
+    let w = (the_view h).world in
     let begun = q.begun.value.world in
     let s = c.args.listener.now in
     let pid = c.args.pid in
     let fd = c.args.fd in
+    let f = c.unwrap-embryo.result in
     let e = c.shade_embryo.ensures in
-    let r = c.requires in
-    let back = sym c.self.view_is in
-    let on = sym e.frame in
-    let spared = subst (λ (o : Parts). Spares (pass_of o.progress.stage o.begun.value.world o.progress.looked) s) on (subst (λ (v : Shown). Spares v.pass s) back r.spared) in
-    let free = subst (λ (o : Parts). table_at o.places.world pid fd ≡ None) on (subst (λ (v : Shown). table_at v.world pid fd ≡ None) back r.free) in
-    let some = subst (λ (o : Parts). 0 < length (backlog_at o.places.world s)) on (subst (λ (v : Shown). 0 < length (backlog_at v.world s)) back r.some) in
-    let marked = subst (λ (o : Parts). MarksAll (λ f. slice_get (backlog_at o.places.world s) 0 ≡ Some f) o q) on e.marked in
-    let none : (f : ℕ) → slice_get (backlog_at w s) 0 ≡ Some f → is_running q.progress.stage ≡ true → ¬ (Garbage begun f) = λ f is run. spared_running q.progress.stage begun q.progress.looked f run (held_spared q.progress.looked s f e.kept (embryo_held w s f (first_taken (backlog_at w s) f is)) spared) in
-    let first = first_of (backlog_at w s) some in
+    let was = stood q h c.places.view_is c.places.invariant e.kept in
+    let back = sym (ap (λ (t : Stored). t.world) c.places.view_is ∙ ap (λ (o : Parts). o.places.world) e.frame ∙ ap (λ (t : Shown). t.world) c.self.view_is) in
+    let x = embryo-taken w s f c.dequeue.result c.unwrap-embryo.ensures c.dequeue.ensures.some in
+    let there = process-there w pid (ap not (subst (λ (v : World). IsTrue (map.contains_key v.processes pid)) back c.requires.there)) in
+    let free = subst (λ (v : World). table_at v pid fd ≡ None) back c.requires.free in
+    let none = sym (there-table w pid fd (process_at w pid) there) ∙ free in
+    let low = below-most w pid fd (process_at w pid) was.0.within there (subst (λ (v : World). IsBelowLimit v pid fd) back c.requires.limit (process_at w pid) there) in
+    let kept = ap (λ v. kept_of v.counts h.ledger) c.lower.ensures ∙ ap (dropped Backlog f) (ap (λ v. kept_of v.counts h.ledger) c.raise.ensures ∙ ap (λ cs. held Table f (kept_of cs h.ledger)) c.dequeue.ensures.counts) in
+    let files = ap (λ v. v.files) c.lower.ensures ∙ ap (λ v. v.files) c.raise.ensures ∙ c.dequeue.ensures.files in
+    let next = ap (λ v. v.next) c.lower.ensures ∙ ap (λ v. v.next) c.raise.ensures ∙ c.dequeue.ensures.next in
+    let marks = ap (λ v. v.marks) c.lower.ensures ∙ ap (λ v. v.marks) c.raise.ensures ∙ c.dequeue.ensures.marks in
+    let spared = subst (λ (o : Parts). Spares (pass_of o.progress.stage o.begun.value.world o.progress.looked) s) (sym e.frame) (subst (λ (t : Shown). Spares t.pass s) (sym c.self.view_is) c.requires.spared) in
+    let shaded = subst (λ (o : Parts). MarksAll (λ g. slice_get (backlog_at o.places.world s) 0 ≡ Some g) o q) (sym e.frame) e.marked in
+    let marked = subst (λ (t : Stored). MarksAll (λ g. slice_get (backlog_at t.world s) 0 ≡ Some g) q (record q { places = t })) (sym c.places.view_is) shaded in
+    let stray : (g : ℕ) → slice_get (backlog_at w s) 0 ≡ Some g → is_running q.progress.stage ≡ true → ¬ (Garbage begun g) = λ g is run. spared_running q.progress.stage begun q.progress.looked g run (held_spared q.progress.looked s g was.1 (embryo_held w s g (first_taken (backlog_at w s) g is)) spared) in
+    let first : slice_get (backlog_at w s) 0 ≡ Some f = ap (λ xs. slice_get xs 0) (subst (λ o. IfSome o (λ g. backlog_at w s ≡ g ∷ drop 1 (backlog_at w s))) c.unwrap-embryo.ensures c.dequeue.ensures.some) in
     let v = with_socket w s dequeued in
-    subst (AreKeptWith q) (sym (c.take_embryo.ensures first.0 first.1))
-    (kept_tables (install v pid fd first.0) refl refl (λ t. moves_install begun v pid fd first.0 (none first.0 first.1 t)) (λ _. covers_install begun v pid fd first.0 (is_marked q.places.marks) (below q.progress.visited) free)
-    (kept_socket s dequeued (λ _. moves_dequeued begun w s) (λ t. covers_dequeued begun w s (is_marked q.places.marks) (below q.progress.visited) (marked t) (λ f is. none f is (marking_runs q.progress.stage t))) e.kept))
+    both-same _ (install v pid fd f) _ _ _ _ (world-is _ _ c.install.ensures.processes files next c.install.ensures.next refl) kept marks
+    (exact-accepted w s f x.0 (kept_of h.files.counts h.ledger) x.1 x.2 was.0 pid fd (process_at w pid) there none low)
+    (kept_tables (install v pid fd f) refl refl (λ t. moves_install begun v pid fd f (stray f first t)) (λ _. covers_install begun v pid fd f (is_marked h.files.marks) (below q.progress.visited) free)
+    (kept_socket s dequeued (λ _. moves_dequeued begun w s) (λ t. covers_dequeued begun w s (is_marked h.files.marks) (below q.progress.visited) (marked t) (λ g is. stray g is (marking_runs q.progress.stage t))) was.1))
+
+pub invariant_of-places : goal.invariant_of-places
+invariant_of-places c = (both c).0
+
+pub invariant_of-self : goal.invariant_of-self
+invariant_of-self c = (both c).1

@@ -1,31 +1,129 @@
-use Rattle.std.proofs.Common.{◌≡◌, ℕ, false, ◌∙◌, ap, subst, sym}
-use Rattle.std.specs.Prelude.{IsTrue, is_none, unwrap_or}
+use Rattle.std.proofs.Common.{map as mapped, ◌∙◌, ◌≡◌, ℕ, ap, arith, false, refl, subst, sym}
 use Rattle.std.specs.FinMap as map
+use Rattle.std.specs.List.{Contains, zip}
+use Rattle.std.specs.Map.{keys_of}
+use Rattle.std.specs.Prelude.{IsTrue, is_none, unwrap_or}
+use Rattle.af_base.specs.Changes.{install_all, with_queue}
 use Rattle.af_base.specs.Refusals.{no_socket, process_at, socket_at}
 use Rattle.af_base.specs.Table.{lowest_free}
+use Rattle.af_base.specs.World.{World}
+use Rattle.af_ledger.specs.Kept.{CanDropAll, count_in_map, dropped_all, kept_of}
+use Rattle.af_ledger.specs.declared.place.Place.TheVariants.{Queue}
+use Rattle.af_ledger.proofs.HeldAll.{users-dropped_all}
 use Rattle.af_hold.specs.Receiving.{taken_at}
-use Rattle.af_hold.specs.Stored.{Stored}
+use Rattle.af_hold.specs.Stored.{Stored, filled}
+use Rattle.af_hold.proofs.Bounds.{tabled-most}
+use Rattle.af_hold.proofs.Exact.{exact-same, install-filled, users-filled, world-is}
 use Rattle.af_hold.proofs.Putting.{is-socket}
-use Rattle.af_pass.specs.Keeping.{IsKept, Spares, shaded_in}
-use Rattle.af_collect.specs.Shown.{AreKept, Shown}
+use Rattle.af_hold.proofs.Receiving.{can-drop-received, counted, exact-received, received-live, received_at, tabled}
+use Rattle.af_hold.proofs.Taken.{taken_queue}
+use Rattle.af_pass.specs.Keeping.{Spares, shaded_in}
+use Rattle.af_collect.specs.Shown.{Shown}
+use Rattle.af_collect.specs.contracts.holdings.Holdings.{the_view}
 use Rattle.af_collect.proofs.Placed.{kept_taken}
+use Rattle.af_collect.proofs.Standing.{Stands, both-same, seen-changed, shown, stood}
 use Rattle.af_collect.proofs.store.Store.take_msg.Goals as goal
 
-pub invariant_of-self-2 : goal.invariant_of-self-2
-invariant_of-self-2 c =
-    let p = c.self.inside.parts in
-    let w = p.places.world in
+pub table_in_all-requires-clause-known : goal.table_in_all-requires-clause-known
+table_in_all-requires-clause-known c = λ f there.
+    let h = c.places.inside in
+    let w = (the_view h).world in
     let s = c.args.socket.now in
+    let back = sym (ap (λ (t : Stored). t.world) c.places.view_is ∙ ap (λ (t : Shown). t.world) c.self.view_is) in
+    let socket = subst (λ (v : World). is_none (socket_at v s) ≡ false) back c.requires.socket in
+    let attached = c.attached-attached.ensures.value ∙ ap (λ t. t.message.attached) c.in_ok-taken.ensures.taken in
+    ap (λ cs. map.contains_key cs f) c.take.ensures.counts ∙ c.places.invariant.counted f ∙ received-live w s c.args.max (kept_of h.files.counts h.ledger) c.places.invariant c.requires.some socket f (subst (λ l. Contains l f) attached there)
+
+pub table_in_all-requires-clause-fits : goal.table_in_all-requires-clause-fits
+table_in_all-requires-clause-fits c = λ f. let few = c.attached-attached.ensures.bound in omega (arith, few, ap (λ cs. (count_in_map cs f).tabled) c.take.ensures.counts, tabled-most (the_view c.places.inside).world f (kept_of c.places.inside.files.counts c.places.inside.ledger) c.places.invariant.within c.places.invariant.agrees)
+
+pub drop_all-requires : goal.drop_all-requires
+drop_all-requires c =
+    let h = c.places.inside in
+    let w = (the_view h).world in
+    let k = kept_of h.files.counts h.ledger in
+    let s = c.args.socket.now in
+    let pid = c.args.pid in
+    let fds = c.args.fds.now in
+    let back = sym (ap (λ (t : Stored). t.world) c.places.view_is ∙ ap (λ (t : Shown). t.world) c.self.view_is) in
+    let socket = subst (λ (v : World). is_none (socket_at v s) ≡ false) back c.requires.socket in
+    let there = subst (λ (v : World). IsTrue (map.contains_key v.processes pid)) back c.requires.there in
+    let lowest = subst (λ (v : World). (n : ℕ) × (fds ≡ lowest_free n (process_at v pid))) back c.requires.free in
+    let can = can-drop-received w s c.args.max k c.places.invariant c.requires.some socket pid fds there lowest in
+    let m = received_at w s c.args.max in
+    let taken = c.in_ok-taken.ensures.taken in
+    let l = kept_of c.table_in_all.new.files.counts h.ledger in
+    let kept = c.table_in_all.ensures.kept h.ledger ∙ (λ i. counted (kept_of (c.take.ensures.counts i) h.ledger) fds (c.attached-attached.ensures.value i)) ∙ ap (counted k fds) (ap (λ t. t.message.attached) taken) in
+    let user = c.user.ensures ∙ ap (λ t. t.message.user) taken in
+    let attached = c.attached-attached.ensures.value ∙ ap (λ t. t.message.attached) taken in
+    subst (λ u. CanDropAll u c.attached-attached.result.now l) (sym user) (subst (λ fs. CanDropAll m.user fs l) (sym attached) (subst (CanDropAll m.user m.attached) (sym kept) can))
+
+-- The ledger in the end.
+left : (c : goal.After-shade_taken) → let k = kept_of c.places.inside.files.counts c.places.inside.ledger in let m = received_at (the_view c.places.inside).world c.args.socket.now c.args.max in
+    kept_of c.shade_taken.new.files.counts c.drop_all.new.ledger ≡ dropped_all (Queue m.user) m.attached (counted k c.args.fds.now m.attached)
+left c =
+    let h = c.places.inside in
+    let fds = c.args.fds.now in
+    let taken = c.in_ok-taken.ensures.taken in
+    let kept = c.table_in_all.ensures.kept h.ledger ∙ (λ i. counted (kept_of (c.take.ensures.counts i) h.ledger) fds (c.attached-attached.ensures.value i)) ∙ ap (counted (kept_of h.files.counts h.ledger) fds) (ap (λ t. t.message.attached) taken) in
+    let user = c.user.ensures ∙ ap (λ t. t.message.user) taken in
+    let attached = c.attached-attached.ensures.value ∙ ap (λ t. t.message.attached) taken in
+    ap (λ v. kept_of v.counts c.drop_all.new.ledger) c.shade_taken.ensures ∙ c.drop_all.ensures.kept ∙ (λ i. dropped_all (Queue (user i)) (attached i) (kept i))
+
+-- The world in the end.
+received : (c : goal.After-shade_taken) → let w = (the_view c.places.inside).world in let taken = taken_at w c.args.socket.now c.args.max in
+    (the_view (record c.places.inside { procs = c.table_in_all.new.procs; files = c.shade_taken.new.files; ledger = c.drop_all.new.ledger })).world ≡ install_all (with_queue w c.args.socket.now taken.rest) c.args.pid (zip c.args.fds.now taken.attached)
+received c =
+    let h = c.places.inside in
+    let w = (the_view h).world in
+    let s = c.args.socket.now in
+    let m = received_at w s c.args.max in
     let t = taken_at w s c.args.max in
+    let v : World = tabled w c.args.pid c.args.fds.now m.attached in
+    let attached = c.attached-attached.ensures.value ∙ ap (λ t. t.message.attached) c.in_ok-taken.ensures.taken in
+    let processes = c.table_in_all.ensures.processes ∙ ap (λ l. filled w.processes c.args.pid (zip c.args.fds.now l)) attached in
+    let k = kept_of h.files.counts h.ledger in
+    let users = ap (λ l. keys_of l.users) (left c) ∙ users-dropped_all m.user m.attached (counted k c.args.fds.now m.attached) ∙ users-filled (mapped (λ e. e.1) (zip c.args.fds.now m.attached)) k in
+    let files = ap (λ v. v.files) c.shade_taken.ensures ∙ ap (λ v. v.files) c.drop_all.ensures.rest ∙ ap (λ v. v.files) c.table_in_all.ensures.rest in
+    let next = ap (λ v. v.next) c.shade_taken.ensures ∙ ap (λ v. v.next) c.drop_all.ensures.rest ∙ ap (λ v. v.next) c.table_in_all.ensures.rest ∙ c.take.ensures.next in
+    world-is _ (record v { files = c.take.new.self.files }) processes files next c.table_in_all.ensures.next users ∙ ap (λ fs. record v { files = fs }) c.in_ok-taken.ensures.files ∙ taken_queue v s c.args.max
+    ∙ sym (install-filled (with_queue w s t.rest) c.args.pid (zip c.args.fds.now t.attached))
+
+both : (c : goal.After-shade_taken) → Stands c.self.inside.parts c.table_in_all.new.procs c.shade_taken.new.files c.drop_all.new.ledger
+both c =
+    let p = c.self.inside.parts in
+    let h = c.places.inside in
+    let w = (the_view h).world in
+    let k = kept_of h.files.counts h.ledger in
+    let s = c.args.socket.now in
+    let max = c.args.max in
+    let pid = c.args.pid in
+    let fds = c.args.fds.now in
+    let was = stood p h c.places.view_is c.places.invariant c.self.invariant in
+    let back = sym (ap (λ (t : Stored). t.world) c.places.view_is ∙ ap (λ (t : Shown). t.world) c.self.view_is) in
+    let socket = subst (λ (v : World). is_none (socket_at v s) ≡ false) back c.requires.socket in
+    let there = subst (λ (v : World). IsTrue (map.contains_key v.processes pid)) back c.requires.there in
+    let lowest = subst (λ (v : World). (n : ℕ) × (fds ≡ lowest_free n (process_at v pid))) back c.requires.free in
+    let spared = subst (λ (t : Shown). Spares t.pass s) (sym c.self.view_is) c.requires.spared in
     let x = unwrap_or (socket_at w s) no_socket in
-    let r = c.requires in
-    let back = sym c.self.view_is in
-    let at = is-socket w s (subst (λ (v : Shown). is_none (socket_at v.world s) ≡ false) back r.socket) in
-    let spared = subst (λ (v : Shown). Spares v.pass s) back r.spared in
-    let there = subst (λ (v : Shown). IsTrue (map.contains_key v.world.processes c.args.pid)) back r.there in
-    let lowest = subst (λ (v : Shown). (k : ℕ) × (c.args.fds.now ≡ lowest_free k (process_at v.world c.args.pid))) back r.free in
-    let files = c.attached.ensures.value ∙ ap (λ o. o.message.attached) c.in_ok-taken.ensures.taken in
-    subst AreKept (sym c.shade_taken.ensures)
-    (subst (λ fs. IsKept c.take_msg.new.self.world p.begun.value.world (shaded_in p.progress.stage fs c.take_msg.new.self.marks) p.progress) (sym files)
-    (subst (λ (v : Stored). IsKept v.world p.begun.value.world (shaded_in p.progress.stage t.attached v.marks) p.progress) (sym c.in_ok-taken.ensures.world)
-    (kept_taken c.is_whole.ensures.whole s c.args.max x at (c.is_whole.ensures.within.sockets s x at).messages p.progress.looked c.args.pid c.args.fds.now spared there lowest c.self.invariant)))
+    let at = is-socket w s socket in
+    let t = taken_at w s max in
+    let files = c.attached-attached.ensures.value ∙ ap (λ o. o.message.attached) c.in_ok-taken.ensures.taken in
+    let before = ap (λ v. v.marks) c.drop_all.ensures.rest ∙ ap (λ v. v.marks) c.table_in_all.ensures.rest ∙ c.take.ensures.marks in
+    let marks = ap (λ v. v.marks) c.shade_taken.ensures ∙ (λ i. shaded_in p.progress.stage (files i) (before i)) in
+    both-same _ (install_all (with_queue w s t.rest) pid (zip fds t.attached)) _ _ _ _ (received c) (left c) marks
+    (exact-same _ _ _ _ (install-filled (with_queue w s t.rest) pid (zip fds t.attached)) refl (exact-received w s max k was.0 c.requires.some socket pid fds there lowest))
+    (kept_taken was.0.whole s max x at (was.0.within.sockets s x at).messages p.progress.looked pid fds spared there lowest was.1)
+
+pub invariant_of-places-2 : goal.invariant_of-places-2
+invariant_of-places-2 c = (both c).0
+
+pub invariant_of-self-2 : goal.invariant_of-self-2
+invariant_of-self-2 c = (both c).1
+
+pub returns-clause-world : goal.returns-clause-world
+returns-clause-world c =
+    let p = c.self.inside.parts in
+    let h = c.places.inside in
+    (λ i. shown p (record { world = received c i; rows = c.table_in_all.ensures.rows i; marks = c.shade_taken.new.files.marks }))
+    ∙ seen-changed p h _ (λ v. let t = taken_at v c.args.socket.now c.args.max in install_all (with_queue v c.args.socket.now t.rest) c.args.pid (zip c.args.fds.now t.attached)) c.places.view_is c.self.view_is

@@ -1,0 +1,35 @@
+use Rattle.std.proofs.Common.{◌≡◌, ◌<◌, ℕ, [], drop, length, sym, ap, ◌∙◌, subst, arith}
+use Rattle.af_base.specs.World.{World}
+use Rattle.af_base.specs.Places.{backlog_at, queue_at}
+use Rattle.af_base.specs.Changes.{dequeued, with_queue, with_socket}
+use Rattle.af_hold.specs.Stored.{Stored}
+use Rattle.af_hold.proofs.Losing.{lost-embryo}
+use Rattle.af_hold.proofs.Shedding.{none-popped}
+use Rattle.af_collect.proofs.holdings.Holdings.drop_place.Goals as goal
+
+-- Where there is no message, nothing has changed so far.
+unchanged : (old mid : Stored) (f : ℕ) → mid ≡ record old { world = with_queue old.world f (drop 1 (queue_at old.world f)) } → queue_at old.world f ≡ [] → mid ≡ old
+unchanged old mid f is silent = is ∙ ap {A = World} {B = Stored} (λ v. record old { world = v }) (none-popped old.world f silent)
+
+pub returns-clause-world : goal.returns-clause-world
+returns-clause-world c =
+    let old = c.args.self.now in
+    let f = c.args.file.now in
+    let silent = c.drop_first.ensures.none c.if-drop_first.false in
+    c.drop_embryo.ensures.world
+    ∙ ap {A = Stored} {B = Stored} (λ s. record s { world = with_socket s.world f dequeued }) (unchanged old c.drop_first.new.self f c.drop_first.ensures.world silent)
+    ∙ ap {A = World} {B = Stored} (λ v. record old { world = v }) (sym (lost-embryo old.world f silent))
+
+pub returns-clause-some : goal.returns-clause-some
+returns-clause-some c t =
+    let f = c.args.file.now in
+    let silent = c.drop_first.ensures.none c.if-drop_first.false in
+    let more = subst (λ (s : Stored). 0 < length (backlog_at s.world f)) (unchanged c.args.self.now c.drop_first.new.self f c.drop_first.ensures.world silent) (c.drop_embryo.ensures.some t) in
+    omega (arith, more)
+
+pub returns-clause-none : goal.returns-clause-none
+returns-clause-none c t =
+    let f = c.args.file.now in
+    let silent = c.drop_first.ensures.none c.if-drop_first.false in
+    let bare = subst (λ (s : Stored). backlog_at s.world f ≡ []) (unchanged c.args.self.now c.drop_first.new.self f c.drop_first.ensures.world silent) (c.drop_embryo.ensures.none t) in
+    omega (arith, ap length silent, ap length bare)

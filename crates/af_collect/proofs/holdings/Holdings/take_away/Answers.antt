@@ -1,0 +1,23 @@
+use Rattle.std.proofs.Common.{◌≡◌, [], refl, sym, ap, ◌∙◌, subst}
+use Rattle.std.specs.FinMap as map
+use Rattle.std.specs.Option.{option_map_or}
+use Rattle.af_base.specs.World.{IsLive}
+use Rattle.af_base.specs.Places.{contents, held_by, queue_at, queue_of}
+use Rattle.af_base.specs.Counts.{refs}
+use Rattle.af_base.proofs.Lookups.{there}
+use Rattle.af_ledger.specs.Kept.{kept_of}
+use Rattle.af_hold.specs.Stored.{Stored}
+use Rattle.af_collect.specs.contracts.holdings.Holdings.{the_view}
+use Rattle.af_hold.proofs.Exact.{exact-gone, exact-same, world-is}
+use Rattle.af_collect.proofs.holdings.Holdings.take_away.Goals as goal
+
+pub invariant_of-self : goal.invariant_of-self
+invariant_of-self c =
+    let w = (the_view c.self.inside).world in
+    let f = c.args.file.now in
+    let back = sym c.self.view_is in
+    let x = there (map.get w.files f) (subst (λ (s : Stored). IsLive s.world f) back c.requires.live) in
+    let bare = sym (ap (λ o. option_map_or contents o []) x.1) ∙ subst (λ (s : Stored). held_by s.world f ≡ []) back c.requires.bare in
+    let silent = sym (ap (λ o. option_map_or queue_of o []) x.1) ∙ subst (λ (s : Stored). queue_at s.world f ≡ []) back c.requires.silent in
+    let none = subst (λ (s : Stored). refs s.world f ≡ 0) back c.requires.unheld in
+    exact-same _ _ _ _ (world-is _ (record w { files = c.remove.new.files.files }) refl refl c.remove.ensures.next refl refl ∙ c.remove.ensures.gone w refl c.self.invariant.whole.peers) (ap (λ cs. kept_of cs c.self.inside.ledger) c.remove.ensures.counts) (exact-gone w f x.0 (kept_of c.self.inside.files.counts c.self.inside.ledger) x.1 bare silent none c.self.invariant)

@@ -1,0 +1,72 @@
+//! All that is there: the processes, the files, and the counts that are kept of them, always in step.
+ghost use Rattle.std.specs.Prelude.{◌≡◌};
+ghost use Rattle.std.specs.FinMap as map;
+ghost use Rattle.af_base.specs.World.{empty_world};
+ghost use Rattle.af_base.specs.Refusals.{is_crowded};
+
+use af_base::limits::{MAX_PID, MAX_PROCESSES};
+use af_desc::Files;
+use af_ledger::Ledger;
+use af_table::Procs;
+use std::alloc::Global;
+use std::marker::Model;
+
+/// The processes with their tables, the files with how many places hold each, and what users are
+/// charged.
+pub struct Holdings {
+    pub(crate) alloc: Global,
+    pub(crate) procs: Procs,
+    pub(crate) files: Files,
+    pub(crate) ledger: Ledger,
+}
+
+/// It is written out, and not derived, so that what owns holdings has one call where it drops them, and
+/// not the drop of each of their parts.
+impl Drop for Holdings {
+    fn drop(self) {
+        let Holdings {
+            alloc: _,
+            procs: _,
+            files: _,
+            ledger: _,
+        } = self;
+    }
+}
+
+impl Model for Holdings {
+    ghost use Rattle.std.specs.FinMap as map;
+    ghost use Rattle.std.specs.Coded.{codes};
+    ghost use Rattle.af_hold.specs.Stored.{Stored, world_of};
+    ghost use Rattle.af_ledger.specs.Kept.{kept_of};
+    ghost use Rattle.af_hold.specs.Agreement.{IsExact};
+
+    ghost Value = { Stored };
+
+    ghost coded = { Prim.hlevel (codes, map.code) };
+
+    ghost view = { λ a. record { world = world_of a.procs a.files a.ledger; rows = a.procs.rows; marks = a.files.marks } };
+
+    ghost invariant = { λ a. IsExact (world_of a.procs a.files a.ledger) (kept_of a.files.counts a.ledger) };
+}
+
+impl Holdings {
+    /// Nothing at all. It takes no memory.
+    pub(crate) fn new(alloc: Global) -> Holdings
+        ensures world { result.world ≡ empty_world }
+        ensures marks { result.marks.colors ≡ map.empty }
+    {
+        Holdings {
+            alloc,
+            procs: Procs::new(alloc),
+            files: Files::new(alloc),
+            ledger: Ledger::new(alloc),
+        }
+    }
+
+    /// Whether there can be no further process.
+    pub fn is_crowded(&self) -> bool
+        ensures { result ≡ is_crowded self.now.world }
+    {
+        self.procs.count() >= MAX_PROCESSES || self.procs.next_pid().0 > MAX_PID
+    }
+}

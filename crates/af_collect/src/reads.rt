@@ -1,0 +1,107 @@
+//! The parts, lent for reading, and the counts that are kept. None takes memory.
+ghost use Rattle.std.specs.Prelude.{◌≡◌, IfErr, None, OnOk, Some, length, slice_get};
+ghost use Rattle.af_base.specs.Counts.{charged, inflight, refs, tabled, total};
+ghost use Rattle.af_base.specs.Refusals.{first_fit, on_charge};
+ghost use Rattle.af_base.specs.Whole.{IsWhole, IsWithin};
+
+use crate::holdings::Holdings;
+use af_base::errno::Errno;
+use af_base::names::{FileRef, Ino, Uid};
+use af_desc::Files;
+use af_table::Procs;
+
+impl Holdings {
+    /// The processes with their tables.
+    #[inline(always)]
+    pub fn procs(&self) -> &Procs
+        ensures processes { result.now.processes ≡ self.now.world.processes }
+        ensures next { result.now.next_pid ≡ self.now.world.next_pid }
+        ensures rows { result.now.rows ≡ self.now.rows }
+    {
+        &self.procs
+    }
+
+    /// The files.
+    #[inline(always)]
+    pub fn files(&self) -> &Files
+        ensures files { result.now.files ≡ self.now.world.files }
+        ensures next { result.now.next ≡ self.now.world.next_ino }
+        ensures marks { result.now.marks ≡ self.now.marks }
+    {
+        &self.files
+    }
+
+    /// Nothing at run time: it says that at every moment, between any two calls, the world is whole
+    /// and within the limits.
+    pub(crate) fn is_whole(&self)
+        ensures whole { IsWhole self.now.world }
+        ensures within { IsWithin self.now.world }
+    {
+        // The invariant says it: it is enough to look at a field.
+        let _ledger = &self.ledger;
+    }
+
+    /// How many places hold the file; none holds a stranger.
+    pub fn refs(&self, ino: Ino) -> u64
+        ensures { result ≡ refs self.now.world ino }
+    {
+        self.files.refs(ino)
+    }
+
+    /// How many numbers of all tables stand for the file.
+    pub(crate) fn tabled(&self, file: &FileRef) -> u64
+        ensures { result ≡ tabled self.now.world file.now }
+    {
+        self.files.tabled(file)
+    }
+
+    /// How many places in queues hold the file.
+    pub fn inflight(&self, ino: Ino) -> u64
+        ensures { result ≡ inflight self.now.world ino }
+    {
+        self.files.inflight(ino)
+    }
+
+    /// How many places in queues are charged to the user.
+    pub fn charged(&self, user: Uid) -> u64
+        ensures { result ≡ charged self.now.world user }
+    {
+        self.ledger.charged(user)
+    }
+
+    /// How many places in queues there are.
+    pub fn total(&self) -> u64
+        ensures { result ≡ total self.now.world }
+    {
+        self.ledger.total()
+    }
+
+    /// How many users there are: a user stays when its last process is gone.
+    pub fn users(&self) -> usize
+        ensures { result ≡ length self.now.world.users }
+    {
+        self.ledger.users()
+    }
+
+    /// The i-th user, from 0, in the order of their first process; nothing past the last.
+    pub fn user_at(&self, i: usize) -> Option<Uid>
+        ensures { result ≡ slice_get self.now.world.users i }
+    {
+        self.ledger.user_at(i)
+    }
+
+    /// Whether a user may send so many files by a process of this limit and privilege, or why not
+    /// (unix(7), ETOOMANYREFS).
+    pub fn may_send(
+        &self,
+        uid: Uid,
+        limit: u32,
+        privileged: bool,
+        files: usize,
+    ) -> Result<(), Errno>
+        ensures ok { OnOk result (first_fit (on_charge (charged self.now.world uid) (total self.now.world) limit privileged files) ≡ None) }
+        ensures err { IfErr result (λ e. first_fit (on_charge (charged self.now.world uid) (total self.now.world) limit privileged files) ≡ Some e) }
+    {
+        self.ledger.may_send(uid, limit, privileged, files)
+    }
+}

@@ -1,0 +1,115 @@
+//! What nothing holds: it is emptied and taken away, one file and one place at a time, without memory.
+ghost use Rattle.std.specs.Prelude.{◌≡◌, ◌<◌, [], IfSome, IfNone, IsTrue, drop, false, length, nat_eq};
+ghost use Rattle.std.specs.FinMap as map;
+ghost use Rattle.af_base.specs.World.{IsLive, World};
+ghost use Rattle.af_base.specs.Counts.{refs};
+ghost use Rattle.af_base.specs.Changes.{dequeued, with_queue, with_socket};
+ghost use Rattle.af_base.specs.Places.{backlog_at, held_by, queue_at};
+ghost use Rattle.af_base.specs.Pass.{emptied};
+ghost use Rattle.af_base.specs.Unheld.{without};
+ghost use Rattle.af_base.specs.Whole.{AreMutual, IsSound};
+ghost use Rattle.af_hold.specs.Losing.{places_at, without_place};
+ghost use Rattle.af_mark.specs.Marked.{forgotten};
+
+use crate::holdings::Holdings;
+use af_base::names::FileRef;
+use af_desc::Files;
+use af_hold::drop_all;
+use af_ledger::Place;
+
+impl Holdings {
+    /// The first message of a queue goes, and its places with it. Whether there was one. It takes no
+    /// memory.
+    #[inline(always)]
+    fn drop_first(&mut self, file: &FileRef) -> bool
+        ensures world { self.new ≡ record self.old { world = with_queue self.old.world file.now (drop 1 (queue_at self.old.world file.now)) } }
+        ensures some { IsTrue result → 0 < length (queue_at self.old.world file.now) }
+        ensures none { result ≡ false → queue_at self.old.world file.now ≡ [] }
+    {
+        let Some(message) = self.files.pop(file) else {
+            return false;
+        };
+        drop_all(
+            &mut self.files,
+            &mut self.ledger,
+            message.user(),
+            message.attached(),
+        );
+        true
+    }
+
+    /// The first embryo of a listener waits no more, and its place in the backlog goes. Whether one
+    /// waited. It takes no memory.
+    #[inline(always)]
+    fn drop_embryo(&mut self, file: &FileRef) -> bool
+        ensures world { self.new ≡ record self.old { world = with_socket self.old.world file.now dequeued } }
+        ensures some { IsTrue result → 0 < length (backlog_at self.old.world file.now) }
+        ensures none { result ≡ false → backlog_at self.old.world file.now ≡ [] }
+    {
+        let Some(embryo) = self.files.dequeue(file) else {
+            return false;
+        };
+        self.files.lower(&Place::Backlog, &embryo);
+        true
+    }
+
+    /// The first message of a file goes, or, where it has none, its first embryo, and the places with
+    /// it. Whether the file had one of the two. It takes no memory.
+    #[inline(always)]
+    pub(crate) fn drop_place(&mut self, file: &FileRef) -> bool
+        ensures world { self.new ≡ record self.old { world = without_place self.old.world file.now } }
+        ensures some { IsTrue result → 0 < places_at self.old.world file.now }
+        ensures none { result ≡ false → places_at self.old.world file.now ≡ 0 }
+    {
+        if self.drop_first(file) {
+            return true;
+        }
+        self.drop_embryo(file)
+    }
+
+    /// All places that a file holds are dropped. It takes no memory.
+    pub(crate) fn empty(&mut self, file: &FileRef)
+        ensures { self.new ≡ record self.old { world = emptied (nat_eq file.now) self.old.world } }
+    {
+        while self.drop_place(file) {}
+    }
+
+    /// A live file that no place holds, if there is one.
+    pub(crate) fn next_waiting(&self) -> Option<FileRef>
+        ensures live { IfSome result (λ f. IsLive self.now.world f) }
+        ensures unheld { IfSome result (λ f. refs self.now.world f ≡ 0) }
+        ensures none { IfNone result (IsSound self.now.world) }
+    {
+        self.files.next_waiting()
+    }
+
+    /// A file that no place holds, and that holds nothing itself, goes, and its peer hangs up.
+    pub(crate) fn take_away(&mut self, file: &FileRef)
+        requires live { IsLive self.old.world file.now }
+        requires unheld { refs self.old.world file.now ≡ 0 }
+        requires bare { held_by self.old.world file.now ≡ [] }
+        requires silent { queue_at self.old.world file.now ≡ [] }
+        ensures { self.new ≡ record self.old { world = without (nat_eq file.now) self.old.world; marks = forgotten file.now self.old.marks } }
+    {
+        remove(&mut self.files, file);
+    }
+}
+
+/// A file goes, and its peer hangs up.
+fn remove(files: &mut Files, file: &FileRef)
+    ensures gone { (w : World) → w.files ≡ files.old.files → AreMutual w → record w { files = files.new.files } ≡ without (nat_eq file.now) w }
+    ensures next { files.new.next ≡ files.old.next }
+    ensures counts { files.new.counts ≡ map.remove files.old.counts file.now }
+    ensures marks { files.new.marks ≡ forgotten file.now files.old.marks }
+{
+    let Some(desc) = files.remove(file) else {
+        return;
+    };
+    let Some(socket) = desc.socket() else {
+        return;
+    };
+    let Some(peer) = socket.peer() else {
+        return;
+    };
+    files.hang_up(&peer);
+}
