@@ -1,6 +1,6 @@
 -- Each change of places, and each file more, keeps what is kept.
 use Rattle.std.proofs.Common.{◌≡◌, ℕ, Bool, true, false, List, [], ◌∷◌, ◌++◌, inl, inr, nat_eq, refl, sym, ap, ◌∙◌, subst, arith}
-use Rattle.std.specs.Prelude.{Some, IsTrue, is_some, if◌then◌else◌}
+use Rattle.std.specs.Prelude.{IsTrue, is_none, is_some, unwrap_or, if◌then◌else◌}
 use Rattle.std.specs.List.{Contains, list_any, zip}
 use Rattle.std.specs.FinMap as map
 use Rattle.std.proofs.lemmas.Bool.{cases_Bool, false≢true}
@@ -9,15 +9,17 @@ use Rattle.af_base.specs.World.{AsSocket, File, IsLive, Socket, World, is_live}
 use Rattle.af_base.specs.Changes.{add_file, add_process, install_all, set_limit, with_queue, with_socket}
 use Rattle.af_base.specs.Places.{Holds, carried, contents}
 use Rattle.af_base.specs.Reached.{Garbage}
-use Rattle.af_base.specs.Refusals.{process_at}
+use Rattle.af_base.specs.Refusals.{no_socket, process_at, socket_at}
 use Rattle.af_base.specs.Steps.{spawned}
 use Rattle.af_base.specs.Table.{lowest_free}
-use Rattle.af_base.specs.Take.{take_from}
-use Rattle.af_base.specs.Whole.{IsWhole}
 use Rattle.af_base.proofs.Lookups.{insert-other, told_apart}
 use Rattle.af_base.proofs.Moved.{live-changed, there-holds}
-use Rattle.af_base.proofs.Takes.{AreWithin, leaves-taken}
+use Rattle.af_base.proofs.Takes.{leaves-taken}
+use Rattle.af_ledger.specs.Kept.{Kept}
+use Rattle.af_hold.specs.Agreement.{IsExact}
+use Rattle.af_hold.specs.Receiving.{taken_at}
 use Rattle.af_hold.proofs.Exact.{install-filled}
+use Rattle.af_hold.proofs.Putting.{is-socket}
 use Rattle.af_mark.specs.Marked.{Marked, born, is_marked, knows}
 use Rattle.af_pass.specs.declared.Stage.{Stage}
 use Rattle.af_pass.specs.declared.Stage.TheVariants.{Marking, Resting, Sweeping}
@@ -40,12 +42,14 @@ files_spawned w uid nofile privileged = by (add_process w (record { user = uid; 
   by v true = (refl, refl)
   by v false = (refl, refl)
 
--- What is taken out of a socket was held by it.
-taken_held : (w : World) (s max : ℕ) (x : Socket) → map.get w.files s ≡ Some (AsSocket x) → AreWithin x.queue → (f : ℕ) → Contains (take_from x.kind x.queue max).attached f → Holds w s f
-taken_held w s max x at within f h =
-    let t = take_from x.kind x.queue max in
+-- What a receive takes out of a socket, or a peek sees in it, is held by it.
+taken_held : {j : Kept} (w : World) (s max : ℕ) → IsExact w j → is_none (socket_at w s) ≡ false → (f : ℕ) → Contains (taken_at w s max).attached f → Holds w s f
+taken_held w s max exact socket f h =
+    let x = unwrap_or (socket_at w s) no_socket in
+    let at = is-socket w s socket in
+    let t = taken_at w s max in
     there-holds w s f (AsSocket x) at (Contains-append_left (carried x.queue) x.backlog f
-    (subst (λ xs. Contains xs f) (leaves-taken x.kind x.queue max within).carried (Contains-append_left t.attached (carried t.rest) f h)))
+    (subst (λ xs. Contains xs f) (leaves-taken x.kind x.queue max (exact.within.sockets s x at).messages).carried (Contains-append_left t.attached (carried t.rest) f h)))
 
 module _ {w begun : World} {m : Marked} {c : Progress} where
   -- A change of tables keeps what is kept.
@@ -88,27 +92,29 @@ module _ {w begun : World} {m : Marked} {c : Progress} where
   pub kept_limited : (p n : ℕ) → IsKept w begun m c → IsKept (set_limit w p n) begun m c
   kept_limited p n k = kept_tables (set_limit w p n) refl refl (λ _. moves_limited begun w p n) (λ _. covers_limited begun w p n (is_marked m) (below c.visited)) k
 
-  module _ (whole : IsWhole w) (s max : ℕ) (x : Socket) (at : map.get w.files s ≡ Some (AsSocket x)) (within : AreWithin x.queue) where
+  module _ {j : Kept} (exact : IsExact w j) (s max : ℕ) (socket : is_none (socket_at w s) ≡ false) where
     -- What is seen in the queue of a spared socket, which stays as it is, comes into a table at the lowest free numbers: that keeps what is kept.
     pub kept_peeked : (n p : ℕ) (ns : List ℕ) → Spares (pass_of c.stage begun n) s → IsTrue (map.contains_key w.processes p) → (k : ℕ) × (ns ≡ lowest_free k (process_at w p)) → IsKept w begun m c
-        → IsKept (install_all w p (zip ns (take_from x.kind x.queue max).attached)) begun m c
+        → IsKept (install_all w p (zip ns (taken_at w s max).attached)) begun m c
     kept_peeked n p ns spared there lowest k =
-        let t = take_from x.kind x.queue max in
-        let none : (f : ℕ) → Contains t.attached f → is_running c.stage ≡ true → ¬ (Garbage begun f) = λ f h e. spared_running c.stage begun n f e (held_spared n s f k (taken_held w s max x at within f h) spared) in
+        let t = taken_at w s max in
+        let none : (f : ℕ) → Contains t.attached f → is_running c.stage ≡ true → ¬ (Garbage begun f) = λ f h e. spared_running c.stage begun n f e (held_spared n s f k (taken_held w s max exact socket f h) spared) in
         let filled = install-filled w p (zip ns t.attached) in
         kept_tables (install_all w p (zip ns t.attached)) (ap (λ (y : World). y.files) filled) (ap (λ (y : World). y.next_ino) filled)
         (λ e. moves_install_files begun w p ns t.attached (λ f h. none f h e)) (λ e. covers_install_lowest begun w p ns t.attached (is_marked m) (below c.visited) there lowest) k
 
     -- What is taken out of the queue of a spared socket is shaded where marking goes on, and comes into a table at the lowest free numbers: that keeps what is kept.
     pub kept_taken : (n p : ℕ) (ns : List ℕ) → Spares (pass_of c.stage begun n) s → IsTrue (map.contains_key w.processes p) → (k : ℕ) × (ns ≡ lowest_free k (process_at w p)) → IsKept w begun m c
-        → IsKept (install_all (with_queue w s (take_from x.kind x.queue max).rest) p (zip ns (take_from x.kind x.queue max).attached)) begun (shaded_in c.stage (take_from x.kind x.queue max).attached m) c
+        → IsKept (install_all (with_queue w s (taken_at w s max).rest) p (zip ns (taken_at w s max).attached)) begun (shaded_in c.stage (taken_at w s max).attached m) c
     kept_taken n p ns spared there lowest k =
-        let t = take_from x.kind x.queue max in
+        let x = unwrap_or (socket_at w s) no_socket in
+        let at = is-socket w s socket in
+        let within = (exact.within.sockets s x at).messages in
+        let t = taken_at w s max in
         let o = shaded_in c.stage t.attached m in
         let v = with_queue w s t.rest in
-        let held = taken_held w s max x at within in
-        let none : (f : ℕ) → Contains t.attached f → is_running c.stage ≡ true → ¬ (Garbage begun f) = λ f h e. spared_running c.stage begun n f e (held_spared n s f k (held f h) spared) in
-        let live : (f : ℕ) → Contains t.attached f → IsLive w f = λ f h. whole.queues_live s f (held f h) in
+        let none : (f : ℕ) → Contains t.attached f → is_running c.stage ≡ true → ¬ (Garbage begun f) = λ f h e. spared_running c.stage begun n f e (held_spared n s f k (taken_held w s max exact socket f h) spared) in
+        let live : (f : ℕ) → Contains t.attached f → IsLive w f = λ f h. exact.whole.queues_live s f (taken_held w s max exact socket f h) in
         let marked : (f : ℕ) → Contains t.attached f → is_marking c.stage ≡ true → IsLive begun f → is_marked o f ≡ true = λ f h e b.
         ap (λ a. is_marked (if a then shaded_all t.attached m else m) f) e ∙ marked_there t.attached f e h (live f h) k b in
         let left : IsKept v begun o c = kept_socket s (λ y. record y { queue = t.rest })

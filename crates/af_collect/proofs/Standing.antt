@@ -1,19 +1,28 @@
 -- What stands in a store: it is exact, and what is kept of the pass is kept with it.
-use Rattle.std.proofs.Common.{◌≡◌, ap, sym, ◌∙◌, subst}
-use Rattle.af_base.specs.World.{World}
+use Rattle.std.proofs.Common.{◌≡◌, ℕ, List, false, refl, ap, sym, ◌∙◌, subst}
+use Rattle.std.specs.Prelude.{IsTrue, OnErr, OnOk, Result, is_none}
+use Rattle.std.specs.FinMap as map
+use Rattle.af_base.specs.World.{AsSocket, Map, Socket, World}
+use Rattle.af_base.specs.Changes.{change_socket_at, with_socket}
+use Rattle.af_base.specs.Places.{contents}
+use Rattle.af_base.specs.Refusals.{process_at, socket_at}
+use Rattle.af_base.specs.Table.{lowest_free}
 use Rattle.af_desc.specs.Filed.{Filed}
+use Rattle.af_ledger.specs.Kept.{Charged, Kept, kept_of}
+use Rattle.af_ledger.specs.declared.count.Count.{Count}
+use Rattle.af_mark.specs.Marked.{Marked, is_marked}
+use Rattle.af_table.specs.Procs.{Procs}
 use Rattle.af_hold.specs.Agreement.{IsExact}
 use Rattle.af_hold.specs.Stored.{Stored, world_of}
-use Rattle.af_hold.proofs.Exact.{exact-same}
-use Rattle.af_ledger.specs.Kept.{Charged, Kept, kept_of}
-use Rattle.af_mark.specs.Marked.{Marked}
-use Rattle.af_pass.specs.Keeping.{IsKept, pass_of}
+use Rattle.af_hold.proofs.Exact.{by-four, by-result, exact-same, world-is}
+use Rattle.af_pass.specs.Keeping.{IsKept, below, pass_of}
 use Rattle.af_pass.specs.declared.Progress.{Progress}
-use Rattle.af_table.specs.Procs.{Procs}
+use Rattle.af_pass.proofs.Sockets.{covers_same, moves_same}
 use Rattle.af_collect.specs.Shown.{AreKept, AreKeptWith, Shown}
 use Rattle.af_collect.specs.contracts.holdings.Holdings.{the_view}
 use Rattle.af_collect.specs.declared.holdings.Holdings.TheInside.{Inside}
 use Rattle.af_collect.specs.declared.parts.Parts.{Parts}
+use Rattle.af_collect.proofs.Placed.{kept_socket}
 
 -- These processes, files and charges are exact, and what these parts keep of the pass is kept with them.
 abbrev pub Stands : Parts → Procs → Filed → Charged → Type 0
@@ -32,6 +41,27 @@ module _ {begun : World} {c : Progress} where
   pub both-same : (v w : World) (k l : Kept) (m n : Marked) → v ≡ w → k ≡ l → m ≡ n → IsExact w l → IsKept w begun n c → IsExact v k × IsKept v begun m c
   both-same v w k l m n world numbers marks exact kept = (exact-same v w k l world numbers exact, kept-same v w m n world marks kept)
 
+module _ {T E : Type 0} (r : Result T E) (p : Parts) (h : Inside) (new : Filed) (err : OnErr r (new ≡ h.files)) (was : Stands p h.procs h.files h.ledger) where
+  -- Where a call of the files has changed nothing, all stands as it did.
+  unchanged : new ≡ h.files → Stands p h.procs new h.ledger
+  unchanged same = subst (λ fs. Stands p h.procs fs h.ledger) (sym same) was
+
+  -- It has made files, or changed nothing.
+  pub stands-made : (v : World) (cs : Map Count) (m : Marked) (n : ℕ) → record (the_view h).world { files = v.files; next_ino = v.next_ino } ≡ v → n ≡ v.next_ino
+      → OnOk r (new.files ≡ v.files) → OnOk r (new.next ≡ n) → OnOk r (new.counts ≡ cs) → OnOk r (new.marks ≡ m) → IsExact v (kept_of cs h.ledger) → IsKept v p.begun.value.world m p.progress → Stands p h.procs new h.ledger
+  stands-made v cs m n rest last files next counts marks exact kept = by-four r files next counts marks err
+      (λ f x c y. both-same _ v _ _ _ _ (world-is _ _ refl f (x ∙ last) refl refl ∙ rest) (ap (λ k. kept_of k h.ledger) c) y exact kept) unchanged
+
+  -- It has changed a socket, which holds what it held, or nothing.
+  pub stands-socket : (s : ℕ) (g : Socket → Socket) → ((x : Socket) → contents (AsSocket (g x)) ≡ contents (AsSocket x))
+      → OnOk r (new.files ≡ change_socket_at g h.files.files s) → new.next ≡ h.files.next → new.counts ≡ h.files.counts → new.marks ≡ h.files.marks → IsExact (with_socket (the_view h).world s g) (kept_of h.files.counts h.ledger) → Stands p h.procs new h.ledger
+  stands-socket s g same files next counts marks exact =
+      let w = (the_view h).world in
+      let begun = p.begun.value.world in
+      by-result r files files err
+      (λ f _. both-same _ (with_socket w s g) _ _ _ _ (world-is _ _ refl f next refl refl) (ap (λ k. kept_of k h.ledger) counts) marks exact
+      (kept_socket s g (λ _. moves_same w s g same begun) (λ _. covers_same w s g same begun (is_marked h.files.marks) (below p.progress.visited)) was.1)) unchanged
+
 -- What a store shows of these holdings, where the pass is that of these parts.
 abbrev pub shown : Parts → Stored → Shown
 shown p t = record { world = t.world; rows = t.rows; pass = pass_of p.progress.stage p.begun.value.world p.progress.looked; looked = p.progress.looked }
@@ -39,3 +69,11 @@ shown p t = record { world = t.world; rows = t.rows; pass = pass_of p.progress.s
 -- Where the world alone is changed, a caller sees it change so.
 pub seen-changed : (p : Parts) (h : Inside) (o : Shown) (f : World → World) → the_view h ≡ p.places → shown p p.places ≡ o → shown p (record (the_view h) { world = f (the_view h).world }) ≡ record o { world = f o.world }
 seen-changed p h o f opened is = ap {A = Stored} {B = Shown} (λ t. shown p (record t { world = f t.world })) opened ∙ ap {A = Shown} {B = Shown} (λ t. record t { world = f t.world }) is
+
+-- And what a caller sees of the world is what stands there.
+pub seen-world : (p : Parts) (h : Inside) (o : Shown) → the_view h ≡ p.places → shown p p.places ≡ o → o.world ≡ (the_view h).world
+seen-world p h o opened is = sym (ap (λ (t : Stored). t.world) opened ∙ ap (λ (t : Shown). t.world) is)
+
+-- What a receive asks for: a socket, a process, and its lowest free numbers (recvmsg(2)).
+abbrev pub Receives : World → ℕ → ℕ → List ℕ → Type 0
+Receives w s p ns = (is_none (socket_at w s) ≡ false) × IsTrue (map.contains_key w.processes p) × ((k : ℕ) × (ns ≡ lowest_free k (process_at w p)))

@@ -6,23 +6,21 @@ use Rattle.af_base.specs.Refusals.{is_crowded}
 use Rattle.af_base.specs.World.{World}
 use Rattle.af_ledger.specs.Kept.{kept_of}
 use Rattle.af_mark.specs.Marked.{is_marked}
-use Rattle.af_hold.specs.Stored.{Stored}
 use Rattle.af_hold.proofs.Exact.{world-is}
 use Rattle.af_hold.proofs.Joined.{joins-copy}
 use Rattle.af_pass.specs.Keeping.{below}
 use Rattle.af_pass.specs.Since.{Moves}
 use Rattle.af_pass.proofs.Placing.{covers_add_process, moves_fork}
-use Rattle.af_collect.specs.Shown.{Shown}
 use Rattle.af_collect.specs.contracts.holdings.Holdings.{the_view}
 use Rattle.af_collect.proofs.Placed.{kept_tables}
-use Rattle.af_collect.proofs.Standing.{Stands, both-same, stood}
+use Rattle.af_collect.proofs.Standing.{Stands, both-same, seen-world, stood}
 use Rattle.af_collect.proofs.store.Store.copy_for_fork.Goals as goal
 
 pub hold_numbers-requires : goal.hold_numbers-requires
 hold_numbers-requires c =
     let h = c.places.inside in
     let w = (the_view h).world in
-    let back = sym (ap (λ (t : Stored). t.world) c.places.view_is ∙ ap (λ (t : Shown). t.world) c.self.view_is) in
+    let back = seen-world c.self.inside.parts c.places.inside _ c.places.view_is c.self.view_is in
     let room = subst (λ (v : World). is_crowded v ≡ false) back c.requires.room in
     let there = subst (λ (v : World). IsTrue (map.contains_key v.processes c.args.pid)) back c.requires.there in
     (w, h.ledger, joins-copy w c.args.pid c.in_ok-child.child.process (kept_of h.files.counts h.ledger) room there c.in_ok-child.ensures.copy c.places.invariant)
@@ -35,7 +33,7 @@ both c =
     let begun = p.begun.value.world in
     let pid = c.args.pid in
     let was = stood p h c.places.view_is c.places.invariant c.self.invariant in
-    let back = sym (ap (λ (t : Stored). t.world) c.places.view_is ∙ ap (λ (t : Shown). t.world) c.self.view_is) in
+    let back = seen-world c.self.inside.parts c.places.inside _ c.places.view_is c.self.view_is in
     let room = subst (λ (v : World). is_crowded v ≡ false) back c.requires.room in
     let there = subst (λ (v : World). IsTrue (map.contains_key v.processes pid)) back c.requires.there in
     let child = c.in_ok-child.child.process in

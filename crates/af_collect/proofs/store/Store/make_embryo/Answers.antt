@@ -1,4 +1,4 @@
-use Rattle.std.proofs.Common.{◌∙◌, ◌≡◌, ap, false, refl, subst, sym}
+use Rattle.std.proofs.Common.{◌≡◌, false, refl, subst}
 use Rattle.std.specs.Option.{option_and_then}
 use Rattle.std.specs.Prelude.{IfSome, is_none, unwrap_or}
 use Rattle.af_base.specs.Changes.{add_file, connected, with_socket}
@@ -7,16 +7,13 @@ use Rattle.af_base.specs.Steps.{connected_socket}
 use Rattle.af_base.specs.World.{AsSocket, World}
 use Rattle.af_ledger.specs.Kept.{kept_of}
 use Rattle.af_mark.specs.Marked.{born, is_marked}
-use Rattle.af_hold.specs.Stored.{Stored}
 use Rattle.af_hold.proofs.Connecting.{exact-embryo}
-use Rattle.af_hold.proofs.Exact.{by-four, world-is}
 use Rattle.af_hold.proofs.Putting.{is-socket}
 use Rattle.af_pass.specs.Keeping.{below}
 use Rattle.af_pass.proofs.Sockets.{covers_same, moves_same}
-use Rattle.af_collect.specs.Shown.{Shown}
 use Rattle.af_collect.specs.contracts.holdings.Holdings.{the_view}
 use Rattle.af_collect.proofs.Placed.{kept_made, kept_socket}
-use Rattle.af_collect.proofs.Standing.{Stands, both-same, stood}
+use Rattle.af_collect.proofs.Standing.{Stands, seen-world, stands-made, stood}
 use Rattle.af_base.specs.declared.events.State.TheVariants as state
 use Rattle.af_collect.proofs.store.Store.make_embryo.Goals as goal
 
@@ -25,11 +22,9 @@ both c =
     let p = c.self.inside.parts in
     let h = c.places.inside in
     let w = (the_view h).world in
-    let k = kept_of h.files.counts h.ledger in
-    let was = stood c.self.inside.parts h c.places.view_is c.places.invariant c.self.invariant in
-    let back = sym (ap (λ (t : Stored). t.world) c.places.view_is ∙ ap (λ (t : Shown). t.world) c.self.view_is) in
+    let back = seen-world p h _ c.places.view_is c.self.view_is in
+    let was = stood p h c.places.view_is c.places.invariant c.self.invariant in
     let fits = subst (λ (v : World). is_full v 1 ≡ false) back c.requires.room in
-    let numbered = was.0.whole.files_numbered in
     let begun = p.begun.value.world in
     let s = c.args.client.now in
     let at = is-socket w s (subst (λ (v : World). is_none (socket_at v s) ≡ false) back c.requires.socket) in
@@ -39,12 +34,9 @@ both c =
     let v = add_file w x in
     let g = connected w.next_ino in
     let made = c.make_embryo.ensures in
-    by-four c.make_embryo.result made.files made.next made.counts made.marks made.err
-    (λ files next counts marks. both-same _ (with_socket v s g) _ _ _ _ (world-is _ _ refl files next refl refl) (ap (λ cs. kept_of cs h.ledger) counts) marks
-    (exact-embryo w s c.args.kind (unwrap_or (socket_at w s) no_socket) k at idle fits was.0)
-    (kept_socket s g (λ _. moves_same v s g (λ y. refl) begun) (λ _. covers_same v s g (λ y. refl) begun (is_marked (born w.next_ino h.files.marks)) (below p.progress.visited))
-    (kept_made x refl numbered was.1)))
-    (λ same. subst (λ fs. Stands p h.procs fs h.ledger) (sym same) was)
+    stands-made c.make_embryo.result p h _ made.err was (with_socket v s g) _ _ _ refl refl made.files made.next made.counts made.marks
+    (exact-embryo w s c.args.kind (unwrap_or (socket_at w s) no_socket) (kept_of h.files.counts h.ledger) at idle fits was.0) (kept_socket s g (λ _. moves_same v s g (λ y. refl) begun) (λ _. covers_same v s g (λ y. refl) begun (is_marked (born w.next_ino h.files.marks)) (below p.progress.visited))
+    (kept_made x refl was.0.whole.files_numbered was.1))
 
 pub invariant_of-places : goal.invariant_of-places
 invariant_of-places c = (both c).0

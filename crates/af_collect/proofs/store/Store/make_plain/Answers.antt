@@ -1,14 +1,12 @@
-use Rattle.std.proofs.Common.{◌∙◌, ◌≡◌, ap, false, refl, subst, sym}
+use Rattle.std.proofs.Common.{◌≡◌, false, refl, subst}
 use Rattle.af_base.specs.Changes.{add_file}
 use Rattle.af_base.specs.Refusals.{is_full}
 use Rattle.af_base.specs.World.{Plain, World}
 use Rattle.af_ledger.specs.Kept.{kept_of}
-use Rattle.af_hold.specs.Stored.{Stored}
-use Rattle.af_hold.proofs.Exact.{by-four, exact-plain, world-is}
-use Rattle.af_collect.specs.Shown.{Shown}
+use Rattle.af_hold.proofs.Exact.{exact-plain}
 use Rattle.af_collect.specs.contracts.holdings.Holdings.{the_view}
 use Rattle.af_collect.proofs.Placed.{kept_made}
-use Rattle.af_collect.proofs.Standing.{Stands, both-same, stood}
+use Rattle.af_collect.proofs.Standing.{Stands, seen-world, stands-made, stood}
 use Rattle.af_collect.proofs.store.Store.make_plain.Goals as goal
 
 both : (c : goal.After-make_plain) → Stands c.self.inside.parts c.places.inside.procs c.make_plain.new.self c.places.inside.ledger
@@ -16,17 +14,12 @@ both c =
     let p = c.self.inside.parts in
     let h = c.places.inside in
     let w = (the_view h).world in
-    let k = kept_of h.files.counts h.ledger in
-    let was = stood c.self.inside.parts h c.places.view_is c.places.invariant c.self.invariant in
-    let back = sym (ap (λ (t : Stored). t.world) c.places.view_is ∙ ap (λ (t : Shown). t.world) c.self.view_is) in
+    let back = seen-world p h _ c.places.view_is c.self.view_is in
+    let was = stood p h c.places.view_is c.places.invariant c.self.invariant in
     let fits = subst (λ (v : World). is_full v 1 ≡ false) back c.requires in
-    let numbered = was.0.whole.files_numbered in
     let made = c.make_plain.ensures in
-    by-four c.make_plain.result made.files made.next made.counts made.marks made.err
-    (λ files next counts marks. both-same _ (add_file w Plain) _ _ _ _ (world-is _ _ refl files next refl refl) (ap (λ cs. kept_of cs h.ledger) counts) marks
-    (exact-plain w k fits was.0)
-    (kept_made Plain refl numbered was.1))
-    (λ same. subst (λ fs. Stands p h.procs fs h.ledger) (sym same) was)
+    stands-made c.make_plain.result p h _ made.err was (add_file w Plain) _ _ _ refl refl made.files made.next made.counts made.marks
+    (exact-plain w (kept_of h.files.counts h.ledger) fits was.0) (kept_made Plain refl was.0.whole.files_numbered was.1)
 
 pub invariant_of-places : goal.invariant_of-places
 invariant_of-places c = (both c).0

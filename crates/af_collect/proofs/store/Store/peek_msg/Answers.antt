@@ -1,23 +1,20 @@
-use Rattle.std.proofs.Common.{◌∙◌, ◌≡◌, ℕ, ap, arith, false, refl, subst, sym}
-use Rattle.std.specs.FinMap as map
+use Rattle.std.proofs.Common.{◌∙◌, ◌≡◌, ap, arith, false, refl, subst, sym}
 use Rattle.std.specs.List.{Contains, zip}
-use Rattle.std.specs.Prelude.{IsTrue, is_none, unwrap_or}
+use Rattle.std.specs.Prelude.{is_none}
 use Rattle.af_base.specs.Changes.{install_all}
-use Rattle.af_base.specs.Refusals.{no_socket, process_at, socket_at}
-use Rattle.af_base.specs.Table.{lowest_free}
+use Rattle.af_base.specs.Refusals.{socket_at}
 use Rattle.af_base.specs.World.{World}
 use Rattle.af_ledger.specs.Kept.{kept_of}
 use Rattle.af_hold.specs.Receiving.{taken_at}
-use Rattle.af_hold.specs.Stored.{Stored, filled}
+use Rattle.af_hold.specs.Stored.{filled}
 use Rattle.af_hold.proofs.Bounds.{tabled-most}
 use Rattle.af_hold.proofs.Exact.{exact-same, install-filled, world-is}
-use Rattle.af_hold.proofs.Putting.{is-socket}
 use Rattle.af_hold.proofs.Receiving.{counted, exact-tabled, received-live, received_at, tabled}
 use Rattle.af_pass.specs.Keeping.{Spares}
 use Rattle.af_collect.specs.Shown.{Shown}
 use Rattle.af_collect.specs.contracts.holdings.Holdings.{the_view}
 use Rattle.af_collect.proofs.Placed.{kept_peeked}
-use Rattle.af_collect.proofs.Standing.{Stands, both-same, seen-changed, shown, stood}
+use Rattle.af_collect.proofs.Standing.{Receives, Stands, both-same, seen-changed, seen-world, shown, stood}
 use Rattle.af_collect.proofs.store.Store.peek_msg.Goals as goal
 
 pub table_in_all-requires-clause-known : goal.table_in_all-requires-clause-known
@@ -25,7 +22,7 @@ table_in_all-requires-clause-known c = λ f there.
     let h = c.places.inside in
     let w = (the_view h).world in
     let s = c.args.socket.now in
-    let back = sym (ap (λ (t : Stored). t.world) c.places.view_is ∙ ap (λ (t : Shown). t.world) c.self.view_is) in
+    let back = seen-world c.self.inside.parts c.places.inside _ c.places.view_is c.self.view_is in
     let socket = subst (λ (v : World). is_none (socket_at v s) ≡ false) back c.requires.socket in
     let attached = c.attached.ensures.value ∙ ap (λ t. t.message.attached) c.in_ok-seen.ensures in
     c.places.invariant.counted f ∙ received-live w s c.args.max (kept_of h.files.counts h.ledger) c.places.invariant c.requires.some socket f (subst (λ l. Contains l f) attached there)
@@ -55,19 +52,15 @@ both c =
     let pid = c.args.pid in
     let fds = c.args.fds.now in
     let was = stood p h c.places.view_is c.places.invariant c.self.invariant in
-    let back = sym (ap (λ (t : Stored). t.world) c.places.view_is ∙ ap (λ (t : Shown). t.world) c.self.view_is) in
-    let socket = subst (λ (v : World). is_none (socket_at v s) ≡ false) back c.requires.socket in
-    let there = subst (λ (v : World). IsTrue (map.contains_key v.processes pid)) back c.requires.there in
-    let lowest = subst (λ (v : World). (n : ℕ) × (fds ≡ lowest_free n (process_at v pid))) back c.requires.free in
+    let back = seen-world c.self.inside.parts c.places.inside _ c.places.view_is c.self.view_is in
+    let r = subst (λ (v : World). Receives v s pid fds) back (c.requires.socket, c.requires.there, c.requires.free) in
     let spared = subst (λ (t : Shown). Spares t.pass s) (sym c.self.view_is) c.requires.spared in
-    let x = unwrap_or (socket_at w s) no_socket in
-    let at = is-socket w s socket in
     let all = zip fds (taken_at w s max).attached in
     let attached = c.attached.ensures.value ∙ ap (λ t. t.message.attached) c.in_ok-seen.ensures in
     let kept = c.table_in_all.ensures.kept h.ledger ∙ ap (counted k fds) attached in
     both-same _ (install_all w pid all) _ _ _ _ (seen c) kept (ap (λ v. v.marks) c.table_in_all.ensures.rest)
-    (exact-same _ _ _ _ (install-filled w pid all) refl (exact-tabled w s max k was.0 c.requires.some socket pid fds there lowest))
-    (kept_peeked was.0.whole s max x at (was.0.within.sockets s x at).messages p.progress.looked pid fds spared there lowest was.1)
+    (exact-same _ _ _ _ (install-filled w pid all) refl (exact-tabled w s max k was.0 c.requires.some r.0 pid fds r.1 r.2))
+    (kept_peeked was.0 s max r.0 p.progress.looked pid fds spared r.1 r.2 was.1)
 
 pub invariant_of-places : goal.invariant_of-places
 invariant_of-places c = (both c).0

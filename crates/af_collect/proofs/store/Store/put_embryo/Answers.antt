@@ -7,7 +7,6 @@ use Rattle.af_base.specs.Refusals.{no_socket, room_of, socket_at, socket_of}
 use Rattle.af_base.specs.World.{IsLive, World}
 use Rattle.af_ledger.specs.Kept.{kept_of}
 use Rattle.af_mark.specs.Marked.{is_marked}
-use Rattle.af_hold.specs.Stored.{Stored}
 use Rattle.af_hold.proofs.Connecting.{exact-queued}
 use Rattle.af_hold.proofs.Exact.{world-is}
 use Rattle.af_hold.proofs.Putting.{is-socket}
@@ -17,7 +16,7 @@ use Rattle.af_pass.proofs.Spared.{spared_running}
 use Rattle.af_collect.specs.Shown.{Shown}
 use Rattle.af_collect.specs.contracts.holdings.Holdings.{the_view}
 use Rattle.af_collect.proofs.Placed.{kept_socket}
-use Rattle.af_collect.proofs.Standing.{Stands, both-same, stood}
+use Rattle.af_collect.proofs.Standing.{Stands, both-same, seen-world, stood}
 use Rattle.af_collect.proofs.store.Store.put_embryo.Goals as goal
 
 both : (c : goal.After-enqueue) → Stands c.self.inside.parts c.places.inside.procs c.enqueue.new.self c.places.inside.ledger
@@ -28,8 +27,8 @@ both c =
     let begun = p.begun.value.world in
     let s = c.args.listener.now in
     let f = c.args.embryo in
-    let was = stood c.self.inside.parts h c.places.view_is c.places.invariant c.self.invariant in
-    let back = sym (ap (λ (t : Stored). t.world) c.places.view_is ∙ ap (λ (t : Shown). t.world) c.self.view_is) in
+    let was = stood p h c.places.view_is c.places.invariant c.self.invariant in
+    let back = seen-world c.self.inside.parts c.places.inside _ c.places.view_is c.self.view_is in
     let at = is-socket w s (subst (λ (v : World). is_none (socket_at v s) ≡ false) back c.requires.socket) in
     let live = subst (λ (v : World). IsLive v f) back c.requires.live in
     let none = subst (λ (v : World). waiting v f ≡ 0) back c.requires.new in

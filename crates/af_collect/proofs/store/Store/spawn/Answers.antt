@@ -1,4 +1,4 @@
-use Rattle.std.proofs.Common.{◌+◌, ◌∙◌, ◌≡◌, ap, false, refl, subst, sym}
+use Rattle.std.proofs.Common.{◌+◌, ◌∙◌, ◌≡◌, ap, false, refl, subst}
 use Rattle.std.specs.FinMap as map
 use Rattle.std.specs.Map.{keys_of}
 use Rattle.af_base.specs.Changes.{add_process}
@@ -9,14 +9,12 @@ use Rattle.af_ledger.specs.Kept.{kept_of}
 use Rattle.af_ledger.proofs.Laws.{users-added}
 use Rattle.af_mark.specs.Marked.{is_marked}
 use Rattle.af_table.specs.Procs.{started}
-use Rattle.af_hold.specs.Stored.{Stored}
 use Rattle.af_hold.proofs.Exact.{add-user-is, exact-spawned, world-is}
 use Rattle.af_pass.specs.Keeping.{below}
 use Rattle.af_pass.proofs.Placing.{covers_spawned, moves_spawned}
-use Rattle.af_collect.specs.Shown.{Shown}
 use Rattle.af_collect.specs.contracts.holdings.Holdings.{the_view}
 use Rattle.af_collect.proofs.Placed.{files_spawned, kept_tables}
-use Rattle.af_collect.proofs.Standing.{Stands, both-same, stood}
+use Rattle.af_collect.proofs.Standing.{Stands, both-same, seen-world, stood}
 use Rattle.af_collect.proofs.store.Store.spawn.Goals as goal
 
 both : (c : goal.After-spawn) → Stands c.self.inside.parts c.spawn.new.self c.places.inside.files c.add_user.new.self
@@ -27,7 +25,7 @@ both c =
     let begun = p.begun.value.world in
     let a = c.args in
     let was = stood p h c.places.view_is c.places.invariant c.self.invariant in
-    let back = sym (ap (λ (t : Stored). t.world) c.places.view_is ∙ ap (λ (t : Shown). t.world) c.self.view_is) in
+    let back = seen-world c.self.inside.parts c.places.inside _ c.places.view_is c.self.view_is in
     let room = subst (λ (v : World). is_crowded v ≡ false) back c.requires.room in
     let more = add_process w (started a.uid a.limit a.privileged) in
     let processes = c.spawn.ensures.processes ∙ (λ i. map.insert (c.room_to_spawn.ensures.processes i) (c.room_to_spawn.ensures.next i) (started a.uid a.limit a.privileged)) in

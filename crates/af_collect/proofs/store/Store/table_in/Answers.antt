@@ -11,7 +11,6 @@ use Rattle.af_base.proofs.Within.{below-most}
 use Rattle.af_ledger.specs.Kept.{kept_of}
 use Rattle.af_mark.specs.Marked.{is_marked}
 use Rattle.af_hold.specs.Limits.{IsBelowLimit}
-use Rattle.af_hold.specs.Stored.{Stored}
 use Rattle.af_hold.proofs.Bounds.{can-hold-table}
 use Rattle.af_hold.proofs.Exact.{exact-install, world-is}
 use Rattle.af_pass.specs.Keeping.{Spares, below}
@@ -20,7 +19,7 @@ use Rattle.af_pass.proofs.Spared.{spared_running}
 use Rattle.af_collect.specs.Shown.{Shown}
 use Rattle.af_collect.specs.contracts.holdings.Holdings.{the_view}
 use Rattle.af_collect.proofs.Placed.{kept_tables}
-use Rattle.af_collect.proofs.Standing.{Stands, both-same, stood}
+use Rattle.af_collect.proofs.Standing.{Stands, both-same, seen-world, stood}
 use Rattle.af_collect.proofs.store.Store.table_in.Goals as goal
 
 pub raise-requires-clause-countable : goal.raise-requires-clause-countable
@@ -35,8 +34,8 @@ both c =
     let pid = c.args.pid in
     let fd = c.args.fd in
     let f = c.args.file in
-    let was = stood c.self.inside.parts h c.places.view_is c.places.invariant c.self.invariant in
-    let back = sym (ap (λ (t : Stored). t.world) c.places.view_is ∙ ap (λ (t : Shown). t.world) c.self.view_is) in
+    let was = stood p h c.places.view_is c.places.invariant c.self.invariant in
+    let back = seen-world c.self.inside.parts c.places.inside _ c.places.view_is c.self.view_is in
     let there = process-there w pid (ap not (subst (λ (v : World). IsTrue (map.contains_key v.processes pid)) back c.requires.there)) in
     let free = subst (λ (v : World). table_at v pid fd ≡ None) back c.requires.free in
     let none = sym (there-table w pid fd (process_at w pid) there) ∙ free in

@@ -1,27 +1,25 @@
-use Rattle.std.proofs.Common.{map as mapped, ◌∙◌, ◌≡◌, ℕ, ap, arith, false, refl, subst, sym}
+use Rattle.std.proofs.Common.{map as mapped, ◌∙◌, ◌≡◌, ap, arith, false, refl, subst, sym}
 use Rattle.std.specs.FinMap as map
 use Rattle.std.specs.List.{Contains, zip}
 use Rattle.std.specs.Map.{keys_of}
-use Rattle.std.specs.Prelude.{IsTrue, is_none, unwrap_or}
+use Rattle.std.specs.Prelude.{is_none}
 use Rattle.af_base.specs.Changes.{install_all, with_queue}
-use Rattle.af_base.specs.Refusals.{no_socket, process_at, socket_at}
-use Rattle.af_base.specs.Table.{lowest_free}
+use Rattle.af_base.specs.Refusals.{socket_at}
 use Rattle.af_base.specs.World.{World}
 use Rattle.af_ledger.specs.Kept.{CanDropAll, count_in_map, dropped_all, kept_of}
 use Rattle.af_ledger.specs.declared.place.Place.TheVariants.{Queue}
 use Rattle.af_ledger.proofs.HeldAll.{users-dropped_all}
 use Rattle.af_hold.specs.Receiving.{taken_at}
-use Rattle.af_hold.specs.Stored.{Stored, filled}
+use Rattle.af_hold.specs.Stored.{filled}
 use Rattle.af_hold.proofs.Bounds.{tabled-most}
 use Rattle.af_hold.proofs.Exact.{exact-same, install-filled, users-filled, world-is}
-use Rattle.af_hold.proofs.Putting.{is-socket}
 use Rattle.af_hold.proofs.Receiving.{can-drop-received, counted, exact-received, received-live, received_at, tabled}
 use Rattle.af_hold.proofs.Taken.{taken_queue}
 use Rattle.af_pass.specs.Keeping.{Spares, shaded_in}
 use Rattle.af_collect.specs.Shown.{Shown}
 use Rattle.af_collect.specs.contracts.holdings.Holdings.{the_view}
 use Rattle.af_collect.proofs.Placed.{kept_taken}
-use Rattle.af_collect.proofs.Standing.{Stands, both-same, seen-changed, shown, stood}
+use Rattle.af_collect.proofs.Standing.{Receives, Stands, both-same, seen-changed, seen-world, shown, stood}
 use Rattle.af_collect.proofs.store.Store.take_msg.Goals as goal
 
 pub table_in_all-requires-clause-known : goal.table_in_all-requires-clause-known
@@ -29,7 +27,7 @@ table_in_all-requires-clause-known c = λ f there.
     let h = c.places.inside in
     let w = (the_view h).world in
     let s = c.args.socket.now in
-    let back = sym (ap (λ (t : Stored). t.world) c.places.view_is ∙ ap (λ (t : Shown). t.world) c.self.view_is) in
+    let back = seen-world c.self.inside.parts c.places.inside _ c.places.view_is c.self.view_is in
     let socket = subst (λ (v : World). is_none (socket_at v s) ≡ false) back c.requires.socket in
     let attached = c.attached-attached.ensures.value ∙ ap (λ t. t.message.attached) c.in_ok-taken.ensures.taken in
     ap (λ cs. map.contains_key cs f) c.take.ensures.counts ∙ c.places.invariant.counted f ∙ received-live w s c.args.max (kept_of h.files.counts h.ledger) c.places.invariant c.requires.some socket f (subst (λ l. Contains l f) attached there)
@@ -45,11 +43,9 @@ drop_all-requires c =
     let s = c.args.socket.now in
     let pid = c.args.pid in
     let fds = c.args.fds.now in
-    let back = sym (ap (λ (t : Stored). t.world) c.places.view_is ∙ ap (λ (t : Shown). t.world) c.self.view_is) in
-    let socket = subst (λ (v : World). is_none (socket_at v s) ≡ false) back c.requires.socket in
-    let there = subst (λ (v : World). IsTrue (map.contains_key v.processes pid)) back c.requires.there in
-    let lowest = subst (λ (v : World). (n : ℕ) × (fds ≡ lowest_free n (process_at v pid))) back c.requires.free in
-    let can = can-drop-received w s c.args.max k c.places.invariant c.requires.some socket pid fds there lowest in
+    let back = seen-world c.self.inside.parts c.places.inside _ c.places.view_is c.self.view_is in
+    let r = subst (λ (v : World). Receives v s pid fds) back (c.requires.socket, c.requires.there, c.requires.free) in
+    let can = can-drop-received w s c.args.max k c.places.invariant c.requires.some r.0 pid fds r.1 r.2 in
     let m = received_at w s c.args.max in
     let taken = c.in_ok-taken.ensures.taken in
     let l = kept_of c.table_in_all.new.files.counts h.ledger in
@@ -100,20 +96,16 @@ both c =
     let pid = c.args.pid in
     let fds = c.args.fds.now in
     let was = stood p h c.places.view_is c.places.invariant c.self.invariant in
-    let back = sym (ap (λ (t : Stored). t.world) c.places.view_is ∙ ap (λ (t : Shown). t.world) c.self.view_is) in
-    let socket = subst (λ (v : World). is_none (socket_at v s) ≡ false) back c.requires.socket in
-    let there = subst (λ (v : World). IsTrue (map.contains_key v.processes pid)) back c.requires.there in
-    let lowest = subst (λ (v : World). (n : ℕ) × (fds ≡ lowest_free n (process_at v pid))) back c.requires.free in
+    let back = seen-world c.self.inside.parts c.places.inside _ c.places.view_is c.self.view_is in
+    let r = subst (λ (v : World). Receives v s pid fds) back (c.requires.socket, c.requires.there, c.requires.free) in
     let spared = subst (λ (t : Shown). Spares t.pass s) (sym c.self.view_is) c.requires.spared in
-    let x = unwrap_or (socket_at w s) no_socket in
-    let at = is-socket w s socket in
     let t = taken_at w s max in
     let files = c.attached-attached.ensures.value ∙ ap (λ o. o.message.attached) c.in_ok-taken.ensures.taken in
     let before = ap (λ v. v.marks) c.drop_all.ensures.rest ∙ ap (λ v. v.marks) c.table_in_all.ensures.rest ∙ c.take.ensures.marks in
     let marks = ap (λ v. v.marks) c.shade_taken.ensures ∙ (λ i. shaded_in p.progress.stage (files i) (before i)) in
     both-same _ (install_all (with_queue w s t.rest) pid (zip fds t.attached)) _ _ _ _ (received c) (left c) marks
-    (exact-same _ _ _ _ (install-filled (with_queue w s t.rest) pid (zip fds t.attached)) refl (exact-received w s max k was.0 c.requires.some socket pid fds there lowest))
-    (kept_taken was.0.whole s max x at (was.0.within.sockets s x at).messages p.progress.looked pid fds spared there lowest was.1)
+    (exact-same _ _ _ _ (install-filled (with_queue w s t.rest) pid (zip fds t.attached)) refl (exact-received w s max k was.0 c.requires.some r.0 pid fds r.1 r.2))
+    (kept_taken was.0 s max r.0 p.progress.looked pid fds spared r.1 r.2 was.1)
 
 pub invariant_of-places-2 : goal.invariant_of-places-2
 invariant_of-places-2 c = (both c).0
