@@ -42,10 +42,12 @@ impl Holdings {
         ensures ordered { IfOk result (λ files. AreFiles files.items) }
     {
         let mut files = Vec::new(self.alloc);
-        let mut last = FileRef::new(Ino(0), 0);
-        while let Some(file) = self.files.next_after(&last) {
+        let mut last = Ino(0);
+        let mut near = 0;
+        while let Some((file, at)) = self.files.next_after(last, near) {
             files.push(self.listed_file(&file)?)?;
-            last = file;
+            last = file.ino();
+            near = at;
         }
         Ok(files)
     }

@@ -23,7 +23,7 @@ pub struct Parts {
     /// The holdings when the pass began: for contracts alone.
     pub begun: Snapshot<Holdings>,
     pub progress: Progress,
-    /// The key of the file that a pass visited or swept last: a hint.
+    /// Where in the order the file stands that a pass visited or swept last: a hint.
     pub near: usize,
 }
 

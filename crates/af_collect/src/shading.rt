@@ -33,6 +33,7 @@ fn shade_all(files: &mut Files, taken: &[FileRef])
 
 /// Marks all that the file holds.
 #[tactic(auto, using(crate::proofs::Losing::held_parts, af_pass::proofs::Shaded::shaded_append))]
+#[inline(always)]
 pub fn shade_held(places: &mut Holdings, file: &FileRef)
     ensures { places.new ≡ record places.old { marks = shaded_all (held_by places.old.world file.now) places.old.marks } }
 {
@@ -42,6 +43,7 @@ pub fn shade_held(places: &mut Holdings, file: &FileRef)
 
 /// Marks what the messages of the file's queue carry.
 #[tactic(auto, using(crate::proofs::Holding::carried_next, af_pass::proofs::Shaded::shaded_append))]
+#[inline(always)]
 fn shade_queue(places: &mut Holdings, file: &FileRef)
     ensures { places.new ≡ record places.old { marks = shaded_all (carried (queue_at places.old.world file.now)) places.old.marks } }
 {
@@ -52,6 +54,7 @@ fn shade_queue(places: &mut Holdings, file: &FileRef)
 
 /// Marks the embryos of the file's backlog.
 #[tactic(auto, using(crate::proofs::Holding::rest_next, af_pass::proofs::Shaded::shaded_append))]
+#[inline(always)]
 fn shade_backlog(places: &mut Holdings, file: &FileRef)
     ensures { places.new ≡ record places.old { marks = shaded_all (backlog_at places.old.world file.now) places.old.marks } }
 {
@@ -61,6 +64,7 @@ fn shade_backlog(places: &mut Holdings, file: &FileRef)
 }
 
 /// Marks what the message at this place of the file's queue carries; nothing past the last.
+#[inline(always)]
 fn shade_message(places: &mut Holdings, file: &FileRef, at: usize)
     ensures { places.new ≡ record places.old { marks = shaded_all (attached_at places.old.world file.now at) places.old.marks } }
 {
@@ -84,6 +88,7 @@ pub fn shade_first(places: &mut Holdings, file: &FileRef)
 
 /// Marks the embryo at this place of the file's backlog; nothing past the last.
 #[tactic(auto, using(crate::proofs::Holding::first_left, crate::proofs::Holding::none_left))]
+#[inline(always)]
 pub fn shade_embryo(places: &mut Holdings, file: &FileRef, at: usize)
     ensures { places.new ≡ record places.old { marks = shaded_all (take 1 (drop at (backlog_at places.old.world file.now))) places.old.marks } }
 {
@@ -93,6 +98,7 @@ pub fn shade_embryo(places: &mut Holdings, file: &FileRef, at: usize)
 }
 
 /// How many messages the file has to receive.
+#[inline(always)]
 fn messages(places: &Holdings, file: &FileRef) -> usize
     ensures { result ≡ length (queue_at places.now.world file.now) }
 {
@@ -103,6 +109,7 @@ fn messages(places: &Holdings, file: &FileRef) -> usize
 }
 
 /// How many embryos wait at the file.
+#[inline(always)]
 fn embryos(places: &Holdings, file: &FileRef) -> usize
     ensures { result ≡ length (backlog_at places.now.world file.now) }
 {
@@ -116,6 +123,7 @@ fn embryos(places: &Holdings, file: &FileRef) -> usize
 }
 
 /// What the message at this place of the file's queue carries; nothing past the last.
+#[inline(always)]
 fn attached<'a>(places: &'a Holdings, file: &FileRef, at: usize) -> &'a [FileRef]
     ensures { result.now ≡ attached_at places.now.world file.now at }
 {
@@ -129,6 +137,7 @@ fn attached<'a>(places: &'a Holdings, file: &FileRef, at: usize) -> &'a [FileRef
 }
 
 /// The embryo at this place of the file's backlog, if there is one.
+#[inline(always)]
 fn embryo_at(places: &Holdings, file: &FileRef, at: usize) -> Option<FileRef>
     ensures { result ≡ slice_get (backlog_at places.now.world file.now) at }
 {
@@ -144,6 +153,7 @@ pub fn is_socket(places: &Holdings, file: &FileRef) -> bool
 }
 
 /// The socket; a plain file and a stranger are none.
+#[inline(always)]
 fn socket<'a>(places: &'a Holdings, file: &FileRef) -> Option<&'a Socket>
     ensures { option_copied result ≡ socket_at places.now.world file.now }
 {

@@ -95,7 +95,8 @@ impl Parts {
         ensures went { result ≡ true → (self.new.progress.looked ≡ self.old.progress.looked + 1) × (self.new.progress.stage ≡ stage.Marking) }
         ensures over { result ≡ false → (self.new.progress.looked ≡ self.old.progress.looked) × (self.new.progress.stage ≡ stage.Sweeping) }
     {
-        if let Some(file) = self.next_from(self.progress.visited) {
+        if let Some((file, at)) = self.next_from(self.progress.visited) {
+            self.near = at;
             self.visit(&file);
             return true;
         }
@@ -124,26 +125,33 @@ impl Parts {
         ensures gone { result ≡ false → (f : ℕ) → Garbage self.old.begun.value.world f → ¬ (IsLive self.new.places.world f) }
         ensures counted { result ≡ false → IsGarbageCount self.old.begun.value.world self.new.progress.reclaimed }
     {
-        let Some(file) = self.next_from(self.progress.swept) else {
+        let Some((file, at)) = self.next_from(self.progress.swept) else {
             return false;
         };
+        self.near = at;
         self.sweep(&file);
         true
     }
 
-    /// The live file with the least number from this one on, of those that the pass goes over.
-    fn next_from(&self, from: u64) -> Option<FileRef>
-        ensures live { IfSome result (λ f. IsLive self.now.places.world f) }
-        ensures within { IfSome result (λ f. (from ≤ f) × (f < self.now.places.marks.bound)) }
-        ensures least { IfSome result (λ f. (g : ℕ) → from ≤ g → g < f → is_live self.now.places.world g ≡ false) }
+    /// The live file with the least number from this one on, of those that the pass goes over, and
+    /// where it stands in the order.
+    #[inline(always)]
+    fn next_from(&self, from: u64) -> Option<(FileRef, usize)>
+        ensures live { IfSome result (λ f. IsLive self.now.places.world f.0) }
+        ensures within { IfSome result (λ f. (from ≤ f.0) × (f.0 < self.now.places.marks.bound)) }
+        ensures least { IfSome result (λ f. (g : ℕ) → from ≤ g → g < f.0 → is_live self.now.places.world g ≡ false) }
         ensures none { IfNone result ((g : ℕ) → from ≤ g → g < self.now.places.marks.bound → is_live self.now.places.world g ≡ false) }
     {
-        let before = FileRef::new(Ino(from.saturating_sub(1)), self.near);
-        let file = self.places.files().next_after(&before)?;
-        if file.ino() >= self.places.files().bound() {
+        let bound = self.places.files().bound();
+        if from >= bound.0 {
             return None;
         }
-        Some(file)
+        let before = Ino(from.saturating_sub(1));
+        let (file, at) = self.places.files().next_after(before, self.near)?;
+        if file.ino() >= bound {
+            return None;
+        }
+        Some((file, at))
     }
 
     /// A file is visited: it is marked if a table holds it.
@@ -161,7 +169,6 @@ impl Parts {
         // Files' numbers are below the next one: that is what a whole world says of them.
         self.places.is_whole();
         self.shade_tabled(file);
-        self.near = file.key();
         self.progress.visited = file.ino().0 + 1;
         self.progress.looked += 1;
     }
@@ -209,7 +216,6 @@ impl Parts {
         ensures looked { self.new.progress.looked ≡ self.old.progress.looked + 1 }
         ensures purged { ArePurged self.old.begun.value.world self.old.places.world self.new.places.world 1 }
     {
-        self.near = file.key();
         self.progress.swept = file.ino().0 + 1;
         self.progress.looked += 1;
         if self.places.files().is_marked(file) {

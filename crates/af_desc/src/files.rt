@@ -128,16 +128,18 @@ impl Files {
         self.names.find(name)
     }
 
-    /// The file with the least number above this one's, if there is one; from 0 on, the least of all.
-    /// This one need not be there. No search where it is, and its hint is right.
-    pub fn next_after(&self, file: &FileRef) -> Option<FileRef>
-        ensures above { IfSome result (λ n. file.now < n) }
-        ensures live { IfSome result (λ n. IsTrue (is_live self.now n)) }
-        ensures least { IfSome result (λ n. (q : ℕ) → file.now < q → q < n → is_live self.now q ≡ false) }
-        ensures none { IfNone result ((q : ℕ) → file.now < q → is_live self.now q ≡ false) }
+    /// The file with the least number above this one, if there is one, and where it stands in the
+    /// order; from 0 on, the least of all. This one need not be a file's. A walk hands in what it was
+    /// answered last, and needs no search; where a file stands is a hint.
+    #[inline(always)]
+    pub fn next_after(&self, ino: Ino, at: usize) -> Option<(FileRef, usize)>
+        ensures above { IfSome result (λ n. ino < n.0) }
+        ensures live { IfSome result (λ n. IsTrue (is_live self.now n.0)) }
+        ensures least { IfSome result (λ n. (q : ℕ) → ino < q → q < n.0 → is_live self.now q ≡ false) }
+        ensures none { IfNone result ((q : ℕ) → ino < q → is_live self.now q ≡ false) }
         ensures begins { is_live self.now 0 ≡ false }
     {
-        self.rows.next_after(file)
+        self.rows.next_after(ino, at)
     }
 
     /// A file more, under the next number. Room comes first, so that on an error nothing has changed.

@@ -35,6 +35,7 @@ impl Files {
     }
 
     /// A file is marked, and is to be scanned, if it was born before the pass and is not marked.
+    #[inline(always)]
     pub fn shade(&mut self, file: &FileRef)
         ensures { self.new ≡ record self.old { marks = shaded file.now self.old.marks } }
     {
@@ -44,6 +45,7 @@ impl Files {
     }
 
     /// A white file is marked, and is to be scanned.
+    #[inline(always)]
     fn push_grey(&mut self, file: &FileRef)
         requires { is_white self.old.marks file.now ≡ true }
         ensures colors { self.new.marks ≡ record self.old.marks { colors = map.insert self.old.marks.colors file.now Grey } }
@@ -59,6 +61,7 @@ impl Files {
     }
 
     /// A file that is to be scanned, if there is one. It stays so until it is `scanned`.
+    #[inline(always)]
     pub fn next_grey(&self) -> Option<FileRef>
         ensures some { IfSome result (λ f. is_grey self.now.marks f ≡ true) }
         ensures none { IfNone result ((f : ℕ) → is_grey self.now.marks f ≡ false) }
@@ -85,6 +88,7 @@ impl Files {
     }
 
     /// A grey file is scanned. Its place in the list is a hint.
+    #[inline(always)]
     fn take_grey(&mut self, file: &FileRef, at: usize)
         requires { is_grey self.old.marks file.now ≡ true }
         ensures colors { self.new.marks ≡ record self.old.marks { colors = map.insert self.old.marks.colors file.now Black } }
@@ -100,6 +104,7 @@ impl Files {
     }
 
     /// The colour of a file, if it is known.
+    #[inline(always)]
     fn color(&self, file: &FileRef) -> Option<Color>
         ensures { result ≡ map.get self.now.marks.colors file.now }
     {
@@ -108,6 +113,7 @@ impl Files {
     }
 
     /// Whether a file is known, and not marked.
+    #[inline(always)]
     fn is_white(&self, file: &FileRef) -> bool
         ensures { result ≡ is_white self.now.marks file.now }
     {
@@ -115,6 +121,7 @@ impl Files {
     }
 
     /// Whether a file is marked. A stranger is not.
+    #[inline(always)]
     pub fn is_marked(&self, file: &FileRef) -> bool
         ensures { result ≡ is_marked self.now.marks file.now }
     {
@@ -127,6 +134,7 @@ impl Files {
 
 /// The file is in the list of the grey files once less, if it was there. The last takes its place,
 /// which is noted beside that one's mark.
+#[inline(always)]
 fn strike(rows: &mut Rows, grey: &mut Vec<FileRef>, ino: Ino, at: usize)
     ensures each { (f : ℕ) → count_in f grey.new.items ≡ count_in f grey.old.items - cond (nat_eq f ino) 1 0 }
     ensures capacity { vec_capacity grey.new ≡ vec_capacity grey.old }
@@ -143,6 +151,7 @@ fn strike(rows: &mut Rows, grey: &mut Vec<FileRef>, ino: Ino, at: usize)
 }
 
 /// A place in the list is noted beside a file's mark.
+#[inline(always)]
 fn note(rows: &mut Rows, file: &FileRef, at: u32)
     ensures { rows.new ≡ record rows.old { marks = change_at (placed at) rows.old.marks file.now } }
 {
@@ -179,12 +188,14 @@ fn wash(rows: &mut Rows)
     ensures len { map.len rows.new.marks ≡ map.len rows.old.marks }
     ensures rest { rows.new ≡ record rows.old { marks = rows.new.marks } }
 {
-    let mut last = FileRef::new(Ino(0), 0);
-    while let Some(file) = rows.next_after(&last) {
+    let mut last = Ino(0);
+    let mut near = 0;
+    while let Some((file, at)) = rows.next_after(last, near) {
         // Who is a file has a mark.
         rows.are_one();
         rows.set_mark(&file, Mark::none());
-        last = file;
+        last = file.ino();
+        near = at;
     }
     // And nobody else has one.
     rows.are_one();

@@ -211,15 +211,16 @@ impl Rows {
         self.rows.find(ino)
     }
 
-    /// The least number above this file's that has a row, if there is one; the file need not have one.
-    /// No search where it has, and its hint is right.
+    /// The least number above this one that has a row, if there is one, and where it stands in the
+    /// order; this one need not have one. No search behind what was answered last.
+    #[inline(always)]
     #[tactic(auto, using(af_order::proofs::Parts::parts))]
-    pub fn next_after(&self, file: &FileRef) -> Option<FileRef>
-        ensures above { IfSome result (λ n. file.now < n) }
-        ensures there { IfSome result (λ n. IsTrue (map.contains_key self.now.files n)) }
-        ensures least { IfSome result (λ n. (q : ℕ) → file.now < q → q < n → map.contains_key self.now.files q ≡ false) }
-        ensures none { IfNone result ((q : ℕ) → file.now < q → map.contains_key self.now.files q ≡ false) }
+    pub fn next_after(&self, ino: Ino, at: usize) -> Option<(FileRef, usize)>
+        ensures above { IfSome result (λ n. ino < n.0) }
+        ensures there { IfSome result (λ n. IsTrue (map.contains_key self.now.files n.0)) }
+        ensures least { IfSome result (λ n. (q : ℕ) → ino < q → q < n.0 → map.contains_key self.now.files q ≡ false) }
+        ensures none { IfNone result ((q : ℕ) → ino < q → map.contains_key self.now.files q ≡ false) }
     {
-        self.rows.next_after(file)
+        self.rows.next_after(ino, at)
     }
 }

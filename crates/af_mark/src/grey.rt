@@ -11,6 +11,7 @@ pub fn noted(at: usize) -> u32 {
 }
 
 /// Where a file stands in the list: this place is tried first. Nothing where it does not.
+#[inline(always)]
 fn place_of(grey: &[FileRef], ino: Ino, at: usize) -> Option<usize>
     ensures some { IfSome result (λ i. slice_get grey.now i ≡ Some ino) }
     ensures none { IfNone result ((k : ℕ) → k < length grey.now → nat_eq (slice_index_or grey.now k 0) ino ≡ false) }
@@ -25,6 +26,7 @@ fn place_of(grey: &[FileRef], ino: Ino, at: usize) -> Option<usize>
 
 /// The file is in the list once less, if it was there, and the last takes its place. Which place
 /// that was, where this one is tried first; nothing where it was not there. It takes no memory.
+#[inline(always)]
 pub fn unlist(grey: &mut Vec<FileRef>, ino: Ino, at: usize) -> Option<usize>
     ensures each { (f : ℕ) → count_in f grey.new.items ≡ count_in f grey.old.items - cond (nat_eq f ino) 1 0 }
     ensures place { IfSome result (λ i. slice_get grey.old.items i ≡ Some ino) }

@@ -68,22 +68,6 @@ fn key_of<T>(order: &Order, slab: &Slab<Entry<T>>, file: &FileRef) -> Option<usi
     order.key_of(ino)
 }
 
-/// The least number above a file's, if there is one; the file need not be there. Where it is, and its
-/// key is right, its place is known beside its value.
-#[inline(always)]
-pub fn next_after<T>(order: &Order, slab: &Slab<Entry<T>>, file: &FileRef) -> Option<FileRef>
-    ensures above { IfSome result (λ n. file.now < n) }
-    ensures there { IfSome result (λ n. IsTrue (map.contains_key order.now.keys n)) }
-    ensures least { IfSome result (λ n. (q : ℕ) → file.now < q → q < n → map.contains_key order.now.keys q ≡ false) }
-    ensures none { IfNone result ((q : ℕ) → file.now < q → map.contains_key order.now.keys q ≡ false) }
-{
-    let at = match slab.get(file.key()) {
-        Some(entry) => entry.at,
-        None => 0,
-    };
-    order.next_after(file.ino(), at)
-}
-
 /// Room for so many values more: then `put` needs no memory for them. No value changes, also on an
 /// error.
 #[inline(always)]

@@ -4,7 +4,7 @@ ghost use Rattle.std.specs.FinMap as map;
 ghost use Rattle.std.specs.Option.{option_copied_mut};
 ghost use Rattle.std.specs.Borrow.{sem};
 
-use crate::entry::{Entry, next_after, put, reserve, stands_at, take};
+use crate::entry::{Entry, put, reserve, stands_at, take};
 use crate::order::Order;
 use af_base::names::{FileRef, Ino};
 use slab::Slab;
@@ -147,15 +147,17 @@ impl<T> Keyed<T> {
         Some(FileRef::new(ino, key))
     }
 
-    /// The least number above this file's that has a value, if there is one; the file need not have
-    /// one. No search where it has, and its hint is right.
+    /// The least number above this one that has a value, if there is one, and where it stands in the
+    /// order; this one need not have one. A walk hands in what it was answered last, and needs no
+    /// search; where a number stands is a hint.
+    #[inline(always)]
     #[tactic(auto, using(crate::proofs::Standing::finds))]
-    pub fn next_after(&self, file: &FileRef) -> Option<FileRef>
-        ensures above { IfSome result (λ n. file.now < n) }
-        ensures there { IfSome result (λ n. IsTrue (map.contains_key self.now.values n)) }
-        ensures least { IfSome result (λ n. (q : ℕ) → file.now < q → q < n → map.contains_key self.now.values q ≡ false) }
-        ensures none { IfNone result ((q : ℕ) → file.now < q → map.contains_key self.now.values q ≡ false) }
+    pub fn next_after(&self, ino: Ino, at: usize) -> Option<(FileRef, usize)>
+        ensures above { IfSome result (λ n. ino < n.0) }
+        ensures there { IfSome result (λ n. IsTrue (map.contains_key self.now.values n.0)) }
+        ensures least { IfSome result (λ n. (q : ℕ) → ino < q → q < n.0 → map.contains_key self.now.values q ≡ false) }
+        ensures none { IfNone result ((q : ℕ) → ino < q → map.contains_key self.now.values q ≡ false) }
     {
-        next_after(&self.order, &self.slab, file)
+        self.order.next_after(ino, at)
     }
 }

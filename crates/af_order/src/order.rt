@@ -162,16 +162,17 @@ impl Order {
         }
     }
 
-    /// The least number above this one, if there is one, with its key as a hint; this one need not be
-    /// there. The place is a hint where it stands.
-    pub fn next_after(&self, ino: Ino, at: usize) -> Option<FileRef>
-        ensures above { IfSome result (λ n. ino < n) }
-        ensures there { IfSome result (λ n. IsTrue (map.contains_key self.now.keys n)) }
-        ensures least { IfSome result (λ n. (q : ℕ) → ino < q → q < n → map.contains_key self.now.keys q ≡ false) }
+    /// The least number above this one, if there is one, with its key as a hint, and its place, which
+    /// the next call takes as one. This one need not be there. The place is a hint where it stands.
+    #[inline(always)]
+    pub fn next_after(&self, ino: Ino, at: usize) -> Option<(FileRef, usize)>
+        ensures above { IfSome result (λ n. ino < n.0) }
+        ensures there { IfSome result (λ n. IsTrue (map.contains_key self.now.keys n.0)) }
+        ensures least { IfSome result (λ n. (q : ℕ) → ino < q → q < n.0 → map.contains_key self.now.keys q ≡ false) }
         ensures none { IfNone result ((q : ℕ) → ino < q → map.contains_key self.now.keys q ≡ false) }
     {
         match next_in(&self.packed, ino, at) {
-            Some(file) => Some(file),
+            Some(next) => Some(next),
             None => next_in(&self.rows, ino, at),
         }
     }
@@ -316,6 +317,7 @@ fn key_in(rows: &[Row], ino: Ino) -> Option<usize>
 }
 
 /// The first live row from this place to that end, or the end.
+#[inline(always)]
 fn first_live(rows: &[Row], from: usize, end: usize) -> usize
     requires from { from ≤ end }
     requires end { end ≤ length rows.now }
@@ -332,12 +334,13 @@ fn first_live(rows: &[Row], from: usize, end: usize) -> usize
     end
 }
 
-/// The least live number above this one among these rows. The place is a hint where it stands.
-fn next_in(rows: &[Row], ino: Ino, at: usize) -> Option<FileRef>
+/// The least live number above this one among these rows, and its place. This one's place is a hint.
+#[inline(always)]
+fn next_in(rows: &[Row], ino: Ino, at: usize) -> Option<(FileRef, usize)>
     requires { Rise rows.now }
-    ensures above { IfSome result (λ n. ino < n) }
-    ensures there { IfSome result (λ n. IsTrue (map.contains_key (live_of rows.now) n)) }
-    ensures least { IfSome result (λ n. (q : ℕ) → ino < q → q < n → map.contains_key (live_of rows.now) q ≡ false) }
+    ensures above { IfSome result (λ n. ino < n.0) }
+    ensures there { IfSome result (λ n. IsTrue (map.contains_key (live_of rows.now) n.0)) }
+    ensures least { IfSome result (λ n. (q : ℕ) → ino < q → q < n.0 → map.contains_key (live_of rows.now) q ≡ false) }
     ensures none { IfNone result ((q : ℕ) → ino < q → map.contains_key (live_of rows.now) q ≡ false) }
 {
     // Mostly nothing is being packed.
@@ -351,7 +354,7 @@ fn next_in(rows: &[Row], ino: Ino, at: usize) -> Option<FileRef>
     }
     let row = rows[at];
     match row.key {
-        Some(key) => Some(FileRef::new(row.ino, key)),
+        Some(key) => Some((FileRef::new(row.ino, key), at)),
         None => None,
     }
 }

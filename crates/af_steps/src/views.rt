@@ -11,7 +11,7 @@ use crate::engine::Engine;
 use af_base::events::{SockType, State};
 use af_base::items::Items;
 use af_base::listing::Listing;
-use af_base::names::{FileRef, Ino, Pid, Uid};
+use af_base::names::{Ino, Pid, Uid};
 use std::alloc::AllocError;
 
 /// What a file is.
@@ -76,7 +76,7 @@ impl Engine {
         ensures none { IfNone result ((q : ℕ) → ino < q → is_live self.now.world q ≡ false) }
     {
         let files = self.store.holdings().files();
-        let next = files.next_after(&FileRef::new(ino, 0))?;
+        let (next, _) = files.next_after(ino, 0)?;
         Some(next.ino())
     }
 

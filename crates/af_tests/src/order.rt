@@ -61,8 +61,8 @@ fn thousands(rt: &impl Abort, values: &mut Keyed<u64>) -> Result<(), AllocError>
     assert!(rt; come_and_go(values)? == 4_281);
     most_go(values);
     assert!(rt; values.len() == 102);
-    let next = values.next_after(&FileRef::new(Ino(49), 0));
-    assert!(rt; next.is_some_and(|file| file.ino() == Ino(98)));
+    let next = values.next_after(Ino(49), 0);
+    assert!(rt; next.is_some_and(|(file, _)| file.ino() == Ino(98)));
     Ok(())
 }
 

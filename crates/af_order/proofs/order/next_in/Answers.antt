@@ -1,6 +1,5 @@
 use Rattle.std.proofs.Common.{rules, ◌≡◌, ◌<◌, length, ◌∙◌, sym, ap, subst, arith}
 use Rattle.std.specs.Prelude.{is_some}
-use Rattle.af_order.specs.declared.order.Row.{Row}
 use Rattle.af_order.specs.Rows.{row_at}
 use Rattle.af_order.proofs.Rows.{held, at_place, nowhere}
 use Rattle.af_order.proofs.Searches.{passed, read_here}

@@ -1,4 +1,4 @@
-use Rattle.std.proofs.Common.{◌≡◌, ◌≤◌, ◌++◌, ◌∷◌, ℕ, length, map, sym, ap, ◌∙◌, subst, arith}
+use Rattle.std.proofs.Common.{◌≡◌, ◌<◌, ◌≤◌, ◌++◌, ◌∷◌, ℕ, length, map, sym, ap, ◌∙◌, subst, arith}
 use Rattle.std.specs.Prelude.{option_map}
 use Rattle.std.specs.List.{sum_by}
 use Rattle.std.specs.FinMap as finmap
@@ -20,10 +20,8 @@ loop-file-init c =
     let es = finmap.entries c.args.self.now.world.files in
     let count : length (above 0 es) ≤ MAX_FILES = omega (arith, above-le 0 es, finmap.len-entries c.args.self.now.world.files, (subst (λ (s : Stored). finmap.len s.world.files ≤ MAX_FILES) c.self.view_is c.self.invariant.within.file_count)) in
     record {
-      so_far =
-          ap (λ n. map (entry (λ x. x.ino) file_of) c.new-files.result.items ++ map (changed bare_file) (above n es)) c.new-last.ensures
-          ∙ ap (λ xs. map (entry (λ x. x.ino) file_of) xs ++ map (changed bare_file) (above 0 es)) c.new-files.ensures.items;
-      few = omega (arith, count, ap (λ n. length (above n es)) c.new-last.ensures, ap (sum_by (λ x. length (contents (file_of x)))) c.new-files.ensures.items);
+      so_far = ap (λ xs. map (entry (λ x. x.ino) file_of) xs ++ map (changed bare_file) (above 0 es)) c.new-files.ensures.items;
+      few = omega (arith, count, ap (sum_by (λ x. length (contents (file_of x)))) c.new-files.ensures.items);
     }
 
 pub loop-file-preserved : goal.loop-file-preserved
@@ -43,13 +41,15 @@ loop-file-preserved c =
     let before = ap (λ ds. map (entry (λ y. y.ino) file_of) xs ++ map (changed bare_file) ds) (sym step) ∙ c.loop-file.invariant.so_far in
     record {
       so_far =
-          ap (λ ys. map (entry (λ y. y.ino) file_of) ys ++ map (changed bare_file) rest) c.in_ok-push.ensures.items
+          ap (λ n. map (entry (λ y. y.ino) file_of) c.push.new.self.items ++ map (changed bare_file) (above n es)) c.ino-last.ensures
+          ∙ ap (λ ys. map (entry (λ y. y.ino) file_of) ys ++ map (changed bare_file) rest) c.in_ok-push.ensures.items
           ∙ made_more (entry (λ y. y.ino) file_of) (changed bare_file) xs x e rest (map (changed bare_file) (above 0 es)) same before;
       few = omega (
         arith,
         c.loop-file.invariant.few,
         listed.few,
         ap length step,
+        ap (λ n. length (above n es)) c.ino-last.ensures,
         ap (sum_by (λ y. length (contents (file_of y)))) c.in_ok-push.ensures.items,
         sum_by_push (λ y. length (contents (file_of y))) xs x,
       );
@@ -57,8 +57,10 @@ loop-file-preserved c =
 
 pub loop-file-smaller : goal.loop-file-smaller
 loop-file-smaller c =
+    let files = c.args.self.now.world.files in
     let next = c.in-Some.ensures in
-    fewer_above c.self.inside.files.files c.args.self.now.world.files (ap (λ s. s.world.files) c.self.view_is) c.loop-file.last c.in-Some.file next.above next.live next.least
+    subst (λ n. length (above n (finmap.entries files)) < length (above c.loop-file.last (finmap.entries files))) (sym c.ino-last.ensures)
+    (fewer_above c.self.inside.files.files files (ap (λ s. s.world.files) c.self.view_is) c.loop-file.last c.in-Some.file next.above next.live next.least)
 
 -- All entries are listed.
 all_listed : (c : goal.In_default) → map (entry (λ x. x.ino) file_of) c.loop-file.files.items ≡ map (changed bare_file) (finmap.entries c.args.self.now.world.files)

@@ -8,15 +8,15 @@ use Rattle.af_order.proofs.order.Order.next_after.Goals as goal
 
 pub returns-in-Some-clause-there : goal.returns-in-Some-clause-there
 returns-in-Some-clause-there c =
-    let packed = subst (λ rows. IsTrue (map.contains_key (live_of rows) c.in-Some.file)) c.deref.ensures.value c.in-Some.ensures.there in
-    subst (λ a. IsTrue (map.contains_key a.keys c.in-Some.file)) c.self.view_is
-    (there_packed c.self.inside.packed.items c.self.inside.rows.items c.self.inside.read c.self.inside.last c.self.invariant.0 c.in-Some.file packed)
+    let packed = subst (λ rows. IsTrue (map.contains_key (live_of rows) c.in-Some.next.0)) c.deref.ensures.value c.in-Some.ensures.there in
+    subst (λ a. IsTrue (map.contains_key a.keys c.in-Some.next.0)) c.self.view_is
+    (there_packed c.self.inside.packed.items c.self.inside.rows.items c.self.inside.read c.self.inside.last c.self.invariant.0 c.in-Some.next.0 packed)
 
 pub returns-in-Some-clause-least : goal.returns-in-Some-clause-least
 returns-in-Some-clause-least c = λ q above before.
-    let packed = subst (λ rows. IsTrue (map.contains_key (live_of rows) c.in-Some.file)) c.deref.ensures.value c.in-Some.ensures.there in
+    let packed = subst (λ rows. IsTrue (map.contains_key (live_of rows) c.in-Some.next.0)) c.deref.ensures.value c.in-Some.ensures.there in
     let not_packed = subst (λ rows. map.contains_key (live_of rows) q ≡ false) c.deref.ensures.value (c.in-Some.ensures.least q above before) in
-    let not_waiting = before_packed c.self.inside.packed.items c.self.inside.rows.items c.self.inside.read c.self.inside.last c.self.invariant.0 c.in-Some.file q packed before in
+    let not_waiting = before_packed c.self.inside.packed.items c.self.inside.rows.items c.self.inside.read c.self.inside.last c.self.invariant.0 c.in-Some.next.0 q packed before in
     subst (λ a. map.contains_key a.keys q ≡ false) c.self.view_is
     (absent c.self.inside.packed.items c.self.inside.rows.items c.self.inside.read c.self.inside.last c.self.invariant.0 q not_packed not_waiting)
 
@@ -35,9 +35,9 @@ neither c q packed waiting =
 
 pub returns-in-None-clause-there : goal.returns-in-None-clause-there
 returns-in-None-clause-there c = IfSome_then c.next_in-in-None.result c.next_in-in-None.ensures.there (λ n there.
-    subst (λ a. IsTrue (map.contains_key a.keys n)) c.self.view_is
-    (there_waiting c.self.inside.packed.items c.self.inside.rows.items c.self.inside.read c.self.inside.last c.self.invariant.0 n
-    (subst (λ rows. IsTrue (map.contains_key (live_of rows) n)) c.deref-in-None.ensures.value there)))
+    subst (λ a. IsTrue (map.contains_key a.keys n.0)) c.self.view_is
+    (there_waiting c.self.inside.packed.items c.self.inside.rows.items c.self.inside.read c.self.inside.last c.self.invariant.0 n.0
+    (subst (λ rows. IsTrue (map.contains_key (live_of rows) n.0)) c.deref-in-None.ensures.value there)))
 
 pub returns-in-None-clause-least : goal.returns-in-None-clause-least
 returns-in-None-clause-least c = IfSome_then c.next_in-in-None.result c.next_in-in-None.ensures.least (λ n least q above before.
