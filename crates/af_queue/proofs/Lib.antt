@@ -1,3 +1,4 @@
 pub mod Spans
 pub mod Charges
 pub mod Copied
+pub mod Chains

@@ -2,3 +2,4 @@
 pub mod Queued
 pub mod Received
 pub mod Streams
+pub mod Chains

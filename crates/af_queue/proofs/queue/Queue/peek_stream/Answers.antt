@@ -1,4 +1,4 @@
-use Rattle.std.proofs.Common.{rules, ◌≡◌, [], sym, ap, ◌∙◌}
+use Rattle.std.proofs.Common.{rules, ◌≡◌, [], ◌∙◌}
 use Rattle.std.specs.Option.{option_map_or}
 use Rattle.af_queue.specs.Received.{message_at, sender_at}
 use Rattle.af_queue.proofs.Spans.{have-bytes, part-received}

@@ -1,0 +1,318 @@
+-- Messages in a slab, linked one behind another.
+use Rattle.std.proofs.Common.{◌≡◌, ◌≢◌, ℕ, zero, suc, ◌+◌, ◌-◌, ◌<◌, ◌≤◌, ◌||◌, Bool, true, false, List, [], ◌∷◌, ◌++◌, refl, sym, ap, ◌∙◌, subst, nat_eq, true≢false, suc-ne-zero, arith, rules}
+use Rattle.std.specs.Prelude.{Option, Some, None, IsSome, drop}
+use Rattle.std.specs.List.{list_any, slice_get}
+use Rattle.std.specs.Option.{option_map_or}
+use Rattle.std.proofs.lemmas.Bool.{eqb-true, eq-eqb}
+use Rattle.slab.specs.Slab as slots
+use Rattle.slab.specs.Slab.{Slab, Updates}
+use Rattle.slab.proofs.SlabLemmas.{Updates-with_value}
+use Rattle.af_base.specs.World.{Message}
+use Rattle.af_base.proofs.Lookups.{none_some, some_same}
+use Rattle.af_queue.specs.declared.chain.Chain.{Chain}
+use Rattle.af_queue.specs.declared.chain.Node.{Node}
+use Rattle.af_queue.specs.Chains.{next_at, keys_from, messages_from, messages_of, IsChain, IsPath, SameElsewhere}
+use Rattle.af_queue.specs.Streams.{first_shortened}
+
+next_there : (s : Slab Node) (k : ℕ) (x : Node) → slots.get s k ≡ Some x → next_at s k ≡ x.next
+next_there s k x e = ap (λ o. option_map_or (λ y. y.next) o 0) e
+
+first_there : (s : Slab Node) (k n : ℕ) (x : Node) → slots.get s k ≡ Some x → messages_from s k (suc n) ≡ x.message ∷ messages_from s x.next n
+first_there s k n x e = ap (λ o. option_map_or (λ y. y.message ∷ messages_from s y.next n) o []) e
+
+-- The other slab has the same at each of these keys.
+abbrev pub KeepsKeys : Slab Node → Slab Node → List ℕ → Type 0
+KeepsKeys s t ks = (q : ℕ) → list_any (nat_eq q) ks ≡ true → slots.get t q ≡ slots.get s q
+
+itself : (k : ℕ) (ks : List ℕ) → list_any (nat_eq k) (k ∷ ks) ≡ true
+itself k ks = ap (λ b. b || list_any (nat_eq k) ks) (eq-eqb k k refl)
+
+behind : (q k : ℕ) (ks : List ℕ) → list_any (nat_eq q) ks ≡ true → list_any (nat_eq q) (k ∷ ks) ≡ true
+behind q k ks h = by (nat_eq q k) where
+  by : (b : Bool) → b || list_any (nat_eq q) ks ≡ true
+  by true = refl
+  by false = h
+
+module _ (s t : Slab Node) (f l : ℕ) where
+  -- What is kept of a path is kept of the rest of it.
+  rest_kept : (k n : ℕ) (x : Node) → slots.get s k ≡ Some x → KeepsKeys s t (keys_from s k (suc n)) → KeepsKeys s t (keys_from s x.next n)
+  rest_kept k n x at keeps q h = keeps q (behind q k (keys_from s (next_at s k) n) (ap (λ z. list_any (nat_eq q) (keys_from s z n)) (next_there s k x at) ∙ h))
+
+  first_kept : (k n : ℕ) (x : Node) → slots.get s k ≡ Some x → KeepsKeys s t (keys_from s k (suc n)) → slots.get t k ≡ Some x
+  first_kept k n x at keeps = keeps k (itself k (keys_from s (next_at s k) n)) ∙ at
+
+  keys_kept : (k n : ℕ) → IsPath s f l k n → KeepsKeys s t (keys_from s k n) → keys_from t k n ≡ keys_from s k n
+  keys_kept k zero p keeps = refl
+  keys_kept k (suc n) p keeps =
+      let x = p.0 in
+      ap (λ ks. k ∷ ks)
+      (ap (λ z. keys_from t z n) (next_there t k x (first_kept k n x p.1.0 keeps))
+      ∙ keys_kept x.next n p.1.4 (rest_kept k n x p.1.0 keeps)
+      ∙ ap (λ z. keys_from s z n) (sym (next_there s k x p.1.0)))
+
+  -- A path whose nodes are kept is one there too.
+  pub path_kept : (k n : ℕ) → IsPath s f l k n → KeepsKeys s t (keys_from s k n) → IsPath t f l k n
+  path_kept k zero p keeps = refl
+  path_kept k (suc n) p keeps =
+      let x = p.0 in
+      let rest = rest_kept k n x p.1.0 keeps in
+      let apart = subst (λ ks. list_any (nat_eq k) ks ≡ false) (sym (keys_kept x.next n p.1.4 rest)) p.1.2 in
+      (x, (first_kept k n x p.1.0 keeps, p.1.1, apart, p.1.3, path_kept x.next n p.1.4 rest))
+
+  -- And shows the same messages.
+  pub messages_kept : (k n : ℕ) → IsPath s f l k n → KeepsKeys s t (keys_from s k n) → messages_from t k n ≡ messages_from s k n
+  messages_kept k zero p keeps = refl
+  messages_kept k (suc n) p keeps =
+      let x = p.0 in
+      first_there t k n x (first_kept k n x p.1.0 keeps)
+      ∙ ap (λ ms. x.message ∷ ms) (messages_kept x.next n p.1.4 (rest_kept k n x p.1.0 keeps))
+      ∙ sym (first_there s k n x p.1.0)
+
+  -- Where the nodes of all files but one stay, so do those of another one's queue.
+  pub keeps_others : (o : ℕ) → SameElsewhere s t o → f ≢ o → (k n : ℕ) → IsPath s f l k n → KeepsKeys s t (keys_from s k n)
+  keeps_others o same off k zero p q h = absurd (true≢false (sym h))
+  keeps_others o same off k (suc n) p q h =
+      let x = p.0 in
+      by (nat_eq q k) refl h
+      (λ h. keeps_others o same off x.next n p.1.4 q (ap (λ z. list_any (nat_eq q) (keys_from s z n)) (sym (next_there s k x p.1.0)) ∙ h)) where
+        here : slots.get t k ≡ slots.get s k
+        here = same k p.0 p.1.0 (λ e. off (sym p.1.1 ∙ e)) ∙ sym p.1.0
+
+        by : (b : Bool) → nat_eq q k ≡ b → b || list_any (nat_eq q) (keys_from s (next_at s k) n) ≡ true → (list_any (nat_eq q) (keys_from s (next_at s k) n) ≡ true → slots.get t q ≡ slots.get s q) → slots.get t q ≡ slots.get s q
+        by true e h rest = subst (λ z. slots.get t z ≡ slots.get s z) (sym (eqb-true q k e)) here
+        by false e h rest = rest h
+
+neqb : (a b : ℕ) → a ≢ b → nat_eq a b ≡ false
+neqb a b ne = by (nat_eq a b) refl where
+  by : (c : Bool) → nat_eq a b ≡ c → nat_eq a b ≡ false
+  by true e = absurd (ne (eqb-true a b e))
+  by false e = e
+
+-- The last node's key is among the keys.
+last_in : (s : Slab Node) (f l : ℕ) (k n : ℕ) → IsPath s f l k (suc n) → list_any (nat_eq l) (keys_from s k (suc n)) ≡ true
+last_in s f l k zero p = ap (λ b. b || false) (eq-eqb l k (sym (p.1.3 refl)))
+last_in s f l k (suc n) p =
+    let x = p.0 in
+    let rest = ap (λ z. list_any (nat_eq l) (keys_from s z (suc n))) (next_there s k x p.1.0) ∙ last_in s f l x.next n p.1.4 in
+    by (nat_eq l k) rest where
+      by : (b : Bool) → {c : Bool} → c ≡ true → b || c ≡ true
+      by true h = refl
+      by false h = h
+
+-- Behind the last node of a path stands one more now, and its key is noted there.
+module _ (s u : Slab Node) (f l key : ℕ) (node : Node)
+    (vacant : slots.get s key ≡ None) (put : slots.get u key ≡ Some node) (own : node.owner ≡ f)
+    (linked : (x : Node) → slots.get s l ≡ Some x → slots.get u l ≡ Some (record x { next = key }))
+    (others : (q : ℕ) → q ≢ key → q ≢ l → slots.get u q ≡ slots.get s q) where
+  -- A node that is there is not the new one.
+  fresh : (q : ℕ) (x : Node) → slots.get s q ≡ Some x → q ≢ key
+  fresh q x at e = none_some x (sym vacant ∙ ap (slots.get s) (sym e) ∙ at)
+
+  apart_key : (q : ℕ) (x : Node) → slots.get s q ≡ Some x → nat_eq q key ≡ false
+  apart_key q x at = neqb q key (fresh q x at)
+
+  -- A node before the last stays.
+  pub before : (k n : ℕ) (x : Node) → slots.get s k ≡ Some x → list_any (nat_eq k) (keys_from s x.next (suc n)) ≡ false → IsPath s f l x.next (suc n) → slots.get u k ≡ Some x
+  before k n x at apart rest = others k (fresh k x at) not_last ∙ at where
+    not_last : k ≢ l
+    not_last e = absurd (true≢false (sym (last_in s f l x.next n rest) ∙ ap (λ z. list_any (nat_eq z) (keys_from s x.next (suc n))) (sym e) ∙ apart))
+
+  keys_more : (k n : ℕ) → IsPath s f l k (suc n) → keys_from u k (suc (suc n)) ≡ keys_from s k (suc n) ++ key ∷ []
+  keys_more k zero p =
+      let x = p.0 in
+      let at = subst (λ q. slots.get u q ≡ Some (record x { next = key })) (sym (p.1.3 refl)) (linked x (ap (slots.get s) (sym (p.1.3 refl)) ∙ p.1.0)) in
+      ap (λ z. k ∷ z ∷ []) (next_there u k (record x { next = key }) at)
+  keys_more k (suc n) p =
+      let x = p.0 in
+      ap (λ ks. k ∷ ks)
+      (ap (λ z. keys_from u z (suc (suc n))) (next_there u k x (before k n x p.1.0 p.1.2 p.1.4))
+      ∙ keys_more x.next n p.1.4
+      ∙ ap (λ z. keys_from s z (suc n) ++ key ∷ []) (sym (next_there s k x p.1.0)))
+
+  list_any_more : (q : ℕ) (ks : List ℕ) → list_any (nat_eq q) ks ≡ false → nat_eq q key ≡ false → list_any (nat_eq q) (ks ++ key ∷ []) ≡ false
+  list_any_more q [] none off = ap (λ b. b || false) off
+  list_any_more q (k ∷ ks) none off = by (nat_eq q k) none (λ h. list_any_more q ks h off) where
+    by : (b : Bool) → b || list_any (nat_eq q) ks ≡ false → (list_any (nat_eq q) ks ≡ false → list_any (nat_eq q) (ks ++ key ∷ []) ≡ false) → b || list_any (nat_eq q) (ks ++ key ∷ []) ≡ false
+    by true h rest = h
+    by false h rest = rest h
+
+  -- It is the last of a longer path.
+  pub path_more : (k n : ℕ) → IsPath s f l k (suc n) → IsPath u f key k (suc (suc n))
+  path_more k zero p =
+      let x = p.0 in
+      let at = subst (λ q. slots.get u q ≡ Some (record x { next = key })) (sym (p.1.3 refl)) (linked x (ap (slots.get s) (sym (p.1.3 refl)) ∙ p.1.0)) in
+      (record x { next = key }, (at, p.1.1, ap (λ b. b || false) (apart_key k x p.1.0), (λ e. absurd (suc-ne-zero _ e)), (node, (put, own, refl, (λ e. refl), refl))))
+  path_more k (suc n) p =
+      let x = p.0 in
+      let apart = ap (list_any (nat_eq k)) (keys_more x.next n p.1.4) ∙ list_any_more k (keys_from s x.next (suc n)) p.1.2 (apart_key k x p.1.0) in
+      (x, (before k n x p.1.0 p.1.2 p.1.4, p.1.1, apart, (λ e. absurd (suc-ne-zero _ e)), path_more x.next n p.1.4))
+
+  -- Its message comes last.
+  pub messages_more : (k n : ℕ) → IsPath s f l k (suc n) → messages_from u k (suc (suc n)) ≡ messages_from s k (suc n) ++ node.message ∷ []
+  messages_more k zero p =
+      let x = p.0 in
+      let at = subst (λ q. slots.get u q ≡ Some (record x { next = key })) (sym (p.1.3 refl)) (linked x (ap (slots.get s) (sym (p.1.3 refl)) ∙ p.1.0)) in
+      first_there u k (suc zero) (record x { next = key }) at
+      ∙ ap (λ ms. x.message ∷ ms) (first_there u key zero node put)
+      ∙ ap (λ ms. ms ++ node.message ∷ []) (sym (first_there s k zero x p.1.0))
+  messages_more k (suc n) p =
+      let x = p.0 in
+      first_there u k (suc (suc n)) x (before k n x p.1.0 p.1.2 p.1.4)
+      ∙ ap (λ ms. x.message ∷ ms) (messages_more x.next n p.1.4)
+      ∙ ap (λ ms. ms ++ node.message ∷ []) (sym (first_there s k (suc n) x p.1.0))
+
+-- The last node of a path is there.
+last_there : (s : Slab Node) (f l : ℕ) (k n : ℕ) → IsPath s f l k (suc n) → (x : Node) × (slots.get s l ≡ Some x)
+last_there s f l k zero p = (p.0, ap (slots.get s) (sym (p.1.3 refl)) ∙ p.1.0)
+last_there s f l k (suc n) p = last_there s f l p.0.next n p.1.4
+
+-- It is f's.
+owner_last : (s : Slab Node) (f l : ℕ) (k n : ℕ) → IsPath s f l k (suc n) → (x : Node) → slots.get s l ≡ Some x → x.owner ≡ f
+owner_last s f l k zero p x at = ap (λ y. y.owner) (some_same x p.0 (sym at ∙ ap (slots.get s) (sym (p.1.3 refl)) ∙ p.1.0)) ∙ p.1.1
+owner_last s f l k (suc n) p x at = owner_last s f l p.0.next n p.1.4 x at
+
+-- A node comes into a slab, and then one that was there is linked to it.
+module _ (s t u : Slab Node) (f l key : ℕ) (node : Node) (vacant : slots.get s key ≡ None) (own : node.owner ≡ f) (update : Updates s t key (Some node))
+    (linked : (x : Node) → slots.get t l ≡ Some x → slots.get u l ≡ Some (record x { next = key }))
+    (others : (q : ℕ) → q ≢ l → slots.get u q ≡ slots.get t q) where
+  old : (q : ℕ) (x : Node) → slots.get s q ≡ Some x → slots.get t q ≡ Some x
+  old q x at = update.others q (λ e. none_some x (sym vacant ∙ ap (slots.get s) (sym e) ∙ at)) ∙ at
+
+  key_off : (k n : ℕ) → IsPath s f l k (suc n) → key ≢ l
+  key_off k n p e = let x = last_there s f l k n p in none_some x.0 (sym vacant ∙ ap (slots.get s) e ∙ x.1)
+
+  -- A queue that had messages has one more.
+  pub pushed : (k n : ℕ) → n ≢ zero → IsPath s f l k n → IsPath u f key k (n + 1) × (messages_from u k (n + 1) ≡ messages_from s k n ++ node.message ∷ [])
+  pushed k zero ne p = absurd (ne refl)
+  pushed k (suc n) ne p =
+      subst (λ z. IsPath u f key k z × (messages_from u k z ≡ messages_from s k (suc n) ++ node.message ∷ [])) one_more
+      (path_more s u f l key node vacant put own link rest k n p, messages_more s u f l key node vacant put own link rest k n p) where
+        one_more : suc (suc n) ≡ suc n + 1
+        one_more = omega arith
+
+        put : slots.get u key ≡ Some node
+        put = others key (key_off k n p) ∙ update.changed
+
+        link : (x : Node) → slots.get s l ≡ Some x → slots.get u l ≡ Some (record x { next = key })
+        link x at = linked x (old l x at)
+
+        rest : (q : ℕ) → q ≢ key → q ≢ l → slots.get u q ≡ slots.get s q
+        rest q off not_last = others q not_last ∙ update.others q off
+
+  -- Nothing else changes.
+  pub pushed_elsewhere : (k n : ℕ) → n ≢ zero → IsPath s f l k n → SameElsewhere s u f
+  pushed_elsewhere k zero ne p q x at other = absurd (ne refl)
+  pushed_elsewhere k (suc n) ne p q x at other = others q not_last ∙ old q x at where
+    not_last : q ≢ l
+    not_last e = other (owner_last s f l k n p x (ap (slots.get s) (sym e) ∙ at))
+
+-- The first node of a path goes.
+module _ (s t : Slab Node) (f l k n : ℕ) (p : IsPath s f l k (suc n)) (update : Updates s t k None) where
+  rest_stays : KeepsKeys s t (keys_from s p.0.next n)
+  rest_stays q h = update.others q (λ e. true≢false (sym h ∙ ap (λ z. list_any (nat_eq z) (keys_from s p.0.next n)) e ∙ p.1.2))
+
+  pub popped : IsPath t f l p.0.next n
+  popped = path_kept s t f l p.0.next n p.1.4 rest_stays
+
+  pub messages_popped : messages_from s k (suc n) ≡ p.0.message ∷ messages_from t p.0.next n
+  messages_popped = first_there s k n p.0 p.1.0 ∙ ap (λ ms. p.0.message ∷ ms) (sym (messages_kept s t f l p.0.next n p.1.4 rest_stays))
+
+  pub popped_elsewhere : SameElsewhere s t f
+  popped_elsewhere q x at other = update.others q (λ e. other (ap (λ y. y.owner) (some_same x p.0 (sym at ∙ ap (slots.get s) e ∙ p.1.0)) ∙ p.1.1)) ∙ at
+
+  -- The node that went was the first.
+  pub popped_at : (node : Node) → slots.get s k ≡ Some node → IsPath t f l node.next (suc n - 1) × (messages_from s k (suc n) ≡ node.message ∷ messages_from t node.next (suc n - 1))
+  popped_at node at =
+      subst (λ y. IsPath t f l y.next (suc n - 1) × (messages_from s k (suc n) ≡ y.message ∷ messages_from t y.next (suc n - 1))) (some_same p.0 node (sym p.1.0 ∙ at))
+      (subst (λ z. IsPath t f l p.0.next z × (messages_from s k (suc n) ≡ p.0.message ∷ messages_from t p.0.next z)) less (popped, messages_popped)) where
+        less : n ≡ suc n - 1
+        less = omega arith
+
+-- The first message of a queue that has some.
+pub pops : (s t : Slab Node) (f l k n : ℕ) (node : Node) → n ≢ zero → slots.get s k ≡ Some node → Updates s t k None → IsPath s f l k n → IsPath t f l node.next (n - 1) × (messages_from s k n ≡ node.message ∷ messages_from t node.next (n - 1))
+pops s t f l k zero node ne at update p = absurd (ne refl)
+pops s t f l k (suc n) node ne at update p = popped_at s t f l k n p update node at
+
+-- A walk along a queue, i nodes on, towards the message at a place.
+module _ (s : Slab Node) (k len at i : ℕ) where
+  -- Where no node is, nothing is left.
+  pub leads_nowhere : slots.get s k ≡ None → slice_get (messages_from s k (len - i)) (at - i) ≡ None
+  leads_nowhere none = by (len - i) where
+    by : (n : ℕ) → slice_get (messages_from s k n) (at - i) ≡ None
+    by zero = refl
+    by (suc n) = ap (λ o. slice_get (option_map_or (λ x. x.message ∷ messages_from s x.next n) o []) (at - i)) none
+
+  module _ (within : at < len) (x : Node) (there : slots.get s k ≡ Some x) where
+    -- The message is behind this one.
+    pub leads_on : i < at → slice_get (messages_from s k (len - i)) (at - i) ≡ slice_get (messages_from s x.next (len - (i + 1))) (at - (i + 1))
+    leads_on before =
+        ap (λ n. slice_get (messages_from s k n) (at - i)) left
+        ∙ ap (slice_get (messages_from s k (suc (len - (i + 1))))) further
+        ∙ ap (λ ms. slice_get ms (suc (at - (i + 1)))) (first_there s k (len - (i + 1)) x there) where
+          left : len - i ≡ suc (len - (i + 1))
+          left = omega (arith, within, before)
+
+          further : at - i ≡ suc (at - (i + 1))
+          further = omega (arith, before)
+
+    -- It is this one.
+    pub leads_here : at ≤ i → i ≤ at → slice_get (messages_from s k (len - i)) (at - i) ≡ Some x.message
+    leads_here le ge =
+        ap (λ n. slice_get (messages_from s k n) (at - i)) left
+        ∙ ap (slice_get (messages_from s k (suc (len - (i + 1))))) none
+        ∙ ap (λ ms. slice_get ms zero) (first_there s k (len - (i + 1)) x there) where
+          left : len - i ≡ suc (len - (i + 1))
+          left = omega (arith, within, ge)
+
+          none : at - i ≡ zero
+          none = omega (arith, le)
+
+-- A queue has no more messages than nodes.
+pub none_beyond : (s : Slab Node) (k n at : ℕ) → n ≤ at → slice_get (messages_from s k n) at ≡ None
+none_beyond s k zero at le = refl
+none_beyond s k (suc n) zero le = absurd (omega (arith, le))
+none_beyond s k (suc n) (suc at) le = by (slots.get s k) (λ x. none_beyond s x.next n at less) where
+  less : n ≤ at
+  less = omega (arith, le)
+
+  by : (o : Option Node) → ((x : Node) → slice_get (messages_from s x.next n) at ≡ None) → slice_get (option_map_or (λ x. x.message ∷ messages_from s x.next n) o []) (suc at) ≡ None
+  by None rest = refl
+  by (Some x) rest = rest x
+
+-- The message of the first node of a path is another one.
+module _ (s t : Slab Node) (f l k n : ℕ) (p : IsPath s f l k (suc n)) (m : Message) (here : slots.get t k ≡ Some (record p.0 { message = m })) (others : (q : ℕ) → q ≢ k → slots.get t q ≡ slots.get s q) where
+  rest_as_it_was : KeepsKeys s t (keys_from s p.0.next n)
+  rest_as_it_was q h = others q (λ e. true≢false (sym h ∙ ap (λ z. list_any (nat_eq z) (keys_from s p.0.next n)) e ∙ p.1.2))
+
+  pub changed : IsPath t f l k (suc n)
+  changed =
+      let apart = subst (λ ks. list_any (nat_eq k) ks ≡ false) (sym (keys_kept s t f l p.0.next n p.1.4 rest_as_it_was)) p.1.2 in
+      (record p.0 { message = m }, (here, p.1.1, apart, p.1.3, path_kept s t f l p.0.next n p.1.4 rest_as_it_was))
+
+  pub messages_changed : messages_from t k (suc n) ≡ m ∷ messages_from s p.0.next n
+  messages_changed = first_there t k n (record p.0 { message = m }) here ∙ ap (λ ms. m ∷ ms) (messages_kept s t f l p.0.next n p.1.4 rest_as_it_was)
+
+  pub changed_elsewhere : SameElsewhere s t f
+  changed_elsewhere q x at other = others q (λ e. other (ap (λ y. y.owner) (some_same x p.0 (sym at ∙ ap (slots.get s) e ∙ p.1.0)) ∙ p.1.1)) ∙ at
+
+-- Its first bytes go, and its files.
+pub shortened : (s : Slab Node) (f l k n : ℕ) (node : Node) (m : Message) (count : ℕ) → 0 < n → slots.get s k ≡ Some node → m ≡ record node.message { bytes = drop count node.message.bytes; attached = [] } → IsPath s f l k n → IsPath (slots.with_value s k (record node { message = m })) f l k n × (messages_from (slots.with_value s k (record node { message = m })) k n ≡ first_shortened count (messages_from s k n))
+shortened s f l k zero node m count some at is p = absurd (omega (arith, some))
+shortened s f l k (suc n) node m count some at is p =
+    let same : p.0 ≡ node = some_same p.0 node (sym p.1.0 ∙ at) in
+    let t = slots.with_value s k (record node { message = m }) in
+    let update = Updates-with_value s k (record node { message = m }) (subst IsSome (sym at) (search rules)) in
+    let other : Some (record node { message = m }) ≡ Some (record p.0 { message = m }) = ap (λ (y : Node). Some (record y { message = m })) (sym same) in
+    let here : slots.get t k ≡ Some (record p.0 { message = m }) = update.changed ∙ other in
+    let less : m ≡ record p.0.message { bytes = drop count p.0.message.bytes; attached = [] } = is ∙ ap (λ (y : Node). record y.message { bytes = drop count y.message.bytes; attached = [] }) (sym same) in (
+      changed s t f l k n p m here update.others,
+      messages_changed s t f l k n p m here update.others
+          ∙ ap (λ z. z ∷ messages_from s p.0.next n) less
+          ∙ ap (first_shortened count) (sym (first_there s k n p.0 p.1.0)),
+    )
+
+-- Where the nodes of all files but one stay, so does another one's queue.
+pub other_queue : (s t : Slab Node) (f o : ℕ) (c : Chain) → SameElsewhere s t o → f ≢ o → IsChain s c f → IsChain t c f × (messages_of t c ≡ messages_of s c)
+other_queue s t f o c same off p =
+    let keeps = keeps_others s t f c.last o same off c.first c.len p in
+    (path_kept s t f c.last c.first c.len p keeps, messages_kept s t f c.last c.first c.len p keeps)
