@@ -1,12 +1,16 @@
 -- What a file holds, one after the other.
-use Rattle.std.proofs.Common.{◌≡◌, ◌+◌, ℕ, List, [], ◌∷◌, ◌++◌, zero, suc, drop, refl, sym, ap, ◌∙◌, arith}
+use Rattle.std.proofs.Common.{◌≡◌, ◌+◌, ◌<◌, ◌≤◌, ℕ, List, [], ◌∷◌, ◌++◌, zero, suc, drop, length, take_all, refl, sym, ap, ◌∙◌, arith}
 use Rattle.std.specs.Prelude.{None, Some, slice_get, take}
 use Rattle.std.specs.Option.{option_map_or}
 use Rattle.std.proofs.Math.Seq.{drop-nil}
-use Rattle.std.proofs.lemmas.List.{append-nil}
+use Rattle.std.proofs.lemmas.List.{append-nil, drop-drop, length-drop, length-take, take-append-drop}
 use Rattle.af_base.specs.Places.{carried}
 use Rattle.af_base.specs.World.{Message}
 use Rattle.af_base.proofs.Lookups.{none_some, some_same}
+use Rattle.af_mark.specs.Marked.{Marked}
+use Rattle.af_pass.specs.Keeping.{shaded_all}
+use Rattle.af_pass.proofs.Shaded.{shaded_append}
+use Rattle.af_queue.specs.declared.queue.TheConstants.{BATCH}
 
 -- One after the next.
 one_more : (i : ℕ) → suc i + 1 ≡ suc (i + 1)
@@ -32,14 +36,28 @@ none_left [] (suc i) e = refl
 none_left (y ∷ xs) zero e = absurd (none_some y (sym e))
 none_left (y ∷ xs) (suc i) e = none_left xs i e
 
--- What the messages that are left carry is what the first of them does, and then the rest.
-pub carried_next : (q : List Message) (i : ℕ) → carried (drop i q) ≡ option_map_or (λ m. m.attached) (slice_get q i) [] ++ carried (drop (i + 1) q)
-carried_next [] zero = refl
-carried_next [] (suc i) = ap carried (sym (drop-nil (suc i + 1)))
-carried_next (m ∷ q) zero = refl
-carried_next (m ∷ q) (suc i) = carried_next q i ∙ ap (λ n. option_map_or (λ m. m.attached) (slice_get q i) [] ++ carried (drop n (m ∷ q))) (sym (one_more i))
+-- Files that are marked some at a time.
+module _ (all : List ℕ) (from : ℕ) (m : Marked) where
+  -- So many of them, and then those behind them.
+  pub shaded_on : shaded_all (drop (from + BATCH) all) (shaded_all (take BATCH (drop from all)) m) ≡ shaded_all (drop from all) m
+  shaded_on =
+      ap (λ xs. shaded_all xs (shaded_all (take BATCH (drop from all)) m)) (ap (λ n. drop n all) (omega arith) ∙ sym (drop-drop BATCH from all))
+      ∙ sym (shaded_append (take BATCH (drop from all)) (drop BATCH (drop from all)) m)
+      ∙ ap (λ xs. shaded_all xs m) (take-append-drop BATCH (drop from all))
+
+  -- There are as many of them as are told.
+  pub shaded_within : BATCH ≤ length (take BATCH (drop from all)) → from ≤ length all → from + BATCH ≤ length all
+  shaded_within full within = omega (arith, full, within, length-take BATCH (drop from all), length-drop from all)
+
+  -- Where they are fewer, they are the last.
+  pub shaded_last : length (take BATCH (drop from all)) < BATCH → shaded_all (take BATCH (drop from all)) m ≡ shaded_all (drop from all) m
+  shaded_last few = ap (λ xs. shaded_all xs m) (take_all BATCH (drop from all) (omega (arith, few, length-take BATCH (drop from all))))
 
 -- What the first message carries.
 pub carried_first : (q : List Message) → option_map_or (λ m. m.attached) (slice_get q 0) [] ≡ carried (take 1 q)
 carried_first [] = refl
 carried_first (m ∷ q) = sym (append-nil m.attached)
+
+-- What one message carries at most is what all do, where there is no other.
+pub carried_one : (q : List Message) → length q ≤ 1 → option_map_or (λ m. m.attached) (slice_get q 0) [] ≡ carried q
+carried_one q few = carried_first q ∙ ap carried (take_all 1 q few)

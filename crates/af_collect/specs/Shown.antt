@@ -44,6 +44,6 @@ abbrev pub slice_reply : ℕ → Option ℕ → Reply
 slice_reply pass None = reply.Working
 slice_reply pass (Some n) = reply.Done pass n
 
--- What the message at this place of the queue of s carries; nothing past the last.
-abbrev pub attached_at : World → ℕ → ℕ → List ℕ
-attached_at w s at = option_map_or (λ m. m.attached) (slice_get (queue_at w s) at) []
+-- What the first message of the queue of s carries (this project's profile).
+abbrev pub first_attached : World → ℕ → List ℕ
+first_attached w s = option_map_or (λ m. m.attached) (slice_get (queue_at w s) 0) []

@@ -1,16 +1,18 @@
 //! Plain lists of all that holds a file, for a recount that shares no walk with the engine.
-ghost use Rattle.std.specs.Prelude.{◌≡◌, ◌≤◌, ◌*◌, ◌+◌, Some, IfOk, length, option_map};
-ghost use Rattle.std.specs.FinMap as map;
+ghost use Rattle.std.specs.Prelude.{◌≡◌, ◌≤◌, ◌*◌, ◌+◌, Some, IfOk, length, map, option_map};
+ghost use Rattle.std.specs.List.{sum_by};
+ghost use Rattle.std.specs.FinMap as finmap;
 ghost use Rattle.af_base.specs.World as world;
 ghost use Rattle.af_base.specs.Places.{contents};
-ghost use Rattle.af_base.specs.Bare.{bare, bare_file, bare_socket};
-ghost use Rattle.af_base.specs.Listing.{processes_of, files_of, file_of, socket_of, AreTables, AreFiles};
+ghost use Rattle.af_base.specs.Bare.{bare, bare_file, bare_message, bare_socket};
+ghost use Rattle.af_base.specs.Listing.{processes_of, files_of, file_of, message_of, socket_of, AreTables, AreFiles};
 
 use crate::holdings::Holdings;
 use af_base::limits::{MAX_BACKLOG, MAX_MESSAGES, SCM_MAX_FD};
 use af_base::listing::{ListedFile, ListedMessage, ListedSocket, ListedTable, Listing};
 use af_base::names::{FileRef, Ino};
 use af_desc::Socket;
+use af_queue::Queue;
 use std::alloc::{AllocError, Global};
 
 impl Holdings {
@@ -56,11 +58,11 @@ impl Holdings {
     fn listed_file(&self, file: &FileRef) -> Result<ListedFile, AllocError>
         requires { world.IsLive self.now.world file.now }
         ensures ino { IfOk result (λ x. x.ino ≡ file.now) }
-        ensures shown { IfOk result (λ x. Some (file_of x) ≡ option_map bare_file (map.get self.now.world.files file.now)) }
+        ensures shown { IfOk result (λ x. Some (file_of x) ≡ option_map bare_file (finmap.get self.now.world.files file.now)) }
         ensures few { IfOk result (λ x. length (contents (file_of x)) ≤ MAX_MESSAGES * SCM_MAX_FD + MAX_BACKLOG) }
     {
-        let socket = match self.files.get(file).unwrap().socket() {
-            Some(socket) => Some(listed_socket(self.alloc, socket)?),
+        let socket = match self.files.socket(file) {
+            Some(socket) => Some(listed_socket(self.alloc, &socket)?),
             None => None,
         };
         Ok(ListedFile {
@@ -76,17 +78,27 @@ fn listed_socket(alloc: Global, socket: &Socket) -> Result<ListedSocket, AllocEr
     ensures shown { IfOk result (λ s. socket_of s ≡ bare_socket socket.now) }
     ensures few { IfOk result (λ s. length (contents (world.AsSocket (socket_of s))) ≤ MAX_MESSAGES * SCM_MAX_FD + MAX_BACKLOG) }
 {
-    let mut queue = Vec::new(alloc);
-    for message in socket.queue().messages() {
-        queue.push(ListedMessage {
+    Ok(ListedSocket {
+        queue: listed_messages(alloc, socket.queue())?,
+        backlog: numbers_waiting(alloc, socket)?,
+    })
+}
+
+/// What the messages of a queue carry, and whom each is charged to, in order.
+fn listed_messages(alloc: Global, queue: &Queue) -> Result<Vec<ListedMessage>, AllocError>
+    ensures shown { IfOk result (λ messages. map message_of messages.items ≡ map bare_message queue.now) }
+    ensures few { IfOk result (λ messages. sum_by (λ m. length m.attached.items) messages.items ≤ MAX_MESSAGES * SCM_MAX_FD) }
+{
+    let mut messages = Vec::with_capacity(alloc, queue.len())?;
+    let mut left = queue.again();
+    while let Some((message, rest)) = left.split_first() {
+        messages.push(ListedMessage {
             attached: numbers_of(alloc, message.attached())?,
             user: message.user(),
         })?;
+        left = rest;
     }
-    Ok(ListedSocket {
-        queue,
-        backlog: numbers_waiting(alloc, socket)?,
-    })
+    Ok(messages)
 }
 
 /// The numbers of the embryos that wait at a socket.

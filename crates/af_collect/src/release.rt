@@ -4,7 +4,7 @@ ghost use Rattle.std.specs.FinMap as map;
 ghost use Rattle.af_base.specs.World.{IsLive, World};
 ghost use Rattle.af_base.specs.Counts.{refs};
 ghost use Rattle.af_base.specs.Changes.{dequeued, with_queue, with_socket};
-ghost use Rattle.af_base.specs.Places.{backlog_at, held_by, queue_at};
+ghost use Rattle.af_base.specs.Places.{backlog_at, held_by, queue_at, queue_in};
 ghost use Rattle.af_base.specs.Pass.{emptied};
 ghost use Rattle.af_base.specs.Unheld.{without};
 ghost use Rattle.af_base.specs.Whole.{AreMutual, IsSound};
@@ -95,21 +95,15 @@ impl Holdings {
     }
 }
 
-/// A file goes, and its peer hangs up.
+/// A file, which has nothing to receive, goes, and its peer hangs up.
 fn remove(files: &mut Files, file: &FileRef)
+    requires silent { queue_in files.old.files file.now ≡ [] }
     ensures gone { (w : World) → w.files ≡ files.old.files → AreMutual w → record w { files = files.new.files } ≡ without (nat_eq file.now) w }
     ensures next { files.new.next ≡ files.old.next }
     ensures counts { files.new.counts ≡ map.remove files.old.counts file.now }
     ensures marks { files.new.marks ≡ forgotten file.now files.old.marks }
 {
-    let Some(desc) = files.remove(file) else {
-        return;
-    };
-    let Some(socket) = desc.socket() else {
-        return;
-    };
-    let Some(peer) = socket.peer() else {
-        return;
-    };
-    files.hang_up(&peer);
+    if let Some(peer) = files.remove(file) {
+        files.hang_up(&peer);
+    }
 }

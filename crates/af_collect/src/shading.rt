@@ -1,17 +1,20 @@
 //! What a file holds, or is about to lose, is marked. A mark stands beside the file that it is of, so
 //! what a file holds is looked up anew for each.
-ghost use Rattle.std.specs.Prelude.{◌≡◌, [], drop, length, option_copied, slice_get, take};
+ghost use Rattle.std.specs.Prelude.{◌≡◌, ◌≤◌, ◌*◌, [], drop, length, slice_get, take};
 ghost use Rattle.std.specs.Option.{option_map_or};
 ghost use Rattle.af_base.specs.Places.{backlog_at, carried, held_by, queue_at};
 ghost use Rattle.af_base.specs.Refusals.{socket_at};
 ghost use Rattle.af_pass.specs.Keeping.{first_held, shaded_all, shaded_in};
 ghost use Rattle.af_pass.specs.Since.{is_socket_at};
-ghost use Rattle.af_collect.specs.Shown.{attached_at};
+ghost use Rattle.af_collect.specs.Shown.{first_attached};
 
 use crate::holdings::Holdings;
+use af_base::limits::{MAX_MESSAGES, SCM_MAX_FD};
 use af_base::names::FileRef;
 use af_desc::{Files, Socket};
 use af_pass::{Progress, Stage};
+use af_queue::BATCH;
+use arrayvec::ArrayVec;
 
 /// Marks what was taken out of a queue, where marking goes on.
 pub fn shade_taken(progress: &Progress, files: &mut Files, taken: &[FileRef])
@@ -42,13 +45,43 @@ pub fn shade_held(places: &mut Holdings, file: &FileRef)
 }
 
 /// Marks what the messages of the file's queue carry.
-#[tactic(auto, using(crate::proofs::Holding::carried_next, af_pass::proofs::Shaded::shaded_append))]
+#[tactic(auto, using(crate::proofs::Holding::carried_one))]
 #[inline(always)]
 fn shade_queue(places: &mut Holdings, file: &FileRef)
     ensures { places.new ≡ record places.old { marks = shaded_all (carried (queue_at places.old.world file.now)) places.old.marks } }
 {
-    for at in 0..messages(places, file) {
-        shade_message(places, file, at);
+    // Most queues have one message at most.
+    if messages(places, file) <= 1 {
+        shade_message(places, file);
+    } else {
+        shade_carried(places, file);
+    }
+}
+
+/// The same, some at a time.
+#[inline(never)]
+fn shade_carried(places: &mut Holdings, file: &FileRef)
+    ensures { places.new ≡ record places.old { marks = shaded_all (carried (queue_at places.old.world file.now)) places.old.marks } }
+{
+    let mut from = 0;
+    loop {
+        let held = carried(places, file, from);
+        let held = held.as_slice();
+        shade_some(places, held);
+        if held.len() < BATCH {
+            return;
+        }
+        from += BATCH;
+    }
+}
+
+/// Marks these files.
+#[inline(always)]
+fn shade_some(places: &mut Holdings, held: &[FileRef])
+    ensures { places.new ≡ record places.old { marks = shaded_all held.now places.old.marks } }
+{
+    for file in held {
+        places.shade(file);
     }
 }
 
@@ -63,13 +96,13 @@ fn shade_backlog(places: &mut Holdings, file: &FileRef)
     }
 }
 
-/// Marks what the message at this place of the file's queue carries; nothing past the last.
+/// Marks what the first message of the file's queue carries.
 #[inline(always)]
-fn shade_message(places: &mut Holdings, file: &FileRef, at: usize)
-    ensures { places.new ≡ record places.old { marks = shaded_all (attached_at places.old.world file.now at) places.old.marks } }
+fn shade_message(places: &mut Holdings, file: &FileRef)
+    ensures { places.new ≡ record places.old { marks = shaded_all (first_attached places.old.world file.now) places.old.marks } }
 {
-    for index in 0..attached(places, file, at).len() {
-        let held = attached(places, file, at)[index].again();
+    for index in 0..attached(places, file).len() {
+        let held = attached(places, file)[index].again();
         places.shade(&held);
     }
 }
@@ -80,7 +113,7 @@ pub fn shade_first(places: &mut Holdings, file: &FileRef)
     ensures { places.new ≡ record places.old { marks = shaded_all (first_held places.old.world file.now) places.old.marks } }
 {
     if messages(places, file) > 0 {
-        shade_message(places, file, 0);
+        shade_message(places, file);
     } else {
         shade_embryo(places, file, 0);
     }
@@ -103,7 +136,7 @@ fn messages(places: &Holdings, file: &FileRef) -> usize
     ensures { result ≡ length (queue_at places.now.world file.now) }
 {
     match socket(places, file) {
-        Some(socket) => socket.queue().messages().len(),
+        Some(socket) => socket.queue().len(),
         None => 0,
     }
 }
@@ -122,15 +155,27 @@ fn embryos(places: &Holdings, file: &FileRef) -> usize
     }
 }
 
-/// What the message at this place of the file's queue carries; nothing past the last.
+/// What the messages of the file's queue carry, from this file on: 16 at most.
 #[inline(always)]
-fn attached<'a>(places: &'a Holdings, file: &FileRef, at: usize) -> &'a [FileRef]
-    ensures { result.now ≡ attached_at places.now.world file.now at }
+fn carried(places: &Holdings, file: &FileRef, from: usize) -> ArrayVec<FileRef, BATCH>
+    ensures files { result.items ≡ take BATCH (drop from (carried (queue_at places.now.world file.now))) }
+    ensures few { length (carried (queue_at places.now.world file.now)) ≤ MAX_MESSAGES * SCM_MAX_FD }
+{
+    match socket(places, file) {
+        Some(socket) => socket.queue().carried(from),
+        None => ArrayVec::new(),
+    }
+}
+
+/// What the first message of the file's queue carries.
+#[inline(always)]
+fn attached<'a>(places: &'a Holdings, file: &FileRef) -> &'a [FileRef]
+    ensures { result.now ≡ first_attached places.now.world file.now }
 {
     let Some(socket) = socket(places, file) else {
         return &[];
     };
-    match socket.queue().messages().get(at) {
+    match socket.queue().first() {
         Some(message) => message.attached(),
         None => &[],
     }
@@ -154,8 +199,8 @@ pub fn is_socket(places: &Holdings, file: &FileRef) -> bool
 
 /// The socket; a plain file and a stranger are none.
 #[inline(always)]
-fn socket<'a>(places: &'a Holdings, file: &FileRef) -> Option<&'a Socket>
-    ensures { option_copied result ≡ socket_at places.now.world file.now }
+fn socket<'a>(places: &'a Holdings, file: &FileRef) -> Option<Socket<'a>>
+    ensures { result ≡ socket_at places.now.world file.now }
 {
-    places.files().get(file)?.socket()
+    places.files().socket(file)
 }

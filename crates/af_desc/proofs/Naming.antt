@@ -1,6 +1,6 @@
 -- That the names are just those of the files, whatever comes, goes or changes.
 use Rattle.std.proofs.Common.{◌≡◌, ℕ, Bool, true, false, ◌⊎◌, inl, inr, List, [], refl, sym, ap, ◌∙◌, subst, cond, nat_eq}
-use Rattle.std.specs.Prelude.{◌↔◌, Option, Some, None, Result, Ok, Err, IfSome, OnOk, OnErr, is_some}
+use Rattle.std.specs.Prelude.{◌↔◌, Option, Some, None, IfSome, is_some}
 use Rattle.std.specs.Option.{option_and_then, option_map_or}
 use Rattle.std.specs.FinMap as map
 use Rattle.std.specs.FinMap.{get-empty, get-insert, get-remove, nat_cmp-IsAntisymmetric, same_map, slice_cmp-IsAntisymmetric}
@@ -29,14 +29,6 @@ name-at m f o e = ap (λ o. option_and_then (λ s. s.name) (option_and_then sock
 name-kept : (g : Socket → Socket) → ((s : Socket) → (g s).name ≡ s.name) → (x : File) → name_of (file_with g x) ≡ name_of x
 name-kept g same Plain = refl
 name-kept g same (AsSocket s) = same s
-
-pub name-changed : (g : Socket → Socket) → ((s : Socket) → (g s).name ≡ s.name) → (x y : File) → y ≡ file_with g x → name_of y ≡ name_of x
-name-changed g same x y e = ap name_of e ∙ name-kept g same x
-
--- A change that may be refused, with nothing changed then.
-pub name-either : {A B : Type 0} (r : Result A B) (g : Socket → Socket) → ((s : Socket) → (g s).name ≡ s.name) → (x y : File) → OnOk r (y ≡ file_with g x) → OnErr r (y ≡ x) → name_of y ≡ name_of x
-name-either (Ok a) g same x y ok err = ap name_of ok ∙ name-kept g same x
-name-either (Err b) g same x y ok err = ap name_of err
 
 -- No name and no file.
 pub named-none-yet : (names : Named) (m : Map File) → names ≡ map.empty → m ≡ map.empty → AreNamed names m
@@ -184,11 +176,12 @@ module _ (names : Named) (m : Map File) (h : AreNamed names m) (name : List ℕ)
     )
 
   -- The same of a socket that is bound.
-  pub named-bound : (k : ℕ) (x : File) → map.get names name ≡ None → map.get m k ≡ Some x → ¬ (socket_of x ≡ None) → IfSome (socket_in m k) (λ s. s.name ≡ None) → AreNamed (map.insert names name k) (change_socket_at (bound name) m k)
-  named-bound k Plain free at some nameless = absurd (some refl)
-  named-bound k (AsSocket s) free at some nameless =
-      subst (λ o. AreNamed (map.insert names name k) (option_map_or (λ x. map.insert m k (file_with (bound name) x)) o m)) (sym at)
-      (named-given k (AsSocket s) (AsSocket (bound name s)) free at (subst (λ o. IfSome (option_and_then socket_of o) (λ s. s.name ≡ None)) at nameless) refl)
+  pub named-bound : (k : ℕ) → map.get names name ≡ None → ¬ (socket_in m k ≡ None) → IfSome (socket_in m k) (λ s. s.name ≡ None) → AreNamed (map.insert names name k) (change_socket_at (bound name) m k)
+  named-bound k free some nameless = by (map.get m k) refl some nameless where
+    by : (o : Option File) → map.get m k ≡ o → ¬ (option_and_then socket_of o ≡ None) → IfSome (option_and_then socket_of o) (λ s. s.name ≡ None) → AreNamed (map.insert names name k) (option_map_or (λ x. map.insert m k (file_with (bound name) x)) o m)
+    by None at some nameless = absurd (some refl)
+    by (Some Plain) at some nameless = absurd (some refl)
+    by (Some (AsSocket s)) at some nameless = named-given k (AsSocket s) (AsSocket (bound name s)) free at nameless refl
 
   -- A name given and taken back.
   pub named-back : (k : ℕ) → map.get names name ≡ None → AreNamed (map.remove (map.insert names name k) name) m
@@ -198,16 +191,11 @@ module _ (names : Named) (m : Map File) (h : AreNamed names m) (name : List ℕ)
     each q (inr e) = sym (get-remove nat_list_cmp_total (map.insert names name k) name q ∙ ap (λ b. cond b None (map.get (map.insert names name k) q)) e ∙ given-other k q e)
 
 -- A socket changed, but for its name.
-pub named-lent : (names : Named) (m : Map File) (f : ℕ) (x y : File) (g : Socket → Socket) → map.get m f ≡ Some x → y ≡ file_with g x → ((s : Socket) → (g s).name ≡ s.name) → AreNamed names m → AreNamed names (map.insert m f y)
-named-lent names m f x y g at is same h = named-insert names m h f x y at (name-changed g same x y is)
-
--- The same of a change that may be refused, with nothing changed then.
-pub named-either : {A B : Type 0} (names : Named) (m : Map File) (f : ℕ) (x y : File) (r : Result A B) (g : Socket → Socket) → map.get m f ≡ Some x → OnOk r (y ≡ file_with g x) → OnErr r (y ≡ x) → ((s : Socket) → (g s).name ≡ s.name) → AreNamed names m
-    → AreNamed names (map.insert m f y)
-named-either names m f x y r g at ok err same h = named-insert names m h f x y at (name-either r g same x y ok err)
-
--- Files whose names stay.
-pub ruleset kept = (named-lent, named-either)
+pub named-changed : (names : Named) (m : Map File) (f : ℕ) (g : Socket → Socket) → ((s : Socket) → (g s).name ≡ s.name) → AreNamed names m → AreNamed names (change_socket_at g m f)
+named-changed names m f g same h = by (map.get m f) refl where
+  by : (o : Option File) → map.get m f ≡ o → AreNamed names (option_map_or (λ x. map.insert m f (file_with g x)) o m)
+  by None at = h
+  by (Some x) at = named-insert names m h f x (file_with g x) at (name-kept g same x)
 
 -- A change of a socket leaves a plain file and a stranger as they are.
 pub unchanged : (g : Socket → Socket) (m : Map File) (k : ℕ) → socket_in m k ≡ None → m ≡ change_socket_at g m k

@@ -1,13 +1,15 @@
 -- Files under numbers that are never used again.
 use Rattle.std.specs.Prelude.{◌≡◌, ◌↔◌, ◌<◌, ◌≤◌, ℕ, ◌+◌, Bool, List, Option, Some, drop, false, unwrap_or}
-use Rattle.std.specs.Option.{option_and_then}
+use Rattle.std.specs.Option.{option_and_then, option_map_or}
 use Rattle.af_base.specs.declared.events.SockType.{SockType}
 use Rattle.std.specs.FinMap as map
+use Rattle.af_base.specs.declared.events.State.{State}
 use Rattle.af_base.specs.declared.events.State.TheVariants as state
 use Rattle.af_base.specs.World.{Map, File, Socket, AsSocket}
 use Rattle.af_base.specs.Refusals.{is_full_of, no_socket, socket_of}
 use Rattle.af_base.specs.Steps.{connected_socket}
 use Rattle.af_base.specs.Take.{take_from}
+use Rattle.af_base.specs.Whole.{state_of}
 use Rattle.af_ledger.specs.Waiting.{AreWaiting}
 use Rattle.af_ledger.specs.declared.count.Count.{Count}
 use Rattle.af_listen.specs.Named.{Named}
@@ -47,6 +49,10 @@ popped s = record s { queue = drop 1 s.queue }
 -- The socket of this number among these files.
 abbrev pub socket_in : Map File → ℕ → Option Socket
 socket_in files f = option_and_then socket_of (map.get files f)
+
+-- Whom the file f of these can talk to: a plain file and a stranger nobody.
+abbrev pub state_in : Map File → ℕ → State
+state_in files f = option_map_or state_of (map.get files f) state.Idle
 
 -- What a receive of at most n bytes takes of a socket, if there is one (recvmsg(2)).
 abbrev pub received_of : Option Socket → ℕ → Received

@@ -1,5 +1,4 @@
 -- Files under numbers, and the representation that is seen so.
 pub mod Filed
-pub mod Kinds
 pub mod Lending
 pub mod Rowed

@@ -1,9 +1,14 @@
--- One row for each file, seen as three maps.
-use Rattle.std.specs.Prelude.{ℕ}
-use Rattle.af_base.specs.World.{File, Map}
+-- One row for each file, and the messages of all, seen as three maps.
+use Rattle.std.specs.Prelude.{◌≡◌, ℕ, List, Option, Some, option_map}
+use Rattle.std.specs.Option.{option_map_or}
+use Rattle.std.specs.FinMap as map
+use Rattle.slab.specs.Slab.{Slab}
+use Rattle.af_base.specs.World.{AsSocket, File, Map, Message, Plain, Socket}
 use Rattle.af_ledger.specs.declared.count.Count.{Count}
 use Rattle.af_mark.specs.declared.mark.Mark.{Mark}
 use Rattle.af_order.specs.Parts.{part}
+use Rattle.af_queue.specs.Chains.{messages_of, IsChain}
+use Rattle.af_queue.specs.declared.chain.Node.{Node}
 use Rattle.af_desc.specs.declared.row.Row.{Row}
 
 -- The files, how many places hold each, the mark of each, the last number that there was, and for how many more there is room (this project's own).
@@ -14,9 +19,21 @@ pub record Rowed : Type 0 where
   pub last : ℕ
   pub room : ℕ
 
+-- A plain file, or this socket (this project's own).
+abbrev pub file_of : Option Socket → File
+file_of o = option_map_or AsSocket o Plain
+
+-- A socket with these messages to receive (this project's own).
+abbrev pub refilled : List Message → Socket → Socket
+refilled q s = record s { queue = q }
+
+-- The file of a row, with the messages that stand in its chain (this project's own).
+abbrev pub file_in : Slab Node → Row → File
+file_in s r = file_of (option_map (refilled (messages_of s r.chain)) r.endpoint)
+
 -- The files of these rows (this project's own).
-abbrev pub files_of : Map Row → Map File
-files_of m = part (λ r. r.desc) m
+abbrev pub files_of : Slab Node → Map Row → Map File
+files_of s m = part (file_in s) m
 
 -- The counts of these rows (this project's own).
 abbrev pub counts_of : Map Row → Map Count
@@ -25,3 +42,7 @@ counts_of m = part (λ r. r.count) m
 -- The marks of these rows (this project's own).
 abbrev pub marks_of : Map Row → Map Mark
 marks_of m = part (λ r. r.mark) m
+
+-- The chain of each row is its file's (this project's own).
+pub record AreChained (s : Slab Node) (m : Map Row) : Type 0 where
+  pub each : (f : ℕ) (x : Row) → map.get m f ≡ Some x → IsChain s x.chain f

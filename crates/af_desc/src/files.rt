@@ -1,5 +1,5 @@
 //! The files, by their numbers.
-ghost use Rattle.std.specs.Prelude.{◌≡◌, ℕ, ◌+◌, ◌<◌, ◌∷◌, ◌≤◌, [], false, None, IsTrue, IfSome, IfNone, IfErr, IfOk, OnOk, OnErr, is_none, option_copied, length, drop, vec_capacity};
+ghost use Rattle.std.specs.Prelude.{◌≡◌, ℕ, ◌+◌, ◌<◌, ◌∷◌, ◌≤◌, [], false, None, IsTrue, IfSome, IfNone, IfErr, IfOk, OnOk, OnErr, is_none, length, drop, vec_capacity};
 ghost use Rattle.std.specs.FinMap as map;
 ghost use Rattle.af_base.specs.World as world;
 ghost use Rattle.af_base.specs.Places.{backlog_in, queue_in};
@@ -12,12 +12,13 @@ ghost use Rattle.af_ledger.specs.Counted.{uncounted};
 ghost use Rattle.af_ledger.specs.Waiting.{AreWaiting};
 ghost use Rattle.af_mark.specs.Grey.{unmarked};
 ghost use Rattle.af_mark.specs.Marked.{born, forgotten, is_grey};
-ghost use Rattle.af_desc.specs.Filed.{is_full, is_live, name_of, with_pair, hung_up, popped, received_from, received_of, socket_in};
+ghost use Rattle.af_desc.specs.Rowed.{file_of};
+ghost use Rattle.af_desc.specs.Filed.{is_full, is_live, name_of, with_pair, hung_up, popped, received_from, received_of, socket_in, state_in};
 
-use crate::desc::Desc;
+use crate::endpoint::Endpoint;
 use crate::rows::Rows;
 use crate::socket::Socket;
-use af_base::events::SockType;
+use af_base::events::{SockType, State};
 use af_base::items::Items;
 use af_base::limits::{MAX_FILES, MAX_INO, MAX_MESSAGES};
 use af_base::names::{FileRef, Ino};
@@ -113,12 +114,12 @@ impl Files {
         self.rows.find(ino)
     }
 
-    /// The file; nothing of a stranger.
+    /// The socket that the file is; a plain file and a stranger are none.
     #[inline(always)]
-    pub fn get(&self, file: &FileRef) -> Option<&Desc>
-        ensures { option_copied result ≡ map.get self.now.files file.now }
+    pub fn socket(&self, file: &FileRef) -> Option<Socket<'_>>
+        ensures { result ≡ socket_in self.now.files file.now }
     {
-        self.rows.desc(file)
+        self.rows.socket(file)
     }
 
     /// The socket of this abstract name, if there is one (unix(7)): one look-up, however many have one.
@@ -145,18 +146,18 @@ impl Files {
     /// A file more, under the next number. Room comes first, so that on an error nothing has changed.
     #[inline(always)]
     #[tactic(auto, using(crate::proofs::Begun::begun))]
-    fn make(&mut self, desc: Desc) -> Result<FileRef, AllocError>
+    fn make(&mut self, endpoint: Option<Endpoint>) -> Result<FileRef, AllocError>
         requires number { self.old.next < MAX_INO + 1 }
-        requires nameless { name_of desc ≡ None }
+        requires nameless { name_of (file_of endpoint) ≡ None }
         ensures ino { IfOk result (λ ino. ino ≡ self.old.next) }
-        ensures files { OnOk result (self.new.files ≡ map.insert self.old.files self.old.next desc) }
+        ensures files { OnOk result (self.new.files ≡ map.insert self.old.files self.old.next (file_of endpoint)) }
         ensures next { OnOk result (self.new.next ≡ self.old.next + 1) }
         ensures counts { OnOk result (self.new.counts ≡ map.insert self.old.counts self.old.next uncounted) }
         ensures marks { OnOk result (self.new.marks ≡ born self.old.next self.old.marks) }
         ensures err { OnErr result (self.new ≡ self.old) }
     {
         reserve(&mut self.rows, &mut self.waiting, &mut self.grey, 1)?;
-        let file = enter(&mut self.rows, &mut self.waiting, Ino(self.next), desc);
+        let file = enter(&mut self.rows, &mut self.waiting, Ino(self.next), endpoint);
         self.next += 1;
         Ok(file)
     }
@@ -172,7 +173,7 @@ impl Files {
         ensures marks { OnOk result (self.new.marks ≡ born self.old.next self.old.marks) }
         ensures err { OnErr result (self.new ≡ self.old) }
     {
-        self.make(Desc::plain())
+        self.make(None)
     }
 
     /// A socket more that was never connected, under the next number, where `is_full(1)` is false. On
@@ -186,7 +187,7 @@ impl Files {
         ensures marks { OnOk result (self.new.marks ≡ born self.old.next self.old.marks) }
         ensures err { OnErr result (self.new ≡ self.old) }
     {
-        self.make(Desc::idle(self.alloc, kind))
+        self.make(Some(Endpoint::idle(kind)))
     }
 
     /// Two sockets more, connected to each other (socketpair(2)), under the next two numbers, where
@@ -205,36 +206,39 @@ impl Files {
         reserve(&mut self.rows, &mut self.waiting, &mut self.grey, 2)?;
         let (lower, higher) = (Ino(self.next), Ino(self.next + 1));
         // Where the second will stand is told once it stands there.
-        let desc = Desc::connected(self.alloc, kind, &FileRef::new(higher, 0));
-        let first = enter(&mut self.rows, &mut self.waiting, lower, desc);
-        let desc = Desc::connected(self.alloc, kind, &first);
-        let second = enter(&mut self.rows, &mut self.waiting, higher, desc);
+        let endpoint = Endpoint::connected(kind, &FileRef::new(higher, 0));
+        let first = enter(&mut self.rows, &mut self.waiting, lower, Some(endpoint));
+        let endpoint = Endpoint::connected(kind, &first);
+        let second = enter(&mut self.rows, &mut self.waiting, higher, Some(endpoint));
         point(&mut self.rows, &first, &second);
         self.next += 2;
         Ok((first, second))
     }
 
-    /// The file goes, and is handed on; nothing of a stranger. Its number is never given again, and
-    /// its name is free. It takes no memory.
+    /// The file, which has nothing to receive, goes; of a stranger nothing. Its number is never given
+    /// again, and its name is free. Answers to whom it was connected. It takes no memory.
     #[inline(always)]
     #[tactic(auto, using(af_mark::proofs::Listed::gone))]
-    pub fn remove(&mut self, file: &FileRef) -> Option<Desc>
-        ensures value { result ≡ map.get self.old.files file.now }
+    pub fn remove(&mut self, file: &FileRef) -> Option<FileRef>
+        requires silent { queue_in self.old.files file.now ≡ [] }
+        ensures peer { IfSome result (λ p. state_in self.old.files file.now ≡ State.Connected p) }
+        ensures alone { IfNone result ((p : ℕ) → ¬ (state_in self.old.files file.now ≡ State.Connected p)) }
         ensures files { self.new.files ≡ map.remove self.old.files file.now }
         ensures next { self.new.next ≡ self.old.next }
         ensures counts { self.new.counts ≡ map.remove self.old.counts file.now }
         ensures marks { self.new.marks ≡ forgotten file.now self.old.marks }
     {
         self.scanned(file);
-        self.take_out(file)
+        self.take_out(file)?.peer()
     }
 
-    /// A file that is not grey goes, and is handed on.
+    /// A file that is not grey goes, and the socket that it was is handed on.
     #[inline(always)]
     #[tactic(auto, using(crate::proofs::Begun::begun))]
-    fn take_out(&mut self, file: &FileRef) -> Option<Desc>
+    fn take_out(&mut self, file: &FileRef) -> Option<Endpoint>
         requires white { is_grey self.old.marks file.now ≡ false }
-        ensures value { result ≡ map.get self.old.files file.now }
+        requires silent { queue_in self.old.files file.now ≡ [] }
+        ensures value { result ≡ socket_in self.old.files file.now }
         ensures files { self.new.files ≡ map.remove self.old.files file.now }
         ensures next { self.new.next ≡ self.old.next }
         ensures counts { self.new.counts ≡ map.remove self.old.counts file.now }
@@ -242,33 +246,33 @@ impl Files {
     {
         let gone = self.rows.remove(file);
         take_off(&mut self.waiting, file.ino());
-        let desc = gone?;
-        if let Some(name) = desc.name() {
+        let endpoint = gone?;
+        if let Some(name) = endpoint.name() {
             self.names.unbind(name);
         }
-        Some(desc)
+        Some(endpoint)
     }
 
     /// The peer of that socket is gone from now on. A plain file or a stranger stays as it is. It
     /// takes no memory.
     #[inline(always)]
-    #[tactic(auto, using(af_order::proofs::Values::lent, crate::proofs::Naming::kept))]
+    #[tactic(auto, using(crate::proofs::Lent::lent))]
     pub fn hang_up(&mut self, file: &FileRef)
         ensures files { self.new.files ≡ change_socket_at hung_up self.old.files file.now }
         ensures next { self.new.next ≡ self.old.next }
         ensures counts { self.new.counts ≡ self.old.counts }
         ensures marks { self.new.marks ≡ self.old.marks }
     {
-        let Some(desc) = self.rows.desc_mut(file) else {
+        let Some(endpoint) = self.rows.endpoint_mut(file) else {
             return;
         };
-        desc.hang_up();
+        endpoint.hang_up();
     }
 
     /// One message more, last in the queue of that socket, which is not full. A plain file or a
     /// stranger has no queue, and there the message is dropped. Where memory is refused nothing has
     /// changed, and the message comes back.
-    #[tactic(auto, using(af_order::proofs::Values::lent, crate::proofs::Naming::kept))]
+    #[tactic(auto, using(crate::proofs::Lent::lent))]
     pub fn push(&mut self, file: &FileRef, message: Msg) -> Result<(), Msg>
         requires few { length (queue_in self.old.files file.now) < MAX_MESSAGES }
         requires within { IsMessageWithin message }
@@ -279,17 +283,7 @@ impl Files {
         ensures back { IfErr result (λ refused. refused ≡ message) }
         ensures err { OnErr result (self.new ≡ self.old) }
     {
-        let Some(desc) = self.rows.desc_mut(file) else {
-            return Ok(());
-        };
-        desc.push(message)
-    }
-
-    /// The socket that the file is; a plain file and a stranger are none.
-    fn socket(&self, file: &FileRef) -> Option<&Socket>
-        ensures { option_copied result ≡ socket_in self.now.files file.now }
-    {
-        self.get(file)?.socket()
+        self.rows.push_message(file, message)
     }
 
     /// A copy of what a receive of at most so many bytes would take out of the queue of that socket
@@ -299,14 +293,14 @@ impl Files {
         ensures { IfOk result (λ t. t ≡ received_of (socket_in self.now.files file.now) max) }
     {
         match self.socket(file) {
-            Some(socket) => socket.peek(max),
+            Some(socket) => socket.queue().peek(self.alloc, socket.kind(), max),
             None => Ok(Taken::nothing(self.alloc)),
         }
     }
 
     /// What a receive of at most so many bytes takes out of the queue of that socket (recvmsg(2)):
     /// nothing, where it is a plain file or a stranger. On an error nothing has changed.
-    #[tactic(auto, using(af_order::proofs::Values::lent, crate::proofs::Naming::kept))]
+    #[tactic(auto, using(crate::proofs::Lent::lent))]
     pub fn take(&mut self, file: &FileRef, max: usize) -> Result<Taken, AllocError>
         requires { 0 < max }
         ensures taken { IfOk result (λ t. t ≡ received_of (socket_in self.old.files file.now) max) }
@@ -316,14 +310,11 @@ impl Files {
         ensures marks { self.new.marks ≡ self.old.marks }
         ensures err { OnErr result (self.new ≡ self.old) }
     {
-        let Some(desc) = self.rows.desc_mut(file) else {
-            return Ok(Taken::nothing(self.alloc));
-        };
-        desc.take(self.alloc, max)
+        self.rows.take(file, self.alloc, max)
     }
 
     /// The first message out of the queue of that socket, if there is one. It takes no memory.
-    #[tactic(auto, using(af_order::proofs::Values::lent, crate::proofs::Naming::kept))]
+    #[tactic(auto, using(crate::proofs::Lent::lent))]
     pub fn pop(&mut self, file: &FileRef) -> Option<Msg>
         ensures some { IfSome result (λ m. queue_in self.old.files file.now ≡ m ∷ drop 1 (queue_in self.old.files file.now)) }
         ensures none { IfNone result (queue_in self.old.files file.now ≡ []) }
@@ -332,8 +323,7 @@ impl Files {
         ensures counts { self.new.counts ≡ self.old.counts }
         ensures marks { self.new.marks ≡ self.old.marks }
     {
-        let desc = self.rows.desc_mut(file)?;
-        desc.pop()
+        self.rows.pop_message(file)
     }
 
     /// A socket more, connected to that client, which is connected to it in turn: an embryo, under
@@ -348,29 +338,29 @@ impl Files {
         ensures marks { OnOk result (self.new.marks ≡ born self.old.next self.old.marks) }
         ensures err { OnErr result (self.new ≡ self.old) }
     {
-        let embryo = self.make(Desc::connected(self.alloc, kind, client))?;
+        let embryo = self.make(Some(Endpoint::connected(kind, client)))?;
         self.connect(client, &embryo);
         Ok(embryo)
     }
 
     /// That socket is connected to this peer from now on. A plain file or a stranger stays as it is.
     /// It takes no memory.
-    #[tactic(auto, using(af_order::proofs::Values::lent, crate::proofs::Naming::kept))]
+    #[tactic(auto, using(crate::proofs::Lent::lent))]
     fn connect(&mut self, file: &FileRef, peer: &FileRef)
         ensures files { self.new.files ≡ change_socket_at (connected peer.now) self.old.files file.now }
         ensures next { self.new.next ≡ self.old.next }
         ensures counts { self.new.counts ≡ self.old.counts }
         ensures marks { self.new.marks ≡ self.old.marks }
     {
-        let Some(desc) = self.rows.desc_mut(file) else {
+        let Some(endpoint) = self.rows.endpoint_mut(file) else {
             return;
         };
-        desc.connect(peer);
+        endpoint.connect(peer);
     }
 
     /// That socket, which has no name, has this one from now on, which is nobody's (bind(2)). A plain
     /// file or a stranger stays as it is. On an error nothing has changed.
-    #[tactic(auto, using(af_order::proofs::Values::lent, crate::proofs::Naming::kept))]
+    #[tactic(auto, using(crate::proofs::Lent::lent))]
     pub fn bind(&mut self, file: &FileRef, name: &Items<u8>) -> Result<(), AllocError>
         requires nameless { IfSome (socket_in self.old.files file.now) (λ s. s.name ≡ None) }
         requires free { named self.old.files name.now ≡ None }
@@ -380,10 +370,7 @@ impl Files {
         ensures marks { self.new.marks ≡ self.old.marks }
         ensures err { OnErr result (self.new ≡ self.old) }
     {
-        let Some(desc) = self.get(file) else {
-            return Ok(());
-        };
-        if desc.socket().is_none() {
+        if self.socket(file).is_none() {
             return Ok(());
         }
         let own = Items::of(name.as_slice().to_vec(self.alloc)?);
@@ -398,7 +385,7 @@ impl Files {
 
     /// That socket, which has a name and no embryos, waits for connections from now on, so many at
     /// most (listen(2)). A plain file or a stranger stays as it is. On an error nothing has changed.
-    #[tactic(auto, using(af_order::proofs::Values::lent, crate::proofs::Naming::kept))]
+    #[tactic(auto, using(crate::proofs::Lent::lent))]
     pub fn listen(&mut self, file: &FileRef, most: u32) -> Result<(), AllocError>
         requires named { IfSome (socket_in self.old.files file.now) (λ s. is_none s.name ≡ false) }
         requires nobody { IfSome (socket_in self.old.files file.now) (λ s. s.backlog ≡ []) }
@@ -408,15 +395,15 @@ impl Files {
         ensures marks { self.new.marks ≡ self.old.marks }
         ensures err { OnErr result (self.new ≡ self.old) }
     {
-        let Some(desc) = self.rows.desc_mut(file) else {
+        let Some(endpoint) = self.rows.endpoint_mut(file) else {
             return Ok(());
         };
-        desc.listen(self.alloc, most)
+        endpoint.listen(self.alloc, most)
     }
 
     /// An embryo more waits at that listener, last, for which its backlog has room. A plain file or a
     /// stranger stays as it is. It takes no memory.
-    #[tactic(auto, using(af_order::proofs::Values::lent, crate::proofs::Naming::kept))]
+    #[tactic(auto, using(crate::proofs::Lent::lent))]
     pub fn enqueue(&mut self, file: &FileRef, embryo: FileRef)
         requires { IfSome (socket_in self.old.files file.now) (λ s. length s.backlog < room_of s.state) }
         ensures files { self.new.files ≡ change_socket_at (queued embryo) self.old.files file.now }
@@ -424,14 +411,14 @@ impl Files {
         ensures counts { self.new.counts ≡ self.old.counts }
         ensures marks { self.new.marks ≡ self.old.marks }
     {
-        let Some(desc) = self.rows.desc_mut(file) else {
+        let Some(endpoint) = self.rows.endpoint_mut(file) else {
             return;
         };
-        desc.enqueue(embryo);
+        endpoint.enqueue(embryo);
     }
 
     /// The first embryo of that listener waits no more, if one does. It takes no memory.
-    #[tactic(auto, using(af_order::proofs::Values::lent, crate::proofs::Naming::kept))]
+    #[tactic(auto, using(crate::proofs::Lent::lent))]
     pub fn dequeue(&mut self, file: &FileRef) -> Option<FileRef>
         ensures some { IfSome result (λ f. backlog_in self.old.files file.now ≡ f ∷ drop 1 (backlog_in self.old.files file.now)) }
         ensures none { IfNone result (backlog_in self.old.files file.now ≡ []) }
@@ -440,8 +427,8 @@ impl Files {
         ensures counts { self.new.counts ≡ self.old.counts }
         ensures marks { self.new.marks ≡ self.old.marks }
     {
-        let desc = self.rows.desc_mut(file)?;
-        desc.dequeue()
+        let endpoint = self.rows.endpoint_mut(file)?;
+        endpoint.dequeue()
     }
 }
 
@@ -485,13 +472,18 @@ fn widen(list: &mut Vec<FileRef>, files: usize) -> Result<(), AllocError>
 /// A file more, above all others that there were, which waits for its first place. There is room for
 /// it. It takes no memory.
 #[inline(always)]
-fn enter(rows: &mut Rows, waiting: &mut Vec<FileRef>, ino: Ino, desc: Desc) -> FileRef
+fn enter(
+    rows: &mut Rows,
+    waiting: &mut Vec<FileRef>,
+    ino: Ino,
+    endpoint: Option<Endpoint>,
+) -> FileRef
     requires room { 0 < rows.old.room }
     requires above { rows.old.last < ino }
     requires fits { map.len rows.old.counts < vec_capacity waiting.old }
     requires waiting { AreWaiting rows.old.counts waiting.old.items }
     ensures file { result ≡ ino }
-    ensures entered { rows.new ≡ record rows.old { files = map.insert rows.old.files ino desc; counts = map.insert rows.old.counts ino uncounted; marks = map.insert rows.old.marks ino unmarked; last = ino; room = rows.new.room } }
+    ensures entered { rows.new ≡ record rows.old { files = map.insert rows.old.files ino (file_of endpoint); counts = map.insert rows.old.counts ino uncounted; marks = map.insert rows.old.marks ino unmarked; last = ino; room = rows.new.room } }
     ensures new { map.contains_key rows.old.files ino ≡ false }
     ensures unmarked { map.contains_key rows.old.marks ino ≡ false }
     ensures room { rows.old.room ≤ rows.new.room + 1 }
@@ -500,14 +492,14 @@ fn enter(rows: &mut Rows, waiting: &mut Vec<FileRef>, ino: Ino, desc: Desc) -> F
     ensures waiting { AreWaiting rows.new.counts waiting.new.items }
     ensures capacity { vec_capacity waiting.new ≡ vec_capacity waiting.old }
 {
-    let file = rows.push(ino, desc);
+    let file = rows.push(ino, endpoint);
     waiting.push_reserved(file.again());
     file
 }
 
 /// That socket, which has no name, has this one from now on. A plain file or a stranger stays as it
 /// is. On an error nothing has changed.
-#[tactic(auto, using(af_order::proofs::Values::lent))]
+#[tactic(auto, using(crate::proofs::Lent::lent))]
 fn set_name(
     alloc: Global,
     rows: &mut Rows,
@@ -518,18 +510,18 @@ fn set_name(
     ensures ok { OnOk result (rows.new ≡ record rows.old { files = change_socket_at (bound name) rows.old.files file.now }) }
     ensures err { OnErr result (rows.new ≡ rows.old) }
 {
-    let Some(desc) = rows.desc_mut(file) else {
+    let Some(endpoint) = rows.endpoint_mut(file) else {
         return Ok(());
     };
-    desc.bind(alloc, name)
+    endpoint.bind(alloc, name)
 }
 
 /// A new socket is told where its peer stands.
-#[tactic(auto, using(af_order::proofs::Values::lent))]
+#[tactic(auto, using(crate::proofs::Lent::lent))]
 fn point(rows: &mut Rows, file: &FileRef, peer: &FileRef)
     ensures { rows.new ≡ rows.old }
 {
-    if let Some(desc) = rows.desc_mut(file) {
-        desc.point(peer);
+    if let Some(endpoint) = rows.endpoint_mut(file) {
+        endpoint.point(peer);
     }
 }

@@ -3,13 +3,12 @@
 #![tactic(auto)]
 
 mod counts;
-mod desc;
+mod endpoint;
 mod files;
 mod marks;
 mod row;
 mod rows;
 mod socket;
 
-pub use desc::Desc;
 pub use files::Files;
 pub use socket::Socket;

@@ -1,15 +1,18 @@
 //! What is kept of one file.
-ghost use Rattle.std.specs.Prelude.{◌≡◌};
+ghost use Rattle.std.specs.Prelude.{◌≡◌, Some, IsSome};
 
-use crate::desc::Desc;
+use crate::endpoint::Endpoint;
 use af_ledger::Count;
 use af_mark::Mark;
+use af_queue::Chain;
 
-/// What is kept of one file: what it is, how many places hold it, and its mark.
+/// What is kept of one file: what it is, what it has to receive, how many places hold it, and its mark.
 #[derive(Drop)]
 pub struct Row {
-    /// What it is.
-    pub desc: Desc,
+    /// The socket that it is, but for its queue; nothing is known of a plain file.
+    pub endpoint: Option<Endpoint>,
+    /// Where what it has to receive stands.
+    pub chain: Chain,
     /// How many places hold it.
     pub count: Count,
     /// What a pass of the collector knows of it.
@@ -18,14 +21,15 @@ pub struct Row {
 
 impl Row {
     ghost use Rattle.std.specs.Borrow.{sem};
-    ghost use Rattle.af_desc.specs.Lending.{lends_desc};
+    ghost use Rattle.af_desc.specs.Lending.{lends_endpoint};
 
-    /// What it is, to write to.
+    /// The socket that it is, to write to: it is one.
     #[inline(always)]
-    pub fn desc_mut(&mut self) -> &mut Desc
-        ensures* writes_back { sem 𝓛 (lends_desc self.entry result) }
-        ensures value { result.now ≡ self.old.desc }
+    pub fn endpoint_mut(&mut self) -> &mut Endpoint
+        requires { IsSome self.old.endpoint }
+        ensures* writes_back { sem 𝓛 (lends_endpoint self.entry result) }
+        ensures value { Some result.now ≡ self.old.endpoint }
     {
-        &mut self.desc
+        self.endpoint.as_mut().unwrap()
     }
 }

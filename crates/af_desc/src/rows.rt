@@ -1,45 +1,59 @@
 //! One row for each file.
-ghost use Rattle.std.specs.Prelude.{◌≡◌, ℕ, ◌+◌, ◌≤◌, ◌<◌, false, IsTrue, IsOk, IfSome, IfNone, OnOk, nat_eq, option_copied};
+ghost use Rattle.std.specs.Prelude.{◌≡◌, ℕ, ◌+◌, ◌≤◌, ◌<◌, ◌∷◌, [], false, IsTrue, IsOk, IfSome, IfNone, IfErr, IfOk, OnOk, OnErr, drop, length, nat_eq, option_copied, option_map};
 ghost use Rattle.std.specs.FinMap as map;
 ghost use Rattle.std.specs.Option.{option_copied_mut};
 ghost use Rattle.std.specs.Borrow.{sem};
+ghost use Rattle.af_base.specs.Changes.{change_socket_at, pushed};
+ghost use Rattle.af_base.specs.Places.{queue_in};
+ghost use Rattle.af_base.specs.Whole.{IsMessageWithin};
 ghost use Rattle.af_ledger.specs.Counted.{fewer, more, places_in, uncounted, IsCountable, IsCounted};
 ghost use Rattle.af_ledger.specs.Kept.{count_in_map};
 ghost use Rattle.af_mark.specs.Grey.{unmarked};
+ghost use Rattle.af_desc.specs.Filed.{popped, received_from, received_of, socket_in};
+ghost use Rattle.af_desc.specs.Rowed.{file_of, refilled};
 
-use crate::desc::Desc;
+use crate::endpoint::Endpoint;
 use crate::row::Row;
+use crate::socket::Socket;
+use af_base::limits::MAX_MESSAGES;
 use af_base::names::{FileRef, Ino};
 use af_ledger::{Count, Place};
 use af_mark::Mark;
 use af_order::Keyed;
+use af_queue::{Chain, Msg, Node, Queue, Taken, pool};
+use slab::Slab;
 use std::alloc::{AllocError, Global};
 use std::marker::Model;
 
-/// A row for each file: what it is, how many places hold it, and its mark. They come and go together,
-/// and stand in one table; a contract sees them as three maps.
+/// A row for each file: what it is, what it has to receive, how many places hold it, and its mark. They
+/// come and go together, and stand in one table, and all messages in another; a contract sees them as
+/// three maps.
 #[derive(Drop)]
 pub struct Rows {
     rows: Keyed<Row>,
+    /// The messages of all queues.
+    nodes: Slab<Node>,
 }
 
 impl Model for Rows {
     ghost use Rattle.std.specs.FinMap as map;
     ghost use Rattle.std.specs.Coded.{codes};
-    ghost use Rattle.af_desc.specs.Rowed.{Rowed, counts_of, files_of, marks_of};
+    ghost use Rattle.af_desc.specs.Rowed.{Rowed, counts_of, files_of, marks_of, AreChained};
 
     ghost Value = { Rowed };
 
     ghost coded = { Prim.hlevel (codes, map.code) };
 
-    ghost view = { λ a. record { files = files_of a.rows.values; counts = counts_of a.rows.values; marks = marks_of a.rows.values; last = a.rows.last; room = a.rows.room } };
+    ghost view = { λ a. record { files = files_of a.nodes a.rows.values; counts = counts_of a.rows.values; marks = marks_of a.rows.values; last = a.rows.last; room = a.rows.room } };
+
+    ghost invariant = { λ a. AreChained a.nodes a.rows.values };
 }
 
 impl Rows {
-    ghost use Rattle.af_desc.specs.Lending.{lends_desc_at};
+    ghost use Rattle.af_desc.specs.Lending.{lends_endpoint_at};
 
     /// No row. It takes no memory.
-    #[tactic(auto, using(af_order::proofs::Parts::parts))]
+    #[tactic(auto, using(crate::proofs::Rowed::chains, af_order::proofs::Parts::parts))]
     pub fn new(alloc: Global) -> Rows
         ensures files { result.files ≡ map.empty }
         ensures counts { result.counts ≡ map.empty }
@@ -48,12 +62,13 @@ impl Rows {
     {
         Rows {
             rows: Keyed::new(alloc),
+            nodes: Slab::new(alloc),
         }
     }
 
     /// How many rows there are.
     #[inline(always)]
-    #[tactic(auto, using(af_order::proofs::Parts::parts))]
+    #[tactic(auto, using(crate::proofs::Rowed::chains, af_order::proofs::Parts::parts))]
     pub fn len(&self) -> usize
         ensures files { result ≡ map.len self.now.files }
         ensures counts { result ≡ map.len self.now.counts }
@@ -65,6 +80,7 @@ impl Rows {
     /// Room for so many rows more: then `push` needs no memory for them, and no other call ever does.
     /// Nothing else changes, also on an error.
     #[inline(always)]
+    #[tactic(auto, using(crate::proofs::Rowed::chains))]
     pub fn reserve(&mut self, rows: usize) -> Result<(), AllocError>
         ensures same { self.new ≡ record self.old { room = self.new.room } }
         ensures ok { OnOk result (rows ≤ self.new.room) }
@@ -74,53 +90,61 @@ impl Rows {
         self.rows.reserve(rows)
     }
 
-    /// A file more, under a number above all others that there were, which no place holds yet, and
-    /// which is not marked. There is room for it.
+    /// A file more, under a number above all others that there were, which has nothing to receive, no
+    /// place holds yet, and no pass has marked. There is room for it.
     #[inline(always)]
-    #[tactic(auto, using(af_order::proofs::Parts::parts))]
-    pub fn push(&mut self, ino: Ino, desc: Desc) -> FileRef
+    #[tactic(auto, using(crate::proofs::Rowed::chains, af_order::proofs::Parts::parts))]
+    pub fn push(&mut self, ino: Ino, endpoint: Option<Endpoint>) -> FileRef
         requires room { 0 < self.old.room }
         requires above { self.old.last < ino }
         ensures file { result ≡ ino }
-        ensures pushed { self.new ≡ record self.old { files = map.insert self.old.files ino desc; counts = map.insert self.old.counts ino uncounted; marks = map.insert self.old.marks ino unmarked; last = ino; room = self.new.room } }
+        ensures pushed { self.new ≡ record self.old { files = map.insert self.old.files ino (file_of endpoint); counts = map.insert self.old.counts ino uncounted; marks = map.insert self.old.marks ino unmarked; last = ino; room = self.new.room } }
         ensures new { map.contains_key self.old.files ino ≡ false }
         ensures uncounted { map.contains_key self.old.counts ino ≡ false }
         ensures unmarked { map.contains_key self.old.marks ino ≡ false }
         ensures room { self.old.room ≤ self.new.room + 1 }
     {
+        if let Some(endpoint) = &endpoint {
+            endpoint.is_silent();
+        }
         let row = Row {
-            desc,
+            endpoint,
+            chain: Chain::empty(),
             count: Count::none(),
             mark: Mark::none(),
         };
         self.rows.push(ino, row)
     }
 
-    /// A file goes, and what it was is handed on; nothing of a stranger. It takes no memory.
+    /// A file that has nothing to receive goes, and the socket that it was is handed on; a plain file
+    /// and a stranger were none. It takes no memory.
     #[inline(always)]
-    #[tactic(auto, using(af_order::proofs::Parts::parts))]
-    pub fn remove(&mut self, file: &FileRef) -> Option<Desc>
-        ensures value { result ≡ map.get self.old.files file.now }
+    #[tactic(auto, using(crate::proofs::Rowed::chains, af_order::proofs::Parts::parts))]
+    pub fn remove(&mut self, file: &FileRef) -> Option<Endpoint>
+        requires silent { queue_in self.old.files file.now ≡ [] }
+        ensures value { result ≡ socket_in self.old.files file.now }
         ensures removed { self.new ≡ record self.old { files = map.remove self.old.files file.now; counts = map.remove self.old.counts file.now; marks = map.remove self.old.marks file.now; room = self.new.room } }
         ensures room { self.old.room ≤ self.new.room }
     {
         let row = self.rows.remove(file)?;
-        Some(row.desc)
+        let endpoint = row.endpoint?;
+        endpoint.is_silent();
+        Some(endpoint)
     }
 
-    /// What a file is; nothing of a stranger.
+    /// The socket that a file is; a plain file and a stranger are none.
     #[inline(always)]
-    #[tactic(auto, using(af_order::proofs::Parts::parts))]
-    pub fn desc(&self, file: &FileRef) -> Option<&Desc>
-        ensures { option_copied result ≡ map.get self.now.files file.now }
+    pub fn socket(&self, file: &FileRef) -> Option<Socket<'_>>
+        ensures { result ≡ socket_in self.now.files file.now }
     {
         let row = self.rows.get(file)?;
-        Some(&row.desc)
+        let endpoint = row.endpoint.as_ref()?;
+        Some(Socket::of(endpoint, Queue::of(&self.nodes, &row.chain)))
     }
 
     /// How many places hold a file; nothing of a stranger.
     #[inline(always)]
-    #[tactic(auto, using(af_order::proofs::Parts::parts))]
+    #[tactic(auto, using(crate::proofs::Rowed::chains, af_order::proofs::Parts::parts))]
     pub fn count(&self, file: &FileRef) -> Option<&Count>
         ensures { option_copied result ≡ map.get self.now.counts file.now }
     {
@@ -128,20 +152,86 @@ impl Rows {
         Some(&row.count)
     }
 
-    /// What a file is, to write to; nothing of a stranger.
+    /// The socket that a file is, to write to, but for what it has to receive; a plain file and a
+    /// stranger are none.
     #[inline(always)]
-    #[tactic(auto, using(af_order::proofs::Parts::parts))]
-    pub fn desc_mut(&mut self, file: &FileRef) -> Option<&mut Desc>
-        ensures* writes_back { sem 𝓛 (lends_desc_at self.entry file.now result) }
-        ensures value { option_copied_mut result ≡ map.get self.old.files file.now }
+    pub fn endpoint_mut(&mut self, file: &FileRef) -> Option<&mut Endpoint>
+        ensures* writes_back { sem 𝓛 (lends_endpoint_at self.entry file.now result) }
+        ensures value { option_copied_mut result ≡ option_map (refilled []) (socket_in self.old.files file.now) }
+    {
+        let Some(row) = self.rows.get_mut(file) else {
+            return None;
+        };
+        let Some(endpoint) = &row.endpoint else {
+            return None;
+        };
+        endpoint.is_silent();
+        Some(row.endpoint_mut())
+    }
+
+    /// One message more, last in the queue of that socket, which is not full. A plain file or a
+    /// stranger has no queue, and there the message is dropped. Where memory is refused nothing has
+    /// changed, and the message comes back.
+    #[inline(always)]
+    pub fn push_message(&mut self, file: &FileRef, message: Msg) -> Result<(), Msg>
+        requires few { length (queue_in self.old.files file.now) < MAX_MESSAGES }
+        requires within { IsMessageWithin message }
+        ensures ok { OnOk result (self.new ≡ record self.old { files = change_socket_at (pushed message) self.old.files file.now }) }
+        ensures back { IfErr result (λ refused. refused ≡ message) }
+        ensures err { OnErr result (self.new ≡ self.old) }
+    {
+        let Some(row) = self.rows.get_mut(file) else {
+            return Ok(());
+        };
+        let Some(_) = &row.endpoint else {
+            return Ok(());
+        };
+        pool::push(&mut self.nodes, &mut row.chain, file.ino(), message)
+    }
+
+    /// The first message out of the queue of that socket, if there is one. It takes no memory.
+    #[inline(always)]
+    pub fn pop_message(&mut self, file: &FileRef) -> Option<Msg>
+        ensures some { IfSome result (λ m. queue_in self.old.files file.now ≡ m ∷ drop 1 (queue_in self.old.files file.now)) }
+        ensures none { IfNone result (queue_in self.old.files file.now ≡ []) }
+        ensures rest { self.new ≡ record self.old { files = change_socket_at popped self.old.files file.now } }
     {
         let row = self.rows.get_mut(file)?;
-        Some(row.desc_mut())
+        let Some(_) = &row.endpoint else {
+            return None;
+        };
+        pool::pop(&mut self.nodes, &mut row.chain, file.ino())
+    }
+
+    /// What a receive of at most so many bytes takes out of the queue of that socket (recvmsg(2)):
+    /// nothing, where it is a plain file or a stranger. On an error nothing has changed.
+    #[inline(always)]
+    pub fn take(&mut self, file: &FileRef, alloc: Global, max: usize) -> Result<Taken, AllocError>
+        requires { 0 < max }
+        ensures taken { IfOk result (λ t. t ≡ received_of (socket_in self.old.files file.now) max) }
+        ensures rest { OnOk result (self.new ≡ record self.old { files = change_socket_at (received_from max) self.old.files file.now }) }
+        ensures err { OnErr result (self.new ≡ self.old) }
+    {
+        let Some(row) = self.rows.get_mut(file) else {
+            return Ok(Taken::nothing(alloc));
+        };
+        let Some(endpoint) = &row.endpoint else {
+            return Ok(Taken::nothing(alloc));
+        };
+        let kind = endpoint.kind();
+        pool::take(
+            &mut self.nodes,
+            &mut row.chain,
+            file.ino(),
+            alloc,
+            kind,
+            max,
+        )
     }
 
     /// One place more of a file, which is there. Whether it had none. It takes no memory.
     #[inline(always)]
-    #[tactic(auto, using(af_order::proofs::Parts::parts, af_order::proofs::Values::lent, af_ledger::proofs::Waiting::counted))]
+    #[tactic(auto, using(crate::proofs::Rowed::chains, af_order::proofs::Parts::parts, af_order::proofs::Values::lent, af_ledger::proofs::Waiting::counted))]
     pub fn add_place(&mut self, place: &Place, file: &FileRef) -> bool
         requires known { IsTrue (map.contains_key self.old.counts file.now) }
         requires countable { IsCountable place.now (count_in_map self.old.counts file.now) }
@@ -157,7 +247,7 @@ impl Rows {
 
     /// One place less of a file, which has one. Whether it was the last. It takes no memory.
     #[inline(always)]
-    #[tactic(auto, using(af_order::proofs::Parts::parts, af_order::proofs::Values::lent, af_ledger::proofs::Waiting::counted))]
+    #[tactic(auto, using(crate::proofs::Rowed::chains, af_order::proofs::Parts::parts, af_order::proofs::Values::lent, af_ledger::proofs::Waiting::counted))]
     pub fn sub_place(&mut self, place: &Place, file: &FileRef) -> bool
         requires { IsCounted place.now (count_in_map self.old.counts file.now) }
         ensures counts { self.new ≡ record self.old { counts = map.insert self.old.counts file.now (fewer place.now (count_in_map self.old.counts file.now)) } }
@@ -171,7 +261,7 @@ impl Rows {
 
     /// The mark of a file; nothing of a stranger.
     #[inline(always)]
-    #[tactic(auto, using(af_order::proofs::Parts::parts))]
+    #[tactic(auto, using(crate::proofs::Rowed::chains, af_order::proofs::Parts::parts))]
     pub fn mark(&self, file: &FileRef) -> Option<Mark>
         ensures { result ≡ map.get self.now.marks file.now }
     {
@@ -181,7 +271,7 @@ impl Rows {
 
     /// A file, which is there, gets this mark. It takes no memory.
     #[inline(always)]
-    #[tactic(auto, using(af_order::proofs::Parts::parts, af_order::proofs::Values::lent))]
+    #[tactic(auto, using(crate::proofs::Rowed::chains, af_order::proofs::Parts::parts, af_order::proofs::Values::lent))]
     pub fn set_mark(&mut self, file: &FileRef, mark: Mark)
         requires { IsTrue (map.contains_key self.old.marks file.now) }
         ensures set { self.new ≡ record self.old { marks = map.insert self.old.marks file.now mark } }
@@ -192,7 +282,7 @@ impl Rows {
     }
 
     /// Nothing at run time: it says that what is kept of a file comes and goes together.
-    #[tactic(auto, using(af_order::proofs::Parts::parts))]
+    #[tactic(auto, using(crate::proofs::Rowed::chains, af_order::proofs::Parts::parts))]
     pub fn are_one(&self)
         ensures { (f : ℕ) → map.contains_key self.now.marks f ≡ map.contains_key self.now.files f }
     {
@@ -202,7 +292,7 @@ impl Rows {
 
     /// Where the row of a number stands; nothing of a stranger. A search: who has a `FileRef` needs
     /// none.
-    #[tactic(auto, using(af_order::proofs::Parts::parts))]
+    #[tactic(auto, using(crate::proofs::Rowed::chains, af_order::proofs::Parts::parts))]
     pub fn find(&self, ino: Ino) -> Option<FileRef>
         ensures there { IfSome result (λ f. (f ≡ ino) × IsTrue (map.contains_key self.now.files ino)) }
         ensures none { IfNone result (map.contains_key self.now.files ino ≡ false) }
@@ -214,7 +304,7 @@ impl Rows {
     /// The least number above this one that has a row, if there is one, and where it stands in the
     /// order; this one need not have one. No search behind what was answered last.
     #[inline(always)]
-    #[tactic(auto, using(af_order::proofs::Parts::parts))]
+    #[tactic(auto, using(crate::proofs::Rowed::chains, af_order::proofs::Parts::parts))]
     pub fn next_after(&self, ino: Ino, at: usize) -> Option<(FileRef, usize)>
         ensures above { IfSome result (λ n. ino < n.0) }
         ensures there { IfSome result (λ n. IsTrue (map.contains_key self.now.files n.0)) }

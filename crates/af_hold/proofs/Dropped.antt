@@ -1,7 +1,6 @@
 -- A file goes: what the code does to the map of files is what the world without it is.
 use Rattle.std.proofs.Common.{◌≡◌, ℕ, Bool, refl, sym, ap, ◌∙◌, nat_eq}
-use Rattle.std.specs.Prelude.{Some, None}
-use Rattle.std.specs.Option.{option_map_or}
+use Rattle.std.specs.Prelude.{Some}
 use Rattle.std.specs.FinMap as map
 use Rattle.af_base.specs.declared.events.State.{State}
 use Rattle.af_base.specs.declared.events.State.TheVariants as state
@@ -10,7 +9,7 @@ use Rattle.af_base.specs.Places.{backlog_of}
 use Rattle.af_base.specs.Changes.{with_socket}
 use Rattle.af_base.specs.Refusals.{socket_of}
 use Rattle.af_base.specs.Unheld.{file_without, without}
-use Rattle.af_base.specs.Whole.{AreMutual, state_at, state_of}
+use Rattle.af_base.specs.Whole.{AreMutual, state_at}
 use Rattle.af_base.proofs.Lookups.{some_same}
 use Rattle.af_base.proofs.Dropping.{without_one, drop_with}
 
@@ -25,19 +24,6 @@ module _ (w : World) (f : ℕ) (peers : AreMutual w) where
     by (state.Listening b) e = ap (λ t. record w { files = drop_with t f w.files }) (sym e)
     by (state.Connected p) e = absurd (none p e)
     by state.HungUp e = ap (λ t. record w { files = drop_with t f w.files }) (sym e)
-
-  pub gone_none : map.get w.files f ≡ None → record w { files = map.remove w.files f } ≡ without (nat_eq f) w
-  gone_none e = gone_alone (λ p is. idle (sym (ap (λ o. option_map_or state_of o state.Idle) e) ∙ is)) where
-    idle : {p : ℕ} → state.Idle ≡ state.Connected p → ⊥
-    idle e = cc
-
-pub state_is : (w : World) (f : ℕ) (x : File) → map.get w.files f ≡ Some x → state_at w f ≡ state_of x
-state_is w f x e = ap (λ o. option_map_or state_of o state.Idle) e
-
--- what is no socket is connected to nobody
-pub plain_alone : (x : File) → socket_of x ≡ None → (p : ℕ) → state_of x ≡ state.Connected p → ⊥
-plain_alone Plain none p e = cc
-plain_alone (AsSocket s) none p e = cc
 
 -- what is this socket
 pub socket_is : (x : File) (s : Socket) → socket_of x ≡ Some s → x ≡ AsSocket s

@@ -1,18 +1,22 @@
 -- Messages in a slab, linked one behind another.
-use Rattle.std.proofs.Common.{◌≡◌, ◌≢◌, ℕ, zero, suc, ◌+◌, ◌-◌, ◌<◌, ◌≤◌, ◌||◌, Bool, true, false, List, [], ◌∷◌, ◌++◌, refl, sym, ap, ◌∙◌, subst, nat_eq, true≢false, suc-ne-zero, arith, rules}
-use Rattle.std.specs.Prelude.{Option, Some, None, IsSome, drop}
+use Rattle.std.proofs.Common.{◌≡◌, ◌≢◌, ℕ, zero, suc, ◌+◌, ◌-◌, ◌<◌, ◌||◌, Bool, true, false, List, [], ◌∷◌, ◌++◌, length, refl, sym, ap, ◌∙◌, subst, nat_eq, true≢false, suc-ne-zero, arith, rules}
+use Rattle.std.specs.Prelude.{Some, None, IsSome, drop}
 use Rattle.std.specs.List.{list_any, slice_get}
 use Rattle.std.specs.Option.{option_map_or}
 use Rattle.std.proofs.lemmas.Bool.{eqb-true, eq-eqb}
+use Rattle.std.proofs.lemmas.List.{length-drop}
 use Rattle.slab.specs.Slab as slots
-use Rattle.slab.specs.Slab.{Slab, Updates}
+use Rattle.slab.specs.Slab.{SameValues, Slab, Updates}
 use Rattle.slab.proofs.SlabLemmas.{Updates-with_value}
+use Rattle.af_base.specs.Take.{cut}
+use Rattle.af_base.specs.Whole.{IsMessageWithin}
 use Rattle.af_base.specs.World.{Message}
 use Rattle.af_base.proofs.Lookups.{none_some, some_same}
 use Rattle.af_queue.specs.declared.chain.Chain.{Chain}
 use Rattle.af_queue.specs.declared.chain.Node.{Node}
 use Rattle.af_queue.specs.Chains.{next_at, keys_from, messages_from, messages_of, IsChain, IsPath, SameElsewhere}
-use Rattle.af_queue.specs.Streams.{first_shortened}
+use Rattle.af_queue.specs.Queued.{AreWithin}
+use Rattle.af_queue.proofs.Spans.{cut-part}
 
 next_there : (s : Slab Node) (k : ℕ) (x : Node) → slots.get s k ≡ Some x → next_at s k ≡ x.next
 next_there s k x e = ap (λ o. option_map_or (λ y. y.next) o 0) e
@@ -47,7 +51,7 @@ module _ (s t : Slab Node) (f l : ℕ) where
       let x = p.0 in
       ap (λ ks. k ∷ ks)
       (ap (λ z. keys_from t z n) (next_there t k x (first_kept k n x p.1.0 keeps))
-      ∙ keys_kept x.next n p.1.4 (rest_kept k n x p.1.0 keeps)
+      ∙ keys_kept x.next n p.1.5 (rest_kept k n x p.1.0 keeps)
       ∙ ap (λ z. keys_from s z n) (sym (next_there s k x p.1.0)))
 
   -- A path whose nodes are kept is one there too.
@@ -56,8 +60,8 @@ module _ (s t : Slab Node) (f l : ℕ) where
   path_kept k (suc n) p keeps =
       let x = p.0 in
       let rest = rest_kept k n x p.1.0 keeps in
-      let apart = subst (λ ks. list_any (nat_eq k) ks ≡ false) (sym (keys_kept x.next n p.1.4 rest)) p.1.2 in
-      (x, (first_kept k n x p.1.0 keeps, p.1.1, apart, p.1.3, path_kept x.next n p.1.4 rest))
+      let apart = subst (λ ks. list_any (nat_eq k) ks ≡ false) (sym (keys_kept x.next n p.1.5 rest)) p.1.2 in
+      (x, (first_kept k n x p.1.0 keeps, p.1.1, apart, p.1.3, p.1.4, path_kept x.next n p.1.5 rest))
 
   -- And shows the same messages.
   pub messages_kept : (k n : ℕ) → IsPath s f l k n → KeepsKeys s t (keys_from s k n) → messages_from t k n ≡ messages_from s k n
@@ -65,7 +69,7 @@ module _ (s t : Slab Node) (f l : ℕ) where
   messages_kept k (suc n) p keeps =
       let x = p.0 in
       first_there t k n x (first_kept k n x p.1.0 keeps)
-      ∙ ap (λ ms. x.message ∷ ms) (messages_kept x.next n p.1.4 (rest_kept k n x p.1.0 keeps))
+      ∙ ap (λ ms. x.message ∷ ms) (messages_kept x.next n p.1.5 (rest_kept k n x p.1.0 keeps))
       ∙ sym (first_there s k n x p.1.0)
 
   -- Where the nodes of all files but one stay, so do those of another one's queue.
@@ -74,7 +78,7 @@ module _ (s t : Slab Node) (f l : ℕ) where
   keeps_others o same off k (suc n) p q h =
       let x = p.0 in
       by (nat_eq q k) refl h
-      (λ h. keeps_others o same off x.next n p.1.4 q (ap (λ z. list_any (nat_eq q) (keys_from s z n)) (sym (next_there s k x p.1.0)) ∙ h)) where
+      (λ h. keeps_others o same off x.next n p.1.5 q (ap (λ z. list_any (nat_eq q) (keys_from s z n)) (sym (next_there s k x p.1.0)) ∙ h)) where
         here : slots.get t k ≡ slots.get s k
         here = same k p.0 p.1.0 (λ e. off (sym p.1.1 ∙ e)) ∙ sym p.1.0
 
@@ -93,7 +97,7 @@ last_in : (s : Slab Node) (f l : ℕ) (k n : ℕ) → IsPath s f l k (suc n) →
 last_in s f l k zero p = ap (λ b. b || false) (eq-eqb l k (sym (p.1.3 refl)))
 last_in s f l k (suc n) p =
     let x = p.0 in
-    let rest = ap (λ z. list_any (nat_eq l) (keys_from s z (suc n))) (next_there s k x p.1.0) ∙ last_in s f l x.next n p.1.4 in
+    let rest = ap (λ z. list_any (nat_eq l) (keys_from s z (suc n))) (next_there s k x p.1.0) ∙ last_in s f l x.next n p.1.5 in
     by (nat_eq l k) rest where
       by : (b : Bool) → {c : Bool} → c ≡ true → b || c ≡ true
       by true h = refl
@@ -101,7 +105,7 @@ last_in s f l k (suc n) p =
 
 -- Behind the last node of a path stands one more now, and its key is noted there.
 module _ (s u : Slab Node) (f l key : ℕ) (node : Node)
-    (vacant : slots.get s key ≡ None) (put : slots.get u key ≡ Some node) (own : node.owner ≡ f)
+    (vacant : slots.get s key ≡ None) (put : slots.get u key ≡ Some node) (own : node.owner ≡ f) (within : IsMessageWithin node.message)
     (linked : (x : Node) → slots.get s l ≡ Some x → slots.get u l ≡ Some (record x { next = key }))
     (others : (q : ℕ) → q ≢ key → q ≢ l → slots.get u q ≡ slots.get s q) where
   -- A node that is there is not the new one.
@@ -125,8 +129,8 @@ module _ (s u : Slab Node) (f l key : ℕ) (node : Node)
   keys_more k (suc n) p =
       let x = p.0 in
       ap (λ ks. k ∷ ks)
-      (ap (λ z. keys_from u z (suc (suc n))) (next_there u k x (before k n x p.1.0 p.1.2 p.1.4))
-      ∙ keys_more x.next n p.1.4
+      (ap (λ z. keys_from u z (suc (suc n))) (next_there u k x (before k n x p.1.0 p.1.2 p.1.5))
+      ∙ keys_more x.next n p.1.5
       ∙ ap (λ z. keys_from s z (suc n) ++ key ∷ []) (sym (next_there s k x p.1.0)))
 
   list_any_more : (q : ℕ) (ks : List ℕ) → list_any (nat_eq q) ks ≡ false → nat_eq q key ≡ false → list_any (nat_eq q) (ks ++ key ∷ []) ≡ false
@@ -141,11 +145,11 @@ module _ (s u : Slab Node) (f l key : ℕ) (node : Node)
   path_more k zero p =
       let x = p.0 in
       let at = subst (λ q. slots.get u q ≡ Some (record x { next = key })) (sym (p.1.3 refl)) (linked x (ap (slots.get s) (sym (p.1.3 refl)) ∙ p.1.0)) in
-      (record x { next = key }, (at, p.1.1, ap (λ b. b || false) (apart_key k x p.1.0), (λ e. absurd (suc-ne-zero _ e)), (node, (put, own, refl, (λ e. refl), refl))))
+      (record x { next = key }, (at, p.1.1, ap (λ b. b || false) (apart_key k x p.1.0), (λ e. absurd (suc-ne-zero _ e)), p.1.4, (node, (put, own, refl, (λ e. refl), within, refl))))
   path_more k (suc n) p =
       let x = p.0 in
-      let apart = ap (list_any (nat_eq k)) (keys_more x.next n p.1.4) ∙ list_any_more k (keys_from s x.next (suc n)) p.1.2 (apart_key k x p.1.0) in
-      (x, (before k n x p.1.0 p.1.2 p.1.4, p.1.1, apart, (λ e. absurd (suc-ne-zero _ e)), path_more x.next n p.1.4))
+      let apart = ap (list_any (nat_eq k)) (keys_more x.next n p.1.5) ∙ list_any_more k (keys_from s x.next (suc n)) p.1.2 (apart_key k x p.1.0) in
+      (x, (before k n x p.1.0 p.1.2 p.1.5, p.1.1, apart, (λ e. absurd (suc-ne-zero _ e)), p.1.4, path_more x.next n p.1.5))
 
   -- Its message comes last.
   pub messages_more : (k n : ℕ) → IsPath s f l k (suc n) → messages_from u k (suc (suc n)) ≡ messages_from s k (suc n) ++ node.message ∷ []
@@ -157,22 +161,22 @@ module _ (s u : Slab Node) (f l key : ℕ) (node : Node)
       ∙ ap (λ ms. ms ++ node.message ∷ []) (sym (first_there s k zero x p.1.0))
   messages_more k (suc n) p =
       let x = p.0 in
-      first_there u k (suc (suc n)) x (before k n x p.1.0 p.1.2 p.1.4)
-      ∙ ap (λ ms. x.message ∷ ms) (messages_more x.next n p.1.4)
+      first_there u k (suc (suc n)) x (before k n x p.1.0 p.1.2 p.1.5)
+      ∙ ap (λ ms. x.message ∷ ms) (messages_more x.next n p.1.5)
       ∙ ap (λ ms. ms ++ node.message ∷ []) (sym (first_there s k (suc n) x p.1.0))
 
 -- The last node of a path is there.
 last_there : (s : Slab Node) (f l : ℕ) (k n : ℕ) → IsPath s f l k (suc n) → (x : Node) × (slots.get s l ≡ Some x)
 last_there s f l k zero p = (p.0, ap (slots.get s) (sym (p.1.3 refl)) ∙ p.1.0)
-last_there s f l k (suc n) p = last_there s f l p.0.next n p.1.4
+last_there s f l k (suc n) p = last_there s f l p.0.next n p.1.5
 
 -- It is f's.
 owner_last : (s : Slab Node) (f l : ℕ) (k n : ℕ) → IsPath s f l k (suc n) → (x : Node) → slots.get s l ≡ Some x → x.owner ≡ f
 owner_last s f l k zero p x at = ap (λ y. y.owner) (some_same x p.0 (sym at ∙ ap (slots.get s) (sym (p.1.3 refl)) ∙ p.1.0)) ∙ p.1.1
-owner_last s f l k (suc n) p x at = owner_last s f l p.0.next n p.1.4 x at
+owner_last s f l k (suc n) p x at = owner_last s f l p.0.next n p.1.5 x at
 
 -- A node comes into a slab, and then one that was there is linked to it.
-module _ (s t u : Slab Node) (f l key : ℕ) (node : Node) (vacant : slots.get s key ≡ None) (own : node.owner ≡ f) (update : Updates s t key (Some node))
+module _ (s t u : Slab Node) (f l key : ℕ) (node : Node) (vacant : slots.get s key ≡ None) (own : node.owner ≡ f) (within : IsMessageWithin node.message) (update : Updates s t key (Some node))
     (linked : (x : Node) → slots.get t l ≡ Some x → slots.get u l ≡ Some (record x { next = key }))
     (others : (q : ℕ) → q ≢ l → slots.get u q ≡ slots.get t q) where
   old : (q : ℕ) (x : Node) → slots.get s q ≡ Some x → slots.get t q ≡ Some x
@@ -186,7 +190,7 @@ module _ (s t u : Slab Node) (f l key : ℕ) (node : Node) (vacant : slots.get s
   pushed k zero ne p = absurd (ne refl)
   pushed k (suc n) ne p =
       subst (λ z. IsPath u f key k z × (messages_from u k z ≡ messages_from s k (suc n) ++ node.message ∷ [])) one_more
-      (path_more s u f l key node vacant put own link rest k n p, messages_more s u f l key node vacant put own link rest k n p) where
+      (path_more s u f l key node vacant put own within link rest k n p, messages_more s u f l key node vacant put own within link rest k n p) where
         one_more : suc (suc n) ≡ suc n + 1
         one_more = omega arith
 
@@ -212,10 +216,10 @@ module _ (s t : Slab Node) (f l k n : ℕ) (p : IsPath s f l k (suc n)) (update 
   rest_stays q h = update.others q (λ e. true≢false (sym h ∙ ap (λ z. list_any (nat_eq z) (keys_from s p.0.next n)) e ∙ p.1.2))
 
   pub popped : IsPath t f l p.0.next n
-  popped = path_kept s t f l p.0.next n p.1.4 rest_stays
+  popped = path_kept s t f l p.0.next n p.1.5 rest_stays
 
   pub messages_popped : messages_from s k (suc n) ≡ p.0.message ∷ messages_from t p.0.next n
-  messages_popped = first_there s k n p.0 p.1.0 ∙ ap (λ ms. p.0.message ∷ ms) (sym (messages_kept s t f l p.0.next n p.1.4 rest_stays))
+  messages_popped = first_there s k n p.0 p.1.0 ∙ ap (λ ms. p.0.message ∷ ms) (sym (messages_kept s t f l p.0.next n p.1.5 rest_stays))
 
   pub popped_elsewhere : SameElsewhere s t f
   popped_elsewhere q x at other = update.others q (λ e. other (ap (λ y. y.owner) (some_same x p.0 (sym at ∙ ap (slots.get s) e ∙ p.1.0)) ∙ p.1.1)) ∙ at
@@ -233,86 +237,73 @@ pub pops : (s t : Slab Node) (f l k n : ℕ) (node : Node) → n ≢ zero → sl
 pops s t f l k zero node ne at update p = absurd (ne refl)
 pops s t f l k (suc n) node ne at update p = popped_at s t f l k n p update node at
 
--- A walk along a queue, i nodes on, towards the message at a place.
-module _ (s : Slab Node) (k len at i : ℕ) where
-  -- Where no node is, nothing is left.
-  pub leads_nowhere : slots.get s k ≡ None → slice_get (messages_from s k (len - i)) (at - i) ≡ None
-  leads_nowhere none = by (len - i) where
-    by : (n : ℕ) → slice_get (messages_from s k n) (at - i) ≡ None
-    by zero = refl
-    by (suc n) = ap (λ o. slice_get (option_map_or (λ x. x.message ∷ messages_from s x.next n) o []) (at - i)) none
-
-  module _ (within : at < len) (x : Node) (there : slots.get s k ≡ Some x) where
-    -- The message is behind this one.
-    pub leads_on : i < at → slice_get (messages_from s k (len - i)) (at - i) ≡ slice_get (messages_from s x.next (len - (i + 1))) (at - (i + 1))
-    leads_on before =
-        ap (λ n. slice_get (messages_from s k n) (at - i)) left
-        ∙ ap (slice_get (messages_from s k (suc (len - (i + 1))))) further
-        ∙ ap (λ ms. slice_get ms (suc (at - (i + 1)))) (first_there s k (len - (i + 1)) x there) where
-          left : len - i ≡ suc (len - (i + 1))
-          left = omega (arith, within, before)
-
-          further : at - i ≡ suc (at - (i + 1))
-          further = omega (arith, before)
-
-    -- It is this one.
-    pub leads_here : at ≤ i → i ≤ at → slice_get (messages_from s k (len - i)) (at - i) ≡ Some x.message
-    leads_here le ge =
-        ap (λ n. slice_get (messages_from s k n) (at - i)) left
-        ∙ ap (slice_get (messages_from s k (suc (len - (i + 1))))) none
-        ∙ ap (λ ms. slice_get ms zero) (first_there s k (len - (i + 1)) x there) where
-          left : len - i ≡ suc (len - (i + 1))
-          left = omega (arith, within, ge)
-
-          none : at - i ≡ zero
-          none = omega (arith, le)
-
--- A queue has no more messages than nodes.
-pub none_beyond : (s : Slab Node) (k n at : ℕ) → n ≤ at → slice_get (messages_from s k n) at ≡ None
-none_beyond s k zero at le = refl
-none_beyond s k (suc n) zero le = absurd (omega (arith, le))
-none_beyond s k (suc n) (suc at) le = by (slots.get s k) (λ x. none_beyond s x.next n at less) where
-  less : n ≤ at
-  less = omega (arith, le)
-
-  by : (o : Option Node) → ((x : Node) → slice_get (messages_from s x.next n) at ≡ None) → slice_get (option_map_or (λ x. x.message ∷ messages_from s x.next n) o []) (suc at) ≡ None
-  by None rest = refl
-  by (Some x) rest = rest x
-
 -- The message of the first node of a path is another one.
-module _ (s t : Slab Node) (f l k n : ℕ) (p : IsPath s f l k (suc n)) (m : Message) (here : slots.get t k ≡ Some (record p.0 { message = m })) (others : (q : ℕ) → q ≢ k → slots.get t q ≡ slots.get s q) where
+module _ (s t : Slab Node) (f l k n : ℕ) (p : IsPath s f l k (suc n)) (m : Message) (within : IsMessageWithin m) (here : slots.get t k ≡ Some (record p.0 { message = m })) (others : (q : ℕ) → q ≢ k → slots.get t q ≡ slots.get s q) where
   rest_as_it_was : KeepsKeys s t (keys_from s p.0.next n)
   rest_as_it_was q h = others q (λ e. true≢false (sym h ∙ ap (λ z. list_any (nat_eq z) (keys_from s p.0.next n)) e ∙ p.1.2))
 
   pub changed : IsPath t f l k (suc n)
   changed =
-      let apart = subst (λ ks. list_any (nat_eq k) ks ≡ false) (sym (keys_kept s t f l p.0.next n p.1.4 rest_as_it_was)) p.1.2 in
-      (record p.0 { message = m }, (here, p.1.1, apart, p.1.3, path_kept s t f l p.0.next n p.1.4 rest_as_it_was))
+      let apart = subst (λ ks. list_any (nat_eq k) ks ≡ false) (sym (keys_kept s t f l p.0.next n p.1.5 rest_as_it_was)) p.1.2 in
+      (record p.0 { message = m }, (here, p.1.1, apart, p.1.3, within, path_kept s t f l p.0.next n p.1.5 rest_as_it_was))
 
   pub messages_changed : messages_from t k (suc n) ≡ m ∷ messages_from s p.0.next n
-  messages_changed = first_there t k n (record p.0 { message = m }) here ∙ ap (λ ms. m ∷ ms) (messages_kept s t f l p.0.next n p.1.4 rest_as_it_was)
+  messages_changed = first_there t k n (record p.0 { message = m }) here ∙ ap (λ ms. m ∷ ms) (messages_kept s t f l p.0.next n p.1.5 rest_as_it_was)
 
   pub changed_elsewhere : SameElsewhere s t f
   changed_elsewhere q x at other = others q (λ e. other (ap (λ y. y.owner) (some_same x p.0 (sym at ∙ ap (slots.get s) e ∙ p.1.0)) ∙ p.1.1)) ∙ at
 
 -- Its first bytes go, and its files.
-pub shortened : (s : Slab Node) (f l k n : ℕ) (node : Node) (m : Message) (count : ℕ) → 0 < n → slots.get s k ≡ Some node → m ≡ record node.message { bytes = drop count node.message.bytes; attached = [] } → IsPath s f l k n → IsPath (slots.with_value s k (record node { message = m })) f l k n × (messages_from (slots.with_value s k (record node { message = m })) k n ≡ first_shortened count (messages_from s k n))
-shortened s f l k zero node m count some at is p = absurd (omega (arith, some))
-shortened s f l k (suc n) node m count some at is p =
-    let same : p.0 ≡ node = some_same p.0 node (sym p.1.0 ∙ at) in
-    let t = slots.with_value s k (record node { message = m }) in
-    let update = Updates-with_value s k (record node { message = m }) (subst IsSome (sym at) (search rules)) in
-    let other : Some (record node { message = m }) ≡ Some (record p.0 { message = m }) = ap (λ (y : Node). Some (record y { message = m })) (sym same) in
-    let here : slots.get t k ≡ Some (record p.0 { message = m }) = update.changed ∙ other in
-    let less : m ≡ record p.0.message { bytes = drop count p.0.message.bytes; attached = [] } = is ∙ ap (λ (y : Node). record y.message { bytes = drop count y.message.bytes; attached = [] }) (sym same) in (
-      changed s t f l k n p m here update.others,
-      messages_changed s t f l k n p m here update.others
-          ∙ ap (λ z. z ∷ messages_from s p.0.next n) less
-          ∙ ap (first_shortened count) (sym (first_there s k n p.0 p.1.0)),
-    )
+module _ (s : Slab Node) (f l k n : ℕ) (node : Node) (m : Message) (count : ℕ) (some : 0 < count) (at : slots.get s k ≡ Some node) (is : m ≡ record node.message { bytes = drop count node.message.bytes; attached = [] }) where
+  pub shortened : IsPath s f l k n → count < option_map_or (λ m. length m.bytes) (slice_get (messages_from s k n) 0) 0
+      → IsPath (slots.with_value s k (record node { message = m })) f l k n × (messages_from (slots.with_value s k (record node { message = m })) k n ≡ cut count (messages_from s k n)) × SameElsewhere s (slots.with_value s k (record node { message = m })) f
+  shortened p long = by n p long where
+    by : (n : ℕ) → IsPath s f l k n → count < option_map_or (λ m. length m.bytes) (slice_get (messages_from s k n) 0) 0
+        → IsPath (slots.with_value s k (record node { message = m })) f l k n × (messages_from (slots.with_value s k (record node { message = m })) k n ≡ cut count (messages_from s k n)) × SameElsewhere s (slots.with_value s k (record node { message = m })) f
+    by zero p long = absurd (omega (arith, long))
+    by (suc n) p long =
+        let same : p.0 ≡ node = some_same p.0 node (sym p.1.0 ∙ at) in
+        let t = slots.with_value s k (record node { message = m }) in
+        let update = Updates-with_value s k (record node { message = m }) (subst IsSome (sym at) (search rules)) in
+        let other : Some (record node { message = m }) ≡ Some (record p.0 { message = m }) = ap (λ (y : Node). Some (record y { message = m })) (sym same) in
+        let here : slots.get t k ≡ Some (record p.0 { message = m }) = update.changed ∙ other in
+        let less : m ≡ record p.0.message { bytes = drop count p.0.message.bytes; attached = [] } = is ∙ ap (λ (y : Node). record y.message { bytes = drop count y.message.bytes; attached = [] }) (sym same) in
+        let bytes : length m.bytes ≡ length p.0.message.bytes - count = ap (λ (y : Message). length y.bytes) less ∙ length-drop count p.0.message.bytes in
+        let files : length m.attached ≡ 0 = ap (λ (y : Message). length y.attached) less in
+        let part : count < length p.0.message.bytes = subst (λ q. count < option_map_or (λ m. length m.bytes) (slice_get q 0) 0) (first_there s k n p.0 p.1.0) long in
+        let most = p.1.4.bytes in
+        let within : IsMessageWithin m = record { some = omega (arith, bytes, part); bytes = omega (arith, bytes, most); attached = omega (arith, files) } in (
+          changed s t f l k n p m within here update.others,
+          messages_changed s t f l k n p m within here update.others
+              ∙ ap (λ z. z ∷ messages_from s p.0.next n) less
+              ∙ sym (cut-part p.0.message (messages_from s p.0.next n) count some part)
+              ∙ ap (cut count) (sym (first_there s k n p.0 p.1.0)),
+          changed_elsewhere s t f l k n p m within here update.others,
+        )
+
+-- A queue has as many messages as nodes, each within the limits.
+pub path_many : (s : Slab Node) (f l k n : ℕ) → IsPath s f l k n → length (messages_from s k n) ≡ n
+path_many s f l k zero p = refl
+path_many s f l k (suc n) p = ap length (first_there s k n p.0 p.1.0) ∙ ap suc (path_many s f l p.0.next n p.1.5)
+
+pub path_within : (s : Slab Node) (f l k n : ℕ) → IsPath s f l k n → AreWithin (messages_from s k n)
+path_within s f l k zero p = tt
+path_within s f l k (suc n) p = subst AreWithin (sym (first_there s k n p.0 p.1.0)) (p.1.4, path_within s f l p.0.next n p.1.5)
 
 -- Where the nodes of all files but one stay, so does another one's queue.
 pub other_queue : (s t : Slab Node) (f o : ℕ) (c : Chain) → SameElsewhere s t o → f ≢ o → IsChain s c f → IsChain t c f × (messages_of t c ≡ messages_of s c)
-other_queue s t f o c same off p =
+other_queue s t f o c same off h =
+    let p = h.1 in
     let keeps = keeps_others s t f c.last o same off c.first c.len p in
-    (path_kept s t f c.last c.first c.len p keeps, messages_kept s t f c.last c.first c.len p keeps)
+    ((h.0, path_kept s t f c.last c.first c.len p keeps), messages_kept s t f c.last c.first c.len p keeps)
+
+-- Where all nodes stay, so does a queue.
+pub same_queue : (s t : Slab Node) (f : ℕ) (c : Chain) → SameValues s t → IsChain s c f → IsChain t c f × (messages_of t c ≡ messages_of s c)
+same_queue s t f c same h = ((h.0, path_kept s t f c.last c.first c.len h.1 (λ q e. same q)), messages_kept s t f c.last c.first c.len h.1 (λ q e. same q))
+
+-- No message, in a queue of nothing.
+pub none_of : (s : Slab Node) (c : Chain) → c.len ≡ 0 → messages_of s c ≡ []
+none_of s c e = ap (messages_from s c.first) e
+
+pub none_chain : (s : Slab Node) (c : Chain) (f : ℕ) → c.len ≡ 0 → IsChain s c f
+none_chain s c f e = (omega (arith, e), subst (IsPath s f c.last c.first) (sym e) refl)

@@ -2,3 +2,4 @@ pub mod Spans
 pub mod Charges
 pub mod Copied
 pub mod Chains
+pub mod Carried

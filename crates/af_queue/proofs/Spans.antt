@@ -1,17 +1,17 @@
 -- A stream's receive, message by message, is what is said of it as a whole.
-use Rattle.std.proofs.Common.{◌≡◌, ◌<◌, ◌≤◌, ℕ, suc, ◌+◌, ◌-◌, ◌||◌, Bool, true, false, inl, inr, List, [], ◌∷◌, ◌++◌, length, take, drop, min, refl, sym, ap, ◌∙◌, cond, nat_eq, arith}
+use Rattle.std.proofs.Common.{◌≡◌, ◌<◌, ◌≤◌, ℕ, ◌+◌, ◌-◌, ◌||◌, Bool, true, false, inl, inr, List, [], ◌∷◌, ◌++◌, length, take, drop, min, refl, sym, ap, ◌∙◌, cond, arith}
 use Rattle.std.specs.Prelude.{Option, Some, None, IfSome, nat_le, nat_lt}
 use Rattle.std.specs.Option.{option_map_or}
 use Rattle.std.specs.List.{AllByRecursion, find, slice_get}
-use Rattle.std.proofs.lemmas.Bool.{cases_Bool, cases_lt, eq-eqb, eqb-true, le-leb, le-ltb, leb-false, leb-true, lt-leb, lt-ltb, ltb-false, ltb-true}
-use Rattle.std.proofs.lemmas.List.{length-append, length-drop, length-take, take-append-le}
+use Rattle.std.proofs.lemmas.Bool.{cases_Bool, le-leb, le-ltb, leb-false, leb-true, lt-leb, lt-ltb, ltb-false, ltb-true}
+use Rattle.std.proofs.lemmas.List.{length-append, length-take, take-append-le}
 use Rattle.af_base.specs.declared.events.SockType.TheVariants.{Seqpacket, Stream}
 use Rattle.af_base.specs.World.{Message}
 use Rattle.af_base.specs.Take.{cut, has_files, joined, take_seqpacket, take_stream}
 use Rattle.af_base.specs.Whole.{IsMessageWithin}
 use Rattle.af_base.proofs.Takes.{HaveBytes, before, before-here, before-later, cut_none, find-here, find-later, no_files, up_to}
 use Rattle.af_queue.specs.Received.{message_at, received, sender_at}
-use Rattle.af_queue.specs.Streams.{files_in, first_kept, first_shortened, span}
+use Rattle.af_queue.specs.Streams.{files_in, span}
 
 -- Where the first message with files ends, or all bytes do.
 abbrev end_of : List Message → Option Message → ℕ
@@ -227,34 +227,3 @@ packet-files (m ∷ q) n = refl
 pub first-at : (q : List Message) (k : ℕ) → IfSome (slice_get q 0) (λ m. k ≤ length m.bytes) → slice_get q 0 ≡ message_at k q
 first-at [] k low = refl
 first-at (m ∷ q) k low = sym (at-front m q k low)
-
--- To shorten it, and to drop it where nothing is left of it, is to cut.
-pub first-cut : (q : List Message) (k : ℕ) → 0 < k → HaveBytes q → IfSome (slice_get q 0) (λ m. k ≤ length m.bytes) → first_kept (first_shortened k q) ≡ cut k q
-first-cut [] k some have low = refl
-first-cut (m ∷ q) k some have low = elim (cases_lt k (length m.bytes)) [
-  | inl part ↦
-      ap (λ b. cond b q (record m { bytes = drop k m.bytes; attached = [] } ∷ q)) (lt-eqb' (omega (arith, length-drop k m.bytes, part))) ∙ sym (cut-part m q k some part)
-  | inr whole ↦
-      ap (λ b. cond b q (record m { bytes = drop k m.bytes; attached = [] } ∷ q)) (eq-eqb (length (drop k m.bytes)) 0 (omega (arith, length-drop k m.bytes, whole))) ∙ sym (cut-whole m q k have.1 (omega (arith, low, whole)))
-] where
-  lt-eqb' : 0 < length (drop k m.bytes) → nat_eq (length (drop k m.bytes)) 0 ≡ false
-  lt-eqb' pos = by (nat_eq (length (drop k m.bytes)) 0) refl where
-    by : (b : Bool) → nat_eq (length (drop k m.bytes)) 0 ≡ b → nat_eq (length (drop k m.bytes)) 0 ≡ false
-    by false e = e
-    by true e = absurd (let is = eqb-true _ _ e in omega (arith, is, pos))
-
-pub within-cut : (c : ℕ) (q : List Message) → AllByRecursion IsMessageWithin q → AllByRecursion IsMessageWithin (cut c q)
-within-cut c [] h = tt
-within-cut c (m ∷ q) h = by (within-cut (c - length m.bytes) q h.1) (nat_le (length m.bytes) c) refl (nat_lt 0 c) where
-  by : AllByRecursion IsMessageWithin (cut (c - length m.bytes) q) → (a : Bool) → nat_le (length m.bytes) c ≡ a → (b : Bool) → AllByRecursion IsMessageWithin (cond a (cut (c - length m.bytes) q) (cond b (record m { bytes = drop c m.bytes; attached = [] } ∷ q) (m ∷ q)))
-  by rest true e b = rest
-  by rest false e false = h
-  by rest false e true = (record { some = (let part = leb-false _ _ e in omega (arith, part, length-drop c m.bytes)); bytes = (let most = h.0.bytes in omega (arith, most, length-drop c m.bytes)); attached = omega arith }, h.1)
-
-pub shorter-cut : (c : ℕ) (q : List Message) → length (cut c q) ≤ length q
-shorter-cut c [] = omega arith
-shorter-cut c (m ∷ q) = by (shorter-cut (c - length m.bytes) q) (nat_le (length m.bytes) c) (nat_lt 0 c) where
-  by : length (cut (c - length m.bytes) q) ≤ length q → (a b : Bool) → length (cond a (cut (c - length m.bytes) q) (cond b (record m { bytes = drop c m.bytes; attached = [] } ∷ q) (m ∷ q))) ≤ suc (length q)
-  by rest true b = omega (arith, rest)
-  by rest false true = omega arith
-  by rest false false = omega arith

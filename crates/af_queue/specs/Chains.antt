@@ -1,10 +1,12 @@
 -- Messages of many queues in one slab, each linked to the one behind it.
-use Rattle.std.specs.Prelude.{◌≡◌, ◌≢◌, ℕ, zero, suc, List, [], ◌∷◌, Some, nat_eq, false}
+use Rattle.std.specs.Prelude.{◌≡◌, ◌≢◌, ◌<◌, ◌≤◌, ◌^◌, ℕ, zero, suc, List, [], ◌∷◌, Some, nat_eq, false}
 use Rattle.std.specs.List.{list_any}
 use Rattle.std.specs.Option.{option_map_or}
 use Rattle.slab.specs.Slab as slots
-use Rattle.slab.specs.Slab.{Slab}
+use Rattle.slab.specs.Slab.{HasRoomFor, Slab}
 use Rattle.af_base.specs.World.{Message}
+use Rattle.af_base.specs.Whole.{IsMessageWithin}
+use Rattle.af_base.specs.declared.limits.TheConstants.{MAX_MESSAGES}
 use Rattle.af_queue.specs.declared.chain.Chain.{Chain}
 use Rattle.af_queue.specs.declared.chain.Node.{Node}
 
@@ -26,16 +28,20 @@ messages_from s k (suc n) = option_map_or (λ x. x.message ∷ messages_from s x
 abbrev pub messages_of : Slab Node → Chain → List Message
 messages_of s c = messages_from s c.first c.len
 
--- So many nodes from this one on are there, and are f's, and no two are one; the last stands at l (this project's own).
+-- So many nodes from this one on are there, and are f's, and no two are one, and each message is within the limits; the last stands at l (this project's own).
 abbrev pub IsPath : Slab Node → ℕ → ℕ → ℕ → ℕ → Type 0
 IsPath s f l k zero = k ≡ k
 IsPath s f l k (suc n) =
-    (x : Node) × ((slots.get s k ≡ Some x) × (x.owner ≡ f) × (list_any (nat_eq k) (keys_from s x.next n) ≡ false) × (n ≡ zero → k ≡ l) × IsPath s f l x.next n)
+    (x : Node) × ((slots.get s k ≡ Some x) × (x.owner ≡ f) × (list_any (nat_eq k) (keys_from s x.next n) ≡ false) × (n ≡ zero → k ≡ l) × IsMessageWithin x.message × IsPath s f l x.next n)
 
--- The nodes of a queue are linked, and are that file's (this project's own).
+-- The nodes of a queue, 64 at most, are linked, and are that file's (this project's own).
 abbrev pub IsChain : Slab Node → Chain → ℕ → Type 0
-IsChain s c f = IsPath s f c.last c.first c.len
+IsChain s c f = (c.len ≤ MAX_MESSAGES) × IsPath s f c.last c.first c.len
 
 -- The nodes of all other files are as they were (this project's own).
 abbrev pub SameElsewhere : Slab Node → Slab Node → ℕ → Type 0
 SameElsewhere s t f = (q : ℕ) (x : Node) → slots.get s q ≡ Some x → x.owner ≢ f → slots.get t q ≡ Some x
+
+-- There is room for one node more, and a key of 32 bits (this project's own).
+abbrev pub HasRoom : Slab Node → Type 0
+HasRoom s = HasRoomFor s 1 × (s.vacant_key < 2 ^ 32)

@@ -1,5 +1,5 @@
 -- A stream's receive, message by message.
-use Rattle.std.specs.Prelude.{ℕ, ◌+◌, ◌-◌, ◌||◌, List, [], ◌∷◌, drop, length, min, nat_eq, nat_le, if◌then◌else◌}
+use Rattle.std.specs.Prelude.{ℕ, ◌+◌, ◌-◌, ◌||◌, List, [], ◌∷◌, length, min, nat_le, if◌then◌else◌}
 use Rattle.af_base.specs.World.{Message}
 use Rattle.af_base.specs.Take.{has_files}
 
@@ -18,13 +18,3 @@ files_in n (m ∷ q) =
     if has_files m || nat_le n (length m.bytes)
     then m.attached
     else files_in (n - length m.bytes) q
-
--- The first message without its first n bytes, and without its files (this project's profile).
-abbrev pub first_shortened : ℕ → List Message → List Message
-first_shortened n [] = []
-first_shortened n (m ∷ q) = record m { bytes = drop n m.bytes; attached = [] } ∷ q
-
--- The messages without the first, where that has no byte (this project's profile).
-abbrev pub first_kept : List Message → List Message
-first_kept [] = []
-first_kept (m ∷ q) = if nat_eq (length m.bytes) 0 then q else m ∷ q

@@ -9,15 +9,15 @@ use af_base::names::Ino;
 pub struct Node {
     pub message: Msg,
     pub owner: Ino,
-    pub next: usize,
+    pub next: u32,
 }
 
 /// Where the messages of one queue stand: the first, the last, and how many they are.
 #[derive(Clone, Copy)]
 pub struct Chain {
-    pub first: usize,
-    pub last: usize,
-    pub len: usize,
+    pub first: u32,
+    pub last: u32,
+    pub len: u32,
 }
 
 impl Chain {

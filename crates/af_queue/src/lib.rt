@@ -9,5 +9,5 @@ mod taken;
 
 pub use chain::{Chain, Node};
 pub use message::{Attached, Msg};
-pub use queue::Queue;
+pub use queue::{BATCH, Queue};
 pub use taken::Taken;

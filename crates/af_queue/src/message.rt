@@ -3,51 +3,52 @@ ghost use Rattle.std.specs.Prelude.{◌≡◌, ◌≤◌, ◌<◌, [], IfOk, len
 ghost use Rattle.smallvec.specs.SmallVec.{small_vec_len};
 
 use crate::taken::Taken;
-use af_base::limits::SCM_MAX_FD;
+use af_base::limits::{MAX_BYTES, SCM_MAX_FD};
 use af_base::names::{FileRef, Uid};
 use smallvec::SmallVec;
 use std::alloc::{AllocError, Global};
 use std::marker::Model;
 use std::mem;
 
-/// The files that travel with a message: one or two need no allocation.
-pub type Attached = SmallVec<FileRef, 2>;
+/// The files that travel with a message: one needs no allocation.
+pub type Attached = SmallVec<FileRef, 1>;
 
 /// A message in a queue: its bytes, the files that travel with it, and who is charged for them.
 #[derive(Drop)]
 pub struct Msg {
     bytes: Vec<u8>,
     /// So many of its first bytes were received before.
-    begin: usize,
-    attached: Attached,
+    begin: u32,
     user: Uid,
+    attached: Attached,
 }
 
 impl Model for Msg {
     ghost use Rattle.std.specs.Prelude.{◌≤◌, vec_len, drop};
     ghost use Rattle.smallvec.specs.SmallVec.{small_vec_len};
     ghost use Rattle.af_base.specs.World as world;
-    ghost use Rattle.af_base.specs.declared.limits.TheConstants.{SCM_MAX_FD};
+    ghost use Rattle.af_base.specs.declared.limits.TheConstants.{MAX_BYTES, SCM_MAX_FD};
 
     ghost Value = { world.Message };
 
     ghost view = { λ a. record { bytes = drop a.begin a.bytes.items; attached = a.attached.items; user = a.user } };
 
-    ghost invariant = { λ a. (a.begin ≤ vec_len a.bytes) × (small_vec_len a.attached ≤ SCM_MAX_FD) };
+    ghost invariant = { λ a. (a.begin ≤ vec_len a.bytes) × (vec_len a.bytes ≤ MAX_BYTES) × (small_vec_len a.attached ≤ SCM_MAX_FD) };
 }
 
 impl Msg {
-    /// A message of these parts, at most 253 files among them. It takes no memory.
+    /// A message of these parts, at most 65,536 bytes and 253 files. It takes no memory.
     #[inline(always)]
     pub fn new(bytes: Vec<u8>, attached: Attached, user: Uid) -> Msg
+        requires long { length bytes.items ≤ MAX_BYTES }
         requires few { small_vec_len attached ≤ SCM_MAX_FD }
         ensures { result ≡ record { bytes = bytes.items; attached = attached.items; user = user } }
     {
         Msg {
             bytes,
             begin: 0,
-            attached,
             user,
+            attached,
         }
     }
 
@@ -56,7 +57,7 @@ impl Msg {
     pub fn bytes(&self) -> &[u8]
         ensures { result.now ≡ self.now.bytes }
     {
-        &self.bytes[self.begin..]
+        &self.bytes[self.begin as usize..]
     }
 
     /// How many they are.
@@ -64,7 +65,7 @@ impl Msg {
     pub fn len(&self) -> usize
         ensures { result ≡ length self.now.bytes }
     {
-        self.bytes.len() - self.begin
+        self.bytes.len() - self.begin as usize
     }
 
     /// The files that travel with it.
@@ -91,11 +92,12 @@ impl Msg {
         ensures bound { small_vec_len result ≤ SCM_MAX_FD }
         ensures rest { self.new ≡ record self.old { bytes = drop bytes self.old.bytes; attached = [] } }
     {
-        self.begin += bytes;
+        let begin = self.begin as usize + bytes;
+        self.begin = begin as u32;
         mem::replace(&mut self.attached, SmallVec::new(alloc))
     }
 
-    /// The files that travel with it, once more. Up to two need no memory.
+    /// The files that travel with it, once more. One needs no memory.
     pub(crate) fn copy_attached(&self, alloc: Global) -> Result<Attached, AllocError>
         ensures value { IfOk result (λ files. files.items ≡ self.now.attached) }
         ensures bound { IfOk result (λ files. small_vec_len files ≤ SCM_MAX_FD) }
@@ -105,6 +107,15 @@ impl Msg {
             files.push(file.again())?;
         }
         Ok(files)
+    }
+
+    /// The files that travel with it, and the user who is charged for them. It takes no memory.
+    pub(crate) fn into_parts(self) -> (Attached, Uid)
+        ensures files { result.0.items ≡ self.attached }
+        ensures bound { small_vec_len result.0 ≤ SCM_MAX_FD }
+        ensures user { result.1 ≡ self.user }
+    {
+        (self.attached, self.user)
     }
 
     /// A copy of what a receive of at most so many bytes takes of it as a packet.
@@ -125,11 +136,11 @@ impl Msg {
         let Msg {
             mut bytes,
             begin,
-            attached,
             user,
+            attached,
         } = self;
         if begin > 0 {
-            bytes.drain(..begin);
+            bytes.drain(..begin as usize);
         }
         if trunc {
             bytes.truncate(max);

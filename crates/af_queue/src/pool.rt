@@ -1,36 +1,65 @@
 //! The messages of many queues in one table, each with the key of the one behind it.
-ghost use Rattle.std.specs.Prelude.{◌≡◌, ◌≢◌, ◌<◌, ◌≤◌, ◌∷◌, ◌++◌, ℕ, [], Some, IfSome, IfNone, length, option_copied, slice_get};
+ghost use Rattle.std.specs.Prelude.{◌≡◌, ◌≢◌, ◌<◌, ◌≤◌, ◌∷◌, ◌++◌, ℕ, [], Some, IfSome, IfNone, IfErr, IfOk, OnOk, OnErr, drop, length, slice_get};
 ghost use Rattle.std.specs.Option.{option_map_or};
 ghost use Rattle.slab.specs.Slab as slots;
-ghost use Rattle.slab.specs.Slab.{HasRoomFor};
+ghost use Rattle.slab.specs.Slab.{SameValues};
 ghost use Rattle.smallvec.specs.SmallVec.{small_vec_len};
+ghost use Rattle.af_base.specs.Take.{cut, take_from, take_stream};
+ghost use Rattle.af_base.specs.Whole.{IsMessageWithin};
 ghost use Rattle.af_queue.specs.declared.chain.Node.{Node};
-ghost use Rattle.af_queue.specs.Chains.{messages_of, IsChain, SameElsewhere};
-ghost use Rattle.af_queue.specs.Streams.{first_shortened};
+ghost use Rattle.af_queue.specs.Chains.{messages_of, HasRoom, IsChain, SameElsewhere};
+ghost use Rattle.af_queue.specs.Received.{message_at, received, sender_at};
 
 use crate::chain::{Chain, Node};
 use crate::message::{Attached, Msg};
+use crate::queue::Queue;
+use crate::taken::Taken;
+use af_base::events::SockType;
 use af_base::limits::{MAX_MESSAGES, SCM_MAX_FD};
 use af_base::names::{Ino, Uid};
 use slab::Slab;
 use smallvec::SmallVec;
-use std::alloc::Global;
+use std::alloc::{AllocError, Global};
 
-/// The node at this key has that one behind it from now on.
-fn link(nodes: &mut Slab<Node>, key: usize, next: usize)
-    ensures linked { (x : Node) → slots.get nodes.old key ≡ Some x → slots.get nodes.new key ≡ Some (record x { next = next }) }
-    ensures others { (q : ℕ) → q ≢ key → slots.get nodes.new q ≡ slots.get nodes.old q }
-{
-    if let Some(node) = nodes.get_mut(key) {
-        node.next = next;
-    }
-}
-
-/// One message more, last in this chain, which is that file's. There is room for it.
-pub fn push(nodes: &mut Slab<Node>, chain: &mut Chain, owner: Ino, message: Msg)
+/// One message more, last in this chain, which is that file's. Where memory is refused nothing has
+/// changed, and the message comes back.
+#[inline(always)]
+pub fn push(nodes: &mut Slab<Node>, chain: &mut Chain, owner: Ino, message: Msg) -> Result<(), Msg>
     requires chain { IsChain nodes.old chain.old owner }
     requires few { chain.old.len < MAX_MESSAGES }
-    requires room { HasRoomFor nodes.old 1 }
+    requires within { IsMessageWithin message }
+    ensures chain { IsChain nodes.new chain.new owner }
+    ensures messages { OnOk result (messages_of nodes.new chain.new ≡ messages_of nodes.old chain.old ++ message ∷ []) }
+    ensures others { SameElsewhere nodes.old nodes.new owner }
+    ensures back { IfErr result (λ refused. refused ≡ message) }
+    ensures same { OnErr result (messages_of nodes.new chain.new ≡ messages_of nodes.old chain.old) }
+{
+    if room(nodes).is_err() {
+        return Err(message);
+    }
+    append(nodes, chain, owner, message);
+    Ok(())
+}
+
+/// Room for one message more. Keys have 32 bits: where none is left, it is as if memory was refused.
+#[inline(always)]
+fn room(nodes: &mut Slab<Node>) -> Result<(), AllocError>
+    ensures same { SameValues nodes.old nodes.new }
+    ensures ok { OnOk result (HasRoom nodes.new) }
+{
+    if nodes.vacant_key() > u32::MAX as usize {
+        return Err(AllocError);
+    }
+    nodes.reserve(1)
+}
+
+/// The same where there is room for it: it takes no memory.
+#[inline(always)]
+fn append(nodes: &mut Slab<Node>, chain: &mut Chain, owner: Ino, message: Msg)
+    requires chain { IsChain nodes.old chain.old owner }
+    requires few { chain.old.len < MAX_MESSAGES }
+    requires within { IsMessageWithin message }
+    requires room { HasRoom nodes.old }
     ensures chain { IsChain nodes.new chain.new owner }
     ensures messages { messages_of nodes.new chain.new ≡ messages_of nodes.old chain.old ++ message ∷ [] }
     ensures others { SameElsewhere nodes.old nodes.new owner }
@@ -39,7 +68,7 @@ pub fn push(nodes: &mut Slab<Node>, chain: &mut Chain, owner: Ino, message: Msg)
         message,
         owner,
         next: 0,
-    });
+    }) as u32;
     if chain.len == 0 {
         *chain = Chain {
             first: key,
@@ -53,61 +82,212 @@ pub fn push(nodes: &mut Slab<Node>, chain: &mut Chain, owner: Ino, message: Msg)
     chain.len += 1;
 }
 
+/// The node at this key has that one behind it from now on.
+#[inline(always)]
+fn link(nodes: &mut Slab<Node>, key: u32, next: u32)
+    ensures linked { (x : Node) → slots.get nodes.old key ≡ Some x → slots.get nodes.new key ≡ Some (record x { next = next }) }
+    ensures others { (q : ℕ) → q ≢ key → slots.get nodes.new q ≡ slots.get nodes.old q }
+{
+    if let Some(node) = nodes.get_mut(key as usize) {
+        node.next = next;
+    }
+}
+
 /// The first message of this chain, which is that file's, if there is one. It takes no memory.
+#[inline(always)]
 pub fn pop(nodes: &mut Slab<Node>, chain: &mut Chain, owner: Ino) -> Option<Msg>
     requires chain { IsChain nodes.old chain.old owner }
     ensures chain { IsChain nodes.new chain.new owner }
     ensures some { IfSome result (λ m. messages_of nodes.old chain.old ≡ m ∷ messages_of nodes.new chain.new) }
     ensures none { IfNone result (messages_of nodes.old chain.old ≡ []) }
-    ensures same { IfNone result (messages_of nodes.new chain.new ≡ []) }
+    ensures rest { messages_of nodes.new chain.new ≡ drop 1 (messages_of nodes.old chain.old) }
+    ensures within { IfSome result IsMessageWithin }
     ensures others { SameElsewhere nodes.old nodes.new owner }
 {
     if chain.len == 0 {
         return None;
     }
-    let node = nodes.remove(chain.first);
+    let node = nodes.remove(chain.first as usize);
     chain.first = node.next;
     chain.len -= 1;
     Some(node.message)
 }
 
-/// The message at this place of a chain; nothing past the last.
-pub fn message_at<'a>(nodes: &'a Slab<Node>, chain: &Chain, at: usize) -> Option<&'a Msg>
-    ensures { option_copied result ≡ slice_get (messages_of nodes.now chain.now) at }
+/// What a receive of at most so many bytes takes of this chain, which is that file's (recvmsg(2)). Of
+/// packets (SOCK_SEQPACKET) it is the first one, and it takes no memory; of a stream (SOCK_STREAM) the
+/// bytes up to the end of the first message with files, over the borders of messages. On an error
+/// nothing has changed.
+#[inline(always)]
+pub fn take(
+    nodes: &mut Slab<Node>,
+    chain: &mut Chain,
+    owner: Ino,
+    alloc: Global,
+    kind: SockType,
+    max: usize,
+) -> Result<Taken, AllocError>
+    requires chain { IsChain nodes.old chain.old owner }
+    requires some { 0 < max }
+    ensures taken { IfOk result (λ t. t ≡ received kind (messages_of nodes.old chain.old) max) }
+    ensures rest { OnOk result (messages_of nodes.new chain.new ≡ (take_from kind (messages_of nodes.old chain.old) max).rest) }
+    ensures chain { IsChain nodes.new chain.new owner }
+    ensures others { SameElsewhere nodes.old nodes.new owner }
+    ensures same { OnErr result (messages_of nodes.new chain.new ≡ messages_of nodes.old chain.old) }
 {
-    if at >= chain.len {
-        return None;
+    match kind {
+        SockType::Stream => take_stream(nodes, chain, owner, alloc, max),
+        SockType::Seqpacket => Ok(take_packet(nodes, chain, owner, alloc, max)),
     }
-    let mut key = chain.first;
-    for _ in 0..at {
-        key = nodes.get(key)?.next;
-    }
-    let node = nodes.get(key)?;
-    Some(&node.message)
 }
 
-/// So many bytes of the first message of this chain go, and its files, which are handed on with the user
-/// who sent it. It takes no memory.
-pub fn shorten_first(
+/// A packet: the first message, cut to so many bytes.
+#[inline(always)]
+fn take_packet(
+    nodes: &mut Slab<Node>,
+    chain: &mut Chain,
+    owner: Ino,
+    alloc: Global,
+    max: usize,
+) -> Taken
+    requires chain { IsChain nodes.old chain.old owner }
+    ensures taken { result ≡ received SockType.Seqpacket (messages_of nodes.old chain.old) max }
+    ensures rest { messages_of nodes.new chain.new ≡ drop 1 (messages_of nodes.old chain.old) }
+    ensures chain { IsChain nodes.new chain.new owner }
+    ensures others { SameElsewhere nodes.old nodes.new owner }
+{
+    match pop(nodes, chain, owner) {
+        Some(message) => message.into_taken(max),
+        None => Taken::nothing(alloc),
+    }
+}
+
+/// Bytes of a stream. Those of a message that is taken whole and alone are not copied.
+fn take_stream(
+    nodes: &mut Slab<Node>,
+    chain: &mut Chain,
+    owner: Ino,
+    alloc: Global,
+    max: usize,
+) -> Result<Taken, AllocError>
+    requires chain { IsChain nodes.old chain.old owner }
+    requires some { 0 < max }
+    ensures taken { IfOk result (λ t. t ≡ received SockType.Stream (messages_of nodes.old chain.old) max) }
+    ensures rest { OnOk result (messages_of nodes.new chain.new ≡ (take_stream (messages_of nodes.old chain.old) max).rest) }
+    ensures chain { IsChain nodes.new chain.new owner }
+    ensures others { SameElsewhere nodes.old nodes.new owner }
+    ensures same { OnErr result (messages_of nodes.new chain.new ≡ messages_of nodes.old chain.old) }
+{
+    let queue = Queue::of(nodes, chain);
+    let (count, _) = queue.span(max);
+    if queue.front_len() == count {
+        return Ok(take_packet(nodes, chain, owner, alloc, count));
+    }
+    let bytes = queue.copy(alloc, count)?;
+    let (attached, user) = cut(nodes, chain, owner, alloc, count);
+    Ok(Taken::new(bytes, attached, user, false))
+}
+
+/// So many of the first bytes go, and the files of the message that has the last of them, which are
+/// handed on with the user who sent it.
+fn cut(
+    nodes: &mut Slab<Node>,
+    chain: &mut Chain,
+    owner: Ino,
+    alloc: Global,
+    count: usize,
+) -> (Attached, Uid)
+    requires chain { IsChain nodes.old chain.old owner }
+    requires some { 0 < count }
+    ensures messages { messages_of nodes.new chain.new ≡ cut count (messages_of nodes.old chain.old) }
+    ensures files { result.0.items ≡ option_map_or (λ m. m.attached) (message_at count (messages_of nodes.old chain.old)) [] }
+    ensures bound { small_vec_len result.0 ≤ SCM_MAX_FD }
+    ensures user { result.1 ≡ sender_at count (messages_of nodes.old chain.old) }
+    ensures chain { IsChain nodes.new chain.new owner }
+    ensures others { SameElsewhere nodes.old nodes.new owner }
+{
+    let mut left = count;
+    while let Some(rest) = drop_shorter(nodes, chain, owner, left) {
+        left = rest;
+    }
+    cut_first(nodes, chain, owner, alloc, left)
+}
+
+/// The first message goes, where it has fewer bytes than so many: how many are left to go then.
+fn drop_shorter(
+    nodes: &mut Slab<Node>,
+    chain: &mut Chain,
+    owner: Ino,
+    count: usize,
+) -> Option<usize>
+    requires chain { IsChain nodes.old chain.old owner }
+    ensures cut { IfSome result (λ rest. cut rest (messages_of nodes.new chain.new) ≡ cut count (messages_of nodes.old chain.old)) }
+    ensures at { IfSome result (λ rest. message_at rest (messages_of nodes.new chain.new) ≡ message_at count (messages_of nodes.old chain.old)) }
+    ensures more { IfSome result (λ rest. 0 < rest) }
+    ensures fewer { IfSome result (λ _. length (messages_of nodes.new chain.new) < length (messages_of nodes.old chain.old)) }
+    ensures chain { IsChain nodes.new chain.new owner }
+    ensures others { SameElsewhere nodes.old nodes.new owner }
+    ensures nodes { IfNone result (nodes.new ≡ nodes.old) }
+    ensures same { IfNone result (chain.new ≡ chain.old) }
+    ensures long { IfNone result (IfSome (slice_get (messages_of nodes.old chain.old) 0) (λ m. count ≤ length m.bytes)) }
+{
+    let size = Queue::of(nodes, chain).first()?.len();
+    if count <= size {
+        return None;
+    }
+    pop(nodes, chain, owner);
+    Some(count - size)
+}
+
+/// So many bytes of the first message of this chain go, which has no fewer, and its files, which are
+/// handed on with the user who sent it; where it has no more, it goes.
+fn cut_first(
+    nodes: &mut Slab<Node>,
+    chain: &mut Chain,
+    owner: Ino,
+    alloc: Global,
+    count: usize,
+) -> (Attached, Uid)
+    requires chain { IsChain nodes.old chain.old owner }
+    requires some { 0 < count }
+    requires long { IfSome (slice_get (messages_of nodes.old chain.old) 0) (λ m. count ≤ length m.bytes) }
+    ensures messages { messages_of nodes.new chain.new ≡ cut count (messages_of nodes.old chain.old) }
+    ensures files { result.0.items ≡ option_map_or (λ m. m.attached) (slice_get (messages_of nodes.old chain.old) 0) [] }
+    ensures bound { small_vec_len result.0 ≤ SCM_MAX_FD }
+    ensures user { result.1 ≡ option_map_or (λ m. m.user) (slice_get (messages_of nodes.old chain.old) 0) 0 }
+    ensures chain { IsChain nodes.new chain.new owner }
+    ensures others { SameElsewhere nodes.old nodes.new owner }
+{
+    if count < Queue::of(nodes, chain).front_len() {
+        return shorten_first(nodes, chain, owner, alloc, count);
+    }
+    match pop(nodes, chain, owner) {
+        Some(message) => message.into_parts(),
+        None => (SmallVec::new(alloc), Uid(0)),
+    }
+}
+
+/// So many bytes of the first message of this chain go, which has more, and its files, which are handed
+/// on with the user who sent it. It takes no memory.
+fn shorten_first(
     nodes: &mut Slab<Node>,
     chain: &Chain,
     owner: Ino,
     alloc: Global,
-    bytes: usize,
+    count: usize,
 ) -> (Attached, Uid)
     requires chain { IsChain nodes.old chain.now owner }
-    requires long { IfSome (slice_get (messages_of nodes.old chain.now) 0) (λ m. bytes ≤ length m.bytes) }
-    requires some { 0 < chain.now.len }
-    ensures chain { IsChain nodes.new chain.now owner }
-    ensures messages { messages_of nodes.new chain.now ≡ first_shortened bytes (messages_of nodes.old chain.now) }
+    requires some { 0 < count }
+    requires long { count < option_map_or (λ m. length m.bytes) (slice_get (messages_of nodes.old chain.now) 0) 0 }
+    ensures messages { messages_of nodes.new chain.now ≡ cut count (messages_of nodes.old chain.now) }
     ensures files { result.0.items ≡ option_map_or (λ m. m.attached) (slice_get (messages_of nodes.old chain.now) 0) [] }
     ensures bound { small_vec_len result.0 ≤ SCM_MAX_FD }
     ensures user { result.1 ≡ option_map_or (λ m. m.user) (slice_get (messages_of nodes.old chain.now) 0) 0 }
+    ensures chain { IsChain nodes.new chain.now owner }
     ensures others { SameElsewhere nodes.old nodes.new owner }
 {
-    let Some(node) = nodes.get_mut(chain.first) else {
+    let Some(node) = nodes.get_mut(chain.first as usize) else {
         return (SmallVec::new(alloc), Uid(0));
     };
     let first = &mut node.message;
-    (first.shorten(alloc, bytes), first.user())
+    (first.shorten(alloc, count), first.user())
 }

@@ -1,5 +1,5 @@
 //! What an event looks up before its own tests.
-ghost use Rattle.std.specs.Prelude.{◌≡◌, ◌++◌, Some, IfErr, IfOk, option_copied};
+ghost use Rattle.std.specs.Prelude.{◌≡◌, ◌++◌, Some, IfErr, IfOk};
 ghost use Rattle.std.specs.FinMap as map;
 ghost use Rattle.af_base.specs.Refusals.{at_socket, first_fit, on_process, socket_at};
 ghost use Rattle.af_steps.specs.Found.{HasSocket};
@@ -12,8 +12,8 @@ use af_table::Process;
 
 /// The process, what its number stands for, and the socket that this is; or why there is none.
 #[inline(always)]
-pub fn socket_on(store: &Store, pid: Pid, on: Fd) -> Result<(&Process, FileRef, &Socket), Errno>
-    ensures found { IfOk result (λ found. HasSocket store.now.world pid found.0.now.process on found.1 found.2.now) }
+pub fn socket_on(store: &Store, pid: Pid, on: Fd) -> Result<(&Process, FileRef, Socket<'_>), Errno>
+    ensures found { IfOk result (λ found. HasSocket store.now.world pid found.0.now.process on found.1 found.2) }
     ensures refused { IfErr result (λ e. first_fit (on_process (map.get store.now.world.processes pid) ++ at_socket store.now.world pid on) ≡ Some e) }
 {
     let process = store.holdings().procs().find(pid).ok_or(Errno::ESRCH)?;
@@ -24,8 +24,8 @@ pub fn socket_on(store: &Store, pid: Pid, on: Fd) -> Result<(&Process, FileRef, 
 
 /// The socket; a plain file and a stranger are none.
 #[inline(always)]
-pub fn socket_at<'a>(store: &'a Store, file: &FileRef) -> Option<&'a Socket>
-    ensures { option_copied result ≡ socket_at store.now.world file.now }
+pub fn socket_at<'a>(store: &'a Store, file: &FileRef) -> Option<Socket<'a>>
+    ensures { result ≡ socket_at store.now.world file.now }
 {
-    store.holdings().files().get(file)?.socket()
+    store.holdings().files().socket(file)
 }

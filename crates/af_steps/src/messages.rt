@@ -89,7 +89,7 @@ impl Engine {
     {
         let (process, file, socket) = socket_on(&self.store, pid, on)?;
         check_parts(process, bytes, attach)?;
-        let peer = peer_of(socket)?;
+        let peer = peer_of(&socket)?;
         let user = process.user();
         let (limit, privileged) = (process.limit(), process.is_privileged());
         self.store
@@ -143,7 +143,7 @@ impl Engine {
         ensures refused { IfErr result (λ e. Refuses self.old pid (Step.Recv on max_bytes max_fds) e self.new) }
     {
         let (process, file, socket) = socket_on(&self.store, pid, on)?;
-        check_receive(socket, max_bytes)?;
+        check_receive(&socket, max_bytes)?;
         if socket.queue().len() == 0 {
             return Ok(Received::End);
         }
@@ -175,7 +175,7 @@ impl Engine {
         ensures refused { IfErr result (λ e. Refuses self.old pid (Step.Peek on max_bytes max_fds) e self.new) }
     {
         let (process, file, socket) = socket_on(&self.store, pid, on)?;
-        check_receive(socket, max_bytes)?;
+        check_receive(&socket, max_bytes)?;
         if socket.queue().len() == 0 {
             return Ok(Received::End);
         }

@@ -59,7 +59,7 @@ impl Engine {
         ensures refused { IfErr result (λ e. Refuses self.old pid (Step.Bind on name.now) e self.new) }
     {
         let (_, file, socket) = socket_on(&self.store, pid, on)?;
-        check_bind(socket, name.as_slice())?;
+        check_bind(&socket, name.as_slice())?;
         if self.store.holdings().files().named(name).is_some() {
             return Err(Errno::EADDRINUSE);
         }
@@ -75,7 +75,7 @@ impl Engine {
         ensures refused { IfErr result (λ e. Refuses self.old pid (Step.Listen on backlog) e self.new) }
     {
         let (_, file, socket) = socket_on(&self.store, pid, on)?;
-        check_listen(socket, backlog)?;
+        check_listen(&socket, backlog)?;
         self.store.listen(&file, backlog)?;
         self.store.release();
         Ok(())
@@ -89,7 +89,7 @@ impl Engine {
         ensures refused { IfErr result (λ e. Refuses self.old pid (Step.Connect on name.now) e self.new) }
     {
         let (_, file, client) = socket_on(&self.store, pid, on)?;
-        check_client(client)?;
+        check_client(&client)?;
         let listener = self
             .store
             .holdings()
@@ -97,7 +97,7 @@ impl Engine {
             .named(name)
             .ok_or(Errno::ECONNREFUSED)?;
         let kind = client.kind();
-        check_listener(socket_at(&self.store, &listener).unwrap(), kind)?;
+        check_listener(&socket_at(&self.store, &listener).unwrap(), kind)?;
         if self.store.holdings().files().is_full(1) {
             return Err(Errno::ENFILE);
         }
@@ -115,7 +115,7 @@ impl Engine {
         ensures refused { IfErr result (λ e. Refuses self.old pid (Step.Accept on) e self.new) }
     {
         let (process, file, socket) = socket_on(&self.store, pid, on)?;
-        check_accept(socket)?;
+        check_accept(&socket)?;
         let fd = process.lowest().ok_or(Errno::EMFILE)?;
         // What tables hold is no garbage of a pass that runs.
         self.store.is_spared();

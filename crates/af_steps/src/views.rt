@@ -107,7 +107,7 @@ impl Engine {
     {
         let files = self.store.holdings().files();
         let file = files.find(ino)?;
-        let Some(socket) = files.get(&file)?.socket() else {
+        let Some(socket) = files.socket(&file) else {
             return Some(FileInfo::Plain);
         };
         Some(FileInfo::Socket {
@@ -124,7 +124,7 @@ impl Engine {
     {
         let files = self.store.holdings().files();
         let file = files.find(ino)?;
-        files.get(&file)?.socket()?.name()
+        files.socket(&file)?.name()
     }
 
     /// Plain lists of the tables, queues and backlogs as they stand, and whom each message is charged

@@ -36,7 +36,8 @@ fn passes(rt: &impl Abort, files: &mut Files) -> Result<(), AllocError> {
             .next_grey()
             .is_some_and(|grey| grey.ino() == first.ino())
     );
-    assert!(rt; files.remove(&first).is_some());
+    assert!(rt; files.socket(&first).is_none());
+    files.remove(&first);
     assert!(rt; files.next_grey().is_none() && !files.is_marked(&first));
     files.unmark();
     assert!(rt; !files.is_marked(&second));

@@ -1,12 +1,12 @@
 -- What is left, from the marks now, comes to what all come to.
 use Rattle.std.proofs.Common.{◌≡◌, drop, length}
 use Rattle.af_pass.specs.Keeping.{shaded_all}
-use Rattle.af_collect.specs.Shown.{attached_at}
+use Rattle.af_collect.specs.Shown.{first_attached}
 use Rattle.af_collect.proofs.shading.shade_message.Given as goal
 
 abbrev pub invariant-loop-index : goal.invariant-loop-index
 invariant-loop-index l = record {
   frame : l.places ≡ record l.fn.places { marks = l.places.marks };
-  end : l.index-end ≡ length (attached_at l.fn.places.world l.fn.file l.fn.at);
-  marks : shaded_all (drop l.index (attached_at l.fn.places.world l.fn.file l.fn.at)) l.places.marks ≡ shaded_all (attached_at l.fn.places.world l.fn.file l.fn.at) l.fn.places.marks;
+  end : l.index-end ≡ length (first_attached l.fn.places.world l.fn.file);
+  marks : shaded_all (drop l.index (first_attached l.fn.places.world l.fn.file)) l.places.marks ≡ shaded_all (first_attached l.fn.places.world l.fn.file) l.fn.places.marks;
 }

@@ -1,11 +1,9 @@
 use Rattle.std.proofs.Common.{rules, ◌≡◌, ◌∙◌, refl, ap, sym, subst, arith}
-use Rattle.std.specs.Prelude.{IfSome, Some, None, vec_capacity}
+use Rattle.std.specs.Prelude.{IfSome, None, vec_capacity}
 use Rattle.std.specs.FinMap as map
-use Rattle.std.specs.Option.{option_and_then, option_copied}
 use Rattle.af_base.specs.Changes.{bound, change_socket_at, file_with}
 use Rattle.af_base.proofs.Lookups.{changed-live}
 use Rattle.af_base.specs.Names.{named}
-use Rattle.af_base.specs.Refusals.{socket_of}
 use Rattle.af_mark.proofs.Listed.{listed-same}
 use Rattle.af_desc.specs.Filed.{AreNamed, Filed, socket_in}
 use Rattle.af_desc.proofs.Filing.{filed-named}
@@ -14,9 +12,8 @@ use Rattle.af_desc.proofs.files.Files.bind.Goals as goal
 
 pub returns-then-is_none-clause-files : goal.returns-then-is_none-clause-files
 returns-then-is_none-clause-files c =
-    let at = sym c.get.ensures ∙ ap option_copied c.in-Some.is in
-    let none : socket_of c.in-Some.desc.now ≡ None = search rules in
-    unchanged (bound c.args.name.now) c.args.self.now.files c.args.file.now (ap (option_and_then socket_of) at ∙ none)
+    let none : socket_in c.args.self.now.files c.args.file.now ≡ None = search rules in
+    unchanged (bound c.args.name.now) c.args.self.now.files c.args.file.now none
 
 pub bind-requires : goal.bind-requires
 bind-requires c =
@@ -38,8 +35,8 @@ invariant_of-self-in-Err c =
       listed-same a.rows.marks _ a.epoch a.grey.items (vec_capacity a.grey) c.self.invariant.1 a.grey.items (vec_capacity a.grey) (ap (λ r. r.marks) same) refl (omega arith),
     )
 
-pub invariant_of-self-in_default-set_name : goal.invariant_of-self-in_default-set_name
-invariant_of-self-in_default-set_name c =
+pub invariant_of-self-in_default : goal.invariant_of-self-in_default
+invariant_of-self-in_default c =
     let a = c.self.inside in
     let m = a.rows.files in
     let name = c.args.name.now in
@@ -47,13 +44,11 @@ invariant_of-self-in_default-set_name c =
     let listed : c.of-listed.result ≡ name = search rules in
     let own : c.of-own.result ≡ name = search rules in
     let free = named-is a.names m c.self.invariant.0.2 name ∙ ap (λ (v : Filed). named v.files name) c.self.view_is ∙ c.requires.free in
-    let x = c.in-Some.desc.now in
-    let at : map.get m k ≡ Some x = ap (λ (v : Filed). map.get v.files k) c.self.view_is ∙ sym c.get.ensures ∙ ap option_copied c.in-Some.is in
-    let some : ¬ (socket_of x ≡ None) = search rules in
+    let some : ¬ (socket_in c.args.self.now.files k ≡ None) = search rules in
     let nameless = subst (λ (v : Filed). IfSome (socket_in v.files k) (λ s. s.name ≡ None)) (sym c.self.view_is) c.requires.nameless in
-    let set = c.in_default-set_name.ensures.ok ∙ ap (λ q. record a.rows { files = change_socket_at (bound q) m k }) own in
+    let set = c.in_default.ensures.ok ∙ ap (λ q. record a.rows { files = change_socket_at (bound q) m k }) own in
     let given = c.in_ok-bind.ensures.ok ∙ (λ i. map.insert a.names (listed i) (c.again.ensures i)) in (
       filed-named a.rows c.set_name.new.rows a.waiting.items (vec_capacity a.waiting) a.names a.next c.self.invariant.0 (change_socket_at (bound name) m k) _ set (changed-live (file_with (bound name)) m k 0 ∙ c.self.invariant.0.1)
-          (subst (λ n. AreNamed n (change_socket_at (bound name) m k)) (sym given) (named-bound a.names m c.self.invariant.0.2 name k x free at some nameless)),
+          (subst (λ n. AreNamed n (change_socket_at (bound name) m k)) (sym given) (named-bound a.names m c.self.invariant.0.2 name k free (λ e. some (ap (λ (v : Filed). socket_in v.files k) (sym c.self.view_is) ∙ e)) nameless)),
       listed-same a.rows.marks _ a.epoch a.grey.items (vec_capacity a.grey) c.self.invariant.1 a.grey.items (vec_capacity a.grey) (ap (λ r. r.marks) set) refl (omega arith),
     )

@@ -5,6 +5,7 @@ use Rattle.af_mark.specs.Grey.{colors_in, unmarked}
 use Rattle.af_mark.specs.declared.color.Color.TheVariants.{White}
 use Rattle.af_mark.proofs.Colors.{color_after, color_white, same_marked}
 use Rattle.af_mark.proofs.Listed.{listed-born, listed-same}
+use Rattle.af_desc.specs.Rowed.{file_of}
 use Rattle.af_desc.proofs.Filing.{filed-entered, filed-reserved}
 use Rattle.af_desc.proofs.files.Files.make.Goals as goal
 
@@ -36,7 +37,7 @@ invariant_of-self-2 c =
     let listed = listed-same a.rows.marks c.reserve.new.rows.marks a.epoch a.grey.items (vec_capacity a.grey) c.self.invariant.1 c.reserve.new.grey.items (vec_capacity c.reserve.new.grey) (ap (λ r. r.marks) c.reserve.ensures.rows) c.reserve.ensures.grey c.reserve.ensures.greys in
     let fits = c.in_ok-reserve.ensures.fits in
     let marks = c.in_ok-reserve.ensures.marks in (
-      filed-entered c.reserve.new.rows c.enter-file.new.rows c.reserve.new.waiting.items (vec_capacity c.reserve.new.waiting) a.names a.next reserved c.args.desc c.enter-file.new.waiting.items (vec_capacity c.enter-file.new.waiting)
+      filed-entered c.reserve.new.rows c.enter-file.new.rows c.reserve.new.waiting.items (vec_capacity c.reserve.new.waiting) a.names a.next reserved (file_of c.args.endpoint) c.enter-file.new.waiting.items (vec_capacity c.enter-file.new.waiting)
           c.enter-file.ensures.entered c.enter-file.ensures.new c.requires.nameless c.enter-file.ensures.waiting (omega (arith, fits, ap (λ r. map.len r.counts) c.reserve.ensures.rows, c.enter-file.ensures.len, c.enter-file.ensures.capacity)),
       listed-born c.reserve.new.rows.marks c.enter-file.new.rows.marks a.epoch c.reserve.new.grey.items (vec_capacity c.reserve.new.grey) listed a.next (vec_capacity c.reserve.new.grey) (ap (λ r. r.marks) c.enter-file.ensures.entered) c.enter-file.ensures.unmarked
           (omega (arith, marks, ap (λ r. map.len r.marks) c.reserve.ensures.rows, c.enter-file.ensures.more)),

@@ -1,7 +1,8 @@
 use Rattle.std.proofs.Common.{◌+◌, ◌∙◌, ap, sym, subst, arith, refl}
 use Rattle.std.specs.Prelude.{vec_capacity}
 use Rattle.std.specs.FinMap as map
-use Rattle.af_desc.specs.Filed.{IsFiled, name_of}
+use Rattle.af_desc.specs.Filed.{IsFiled}
+use Rattle.af_base.specs.World.{AsSocket}
 use Rattle.af_mark.specs.Grey.{colors_in, unmarked}
 use Rattle.af_mark.specs.declared.color.Color.TheVariants.{White}
 use Rattle.af_mark.proofs.Colors.{color_after, color_white, same_marked}
@@ -49,10 +50,10 @@ invariant_of-self-2 c =
     let second = c.enter-second in
     let fits = c.in_ok-reserve.ensures.fits in
     let same = ap (λ r. map.len r.counts) c.reserve.ensures.rows in
-    let one = filed-entered c.reserve.new.rows first.new.rows c.reserve.new.waiting.items (vec_capacity c.reserve.new.waiting) a.names a.next reserved c.connected-desc.result first.new.waiting.items (vec_capacity first.new.waiting)
-    first.ensures.entered first.ensures.new (ap name_of c.connected-desc.ensures) first.ensures.waiting (omega (arith, fits, same, first.ensures.len, first.ensures.capacity)) in
-    let two = filed-entered first.new.rows second.new.rows first.new.waiting.items (vec_capacity first.new.waiting) a.names (a.next + 1) one c.connected-desc-2.result second.new.waiting.items (vec_capacity second.new.waiting)
-    second.ensures.entered second.ensures.new (ap name_of c.connected-desc-2.ensures) second.ensures.waiting (omega (arith, fits, same, first.ensures.len, first.ensures.capacity, second.ensures.len, second.ensures.capacity)) in
+    let one = filed-entered c.reserve.new.rows first.new.rows c.reserve.new.waiting.items (vec_capacity c.reserve.new.waiting) a.names a.next reserved (AsSocket c.connected-endpoint.result) first.new.waiting.items (vec_capacity first.new.waiting)
+    first.ensures.entered first.ensures.new (ap (λ s. s.name) c.connected-endpoint.ensures) first.ensures.waiting (omega (arith, fits, same, first.ensures.len, first.ensures.capacity)) in
+    let two = filed-entered first.new.rows second.new.rows first.new.waiting.items (vec_capacity first.new.waiting) a.names (a.next + 1) one (AsSocket c.connected-endpoint-2.result) second.new.waiting.items (vec_capacity second.new.waiting)
+    second.ensures.entered second.ensures.new (ap (λ s. s.name) c.connected-endpoint-2.ensures) second.ensures.waiting (omega (arith, fits, same, first.ensures.len, first.ensures.capacity, second.ensures.len, second.ensures.capacity)) in
     let all = subst (λ r. IsFiled r second.new.waiting.items (vec_capacity second.new.waiting) a.names (a.next + 1 + 1)) (sym c.point.ensures) two in
     let low = all.0 in
     let room = vec_capacity c.reserve.new.grey in

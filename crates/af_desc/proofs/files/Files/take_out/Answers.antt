@@ -1,12 +1,12 @@
-use Rattle.std.proofs.Common.{rules, ◌≡◌, ◌&&◌, ◌∙◌, ℕ, not, ap, sym, subst, nat_eq, arith}
-use Rattle.std.specs.Prelude.{Some, vec_capacity}
+use Rattle.std.proofs.Common.{rules, ◌≡◌, ◌&&◌, ◌∙◌, ℕ, not, ap, refl, sym, subst, nat_eq, arith}
+use Rattle.std.specs.Prelude.{vec_capacity}
 use Rattle.std.specs.FinMap as map
 use Rattle.std.specs.List.{list_any}
 use Rattle.std.specs.Option.{option_and_then, option_copied}
 use Rattle.af_mark.specs.Marked.{is_grey}
 use Rattle.af_mark.proofs.Colors.{color_without, same_marked}
 use Rattle.af_mark.proofs.Listed.{listed-gone}
-use Rattle.af_desc.specs.Filed.{AreNamed, Filed, name_of}
+use Rattle.af_desc.specs.Filed.{AreNamed, Filed}
 use Rattle.af_desc.proofs.Filing.{filed-removed}
 use Rattle.af_desc.proofs.Naming.{name-at, named-freed, named-gone}
 use Rattle.af_desc.proofs.files.Files.take_out.Goals as goal
@@ -15,10 +15,10 @@ use Rattle.af_desc.proofs.files.Files.take_out.Goals.{in-Some, in_default}
 pub invariant_of-self : goal.invariant_of-self
 invariant_of-self c =
     let a = c.self.inside in
-    let none = ap (option_and_then name_of) (sym c.remove-gone.ensures.value ∙ c.in_err-desc.was) in
+    let none = ap (option_and_then (λ s. s.name)) (sym c.remove-gone.ensures.value ∙ c.in_err-endpoint.was) in
     let off : (f : ℕ) → list_any (nat_eq f) c.take_off.new.waiting.items ≡ (not (nat_eq f c.args.file.now) && list_any (nat_eq f) a.waiting.items) = search rules in (
       filed-removed a.rows c.remove-gone.new.self a.waiting.items (vec_capacity a.waiting) a.names a.next c.self.invariant.0 c.args.file.now a.names c.take_off.new.waiting.items (vec_capacity c.take_off.new.waiting)
-          c.remove-gone.ensures.removed (named-gone a.names a.rows.files c.self.invariant.0.2 c.args.file.now none) off c.take_off.ensures.once (omega (arith, c.take_off.ensures.capacity)),
+          c.remove-gone.ensures.removed (named-gone a.names a.rows.files c.self.invariant.0.2 c.args.file.now (sym (name-at a.rows.files c.args.file.now _ refl) ∙ none)) off c.take_off.ensures.once (omega (arith, c.take_off.ensures.capacity)),
       listed-gone a.rows.marks c.remove-gone.new.self.marks a.epoch a.grey.items (vec_capacity a.grey) c.self.invariant.1 c.args.file.now (ap (λ r. r.marks) c.remove-gone.ensures.removed) (ap (λ v. is_grey v.marks c.args.file.now) c.self.view_is ∙ c.requires.white),
     )
 
@@ -28,7 +28,7 @@ invariant_of-self-in-Some c =
     let m = a.rows.files in
     let k = c.args.file.now in
     let name = c.in-Some.name.now in
-    let had = name-at m k (Some c.in_ok-desc.desc) (sym c.remove-gone.ensures.value ∙ c.in_ok-desc.was) ∙ sym c.name.ensures ∙ ap option_copied c.in-Some.is in
+    let had = ap (option_and_then (λ s. s.name)) (sym c.remove-gone.ensures.value ∙ c.in_ok-endpoint.was) ∙ sym c.name.ensures ∙ ap option_copied c.in-Some.is in
     let off : (f : ℕ) → list_any (nat_eq f) c.take_off.new.waiting.items ≡ (not (nat_eq f c.args.file.now) && list_any (nat_eq f) a.waiting.items) = search rules in (
       filed-removed a.rows c.remove-gone.new.self a.waiting.items (vec_capacity a.waiting) a.names a.next c.self.invariant.0 c.args.file.now _ c.take_off.new.waiting.items (vec_capacity c.take_off.new.waiting)
           c.remove-gone.ensures.removed (subst (λ n. AreNamed n (map.remove m k)) (sym c.unbind.ensures) (named-freed a.names m c.self.invariant.0.2 name k had)) off c.take_off.ensures.once (omega (arith, c.take_off.ensures.capacity)),
@@ -38,15 +38,15 @@ invariant_of-self-in-Some c =
 pub invariant_of-self-in_default : goal.invariant_of-self-in_default
 invariant_of-self-in_default c =
     let a = c.self.inside in
-    let none = ap (option_and_then name_of) (sym c.remove-gone.ensures.value ∙ c.in_ok-desc.was) ∙ sym c.name.ensures ∙ ap option_copied c.in_default.is in
+    let none = ap (option_and_then (λ s. s.name)) (sym c.remove-gone.ensures.value ∙ c.in_ok-endpoint.was) ∙ sym c.name.ensures ∙ ap option_copied c.in_default.is in
     let off : (f : ℕ) → list_any (nat_eq f) c.take_off.new.waiting.items ≡ (not (nat_eq f c.args.file.now) && list_any (nat_eq f) a.waiting.items) = search rules in (
       filed-removed a.rows c.remove-gone.new.self a.waiting.items (vec_capacity a.waiting) a.names a.next c.self.invariant.0 c.args.file.now a.names c.take_off.new.waiting.items (vec_capacity c.take_off.new.waiting)
-          c.remove-gone.ensures.removed (named-gone a.names a.rows.files c.self.invariant.0.2 c.args.file.now none) off c.take_off.ensures.once (omega (arith, c.take_off.ensures.capacity)),
+          c.remove-gone.ensures.removed (named-gone a.names a.rows.files c.self.invariant.0.2 c.args.file.now (sym (name-at a.rows.files c.args.file.now _ refl) ∙ none)) off c.take_off.ensures.once (omega (arith, c.take_off.ensures.capacity)),
       listed-gone a.rows.marks c.remove-gone.new.self.marks a.epoch a.grey.items (vec_capacity a.grey) c.self.invariant.1 c.args.file.now (ap (λ r. r.marks) c.remove-gone.ensures.removed) (ap (λ v. is_grey v.marks c.args.file.now) c.self.view_is ∙ c.requires.white),
     )
 
-pub returns-in_err-desc-clause-marks : goal.returns-in_err-desc-clause-marks
-returns-in_err-desc-clause-marks c =
+pub returns-in_err-endpoint-clause-marks : goal.returns-in_err-endpoint-clause-marks
+returns-in_err-endpoint-clause-marks c =
     let a = c.self.inside in
     same_marked _ _ (color_without a.epoch a.rows.marks c.remove-gone.new.self.marks c.args.file.now (ap (λ r. r.marks) c.remove-gone.ensures.removed) ∙ ap (λ v. map.remove v.marks.colors c.args.file.now) c.self.view_is) (ap (λ v. v.marks.bound) c.self.view_is)
 

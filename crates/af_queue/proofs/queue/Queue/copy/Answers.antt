@@ -1,5 +1,4 @@
 use Rattle.std.proofs.Common.{rules, ◌≡◌, ◌-◌, ◌++◌, length, take, min, sym, ap, ◌∙◌}
-use Rattle.std.specs.VecDeque.Iter.{deque_iter_rest}
 use Rattle.af_base.specs.Take.{joined}
 use Rattle.af_queue.proofs.Copied.{copied-more}
 use Rattle.af_queue.proofs.queue.Queue.copy.Goals as goal
@@ -8,9 +7,8 @@ pub loop-message-preserved : goal.loop-message-preserved
 loop-message-preserved c =
     let bytes = c.loop-message.bytes.items in
     let m = c.in-Some.message.now in
-    let rest = deque_iter_rest c.next.new.self in
     let k : c.min.result ≡ min (c.args.count - length bytes) (length m.bytes) = search rules in
     let more : c.extend_from_slice.new.self.items ≡ bytes ++ take c.min.result m.bytes = search rules in
-    let step : joined (deque_iter_rest c.loop-message.message-iterator) ≡ m.bytes ++ joined rest = ap joined c.in-Some.ensures.steps in
-    let now = copied-more bytes c.extend_from_slice.new.self.items m.bytes (joined rest) c.args.count c.min.result c.loop-message.invariant.within k more in
+    let step : joined c.loop-message.queue ≡ m.bytes ++ joined c.in-Some.rest = ap joined c.in-Some.ensures.some in
+    let now = copied-more bytes c.extend_from_slice.new.self.items m.bytes (joined c.in-Some.rest) c.args.count c.min.result c.loop-message.invariant.within k more in
     record { within = now.0; bytes = now.1 ∙ ap (λ zs. bytes ++ take (c.args.count - length bytes) zs) (sym step) ∙ c.loop-message.invariant.bytes }

@@ -1,8 +1,10 @@
 -- What is looked for is among the messages that are left.
-use Rattle.std.proofs.Common.{◌≡◌}
-use Rattle.std.specs.VecDeque.Iter.{deque_iter_rest}
+use Rattle.std.proofs.Common.{◌≡◌, length}
 use Rattle.af_queue.specs.Received.{message_at}
 use Rattle.af_queue.proofs.queue.Queue.message_with.Given as goal
 
 abbrev pub invariant-loop-message : goal.invariant-loop-message
-invariant-loop-message l = message_at l.left (deque_iter_rest l.message-iterator) ≡ message_at l.byte l.self.messages
+invariant-loop-message l = message_at l.left l.queue ≡ message_at l.byte l.self
+
+abbrev pub decreases-loop-message : goal.decreases-loop-message
+decreases-loop-message l = length l.queue

@@ -7,7 +7,7 @@ use Rattle.af_queue.proofs.queue.Queue.peek_stream.Goals.{in-Some+in_ok-copy_att
 
 pub returns : goal.returns
 returns c =
-    let q = c.args.self.now.messages in
+    let q = c.args.self.now in
     let k = c.span-count.result.0 in
     let files : c.match-message_with.attached.0.items ≡ option_map_or (λ m. m.attached) (message_at k q) [] = elim c.match-message_with.branch [
       | in-Some+in_ok-copy_attached-in-Some w ↦ search rules

@@ -5,5 +5,5 @@ use Rattle.af_queue.proofs.queue.Queue.reach.Goals as goal
 
 pub returns-in-Stream-clause-value : goal.returns-in-Stream-clause-value
 returns-in-Stream-clause-value c =
-    let q = c.args.self.now.messages in
+    let q = c.args.self.now in
     c.span.ensures.files ∙ stream-files q c.args.max c.requires (have-bytes q c.span.ensures.within) ∙ ap (λ k. length (take_from k q c.args.max).attached) (sym c.in-Stream.is)

@@ -29,7 +29,7 @@ returns-in_err-process-clause-refused c =
 pub returns-in_err-check_accept-clause-refused : goal.returns-in_err-check_accept-clause-refused
 returns-in_err-check_accept-clause-refused c =
     let q = c.in_ok-process.process.now.process in
-    let x = c.in_ok-process.socket.now in
+    let x = c.in_ok-process.socket in
     let e = c.in_err-check_accept.field-0.0 in
     turned-down c.self.view_is c.args.pid (step.Accept c.args.on) c.from_residual-in_err-check_accept.result e c.from_residual-in_err-check_accept.ensures.1
     (after-socket c.in_ok-process.ensures.found (λ r look s. on_accept s ++ on_free r 1) ∙ goes-on (on_accept x) (on_free q 1) e c.in_err-check_accept.ensures.err)
@@ -37,7 +37,7 @@ returns-in_err-check_accept-clause-refused c =
 pub returns-in_err-fd-clause-refused : goal.returns-in_err-fd-clause-refused
 returns-in_err-fd-clause-refused c =
     let q = c.in_ok-process.process.now.process in
-    let x = c.in_ok-process.socket.now in
+    let x = c.in_ok-process.socket in
     let e = c.in_err-fd.field-0.0 in
     let missed = missing c.lowest.result EMFILE e c.in_err-fd.ensures.value in
     turned-down c.self.view_is c.args.pid (step.Accept c.args.on) c.from_residual-in_err-fd.result e c.from_residual-in_err-fd.ensures.1
@@ -45,7 +45,7 @@ returns-in_err-fd-clause-refused c =
     ∙ ap (λ b. first_fit ((b, EMFILE) ∷ [])) (none-free q (sym c.lowest.ensures ∙ missed.0)) ∙ ap Some (sym missed.1))
 
 -- What was looked up.
-has : (c : After-room_for) → HasSocket c.self.inside.store.world c.args.pid c.in_ok-process.process.now.process c.args.on c.in_ok-process.file c.in_ok-process.socket.now
+has : (c : After-room_for) → HasSocket c.self.inside.store.world c.args.pid c.in_ok-process.process.now.process c.args.on c.in_ok-process.file c.in_ok-process.socket
 has c = c.in_ok-process.ensures.found
 
 -- The number that is taken into use.

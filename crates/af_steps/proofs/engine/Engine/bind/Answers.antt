@@ -19,7 +19,7 @@ pub returns-in_err-check_bind-clause-refused : goal.returns-in_err-check_bind-cl
 returns-in_err-check_bind-clause-refused c =
     let w = c.self.inside.store.world in
     let name = c.args.name.now in
-    let x = c.in_ok-file.socket.now in
+    let x = c.in_ok-file.socket in
     let e = c.in_err-check_bind.field-0.0 in
     let fits = subst (λ b. first_fit (on_bind x b) ≡ Some e) c.as_slice.ensures c.in_err-check_bind.ensures.err in
     turned-down c.self.view_is c.args.pid (step.Bind c.args.on name) c.from_residual-in_err-check_bind.result e c.from_residual-in_err-check_bind.ensures.1

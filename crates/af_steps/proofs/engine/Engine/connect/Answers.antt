@@ -1,6 +1,6 @@
 use Rattle.std.proofs.Common.{rules, ◌≡◌, ◌<◌, length, ◌∙◌, sym, ap, subst, ◌++◌}
 use Rattle.std.specs.Prelude.{IfSome, None, Some, is_none, unwrap_or}
-use Rattle.std.specs.Option.{option_copied, option_and_then}
+use Rattle.std.specs.Option.{option_and_then}
 use Rattle.std.proofs.lemmas.Bool.{false≢true}
 use Rattle.af_base.specs.Names.{named}
 use Rattle.af_base.specs.Refusals.{first_fit, on_client, on_listener, room_of, socket_at, on_files, socket_named, socket_on, no_socket}
@@ -24,7 +24,7 @@ pub returns-in_err-check_client-clause-refused : goal.returns-in_err-check_clien
 returns-in_err-check_client-clause-refused c =
     let w = c.self.inside.store.world in
     let name = c.args.name.now in
-    let x = c.in_ok-file.client.now in
+    let x = c.in_ok-file.client in
     let e = c.in_err-check_client.field-0.0 in
     turned-down c.self.view_is c.args.pid (step.Connect c.args.on name) c.from_residual-in_err-check_client.result e c.from_residual-in_err-check_client.ensures.1
     (after-socket c.in_ok-file.ensures.found (λ r look s. on_client s.state ++ (on_listener (socket_named w name) s.kind ++ on_files w 1)) ∙ goes-on (on_client x.state) (on_listener (socket_named w name) x.kind ++ on_files w 1) e c.in_err-check_client.ensures.err)
@@ -34,8 +34,8 @@ returns-in_err-check_listener-clause-refused c =
     let w = c.self.inside.store.world in
     let name = c.args.name.now in
     let g = c.in_ok-listener.listener in
-    let x = c.in_ok-file.client.now in
-    let l = c.unwrap.result.now in
+    let x = c.in_ok-file.client in
+    let l = c.unwrap.result in
     let e = c.in_err-check_listener.field-0.0 in
     let has : named w.files name ≡ Some g = search rules in
     let heard : socket_at w g ≡ Some l = search rules in
@@ -52,15 +52,15 @@ unwrap-requires c =
     let g = c.in_ok-listener.listener in
     let has : named w.files c.args.name.now ≡ Some g = search rules in
     let there = ap is_none c.socket_at.ensures ∙ listener-is w c.args.name.now g has in
-    some-by c.socket_at.result (λ none. false≢true (sym there ∙ ap is_none (ap option_copied none)))
+    some-by c.socket_at.result (λ none. false≢true (sym there ∙ ap is_none none))
 
 pub put_embryo-requires : goal.put_embryo-requires
 put_embryo-requires c =
     let w = c.self.inside.store.world in
     let f = c.in_ok-file.file in
     let g = c.in_ok-listener.listener in
-    let x = c.in_ok-file.client.now in
-    let l = c.unwrap.result.now in
+    let x = c.in_ok-file.client in
+    let l = c.unwrap.result in
     let kind = c.kind-kind.result in
     let v = c.make_embryo.new.self.world in
     let e = c.in_ok-embryo.embryo in

@@ -1,7 +1,6 @@
 use Rattle.std.proofs.Common.{ℕ, ◌≡◌, ◌<◌, ◌∷◌, [], true, false, length, refl, sym, ap, ◌∙◌, subst, ◌++◌}
 use Rattle.std.specs.Prelude.{None, Some, Err, is_none, nat_le}
 use Rattle.std.proofs.lemmas.Bool.{le-leb, lt-leb}
-use Rattle.std.specs.Option.{option_copied}
 use Rattle.af_base.specs.declared.errno.Errno.TheVariants.{EAGAIN, ENOMEM}
 use Rattle.af_base.specs.declared.events.Step.TheVariants as step
 use Rattle.af_base.specs.declared.limits.TheConstants.{MAX_MESSAGES}
@@ -30,26 +29,26 @@ returns-in_err-process-clause-refused c =
     turned-down c.self.view_is p (step.Send c.args.on c.args.bytes.now attach) c.from_residual.result e c.from_residual.ensures.1 (no-socket w p c.args.on rest e c.in_err-process.ensures.refused)
 
 -- What was looked up.
-has : (c : In_ok-process) → HasSocket c.self.inside.store.world c.args.pid c.in_ok-process.process.now.process c.args.on c.in_ok-process.file c.in_ok-process.socket.now
+has : (c : In_ok-process) → HasSocket c.self.inside.store.world c.args.pid c.in_ok-process.process.now.process c.args.on c.in_ok-process.file c.in_ok-process.socket
 has c = c.in_ok-process.ensures.found
 
 -- The charge was tested by what the process and the holdings have.
-charge : (c : After-may_send) (found : HasSocket c.self.inside.store.world c.args.pid c.in_ok-process.process.now.process c.args.on c.in_ok-process.file c.in_ok-process.socket.now)
+charge : (c : After-may_send) (found : HasSocket c.self.inside.store.world c.args.pid c.in_ok-process.process.now.process c.args.on c.in_ok-process.file c.in_ok-process.socket)
     → first_fit (charges found c.args.bytes.now c.args.attach.now) ≡ first_fit (on_charge (charged c.holdings.result.now.world c.user-user.result) (total c.holdings.result.now.world) c.limit-limit.result c.is_privileged-privileged.result (length c.args.attach.now))
 charge c found =
     λ i. first_fit (on_charge (charged (sym c.holdings.ensures.world i) (sym c.user-user.ensures i)) (total (sym c.holdings.ensures.world i)) (sym c.limit-limit.ensures.value i) (sym c.is_privileged-privileged.ensures i) (length c.args.attach.now))
 
 -- The queue of the peer has room.
-low : (c : After-files_at) → length c.unwrap.result.now.queue < MAX_MESSAGES
+low : (c : After-files_at) → length c.unwrap.result.queue < MAX_MESSAGES
 low c = subst (λ n. n < MAX_MESSAGES) (c.len.ensures.value ∙ ap length c.queue.ensures) c.if-len-ge-MAX_MESSAGES.false
 
 -- Nothing refuses it.
-fits : (c : After-files_at) (found : HasSocket c.self.inside.store.world c.args.pid c.in_ok-process.process.now.process c.args.on c.in_ok-process.file c.in_ok-process.socket.now)
+fits : (c : After-files_at) (found : HasSocket c.self.inside.store.world c.args.pid c.in_ok-process.process.now.process c.args.on c.in_ok-process.file c.in_ok-process.socket)
     → first_fit (charges found c.args.bytes.now c.args.attach.now) ≡ None → refusal c.self.inside.store.world c.args.pid (step.Send c.args.on c.args.bytes.now c.args.attach.now) ≡ None
 fits c found paid =
-    let y = c.unwrap.result.now in
+    let y = c.unwrap.result in
     let room : nat_le MAX_MESSAGES (length y.queue) ≡ false = lt-leb MAX_MESSAGES (length y.queue) (low c) in
-    after-charge found c.args.bytes.now c.args.attach.now c.in_ok-check_parts.ensures.ok c.in_ok-peer.ensures.ok paid c.in_ok-peer.peer y c.in_ok-peer.ensures.peer (sym c.socket_at.ensures ∙ ap option_copied c.unwrap.ensures) ∙ ap (λ b. first_fit ((b, EAGAIN) ∷ [])) room
+    after-charge found c.args.bytes.now c.args.attach.now c.in_ok-check_parts.ensures.ok c.in_ok-peer.ensures.ok paid c.in_ok-peer.peer y c.in_ok-peer.ensures.peer (sym c.socket_at.ensures ∙ c.unwrap.ensures) ∙ ap (λ b. first_fit ((b, EAGAIN) ∷ [])) room
 
 pub returns-in_err-check_parts-clause-refused : goal.returns-in_err-check_parts-clause-refused
 returns-in_err-check_parts-clause-refused c =
@@ -75,9 +74,9 @@ pub returns-then-len-ge-MAX_MESSAGES-clause-refused : goal.returns-then-len-ge-M
 returns-then-len-ge-MAX_MESSAGES-clause-refused c =
     let at = goal.at.returns-then-len-ge-MAX_MESSAGES-clause-refused c in
     let found = has at.In_ok-process in
-    let y = c.unwrap.result.now in
+    let y = c.unwrap.result in
     let full = subst (λ n. nat_le MAX_MESSAGES n ≡ true) (c.len.ensures.value ∙ ap length c.queue.ensures) (le-leb MAX_MESSAGES c.len.result c.if-len-ge-MAX_MESSAGES.true) in
-    let fits = after-charge found c.args.bytes.now c.args.attach.now c.in_ok-check_parts.ensures.ok c.in_ok-peer.ensures.ok (charge at.After-may_send found ∙ c.in_ok-may_send.ensures.ok) c.in_ok-peer.peer y c.in_ok-peer.ensures.peer (sym c.socket_at.ensures ∙ ap option_copied c.unwrap.ensures) ∙ ap (λ b. first_fit ((b, EAGAIN) ∷ [])) full in
+    let fits = after-charge found c.args.bytes.now c.args.attach.now c.in_ok-check_parts.ensures.ok c.in_ok-peer.ensures.ok (charge at.After-may_send found ∙ c.in_ok-may_send.ensures.ok) c.in_ok-peer.peer y c.in_ok-peer.ensures.peer (sym c.socket_at.ensures ∙ c.unwrap.ensures) ∙ ap (λ b. first_fit ((b, EAGAIN) ∷ [])) full in
     refuses c.self.view_is c.args.pid (step.Send c.args.on c.args.bytes.now c.args.attach.now) {X = ℕ} c.args.self.now (Err EAGAIN) refl EAGAIN refl fits
 
 pub returns-in_err-attached-clause-refused : goal.returns-in_err-attached-clause-refused
@@ -97,10 +96,10 @@ returns-clause-room c =
     let at = goal.at.returns-clause-room c in
     let found = has at.In_ok-process in
     let w = c.self.inside.store.world in
-    let y = c.unwrap.result.now in
+    let y = c.unwrap.result in
     let m : Message = message_in (record { peer = c.in_ok-peer.peer; attached = c.in_ok-attached.attached; user = c.user-user.result }) c.args.bytes.now in
     let is : m ≡ sent found c.args.bytes.now c.args.attach.now = λ i. record { bytes = c.args.bytes.now; attached = c.in_ok-attached.ensures.value i; user = c.user-user.ensures i } in
-    let heard : socket_at w c.in_ok-peer.peer ≡ Some y = sym c.socket_at.ensures ∙ ap option_copied c.unwrap.ensures in
+    let heard : socket_at w c.in_ok-peer.peer ≡ Some y = sym c.socket_at.ensures ∙ c.unwrap.ensures in
     let process = found.number.process in
     subst (λ (x : Machine). HasRoom x.world c.in_ok-peer.peer m) c.self.view_is
     (record {

@@ -23,7 +23,7 @@ returns-in_err-check_receive-clause-refused c =
     (after-socket c.in_ok-process.ensures.found (λ r look s. on_receive s c.args.max_bytes) ∙ c.in_err-check_receive.ensures.err)
 
 -- What was looked up.
-has : (c : In_ok-process) → HasSocket c.self.inside.store.world c.args.pid c.in_ok-process.process.now.process c.args.on c.in_ok-process.file c.in_ok-process.socket.now
+has : (c : In_ok-process) → HasSocket c.self.inside.store.world c.args.pid c.in_ok-process.process.now.process c.args.on c.in_ok-process.file c.in_ok-process.socket
 has c = c.in_ok-process.ensures.found
 
 pub returns-then-len-eq0-clause-done : goal.returns-then-len-eq0-clause-done

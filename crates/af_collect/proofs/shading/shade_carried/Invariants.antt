@@ -1,0 +1,15 @@
+-- What is left, from the marks now, comes to what all come to.
+use Rattle.std.proofs.Common.{◌≡◌, ◌≤◌, ◌-◌, drop, length}
+use Rattle.af_base.specs.Places.{carried, queue_at}
+use Rattle.af_pass.specs.Keeping.{shaded_all}
+use Rattle.af_collect.proofs.shading.shade_carried.Given as goal
+
+abbrev pub invariant-loop-from : goal.invariant-loop-from
+invariant-loop-from l = record {
+  frame : l.places ≡ record l.fn.places { marks = l.places.marks };
+  within : l.from ≤ length (carried (queue_at l.fn.places.world l.fn.file));
+  marks : shaded_all (drop l.from (carried (queue_at l.fn.places.world l.fn.file))) l.places.marks ≡ shaded_all (carried (queue_at l.fn.places.world l.fn.file)) l.fn.places.marks;
+}
+
+abbrev pub decreases-loop-from : goal.decreases-loop-from
+decreases-loop-from l = length (carried (queue_at l.fn.places.world l.fn.file)) - l.from

@@ -1,0 +1,10 @@
+-- What is left, from the marks now, comes to what all come to.
+use Rattle.std.proofs.Common.{◌≡◌, drop}
+use Rattle.af_pass.specs.Keeping.{shaded_all}
+use Rattle.af_collect.proofs.shading.shade_some.Given as goal
+
+abbrev pub invariant-loop-file : goal.invariant-loop-file
+invariant-loop-file l = record {
+  frame : l.places ≡ record l.fn.places { marks = l.places.marks };
+  marks : shaded_all (drop l.file-index l.held) l.places.marks ≡ shaded_all l.held l.fn.places.marks;
+}
