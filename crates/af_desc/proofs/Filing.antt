@@ -11,10 +11,10 @@ use Rattle.af_ledger.specs.Waiting.{AreWaiting}
 use Rattle.af_ledger.specs.declared.count.Count.{Count}
 use Rattle.af_ledger.proofs.Waiting.{waiting-struck}
 use Rattle.af_listen.specs.Named.{Named}
-use Rattle.af_mark.specs.Grey.{unmarked}
+use Rattle.af_mark.specs.Grey.{AreListed, unmarked}
 use Rattle.af_mark.specs.declared.mark.Mark.{Mark}
 use Rattle.af_order.proofs.Values.{gone_few}
-use Rattle.af_desc.specs.Filed.{AreNamed, IsFiled, name_of}
+use Rattle.af_desc.specs.Filed.{AreFiled, AreNamed, IsFiled, name_of}
 use Rattle.af_desc.specs.Rowed.{Rowed}
 use Rattle.af_desc.proofs.Begun.{begun-made, begun-removed}
 use Rattle.af_desc.proofs.Naming.{named-changed, named-new}
@@ -39,15 +39,6 @@ module _ (old new : Rowed) (ws : List ℕ) (room : ℕ) (names : Named) (next : 
   -- Other files of the same numbers, with the names that are theirs.
   pub filed-named : (fs : Map File) (left : Named) → new ≡ record old { files = fs } → map.contains_key fs 0 ≡ false → AreNamed left fs → IsFiled new ws room left next
   filed-named fs left is begun named = subst (λ r. IsFiled r ws room left next) (sym is) (h.0, begun, named, h.3, h.4)
-
-  -- A socket changes, but for its name.
-  pub filed-changed : (f : ℕ) (g : Socket → Socket) → ((s : Socket) → (g s).name ≡ s.name) → new ≡ record old { files = change_socket_at g old.files f } → IsFiled new ws room names next
-  filed-changed f g same is = filed-named (change_socket_at g old.files f) names is (changed-live (file_with g) old.files f 0 ∙ h.1) (named-changed names old.files f g same h.2)
-
-  -- Or nothing does, where memory is refused.
-  pub filed-either : {A B : Type 0} (r : Result A B) (f : ℕ) (g : Socket → Socket) → ((s : Socket) → (g s).name ≡ s.name) → OnOk r (new ≡ record old { files = change_socket_at g old.files f }) → OnErr r (new ≡ old) → IsFiled new ws room names next
-  filed-either (Ok a) f g same ok err = filed-changed f g same ok
-  filed-either (Err b) f g same ok err = subst (λ r. IsFiled r ws room names next) (sym err) h
 
   -- Other counts of the same files, and the list of those that wait then.
   pub filed-counted : (m : Map Count) (vs : List ℕ) (most : ℕ) → new ≡ record old { counts = m } → AreWaiting new.counts vs → map.len new.counts ≡ map.len old.counts → room ≤ most → IsFiled new vs most names next
@@ -89,7 +80,15 @@ module _ (old new : Rowed) (ws : List ℕ) (room : ℕ) (names : Named) (next : 
         omega (arith, fits, more, ap map.len counts, gone_few old.counts k),
       )
 
--- Other files, or nothing else: the marks stay.
-pub same_marks : {A B : Type 0} (r : Result A B) (old new : Rowed) (files : Map File) → OnOk r (new ≡ record old { files = files }) → OnErr r (new ≡ old) → new.marks ≡ old.marks
-same_marks (Ok a) old new files ok err = ap (λ (r : Rowed). r.marks) ok
-same_marks (Err b) old new files ok err = ap (λ (r : Rowed). r.marks) err
+module _ (old new : Rowed) (ws : List ℕ) (room : ℕ) (names : Named) (next epoch : ℕ) (grey : List ℕ) (most : ℕ) (h : AreFiled old ws room names next epoch grey most) where
+  -- A socket changes, but for its name.
+  pub socket_changed : (f : ℕ) (g : Socket → Socket) → ((s : Socket) → (g s).name ≡ s.name) → new ≡ record old { files = change_socket_at g old.files f } → AreFiled new ws room names next epoch grey most
+  socket_changed f g same is = record {
+    filed = filed-named old new ws room names next h.filed (change_socket_at g old.files f) names is (changed-live (file_with g) old.files f 0 ∙ h.filed.1) (named-changed names old.files f g same h.filed.2);
+    listed = subst (λ r. AreListed r.marks epoch grey most) (sym is) h.listed;
+  }
+
+  -- Or nothing does, where memory is refused.
+  pub socket_either : {A B : Type 0} (r : Result A B) (f : ℕ) (g : Socket → Socket) → ((s : Socket) → (g s).name ≡ s.name) → OnOk r (new ≡ record old { files = change_socket_at g old.files f }) → OnErr r (new ≡ old) → AreFiled new ws room names next epoch grey most
+  socket_either (Ok a) f g same ok err = socket_changed f g same ok
+  socket_either (Err b) f g same ok err = subst (λ r. AreFiled r ws room names next epoch grey most) (sym err) h

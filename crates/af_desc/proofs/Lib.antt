@@ -2,6 +2,4 @@ pub mod Begun
 pub mod Naming
 pub mod Filing
 pub mod Rowed
-pub mod Lent
-pub mod Messages
 pub mod Washing

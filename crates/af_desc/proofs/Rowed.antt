@@ -1,25 +1,25 @@
 -- Three maps of one row, as a row comes, changes in one part, and goes; and the messages of all.
 use Rattle.std.proofs.Common.{◌≡◌, ℕ, ◌⊎◌, inl, inr, false, List, [], refl, sym, ap, ◌∙◌, subst, nat_eq}
 use Rattle.std.specs.Prelude.{Option, Some, None, IfSome, option_map}
-use Rattle.std.specs.Option.{option_and_then, option_map_or}
+use Rattle.std.specs.Option.{option_and_then}
 use Rattle.std.specs.FinMap as map
 use Rattle.std.specs.FinMap.{nat_cmp-IsAntisymmetric, same_map}
 use Rattle.std.specs.Ordering.{nat_cmp}
 use Rattle.std.specs.Cmp.{nat_cmp_total}
 use Rattle.slab.specs.Slab.{Slab}
 use Rattle.af_base.specs.Changes.{change_socket_at, file_with}
-use Rattle.af_base.specs.Places.{queue_in, queue_of}
 use Rattle.af_base.specs.Refusals.{socket_of}
-use Rattle.af_base.specs.World.{AsSocket, File, Map, Message, Plain, Socket}
+use Rattle.af_base.specs.World.{AsSocket, Map, Message, Socket}
 use Rattle.af_base.proofs.Lookups.{insert-here, insert-other, none_some, not_same, remove-here, remove-other, same_or_not, some_same}
 use Rattle.af_order.proofs.Parts.{part_get, part_kept, part_put}
-use Rattle.af_order.proofs.Values.{lent_changed}
+use Rattle.af_order.proofs.Values.{lent_changed, lent_same}
 use Rattle.af_queue.specs.Chains.{messages_of, IsChain, SameElsewhere}
 use Rattle.af_queue.specs.declared.chain.Node.{Node}
 use Rattle.af_queue.proofs.Chains.{none_chain, none_of, other_queue}
 use Rattle.af_desc.specs.Filed.{socket_in}
 use Rattle.af_desc.specs.Rowed.{counts_of, file_in, file_of, files_of, marks_of, refilled, AreChained}
 use Rattle.af_desc.specs.declared.row.Row.{Row}
+use Rattle.af_desc.proofs.Naming.{unchanged}
 
 -- A socket that has nothing to receive is as it is.
 pub refilled_none : (s : Socket) (q : List Message) → q ≡ [] → s.queue ≡ [] → refilled q s ≡ s
@@ -36,20 +36,23 @@ module _ (m : Map Row) (f : ℕ) (x : Row) (at : map.get m f ≡ Some x) where
   marks_kept y same = part_kept (λ r. r.mark) m f x y at same
 
   module _ (s : Slab Node) where
-    -- In another part: the chains stay.
-    pub chains_kept : (y : Row) → y.chain ≡ x.chain → AreChained s m → AreChained s (map.insert m f y)
-    chains_kept y chain h = record {
-      each = λ g z is. elim (same_or_not g f) [
-        | inl e ↦
-            let same = some_same y z (sym (ap (map.get (map.insert m f y)) e ∙ insert-here m f y) ∙ is) in
-            subst (λ c. IsChain s c g) (sym chain ∙ ap (λ r. r.chain) same) (h.each g x (ap (map.get m) e ∙ at))
-        | inr e ↦ h.each g z (sym (insert-other m f y g e) ∙ is)
-      ];
-    }
-
     -- The file is what its row says, with its messages.
     pub file_is : map.get (files_of s m) f ≡ Some (file_in s x)
     file_is = part_get (file_in s) m f ∙ ap (option_map (file_in s)) at
+
+-- A row is written to, but for its chain.
+pub chains_stay : (s : Slab Node) (m : Map Row) (f : ℕ) (y : Row) → option_map (λ r. r.chain) (map.get m f) ≡ Some y.chain → AreChained s m → AreChained s (map.insert m f y)
+chains_stay s m f y is h = record {
+  each = λ g z at. elim (same_or_not g f) [
+    | inl e ↦
+        let same = some_same y z (sym (ap (map.get (map.insert m f y)) e ∙ insert-here m f y) ∙ at) in
+        subst (λ (r : Row). IsChain s r.chain g) same (by g (map.get m f) (ap (map.get m) e) is)
+    | inr e ↦ h.each g z (sym (insert-other m f y g e) ∙ at)
+  ];
+} where
+  by : (g : ℕ) (o : Option Row) → map.get m g ≡ o → option_map (λ r. r.chain) o ≡ Some y.chain → IsChain s y.chain g
+  by g None at e = absurd (none_some y.chain e)
+  by g (Some x) at e = subst (λ c. IsChain s c g) (some_same x.chain y.chain e) (h.each g x at)
 
 -- A row comes that has nothing to receive.
 module _ (s : Slab Node) (m : Map Row) (f : ℕ) (x : Row) (none : x.chain.len ≡ 0) where
@@ -83,7 +86,7 @@ pub chains_none : (s : Slab Node) (m : Map Row) → m ≡ map.empty → AreChain
 chains_none s m none = record { each = λ g z is. absurd (none_some z (sym (ap (λ n. map.get n g) none ∙ map.get-empty nat_cmp g) ∙ is)) }
 
 -- What is there as rows come, change in a part that is not their chain, and go.
-pub ruleset chains = (chains_kept, chains_put, chains_taken, chains_none, files_put)
+pub ruleset chains = (chains_stay, chains_put, chains_taken, chains_none, files_put)
 
 -- Of a socket: what it has to receive is in its chain.
 module _ (s : Slab Node) (m : Map Row) (f : ℕ) (x : Row) (at : map.get m f ≡ Some x) (e : Socket) (is : x.endpoint ≡ Some e) where
@@ -93,42 +96,45 @@ module _ (s : Slab Node) (m : Map Row) (f : ℕ) (x : Row) (at : map.get m f ≡
   pub socket_is : socket_in (files_of s m) f ≡ Some (refilled (messages_of s x.chain) e)
   socket_is = ap (option_and_then socket_of) shown_is
 
-  pub queue_is : queue_in (files_of s m) f ≡ messages_of s x.chain
-  queue_is = ap (λ o. option_map_or queue_of o []) shown_is
+-- A row's queue is its file's.
+pub chained_at : (s : Slab Node) (m : Map Row) (f o : ℕ) (x : Row) → o ≡ f → map.get m f ≡ Some x → AreChained s m → IsChain s x.chain o
+chained_at s m f o x e at h = subst (IsChain s x.chain) (sym e) (h.each f x at)
 
 -- A file's messages change, and all other files' stay where they are.
-module _ (s t : Slab Node) (m : Map Row) (f : ℕ) (x y : Row) (at : map.get m f ≡ Some x) (h : AreChained s m) (own : IsChain t y.chain f) (others : SameElsewhere s t f) where
-  apart : (g : ℕ) → nat_eq g f ≡ false → g ≡ f → ⊥
-  apart g off e = not_same g f off e
+module _ (s t : Slab Node) (m : Map Row) (f o : ℕ) (y : Row) (e : o ≡ f) (h : AreChained s m) (own : IsChain t y.chain o) (others : SameElsewhere s t o) where
+  apart : (g : ℕ) → nat_eq g f ≡ false → g ≡ o → ⊥
+  apart g off is = not_same g f off (is ∙ e)
 
   pub chains_changed : AreChained t (map.insert m f y)
   chains_changed = record {
     each = λ g z is. elim (same_or_not g f) [
-      | inl e ↦
-          let same = some_same y z (sym (ap (map.get (map.insert m f y)) e ∙ insert-here m f y) ∙ is) in
-          subst (λ (r : Row). IsChain t r.chain g) same (subst (IsChain t y.chain) (sym e) own)
-      | inr e ↦ (other_queue s t g f z.chain others (apart g e) (h.each g z (sym (insert-other m f y g e) ∙ is))).0
+      | inl here ↦
+          let same = some_same y z (sym (ap (map.get (map.insert m f y)) here ∙ insert-here m f y) ∙ is) in
+          subst (λ (r : Row). IsChain t r.chain g) same (subst (IsChain t y.chain) (e ∙ sym here) own)
+      | inr off ↦ (other_queue s t g o z.chain others (apart g off) (h.each g z (sym (insert-other m f y g off) ∙ is))).0
     ];
   }
 
-  pub files_changed : files_of t (map.insert m f y) ≡ map.insert (files_of s m) f (file_in t y)
+  files_changed : files_of t (map.insert m f y) ≡ map.insert (files_of s m) f (file_in t y)
   files_changed = same_map nat_cmp_total nat_cmp-IsAntisymmetric _ _ (λ g. each g (same_or_not g f)) where
-    stays : (g : ℕ) → nat_eq g f ≡ false → (o : Option Row) → map.get m g ≡ o → option_map (file_in t) o ≡ option_map (file_in s) o
-    stays g e None was = refl
-    stays g e (Some z) was = ap (λ q. Some (file_of (option_map (refilled q) z.endpoint))) (other_queue s t g f z.chain others (apart g e) (h.each g z was)).1
+    stays : (g : ℕ) → nat_eq g f ≡ false → (q : Option Row) → map.get m g ≡ q → option_map (file_in t) q ≡ option_map (file_in s) q
+    stays g off None was = refl
+    stays g off (Some z) was = ap (λ q. Some (file_of (option_map (refilled q) z.endpoint))) (other_queue s t g o z.chain others (apart g off) (h.each g z was)).1
 
     each : (g : ℕ) → (g ≡ f) ⊎ (nat_eq g f ≡ false) → map.get (files_of t (map.insert m f y)) g ≡ map.get (map.insert (files_of s m) f (file_in t y)) g
-    each g (inl e) =
-        part_get (file_in t) (map.insert m f y) g ∙ ap (option_map (file_in t)) (ap (map.get (map.insert m f y)) e ∙ insert-here m f y)
-        ∙ sym (ap (map.get (map.insert (files_of s m) f (file_in t y))) e ∙ insert-here (files_of s m) f (file_in t y))
-    each g (inr e) =
-        part_get (file_in t) (map.insert m f y) g ∙ ap (option_map (file_in t)) (insert-other m f y g e) ∙ stays g e (map.get m g) refl
-        ∙ sym (part_get (file_in s) m g) ∙ sym (insert-other (files_of s m) f (file_in t y) g e)
+    each g (inl here) =
+        part_get (file_in t) (map.insert m f y) g ∙ ap (option_map (file_in t)) (ap (map.get (map.insert m f y)) here ∙ insert-here m f y)
+        ∙ sym (ap (map.get (map.insert (files_of s m) f (file_in t y))) here ∙ insert-here (files_of s m) f (file_in t y))
+    each g (inr off) =
+        part_get (file_in t) (map.insert m f y) g ∙ ap (option_map (file_in t)) (insert-other m f y g off) ∙ stays g off (map.get m g) refl
+        ∙ sym (part_get (file_in s) m g) ∙ sym (insert-other (files_of s m) f (file_in t y) g off)
 
-  -- It changes as its messages do.
-  pub messages_changed : (e : Socket) → x.endpoint ≡ Some e → y.endpoint ≡ x.endpoint → (g : Socket → Socket) → refilled (messages_of t y.chain) e ≡ g (refilled (messages_of s x.chain) e) → files_of t (map.insert m f y) ≡ change_socket_at g (files_of s m) f
-  messages_changed e is same g change =
-      files_changed ∙ lent_changed (files_of s m) f (AsSocket (refilled (messages_of s x.chain) e)) (file_in t y) (shown_is s m f x at e is) (file_with g) (ap (λ o. file_of (option_map (refilled (messages_of t y.chain)) o)) (same ∙ is) ∙ ap AsSocket change)
+  -- Its file changes as its messages do.
+  pub messages_changed : (g : Socket → Socket) (x : Row) → map.get m f ≡ Some x → file_in t y ≡ file_with g (file_in s x) → files_of t (map.insert m f y) ≡ change_socket_at g (files_of s m) f
+  messages_changed g x at is = files_changed ∙ lent_changed (files_of s m) f (file_in s x) (file_in t y) (file_is m f x at s) (file_with g) is
+
+  pub messages_stay : (x : Row) → map.get m f ≡ Some x → file_in t y ≡ file_in s x → files_of t (map.insert m f y) ≡ files_of s m
+  messages_stay x at is = files_changed ∙ lent_same (files_of s m) f (file_in s x) (file_in t y) (file_is m f x at s) is
 
 -- What is no socket has nothing to receive, and no change of a socket changes it.
 module _ (s : Slab Node) (m : Map Row) (f : ℕ) where
@@ -138,9 +144,16 @@ module _ (s : Slab Node) (m : Map Row) (f : ℕ) where
   pub plain_is_none : (x : Row) → map.get m f ≡ Some x → x.endpoint ≡ None → socket_in (files_of s m) f ≡ None
   plain_is_none x at none = ap (option_and_then socket_of) (file_is m f x at s) ∙ ap (λ o. socket_of (file_of (option_map (refilled (messages_of s x.chain)) o))) none
 
-pub none_to_receive : (files : Map File) (f : ℕ) → socket_in files f ≡ None → queue_in files f ≡ []
-none_to_receive files f none = by (map.get files f) none where
-  by : (o : Option File) → option_and_then socket_of o ≡ None → option_map_or queue_of o [] ≡ []
-  by None e = refl
-  by (Some Plain) e = refl
-  by (Some (AsSocket s)) e = absurd (none_some s (sym e))
+-- A socket changes that is written to in its row.
+module _ (s : Slab Node) (m : Map Row) (f : ℕ) (g : Socket → Socket) where
+  pub row_changed : (x y : Row) → map.get m f ≡ Some x → file_in s y ≡ file_with g (file_in s x) → files_of s (map.insert m f y) ≡ change_socket_at g (files_of s m) f
+  row_changed x y at is = part_put (file_in s) m f y ∙ lent_changed (files_of s m) f (file_in s x) (file_in s y) (file_is m f x at s) (file_with g) is
+
+  pub none_changed : map.get m f ≡ None → files_of s m ≡ change_socket_at g (files_of s m) f
+  none_changed none = unchanged g (files_of s m) f (stranger_is_none s m f none)
+
+-- Sockets that change.
+pub ruleset rows = (row_changed, none_changed, chains_stay, counts_kept, marks_kept)
+
+-- Messages that come and go.
+pub ruleset messages = (chained_at, chains_changed, messages_changed, messages_stay, none_changed, counts_kept, marks_kept)

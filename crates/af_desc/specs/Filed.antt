@@ -13,6 +13,7 @@ use Rattle.af_base.specs.Whole.{state_of}
 use Rattle.af_ledger.specs.Waiting.{AreWaiting}
 use Rattle.af_ledger.specs.declared.count.Count.{Count}
 use Rattle.af_listen.specs.Named.{Named}
+use Rattle.af_mark.specs.Grey.{AreListed}
 use Rattle.af_mark.specs.Marked.{Marked}
 use Rattle.af_queue.specs.Received.{Received, received}
 use Rattle.af_desc.specs.Rowed.{Rowed}
@@ -77,3 +78,8 @@ pub record AreNamed (names : Named) (files : Map File) : Type 0 where
 -- The rows fit the next number, the names, and the list of the files that wait, which has room for so many: numbers begin at 1 and rise (this project's own).
 abbrev pub IsFiled : Rowed → List ℕ → ℕ → Named → ℕ → Type 0
 IsFiled rows waiting room names next = (rows.last < next) × (map.contains_key rows.files 0 ≡ false) × AreNamed names rows.files × AreWaiting rows.counts waiting × (map.len rows.counts ≤ room)
+
+-- The same, and the list of the grey files, which has room for so many (this project's own).
+pub record AreFiled (rows : Rowed) (waiting : List ℕ) (room : ℕ) (names : Named) (next epoch : ℕ) (grey : List ℕ) (most : ℕ) : Type 0 where
+  pub filed : IsFiled rows waiting room names next
+  pub listed : AreListed rows.marks epoch grey most

@@ -1,4 +1,3 @@
 -- Files under numbers, and the representation that is seen so.
 pub mod Filed
-pub mod Lending
 pub mod Rowed

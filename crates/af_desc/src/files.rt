@@ -15,9 +15,8 @@ ghost use Rattle.af_mark.specs.Marked.{born, forgotten, is_grey};
 ghost use Rattle.af_desc.specs.Rowed.{file_of};
 ghost use Rattle.af_desc.specs.Filed.{is_full, is_live, name_of, with_pair, hung_up, popped, received_from, received_of, socket_in, state_in};
 
-use crate::endpoint::Endpoint;
 use crate::rows::Rows;
-use crate::socket::Socket;
+use crate::socket::{Endpoint, Socket};
 use af_base::events::{SockType, State};
 use af_base::items::Items;
 use af_base::limits::{MAX_FILES, MAX_INO, MAX_MESSAGES};
@@ -51,8 +50,8 @@ impl Model for Files {
     ghost use Rattle.std.specs.FinMap as map;
     ghost use Rattle.std.specs.Coded.{codes};
     ghost use Rattle.std.specs.Prelude.{vec_capacity};
-    ghost use Rattle.af_mark.specs.Grey.{AreListed, colors_in};
-    ghost use Rattle.af_desc.specs.Filed.{Filed, IsFiled};
+    ghost use Rattle.af_mark.specs.Grey.{colors_in};
+    ghost use Rattle.af_desc.specs.Filed.{AreFiled, Filed};
 
     ghost Value = { Filed };
 
@@ -60,7 +59,7 @@ impl Model for Files {
 
     ghost view = { λ a. record { files = a.rows.files; counts = a.rows.counts; marks = record { colors = colors_in a.epoch a.rows.marks; bound = a.bound }; next = a.next } };
 
-    ghost invariant = { λ a. IsFiled a.rows a.waiting.items (vec_capacity a.waiting) a.names a.next × AreListed a.rows.marks a.epoch a.grey.items (vec_capacity a.grey) };
+    ghost invariant = { λ a. AreFiled a.rows a.waiting.items (vec_capacity a.waiting) a.names a.next a.epoch a.grey.items (vec_capacity a.grey) };
 }
 
 impl Files {
@@ -210,7 +209,7 @@ impl Files {
         let first = enter(&mut self.rows, &mut self.waiting, lower, Some(endpoint));
         let endpoint = Endpoint::connected(kind, &first);
         let second = enter(&mut self.rows, &mut self.waiting, higher, Some(endpoint));
-        point(&mut self.rows, &first, &second);
+        self.rows.point(&first, &second);
         self.next += 2;
         Ok((first, second))
     }
@@ -256,23 +255,18 @@ impl Files {
     /// The peer of that socket is gone from now on. A plain file or a stranger stays as it is. It
     /// takes no memory.
     #[inline(always)]
-    #[tactic(auto, using(crate::proofs::Lent::lent))]
     pub fn hang_up(&mut self, file: &FileRef)
         ensures files { self.new.files ≡ change_socket_at hung_up self.old.files file.now }
         ensures next { self.new.next ≡ self.old.next }
         ensures counts { self.new.counts ≡ self.old.counts }
         ensures marks { self.new.marks ≡ self.old.marks }
     {
-        let Some(endpoint) = self.rows.endpoint_mut(file) else {
-            return;
-        };
-        endpoint.hang_up();
+        self.rows.hang_up(file);
     }
 
     /// One message more, last in the queue of that socket, which is not full. A plain file or a
     /// stranger has no queue, and there the message is dropped. Where memory is refused nothing has
     /// changed, and the message comes back.
-    #[tactic(auto, using(crate::proofs::Lent::lent))]
     pub fn push(&mut self, file: &FileRef, message: Msg) -> Result<(), Msg>
         requires few { length (queue_in self.old.files file.now) < MAX_MESSAGES }
         requires within { IsMessageWithin message }
@@ -300,7 +294,6 @@ impl Files {
 
     /// What a receive of at most so many bytes takes out of the queue of that socket (recvmsg(2)):
     /// nothing, where it is a plain file or a stranger. On an error nothing has changed.
-    #[tactic(auto, using(crate::proofs::Lent::lent))]
     pub fn take(&mut self, file: &FileRef, max: usize) -> Result<Taken, AllocError>
         requires { 0 < max }
         ensures taken { IfOk result (λ t. t ≡ received_of (socket_in self.old.files file.now) max) }
@@ -314,7 +307,6 @@ impl Files {
     }
 
     /// The first message out of the queue of that socket, if there is one. It takes no memory.
-    #[tactic(auto, using(crate::proofs::Lent::lent))]
     pub fn pop(&mut self, file: &FileRef) -> Option<Msg>
         ensures some { IfSome result (λ m. queue_in self.old.files file.now ≡ m ∷ drop 1 (queue_in self.old.files file.now)) }
         ensures none { IfNone result (queue_in self.old.files file.now ≡ []) }
@@ -345,22 +337,17 @@ impl Files {
 
     /// That socket is connected to this peer from now on. A plain file or a stranger stays as it is.
     /// It takes no memory.
-    #[tactic(auto, using(crate::proofs::Lent::lent))]
     fn connect(&mut self, file: &FileRef, peer: &FileRef)
         ensures files { self.new.files ≡ change_socket_at (connected peer.now) self.old.files file.now }
         ensures next { self.new.next ≡ self.old.next }
         ensures counts { self.new.counts ≡ self.old.counts }
         ensures marks { self.new.marks ≡ self.old.marks }
     {
-        let Some(endpoint) = self.rows.endpoint_mut(file) else {
-            return;
-        };
-        endpoint.connect(peer);
+        self.rows.connect(file, peer);
     }
 
     /// That socket, which has no name, has this one from now on, which is nobody's (bind(2)). A plain
     /// file or a stranger stays as it is. On an error nothing has changed.
-    #[tactic(auto, using(crate::proofs::Lent::lent))]
     pub fn bind(&mut self, file: &FileRef, name: &Items<u8>) -> Result<(), AllocError>
         requires nameless { IfSome (socket_in self.old.files file.now) (λ s. s.name ≡ None) }
         requires free { named self.old.files name.now ≡ None }
@@ -376,7 +363,7 @@ impl Files {
         let own = Items::of(name.as_slice().to_vec(self.alloc)?);
         let listed = Items::of(name.as_slice().to_vec(self.alloc)?);
         self.names.bind(listed, file.again())?;
-        if let Err(refused) = set_name(self.alloc, &mut self.rows, file, own) {
+        if let Err(refused) = self.rows.bind(file, self.alloc, own) {
             self.names.unbind(name);
             return Err(refused);
         }
@@ -385,7 +372,6 @@ impl Files {
 
     /// That socket, which has a name and no embryos, waits for connections from now on, so many at
     /// most (listen(2)). A plain file or a stranger stays as it is. On an error nothing has changed.
-    #[tactic(auto, using(crate::proofs::Lent::lent))]
     pub fn listen(&mut self, file: &FileRef, most: u32) -> Result<(), AllocError>
         requires named { IfSome (socket_in self.old.files file.now) (λ s. is_none s.name ≡ false) }
         requires nobody { IfSome (socket_in self.old.files file.now) (λ s. s.backlog ≡ []) }
@@ -395,15 +381,11 @@ impl Files {
         ensures marks { self.new.marks ≡ self.old.marks }
         ensures err { OnErr result (self.new ≡ self.old) }
     {
-        let Some(endpoint) = self.rows.endpoint_mut(file) else {
-            return Ok(());
-        };
-        endpoint.listen(self.alloc, most)
+        self.rows.listen(file, self.alloc, most)
     }
 
     /// An embryo more waits at that listener, last, for which its backlog has room. A plain file or a
     /// stranger stays as it is. It takes no memory.
-    #[tactic(auto, using(crate::proofs::Lent::lent))]
     pub fn enqueue(&mut self, file: &FileRef, embryo: FileRef)
         requires { IfSome (socket_in self.old.files file.now) (λ s. length s.backlog < room_of s.state) }
         ensures files { self.new.files ≡ change_socket_at (queued embryo) self.old.files file.now }
@@ -411,14 +393,10 @@ impl Files {
         ensures counts { self.new.counts ≡ self.old.counts }
         ensures marks { self.new.marks ≡ self.old.marks }
     {
-        let Some(endpoint) = self.rows.endpoint_mut(file) else {
-            return;
-        };
-        endpoint.enqueue(embryo);
+        self.rows.enqueue(file, embryo);
     }
 
     /// The first embryo of that listener waits no more, if one does. It takes no memory.
-    #[tactic(auto, using(crate::proofs::Lent::lent))]
     pub fn dequeue(&mut self, file: &FileRef) -> Option<FileRef>
         ensures some { IfSome result (λ f. backlog_in self.old.files file.now ≡ f ∷ drop 1 (backlog_in self.old.files file.now)) }
         ensures none { IfNone result (backlog_in self.old.files file.now ≡ []) }
@@ -427,8 +405,7 @@ impl Files {
         ensures counts { self.new.counts ≡ self.old.counts }
         ensures marks { self.new.marks ≡ self.old.marks }
     {
-        let endpoint = self.rows.endpoint_mut(file)?;
-        endpoint.dequeue()
+        self.rows.dequeue(file)
     }
 }
 
@@ -495,33 +472,4 @@ fn enter(
     let file = rows.push(ino, endpoint);
     waiting.push_reserved(file.again());
     file
-}
-
-/// That socket, which has no name, has this one from now on. A plain file or a stranger stays as it
-/// is. On an error nothing has changed.
-#[tactic(auto, using(crate::proofs::Lent::lent))]
-fn set_name(
-    alloc: Global,
-    rows: &mut Rows,
-    file: &FileRef,
-    name: Items<u8>,
-) -> Result<(), AllocError>
-    requires nameless { IfSome (socket_in rows.old.files file.now) (λ s. s.name ≡ None) }
-    ensures ok { OnOk result (rows.new ≡ record rows.old { files = change_socket_at (bound name) rows.old.files file.now }) }
-    ensures err { OnErr result (rows.new ≡ rows.old) }
-{
-    let Some(endpoint) = rows.endpoint_mut(file) else {
-        return Ok(());
-    };
-    endpoint.bind(alloc, name)
-}
-
-/// A new socket is told where its peer stands.
-#[tactic(auto, using(crate::proofs::Lent::lent))]
-fn point(rows: &mut Rows, file: &FileRef, peer: &FileRef)
-    ensures { rows.new ≡ rows.old }
-{
-    if let Some(endpoint) = rows.endpoint_mut(file) {
-        endpoint.point(peer);
-    }
 }

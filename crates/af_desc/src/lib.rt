@@ -3,7 +3,6 @@
 #![tactic(auto)]
 
 mod counts;
-mod endpoint;
 mod files;
 mod marks;
 mod row;

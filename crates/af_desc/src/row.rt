@@ -1,10 +1,21 @@
 //! What is kept of one file.
-ghost use Rattle.std.specs.Prelude.{◌≡◌, Some, IsSome};
+ghost use Rattle.std.specs.Prelude.{◌≡◌, ◌<◌, ◌∷◌, [], IfSome, IfNone, IfErr, IfOk, OnOk, OnErr, drop, length};
+ghost use Rattle.af_base.specs.Changes.{file_with, pushed};
+ghost use Rattle.af_base.specs.Places.{queue_of};
+ghost use Rattle.af_base.specs.Refusals.{socket_of};
+ghost use Rattle.af_base.specs.Whole.{IsMessageWithin};
+ghost use Rattle.af_queue.specs.Chains.{IsChain, SameElsewhere};
+ghost use Rattle.af_desc.specs.Filed.{popped, received_from, received_of};
+ghost use Rattle.af_desc.specs.Rowed.{file_in};
 
-use crate::endpoint::Endpoint;
+use crate::socket::Endpoint;
+use af_base::limits::MAX_MESSAGES;
+use af_base::names::Ino;
 use af_ledger::Count;
 use af_mark::Mark;
-use af_queue::Chain;
+use af_queue::{Chain, Msg, Node, Taken, pool};
+use slab::Slab;
+use std::alloc::{AllocError, Global};
 
 /// What is kept of one file: what it is, what it has to receive, how many places hold it, and its mark.
 #[derive(Drop)]
@@ -20,16 +31,66 @@ pub struct Row {
 }
 
 impl Row {
-    ghost use Rattle.std.specs.Borrow.{sem};
-    ghost use Rattle.af_desc.specs.Lending.{lends_endpoint};
-
-    /// The socket that it is, to write to: it is one.
+    /// One message more, last in its queue, which is not full; a plain file has none, and the message
+    /// goes. Where memory is refused nothing has changed, and the message comes back.
     #[inline(always)]
-    pub fn endpoint_mut(&mut self) -> &mut Endpoint
-        requires { IsSome self.old.endpoint }
-        ensures* writes_back { sem 𝓛 (lends_endpoint self.entry result) }
-        ensures value { Some result.now ≡ self.old.endpoint }
+    pub fn push(&mut self, nodes: &mut Slab<Node>, owner: Ino, message: Msg) -> Result<(), Msg>
+        requires chain { IsChain nodes.old self.old.chain owner }
+        requires few { length (queue_of (file_in nodes.old self.old)) < MAX_MESSAGES }
+        requires within { IsMessageWithin message }
+        ensures file { OnOk result (file_in nodes.new self.new ≡ file_with (pushed message) (file_in nodes.old self.old)) }
+        ensures back { IfErr result (λ refused. refused ≡ message) }
+        ensures err { OnErr result (file_in nodes.new self.new ≡ file_in nodes.old self.old) }
+        ensures chain { IsChain nodes.new self.new.chain owner }
+        ensures others { SameElsewhere nodes.old nodes.new owner }
+        ensures rest { self.new ≡ record self.old { chain = self.new.chain } }
     {
-        self.endpoint.as_mut().unwrap()
+        let Some(_) = &self.endpoint else {
+            return Ok(());
+        };
+        pool::push(nodes, &mut self.chain, owner, message)
+    }
+
+    /// The first message out of its queue, if there is one. It takes no memory.
+    #[inline(always)]
+    pub fn pop(&mut self, nodes: &mut Slab<Node>, owner: Ino) -> Option<Msg>
+        requires chain { IsChain nodes.old self.old.chain owner }
+        ensures some { IfSome result (λ m. queue_of (file_in nodes.old self.old) ≡ m ∷ drop 1 (queue_of (file_in nodes.old self.old))) }
+        ensures none { IfNone result (queue_of (file_in nodes.old self.old) ≡ []) }
+        ensures file { file_in nodes.new self.new ≡ file_with popped (file_in nodes.old self.old) }
+        ensures chain { IsChain nodes.new self.new.chain owner }
+        ensures others { SameElsewhere nodes.old nodes.new owner }
+        ensures rest { self.new ≡ record self.old { chain = self.new.chain } }
+    {
+        let Some(_) = &self.endpoint else {
+            return None;
+        };
+        pool::pop(nodes, &mut self.chain, owner)
+    }
+
+    /// What a receive of at most so many bytes takes out of its queue (recvmsg(2)): nothing of a plain
+    /// file. On an error nothing has changed.
+    #[inline(always)]
+    pub fn take(
+        &mut self,
+        nodes: &mut Slab<Node>,
+        owner: Ino,
+        alloc: Global,
+        max: usize,
+    ) -> Result<Taken, AllocError>
+        requires chain { IsChain nodes.old self.old.chain owner }
+        requires some { 0 < max }
+        ensures taken { IfOk result (λ t. t ≡ received_of (socket_of (file_in nodes.old self.old)) max) }
+        ensures file { OnOk result (file_in nodes.new self.new ≡ file_with (received_from max) (file_in nodes.old self.old)) }
+        ensures err { OnErr result (file_in nodes.new self.new ≡ file_in nodes.old self.old) }
+        ensures chain { IsChain nodes.new self.new.chain owner }
+        ensures others { SameElsewhere nodes.old nodes.new owner }
+        ensures rest { self.new ≡ record self.old { chain = self.new.chain } }
+    {
+        let Some(endpoint) = &self.endpoint else {
+            return Ok(Taken::nothing(alloc));
+        };
+        let kind = endpoint.kind();
+        pool::take(nodes, &mut self.chain, owner, alloc, kind, max)
     }
 }

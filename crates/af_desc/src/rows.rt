@@ -1,26 +1,25 @@
 //! One row for each file.
-ghost use Rattle.std.specs.Prelude.{◌≡◌, ℕ, ◌+◌, ◌≤◌, ◌<◌, ◌∷◌, [], false, IsTrue, IsOk, IfSome, IfNone, IfErr, IfOk, OnOk, OnErr, drop, length, nat_eq, option_copied, option_map};
+ghost use Rattle.std.specs.Prelude.{◌≡◌, ℕ, ◌+◌, ◌≤◌, ◌<◌, ◌∷◌, [], false, None, IsTrue, IsOk, IfSome, IfNone, IfErr, IfOk, OnOk, OnErr, drop, is_none, length, nat_eq, option_copied};
 ghost use Rattle.std.specs.FinMap as map;
-ghost use Rattle.std.specs.Option.{option_copied_mut};
-ghost use Rattle.std.specs.Borrow.{sem};
-ghost use Rattle.af_base.specs.Changes.{change_socket_at, pushed};
-ghost use Rattle.af_base.specs.Places.{queue_in};
+ghost use Rattle.af_base.specs.Changes.{bound, change_socket_at, connected, dequeued, listening, pushed, queued};
+ghost use Rattle.af_base.specs.Places.{backlog_in, queue_in};
+ghost use Rattle.af_base.specs.Refusals.{room_of};
 ghost use Rattle.af_base.specs.Whole.{IsMessageWithin};
 ghost use Rattle.af_ledger.specs.Counted.{fewer, more, places_in, uncounted, IsCountable, IsCounted};
 ghost use Rattle.af_ledger.specs.Kept.{count_in_map};
 ghost use Rattle.af_mark.specs.Grey.{unmarked};
-ghost use Rattle.af_desc.specs.Filed.{popped, received_from, received_of, socket_in};
-ghost use Rattle.af_desc.specs.Rowed.{file_of, refilled};
+ghost use Rattle.af_desc.specs.Filed.{hung_up, popped, received_from, received_of, socket_in};
+ghost use Rattle.af_desc.specs.Rowed.{file_of};
 
-use crate::endpoint::Endpoint;
 use crate::row::Row;
-use crate::socket::Socket;
+use crate::socket::{Endpoint, Socket};
+use af_base::items::Items;
 use af_base::limits::MAX_MESSAGES;
 use af_base::names::{FileRef, Ino};
 use af_ledger::{Count, Place};
 use af_mark::Mark;
 use af_order::Keyed;
-use af_queue::{Chain, Msg, Node, Queue, Taken, pool};
+use af_queue::{Chain, Msg, Node, Queue, Taken};
 use slab::Slab;
 use std::alloc::{AllocError, Global};
 use std::marker::Model;
@@ -50,8 +49,6 @@ impl Model for Rows {
 }
 
 impl Rows {
-    ghost use Rattle.af_desc.specs.Lending.{lends_endpoint_at};
-
     /// No row. It takes no memory.
     #[tactic(auto, using(crate::proofs::Rowed::chains, af_order::proofs::Parts::parts))]
     pub fn new(alloc: Global) -> Rows
@@ -152,27 +149,125 @@ impl Rows {
         Some(&row.count)
     }
 
-    /// The socket that a file is, to write to, but for what it has to receive; a plain file and a
-    /// stranger are none.
+    /// A new socket is told where its peer stands: a hint.
     #[inline(always)]
-    pub fn endpoint_mut(&mut self, file: &FileRef) -> Option<&mut Endpoint>
-        ensures* writes_back { sem 𝓛 (lends_endpoint_at self.entry file.now result) }
-        ensures value { option_copied_mut result ≡ option_map (refilled []) (socket_in self.old.files file.now) }
+    #[tactic(auto, using(crate::proofs::Rowed::rows, af_order::proofs::Parts::parts))]
+    pub fn point(&mut self, file: &FileRef, peer: &FileRef)
+        ensures { self.new ≡ self.old }
+    {
+        let Some(row) = self.rows.get_mut(file) else {
+            return;
+        };
+        let Some(endpoint) = &mut row.endpoint else {
+            return;
+        };
+        endpoint.point(peer);
+    }
+
+    /// The peer of that socket is gone from now on.
+    #[inline(always)]
+    #[tactic(auto, using(crate::proofs::Rowed::rows, af_order::proofs::Parts::parts))]
+    pub fn hang_up(&mut self, file: &FileRef)
+        ensures { self.new ≡ record self.old { files = change_socket_at hung_up self.old.files file.now } }
+    {
+        let Some(row) = self.rows.get_mut(file) else {
+            return;
+        };
+        let Some(endpoint) = &mut row.endpoint else {
+            return;
+        };
+        endpoint.hang_up();
+    }
+
+    /// That socket is connected to this peer from now on.
+    #[inline(always)]
+    #[tactic(auto, using(crate::proofs::Rowed::rows, af_order::proofs::Parts::parts))]
+    pub fn connect(&mut self, file: &FileRef, peer: &FileRef)
+        ensures { self.new ≡ record self.old { files = change_socket_at (connected peer.now) self.old.files file.now } }
+    {
+        let Some(row) = self.rows.get_mut(file) else {
+            return;
+        };
+        let Some(endpoint) = &mut row.endpoint else {
+            return;
+        };
+        endpoint.connect(peer);
+    }
+
+    /// That socket, which has no name, has this one from now on. On an error nothing has changed.
+    #[inline(always)]
+    #[tactic(auto, using(crate::proofs::Rowed::rows, af_order::proofs::Parts::parts))]
+    pub fn bind(&mut self, file: &FileRef, alloc: Global, name: Items<u8>) -> Result<(), AllocError>
+        requires { IfSome (socket_in self.old.files file.now) (λ s. s.name ≡ None) }
+        ensures ok { OnOk result (self.new ≡ record self.old { files = change_socket_at (bound name) self.old.files file.now }) }
+        ensures err { OnErr result (self.new ≡ self.old) }
+    {
+        let Some(row) = self.rows.get_mut(file) else {
+            return Ok(());
+        };
+        let Some(endpoint) = &mut row.endpoint else {
+            return Ok(());
+        };
+        endpoint.bind(alloc, name)
+    }
+
+    /// That socket, which has a name and no embryos, waits for connections from now on, so many at
+    /// most. On an error nothing has changed.
+    #[inline(always)]
+    #[tactic(auto, using(crate::proofs::Rowed::rows, af_order::proofs::Parts::parts))]
+    pub fn listen(&mut self, file: &FileRef, alloc: Global, most: u32) -> Result<(), AllocError>
+        requires named { IfSome (socket_in self.old.files file.now) (λ s. is_none s.name ≡ false) }
+        requires nobody { IfSome (socket_in self.old.files file.now) (λ s. s.backlog ≡ []) }
+        ensures ok { OnOk result (self.new ≡ record self.old { files = change_socket_at (listening most) self.old.files file.now }) }
+        ensures err { OnErr result (self.new ≡ self.old) }
+    {
+        let Some(row) = self.rows.get_mut(file) else {
+            return Ok(());
+        };
+        let Some(endpoint) = &mut row.endpoint else {
+            return Ok(());
+        };
+        endpoint.listen(alloc, most)
+    }
+
+    /// An embryo more waits at that listener, last, for which its backlog has room.
+    #[inline(always)]
+    #[tactic(auto, using(crate::proofs::Rowed::rows, af_order::proofs::Parts::parts))]
+    pub fn enqueue(&mut self, file: &FileRef, embryo: FileRef)
+        requires { IfSome (socket_in self.old.files file.now) (λ s. length s.backlog < room_of s.state) }
+        ensures { self.new ≡ record self.old { files = change_socket_at (queued embryo) self.old.files file.now } }
+    {
+        let Some(row) = self.rows.get_mut(file) else {
+            return;
+        };
+        let Some(endpoint) = &mut row.endpoint else {
+            return;
+        };
+        endpoint.enqueue(embryo);
+    }
+
+    /// The first embryo of that listener waits no more, if one does.
+    #[inline(always)]
+    #[tactic(auto, using(crate::proofs::Rowed::rows, af_order::proofs::Parts::parts))]
+    pub fn dequeue(&mut self, file: &FileRef) -> Option<FileRef>
+        ensures some { IfSome result (λ f. backlog_in self.old.files file.now ≡ f ∷ drop 1 (backlog_in self.old.files file.now)) }
+        ensures none { IfNone result (backlog_in self.old.files file.now ≡ []) }
+        ensures rest { self.new ≡ record self.old { files = change_socket_at dequeued self.old.files file.now } }
     {
         let Some(row) = self.rows.get_mut(file) else {
             return None;
         };
-        let Some(endpoint) = &row.endpoint else {
+        let Some(endpoint) = &mut row.endpoint else {
             return None;
         };
-        endpoint.is_silent();
-        Some(row.endpoint_mut())
+        endpoint.dequeue()
     }
 
-    /// One message more, last in the queue of that socket, which is not full. A plain file or a
-    /// stranger has no queue, and there the message is dropped. Where memory is refused nothing has
-    /// changed, and the message comes back.
+    /// One message more, last in the queue of that socket, which is not full; a plain file or a
+    /// stranger has none, and the message goes. Where memory is refused nothing has changed, and the
+    /// message comes back.
     #[inline(always)]
+    #[tactic(auto, using(crate::proofs::Rowed::messages, af_order::proofs::Parts::parts))]
     pub fn push_message(&mut self, file: &FileRef, message: Msg) -> Result<(), Msg>
         requires few { length (queue_in self.old.files file.now) < MAX_MESSAGES }
         requires within { IsMessageWithin message }
@@ -183,29 +278,25 @@ impl Rows {
         let Some(row) = self.rows.get_mut(file) else {
             return Ok(());
         };
-        let Some(_) = &row.endpoint else {
-            return Ok(());
-        };
-        pool::push(&mut self.nodes, &mut row.chain, file.ino(), message)
+        row.push(&mut self.nodes, file.ino(), message)
     }
 
     /// The first message out of the queue of that socket, if there is one. It takes no memory.
     #[inline(always)]
+    #[tactic(auto, using(crate::proofs::Rowed::messages, af_order::proofs::Parts::parts))]
     pub fn pop_message(&mut self, file: &FileRef) -> Option<Msg>
         ensures some { IfSome result (λ m. queue_in self.old.files file.now ≡ m ∷ drop 1 (queue_in self.old.files file.now)) }
         ensures none { IfNone result (queue_in self.old.files file.now ≡ []) }
         ensures rest { self.new ≡ record self.old { files = change_socket_at popped self.old.files file.now } }
     {
         let row = self.rows.get_mut(file)?;
-        let Some(_) = &row.endpoint else {
-            return None;
-        };
-        pool::pop(&mut self.nodes, &mut row.chain, file.ino())
+        row.pop(&mut self.nodes, file.ino())
     }
 
     /// What a receive of at most so many bytes takes out of the queue of that socket (recvmsg(2)):
     /// nothing, where it is a plain file or a stranger. On an error nothing has changed.
     #[inline(always)]
+    #[tactic(auto, using(crate::proofs::Rowed::messages, af_order::proofs::Parts::parts))]
     pub fn take(&mut self, file: &FileRef, alloc: Global, max: usize) -> Result<Taken, AllocError>
         requires { 0 < max }
         ensures taken { IfOk result (λ t. t ≡ received_of (socket_in self.old.files file.now) max) }
@@ -215,18 +306,7 @@ impl Rows {
         let Some(row) = self.rows.get_mut(file) else {
             return Ok(Taken::nothing(alloc));
         };
-        let Some(endpoint) = &row.endpoint else {
-            return Ok(Taken::nothing(alloc));
-        };
-        let kind = endpoint.kind();
-        pool::take(
-            &mut self.nodes,
-            &mut row.chain,
-            file.ino(),
-            alloc,
-            kind,
-            max,
-        )
+        row.take(&mut self.nodes, file.ino(), alloc, max)
     }
 
     /// One place more of a file, which is there. Whether it had none. It takes no memory.

@@ -1,14 +1,184 @@
-//! A socket, lent for reading.
-ghost use Rattle.std.specs.Prelude.{◌≡◌, ℕ, [], IfSome, IfNone, length, option_copied};
-ghost use Rattle.af_base.specs.World as world;
+//! A socket: what it is but for its queue, and the whole, lent for reading.
+ghost use Rattle.std.specs.Prelude.{◌≡◌, ℕ, ◌∷◌, [], ◌<◌, OnOk, OnErr, IfSome, IfNone, None, false, is_none, length, drop, option_copied};
+ghost use Rattle.af_base.specs.Changes.{bound, connected, dequeued, listening, queued};
+ghost use Rattle.af_base.specs.Refusals.{room_of};
+ghost use Rattle.af_base.specs.Steps.{connected_socket, idle_socket};
+ghost use Rattle.af_desc.specs.Filed.{hung_up};
 
-use crate::endpoint::Endpoint;
 use af_base::events::{SockType, State};
 use af_base::items::Items;
 use af_base::names::FileRef;
 use af_listen::Backlog;
 use af_queue::Queue;
+use std::alloc::{AllocError, Global};
 use std::marker::Model;
+
+/// What a socket is, but for its queue. A contract sees it as a socket that has nothing to receive.
+#[derive(Drop)]
+pub struct Endpoint {
+    kind: SockType,
+    state: State,
+    /// Where the peer stands, if there is one: a hint.
+    peer_key: usize,
+    /// What a socket with a name has besides; most have none.
+    bound: Option<Box<Bound>>,
+}
+
+/// A name, and who waits for the socket of that name to accept them: nobody, until it listens.
+#[derive(Drop)]
+struct Bound {
+    name: Items<u8>,
+    backlog: Backlog,
+}
+
+impl Model for Endpoint {
+    ghost use Rattle.std.specs.Prelude.{◌≤◌, [], option_map};
+    ghost use Rattle.std.specs.Option.{option_map_or};
+    ghost use Rattle.af_base.specs.Refusals.{room_of};
+    ghost use Rattle.af_base.specs.World as world;
+
+    ghost Value = { world.Socket };
+
+    ghost view = { λ a. record { kind = a.kind; state = a.state; name = option_map (λ b. b.value.name) a.bound; queue = []; backlog = option_map_or (λ b. b.value.backlog.waiting) a.bound [] } };
+
+    ghost invariant = { λ a. room_of a.state ≤ option_map_or (λ b. b.value.backlog.most) a.bound 0 };
+}
+
+impl Endpoint {
+    /// That of a new socket that was never connected.
+    pub fn idle(kind: SockType) -> Endpoint
+        ensures { result ≡ idle_socket kind }
+    {
+        Endpoint {
+            kind,
+            state: State::Idle,
+            peer_key: 0,
+            bound: None,
+        }
+    }
+
+    /// That of a new socket that is connected to that one.
+    pub fn connected(kind: SockType, peer: &FileRef) -> Endpoint
+        ensures { result ≡ connected_socket kind peer.now }
+    {
+        Endpoint {
+            kind,
+            state: State::Connected(peer.ino()),
+            peer_key: peer.key(),
+            bound: None,
+        }
+    }
+
+    /// Nothing at run time: it says that there is nothing to receive here.
+    pub fn is_silent(&self)
+        ensures { self.now.queue ≡ [] }
+    {
+        // The view says it: it is enough to look at a field.
+        let _kind = &self.kind;
+    }
+
+    /// Its type.
+    pub fn kind(&self) -> SockType
+        ensures { result ≡ self.now.kind }
+    {
+        self.kind
+    }
+
+    /// To whom it is connected; nobody where it was never connected, or the peer is gone.
+    pub fn peer(&self) -> Option<FileRef>
+        ensures some { IfSome result (λ peer. self.now.state ≡ State.Connected peer) }
+        ensures none { IfNone result ((peer : ℕ) → ¬ (self.now.state ≡ State.Connected peer)) }
+    {
+        match self.state {
+            State::Connected(ino) => Some(FileRef::new(ino, self.peer_key)),
+            State::Idle | State::Listening(_) | State::HungUp => None,
+        }
+    }
+
+    /// Its abstract name, if it has one (unix(7)).
+    pub fn name(&self) -> Option<&Items<u8>>
+        ensures { option_copied result ≡ self.now.name }
+    {
+        match &self.bound {
+            Some(bound) => Some(&bound.name),
+            None => None,
+        }
+    }
+
+    /// It has this name from now on. On an error nothing has changed.
+    pub fn bind(&mut self, alloc: Global, name: Items<u8>) -> Result<(), AllocError>
+        requires { self.old.name ≡ None }
+        ensures ok { OnOk result (self.new ≡ bound name self.old) }
+        ensures err { OnErr result (self.new ≡ self.old) }
+    {
+        let bound = Bound {
+            name,
+            backlog: Backlog::none(alloc),
+        };
+        self.bound = Some(Box::new(alloc, bound)?);
+        Ok(())
+    }
+
+    /// It waits for connections from now on, so many at most; it has a name, and nobody waits yet. On
+    /// an error nothing has changed.
+    pub fn listen(&mut self, alloc: Global, most: u32) -> Result<(), AllocError>
+        requires named { is_none self.old.name ≡ false }
+        requires nobody { self.old.backlog ≡ [] }
+        ensures ok { OnOk result (self.new ≡ listening most self.old) }
+        ensures err { OnErr result (self.new ≡ self.old) }
+    {
+        let backlog = Backlog::new(alloc, most)?;
+        let Some(bound) = &mut self.bound else {
+            return Ok(());
+        };
+        bound.backlog = backlog;
+        self.state = State::Listening(most);
+        Ok(())
+    }
+
+    /// It is connected to that socket from now on. It takes no memory.
+    pub fn connect(&mut self, peer: &FileRef)
+        ensures { self.new ≡ connected peer.now self.old }
+    {
+        self.state = State::Connected(peer.ino());
+        self.peer_key = peer.key();
+    }
+
+    /// An embryo more waits, last. It takes no memory.
+    pub fn enqueue(&mut self, embryo: FileRef)
+        requires { length self.old.backlog < room_of self.old.state }
+        ensures { self.new ≡ queued embryo self.old }
+    {
+        let Some(bound) = self.bound.as_mut() else {
+            return;
+        };
+        bound.backlog.enqueue(embryo);
+    }
+
+    /// The first embryo waits no more, if one does. It takes no memory.
+    pub fn dequeue(&mut self) -> Option<FileRef>
+        ensures some { IfSome result (λ f. self.old.backlog ≡ f ∷ drop 1 self.old.backlog) }
+        ensures none { IfNone result (self.old.backlog ≡ []) }
+        ensures rest { self.new ≡ dequeued self.old }
+    {
+        let bound = self.bound.as_mut()?;
+        bound.backlog.dequeue()
+    }
+
+    /// The peer stands where this says: a hint. Nothing that a contract sees changes.
+    pub fn point(&mut self, peer: &FileRef)
+        ensures { self.new ≡ self.old }
+    {
+        self.peer_key = peer.key();
+    }
+
+    /// The peer is gone from now on.
+    pub fn hang_up(&mut self)
+        ensures { self.new ≡ hung_up self.old }
+    {
+        self.state = State::HungUp;
+    }
+}
 
 /// A socket, lent for reading: what it is, and what it has to receive.
 #[derive(Drop)]
@@ -47,7 +217,8 @@ impl<'a> Socket<'a> {
     pub fn state(&self) -> State
         ensures { result ≡ self.now.state }
     {
-        self.endpoint.state()
+        let endpoint = self.endpoint;
+        endpoint.state
     }
 
     /// To whom it is connected; nobody where it was never connected, or the peer is gone.
@@ -81,7 +252,11 @@ impl<'a> Socket<'a> {
         ensures some { IfSome result (λ b. b.now.waiting ≡ self.now.backlog) }
         ensures none { IfNone result (self.now.backlog ≡ []) }
     {
-        self.endpoint.backlog()
+        let endpoint = self.endpoint;
+        match &endpoint.bound {
+            Some(bound) => Some(&bound.backlog),
+            None => None,
+        }
     }
 
     /// How many embryos wait to be accepted.
@@ -89,6 +264,10 @@ impl<'a> Socket<'a> {
     pub fn embryos(&self) -> usize
         ensures { result ≡ length self.now.backlog }
     {
-        self.endpoint.embryos()
+        let endpoint = self.endpoint;
+        match &endpoint.bound {
+            Some(bound) => bound.backlog.len(),
+            None => 0,
+        }
     }
 }

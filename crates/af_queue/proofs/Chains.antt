@@ -293,17 +293,17 @@ path_within s f l k (suc n) p = subst AreWithin (sym (first_there s k n p.0 p.1.
 -- Where the nodes of all files but one stay, so does another one's queue.
 pub other_queue : (s t : Slab Node) (f o : ℕ) (c : Chain) → SameElsewhere s t o → f ≢ o → IsChain s c f → IsChain t c f × (messages_of t c ≡ messages_of s c)
 other_queue s t f o c same off h =
-    let p = h.1 in
+    let p = h.path in
     let keeps = keeps_others s t f c.last o same off c.first c.len p in
-    ((h.0, path_kept s t f c.last c.first c.len p keeps), messages_kept s t f c.last c.first c.len p keeps)
+    (record { few = h.few; path = path_kept s t f c.last c.first c.len p keeps }, messages_kept s t f c.last c.first c.len p keeps)
 
 -- Where all nodes stay, so does a queue.
 pub same_queue : (s t : Slab Node) (f : ℕ) (c : Chain) → SameValues s t → IsChain s c f → IsChain t c f × (messages_of t c ≡ messages_of s c)
-same_queue s t f c same h = ((h.0, path_kept s t f c.last c.first c.len h.1 (λ q e. same q)), messages_kept s t f c.last c.first c.len h.1 (λ q e. same q))
+same_queue s t f c same h = (record { few = h.few; path = path_kept s t f c.last c.first c.len h.path (λ q e. same q) }, messages_kept s t f c.last c.first c.len h.path (λ q e. same q))
 
 -- No message, in a queue of nothing.
 pub none_of : (s : Slab Node) (c : Chain) → c.len ≡ 0 → messages_of s c ≡ []
 none_of s c e = ap (messages_from s c.first) e
 
 pub none_chain : (s : Slab Node) (c : Chain) (f : ℕ) → c.len ≡ 0 → IsChain s c f
-none_chain s c f e = (omega (arith, e), subst (IsPath s f c.last c.first) (sym e) refl)
+none_chain s c f e = record { few = omega (arith, e); path = subst (IsPath s f c.last c.first) (sym e) refl }

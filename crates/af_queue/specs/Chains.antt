@@ -35,8 +35,9 @@ IsPath s f l k (suc n) =
     (x : Node) × ((slots.get s k ≡ Some x) × (x.owner ≡ f) × (list_any (nat_eq k) (keys_from s x.next n) ≡ false) × (n ≡ zero → k ≡ l) × IsMessageWithin x.message × IsPath s f l x.next n)
 
 -- The nodes of a queue, 64 at most, are linked, and are that file's (this project's own).
-abbrev pub IsChain : Slab Node → Chain → ℕ → Type 0
-IsChain s c f = (c.len ≤ MAX_MESSAGES) × IsPath s f c.last c.first c.len
+pub record IsChain (s : Slab Node) (c : Chain) (f : ℕ) : Type 0 where
+  pub few : c.len ≤ MAX_MESSAGES
+  pub path : IsPath s f c.last c.first c.len
 
 -- The nodes of all other files are as they were (this project's own).
 abbrev pub SameElsewhere : Slab Node → Slab Node → ℕ → Type 0

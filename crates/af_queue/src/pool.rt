@@ -26,7 +26,7 @@ use std::alloc::{AllocError, Global};
 #[inline(always)]
 pub fn push(nodes: &mut Slab<Node>, chain: &mut Chain, owner: Ino, message: Msg) -> Result<(), Msg>
     requires chain { IsChain nodes.old chain.old owner }
-    requires few { chain.old.len < MAX_MESSAGES }
+    requires few { length (messages_of nodes.old chain.old) < MAX_MESSAGES }
     requires within { IsMessageWithin message }
     ensures chain { IsChain nodes.new chain.new owner }
     ensures messages { OnOk result (messages_of nodes.new chain.new ≡ messages_of nodes.old chain.old ++ message ∷ []) }

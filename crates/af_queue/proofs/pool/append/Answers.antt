@@ -7,16 +7,16 @@ returns-clause-chain c =
     let chain = c.args.chain.now in
     let insert = c.insert_reserved-key in
     let few = c.requires.few in
-    (omega (arith, few), (pushed c.args.nodes.now insert.new.self c.link.new.nodes c.args.owner chain.last insert.result _ insert.ensures.was_vacant refl c.requires.within insert.ensures.updates c.link.ensures.linked c.link.ensures.others chain.first chain.len c.if-chain-eq0.false c.requires.chain.1).0)
+    record { few = omega (arith, few); path = (pushed c.args.nodes.now insert.new.self c.link.new.nodes c.args.owner chain.last insert.result _ insert.ensures.was_vacant refl c.requires.within insert.ensures.updates c.link.ensures.linked c.link.ensures.others chain.first chain.len c.if-chain-eq0.false c.requires.chain.path).0 }
 
 pub returns-clause-messages : goal.returns-clause-messages
 returns-clause-messages c =
     let chain = c.args.chain.now in
     let insert = c.insert_reserved-key in
-    (pushed c.args.nodes.now insert.new.self c.link.new.nodes c.args.owner chain.last insert.result _ insert.ensures.was_vacant refl c.requires.within insert.ensures.updates c.link.ensures.linked c.link.ensures.others chain.first chain.len c.if-chain-eq0.false c.requires.chain.1).1
+    (pushed c.args.nodes.now insert.new.self c.link.new.nodes c.args.owner chain.last insert.result _ insert.ensures.was_vacant refl c.requires.within insert.ensures.updates c.link.ensures.linked c.link.ensures.others chain.first chain.len c.if-chain-eq0.false c.requires.chain.path).1
 
 pub returns-clause-others : goal.returns-clause-others
 returns-clause-others c =
     let chain = c.args.chain.now in
     let insert = c.insert_reserved-key in
-    pushed_elsewhere c.args.nodes.now insert.new.self c.link.new.nodes c.args.owner chain.last insert.result _ insert.ensures.was_vacant refl c.requires.within insert.ensures.updates c.link.ensures.linked c.link.ensures.others chain.first chain.len c.if-chain-eq0.false c.requires.chain.1
+    pushed_elsewhere c.args.nodes.now insert.new.self c.link.new.nodes c.args.owner chain.last insert.result _ insert.ensures.was_vacant refl c.requires.within insert.ensures.updates c.link.ensures.linked c.link.ensures.others chain.first chain.len c.if-chain-eq0.false c.requires.chain.path

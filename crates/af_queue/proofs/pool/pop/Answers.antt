@@ -5,15 +5,15 @@ use Rattle.af_queue.proofs.pool.pop.Goals as goal
 pub returns-clause-chain : goal.returns-clause-chain
 returns-clause-chain c =
     let chain = c.args.chain.now in
-    let few = c.requires.chain.0 in
-    (omega (arith, few), (pops c.args.nodes.now c.remove-node.new.self c.args.owner chain.last chain.first chain.len c.remove-node.result c.if-chain-eq0.false c.remove-node.ensures.value c.remove-node.ensures.updates c.requires.chain.1).0)
+    let few = c.requires.chain.few in
+    record { few = omega (arith, few); path = (pops c.args.nodes.now c.remove-node.new.self c.args.owner chain.last chain.first chain.len c.remove-node.result c.if-chain-eq0.false c.remove-node.ensures.value c.remove-node.ensures.updates c.requires.chain.path).0 }
 
 pub returns-clause-some : goal.returns-clause-some
 returns-clause-some c =
     let chain = c.args.chain.now in
-    (pops c.args.nodes.now c.remove-node.new.self c.args.owner chain.last chain.first chain.len c.remove-node.result c.if-chain-eq0.false c.remove-node.ensures.value c.remove-node.ensures.updates c.requires.chain.1).1
+    (pops c.args.nodes.now c.remove-node.new.self c.args.owner chain.last chain.first chain.len c.remove-node.result c.if-chain-eq0.false c.remove-node.ensures.value c.remove-node.ensures.updates c.requires.chain.path).1
 
 pub returns-clause-rest : goal.returns-clause-rest
 returns-clause-rest c =
     let chain = c.args.chain.now in
-    sym (ap (drop 1) (pops c.args.nodes.now c.remove-node.new.self c.args.owner chain.last chain.first chain.len c.remove-node.result c.if-chain-eq0.false c.remove-node.ensures.value c.remove-node.ensures.updates c.requires.chain.1).1)
+    sym (ap (drop 1) (pops c.args.nodes.now c.remove-node.new.self c.args.owner chain.last chain.first chain.len c.remove-node.result c.if-chain-eq0.false c.remove-node.ensures.value c.remove-node.ensures.updates c.requires.chain.path).1)

@@ -12,7 +12,7 @@ use Rattle.af_desc.proofs.files.Files.make.Goals as goal
 pub enter-file-requires : goal.enter-file-requires
 enter-file-requires c =
     let a = c.self.inside in
-    let reserved = filed-reserved a.rows c.reserve.new.rows a.waiting.items (vec_capacity a.waiting) a.names a.next c.self.invariant.0 c.reserve.new.waiting.items (vec_capacity c.reserve.new.waiting) c.reserve.ensures.rows c.reserve.ensures.waiting c.reserve.ensures.capacity in
+    let reserved = filed-reserved a.rows c.reserve.new.rows a.waiting.items (vec_capacity a.waiting) a.names a.next c.self.invariant.filed c.reserve.new.waiting.items (vec_capacity c.reserve.new.waiting) c.reserve.ensures.rows c.reserve.ensures.waiting c.reserve.ensures.capacity in
     let low = reserved.0 in
     let room = c.in_ok-reserve.ensures.room in
     let fits = c.in_ok-reserve.ensures.fits in
@@ -25,23 +25,25 @@ enter-file-requires c =
 
 pub invariant_of-self : goal.invariant_of-self
 invariant_of-self c =
-    let a = c.self.inside in (
-      filed-reserved a.rows c.reserve.new.rows a.waiting.items (vec_capacity a.waiting) a.names a.next c.self.invariant.0 c.reserve.new.waiting.items (vec_capacity c.reserve.new.waiting) c.reserve.ensures.rows c.reserve.ensures.waiting c.reserve.ensures.capacity,
-      listed-same a.rows.marks c.reserve.new.rows.marks a.epoch a.grey.items (vec_capacity a.grey) c.self.invariant.1 c.reserve.new.grey.items (vec_capacity c.reserve.new.grey) (ap (λ r. r.marks) c.reserve.ensures.rows) c.reserve.ensures.grey c.reserve.ensures.greys,
-    )
+    let a = c.self.inside in
+    record {
+      filed = filed-reserved a.rows c.reserve.new.rows a.waiting.items (vec_capacity a.waiting) a.names a.next c.self.invariant.filed c.reserve.new.waiting.items (vec_capacity c.reserve.new.waiting) c.reserve.ensures.rows c.reserve.ensures.waiting c.reserve.ensures.capacity;
+      listed = listed-same a.rows.marks c.reserve.new.rows.marks a.epoch a.grey.items (vec_capacity a.grey) c.self.invariant.listed c.reserve.new.grey.items (vec_capacity c.reserve.new.grey) (ap (λ r. r.marks) c.reserve.ensures.rows) c.reserve.ensures.grey c.reserve.ensures.greys;
+    }
 
 pub invariant_of-self-2 : goal.invariant_of-self-2
 invariant_of-self-2 c =
     let a = c.self.inside in
-    let reserved = filed-reserved a.rows c.reserve.new.rows a.waiting.items (vec_capacity a.waiting) a.names a.next c.self.invariant.0 c.reserve.new.waiting.items (vec_capacity c.reserve.new.waiting) c.reserve.ensures.rows c.reserve.ensures.waiting c.reserve.ensures.capacity in
-    let listed = listed-same a.rows.marks c.reserve.new.rows.marks a.epoch a.grey.items (vec_capacity a.grey) c.self.invariant.1 c.reserve.new.grey.items (vec_capacity c.reserve.new.grey) (ap (λ r. r.marks) c.reserve.ensures.rows) c.reserve.ensures.grey c.reserve.ensures.greys in
+    let reserved = filed-reserved a.rows c.reserve.new.rows a.waiting.items (vec_capacity a.waiting) a.names a.next c.self.invariant.filed c.reserve.new.waiting.items (vec_capacity c.reserve.new.waiting) c.reserve.ensures.rows c.reserve.ensures.waiting c.reserve.ensures.capacity in
+    let listed = listed-same a.rows.marks c.reserve.new.rows.marks a.epoch a.grey.items (vec_capacity a.grey) c.self.invariant.listed c.reserve.new.grey.items (vec_capacity c.reserve.new.grey) (ap (λ r. r.marks) c.reserve.ensures.rows) c.reserve.ensures.grey c.reserve.ensures.greys in
     let fits = c.in_ok-reserve.ensures.fits in
-    let marks = c.in_ok-reserve.ensures.marks in (
-      filed-entered c.reserve.new.rows c.enter-file.new.rows c.reserve.new.waiting.items (vec_capacity c.reserve.new.waiting) a.names a.next reserved (file_of c.args.endpoint) c.enter-file.new.waiting.items (vec_capacity c.enter-file.new.waiting)
-          c.enter-file.ensures.entered c.enter-file.ensures.new c.requires.nameless c.enter-file.ensures.waiting (omega (arith, fits, ap (λ r. map.len r.counts) c.reserve.ensures.rows, c.enter-file.ensures.len, c.enter-file.ensures.capacity)),
-      listed-born c.reserve.new.rows.marks c.enter-file.new.rows.marks a.epoch c.reserve.new.grey.items (vec_capacity c.reserve.new.grey) listed a.next (vec_capacity c.reserve.new.grey) (ap (λ r. r.marks) c.enter-file.ensures.entered) c.enter-file.ensures.unmarked
-          (omega (arith, marks, ap (λ r. map.len r.marks) c.reserve.ensures.rows, c.enter-file.ensures.more)),
-    )
+    let marks = c.in_ok-reserve.ensures.marks in
+    record {
+      filed = filed-entered c.reserve.new.rows c.enter-file.new.rows c.reserve.new.waiting.items (vec_capacity c.reserve.new.waiting) a.names a.next reserved (file_of c.args.endpoint) c.enter-file.new.waiting.items (vec_capacity c.enter-file.new.waiting)
+          c.enter-file.ensures.entered c.enter-file.ensures.new c.requires.nameless c.enter-file.ensures.waiting (omega (arith, fits, ap (λ r. map.len r.counts) c.reserve.ensures.rows, c.enter-file.ensures.len, c.enter-file.ensures.capacity));
+      listed = listed-born c.reserve.new.rows.marks c.enter-file.new.rows.marks a.epoch c.reserve.new.grey.items (vec_capacity c.reserve.new.grey) listed a.next (vec_capacity c.reserve.new.grey) (ap (λ r. r.marks) c.enter-file.ensures.entered) c.enter-file.ensures.unmarked
+          (omega (arith, marks, ap (λ r. map.len r.marks) c.reserve.ensures.rows, c.enter-file.ensures.more));
+    }
 
 -- It is born unmarked.
 pub returns-clause-marks : goal.returns-clause-marks

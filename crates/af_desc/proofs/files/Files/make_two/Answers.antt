@@ -13,7 +13,7 @@ use Rattle.af_desc.proofs.files.Files.make_two.Goals as goal
 pub enter-first-requires : goal.enter-first-requires
 enter-first-requires c =
     let a = c.self.inside in
-    let reserved = filed-reserved a.rows c.reserve.new.rows a.waiting.items (vec_capacity a.waiting) a.names a.next c.self.invariant.0 c.reserve.new.waiting.items (vec_capacity c.reserve.new.waiting) c.reserve.ensures.rows c.reserve.ensures.waiting c.reserve.ensures.capacity in
+    let reserved = filed-reserved a.rows c.reserve.new.rows a.waiting.items (vec_capacity a.waiting) a.names a.next c.self.invariant.filed c.reserve.new.waiting.items (vec_capacity c.reserve.new.waiting) c.reserve.ensures.rows c.reserve.ensures.waiting c.reserve.ensures.capacity in
     let low = reserved.0 in
     let room = c.in_ok-reserve.ensures.room in
     let fits = c.in_ok-reserve.ensures.fits in
@@ -37,15 +37,16 @@ enter-second-requires c =
 
 pub invariant_of-self : goal.invariant_of-self
 invariant_of-self c =
-    let a = c.self.inside in (
-      filed-reserved a.rows c.reserve.new.rows a.waiting.items (vec_capacity a.waiting) a.names a.next c.self.invariant.0 c.reserve.new.waiting.items (vec_capacity c.reserve.new.waiting) c.reserve.ensures.rows c.reserve.ensures.waiting c.reserve.ensures.capacity,
-      listed-same a.rows.marks c.reserve.new.rows.marks a.epoch a.grey.items (vec_capacity a.grey) c.self.invariant.1 c.reserve.new.grey.items (vec_capacity c.reserve.new.grey) (ap (λ r. r.marks) c.reserve.ensures.rows) c.reserve.ensures.grey c.reserve.ensures.greys,
-    )
+    let a = c.self.inside in
+    record {
+      filed = filed-reserved a.rows c.reserve.new.rows a.waiting.items (vec_capacity a.waiting) a.names a.next c.self.invariant.filed c.reserve.new.waiting.items (vec_capacity c.reserve.new.waiting) c.reserve.ensures.rows c.reserve.ensures.waiting c.reserve.ensures.capacity;
+      listed = listed-same a.rows.marks c.reserve.new.rows.marks a.epoch a.grey.items (vec_capacity a.grey) c.self.invariant.listed c.reserve.new.grey.items (vec_capacity c.reserve.new.grey) (ap (λ r. r.marks) c.reserve.ensures.rows) c.reserve.ensures.grey c.reserve.ensures.greys;
+    }
 
 pub invariant_of-self-2 : goal.invariant_of-self-2
 invariant_of-self-2 c =
     let a = c.self.inside in
-    let reserved = filed-reserved a.rows c.reserve.new.rows a.waiting.items (vec_capacity a.waiting) a.names a.next c.self.invariant.0 c.reserve.new.waiting.items (vec_capacity c.reserve.new.waiting) c.reserve.ensures.rows c.reserve.ensures.waiting c.reserve.ensures.capacity in
+    let reserved = filed-reserved a.rows c.reserve.new.rows a.waiting.items (vec_capacity a.waiting) a.names a.next c.self.invariant.filed c.reserve.new.waiting.items (vec_capacity c.reserve.new.waiting) c.reserve.ensures.rows c.reserve.ensures.waiting c.reserve.ensures.capacity in
     let first = c.enter-first in
     let second = c.enter-second in
     let fits = c.in_ok-reserve.ensures.fits in
@@ -60,12 +61,13 @@ invariant_of-self-2 c =
     let grey = c.reserve.new.grey.items in
     let marks = c.in_ok-reserve.ensures.marks in
     let many = ap (λ r. map.len r.marks) c.reserve.ensures.rows in
-    let listed = listed-same a.rows.marks c.reserve.new.rows.marks a.epoch a.grey.items (vec_capacity a.grey) c.self.invariant.1 c.reserve.new.grey.items (vec_capacity c.reserve.new.grey) (ap (λ r. r.marks) c.reserve.ensures.rows) c.reserve.ensures.grey c.reserve.ensures.greys in
+    let listed = listed-same a.rows.marks c.reserve.new.rows.marks a.epoch a.grey.items (vec_capacity a.grey) c.self.invariant.listed c.reserve.new.grey.items (vec_capacity c.reserve.new.grey) (ap (λ r. r.marks) c.reserve.ensures.rows) c.reserve.ensures.grey c.reserve.ensures.greys in
     let lower = listed-born c.reserve.new.rows.marks first.new.rows.marks a.epoch grey room listed a.next room (ap (λ r. r.marks) first.ensures.entered) first.ensures.unmarked (omega (arith, marks, many, first.ensures.more)) in
-    let higher = listed-born first.new.rows.marks second.new.rows.marks a.epoch grey room lower (a.next + 1) room (ap (λ r. r.marks) second.ensures.entered) second.ensures.unmarked (omega (arith, marks, many, first.ensures.more, second.ensures.more)) in (
-      (omega (arith, low), all.1, all.2, all.3, all.4),
-      listed-same second.new.rows.marks c.point.new.rows.marks a.epoch grey room higher grey room (ap (λ r. r.marks) c.point.ensures) refl (omega arith),
-    )
+    let higher = listed-born first.new.rows.marks second.new.rows.marks a.epoch grey room lower (a.next + 1) room (ap (λ r. r.marks) second.ensures.entered) second.ensures.unmarked (omega (arith, marks, many, first.ensures.more, second.ensures.more)) in
+    record {
+      filed = (omega (arith, low), all.1, all.2, all.3, all.4);
+      listed = listed-same second.new.rows.marks c.point.new.self.marks a.epoch grey room higher grey room (ap (λ r. r.marks) c.point.ensures) refl (omega arith);
+    }
 
 -- Both are born unmarked.
 pub returns-clause-marks : goal.returns-clause-marks

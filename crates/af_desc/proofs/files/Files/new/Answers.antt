@@ -17,20 +17,21 @@ invariant_of-result c =
     let none = c.new.ensures.files in
     let uncounted = c.new.ensures.counts in
     let m = c.new.result.marks in
-    let markless = c.new.ensures.marks in (
-      (
+    let markless = c.new.ensures.marks in
+    record {
+      filed = (
         subst (λ n. n < 1) (sym c.new.ensures.last) (omega arith),
         ap (λ m. map.contains_key m 0) none ∙ ap is_some (map.get-empty nat_cmp 0),
         named-none-yet c.new-4.result c.new.result.files c.new-4.ensures none,
         nothing-waits c.new.result.counts _ uncounted c.new-2.ensures.items,
         omega (arith, ap map.len uncounted ∙ map.len-empty nat_cmp Count),
-      ),
-      (
+      );
+      listed = (
         upto_none 0 m markless,
         nothing_grey (colors_in 0 m) _ c.new-3.ensures.items (grey_empty (colors_in 0 m) (part_none (color_in 0) m markless)),
         omega (arith, ap map.len markless ∙ map.len-empty nat_cmp Mark),
-      ),
-    )
+      );
+    }
 
 pub returns : goal.returns
 returns c = λ i. record { files = c.new.ensures.files i; counts = c.new.ensures.counts i; marks = record { colors = part_none (color_in 0) c.new.result.marks c.new.ensures.marks i; bound = 0 }; next = 1 }

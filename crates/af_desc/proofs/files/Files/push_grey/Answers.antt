@@ -20,7 +20,7 @@ push_reserved-requires c =
     let a = c.self.inside in
     let f = c.args.file.now in
     let was = ap (λ v. map.get v.marks.colors f) c.self.view_is ∙ white_here c.args.self.now.marks.colors f c.requires in
-    let listed = listed-grey a.rows.marks c.set_mark.new.self.marks a.epoch a.grey.items (vec_capacity a.grey) c.self.invariant.1 f (record { epoch = a.epoch; color = Grey; at = c.noted.result }) (ap (λ r. r.marks) c.set_mark.ensures.set) refl c.set_mark.ensures.len refl (grey_here (colors_in a.epoch a.rows.marks) f White was) in
+    let listed = listed-grey a.rows.marks c.set_mark.new.self.marks a.epoch a.grey.items (vec_capacity a.grey) c.self.invariant.listed f (record { epoch = a.epoch; color = Grey; at = c.noted.result }) (ap (λ r. r.marks) c.set_mark.ensures.set) refl c.set_mark.ensures.len refl (grey_here (colors_in a.epoch a.rows.marks) f White was) in
     let low = listed.0 in
     omega (arith, low)
 
@@ -29,11 +29,12 @@ invariant_of-self c =
     let a = c.self.inside in
     let f = c.args.file.now in
     let was = ap (λ v. map.get v.marks.colors f) c.self.view_is ∙ white_here c.args.self.now.marks.colors f c.requires in
-    let listed = listed-grey a.rows.marks c.set_mark.new.self.marks a.epoch a.grey.items (vec_capacity a.grey) c.self.invariant.1 f (record { epoch = a.epoch; color = Grey; at = c.noted.result }) (ap (λ r. r.marks) c.set_mark.ensures.set) refl c.set_mark.ensures.len refl (grey_here (colors_in a.epoch a.rows.marks) f White was) in
-    let items : c.push_reserved.new.self.items ≡ a.grey.items ++ f ∷ [] = search rules in (
-      filed-marked a.rows _ a.waiting.items (vec_capacity a.waiting) a.names a.next c.self.invariant.0 _ c.set_mark.ensures.set,
-      listed-same c.set_mark.new.self.marks c.set_mark.new.self.marks a.epoch (a.grey.items ++ f ∷ []) (vec_capacity a.grey) listed.1 _ (vec_capacity c.push_reserved.new.self) refl items (omega (arith, c.push_reserved.ensures.capacity)),
-    )
+    let listed = listed-grey a.rows.marks c.set_mark.new.self.marks a.epoch a.grey.items (vec_capacity a.grey) c.self.invariant.listed f (record { epoch = a.epoch; color = Grey; at = c.noted.result }) (ap (λ r. r.marks) c.set_mark.ensures.set) refl c.set_mark.ensures.len refl (grey_here (colors_in a.epoch a.rows.marks) f White was) in
+    let items : c.push_reserved.new.self.items ≡ a.grey.items ++ f ∷ [] = search rules in
+    record {
+      filed = filed-marked a.rows _ a.waiting.items (vec_capacity a.waiting) a.names a.next c.self.invariant.filed _ c.set_mark.ensures.set;
+      listed = listed-same c.set_mark.new.self.marks c.set_mark.new.self.marks a.epoch (a.grey.items ++ f ∷ []) (vec_capacity a.grey) listed.1 _ (vec_capacity c.push_reserved.new.self) refl items (omega (arith, c.push_reserved.ensures.capacity));
+    }
 
 pub returns-clause-colors : goal.returns-clause-colors
 returns-clause-colors c =

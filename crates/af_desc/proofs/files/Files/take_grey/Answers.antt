@@ -25,11 +25,12 @@ invariant_of-self c =
     let e = c.strike.ensures in
     let grey = ap (λ v. grey_of v.marks.colors f) c.self.view_is ∙ grey_once c.args.self.now.marks.colors f c.requires in
     let less : (g : ℕ) → count_in g c.strike.new.grey.items ≡ count_in g a.grey.items - same g f = λ g. e.each g ∙ ap (λ k. count_in g a.grey.items - same g k) c.ino.ensures in
-    let black = listed-black a.rows.marks c.set_mark.new.self.marks a.epoch a.grey.items (vec_capacity a.grey) c.self.invariant.1 f x (ap (λ r. r.marks) set.set) refl set.len c.strike.new.grey.items (vec_capacity c.strike.new.grey) refl grey less (omega (arith, e.capacity)) in
-    let marked = filed-marked a.rows c.set_mark.new.self a.waiting.items (vec_capacity a.waiting) a.names a.next c.self.invariant.0 _ set.set in (
-      filed-marked c.set_mark.new.self c.strike.new.rows a.waiting.items (vec_capacity a.waiting) a.names a.next marked _ e.rest,
-      listed-moved c.set_mark.new.self.marks c.strike.new.rows.marks a.epoch c.strike.new.grey.items (vec_capacity c.strike.new.grey) black (e.colors a.epoch) (e.epochs a.epoch) e.len,
-    )
+    let black = listed-black a.rows.marks c.set_mark.new.self.marks a.epoch a.grey.items (vec_capacity a.grey) c.self.invariant.listed f x (ap (λ r. r.marks) set.set) refl set.len c.strike.new.grey.items (vec_capacity c.strike.new.grey) refl grey less (omega (arith, e.capacity)) in
+    let marked = filed-marked a.rows c.set_mark.new.self a.waiting.items (vec_capacity a.waiting) a.names a.next c.self.invariant.filed _ set.set in
+    record {
+      filed = filed-marked c.set_mark.new.self c.strike.new.rows a.waiting.items (vec_capacity a.waiting) a.names a.next marked _ e.rest;
+      listed = listed-moved c.set_mark.new.self.marks c.strike.new.rows.marks a.epoch c.strike.new.grey.items (vec_capacity c.strike.new.grey) black (e.colors a.epoch) (e.epochs a.epoch) e.len;
+    }
 
 pub returns-clause-colors : goal.returns-clause-colors
 returns-clause-colors c =

@@ -5,5 +5,5 @@ pub invariant_of-result : goal.invariant_of-result
 invariant_of-result c =
     let chain = c.args.chain.now in
     let owner = c.requires.chain.0 in
-    let path = c.requires.chain.1.1 in
-    (path_many c.args.nodes.now owner chain.last chain.first chain.len path, c.requires.chain.1.0, path_within c.args.nodes.now owner chain.last chain.first chain.len path)
+    let path = c.requires.chain.1.path in
+    (path_many c.args.nodes.now owner chain.last chain.first chain.len path, c.requires.chain.1.few, path_within c.args.nodes.now owner chain.last chain.first chain.len path)
