@@ -48,6 +48,13 @@ impl Holdings {
         self.files.refs(ino)
     }
 
+    /// How many places hold the file that stands there; none holds a stranger.
+    pub fn refs_at(&self, file: &FileRef) -> u64
+        ensures { result ≡ refs self.now.world file.now }
+    {
+        self.files.refs_at(file)
+    }
+
     /// How many numbers of all tables stand for the file.
     pub(crate) fn tabled(&self, file: &FileRef) -> u64
         ensures { result ≡ tabled self.now.world file.now }
@@ -60,6 +67,13 @@ impl Holdings {
         ensures { result ≡ inflight self.now.world ino }
     {
         self.files.inflight(ino)
+    }
+
+    /// How many places in queues hold the file that stands there.
+    pub fn inflight_at(&self, file: &FileRef) -> u64
+        ensures { result ≡ inflight self.now.world file.now }
+    {
+        self.files.inflight_at(file)
     }
 
     /// How many places in queues are charged to the user.

@@ -37,6 +37,13 @@ impl Files {
         self.count(ino).places()
     }
 
+    /// How many places hold the file that stands there: none holds a stranger.
+    pub fn refs_at(&self, file: &FileRef) -> u64
+        ensures { result ≡ places_in (count_in_map self.now.counts file.now) }
+    {
+        self.count_at(file).places()
+    }
+
     /// How many numbers of all tables stand for a file.
     #[inline(always)]
     pub fn tabled(&self, file: &FileRef) -> u64
@@ -50,6 +57,13 @@ impl Files {
         ensures { result ≡ (count_in_map self.now.counts ino).inflight }
     {
         u64::from(self.count(ino).inflight)
+    }
+
+    /// How many places in queues hold the file that stands there.
+    pub fn inflight_at(&self, file: &FileRef) -> u64
+        ensures { result ≡ (count_in_map self.now.counts file.now).inflight }
+    {
+        u64::from(self.count_at(file).inflight)
     }
 
     /// A file that no place holds, if there is one.

@@ -7,17 +7,17 @@ ghost use Rattle.af_graph.specs.Graph.{colour, counts_text, files_text, is_in, k
 
 use crate::names::push_name;
 use af_base::events::State;
-use af_base::names::Ino;
+use af_base::names::{FileRef, Ino};
 use af_report::{state_word, type_word};
 use af_steps::{Engine, FileInfo};
 use std::alloc::AllocError;
 
 /// Appends what a live file is, and whom it can talk to, if it is a socket.
-fn push_kind(text: &mut String, engine: &Engine, ino: Ino) -> Result<(), AllocError>
-    requires { IsLive engine.now.world ino }
-    ensures { (x : File) → map.get engine.now.world.files ino ≡ Some x → OnOk result (string_bytes text.new ≡ string_bytes text.old ++ kind_text x) }
+fn push_kind(text: &mut String, engine: &Engine, file: &FileRef) -> Result<(), AllocError>
+    requires { IsLive engine.now.world file.now }
+    ensures { (x : File) → map.get engine.now.world.files file.now ≡ Some x → OnOk result (string_bytes text.new ≡ string_bytes text.old ++ kind_text x) }
 {
-    match engine.file(ino).unwrap() {
+    match engine.file_at(file) {
         FileInfo::Plain => text.push_str("plain"),
         FileInfo::Socket { kind, state, .. } => {
             let kind = type_word(kind);
@@ -55,25 +55,31 @@ fn push_state(text: &mut String, ino: Ino, state: &State) -> Result<(), AllocErr
 }
 
 /// Appends an edge to the peer of a live file, if it has one.
-fn push_peer(text: &mut String, engine: &Engine, ino: Ino) -> Result<(), AllocError>
-    requires { IsLive engine.now.world ino }
-    ensures { (x : File) → map.get engine.now.world.files ino ≡ Some x → OnOk result (string_bytes text.new ≡ string_bytes text.old ++ peer_of ino x) }
+fn push_peer(text: &mut String, engine: &Engine, file: &FileRef) -> Result<(), AllocError>
+    requires { IsLive engine.now.world file.now }
+    ensures { (x : File) → map.get engine.now.world.files file.now ≡ Some x → OnOk result (string_bytes text.new ≡ string_bytes text.old ++ peer_of file.now x) }
 {
-    match engine.file(ino).unwrap() {
+    match engine.file_at(file) {
         FileInfo::Plain => Ok(()),
-        FileInfo::Socket { state, .. } => push_state(text, ino, &state),
+        FileInfo::Socket { state, .. } => push_state(text, file.ino(), &state),
     }
 }
 
 /// Appends a live file.
-fn push_node(text: &mut String, engine: &Engine, ino: Ino, lost: bool) -> Result<(), AllocError>
-    requires { IsLive engine.now.world ino }
-    ensures { (x : File) → map.get engine.now.world.files ino ≡ Some x → OnOk result (string_bytes text.new ≡ string_bytes text.old ++ node_text engine.now.world lost ino x) }
+fn push_node(
+    text: &mut String,
+    engine: &Engine,
+    file: &FileRef,
+    lost: bool,
+) -> Result<(), AllocError>
+    requires { IsLive engine.now.world file.now }
+    ensures { (x : File) → map.get engine.now.world.files file.now ≡ Some x → OnOk result (string_bytes text.new ≡ string_bytes text.old ++ node_text engine.now.world lost file.now x) }
 {
+    let ino = file.ino();
     write!(text, "f{ino} [label=\"{ino} ")?;
-    push_kind(text, engine, ino)?;
-    push_counts(text, engine.refs(ino), engine.inflight(ino))?;
-    push_name(text, engine.name(ino))?;
+    push_kind(text, engine, file)?;
+    push_counts(text, engine.refs_at(file), engine.inflight_at(file))?;
+    push_name(text, engine.name_at(file))?;
     text.push_str("\"")?;
     push_colour(text, lost)?;
     text.push_str("]\n")?;
@@ -97,10 +103,12 @@ pub fn push_files(text: &mut String, engine: &Engine, lost: &[Ino]) -> Result<()
     // No file has the number 0: that is what a sound world says of it.
     engine.is_sound();
     let mut last = Ino(0);
-    while let Some(ino) = engine.next_after(last) {
-        push_node(text, engine, ino, is_in(lost, ino))?;
-        push_peer(text, engine, ino)?;
-        last = ino;
+    let mut near = 0;
+    while let Some((file, at)) = engine.next_file(last, near) {
+        push_node(text, engine, &file, is_in(lost, file.ino()))?;
+        push_peer(text, engine, &file)?;
+        last = file.ino();
+        near = at;
     }
     Ok(())
 }

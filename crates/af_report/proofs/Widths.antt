@@ -1,7 +1,7 @@
 -- What the library's widths write.
-use Rattle.std.proofs.Common.{◌≡◌, ◌≤◌, ◌<◌, ◌^◌, ◌+◌, ℕ, zero, suc, ◌-◌, Bool, true, false, ◌&&◌, cond, List, [], ◌∷◌, ◌++◌, length, replicate, refl, sym, ap, ◌∙◌, append-nil, nat_eq, arith}
+use Rattle.std.proofs.Common.{◌≡◌, ◌≤◌, ◌<◌, ◌^◌, ℕ, zero, suc, ◌-◌, Bool, true, false, ◌&&◌, cond, List, [], ◌∷◌, length, replicate, refl, ap, ◌∙◌, append-nil, arith}
 use Rattle.std.specs.List.{repeat}
-use Rattle.std.specs.Fmt.{char_count, decimal, format_spec, fill_text, is_char_start, padded, padded_integral, styled_decimal, styled_text, take_chars}
+use Rattle.std.specs.Fmt.{char_count, decimal, format_spec, is_char_start, padded, padded_integral, styled_decimal, styled_text, take_chars}
 use Rattle.std.proofs.lemmas.Bool.{ne_eqb}
 use Rattle.af_report.specs.Table.{left, right}
 

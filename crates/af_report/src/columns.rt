@@ -8,7 +8,7 @@ ghost use Rattle.af_steps.specs.Shown.{shown_of};
 
 use af_base::events::{SockType, State};
 use af_base::items::Items;
-use af_base::names::Ino;
+use af_base::names::{FileRef, Ino};
 use af_steps::{Engine, FileInfo};
 use std::alloc::AllocError;
 
@@ -95,12 +95,12 @@ fn push_waiting(
 }
 
 /// Appends what a live file is, whom it can talk to, what waits at it, and its peer.
-pub fn push_file(text: &mut String, engine: &Engine, ino: Ino) -> Result<(), AllocError>
-    requires { IsLive engine.now.world ino }
-    ensures { (x : File) → map.get engine.now.world.files ino ≡ Some x → OnOk result (string_bytes text.new ≡ string_bytes text.old ++ joined (
+pub fn push_file(text: &mut String, engine: &Engine, file: &FileRef) -> Result<(), AllocError>
+    requires { IsLive engine.now.world file.now }
+    ensures { (x : File) → map.get engine.now.world.files file.now ≡ Some x → OnOk result (string_bytes text.new ≡ string_bytes text.old ++ joined (
         left 9 (kind_of x) ∷ left 9 (state_of x) ∷ right 4 (length (queue_of x)) ∷ right 4 (length (backlog_of x)) ∷ right 8 (peer_of x) ∷ [] ∷ [])) }
 {
-    match engine.file(ino).unwrap() {
+    match engine.file_at(file) {
         FileInfo::Plain => {
             push_kind(text, "plain", "-")?;
             push_waiting(text, 0, 0, 0)

@@ -5,7 +5,7 @@ ghost use Rattle.af_base.specs.World.{File, IsLive};
 ghost use Rattle.af_report.specs.Table.{file_line, table_text};
 
 use crate::columns::{push_counts, push_file, push_name};
-use af_base::names::Ino;
+use af_base::names::{FileRef, Ino};
 use af_steps::Engine;
 use std::alloc::{AllocError, Global};
 
@@ -17,16 +17,17 @@ fn push_line(
     text: &mut Vec<u8>,
     columns: &mut String,
     engine: &Engine,
-    ino: Ino,
+    file: &FileRef,
 ) -> Result<(), AllocError>
-    requires { IsLive engine.now.world ino }
-    ensures { (x : File) → map.get engine.now.world.files ino ≡ Some x → OnOk result (text.new.items ≡ text.old.items ++ file_line engine.now.world ino x) }
+    requires { IsLive engine.now.world file.now }
+    ensures { (x : File) → map.get engine.now.world.files file.now ≡ Some x → OnOk result (text.new.items ≡ text.old.items ++ file_line engine.now.world file.now x) }
 {
     columns.clear();
-    push_counts(columns, ino, engine.refs(ino), engine.inflight(ino))?;
-    push_file(columns, engine, ino)?;
+    let (refs, inflight) = (engine.refs_at(file), engine.inflight_at(file));
+    push_counts(columns, file.ino(), refs, inflight)?;
+    push_file(columns, engine, file)?;
     text.extend_from_slice(columns.as_bytes())?;
-    push_name(text, engine.name(ino))?;
+    push_name(text, engine.name_at(file))?;
     text.push(b'\n')?;
     Ok(())
 }
@@ -42,9 +43,11 @@ pub fn table(alloc: Global, engine: &Engine) -> Result<Vec<u8>, AllocError>
     let mut text = HEADER.to_vec(alloc)?;
     let mut columns = String::new(alloc);
     let mut last = Ino(0);
-    while let Some(ino) = engine.next_after(last) {
-        push_line(&mut text, &mut columns, engine, ino)?;
-        last = ino;
+    let mut near = 0;
+    while let Some((file, at)) = engine.next_file(last, near) {
+        push_line(&mut text, &mut columns, engine, &file)?;
+        last = file.ino();
+        near = at;
     }
     Ok(text)
 }

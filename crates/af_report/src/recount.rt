@@ -22,13 +22,15 @@ fn kept_files(alloc: Global, engine: &Engine) -> Result<Vec<KeptFile>, AllocErro
     engine.is_sound();
     let mut files = Vec::new(alloc);
     let mut last = Ino(0);
-    while let Some(ino) = engine.next_after(last) {
+    let mut near = 0;
+    while let Some((file, at)) = engine.next_file(last, near) {
         files.push(KeptFile {
-            ino,
-            refs: engine.refs(ino),
-            inflight: engine.inflight(ino),
+            ino: file.ino(),
+            refs: engine.refs_at(&file),
+            inflight: engine.inflight_at(&file),
         })?;
-        last = ino;
+        last = file.ino();
+        near = at;
     }
     Ok(files)
 }

@@ -1,5 +1,5 @@
 //! What can be seen of an engine. No view takes memory, but for the plain lists.
-ghost use Rattle.std.specs.Prelude.{◌≡◌, ◌<◌, ℕ, false, IfOk, IfSome, IfNone, length, option_copied, slice_get};
+ghost use Rattle.std.specs.Prelude.{◌≡◌, ◌<◌, ℕ, Some, false, IfOk, IfSome, IfNone, length, option_copied, slice_get};
 ghost use Rattle.std.specs.FinMap as map;
 ghost use Rattle.af_base.specs.World.{is_live, IsLive};
 ghost use Rattle.af_base.specs.Bare.{bare};
@@ -11,7 +11,7 @@ use crate::engine::Engine;
 use af_base::events::{SockType, State};
 use af_base::items::Items;
 use af_base::listing::Listing;
-use af_base::names::{Ino, Pid, Uid};
+use af_base::names::{FileRef, Ino, Pid, Uid};
 use std::alloc::AllocError;
 
 /// What a file is.
@@ -46,6 +46,20 @@ impl Engine {
         self.store.holdings().inflight(ino)
     }
 
+    /// How many places hold the file that stands there. No search.
+    pub fn refs_at(&self, file: &FileRef) -> u64
+        ensures { result ≡ refs self.now.world file.now }
+    {
+        self.store.holdings().refs_at(file)
+    }
+
+    /// How often the file that stands there is in flight. No search.
+    pub fn inflight_at(&self, file: &FileRef) -> u64
+        ensures { result ≡ inflight self.now.world file.now }
+    {
+        self.store.holdings().inflight_at(file)
+    }
+
     /// How many descriptors in flight are charged to the user, repeats included (unix(7),
     /// ETOOMANYREFS). A stranger's are 0.
     pub fn charged(&self, user: Uid) -> u64
@@ -75,9 +89,19 @@ impl Engine {
         ensures least { IfSome result (λ n. (q : ℕ) → ino < q → q < n → is_live self.now.world q ≡ false) }
         ensures none { IfNone result ((q : ℕ) → ino < q → is_live self.now.world q ≡ false) }
     {
-        let files = self.store.holdings().files();
-        let (next, _) = files.next_after(ino, 0)?;
+        let (next, _) = self.next_file(ino, 0)?;
         Some(next.ino())
+    }
+
+    /// The same, with where it stands, and its place in the order. A walk hands in what it was
+    /// answered last, and needs no search; where a file stands is a hint.
+    pub fn next_file(&self, ino: Ino, near: usize) -> Option<(FileRef, usize)>
+        ensures above { IfSome result (λ n. ino < n.0) }
+        ensures live { IfSome result (λ n. IsLive self.now.world n.0) }
+        ensures least { IfSome result (λ n. (q : ℕ) → ino < q → q < n.0 → is_live self.now.world q ≡ false) }
+        ensures none { IfNone result ((q : ℕ) → ino < q → is_live self.now.world q ≡ false) }
+    {
+        self.store.holdings().files().next_after(ino, near)
     }
 
     /// The pid that the next process gets.
@@ -105,26 +129,39 @@ impl Engine {
     pub fn file(&self, ino: Ino) -> Option<FileInfo>
         ensures { result ≡ shown_of (map.get self.now.world.files ino) }
     {
-        let files = self.store.holdings().files();
-        let file = files.find(ino)?;
-        let Some(socket) = files.socket(&file) else {
-            return Some(FileInfo::Plain);
+        let file = self.store.holdings().files().find(ino)?;
+        Some(self.file_at(&file))
+    }
+
+    /// What the file is that stands there, which is live. No search.
+    pub fn file_at(&self, file: &FileRef) -> FileInfo
+        requires { IsLive self.now.world file.now }
+        ensures { Some result ≡ shown_of (map.get self.now.world.files file.now) }
+    {
+        let Some(socket) = self.store.holdings().files().socket(file) else {
+            return FileInfo::Plain;
         };
-        Some(FileInfo::Socket {
+        FileInfo::Socket {
             kind: socket.kind(),
             state: socket.state(),
             messages: socket.queue().len(),
             embryos: socket.embryos(),
-        })
+        }
     }
 
     /// The abstract name of the socket (unix(7)); nothing where it has none, or is no socket.
     pub fn name(&self, ino: Ino) -> Option<&Items<u8>>
         ensures { option_copied result ≡ name_at self.now.world ino }
     {
-        let files = self.store.holdings().files();
-        let file = files.find(ino)?;
-        files.socket(&file)?.name()
+        let file = self.store.holdings().files().find(ino)?;
+        self.name_at(&file)
+    }
+
+    /// The same of the file that stands there. No search.
+    pub fn name_at(&self, file: &FileRef) -> Option<&Items<u8>>
+        ensures { option_copied result ≡ name_at self.now.world file.now }
+    {
+        self.store.holdings().files().socket(file)?.name()
     }
 
     /// Plain lists of the tables, queues and backlogs as they stand, and whom each message is charged

@@ -11,7 +11,7 @@ use Rattle.af_graph.proofs.files.push_node.Goals as goal
 pub returns : goal.returns
 returns c = λ x at.
     let w = c.args.engine.now.world in
-    let f = c.args.ino in
+    let f = c.args.file.now in
     let head : List ℕ = codes "f" ++ (decimal f ++ (codes " [label=\"" ++ (decimal f ++ codes " "))) in
     let counts = counts_text (refs w f) (inflight w f) in
     let name = name_text (name_of x) in

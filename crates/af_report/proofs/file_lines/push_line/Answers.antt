@@ -9,7 +9,7 @@ use Rattle.af_report.proofs.file_lines.push_line.Goals as goal
 pub returns : goal.returns
 returns c = λ x at.
     let w = c.args.engine.now.world in
-    let f = c.args.ino in
+    let f = c.args.file.now in
     let rest = left 9 (state_of x) ∷ right 4 (length (queue_of x)) ∷ right 4 (length (backlog_of x)) ∷ right 8 (peer_of x) ∷ [] in
     let counts : string_bytes c.push_counts.new.text ≡ joined (right 8 f ∷ right 7 (refs w f) ∷ right 7 (inflight w f) ∷ [] ∷ []) = search rules in
     let shown = c.push_file.ensures x at in

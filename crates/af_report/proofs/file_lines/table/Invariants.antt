@@ -7,8 +7,8 @@ use Rattle.af_report.specs.Table.{table_text}
 use Rattle.af_report.proofs.TableLines.{line}
 use Rattle.af_report.proofs.file_lines.table.Given as goal
 
-abbrev pub invariant-loop-ino : goal.invariant-loop-ino
-invariant-loop-ino l = l.text.items ++ flat_map (line l.engine.world) (above l.last (map.entries l.engine.world.files)) ≡ table_text l.engine.world
+abbrev pub invariant-loop-file : goal.invariant-loop-file
+invariant-loop-file l = l.text.items ++ flat_map (line l.engine.world) (above l.last (map.entries l.engine.world.files)) ≡ table_text l.engine.world
 
-abbrev pub decreases-loop-ino : goal.decreases-loop-ino
-decreases-loop-ino l = length (above l.last (map.entries l.engine.world.files))
+abbrev pub decreases-loop-file : goal.decreases-loop-file
+decreases-loop-file l = length (above l.last (map.entries l.engine.world.files))

@@ -6,11 +6,11 @@ use Rattle.af_plain.specs.Agreement.{IsFileRecount}
 use Rattle.af_base.proofs.Rising.{above}
 use Rattle.af_report.proofs.recount.kept_files.Given as goal
 
-abbrev pub invariant-loop-ino : goal.invariant-loop-ino
-invariant-loop-ino l = record {
+abbrev pub invariant-loop-file : goal.invariant-loop-file
+invariant-loop-file l = record {
   recounts : All (IsFileRecount l.engine.world) l.files.items;
   so_far : map (λ k. k.ino) l.files.items ++ map (λ e. e.0) (above l.last (finmap.entries l.engine.world.files)) ≡ finmap.keys l.engine.world.files;
 }
 
-abbrev pub decreases-loop-ino : goal.decreases-loop-ino
-decreases-loop-ino l = length (above l.last (finmap.entries l.engine.world.files))
+abbrev pub decreases-loop-file : goal.decreases-loop-file
+decreases-loop-file l = length (above l.last (finmap.entries l.engine.world.files))
