@@ -39,3 +39,4 @@ pub mod Bare
 pub mod Rising
 pub mod Making
 pub mod Gathered
+pub mod Just

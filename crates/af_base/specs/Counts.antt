@@ -1,7 +1,8 @@
 -- How many places hold a file, and how many are charged to a user: numbers of places, repeats included.
-use Rattle.std.specs.Prelude.{ℕ, ◌+◌, List, length, nat_eq, if◌then◌else◌}
+use Rattle.std.specs.Prelude.{◌≡◌, ℕ, ◌+◌, Bool, List, length, nat_eq, false, if◌then◌else◌}
 use Rattle.std.specs.List.{sum_by, count_by}
 use Rattle.std.specs.FinMap as map
+use Rattle.std.specs.Option.{option_map_or}
 use Rattle.af_base.specs.World.{World, Map, Message}
 use Rattle.af_base.specs.Places.{backlog_of, carried, contents, queue_of}
 
@@ -12,6 +13,10 @@ total_of f m = sum_by (λ e. f e.1) (map.entries m)
 -- How often a list has f.
 abbrev pub count_in : ℕ → List ℕ → ℕ
 count_in f xs = count_by (nat_eq f) xs
+
+-- The list has just the keys whose value is chosen, each once (this project's own).
+abbrev pub AreJust : {X : Type 0} → (X → Bool) → Map X → List ℕ → Type 0
+AreJust chosen m fs = (f : ℕ) → count_in f fs ≡ (if option_map_or chosen (map.get m f) false then 1 else 0)
 
 -- One where the two are equal.
 abbrev pub one : ℕ → ℕ → ℕ

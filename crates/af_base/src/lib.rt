@@ -5,6 +5,7 @@
 pub mod equality;
 pub mod errno;
 pub mod events;
+pub mod file_list;
 mod gathering;
 pub mod items;
 pub mod limits;

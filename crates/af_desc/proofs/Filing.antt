@@ -1,15 +1,15 @@
 -- That the rows fit all else, whatever comes, goes or is counted.
-use Rattle.std.proofs.Common.{◌≡◌, ◌≤◌, ◌+◌, ℕ, ◌&&◌, false, not, List, sym, ap, ◌∙◌, subst, nat_eq, arith}
+use Rattle.std.proofs.Common.{◌≡◌, ◌≤◌, ◌+◌, ◌-◌, ℕ, false, List, sym, ap, ◌∙◌, subst, nat_eq, arith}
 use Rattle.std.specs.Prelude.{None, Result, Ok, Err, OnErr, OnOk}
 use Rattle.std.specs.FinMap as map
-use Rattle.std.specs.List.{IsDistinct, list_any}
+use Rattle.af_base.specs.Counts.{count_in, one}
 use Rattle.af_base.specs.Changes.{change_socket_at, file_with}
 use Rattle.af_base.specs.World.{File, Map, Socket}
+use Rattle.af_base.proofs.Just.{just-gone}
 use Rattle.af_base.proofs.Lookups.{changed-live}
-use Rattle.af_ledger.specs.Counted.{uncounted}
-use Rattle.af_ledger.specs.Waiting.{AreWaiting}
+use Rattle.af_ledger.specs.Counted.{places_in, uncounted}
+use Rattle.af_ledger.specs.Kept.{AreWaiting}
 use Rattle.af_ledger.specs.declared.count.Count.{Count}
-use Rattle.af_ledger.proofs.Waiting.{waiting-struck}
 use Rattle.af_listen.specs.Named.{Named}
 use Rattle.af_mark.specs.Grey.{AreListed, unmarked}
 use Rattle.af_mark.specs.declared.mark.Mark.{Mark}
@@ -67,8 +67,8 @@ module _ (old new : Rowed) (ws : List ℕ) (room : ℕ) (names : Named) (next : 
 
   -- A file less, with the names that are left, and those that wait without it.
   pub filed-removed : (k : ℕ) (left : Named) (vs : List ℕ) (most : ℕ) → new ≡ record old { files = map.remove old.files k; counts = map.remove old.counts k; marks = map.remove old.marks k; room = new.room } → AreNamed left (map.remove old.files k)
-      → ((f : ℕ) → list_any (nat_eq f) vs ≡ (not (nat_eq f k) && list_any (nat_eq f) ws)) → IsDistinct nat_eq vs → room ≤ most → IsFiled new vs most left next
-  filed-removed k left vs most is named off once more =
+      → ((f : ℕ) → count_in f vs ≡ count_in f ws - one f k) → room ≤ most → IsFiled new vs most left next
+  filed-removed k left vs most is named off more =
       let low = h.0 in
       let fits = h.4 in
       let files = ap (λ r. r.files) is in
@@ -76,7 +76,7 @@ module _ (old new : Rowed) (ws : List ℕ) (room : ℕ) (names : Named) (next : 
         omega (arith, low, ap (λ r. r.last) is),
         ap (λ m. map.contains_key m 0) files ∙ begun-removed old.files k h.1,
         subst (AreNamed left) (sym files) named,
-        waiting-struck old.counts new.counts ws vs k counts h.3 off once,
+        just-gone (λ c. nat_eq (places_in c) 0) old.counts new.counts ws k h.3 vs counts off,
         omega (arith, fits, more, ap map.len counts, gone_few old.counts k),
       )
 

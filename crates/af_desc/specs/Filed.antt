@@ -10,7 +10,7 @@ use Rattle.af_base.specs.Refusals.{is_full_of, no_socket, socket_of}
 use Rattle.af_base.specs.Steps.{connected_socket}
 use Rattle.af_base.specs.Take.{take_from}
 use Rattle.af_base.specs.Whole.{state_of}
-use Rattle.af_ledger.specs.Waiting.{AreWaiting}
+use Rattle.af_ledger.specs.Kept.{AreWaiting}
 use Rattle.af_ledger.specs.declared.count.Count.{Count}
 use Rattle.af_listen.specs.Named.{Named}
 use Rattle.af_mark.specs.Grey.{AreListed}

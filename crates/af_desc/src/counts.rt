@@ -5,8 +5,9 @@ ghost use Rattle.af_ledger.specs.Counted.{fewer, more, places_in, IsCountable, I
 ghost use Rattle.af_ledger.specs.Kept.{count_in_map, is_waiting};
 
 use crate::files::Files;
+use af_base::file_list::unlist;
 use af_base::names::{FileRef, Ino};
-use af_ledger::{Count, Place, take_off};
+use af_ledger::{Count, Place};
 
 impl Files {
     /// The counts of a file; all are 0 where no place holds it.
@@ -86,7 +87,8 @@ impl Files {
     {
         let first = self.rows.add_place(place, file);
         if first {
-            take_off(&mut self.waiting, file.ino());
+            // Where several wait, who waits no more is mostly the one that came first.
+            unlist(&mut self.waiting, file.ino(), 0);
         }
     }
 

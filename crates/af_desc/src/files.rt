@@ -9,7 +9,7 @@ ghost use Rattle.af_base.specs.Refusals.{room_of};
 ghost use Rattle.af_base.specs.Steps.{connected_socket, idle_socket};
 ghost use Rattle.af_base.specs.Whole.{IsMessageWithin};
 ghost use Rattle.af_ledger.specs.Counted.{uncounted};
-ghost use Rattle.af_ledger.specs.Waiting.{AreWaiting};
+ghost use Rattle.af_ledger.specs.Kept.{AreWaiting};
 ghost use Rattle.af_mark.specs.Grey.{unmarked};
 ghost use Rattle.af_mark.specs.Marked.{born, forgotten, is_grey};
 ghost use Rattle.af_desc.specs.Rowed.{file_of};
@@ -18,10 +18,10 @@ ghost use Rattle.af_desc.specs.Filed.{is_full, is_live, name_of, with_pair, hung
 use crate::rows::Rows;
 use crate::socket::{Endpoint, Socket};
 use af_base::events::{SockType, State};
+use af_base::file_list::unlist;
 use af_base::items::Items;
 use af_base::limits::{MAX_FILES, MAX_INO, MAX_MESSAGES};
 use af_base::names::{FileRef, Ino};
-use af_ledger::take_off;
 use af_listen::Names;
 use af_queue::{Msg, Taken};
 use std::alloc::{AllocError, Global};
@@ -244,7 +244,7 @@ impl Files {
         ensures marks { self.new.marks ≡ forgotten file.now self.old.marks }
     {
         let gone = self.rows.remove(file);
-        take_off(&mut self.waiting, file.ino());
+        unlist(&mut self.waiting, file.ino(), 0);
         let endpoint = gone?;
         if let Some(name) = endpoint.name() {
             self.names.unbind(name);

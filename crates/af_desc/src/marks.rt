@@ -10,8 +10,9 @@ ghost use Rattle.af_mark.specs.declared.color.Color.TheVariants.{Black, Grey, Wh
 
 use crate::files::Files;
 use crate::rows::Rows;
+use af_base::file_list::unlist;
 use af_base::names::{FileRef, Ino};
-use af_mark::{Color, Mark, noted, unlist};
+use af_mark::{Color, Mark, noted};
 
 impl Files {
     /// A pass begins, over the files that are there: none is marked. It costs the same however many

@@ -5,7 +5,7 @@ use Rattle.std.specs.List.{Contains, list_any}
 use Rattle.std.specs.Map.{lookup, keys_of, set_value}
 use Rattle.std.specs.Option.{option_map_or}
 use Rattle.af_base.specs.World.{Map}
-use Rattle.af_base.specs.Counts.{count_in}
+use Rattle.af_base.specs.Counts.{AreJust, count_in}
 use Rattle.af_ledger.specs.Counted.{uncounted, places_in, more, fewer, IsCountable, IsCounted}
 use Rattle.af_ledger.specs.declared.count.Count.{Count}
 use Rattle.af_ledger.specs.declared.place.Place.{Place}
@@ -41,6 +41,10 @@ has_count k f = map.contains_key k.counts f
 -- Whether f waits: its numbers are kept, and no place holds it (close(2): the description goes with its last reference).
 abbrev pub is_waiting : Map Count → ℕ → Bool
 is_waiting m f = option_map_or (λ c. nat_eq (places_in c) 0) (map.get m f) false
+
+-- The list has each file that waits, once, and no other (this project's own).
+abbrev pub AreWaiting : Map Count → List ℕ → Type 0
+AreWaiting m fs = AreJust (λ c. nat_eq (places_in c) 0) m fs
 
 -- How many places hold a file (close(2): the description goes with its last reference).
 abbrev pub refs_of : Kept → ℕ → ℕ

@@ -2,4 +2,3 @@
 pub mod Counted
 pub mod Kept
 pub mod Sending
-pub mod Waiting

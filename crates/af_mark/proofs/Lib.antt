@@ -1,4 +1,3 @@
 -- Lemmas.
 pub mod Colors
-pub mod Greys
 pub mod Listed

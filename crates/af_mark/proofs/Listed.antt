@@ -1,21 +1,44 @@
 -- That marks and list stay right, whatever comes, goes or changes.
 use Rattle.std.proofs.Common.{◌≡◌, ◌≤◌, ◌<◌, ◌-◌, ℕ, Bool, true, false, cond, List, [], ◌∷◌, ◌++◌, length, refl, ap, ◌∙◌, subst, sym, arith}
-use Rattle.std.specs.Prelude.{Some, None, if◌then◌else◌}
+use Rattle.std.specs.Prelude.{Option, Some, None, IsSome, ◌&&◌, if◌then◌else◌, is_some, not}
 use Rattle.std.specs.Cmp.{nat_cmp_total}
 use Rattle.std.specs.FinMap as map
 use Rattle.std.specs.FinMap.{get-insert, get-remove, nat_cmp-IsAntisymmetric, same_map}
 use Rattle.std.specs.Option.{option_map_or}
 use Rattle.std.specs.Ordering.{eq_by_cmp, nat_cmp}
+use Rattle.std.proofs.lemmas.Bool.{false≢true}
+use Rattle.af_base.specs.Counts.{count_in, one}
+use Rattle.af_base.proofs.Just.{just-pushed, just-same, just-struck, just-without}
 use Rattle.af_base.proofs.Lookups.{insert-here}
-use Rattle.af_base.specs.Counts.{count_in}
 use Rattle.af_base.specs.World.{Map}
+use Rattle.af_order.proofs.Parts.{part_many}
 use Rattle.af_order.proofs.Values.{gone_few}
-use Rattle.af_mark.specs.Grey.{AreGrey, AreListed, AreUpTo, colors_in, unmarked}
-use Rattle.af_mark.specs.Marked.{Marked, blackened, forgotten, is_grey, is_grey_color}
+use Rattle.af_mark.specs.Grey.{AreGrey, AreListed, AreUpTo, color_in, colors_in, unmarked}
+use Rattle.af_mark.specs.Marked.{Marked, blackened, forgotten, is_grey, is_grey_color, is_mark, is_white}
+use Rattle.af_mark.specs.declared.color.Color.{Color}
 use Rattle.af_mark.specs.declared.color.Color.TheVariants.{Black, Grey, White}
 use Rattle.af_mark.specs.declared.mark.Mark.{Mark}
 use Rattle.af_mark.proofs.Colors.{color_after, color_known, color_now, color_white, color_without, same_marked, upto_put, upto_taken}
-use Rattle.af_mark.proofs.Greys.{grey_of, grey_put, grey_same_put, grey_same_taken, grey_stranger, kept_grey, pushed_grey, same, struck_grey}
+
+-- Whether a file is grey by these marks.
+abbrev grey_by : ℕ → Map Mark → ℕ → Bool
+grey_by e m f = option_map_or is_grey_color (map.get (colors_in e m) f) false
+
+-- Who is grey is known.
+pub grey-known : (m : Marked) (f : ℕ) → is_grey m f ≡ true → IsSome (map.get m.colors f)
+grey-known m f = by (map.get m.colors f) where
+  by : (o : Option Color) → option_map_or is_grey_color o false ≡ true → IsSome o
+  by None e = absurd (false≢true e)
+  by (Some c) e = refl
+
+-- Who is white is known, and is not grey.
+pub white-known : (m : Marked) (f : ℕ) → is_white m f ≡ true → IsSome (map.get m.colors f) × (is_grey m f ≡ false)
+white-known m f = by (map.get m.colors f) where
+  by : (o : Option Color) → (is_some o && not (option_map_or is_mark o false)) ≡ true → IsSome o × (option_map_or is_grey_color o false ≡ false)
+  by None e = absurd (false≢true e)
+  by (Some White) e = (refl, refl)
+  by (Some Grey) e = absurd (false≢true e)
+  by (Some Black) e = absurd (false≢true e)
 
 module _ (m n : Map Mark) (e : ℕ) (fs : List ℕ) (room : ℕ) (h : AreListed m e fs room) where
   -- More room changes nothing.
@@ -32,43 +55,41 @@ module _ (m n : Map Mark) (e : ℕ) (fs : List ℕ) (room : ℕ) (h : AreListed 
 
   -- A file more has a mark of no pass.
   pub listed-born : (f most : ℕ) → n ≡ map.insert m f unmarked → map.contains_key m f ≡ false → map.len n ≤ most → AreListed n e fs most
-  listed-born f most is new fits =
-      let colors = color_after e m n f unmarked White is (color_white e unmarked refl) in (
-        subst (AreUpTo e) (sym is) (upto_put e m f unmarked (omega arith) h.0),
-        kept_grey (colors_in e m) (colors_in e n) fs f h.1 (λ g. ap (λ cs. grey_of cs g) colors ∙ grey_same_put (colors_in e m) f White refl (grey_stranger (colors_in e m) f (color_known e m f ∙ new)) g),
-        fits,
-      )
+  listed-born f most is new fits = (
+    subst (AreUpTo e) (sym is) (upto_put e m f unmarked (omega arith) h.0),
+    just-same is_grey_color (colors_in e m) (colors_in e n) fs f h.1 White (color_after e m n f unmarked White is (color_white e unmarked refl)) (sym (by (map.get (colors_in e m) f) (color_known e m f ∙ new))),
+    fits,
+  ) where
+    by : (o : Option Color) → is_some o ≡ false → option_map_or is_grey_color o false ≡ false
+    by None e = refl
+    by (Some c) e = absurd (false≢true (sym e))
 
   -- A file less, which was not grey.
-  pub listed-gone : (f : ℕ) → n ≡ map.remove m f → option_map_or is_grey_color (map.get (colors_in e m) f) false ≡ false → AreListed n e fs room
-  listed-gone f is white =
-      let fits = h.2 in
-      let colors = color_without e m n f is in (
-        subst (AreUpTo e) (sym is) (upto_taken e m f h.0),
-        kept_grey (colors_in e m) (colors_in e n) fs f h.1 (λ g. ap (λ cs. grey_of cs g) colors ∙ grey_same_taken (colors_in e m) f (ap {B = ℕ} (λ b. cond b 1 0) white) g),
-        omega (arith, fits, ap map.len is, gone_few m f),
-      )
+  pub listed-gone : (f : ℕ) → n ≡ map.remove m f → grey_by e m f ≡ false → AreListed n e fs room
+  listed-gone f is white = let fits = h.2 in (
+    subst (AreUpTo e) (sym is) (upto_taken e m f h.0),
+    just-without is_grey_color (colors_in e m) (colors_in e n) fs f h.1 (color_without e m n f is) white,
+    omega (arith, fits, ap map.len is, gone_few m f),
+  )
 
   module _ (f : ℕ) (x : Mark) (is : n ≡ map.insert m f x) (now : x.epoch ≡ e) (many : map.len n ≡ map.len m) where
     -- A white file is grey, and the last of the list, which has room for it.
-    pub listed-grey : x.color ≡ Grey → grey_of (colors_in e m) f ≡ 0 → (length fs < room) × AreListed n e (fs ++ f ∷ []) room
+    pub listed-grey : x.color ≡ Grey → grey_by e m f ≡ false → (length fs < room) × AreListed n e (fs ++ f ∷ []) room
     listed-grey grey white =
         let fits = h.2 in
-        let pushed = pushed_grey (colors_in e m) (colors_in e n) n fs f Grey h.1 (color_after e m n f x Grey is (color_now e x now ∙ grey)) refl white (color_known e n) in
+        let pushed = just-pushed is_grey_color (colors_in e m) (colors_in e n) fs f h.1 Grey (color_after e m n f x Grey is (color_now e x now ∙ grey)) refl white in
         let low = pushed.1 in (
-          omega (arith, fits, low, many),
+          omega (arith, fits, low, many, part_many (color_in e) n),
           (subst (AreUpTo e) (sym is) (upto_put e m f x (omega (arith, now)) h.0), pushed.0, omega (arith, fits, many)),
         )
 
-    -- A grey file is black, and in the list no more.
-    pub listed-black : (gs : List ℕ) (most : ℕ) → x.color ≡ Black → grey_of (colors_in e m) f ≡ 1 → ((g : ℕ) → count_in g gs ≡ count_in g fs - same g f) → room ≤ most → AreListed n e gs most
-    listed-black gs most black grey less more =
-        let fits = h.2 in
-        let colors = color_after e m n f x Black is (color_now e x now ∙ black) in (
-          subst (AreUpTo e) (sym is) (upto_put e m f x (omega (arith, now)) h.0),
-          struck_grey (colors_in e m) (colors_in e n) fs f h.1 gs (λ g. ap (λ cs. grey_of cs g) colors ∙ grey_put (colors_in e m) f Black g) grey less,
-          omega (arith, fits, many, more),
-        )
+    -- A file is black, and in the list no more.
+    pub listed-black : (gs : List ℕ) (most : ℕ) → x.color ≡ Black → ((g : ℕ) → count_in g gs ≡ count_in g fs - one g f) → room ≤ most → AreListed n e gs most
+    listed-black gs most black less more = let fits = h.2 in (
+      subst (AreUpTo e) (sym is) (upto_put e m f x (omega (arith, now)) h.0),
+      just-struck is_grey_color (colors_in e m) (colors_in e n) fs f h.1 Black (color_after e m n f x Black is (color_now e x now ∙ black)) gs refl less,
+      omega (arith, fits, many, more),
+    )
 
 -- Who is black is not grey.
 pub black-spared : (f : ℕ) (m : Marked) → is_grey (blackened f m) f ≡ false

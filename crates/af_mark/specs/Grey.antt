@@ -1,8 +1,7 @@
 -- The colours behind the marks, and the list of the grey files beside them.
-use Rattle.std.specs.Prelude.{◌≡◌, ◌≤◌, ℕ, List, nat_eq, Some, if◌then◌else◌, false}
+use Rattle.std.specs.Prelude.{◌≡◌, ◌≤◌, ℕ, List, nat_eq, Some, if◌then◌else◌}
 use Rattle.std.specs.FinMap as map
-use Rattle.std.specs.Option.{option_map_or}
-use Rattle.af_base.specs.Counts.{count_in}
+use Rattle.af_base.specs.Counts.{AreJust}
 use Rattle.af_base.specs.World.{Map}
 use Rattle.af_order.specs.Parts.{part}
 use Rattle.af_mark.specs.Marked.{is_grey_color}
@@ -32,7 +31,7 @@ AreUpTo epoch m = (f : ℕ) (x : Mark) → map.get m f ≡ Some x → x.epoch �
 
 -- The list has each grey file, once, and no other (this project's own).
 abbrev pub AreGrey : Map Color → List ℕ → Type 0
-AreGrey colors fs = (f : ℕ) → count_in f fs ≡ (if option_map_or is_grey_color (map.get colors f) false then 1 else 0)
+AreGrey colors fs = AreJust is_grey_color colors fs
 
 -- The marks are of this pass or earlier ones, and the list has just the grey files, and room for as many as have a mark (this project's own).
 abbrev pub AreListed : Map Mark → ℕ → List ℕ → ℕ → Type 0

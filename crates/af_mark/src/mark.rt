@@ -5,6 +5,12 @@ ghost use Rattle.af_mark.specs.Marked.{is_grey_color};
 
 use crate::color::Color;
 
+/// A place in the list of the grey files, as far as a mark can tell it.
+#[inline(always)]
+pub fn noted(at: usize) -> u32 {
+    at.min(u32::MAX as usize) as u32
+}
+
 /// A file's colour, and of which pass it is.
 #[derive(Clone, Copy)]
 pub struct Mark {

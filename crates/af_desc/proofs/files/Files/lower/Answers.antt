@@ -1,8 +1,7 @@
 use Rattle.std.proofs.Common.{rules, ◌≡◌, ◌++◌, ◌∷◌, [], arith, refl, sym, ap, ◌∙◌, subst}
 use Rattle.std.specs.Prelude.{vec_capacity}
 use Rattle.af_ledger.specs.Counted.{IsCounted}
-use Rattle.af_ledger.specs.Kept.{count_in_map}
-use Rattle.af_ledger.specs.Waiting.{AreWaiting}
+use Rattle.af_ledger.specs.Kept.{AreWaiting, count_in_map}
 use Rattle.af_ledger.proofs.Waiting.{lowered-kept, lowered-pushed}
 use Rattle.af_desc.specs.Filed.{Filed}
 use Rattle.af_mark.proofs.Listed.{listed-same}
@@ -14,7 +13,7 @@ push_reserved-requires c =
     let a = c.self.inside in
     let counted = subst (λ (v : Filed). IsCounted c.args.place.now (count_in_map v.counts c.args.file.now)) (sym c.self.view_is) c.requires in
     let one = c.sub_place-last.ensures in
-    let low = (lowered-pushed a.rows.counts _ a.waiting.items c.args.file.now c.args.place.now (ap (λ r. r.counts) one.counts) c.self.invariant.filed.3 counted (sym one.last ∙ c.if-last.true)).1 in
+    let low = (lowered-pushed a.rows.counts _ a.waiting.items c.args.file.now c.self.invariant.filed.3 c.args.place.now (ap (λ r. r.counts) one.counts) counted (sym one.last ∙ c.if-last.true)).1 in
     let fits = c.self.invariant.filed.4 in
     omega (arith, low, fits, one.len, a.waiting.ok.0)
 
@@ -23,7 +22,7 @@ invariant_of-self c =
     let a = c.self.inside in
     let counted = subst (λ (v : Filed). IsCounted c.args.place.now (count_in_map v.counts c.args.file.now)) (sym c.self.view_is) c.requires in
     let one = c.sub_place-last.ensures in
-    let pushed = (lowered-pushed a.rows.counts _ a.waiting.items c.args.file.now c.args.place.now (ap (λ r. r.counts) one.counts) c.self.invariant.filed.3 counted (sym one.last ∙ c.if-last.true)).0 in
+    let pushed = (lowered-pushed a.rows.counts _ a.waiting.items c.args.file.now c.self.invariant.filed.3 c.args.place.now (ap (λ r. r.counts) one.counts) counted (sym one.last ∙ c.if-last.true)).0 in
     let items : c.push_reserved.new.self.items ≡ a.waiting.items ++ c.args.file.now ∷ [] = search rules in
     record {
       filed = filed-counted a.rows _ a.waiting.items (vec_capacity a.waiting) a.names a.next c.self.invariant.filed _ c.push_reserved.new.self.items (vec_capacity c.push_reserved.new.self) one.counts
@@ -38,6 +37,6 @@ invariant_of-self-else-last c =
     let one = c.sub_place-last.ensures in
     record {
       filed = filed-counted a.rows _ a.waiting.items (vec_capacity a.waiting) a.names a.next c.self.invariant.filed _ a.waiting.items (vec_capacity a.waiting) one.counts
-          (lowered-kept a.rows.counts _ a.waiting.items c.args.file.now c.args.place.now c.self.invariant.filed.3 counted (ap (λ r. r.counts) one.counts) (sym one.last ∙ c.if-last.false)) one.len (omega arith);
+          (lowered-kept a.rows.counts _ a.waiting.items c.args.file.now c.self.invariant.filed.3 c.args.place.now (ap (λ r. r.counts) one.counts) counted (sym one.last ∙ c.if-last.false)) one.len (omega arith);
       listed = listed-same a.rows.marks _ a.epoch a.grey.items (vec_capacity a.grey) c.self.invariant.listed a.grey.items (vec_capacity a.grey) (ap (λ r. r.marks) one.counts) refl (omega arith);
     }

@@ -1,13 +1,14 @@
-use Rattle.std.proofs.Common.{◌<◌, ◌∙◌, ap, subst, sym, arith}
+use Rattle.std.proofs.Common.{◌<◌, ◌∙◌, ap, subst, sym, nat_eq, arith}
 use Rattle.std.specs.FinMap as map
 use Rattle.std.specs.Prelude.{is_some}
 use Rattle.std.specs.Ordering.{nat_cmp}
+use Rattle.af_base.proofs.Just.{just-empty}
+use Rattle.af_ledger.specs.Counted.{places_in}
 use Rattle.af_ledger.specs.declared.count.Count.{Count}
-use Rattle.af_ledger.proofs.Waiting.{nothing-waits}
 use Rattle.af_mark.specs.Grey.{color_in, colors_in}
+use Rattle.af_mark.specs.Marked.{is_grey_color}
 use Rattle.af_mark.specs.declared.mark.Mark.{Mark}
 use Rattle.af_mark.proofs.Colors.{upto_none}
-use Rattle.af_mark.proofs.Greys.{grey_empty, nothing_grey}
 use Rattle.af_order.proofs.Parts.{part_none}
 use Rattle.af_desc.proofs.Naming.{named-none-yet}
 use Rattle.af_desc.proofs.files.Files.new.Goals as goal
@@ -23,12 +24,12 @@ invariant_of-result c =
         subst (λ n. n < 1) (sym c.new.ensures.last) (omega arith),
         ap (λ m. map.contains_key m 0) none ∙ ap is_some (map.get-empty nat_cmp 0),
         named-none-yet c.new-4.result c.new.result.files c.new-4.ensures none,
-        nothing-waits c.new.result.counts _ uncounted c.new-2.ensures.items,
+        just-empty (λ n. nat_eq (places_in n) 0) c.new.result.counts _ uncounted c.new-2.ensures.items,
         omega (arith, ap map.len uncounted ∙ map.len-empty nat_cmp Count),
       );
       listed = (
         upto_none 0 m markless,
-        nothing_grey (colors_in 0 m) _ c.new-3.ensures.items (grey_empty (colors_in 0 m) (part_none (color_in 0) m markless)),
+        just-empty is_grey_color (colors_in 0 m) _ (part_none (color_in 0) m markless) c.new-3.ensures.items,
         omega (arith, ap map.len markless ∙ map.len-empty nat_cmp Mark),
       );
     }

@@ -1,26 +1,24 @@
 use Rattle.std.proofs.Common.{rules, ◌≡◌, ◌∷◌, [], ◌++◌, refl, sym, ap, ◌∙◌, arith}
 use Rattle.std.specs.Prelude.{is_some, vec_capacity}
 use Rattle.std.specs.FinMap as map
-use Rattle.af_mark.specs.Grey.{colors_in}
-use Rattle.af_mark.specs.declared.color.Color.TheVariants.{Grey, White}
+use Rattle.af_mark.specs.Marked.{is_grey}
+use Rattle.af_mark.specs.declared.color.Color.TheVariants.{Grey}
 use Rattle.af_mark.specs.declared.mark.Mark.{Mark}
 use Rattle.af_mark.proofs.Colors.{color_after, color_known, color_now, same_marked}
-use Rattle.af_mark.proofs.Greys.{grey_here, white_here}
-use Rattle.af_mark.proofs.Listed.{listed-grey, listed-same}
+use Rattle.af_mark.proofs.Listed.{listed-grey, listed-same, white-known}
 use Rattle.af_desc.proofs.Filing.{filed-marked}
 use Rattle.af_desc.proofs.files.Files.push_grey.Goals as goal
 
 pub set_mark-requires : goal.set_mark-requires
 set_mark-requires c =
-    let was = ap (λ v. map.get v.marks.colors c.args.file.now) c.self.view_is ∙ white_here c.args.self.now.marks.colors c.args.file.now c.requires in
-    sym (color_known c.self.inside.epoch c.self.inside.rows.marks c.args.file.now) ∙ ap is_some was
+    sym (color_known c.self.inside.epoch c.self.inside.rows.marks c.args.file.now) ∙ ap (λ v. is_some (map.get v.marks.colors c.args.file.now)) c.self.view_is ∙ (white-known c.args.self.now.marks c.args.file.now c.requires).0
 
 pub push_reserved-requires : goal.push_reserved-requires
 push_reserved-requires c =
     let a = c.self.inside in
     let f = c.args.file.now in
-    let was = ap (λ v. map.get v.marks.colors f) c.self.view_is ∙ white_here c.args.self.now.marks.colors f c.requires in
-    let listed = listed-grey a.rows.marks c.set_mark.new.self.marks a.epoch a.grey.items (vec_capacity a.grey) c.self.invariant.listed f (record { epoch = a.epoch; color = Grey; at = c.noted.result }) (ap (λ r. r.marks) c.set_mark.ensures.set) refl c.set_mark.ensures.len refl (grey_here (colors_in a.epoch a.rows.marks) f White was) in
+    let white = ap (λ v. is_grey v.marks f) c.self.view_is ∙ (white-known c.args.self.now.marks f c.requires).1 in
+    let listed = listed-grey a.rows.marks c.set_mark.new.self.marks a.epoch a.grey.items (vec_capacity a.grey) c.self.invariant.listed f (record { epoch = a.epoch; color = Grey; at = c.noted.result }) (ap (λ r. r.marks) c.set_mark.ensures.set) refl c.set_mark.ensures.len refl white in
     let low = listed.0 in
     omega (arith, low)
 
@@ -28,8 +26,8 @@ pub invariant_of-self : goal.invariant_of-self
 invariant_of-self c =
     let a = c.self.inside in
     let f = c.args.file.now in
-    let was = ap (λ v. map.get v.marks.colors f) c.self.view_is ∙ white_here c.args.self.now.marks.colors f c.requires in
-    let listed = listed-grey a.rows.marks c.set_mark.new.self.marks a.epoch a.grey.items (vec_capacity a.grey) c.self.invariant.listed f (record { epoch = a.epoch; color = Grey; at = c.noted.result }) (ap (λ r. r.marks) c.set_mark.ensures.set) refl c.set_mark.ensures.len refl (grey_here (colors_in a.epoch a.rows.marks) f White was) in
+    let white = ap (λ v. is_grey v.marks f) c.self.view_is ∙ (white-known c.args.self.now.marks f c.requires).1 in
+    let listed = listed-grey a.rows.marks c.set_mark.new.self.marks a.epoch a.grey.items (vec_capacity a.grey) c.self.invariant.listed f (record { epoch = a.epoch; color = Grey; at = c.noted.result }) (ap (λ r. r.marks) c.set_mark.ensures.set) refl c.set_mark.ensures.len refl white in
     let items : c.push_reserved.new.self.items ≡ a.grey.items ++ f ∷ [] = search rules in
     record {
       filed = filed-marked a.rows _ a.waiting.items (vec_capacity a.waiting) a.names a.next c.self.invariant.filed _ c.set_mark.ensures.set;

@@ -10,8 +10,8 @@ invariant_of-self c =
     let a = c.self.inside in
     let one = c.add_place-first.ensures in
     record {
-      filed = filed-counted a.rows _ a.waiting.items (vec_capacity a.waiting) a.names a.next c.self.invariant.filed _ c.take_off.new.waiting.items (vec_capacity c.take_off.new.waiting) one.counts
-          (raised-off a.rows.counts _ a.waiting.items c.args.file.now c.args.place.now c.self.invariant.filed.3 (ap (λ r. r.counts) one.counts) c.take_off.new.waiting.items (search rules) c.take_off.ensures.once) one.len (omega (arith, c.take_off.ensures.capacity));
+      filed = filed-counted a.rows _ a.waiting.items (vec_capacity a.waiting) a.names a.next c.self.invariant.filed _ c.unlist.new.files.items (vec_capacity c.unlist.new.files) one.counts
+          (raised-off a.rows.counts _ a.waiting.items c.args.file.now c.self.invariant.filed.3 c.args.place.now (ap (λ r. r.counts) one.counts) c.unlist.new.files.items (search rules)) one.len (omega (arith, c.unlist.ensures.capacity));
       listed = listed-same a.rows.marks _ a.epoch a.grey.items (vec_capacity a.grey) c.self.invariant.listed a.grey.items (vec_capacity a.grey) (ap (λ r. r.marks) one.counts) refl (omega arith);
     }
 
@@ -21,6 +21,6 @@ invariant_of-self-else-first c =
     let one = c.add_place-first.ensures in
     record {
       filed = filed-counted a.rows _ a.waiting.items (vec_capacity a.waiting) a.names a.next c.self.invariant.filed _ a.waiting.items (vec_capacity a.waiting) one.counts
-          (raised-kept a.rows.counts _ a.waiting.items c.args.file.now c.args.place.now c.self.invariant.filed.3 (ap (λ r. r.counts) one.counts) (sym one.first ∙ c.if-first.false)) one.len (omega arith);
+          (raised-kept a.rows.counts _ a.waiting.items c.args.file.now c.self.invariant.filed.3 c.args.place.now (ap (λ r. r.counts) one.counts) (sym one.first ∙ c.if-first.false)) one.len (omega arith);
       listed = listed-same a.rows.marks _ a.epoch a.grey.items (vec_capacity a.grey) c.self.invariant.listed a.grey.items (vec_capacity a.grey) (ap (λ r. r.marks) one.counts) refl (omega arith);
     }

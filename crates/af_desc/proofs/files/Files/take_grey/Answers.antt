@@ -1,20 +1,17 @@
-use Rattle.std.proofs.Common.{◌≡◌, ◌-◌, ℕ, refl, sym, ap, ◌∙◌, arith}
+use Rattle.std.proofs.Common.{rules, ◌≡◌, ◌-◌, ℕ, refl, sym, ap, ◌∙◌, arith}
 use Rattle.std.specs.Prelude.{is_some, vec_capacity}
 use Rattle.std.specs.FinMap as map
-use Rattle.af_base.specs.Counts.{count_in}
+use Rattle.af_base.specs.Counts.{count_in, one}
 use Rattle.af_mark.specs.declared.color.Color.TheVariants.{Black}
 use Rattle.af_mark.specs.declared.mark.Mark.{Mark}
 use Rattle.af_mark.proofs.Colors.{color_after, color_known, color_now, same_marked}
-use Rattle.af_mark.proofs.Greys.{grey_known, grey_of, grey_once, same}
-use Rattle.af_mark.proofs.Listed.{listed-black, listed-moved}
+use Rattle.af_mark.proofs.Listed.{grey-known, listed-black, listed-moved}
 use Rattle.af_desc.proofs.Filing.{filed-marked}
 use Rattle.af_desc.proofs.files.Files.take_grey.Goals as goal
 
 pub set_mark-requires : goal.set_mark-requires
 set_mark-requires c =
-    let once = grey_once c.args.self.now.marks.colors c.args.file.now c.requires in
-    let was = grey_known c.args.self.now.marks.colors c.args.file.now (omega (arith, once)) in
-    sym (color_known c.self.inside.epoch c.self.inside.rows.marks c.args.file.now) ∙ ap (λ v. is_some (map.get v.marks.colors c.args.file.now)) c.self.view_is ∙ was
+    sym (color_known c.self.inside.epoch c.self.inside.rows.marks c.args.file.now) ∙ ap (λ v. is_some (map.get v.marks.colors c.args.file.now)) c.self.view_is ∙ grey-known c.args.self.now.marks c.args.file.now c.requires
 
 pub invariant_of-self : goal.invariant_of-self
 invariant_of-self c =
@@ -23,9 +20,8 @@ invariant_of-self c =
     let x : Mark = record { epoch = a.epoch; color = Black; at = 0 } in
     let set = c.set_mark.ensures in
     let e = c.strike.ensures in
-    let grey = ap (λ v. grey_of v.marks.colors f) c.self.view_is ∙ grey_once c.args.self.now.marks.colors f c.requires in
-    let less : (g : ℕ) → count_in g c.strike.new.grey.items ≡ count_in g a.grey.items - same g f = λ g. e.each g ∙ ap (λ k. count_in g a.grey.items - same g k) c.ino.ensures in
-    let black = listed-black a.rows.marks c.set_mark.new.self.marks a.epoch a.grey.items (vec_capacity a.grey) c.self.invariant.listed f x (ap (λ r. r.marks) set.set) refl set.len c.strike.new.grey.items (vec_capacity c.strike.new.grey) refl grey less (omega (arith, e.capacity)) in
+    let less : (g : ℕ) → count_in g c.strike.new.grey.items ≡ count_in g a.grey.items - one g f = search rules in
+    let black = listed-black a.rows.marks c.set_mark.new.self.marks a.epoch a.grey.items (vec_capacity a.grey) c.self.invariant.listed f x (ap (λ r. r.marks) set.set) refl set.len c.strike.new.grey.items (vec_capacity c.strike.new.grey) refl less (omega (arith, e.capacity)) in
     let marked = filed-marked a.rows c.set_mark.new.self a.waiting.items (vec_capacity a.waiting) a.names a.next c.self.invariant.filed _ set.set in
     record {
       filed = filed-marked c.set_mark.new.self c.strike.new.rows a.waiting.items (vec_capacity a.waiting) a.names a.next marked _ e.rest;

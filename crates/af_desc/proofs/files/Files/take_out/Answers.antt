@@ -1,8 +1,8 @@
-use Rattle.std.proofs.Common.{rules, ◌≡◌, ◌&&◌, ◌∙◌, ℕ, not, ap, refl, sym, subst, nat_eq, arith}
+use Rattle.std.proofs.Common.{rules, ◌≡◌, ◌-◌, ◌∙◌, ℕ, ap, refl, sym, subst, arith}
 use Rattle.std.specs.Prelude.{vec_capacity}
 use Rattle.std.specs.FinMap as map
-use Rattle.std.specs.List.{list_any}
 use Rattle.std.specs.Option.{option_and_then, option_copied}
+use Rattle.af_base.specs.Counts.{count_in, one}
 use Rattle.af_mark.specs.Marked.{is_grey}
 use Rattle.af_mark.proofs.Colors.{color_without, same_marked}
 use Rattle.af_mark.proofs.Listed.{listed-gone}
@@ -16,10 +16,10 @@ pub invariant_of-self : goal.invariant_of-self
 invariant_of-self c =
     let a = c.self.inside in
     let none = ap (option_and_then (λ s. s.name)) (sym c.remove-gone.ensures.value ∙ c.in_err-endpoint.was) in
-    let off : (f : ℕ) → list_any (nat_eq f) c.take_off.new.waiting.items ≡ (not (nat_eq f c.args.file.now) && list_any (nat_eq f) a.waiting.items) = search rules in
+    let off : (f : ℕ) → count_in f c.unlist.new.files.items ≡ count_in f a.waiting.items - one f c.args.file.now = search rules in
     record {
-      filed = filed-removed a.rows c.remove-gone.new.self a.waiting.items (vec_capacity a.waiting) a.names a.next c.self.invariant.filed c.args.file.now a.names c.take_off.new.waiting.items (vec_capacity c.take_off.new.waiting)
-          c.remove-gone.ensures.removed (named-gone a.names a.rows.files c.self.invariant.filed.2 c.args.file.now (sym (name-at a.rows.files c.args.file.now _ refl) ∙ none)) off c.take_off.ensures.once (omega (arith, c.take_off.ensures.capacity));
+      filed = filed-removed a.rows c.remove-gone.new.self a.waiting.items (vec_capacity a.waiting) a.names a.next c.self.invariant.filed c.args.file.now a.names c.unlist.new.files.items (vec_capacity c.unlist.new.files)
+          c.remove-gone.ensures.removed (named-gone a.names a.rows.files c.self.invariant.filed.2 c.args.file.now (sym (name-at a.rows.files c.args.file.now _ refl) ∙ none)) off (omega (arith, c.unlist.ensures.capacity));
       listed = listed-gone a.rows.marks c.remove-gone.new.self.marks a.epoch a.grey.items (vec_capacity a.grey) c.self.invariant.listed c.args.file.now (ap (λ r. r.marks) c.remove-gone.ensures.removed) (ap (λ v. is_grey v.marks c.args.file.now) c.self.view_is ∙ c.requires.white);
     }
 
@@ -30,10 +30,10 @@ invariant_of-self-in-Some c =
     let k = c.args.file.now in
     let name = c.in-Some.name.now in
     let had = ap (option_and_then (λ s. s.name)) (sym c.remove-gone.ensures.value ∙ c.in_ok-endpoint.was) ∙ sym c.name.ensures ∙ ap option_copied c.in-Some.is in
-    let off : (f : ℕ) → list_any (nat_eq f) c.take_off.new.waiting.items ≡ (not (nat_eq f c.args.file.now) && list_any (nat_eq f) a.waiting.items) = search rules in
+    let off : (f : ℕ) → count_in f c.unlist.new.files.items ≡ count_in f a.waiting.items - one f c.args.file.now = search rules in
     record {
-      filed = filed-removed a.rows c.remove-gone.new.self a.waiting.items (vec_capacity a.waiting) a.names a.next c.self.invariant.filed c.args.file.now _ c.take_off.new.waiting.items (vec_capacity c.take_off.new.waiting)
-          c.remove-gone.ensures.removed (subst (λ n. AreNamed n (map.remove m k)) (sym c.unbind.ensures) (named-freed a.names m c.self.invariant.filed.2 name k had)) off c.take_off.ensures.once (omega (arith, c.take_off.ensures.capacity));
+      filed = filed-removed a.rows c.remove-gone.new.self a.waiting.items (vec_capacity a.waiting) a.names a.next c.self.invariant.filed c.args.file.now _ c.unlist.new.files.items (vec_capacity c.unlist.new.files)
+          c.remove-gone.ensures.removed (subst (λ n. AreNamed n (map.remove m k)) (sym c.unbind.ensures) (named-freed a.names m c.self.invariant.filed.2 name k had)) off (omega (arith, c.unlist.ensures.capacity));
       listed = listed-gone a.rows.marks c.remove-gone.new.self.marks a.epoch a.grey.items (vec_capacity a.grey) c.self.invariant.listed c.args.file.now (ap (λ r. r.marks) c.remove-gone.ensures.removed) (ap (λ v. is_grey v.marks c.args.file.now) c.self.view_is ∙ c.requires.white);
     }
 
@@ -41,10 +41,10 @@ pub invariant_of-self-in_default : goal.invariant_of-self-in_default
 invariant_of-self-in_default c =
     let a = c.self.inside in
     let none = ap (option_and_then (λ s. s.name)) (sym c.remove-gone.ensures.value ∙ c.in_ok-endpoint.was) ∙ sym c.name.ensures ∙ ap option_copied c.in_default.is in
-    let off : (f : ℕ) → list_any (nat_eq f) c.take_off.new.waiting.items ≡ (not (nat_eq f c.args.file.now) && list_any (nat_eq f) a.waiting.items) = search rules in
+    let off : (f : ℕ) → count_in f c.unlist.new.files.items ≡ count_in f a.waiting.items - one f c.args.file.now = search rules in
     record {
-      filed = filed-removed a.rows c.remove-gone.new.self a.waiting.items (vec_capacity a.waiting) a.names a.next c.self.invariant.filed c.args.file.now a.names c.take_off.new.waiting.items (vec_capacity c.take_off.new.waiting)
-          c.remove-gone.ensures.removed (named-gone a.names a.rows.files c.self.invariant.filed.2 c.args.file.now (sym (name-at a.rows.files c.args.file.now _ refl) ∙ none)) off c.take_off.ensures.once (omega (arith, c.take_off.ensures.capacity));
+      filed = filed-removed a.rows c.remove-gone.new.self a.waiting.items (vec_capacity a.waiting) a.names a.next c.self.invariant.filed c.args.file.now a.names c.unlist.new.files.items (vec_capacity c.unlist.new.files)
+          c.remove-gone.ensures.removed (named-gone a.names a.rows.files c.self.invariant.filed.2 c.args.file.now (sym (name-at a.rows.files c.args.file.now _ refl) ∙ none)) off (omega (arith, c.unlist.ensures.capacity));
       listed = listed-gone a.rows.marks c.remove-gone.new.self.marks a.epoch a.grey.items (vec_capacity a.grey) c.self.invariant.listed c.args.file.now (ap (λ r. r.marks) c.remove-gone.ensures.removed) (ap (λ v. is_grey v.marks c.args.file.now) c.self.view_is ∙ c.requires.white);
     }
 

@@ -1,0 +1,35 @@
+//! Lists of files, in no order.
+ghost use Rattle.std.specs.Prelude.{◌≡◌, ◌<◌, ◌-◌, ℕ, Some, IfSome, IfNone, cond, false, length, nat_eq, slice_get, slice_index_or, vec_capacity};
+ghost use Rattle.af_base.specs.Counts.{count_in};
+
+use crate::names::{FileRef, Ino};
+
+/// Where a file stands in the list: this place is tried first, and then all from the end. Nothing
+/// where it does not.
+#[inline(always)]
+fn place_of(files: &[FileRef], ino: Ino, at: usize) -> Option<usize>
+    ensures some { IfSome result (λ i. slice_get files.now i ≡ Some ino) }
+    ensures none { IfNone result ((k : ℕ) → k < length files.now → nat_eq (slice_index_or files.now k 0) ino ≡ false) }
+{
+    if let Some(file) = files.get(at)
+        && file.ino() == ino
+    {
+        return Some(at);
+    }
+    files.iter().rposition(|file| file.ino() == ino)
+}
+
+/// The file is in the list once less, if it was there, and the last takes its place. Which place
+/// that was, where this one is tried first, and then all from the end; nothing where it was not
+/// there. It takes no memory.
+#[inline(always)]
+pub fn unlist(files: &mut Vec<FileRef>, ino: Ino, at: usize) -> Option<usize>
+    ensures each { (f : ℕ) → count_in f files.new.items ≡ count_in f files.old.items - cond (nat_eq f ino) 1 0 }
+    ensures place { IfSome result (λ i. slice_get files.old.items i ≡ Some ino) }
+    ensures none { IfNone result (count_in ino files.old.items ≡ 0) }
+    ensures capacity { vec_capacity files.new ≡ vec_capacity files.old }
+{
+    let at = place_of(files.as_slice(), ino, at)?;
+    files.swap_remove(at);
+    Some(at)
+}
