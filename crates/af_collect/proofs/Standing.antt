@@ -1,20 +1,19 @@
 -- What stands in a store: it is exact, and what is kept of the pass is kept with it.
-use Rattle.std.proofs.Common.{◌≡◌, ℕ, List, false, refl, ap, sym, ◌∙◌, subst}
-use Rattle.std.specs.Prelude.{IsTrue, OnErr, OnOk, Result, is_none}
+use Rattle.std.proofs.Common.{◌≡◌, ℕ, List, false, ap, sym, ◌∙◌, subst}
+use Rattle.std.specs.Prelude.{Err, IsTrue, Ok, OnErr, OnOk, Result, is_none}
 use Rattle.std.specs.FinMap as map
-use Rattle.af_base.specs.World.{AsSocket, Map, Socket, World}
-use Rattle.af_base.specs.Changes.{change_socket_at, with_socket}
+use Rattle.af_base.specs.World.{AsSocket, Socket, World}
+use Rattle.af_base.specs.Changes.{with_socket}
 use Rattle.af_base.specs.Places.{contents}
 use Rattle.af_base.specs.Refusals.{process_at, socket_at}
 use Rattle.af_base.specs.Table.{lowest_free}
-use Rattle.af_desc.specs.Filed.{Filed}
+use Rattle.af_desc.specs.Filed.{Filed, changed}
 use Rattle.af_ledger.specs.Kept.{Charged, Kept, kept_of}
-use Rattle.af_ledger.specs.declared.count.Count.{Count}
 use Rattle.af_mark.specs.Marked.{Marked, is_marked}
 use Rattle.af_table.specs.Procs.{Procs}
 use Rattle.af_hold.specs.Agreement.{IsExact}
-use Rattle.af_hold.specs.Stored.{Stored, world_of}
-use Rattle.af_hold.proofs.Exact.{by-four, by-result, exact-same, world-is}
+use Rattle.af_hold.specs.Stored.{AreExact, Stored, world_of}
+use Rattle.af_hold.proofs.Exact.{exact-same}
 use Rattle.af_pass.specs.Keeping.{IsKept, below, pass_of}
 use Rattle.af_pass.specs.declared.Progress.{Progress}
 use Rattle.af_pass.proofs.Sockets.{covers_same, moves_same}
@@ -26,10 +25,10 @@ use Rattle.af_collect.proofs.Placed.{kept_socket}
 
 -- These processes, files and charges are exact, and what these parts keep of the pass is kept with them.
 abbrev pub Stands : Parts → Procs → Filed → Charged → Type 0
-Stands p procs files ledger = IsExact (world_of procs files ledger) (kept_of files.counts ledger) × IsKept (world_of procs files ledger) p.begun.value.world files.marks p.progress
+Stands p procs files ledger = AreExact procs files ledger × IsKept (world_of procs files ledger) p.begun.value.world files.marks p.progress
 
 -- So it is where the holdings of the parts are opened.
-pub stood : (p : Parts) (h : Inside) → the_view h ≡ p.places → IsExact (world_of h.procs h.files h.ledger) (kept_of h.files.counts h.ledger) → AreKept p → Stands p h.procs h.files h.ledger
+pub stood : (p : Parts) (h : Inside) → the_view h ≡ p.places → AreExact h.procs h.files h.ledger → AreKept p → Stands p h.procs h.files h.ledger
 stood p h seen exact kept = (exact, subst (AreKeptWith p) (sym seen) kept)
 
 module _ {begun : World} {c : Progress} where
@@ -42,25 +41,19 @@ module _ {begun : World} {c : Progress} where
   both-same v w k l m n world numbers marks exact kept = (exact-same v w k l world numbers exact, kept-same v w m n world marks kept)
 
 module _ {T E : Type 0} (r : Result T E) (p : Parts) (h : Inside) (new : Filed) (err : OnErr r (new ≡ h.files)) (was : Stands p h.procs h.files h.ledger) where
-  -- Where a call of the files has changed nothing, all stands as it did.
-  unchanged : new ≡ h.files → Stands p h.procs new h.ledger
-  unchanged same = subst (λ fs. Stands p h.procs fs h.ledger) (sym same) was
-
-  -- It has made files, or changed nothing.
-  pub stands-made : (v : World) (cs : Map Count) (m : Marked) (n : ℕ) → record (the_view h).world { files = v.files; next_ino = v.next_ino } ≡ v → n ≡ v.next_ino
-      → OnOk r (new.files ≡ v.files) → OnOk r (new.next ≡ n) → OnOk r (new.counts ≡ cs) → OnOk r (new.marks ≡ m) → IsExact v (kept_of cs h.ledger) → IsKept v p.begun.value.world m p.progress → Stands p h.procs new h.ledger
-  stands-made v cs m n rest last files next counts marks exact kept = by-four r files next counts marks err
-      (λ f x c y. both-same _ v _ _ _ _ (world-is _ _ refl f (x ∙ last) refl refl ∙ rest) (ap (λ k. kept_of k h.ledger) c) y exact kept) unchanged
+  -- A call has left these files, with which all stands, or all as it was.
+  pub stands-either : (to : Filed) → OnOk r (new ≡ to) → Stands p h.procs to h.ledger → Stands p h.procs new h.ledger
+  stands-either to ok stands = by r ok err where
+    by : (r : Result T E) → OnOk r (new ≡ to) → OnErr r (new ≡ h.files) → Stands p h.procs new h.ledger
+    by (Ok t) ok err = subst (λ fs. Stands p h.procs fs h.ledger) (sym ok) stands
+    by (Err e) ok err = subst (λ fs. Stands p h.procs fs h.ledger) (sym err) was
 
   -- It has changed a socket, which holds what it held, or nothing.
-  pub stands-socket : (s : ℕ) (g : Socket → Socket) → ((x : Socket) → contents (AsSocket (g x)) ≡ contents (AsSocket x))
-      → OnOk r (new.files ≡ change_socket_at g h.files.files s) → new.next ≡ h.files.next → new.counts ≡ h.files.counts → new.marks ≡ h.files.marks → IsExact (with_socket (the_view h).world s g) (kept_of h.files.counts h.ledger) → Stands p h.procs new h.ledger
-  stands-socket s g same files next counts marks exact =
+  pub stands-socket : (s : ℕ) (g : Socket → Socket) → ((x : Socket) → contents (AsSocket (g x)) ≡ contents (AsSocket x)) → OnOk r (new ≡ changed g s h.files) → IsExact (with_socket (the_view h).world s g) (kept_of h.files.counts h.ledger) → Stands p h.procs new h.ledger
+  stands-socket s g same ok exact =
       let w = (the_view h).world in
       let begun = p.begun.value.world in
-      by-result r files files err
-      (λ f _. both-same _ (with_socket w s g) _ _ _ _ (world-is _ _ refl f next refl refl) (ap (λ k. kept_of k h.ledger) counts) marks exact
-      (kept_socket s g (λ _. moves_same w s g same begun) (λ _. covers_same w s g same begun (is_marked h.files.marks) (below p.progress.visited)) was.1)) unchanged
+      stands-either (changed g s h.files) ok (exact, kept_socket s g (λ _. moves_same w s g same begun) (λ _. covers_same w s g same begun (is_marked h.files.marks) (below p.progress.visited)) was.1)
 
 -- What a store shows of these holdings, where the pass is that of these parts.
 abbrev pub shown : Parts → Stored → Shown

@@ -36,9 +36,7 @@ impl Drop for Holdings {
 impl Model for Holdings {
     ghost use Rattle.std.specs.FinMap as map;
     ghost use Rattle.std.specs.Coded.{codes};
-    ghost use Rattle.af_hold.specs.Stored.{Stored, world_of};
-    ghost use Rattle.af_ledger.specs.Kept.{kept_of};
-    ghost use Rattle.af_hold.specs.Agreement.{IsExact};
+    ghost use Rattle.af_hold.specs.Stored.{AreExact, Stored, world_of};
 
     ghost Value = { Stored };
 
@@ -46,7 +44,7 @@ impl Model for Holdings {
 
     ghost view = { λ a. record { world = world_of a.procs a.files a.ledger; rows = a.procs.rows; marks = a.files.marks } };
 
-    ghost invariant = { λ a. IsExact (world_of a.procs a.files a.ledger) (kept_of a.files.counts a.ledger) };
+    ghost invariant = { λ a. AreExact a.procs a.files a.ledger };
 }
 
 impl Holdings {

@@ -1,12 +1,12 @@
 //! What nothing holds: it is emptied and taken away, one file and one place at a time, without memory.
 ghost use Rattle.std.specs.Prelude.{◌≡◌, ◌<◌, [], IfSome, IfNone, IsTrue, drop, false, length, nat_eq};
-ghost use Rattle.std.specs.FinMap as map;
 ghost use Rattle.af_base.specs.World.{IsLive, World};
 ghost use Rattle.af_base.specs.Counts.{refs};
 ghost use Rattle.af_base.specs.Changes.{dequeued, with_queue, with_socket};
 ghost use Rattle.af_base.specs.Places.{backlog_at, held_by, queue_at, queue_in};
 ghost use Rattle.af_base.specs.Pass.{emptied};
 ghost use Rattle.af_base.specs.Unheld.{without};
+ghost use Rattle.af_desc.specs.Filed as desc;
 ghost use Rattle.af_base.specs.Whole.{AreMutual, IsSound};
 ghost use Rattle.af_hold.specs.Losing.{places_at, without_place};
 ghost use Rattle.af_mark.specs.Marked.{forgotten};
@@ -99,9 +99,7 @@ impl Holdings {
 fn remove(files: &mut Files, file: &FileRef)
     requires silent { queue_in files.old.files file.now ≡ [] }
     ensures gone { (w : World) → w.files ≡ files.old.files → AreMutual w → record w { files = files.new.files } ≡ without (nat_eq file.now) w }
-    ensures next { files.new.next ≡ files.old.next }
-    ensures counts { files.new.counts ≡ map.remove files.old.counts file.now }
-    ensures marks { files.new.marks ≡ forgotten file.now files.old.marks }
+    ensures rest { files.new ≡ record (desc.without file.now files.old) { files = files.new.files } }
 {
     if let Some(peer) = files.remove(file) {
         files.hang_up(&peer);

@@ -6,15 +6,18 @@ use Rattle.std.specs.FinMap as map
 use Rattle.af_base.specs.declared.events.State.{State}
 use Rattle.af_base.specs.declared.events.State.TheVariants as state
 use Rattle.af_base.specs.World.{Map, File, Socket, AsSocket}
+use Rattle.af_base.specs.Changes.{change_socket_at}
 use Rattle.af_base.specs.Refusals.{is_full_of, no_socket, socket_of}
 use Rattle.af_base.specs.Steps.{connected_socket}
 use Rattle.af_base.specs.Take.{take_from}
 use Rattle.af_base.specs.Whole.{state_of}
-use Rattle.af_ledger.specs.Kept.{AreWaiting}
+use Rattle.af_ledger.specs.Counted.{fewer, more, uncounted}
+use Rattle.af_ledger.specs.Kept.{AreWaiting, count_in_map}
 use Rattle.af_ledger.specs.declared.count.Count.{Count}
+use Rattle.af_ledger.specs.declared.place.Place.{Place}
 use Rattle.af_listen.specs.Named.{Named}
 use Rattle.af_mark.specs.Grey.{AreListed}
-use Rattle.af_mark.specs.Marked.{Marked}
+use Rattle.af_mark.specs.Marked.{Marked, born, forgotten}
 use Rattle.af_queue.specs.Received.{Received, received}
 use Rattle.af_desc.specs.Rowed.{Rowed}
 
@@ -33,11 +36,29 @@ is_full v k = is_full_of v.files v.next k
 abbrev pub is_live : Filed → ℕ → Bool
 is_live v f = map.contains_key v.files f
 
--- The files with two sockets more, n and n + 1, connected to each other (socketpair(2)).
-abbrev pub with_pair : SockType → ℕ → Map File → Map File
-with_pair kind n m =
-    let first = AsSocket (connected_socket kind (n + 1)) in
-    map.insert (map.insert m n first) (n + 1) (AsSocket (connected_socket kind n))
+-- A file more, under the next number, which no place holds and no pass has marked (this project's own).
+abbrev pub entered : File → Filed → Filed
+entered x v = record { files = map.insert v.files v.next x; counts = map.insert v.counts v.next uncounted; marks = born v.next v.marks; next = v.next + 1 }
+
+-- Two sockets more, connected to each other (socketpair(2)).
+abbrev pub paired : SockType → Filed → Filed
+paired kind v = entered (AsSocket (connected_socket kind v.next)) (entered (AsSocket (connected_socket kind (v.next + 1))) v)
+
+-- A file less (this project's own).
+abbrev pub without : ℕ → Filed → Filed
+without f v = record v { files = map.remove v.files f; counts = map.remove v.counts f; marks = forgotten f v.marks }
+
+-- A place of this kind more holds the file (this project's own).
+abbrev pub raised : Place → ℕ → Filed → Filed
+raised p f v = record v { counts = map.insert v.counts f (more p (count_in_map v.counts f)) }
+
+-- A place of this kind less holds the file (this project's own).
+abbrev pub lowered : Place → ℕ → Filed → Filed
+lowered p f v = record v { counts = map.insert v.counts f (fewer p (count_in_map v.counts f)) }
+
+-- The file f is changed, if it is a socket (this project's own).
+abbrev pub changed : (Socket → Socket) → ℕ → Filed → Filed
+changed g f v = record v { files = change_socket_at g v.files f }
 
 -- A socket whose peer is gone (unix(7)).
 abbrev pub hung_up : Socket → Socket
@@ -75,11 +96,11 @@ name_in files f = option_and_then (λ s. s.name) (socket_in files f)
 pub record AreNamed (names : Named) (files : Map File) : Type 0 where
   pub each : (name : List ℕ) (f : ℕ) → (map.get names name ≡ Some f) ↔ (name_in files f ≡ Some name)
 
--- The rows fit the next number, the names, and the list of the files that wait, which has room for so many: numbers begin at 1 and rise (this project's own).
-abbrev pub IsFiled : Rowed → List ℕ → ℕ → Named → ℕ → Type 0
-IsFiled rows waiting room names next = (rows.last < next) × (map.contains_key rows.files 0 ≡ false) × AreNamed names rows.files × AreWaiting rows.counts waiting × (map.len rows.counts ≤ room)
-
--- The same, and the list of the grey files, which has room for so many (this project's own).
+-- The rows fit all else: numbers begin at 1 and rise, the names are those of the files, and the lists have just the files that wait and those that are grey, with room for all (this project's own).
 pub record AreFiled (rows : Rowed) (waiting : List ℕ) (room : ℕ) (names : Named) (next epoch : ℕ) (grey : List ℕ) (most : ℕ) : Type 0 where
-  pub filed : IsFiled rows waiting room names next
+  pub above : rows.last < next
+  pub begins : map.contains_key rows.files 0 ≡ false
+  pub named : AreNamed names rows.files
+  pub waits : AreWaiting rows.counts waiting
+  pub fits : map.len rows.counts ≤ room
   pub listed : AreListed rows.marks epoch grey most

@@ -4,7 +4,9 @@ use Rattle.std.specs.Option.{option_map_or}
 use Rattle.std.specs.FinMap as map
 use Rattle.slab.specs.Slab.{Slab}
 use Rattle.af_base.specs.World.{AsSocket, File, Map, Message, Plain, Socket}
+use Rattle.af_ledger.specs.Counted.{uncounted}
 use Rattle.af_ledger.specs.declared.count.Count.{Count}
+use Rattle.af_mark.specs.Grey.{unmarked}
 use Rattle.af_mark.specs.declared.mark.Mark.{Mark}
 use Rattle.af_order.specs.Parts.{part}
 use Rattle.af_queue.specs.Chains.{messages_of, IsChain}
@@ -18,6 +20,14 @@ pub record Rowed : Type 0 where
   pub marks : Map Mark
   pub last : ℕ
   pub room : ℕ
+
+-- A row more, of this file, which no place holds and no pass has marked; there is so much room then (this project's own).
+abbrev pub with_row : ℕ → File → ℕ → Rowed → Rowed
+with_row f x room r = record { files = map.insert r.files f x; counts = map.insert r.counts f uncounted; marks = map.insert r.marks f unmarked; last = f; room = room }
+
+-- A row less (this project's own).
+abbrev pub without_row : ℕ → ℕ → Rowed → Rowed
+without_row f room r = record r { files = map.remove r.files f; counts = map.remove r.counts f; marks = map.remove r.marks f; room = room }
 
 -- A plain file, or this socket (this project's own).
 abbrev pub file_of : Option Socket → File

@@ -1,8 +1,9 @@
 //! How many places hold each file, and which files wait for one.
 ghost use Rattle.std.specs.Prelude.{◌≡◌, ℕ, false, true, IfSome, IfNone, IsTrue};
 ghost use Rattle.std.specs.FinMap as map;
-ghost use Rattle.af_ledger.specs.Counted.{fewer, more, places_in, IsCountable, IsCounted};
+ghost use Rattle.af_ledger.specs.Counted.{places_in, IsCountable, IsCounted};
 ghost use Rattle.af_ledger.specs.Kept.{count_in_map, is_waiting};
+ghost use Rattle.af_desc.specs.Filed.{lowered, raised};
 
 use crate::files::Files;
 use af_base::file_list::unlist;
@@ -83,7 +84,7 @@ impl Files {
     pub fn raise(&mut self, place: &Place, file: &FileRef)
         requires known { IsTrue (map.contains_key self.old.counts file.now) }
         requires countable { IsCountable place.now (count_in_map self.old.counts file.now) }
-        ensures { self.new ≡ record self.old { counts = map.insert self.old.counts file.now (more place.now (count_in_map self.old.counts file.now)) } }
+        ensures { self.new ≡ raised place.now file.now self.old }
     {
         let first = self.rows.add_place(place, file);
         if first {
@@ -97,7 +98,7 @@ impl Files {
     #[inline(always)]
     pub fn lower(&mut self, place: &Place, file: &FileRef)
         requires { IsCounted place.now (count_in_map self.old.counts file.now) }
-        ensures { self.new ≡ record self.old { counts = map.insert self.old.counts file.now (fewer place.now (count_in_map self.old.counts file.now)) } }
+        ensures { self.new ≡ lowered place.now file.now self.old }
     {
         let last = self.rows.sub_place(place, file);
         if last {

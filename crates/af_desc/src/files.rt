@@ -4,16 +4,14 @@ ghost use Rattle.std.specs.FinMap as map;
 ghost use Rattle.af_base.specs.World as world;
 ghost use Rattle.af_base.specs.Places.{backlog_in, queue_in};
 ghost use Rattle.af_base.specs.Names.{named};
-ghost use Rattle.af_base.specs.Changes.{bound, change_socket_at, connected, dequeued, listening, pushed, queued};
+ghost use Rattle.af_base.specs.Changes.{bound, connected, dequeued, listening, pushed, queued};
 ghost use Rattle.af_base.specs.Refusals.{room_of};
 ghost use Rattle.af_base.specs.Steps.{connected_socket, idle_socket};
 ghost use Rattle.af_base.specs.Whole.{IsMessageWithin};
-ghost use Rattle.af_ledger.specs.Counted.{uncounted};
 ghost use Rattle.af_ledger.specs.Kept.{AreWaiting};
-ghost use Rattle.af_mark.specs.Grey.{unmarked};
-ghost use Rattle.af_mark.specs.Marked.{born, forgotten, is_grey};
-ghost use Rattle.af_desc.specs.Rowed.{file_of};
-ghost use Rattle.af_desc.specs.Filed.{is_full, is_live, name_of, with_pair, hung_up, popped, received_from, received_of, socket_in, state_in};
+ghost use Rattle.af_mark.specs.Marked.{is_grey};
+ghost use Rattle.af_desc.specs.Rowed.{file_of, with_row};
+ghost use Rattle.af_desc.specs.Filed.{changed, entered, hung_up, is_full, is_live, name_of, paired, popped, received_from, received_of, socket_in, state_in, without};
 
 use crate::rows::Rows;
 use crate::socket::{Endpoint, Socket};
@@ -149,10 +147,7 @@ impl Files {
         requires number { self.old.next < MAX_INO + 1 }
         requires nameless { name_of (file_of endpoint) ≡ None }
         ensures ino { IfOk result (λ ino. ino ≡ self.old.next) }
-        ensures files { OnOk result (self.new.files ≡ map.insert self.old.files self.old.next (file_of endpoint)) }
-        ensures next { OnOk result (self.new.next ≡ self.old.next + 1) }
-        ensures counts { OnOk result (self.new.counts ≡ map.insert self.old.counts self.old.next uncounted) }
-        ensures marks { OnOk result (self.new.marks ≡ born self.old.next self.old.marks) }
+        ensures ok { OnOk result (self.new ≡ entered (file_of endpoint) self.old) }
         ensures err { OnErr result (self.new ≡ self.old) }
     {
         reserve(&mut self.rows, &mut self.waiting, &mut self.grey, 1)?;
@@ -166,10 +161,7 @@ impl Files {
     pub fn make_plain(&mut self) -> Result<FileRef, AllocError>
         requires room { is_full self.old 1 ≡ false }
         ensures ino { IfOk result (λ ino. ino ≡ self.old.next) }
-        ensures files { OnOk result (self.new.files ≡ map.insert self.old.files self.old.next world.Plain) }
-        ensures next { OnOk result (self.new.next ≡ self.old.next + 1) }
-        ensures counts { OnOk result (self.new.counts ≡ map.insert self.old.counts self.old.next uncounted) }
-        ensures marks { OnOk result (self.new.marks ≡ born self.old.next self.old.marks) }
+        ensures ok { OnOk result (self.new ≡ entered world.Plain self.old) }
         ensures err { OnErr result (self.new ≡ self.old) }
     {
         self.make(None)
@@ -180,10 +172,7 @@ impl Files {
     pub fn make_sock(&mut self, kind: SockType) -> Result<FileRef, AllocError>
         requires room { is_full self.old 1 ≡ false }
         ensures ino { IfOk result (λ ino. ino ≡ self.old.next) }
-        ensures files { OnOk result (self.new.files ≡ map.insert self.old.files self.old.next (world.AsSocket (idle_socket kind))) }
-        ensures next { OnOk result (self.new.next ≡ self.old.next + 1) }
-        ensures counts { OnOk result (self.new.counts ≡ map.insert self.old.counts self.old.next uncounted) }
-        ensures marks { OnOk result (self.new.marks ≡ born self.old.next self.old.marks) }
+        ensures ok { OnOk result (self.new ≡ entered (world.AsSocket (idle_socket kind)) self.old) }
         ensures err { OnErr result (self.new ≡ self.old) }
     {
         self.make(Some(Endpoint::idle(kind)))
@@ -196,10 +185,7 @@ impl Files {
         requires room { is_full self.old 2 ≡ false }
         ensures first { IfOk result (λ inos. inos.0 ≡ self.old.next) }
         ensures second { IfOk result (λ inos. inos.1 ≡ self.old.next + 1) }
-        ensures files { OnOk result (self.new.files ≡ with_pair kind self.old.next self.old.files) }
-        ensures next { OnOk result (self.new.next ≡ self.old.next + 2) }
-        ensures counts { OnOk result (self.new.counts ≡ map.insert (map.insert self.old.counts self.old.next uncounted) (self.old.next + 1) uncounted) }
-        ensures marks { OnOk result (self.new.marks ≡ born (self.old.next + 1) (born self.old.next self.old.marks)) }
+        ensures ok { OnOk result (self.new ≡ paired kind self.old) }
         ensures err { OnErr result (self.new ≡ self.old) }
     {
         reserve(&mut self.rows, &mut self.waiting, &mut self.grey, 2)?;
@@ -222,10 +208,7 @@ impl Files {
         requires silent { queue_in self.old.files file.now ≡ [] }
         ensures peer { IfSome result (λ p. state_in self.old.files file.now ≡ State.Connected p) }
         ensures alone { IfNone result ((p : ℕ) → ¬ (state_in self.old.files file.now ≡ State.Connected p)) }
-        ensures files { self.new.files ≡ map.remove self.old.files file.now }
-        ensures next { self.new.next ≡ self.old.next }
-        ensures counts { self.new.counts ≡ map.remove self.old.counts file.now }
-        ensures marks { self.new.marks ≡ forgotten file.now self.old.marks }
+        ensures gone { self.new ≡ without file.now self.old }
     {
         self.scanned(file);
         self.take_out(file)?.peer()
@@ -238,10 +221,7 @@ impl Files {
         requires white { is_grey self.old.marks file.now ≡ false }
         requires silent { queue_in self.old.files file.now ≡ [] }
         ensures value { result ≡ socket_in self.old.files file.now }
-        ensures files { self.new.files ≡ map.remove self.old.files file.now }
-        ensures next { self.new.next ≡ self.old.next }
-        ensures counts { self.new.counts ≡ map.remove self.old.counts file.now }
-        ensures marks { self.new.marks ≡ forgotten file.now self.old.marks }
+        ensures gone { self.new ≡ without file.now self.old }
     {
         let gone = self.rows.remove(file);
         unlist(&mut self.waiting, file.ino(), 0);
@@ -256,10 +236,7 @@ impl Files {
     /// takes no memory.
     #[inline(always)]
     pub fn hang_up(&mut self, file: &FileRef)
-        ensures files { self.new.files ≡ change_socket_at hung_up self.old.files file.now }
-        ensures next { self.new.next ≡ self.old.next }
-        ensures counts { self.new.counts ≡ self.old.counts }
-        ensures marks { self.new.marks ≡ self.old.marks }
+        ensures { self.new ≡ changed hung_up file.now self.old }
     {
         self.rows.hang_up(file);
     }
@@ -270,10 +247,7 @@ impl Files {
     pub fn push(&mut self, file: &FileRef, message: Msg) -> Result<(), Msg>
         requires few { length (queue_in self.old.files file.now) < MAX_MESSAGES }
         requires within { IsMessageWithin message }
-        ensures files { OnOk result (self.new.files ≡ change_socket_at (pushed message) self.old.files file.now) }
-        ensures next { self.new.next ≡ self.old.next }
-        ensures counts { self.new.counts ≡ self.old.counts }
-        ensures marks { self.new.marks ≡ self.old.marks }
+        ensures ok { OnOk result (self.new ≡ changed (pushed message) file.now self.old) }
         ensures back { IfErr result (λ refused. refused ≡ message) }
         ensures err { OnErr result (self.new ≡ self.old) }
     {
@@ -297,10 +271,7 @@ impl Files {
     pub fn take(&mut self, file: &FileRef, max: usize) -> Result<Taken, AllocError>
         requires { 0 < max }
         ensures taken { IfOk result (λ t. t ≡ received_of (socket_in self.old.files file.now) max) }
-        ensures files { OnOk result (self.new.files ≡ change_socket_at (received_from max) self.old.files file.now) }
-        ensures next { self.new.next ≡ self.old.next }
-        ensures counts { self.new.counts ≡ self.old.counts }
-        ensures marks { self.new.marks ≡ self.old.marks }
+        ensures ok { OnOk result (self.new ≡ changed (received_from max) file.now self.old) }
         ensures err { OnErr result (self.new ≡ self.old) }
     {
         self.rows.take(file, self.alloc, max)
@@ -310,10 +281,7 @@ impl Files {
     pub fn pop(&mut self, file: &FileRef) -> Option<Msg>
         ensures some { IfSome result (λ m. queue_in self.old.files file.now ≡ m ∷ drop 1 (queue_in self.old.files file.now)) }
         ensures none { IfNone result (queue_in self.old.files file.now ≡ []) }
-        ensures files { self.new.files ≡ change_socket_at popped self.old.files file.now }
-        ensures next { self.new.next ≡ self.old.next }
-        ensures counts { self.new.counts ≡ self.old.counts }
-        ensures marks { self.new.marks ≡ self.old.marks }
+        ensures rest { self.new ≡ changed popped file.now self.old }
     {
         self.rows.pop_message(file)
     }
@@ -324,10 +292,7 @@ impl Files {
     pub fn make_embryo(&mut self, kind: SockType, client: &FileRef) -> Result<FileRef, AllocError>
         requires room { is_full self.old 1 ≡ false }
         ensures ino { IfOk result (λ ino. ino ≡ self.old.next) }
-        ensures files { OnOk result (self.new.files ≡ change_socket_at (connected self.old.next) (map.insert self.old.files self.old.next (world.AsSocket (connected_socket kind client.now))) client.now) }
-        ensures next { OnOk result (self.new.next ≡ self.old.next + 1) }
-        ensures counts { OnOk result (self.new.counts ≡ map.insert self.old.counts self.old.next uncounted) }
-        ensures marks { OnOk result (self.new.marks ≡ born self.old.next self.old.marks) }
+        ensures ok { OnOk result (self.new ≡ changed (connected self.old.next) client.now (entered (world.AsSocket (connected_socket kind client.now)) self.old)) }
         ensures err { OnErr result (self.new ≡ self.old) }
     {
         let embryo = self.make(Some(Endpoint::connected(kind, client)))?;
@@ -338,10 +303,7 @@ impl Files {
     /// That socket is connected to this peer from now on. A plain file or a stranger stays as it is.
     /// It takes no memory.
     fn connect(&mut self, file: &FileRef, peer: &FileRef)
-        ensures files { self.new.files ≡ change_socket_at (connected peer.now) self.old.files file.now }
-        ensures next { self.new.next ≡ self.old.next }
-        ensures counts { self.new.counts ≡ self.old.counts }
-        ensures marks { self.new.marks ≡ self.old.marks }
+        ensures { self.new ≡ changed (connected peer.now) file.now self.old }
     {
         self.rows.connect(file, peer);
     }
@@ -351,10 +313,7 @@ impl Files {
     pub fn bind(&mut self, file: &FileRef, name: &Items<u8>) -> Result<(), AllocError>
         requires nameless { IfSome (socket_in self.old.files file.now) (λ s. s.name ≡ None) }
         requires free { named self.old.files name.now ≡ None }
-        ensures files { OnOk result (self.new.files ≡ change_socket_at (bound name.now) self.old.files file.now) }
-        ensures next { self.new.next ≡ self.old.next }
-        ensures counts { self.new.counts ≡ self.old.counts }
-        ensures marks { self.new.marks ≡ self.old.marks }
+        ensures ok { OnOk result (self.new ≡ changed (bound name.now) file.now self.old) }
         ensures err { OnErr result (self.new ≡ self.old) }
     {
         if self.socket(file).is_none() {
@@ -375,10 +334,7 @@ impl Files {
     pub fn listen(&mut self, file: &FileRef, most: u32) -> Result<(), AllocError>
         requires named { IfSome (socket_in self.old.files file.now) (λ s. is_none s.name ≡ false) }
         requires nobody { IfSome (socket_in self.old.files file.now) (λ s. s.backlog ≡ []) }
-        ensures files { OnOk result (self.new.files ≡ change_socket_at (listening most) self.old.files file.now) }
-        ensures next { self.new.next ≡ self.old.next }
-        ensures counts { self.new.counts ≡ self.old.counts }
-        ensures marks { self.new.marks ≡ self.old.marks }
+        ensures ok { OnOk result (self.new ≡ changed (listening most) file.now self.old) }
         ensures err { OnErr result (self.new ≡ self.old) }
     {
         self.rows.listen(file, self.alloc, most)
@@ -388,10 +344,7 @@ impl Files {
     /// stranger stays as it is. It takes no memory.
     pub fn enqueue(&mut self, file: &FileRef, embryo: FileRef)
         requires { IfSome (socket_in self.old.files file.now) (λ s. length s.backlog < room_of s.state) }
-        ensures files { self.new.files ≡ change_socket_at (queued embryo) self.old.files file.now }
-        ensures next { self.new.next ≡ self.old.next }
-        ensures counts { self.new.counts ≡ self.old.counts }
-        ensures marks { self.new.marks ≡ self.old.marks }
+        ensures { self.new ≡ changed (queued embryo) file.now self.old }
     {
         self.rows.enqueue(file, embryo);
     }
@@ -400,10 +353,7 @@ impl Files {
     pub fn dequeue(&mut self, file: &FileRef) -> Option<FileRef>
         ensures some { IfSome result (λ f. backlog_in self.old.files file.now ≡ f ∷ drop 1 (backlog_in self.old.files file.now)) }
         ensures none { IfNone result (backlog_in self.old.files file.now ≡ []) }
-        ensures files { self.new.files ≡ change_socket_at dequeued self.old.files file.now }
-        ensures next { self.new.next ≡ self.old.next }
-        ensures counts { self.new.counts ≡ self.old.counts }
-        ensures marks { self.new.marks ≡ self.old.marks }
+        ensures rest { self.new ≡ changed dequeued file.now self.old }
     {
         self.rows.dequeue(file)
     }
@@ -460,7 +410,7 @@ fn enter(
     requires fits { map.len rows.old.counts < vec_capacity waiting.old }
     requires waiting { AreWaiting rows.old.counts waiting.old.items }
     ensures file { result ≡ ino }
-    ensures entered { rows.new ≡ record rows.old { files = map.insert rows.old.files ino (file_of endpoint); counts = map.insert rows.old.counts ino uncounted; marks = map.insert rows.old.marks ino unmarked; last = ino; room = rows.new.room } }
+    ensures entered { rows.new ≡ with_row ino (file_of endpoint) rows.new.room rows.old }
     ensures new { map.contains_key rows.old.files ino ≡ false }
     ensures unmarked { map.contains_key rows.old.marks ino ≡ false }
     ensures room { rows.old.room ≤ rows.new.room + 1 }

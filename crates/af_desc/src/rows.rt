@@ -5,11 +5,10 @@ ghost use Rattle.af_base.specs.Changes.{bound, change_socket_at, connected, dequ
 ghost use Rattle.af_base.specs.Places.{backlog_in, queue_in};
 ghost use Rattle.af_base.specs.Refusals.{room_of};
 ghost use Rattle.af_base.specs.Whole.{IsMessageWithin};
-ghost use Rattle.af_ledger.specs.Counted.{fewer, more, places_in, uncounted, IsCountable, IsCounted};
+ghost use Rattle.af_ledger.specs.Counted.{fewer, more, places_in, IsCountable, IsCounted};
 ghost use Rattle.af_ledger.specs.Kept.{count_in_map};
-ghost use Rattle.af_mark.specs.Grey.{unmarked};
 ghost use Rattle.af_desc.specs.Filed.{hung_up, popped, received_from, received_of, socket_in};
-ghost use Rattle.af_desc.specs.Rowed.{file_of};
+ghost use Rattle.af_desc.specs.Rowed.{file_of, with_row, without_row};
 
 use crate::row::Row;
 use crate::socket::{Endpoint, Socket};
@@ -95,7 +94,7 @@ impl Rows {
         requires room { 0 < self.old.room }
         requires above { self.old.last < ino }
         ensures file { result ≡ ino }
-        ensures pushed { self.new ≡ record self.old { files = map.insert self.old.files ino (file_of endpoint); counts = map.insert self.old.counts ino uncounted; marks = map.insert self.old.marks ino unmarked; last = ino; room = self.new.room } }
+        ensures pushed { self.new ≡ with_row ino (file_of endpoint) self.new.room self.old }
         ensures new { map.contains_key self.old.files ino ≡ false }
         ensures uncounted { map.contains_key self.old.counts ino ≡ false }
         ensures unmarked { map.contains_key self.old.marks ino ≡ false }
@@ -120,7 +119,7 @@ impl Rows {
     pub fn remove(&mut self, file: &FileRef) -> Option<Endpoint>
         requires silent { queue_in self.old.files file.now ≡ [] }
         ensures value { result ≡ socket_in self.old.files file.now }
-        ensures removed { self.new ≡ record self.old { files = map.remove self.old.files file.now; counts = map.remove self.old.counts file.now; marks = map.remove self.old.marks file.now; room = self.new.room } }
+        ensures removed { self.new ≡ without_row file.now self.new.room self.old }
         ensures room { self.old.room ≤ self.new.room }
     {
         let row = self.rows.remove(file)?;

@@ -1,6 +1,6 @@
 -- A store stays exact, whatever changes in its world and in its ledger at once.
 use Rattle.std.proofs.Common.{◌≡◌, ◌<◌, ◌≤◌, ℕ, zero, suc, ◌+◌, Bool, true, false, not, List, [], ◌∷◌, ◌++◌, drop, length, refl, sym, ap, ◌∙◌, subst, cond, map, nat_eq, arith}
-use Rattle.std.specs.Prelude.{Option, Some, None, Result, Ok, Err, OnOk, OnErr, IfNone, IfSome, IsTrue, is_some, unwrap_or, if◌then◌else◌}
+use Rattle.std.specs.Prelude.{Option, Some, None, IfNone, IfSome, IsTrue, is_some, unwrap_or, if◌then◌else◌}
 use Rattle.std.specs.Cmp.{nat_cmp_total, unsigned_tied}
 use Rattle.std.specs.FinMap as finmap
 use Rattle.std.specs.Map.{keys_of}
@@ -242,16 +242,6 @@ add-user-is w u us e = by (list_any (nat_eq u) w.users) e where
   by : (b : Bool) → us ≡ (if b then w.users else w.users ++ u ∷ []) → record w { users = us } ≡ (if b then w else record w { users = w.users ++ u ∷ [] })
   by true same = ap (λ l. record w { users = l }) same
   by false more = ap (λ l. record w { users = l }) more
-
--- What is so on success and on an error is so.
-pub by-result : {T E : Type 0} (r : Result T E) {A B C R : Type 0} → OnOk r A → OnOk r B → OnErr r C → (A → B → R) → (C → R) → R
-by-result (Ok x) a b c f g = f a b
-by-result (Err e) a b c f g = g c
-
--- The same of four things that are so on success.
-pub by-four : {T E : Type 0} (r : Result T E) {A B C D F R : Type 0} → OnOk r A → OnOk r B → OnOk r C → OnOk r D → OnErr r F → (A → B → C → D → R) → (F → R) → R
-by-four (Ok x) a b c d e f g = f a b c d
-by-four (Err x) a b c d e f g = g e
 
 -- A file that waits is live, and no place holds it.
 pub waits-unheld : (w : World) (k : Kept) (f : ℕ) → IsExact w k → is_waiting k.counts f ≡ true → IsLive w f × (refs w f ≡ 0)

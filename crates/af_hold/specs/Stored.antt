@@ -3,10 +3,11 @@ use Rattle.std.specs.Prelude.{ℕ, List, [], ◌∷◌}
 use Rattle.std.specs.Map.{keys_of}
 use Rattle.af_base.specs.World.{World, Map, Process}
 use Rattle.af_desc.specs.Filed.{Filed}
-use Rattle.af_ledger.specs.Kept.{Charged}
+use Rattle.af_ledger.specs.Kept.{Charged, kept_of}
 use Rattle.af_mark.specs.Marked.{Marked}
 use Rattle.af_base.specs.Changes.{change_at, installed}
 use Rattle.af_table.specs.Procs.{Procs}
+use Rattle.af_hold.specs.Agreement.{IsExact}
 
 -- The world, below which number each table has room, and what a pass has marked (this project's profile).
 pub record Stored : Type 0 where
@@ -17,6 +18,10 @@ pub record Stored : Type 0 where
 -- The world that processes, files and users make up (this project's profile).
 abbrev pub world_of : Procs → Filed → Charged → World
 world_of procs filed charged = record { processes = procs.processes; files = filed.files; next_ino = filed.next; next_pid = procs.next_pid; users = keys_of charged.users }
+
+-- What is kept is a recount of the world that they make up (this project's profile).
+abbrev pub AreExact : Procs → Filed → Charged → Type 0
+AreExact procs filed charged = IsExact (world_of procs filed charged) (kept_of filed.counts charged)
 
 -- The processes where these numbers of p stand for these files, one after the other (cmsg(3), SCM_RIGHTS).
 abbrev pub filled : Map Process → ℕ → List (ℕ × ℕ) → Map Process

@@ -1,11 +1,12 @@
 use Rattle.std.proofs.Common.{◌≡◌, [], drop, refl, sym, ap, ◌∙◌, subst}
 use Rattle.std.specs.Map.{keys_of}
 use Rattle.af_base.specs.Places.{queue_at}
-use Rattle.af_base.specs.Changes.{with_queue}
+use Rattle.af_base.specs.Changes.{with_queue, with_socket}
+use Rattle.af_desc.specs.Filed.{Filed, popped}
 use Rattle.af_ledger.specs.Kept.{CanDropAll, dropped_all, kept_of}
 use Rattle.af_ledger.specs.declared.place.Place.TheVariants.{Queue}
 use Rattle.af_ledger.proofs.HeldAll.{users-dropped_all}
-use Rattle.af_hold.specs.Stored.{Stored}
+use Rattle.af_hold.specs.Stored.{AreExact, Stored}
 use Rattle.af_collect.specs.contracts.holdings.Holdings.{the_view}
 use Rattle.af_hold.proofs.Bounds.{can-drop-all}
 use Rattle.af_hold.proofs.Exact.{exact-same, exact-shed, world-is}
@@ -15,11 +16,11 @@ use Rattle.af_collect.proofs.holdings.Holdings.drop_first.Goals as goal
 
 pub invariant_of-self : goal.invariant_of-self
 invariant_of-self c =
-    let w = (the_view c.self.inside).world in
+    let h = c.self.inside in
+    let w = (the_view h).world in
     let s = c.args.file.now in
     let empty : queue_at w s ≡ [] = c.in_default.ensures.none in
-    let popped : (record w { files = c.pop.new.self.files }) ≡ with_queue w s (drop 1 (queue_at w s)) = ap (λ fs. record w { files = fs }) c.pop.ensures.files ∙ popped_queue w s in
-    exact-same _ _ _ _ (world-is _ (record w { files = c.pop.new.self.files }) refl refl c.pop.ensures.next refl refl ∙ popped ∙ ap (λ q. with_queue w s (drop 1 q)) empty ∙ emptied-same w s empty) (ap (λ cs. kept_of cs c.self.inside.ledger) c.pop.ensures.counts) c.self.invariant
+    subst (λ fs. AreExact h.procs fs h.ledger) (sym c.pop.ensures.rest) (exact-same _ _ _ _ (popped_queue w s ∙ ap (λ q. with_queue w s (drop 1 q)) empty ∙ emptied-same w s empty) refl c.self.invariant)
 
 pub drop_all-requires : goal.drop_all-requires
 drop_all-requires c =
@@ -28,20 +29,20 @@ drop_all-requires c =
     let rest = drop 1 (queue_at w c.args.file.now) in
     let x = first-shed w c.args.file.now m rest c.self.invariant.within c.in-Some.ensures.some in
     let can = can-drop-all w c.args.file.now m rest x.0 (kept_of c.self.inside.files.counts c.self.inside.ledger) x.1 x.2 c.self.invariant.agrees in
-    subst (λ cs. CanDropAll c.user.result c.attached.result.now (kept_of cs c.self.inside.ledger)) (sym c.pop.ensures.counts)
+    subst (λ (v : Filed). CanDropAll c.user.result c.attached.result.now (kept_of v.counts c.self.inside.ledger)) (sym c.pop.ensures.rest)
     (subst (λ u. CanDropAll u c.attached.result.now (kept_of c.self.inside.files.counts c.self.inside.ledger)) (sym c.user.ensures) (subst (λ fs. CanDropAll m.user fs (kept_of c.self.inside.files.counts c.self.inside.ledger)) (sym c.attached.ensures.value) can))
 
 -- What the ledger keeps then.
 dropped : (c : goal.Joined-message) → kept_of c.drop_all.new.files.counts c.drop_all.new.ledger ≡ dropped_all (Queue c.in-Some.message.user) c.in-Some.message.attached (kept_of c.self.inside.files.counts c.self.inside.ledger)
-dropped c = c.drop_all.ensures.kept ∙ (λ i. dropped_all (Queue (c.user.ensures i)) (c.attached.ensures.value i) (kept_of (c.pop.ensures.counts i) c.self.inside.ledger))
+dropped c = c.drop_all.ensures.kept ∙ (λ i. dropped_all (Queue (c.user.ensures i)) (c.attached.ensures.value i) (kept_of (c.pop.ensures.rest i).counts c.self.inside.ledger))
 
 -- What the world is then.
-popped : (c : goal.Joined-message) → (the_view (record c.self.inside { files = c.drop_all.new.files; ledger = c.drop_all.new.ledger })).world ≡ with_queue (the_view c.self.inside).world c.args.file.now (drop 1 (queue_at (the_view c.self.inside).world c.args.file.now))
-popped c =
+shed : (c : goal.Joined-message) → (the_view (record c.self.inside { files = c.drop_all.new.files; ledger = c.drop_all.new.ledger })).world ≡ with_queue (the_view c.self.inside).world c.args.file.now (drop 1 (queue_at (the_view c.self.inside).world c.args.file.now))
+shed c =
     let w = (the_view c.self.inside).world in
     let m = c.in-Some.message in
-    world-is _ (record w { files = c.pop.new.self.files }) refl (ap (λ v. v.files) c.drop_all.ensures.rest) (ap (λ v. v.next) c.drop_all.ensures.rest ∙ c.pop.ensures.next) refl (ap (λ k. keys_of k.users) (dropped c) ∙ users-dropped_all m.user m.attached (kept_of c.self.inside.files.counts c.self.inside.ledger))
-    ∙ ap (λ fs. record w { files = fs }) c.pop.ensures.files ∙ popped_queue w c.args.file.now
+    let rest = c.drop_all.ensures.rest ∙ ap {A = Filed} {B = Filed} (λ v. record v { counts = c.drop_all.new.files.counts }) c.pop.ensures.rest in
+    world-is _ (with_socket w c.args.file.now popped) refl (ap (λ v. v.files) rest) (ap (λ v. v.next) rest) refl (ap (λ k. keys_of k.users) (dropped c) ∙ users-dropped_all m.user m.attached (kept_of c.self.inside.files.counts c.self.inside.ledger)) ∙ popped_queue w c.args.file.now
 
 pub invariant_of-self-2 : goal.invariant_of-self-2
 invariant_of-self-2 c =
@@ -49,10 +50,10 @@ invariant_of-self-2 c =
     let m = c.in-Some.message in
     let rest = drop 1 (queue_at w c.args.file.now) in
     let x = first-shed w c.args.file.now m rest c.self.invariant.within c.in-Some.ensures.some in
-    exact-same _ _ _ _ (popped c) (dropped c) (exact-shed w c.args.file.now m rest x.0 (kept_of c.self.inside.files.counts c.self.inside.ledger) x.1 x.2 c.self.invariant)
+    exact-same _ _ _ _ (shed c) (dropped c) (exact-shed w c.args.file.now m rest x.0 (kept_of c.self.inside.files.counts c.self.inside.ledger) x.1 x.2 c.self.invariant)
 
 pub returns-clause-world : goal.returns-clause-world
 returns-clause-world c =
-    let marks = ap (λ v. v.marks) c.drop_all.ensures.rest ∙ c.pop.ensures.marks in
-    (λ i. record { world = popped c i; rows = c.self.inside.procs.rows; marks = marks i })
+    let marks = ap (λ v. v.marks) c.drop_all.ensures.rest ∙ ap (λ v. v.marks) c.pop.ensures.rest in
+    (λ i. record { world = shed c i; rows = c.self.inside.procs.rows; marks = marks i })
     ∙ ap {A = Stored} {B = Stored} (λ s. record s { world = with_queue s.world c.args.file.now (drop 1 (queue_at s.world c.args.file.now)) }) c.self.view_is

@@ -18,7 +18,7 @@ both c =
     let s = c.args.socket.now in
     let free = subst (λ (v : World). named v.files c.args.name.now ≡ None) back c.requires.free in
     let e = c.bind.ensures in
-    stands-socket c.bind.result p h _ e.err was s (bound c.args.name.now) (λ x. refl) e.files e.next e.counts e.marks (exact-bound w s c.args.name.now (kept_of h.files.counts h.ledger) c.requires.name free was.0)
+    stands-socket c.bind.result p h _ e.err was s (bound c.args.name.now) (λ x. refl) e.ok (exact-bound w s c.args.name.now (kept_of h.files.counts h.ledger) c.requires.name free was.0)
 
 pub invariant_of-places : goal.invariant_of-places
 invariant_of-places c = (both c).0

@@ -1,10 +1,11 @@
 use Rattle.std.proofs.Common.{◌≡◌, false, refl, subst}
 use Rattle.std.specs.Option.{option_and_then}
 use Rattle.std.specs.Prelude.{IfSome, is_none, unwrap_or}
-use Rattle.af_base.specs.Changes.{add_file, connected, with_socket}
+use Rattle.af_base.specs.Changes.{add_file, connected}
 use Rattle.af_base.specs.Refusals.{is_full, no_socket, socket_at, socket_of}
 use Rattle.af_base.specs.Steps.{connected_socket}
 use Rattle.af_base.specs.World.{AsSocket, World}
+use Rattle.af_desc.specs.Filed.{changed, entered}
 use Rattle.af_ledger.specs.Kept.{kept_of}
 use Rattle.af_mark.specs.Marked.{born, is_marked}
 use Rattle.af_hold.proofs.Connecting.{exact-embryo}
@@ -13,7 +14,7 @@ use Rattle.af_pass.specs.Keeping.{below}
 use Rattle.af_pass.proofs.Sockets.{covers_same, moves_same}
 use Rattle.af_collect.specs.contracts.holdings.Holdings.{the_view}
 use Rattle.af_collect.proofs.Placed.{kept_made, kept_socket}
-use Rattle.af_collect.proofs.Standing.{Stands, seen-world, stands-made, stood}
+use Rattle.af_collect.proofs.Standing.{Stands, seen-world, stands-either, stood}
 use Rattle.af_base.specs.declared.events.State.TheVariants as state
 use Rattle.af_collect.proofs.store.Store.make_embryo.Goals as goal
 
@@ -34,9 +35,11 @@ both c =
     let v = add_file w x in
     let g = connected w.next_ino in
     let made = c.make_embryo.ensures in
-    stands-made c.make_embryo.result p h _ made.err was (with_socket v s g) _ _ _ refl refl made.files made.next made.counts made.marks
-    (exact-embryo w s c.args.kind (unwrap_or (socket_at w s) no_socket) (kept_of h.files.counts h.ledger) at idle fits was.0) (kept_socket s g (λ _. moves_same v s g (λ y. refl) begun) (λ _. covers_same v s g (λ y. refl) begun (is_marked (born w.next_ino h.files.marks)) (below p.progress.visited))
-    (kept_made x refl was.0.whole.files_numbered was.1))
+    stands-either c.make_embryo.result p h _ made.err was (changed g s (entered x h.files)) made.ok (
+      exact-embryo w s c.args.kind (unwrap_or (socket_at w s) no_socket) (kept_of h.files.counts h.ledger) at idle fits was.0,
+      kept_socket s g (λ _. moves_same v s g (λ y. refl) begun) (λ _. covers_same v s g (λ y. refl) begun (is_marked (born w.next_ino h.files.marks)) (below p.progress.visited))
+          (kept_made x refl was.0.whole.files_numbered was.1),
+    )
 
 pub invariant_of-places : goal.invariant_of-places
 invariant_of-places c = (both c).0

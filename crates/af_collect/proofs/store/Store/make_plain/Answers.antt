@@ -1,12 +1,12 @@
 use Rattle.std.proofs.Common.{◌≡◌, false, refl, subst}
-use Rattle.af_base.specs.Changes.{add_file}
 use Rattle.af_base.specs.Refusals.{is_full}
 use Rattle.af_base.specs.World.{Plain, World}
+use Rattle.af_desc.specs.Filed.{entered}
 use Rattle.af_ledger.specs.Kept.{kept_of}
 use Rattle.af_hold.proofs.Exact.{exact-plain}
 use Rattle.af_collect.specs.contracts.holdings.Holdings.{the_view}
 use Rattle.af_collect.proofs.Placed.{kept_made}
-use Rattle.af_collect.proofs.Standing.{Stands, seen-world, stands-made, stood}
+use Rattle.af_collect.proofs.Standing.{Stands, seen-world, stands-either, stood}
 use Rattle.af_collect.proofs.store.Store.make_plain.Goals as goal
 
 both : (c : goal.After-make_plain) → Stands c.self.inside.parts c.places.inside.procs c.make_plain.new.self c.places.inside.ledger
@@ -18,8 +18,7 @@ both c =
     let was = stood p h c.places.view_is c.places.invariant c.self.invariant in
     let fits = subst (λ (v : World). is_full v 1 ≡ false) back c.requires in
     let made = c.make_plain.ensures in
-    stands-made c.make_plain.result p h _ made.err was (add_file w Plain) _ _ _ refl refl made.files made.next made.counts made.marks
-    (exact-plain w (kept_of h.files.counts h.ledger) fits was.0) (kept_made Plain refl was.0.whole.files_numbered was.1)
+    stands-either c.make_plain.result p h _ made.err was (entered Plain h.files) made.ok (exact-plain w (kept_of h.files.counts h.ledger) fits was.0, kept_made Plain refl was.0.whole.files_numbered was.1)
 
 pub invariant_of-places : goal.invariant_of-places
 invariant_of-places c = (both c).0

@@ -1,13 +1,14 @@
-use Rattle.std.proofs.Common.{◌+◌, ◌≡◌, arith, false, refl, subst}
+use Rattle.std.proofs.Common.{◌+◌, ◌≡◌, false, refl, subst}
 use Rattle.af_base.specs.Refusals.{is_full}
-use Rattle.af_base.specs.Steps.{connected_socket, with_pair}
+use Rattle.af_base.specs.Steps.{connected_socket}
 use Rattle.af_base.specs.World.{AsSocket, World}
+use Rattle.af_desc.specs.Filed.{paired}
 use Rattle.af_ledger.specs.Kept.{kept_of}
 use Rattle.af_hold.proofs.Exact.{exact-pair}
 use Rattle.af_pass.proofs.Born.{below-add_file}
 use Rattle.af_collect.specs.contracts.holdings.Holdings.{the_view}
 use Rattle.af_collect.proofs.Placed.{kept_made}
-use Rattle.af_collect.proofs.Standing.{Stands, seen-world, stands-made, stood}
+use Rattle.af_collect.proofs.Standing.{Stands, seen-world, stands-either, stood}
 use Rattle.af_collect.proofs.store.Store.make_two.Goals as goal
 
 both : (c : goal.After-make_two) → Stands c.self.inside.parts c.places.inside.procs c.make_two.new.self c.places.inside.ledger
@@ -21,8 +22,8 @@ both c =
     let numbered = was.0.whole.files_numbered in
     let first = AsSocket (connected_socket c.args.kind (w.next_ino + 1)) in
     let made = c.make_two.ensures in
-    stands-made c.make_two.result p h _ made.err was (with_pair w c.args.kind) _ _ _ refl (omega arith) made.files made.next made.counts made.marks
-    (exact-pair w c.args.kind (kept_of h.files.counts h.ledger) fits was.0) (kept_made (AsSocket (connected_socket c.args.kind w.next_ino)) refl (below-add_file w first numbered) (kept_made first refl numbered was.1))
+    stands-either c.make_two.result p h _ made.err was (paired c.args.kind h.files) made.ok
+    (exact-pair w c.args.kind (kept_of h.files.counts h.ledger) fits was.0, kept_made (AsSocket (connected_socket c.args.kind w.next_ino)) refl (below-add_file w first numbered) (kept_made first refl numbered was.1))
 
 pub invariant_of-places : goal.invariant_of-places
 invariant_of-places c = (both c).0

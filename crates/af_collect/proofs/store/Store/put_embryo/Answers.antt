@@ -1,14 +1,14 @@
-use Rattle.std.proofs.Common.{◌<◌, ◌∙◌, ◌≡◌, ap, false, length, refl, subst, sym}
+use Rattle.std.proofs.Common.{◌<◌, ◌∙◌, ◌≡◌, ap, false, length, subst, sym}
 use Rattle.std.specs.Option.{option_and_then}
 use Rattle.std.specs.Prelude.{IfSome, is_none, unwrap_or}
-use Rattle.af_base.specs.Changes.{change_socket_at, queued, with_socket}
+use Rattle.af_base.specs.Changes.{queued}
 use Rattle.af_base.specs.Counts.{waiting}
 use Rattle.af_base.specs.Refusals.{no_socket, room_of, socket_at, socket_of}
 use Rattle.af_base.specs.World.{IsLive, World}
+use Rattle.af_desc.specs.Filed.{changed}
 use Rattle.af_ledger.specs.Kept.{kept_of}
 use Rattle.af_mark.specs.Marked.{is_marked}
 use Rattle.af_hold.proofs.Connecting.{exact-queued}
-use Rattle.af_hold.proofs.Exact.{world-is}
 use Rattle.af_hold.proofs.Putting.{is-socket}
 use Rattle.af_pass.specs.Keeping.{Spares, below}
 use Rattle.af_pass.proofs.Sockets.{covers_queued, moves_queued}
@@ -16,7 +16,7 @@ use Rattle.af_pass.proofs.Spared.{spared_running}
 use Rattle.af_collect.specs.Shown.{Shown}
 use Rattle.af_collect.specs.contracts.holdings.Holdings.{the_view}
 use Rattle.af_collect.proofs.Placed.{kept_socket}
-use Rattle.af_collect.proofs.Standing.{Stands, both-same, seen-world, stood}
+use Rattle.af_collect.proofs.Standing.{Stands, seen-world, stood}
 use Rattle.af_collect.proofs.store.Store.put_embryo.Goals as goal
 
 both : (c : goal.After-enqueue) → Stands c.self.inside.parts c.places.inside.procs c.enqueue.new.self c.places.inside.ledger
@@ -35,11 +35,10 @@ both c =
     let fits = subst (λ (v : World). IfSome (socket_at v s) (λ x. length x.backlog < room_of x.state)) back c.requires.room in
     let room = subst (λ o. IfSome (option_and_then socket_of o) (λ x. length x.backlog < room_of x.state)) at fits in
     let spared = subst (λ (t : Shown). Spares t.pass f) (sym c.self.view_is) c.requires.spared in
-    let raised = c.raise.ensures in
-    let e = c.enqueue.ensures in
-    both-same _ (with_socket w s (queued f)) _ _ _ _ (world-is _ _ refl (e.files ∙ ap (λ v. change_socket_at (queued f) v.files s) raised) (e.next ∙ ap (λ v. v.next) raised) refl refl) (ap (λ cs. kept_of cs h.ledger) (e.counts ∙ ap (λ v. v.counts) raised)) (e.marks ∙ ap (λ v. v.marks) raised)
-    (exact-queued w s f (unwrap_or (socket_at w s) no_socket) (kept_of h.files.counts h.ledger) at live none room was.0)
-    (kept_socket s (queued f) (λ e. moves_queued begun w s f (spared_running p.progress.stage begun p.progress.looked f e spared)) (λ _. covers_queued begun w s f (is_marked h.files.marks) (below p.progress.visited)) was.1)
+    subst (λ fs. Stands p h.procs fs h.ledger) (sym (c.enqueue.ensures ∙ ap (changed (queued f) s) c.raise.ensures)) (
+      exact-queued w s f (unwrap_or (socket_at w s) no_socket) (kept_of h.files.counts h.ledger) at live none room was.0,
+      kept_socket s (queued f) (λ e. moves_queued begun w s f (spared_running p.progress.stage begun p.progress.looked f e spared)) (λ _. covers_queued begun w s f (is_marked h.files.marks) (below p.progress.visited)) was.1,
+    )
 
 pub invariant_of-places : goal.invariant_of-places
 invariant_of-places c = (both c).0

@@ -1,8 +1,8 @@
 use Rattle.std.proofs.Common.{◌∙◌, ◌≡◌, ℕ, ap, refl, subst, sym}
 use Rattle.std.specs.List.{Contains}
 use Rattle.std.specs.Map.{keys_of}
-use Rattle.af_base.specs.Changes.{change_socket_at, push_message, pushed}
-use Rattle.af_desc.specs.Filed.{Filed}
+use Rattle.af_base.specs.Changes.{push_message, pushed}
+use Rattle.af_desc.specs.Filed.{Filed, changed}
 use Rattle.af_ledger.specs.Kept.{CanHoldAll, Charged, held_all, kept_of}
 use Rattle.af_ledger.specs.declared.place.Place.TheVariants.{Queue}
 use Rattle.af_ledger.proofs.HeldAll.{users-held_all}
@@ -29,15 +29,15 @@ hold_all-requires c =
 
 -- What is kept once the message is in.
 kept : (c : goal.In_default) → let m = c.args.message in kept_of c.push.new.self.counts c.hold_all.new.ledger ≡ held_all (Queue m.user) m.attached (kept_of c.places.inside.files.counts c.places.inside.ledger)
-kept c = ap (λ cs. kept_of cs c.hold_all.new.ledger) c.push.ensures.counts ∙ c.hold_all.ensures.kept ∙ (λ i. held_all (Queue (c.user.ensures i)) (c.attached.ensures.value i) (kept_of c.places.inside.files.counts c.places.inside.ledger))
+kept c = ap (λ v. kept_of v.counts c.hold_all.new.ledger) c.in_default.ensures.ok ∙ c.hold_all.ensures.kept ∙ (λ i. held_all (Queue (c.user.ensures i)) (c.attached.ensures.value i) (kept_of c.places.inside.files.counts c.places.inside.ledger))
 
 -- The world then.
 put : (c : goal.In_default) → (the_view (record c.places.inside { files = c.push.new.self; ledger = c.hold_all.new.ledger })).world ≡ push_message (the_view c.places.inside).world c.args.socket.now c.args.message
 put c =
     let h = c.places.inside in
     let m = c.args.message in
-    let rest = c.hold_all.ensures.rest in
-    world-is _ (push_message (the_view h).world c.args.socket.now m) refl (c.in_default.ensures.files ∙ ap (λ v. change_socket_at (pushed m) v.files c.args.socket.now) rest) (c.push.ensures.next ∙ ap (λ v. v.next) rest) refl
+    let rest = c.in_default.ensures.ok ∙ ap (changed (pushed m) c.args.socket.now) c.hold_all.ensures.rest in
+    world-is _ (push_message (the_view h).world c.args.socket.now m) refl (ap (λ v. v.files) rest) (ap (λ v. v.next) rest) refl
     (ap (λ l. keys_of l.users) (kept c) ∙ users-held_all m.user m.attached (kept_of h.files.counts h.ledger))
 
 both : (c : goal.In_default) → Stands c.self.inside.parts c.places.inside.procs c.push.new.self c.hold_all.new.ledger
@@ -52,7 +52,7 @@ both c =
     let was = stood p h c.places.view_is c.places.invariant c.self.invariant in
     let here = ap (λ (t : Stored). t.world) c.places.view_is ∙ ap (λ (t : Shown). t.world) c.self.view_is in
     let spared = subst (λ (t : Shown). (f : ℕ) → Contains m.attached f → Spares t.pass f) (sym c.self.view_is) r.spared in
-    both-same _ (push_message w s m) _ _ _ _ (put c) (kept c) (c.push.ensures.marks ∙ ap (λ v. v.marks) c.hold_all.ensures.rest)
+    both-same _ (push_message w s m) _ _ _ _ (put c) (kept c) (ap (λ v. v.marks) c.in_default.ensures.ok ∙ ap (λ v. v.marks) c.hold_all.ensures.rest)
     (exact-put w _ here (kept_of h.files.counts h.ledger) m was.0 r.user r.flying r.live s r.socket r.queue r.within)
     (kept_socket s (pushed m) (λ e. moves_push begun w s m (λ f there. spared_running p.progress.stage begun p.progress.looked f e (spared f there))) (λ _. covers_push begun w s m (is_marked h.files.marks) (below p.progress.visited)) was.1)
 
@@ -74,7 +74,7 @@ drop_all-requires c =
     let r = c.requires in
     let k = kept_of h.files.counts h.ledger in
     let here = ap (λ (t : Stored). t.world) c.places.view_is ∙ ap (λ (t : Shown). t.world) c.self.view_is in
-    let held = ap (λ cs. kept_of cs c.hold_all.new.ledger) c.push.ensures.counts ∙ c.hold_all.ensures.kept ∙ (λ i. held_all (Queue (c.user.ensures i)) (c.attached.ensures.value i) k) in
+    let held = ap (λ v. kept_of v.counts c.hold_all.new.ledger) c.in-Err.ensures.err ∙ c.hold_all.ensures.kept ∙ (λ i. held_all (Queue (c.user.ensures i)) (c.attached.ensures.value i) k) in
     let same = c.in-Err.ensures.back in
     can-drop-put (the_view h).world _ here k c.args.message c.places.invariant r.user r.flying r.live _ _ _ held (c.user-2.ensures ∙ ap (λ x. x.user) same) (c.attached-2.ensures.value ∙ ap (λ x. x.attached) same)
 
@@ -91,7 +91,7 @@ invariant_of-places-2 c =
     let r = c.requires in
     let k = kept_of h.files.counts h.ledger in
     let here = ap (λ (t : Stored). t.world) c.places.view_is ∙ ap (λ (t : Shown). t.world) c.self.view_is in
-    let held = ap (λ cs. kept_of cs c.hold_all.new.ledger) c.push.ensures.counts ∙ c.hold_all.ensures.kept ∙ (λ i. held_all (Queue (c.user.ensures i)) (c.attached.ensures.value i) k) in
+    let held = ap (λ v. kept_of v.counts c.hold_all.new.ledger) c.in-Err.ensures.err ∙ c.hold_all.ensures.kept ∙ (λ i. held_all (Queue (c.user.ensures i)) (c.attached.ensures.value i) k) in
     let same = c.in-Err.ensures.back in
     let undone = put-dropped w _ here k c.args.message c.places.invariant r.user r.flying r.live _ _ _ _ held (c.user-2.ensures ∙ ap (λ x. x.user) same) (c.attached-2.ensures.value ∙ ap (λ x. x.attached) same) c.drop_all.ensures.kept in
     let rest = c.drop_all.ensures.rest ∙ ap {A = Filed} {B = Filed} (λ v. record v { counts = c.drop_all.new.files.counts }) (c.in-Err.ensures.err ∙ c.hold_all.ensures.rest) in
@@ -104,7 +104,7 @@ returned c =
     let r = c.requires in
     let k = kept_of h.files.counts h.ledger in
     let here = ap (λ (t : Stored). t.world) c.places.view_is ∙ ap (λ (t : Shown). t.world) c.self.view_is in
-    let held = ap (λ cs. kept_of cs c.hold_all.new.ledger) c.push.ensures.counts ∙ c.hold_all.ensures.kept ∙ (λ i. held_all (Queue (c.user.ensures i)) (c.attached.ensures.value i) k) in
+    let held = ap (λ v. kept_of v.counts c.hold_all.new.ledger) c.in-Err.ensures.err ∙ c.hold_all.ensures.kept ∙ (λ i. held_all (Queue (c.user.ensures i)) (c.attached.ensures.value i) k) in
     let same = c.in-Err.ensures.back in
     let undone = put-dropped (the_view h).world _ here k c.args.message c.places.invariant r.user r.flying r.live _ _ _ _ held (c.user-2.ensures ∙ ap (λ x. x.user) same) (c.attached-2.ensures.value ∙ ap (λ x. x.attached) same) c.drop_all.ensures.kept in
     let rest = c.drop_all.ensures.rest ∙ ap {A = Filed} {B = Filed} (λ v. record v { counts = c.drop_all.new.files.counts }) (c.in-Err.ensures.err ∙ c.hold_all.ensures.rest) in

@@ -9,8 +9,9 @@ use Rattle.af_base.specs.World.{World}
 use Rattle.af_base.proofs.Moved.{there-table}
 use Rattle.af_base.proofs.Stepped.{process-there}
 use Rattle.af_base.proofs.Within.{below-most}
-use Rattle.af_ledger.specs.Counted.{IsCountable}
-use Rattle.af_ledger.specs.Kept.{CanDrop, count_in_map, dropped, held, kept_of}
+use Rattle.af_desc.specs.Filed.{Filed, lowered, raised}
+use Rattle.af_ledger.specs.Counted.{IsCountable, IsCounted}
+use Rattle.af_ledger.specs.Kept.{count_in_map, kept_of}
 use Rattle.af_ledger.specs.declared.place.Place.TheVariants.{Backlog, Table}
 use Rattle.af_mark.specs.Marked.{is_marked}
 use Rattle.af_hold.specs.Limits.{IsBelowLimit}
@@ -37,13 +38,13 @@ raise-requires-clause-known c =
     let s = c.args.listener.now in
     let f = c.unwrap-embryo.result in
     let x = embryo-taken w s f c.dequeue.result c.unwrap-embryo.ensures c.dequeue.ensures.some in
-    ap (λ cs. map.contains_key cs f) c.dequeue.ensures.counts ∙ c.places.invariant.counted f ∙ live-first w s f x.0 (kept_of h.files.counts h.ledger) x.1 x.2 c.places.invariant
+    ap (λ v. map.contains_key v.counts f) c.dequeue.ensures.rest ∙ c.places.invariant.counted f ∙ live-first w s f x.0 (kept_of h.files.counts h.ledger) x.1 x.2 c.places.invariant
 
 pub raise-requires-clause-countable : goal.raise-requires-clause-countable
 raise-requires-clause-countable c =
     let h = c.places.inside in
     let f = c.unwrap-embryo.result in
-    subst (λ cs. IsCountable Table (count_in_map cs f)) (sym c.dequeue.ensures.counts) (can-hold-table (the_view h).world f (kept_of h.files.counts h.ledger) c.places.invariant.within c.places.invariant.agrees).0
+    subst (λ (v : Filed). IsCountable Table (count_in_map v.counts f)) (sym c.dequeue.ensures.rest) (can-hold-table (the_view h).world f (kept_of h.files.counts h.ledger) c.places.invariant.within c.places.invariant.agrees).0
 
 pub lower-requires : goal.lower-requires
 lower-requires c =
@@ -56,8 +57,7 @@ lower-requires c =
     let x = embryo-taken w s f c.dequeue.result c.unwrap-embryo.ensures c.dequeue.ensures.some in
     let there = process-there w pid (ap not (subst (λ (v : World). IsTrue (map.contains_key v.processes pid)) back c.requires.there)) in
     let free = sym (there-table w pid c.args.fd (process_at w pid) there) ∙ subst (λ (v : World). table_at v pid c.args.fd ≡ None) back c.requires.free in
-    let kept = ap (λ v. kept_of v.counts h.ledger) c.raise.ensures ∙ ap (λ cs. held Table f (kept_of cs h.ledger)) c.dequeue.ensures.counts in
-    (subst (CanDrop Backlog f) (sym kept) (can-drop-first w s f x.0 (kept_of h.files.counts h.ledger) x.1 x.2 c.places.invariant pid c.args.fd (process_at w pid) there free)).0
+    subst (λ (v : Filed). IsCounted Backlog (count_in_map v.counts f)) (sym (c.raise.ensures ∙ ap (raised Table f) c.dequeue.ensures.rest)) (can-drop-first w s f x.0 (kept_of h.files.counts h.ledger) x.1 x.2 c.places.invariant pid c.args.fd (process_at w pid) there free).0
 
 both : (c : goal.After-install) → Stands c.shade_embryo.new.self c.install.new.self c.lower.new.self c.places.inside.ledger
 both c =
@@ -77,20 +77,17 @@ both c =
     let free = subst (λ (v : World). table_at v pid fd ≡ None) back c.requires.free in
     let none = sym (there-table w pid fd (process_at w pid) there) ∙ free in
     let low = below-most w pid fd (process_at w pid) was.0.within there (subst (λ (v : World). IsBelowLimit v pid fd) back c.requires.limit (process_at w pid) there) in
-    let kept = ap (λ v. kept_of v.counts h.ledger) c.lower.ensures ∙ ap (dropped Backlog f) (ap (λ v. kept_of v.counts h.ledger) c.raise.ensures ∙ ap (λ cs. held Table f (kept_of cs h.ledger)) c.dequeue.ensures.counts) in
-    let files = ap (λ v. v.files) c.lower.ensures ∙ ap (λ v. v.files) c.raise.ensures ∙ c.dequeue.ensures.files in
-    let next = ap (λ v. v.next) c.lower.ensures ∙ ap (λ v. v.next) c.raise.ensures ∙ c.dequeue.ensures.next in
-    let marks = ap (λ v. v.marks) c.lower.ensures ∙ ap (λ v. v.marks) c.raise.ensures ∙ c.dequeue.ensures.marks in
+    let files = c.lower.ensures ∙ ap (lowered Backlog f) (c.raise.ensures ∙ ap (raised Table f) c.dequeue.ensures.rest) in
     let spared = subst (λ (o : Parts). Spares (pass_of o.progress.stage o.begun.value.world o.progress.looked) s) (sym e.frame) (subst (λ (t : Shown). Spares t.pass s) (sym c.self.view_is) c.requires.spared) in
     let shaded = subst (λ (o : Parts). MarksAll (λ g. slice_get (backlog_at o.places.world s) 0 ≡ Some g) o q) (sym e.frame) e.marked in
     let marked = subst (λ (t : Stored). MarksAll (λ g. slice_get (backlog_at t.world s) 0 ≡ Some g) q (record q { places = t })) (sym c.places.view_is) shaded in
     let stray : (g : ℕ) → slice_get (backlog_at w s) 0 ≡ Some g → is_running q.progress.stage ≡ true → ¬ (Garbage begun g) = λ g is run. spared_running q.progress.stage begun q.progress.looked g run (held_spared q.progress.looked s g was.1 (embryo_held w s g (first_taken (backlog_at w s) g is)) spared) in
     let first : slice_get (backlog_at w s) 0 ≡ Some f = ap (λ xs. slice_get xs 0) (subst (λ o. IfSome o (λ g. backlog_at w s ≡ g ∷ drop 1 (backlog_at w s))) c.unwrap-embryo.ensures c.dequeue.ensures.some) in
     let v = with_socket w s dequeued in
-    both-same _ (install v pid fd f) _ _ _ _ (world-is _ _ c.install.ensures.processes files next c.install.ensures.next refl) kept marks
+    subst (λ fs. Stands q c.install.new.self fs h.ledger) (sym files) (both-same _ (install v pid fd f) _ _ _ _ (world-is _ _ c.install.ensures.processes refl refl c.install.ensures.next refl) refl refl
     (exact-accepted w s f x.0 (kept_of h.files.counts h.ledger) x.1 x.2 was.0 pid fd (process_at w pid) there none low)
     (kept_tables (install v pid fd f) refl refl (λ t. moves_install begun v pid fd f (stray f first t)) (λ _. covers_install begun v pid fd f (is_marked h.files.marks) (below q.progress.visited) free)
-    (kept_socket s dequeued (λ _. moves_dequeued begun w s) (λ t. covers_dequeued begun w s (is_marked h.files.marks) (below q.progress.visited) (marked t) (λ g is. stray g is (marking_runs q.progress.stage t))) was.1))
+    (kept_socket s dequeued (λ _. moves_dequeued begun w s) (λ t. covers_dequeued begun w s (is_marked h.files.marks) (below q.progress.visited) (marked t) (λ g is. stray g is (marking_runs q.progress.stage t))) was.1)))
 
 pub invariant_of-places : goal.invariant_of-places
 invariant_of-places c = (both c).0

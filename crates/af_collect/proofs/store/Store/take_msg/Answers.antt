@@ -3,9 +3,10 @@ use Rattle.std.specs.FinMap as map
 use Rattle.std.specs.List.{Contains, zip}
 use Rattle.std.specs.Map.{keys_of}
 use Rattle.std.specs.Prelude.{is_none}
-use Rattle.af_base.specs.Changes.{install_all, with_queue}
+use Rattle.af_base.specs.Changes.{install_all, with_queue, with_socket}
 use Rattle.af_base.specs.Refusals.{socket_at}
 use Rattle.af_base.specs.World.{World}
+use Rattle.af_desc.specs.Filed.{received_from}
 use Rattle.af_ledger.specs.Kept.{CanDropAll, count_in_map, dropped_all, kept_of}
 use Rattle.af_ledger.specs.declared.place.Place.TheVariants.{Queue}
 use Rattle.af_ledger.proofs.HeldAll.{users-dropped_all}
@@ -30,10 +31,10 @@ table_in_all-requires-clause-known c = λ f there.
     let back = seen-world c.self.inside.parts c.places.inside _ c.places.view_is c.self.view_is in
     let socket = subst (λ (v : World). is_none (socket_at v s) ≡ false) back c.requires.socket in
     let attached = c.attached-attached.ensures.value ∙ ap (λ t. t.message.attached) c.in_ok-taken.ensures.taken in
-    ap (λ cs. map.contains_key cs f) c.take.ensures.counts ∙ c.places.invariant.counted f ∙ received-live w s c.args.max (kept_of h.files.counts h.ledger) c.places.invariant c.requires.some socket f (subst (λ l. Contains l f) attached there)
+    ap (λ v. map.contains_key v.counts f) c.in_ok-taken.ensures.ok ∙ c.places.invariant.counted f ∙ received-live w s c.args.max (kept_of h.files.counts h.ledger) c.places.invariant c.requires.some socket f (subst (λ l. Contains l f) attached there)
 
 pub table_in_all-requires-clause-fits : goal.table_in_all-requires-clause-fits
-table_in_all-requires-clause-fits c = λ f. let few = c.attached-attached.ensures.bound in omega (arith, few, ap (λ cs. (count_in_map cs f).tabled) c.take.ensures.counts, tabled-most (the_view c.places.inside).world f (kept_of c.places.inside.files.counts c.places.inside.ledger) c.places.invariant.within c.places.invariant.agrees)
+table_in_all-requires-clause-fits c = λ f. let few = c.attached-attached.ensures.bound in omega (arith, few, ap (λ v. (count_in_map v.counts f).tabled) c.in_ok-taken.ensures.ok, tabled-most (the_view c.places.inside).world f (kept_of c.places.inside.files.counts c.places.inside.ledger) c.places.invariant.within c.places.invariant.agrees)
 
 pub drop_all-requires : goal.drop_all-requires
 drop_all-requires c =
@@ -49,7 +50,7 @@ drop_all-requires c =
     let m = received_at w s c.args.max in
     let taken = c.in_ok-taken.ensures.taken in
     let l = kept_of c.table_in_all.new.files.counts h.ledger in
-    let kept = c.table_in_all.ensures.kept h.ledger ∙ (λ i. counted (kept_of (c.take.ensures.counts i) h.ledger) fds (c.attached-attached.ensures.value i)) ∙ ap (counted k fds) (ap (λ t. t.message.attached) taken) in
+    let kept = c.table_in_all.ensures.kept h.ledger ∙ (λ i. counted (kept_of (c.in_ok-taken.ensures.ok i).counts h.ledger) fds (c.attached-attached.ensures.value i)) ∙ ap (counted k fds) (ap (λ t. t.message.attached) taken) in
     let user = c.user.ensures ∙ ap (λ t. t.message.user) taken in
     let attached = c.attached-attached.ensures.value ∙ ap (λ t. t.message.attached) taken in
     subst (λ u. CanDropAll u c.attached-attached.result.now l) (sym user) (subst (λ fs. CanDropAll m.user fs l) (sym attached) (subst (CanDropAll m.user m.attached) (sym kept) can))
@@ -61,7 +62,7 @@ left c =
     let h = c.places.inside in
     let fds = c.args.fds.now in
     let taken = c.in_ok-taken.ensures.taken in
-    let kept = c.table_in_all.ensures.kept h.ledger ∙ (λ i. counted (kept_of (c.take.ensures.counts i) h.ledger) fds (c.attached-attached.ensures.value i)) ∙ ap (counted (kept_of h.files.counts h.ledger) fds) (ap (λ t. t.message.attached) taken) in
+    let kept = c.table_in_all.ensures.kept h.ledger ∙ (λ i. counted (kept_of (c.in_ok-taken.ensures.ok i).counts h.ledger) fds (c.attached-attached.ensures.value i)) ∙ ap (counted (kept_of h.files.counts h.ledger) fds) (ap (λ t. t.message.attached) taken) in
     let user = c.user.ensures ∙ ap (λ t. t.message.user) taken in
     let attached = c.attached-attached.ensures.value ∙ ap (λ t. t.message.attached) taken in
     ap (λ v. kept_of v.counts c.drop_all.new.ledger) c.shade_taken.ensures ∙ c.drop_all.ensures.kept ∙ (λ i. dropped_all (Queue (user i)) (attached i) (kept i))
@@ -80,9 +81,9 @@ received c =
     let processes = c.table_in_all.ensures.processes ∙ ap (λ l. filled w.processes c.args.pid (zip c.args.fds.now l)) attached in
     let k = kept_of h.files.counts h.ledger in
     let users = ap (λ l. keys_of l.users) (left c) ∙ users-dropped_all m.user m.attached (counted k c.args.fds.now m.attached) ∙ users-filled (mapped (λ e. e.1) (zip c.args.fds.now m.attached)) k in
-    let files = ap (λ v. v.files) c.shade_taken.ensures ∙ ap (λ v. v.files) c.drop_all.ensures.rest ∙ ap (λ v. v.files) c.table_in_all.ensures.rest in
-    let next = ap (λ v. v.next) c.shade_taken.ensures ∙ ap (λ v. v.next) c.drop_all.ensures.rest ∙ ap (λ v. v.next) c.table_in_all.ensures.rest ∙ c.take.ensures.next in
-    world-is _ (record v { files = c.take.new.self.files }) processes files next c.table_in_all.ensures.next users ∙ ap (λ fs. record v { files = fs }) c.in_ok-taken.ensures.files ∙ taken_queue v s c.args.max
+    let files = ap (λ v. v.files) c.shade_taken.ensures ∙ ap (λ v. v.files) c.drop_all.ensures.rest ∙ ap (λ v. v.files) c.table_in_all.ensures.rest ∙ ap (λ v. v.files) c.in_ok-taken.ensures.ok in
+    let next = ap (λ v. v.next) c.shade_taken.ensures ∙ ap (λ v. v.next) c.drop_all.ensures.rest ∙ ap (λ v. v.next) c.table_in_all.ensures.rest ∙ ap (λ v. v.next) c.in_ok-taken.ensures.ok in
+    world-is _ (with_socket v s (received_from c.args.max)) processes files next c.table_in_all.ensures.next users ∙ taken_queue v s c.args.max
     ∙ sym (install-filled (with_queue w s t.rest) c.args.pid (zip c.args.fds.now t.attached))
 
 both : (c : goal.After-shade_taken) → Stands c.self.inside.parts c.table_in_all.new.procs c.shade_taken.new.files c.drop_all.new.ledger
@@ -101,7 +102,7 @@ both c =
     let spared = subst (λ (t : Shown). Spares t.pass s) (sym c.self.view_is) c.requires.spared in
     let t = taken_at w s max in
     let files = c.attached-attached.ensures.value ∙ ap (λ o. o.message.attached) c.in_ok-taken.ensures.taken in
-    let before = ap (λ v. v.marks) c.drop_all.ensures.rest ∙ ap (λ v. v.marks) c.table_in_all.ensures.rest ∙ c.take.ensures.marks in
+    let before = ap (λ v. v.marks) c.drop_all.ensures.rest ∙ ap (λ v. v.marks) c.table_in_all.ensures.rest ∙ ap (λ v. v.marks) c.in_ok-taken.ensures.ok in
     let marks = ap (λ v. v.marks) c.shade_taken.ensures ∙ (λ i. shaded_in p.progress.stage (files i) (before i)) in
     both-same _ (install_all (with_queue w s t.rest) pid (zip fds t.attached)) _ _ _ _ (received c) (left c) marks
     (exact-same _ _ _ _ (install-filled (with_queue w s t.rest) pid (zip fds t.attached)) refl (exact-received w s max k was.0 c.requires.some r.0 pid fds r.1 r.2))

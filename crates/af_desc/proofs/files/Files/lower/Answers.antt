@@ -4,7 +4,6 @@ use Rattle.af_ledger.specs.Counted.{IsCounted}
 use Rattle.af_ledger.specs.Kept.{AreWaiting, count_in_map}
 use Rattle.af_ledger.proofs.Waiting.{lowered-kept, lowered-pushed}
 use Rattle.af_desc.specs.Filed.{Filed}
-use Rattle.af_mark.proofs.Listed.{listed-same}
 use Rattle.af_desc.proofs.Filing.{filed-counted}
 use Rattle.af_desc.proofs.files.Files.lower.Goals as goal
 
@@ -13,8 +12,8 @@ push_reserved-requires c =
     let a = c.self.inside in
     let counted = subst (λ (v : Filed). IsCounted c.args.place.now (count_in_map v.counts c.args.file.now)) (sym c.self.view_is) c.requires in
     let one = c.sub_place-last.ensures in
-    let low = (lowered-pushed a.rows.counts _ a.waiting.items c.args.file.now c.self.invariant.filed.3 c.args.place.now (ap (λ r. r.counts) one.counts) counted (sym one.last ∙ c.if-last.true)).1 in
-    let fits = c.self.invariant.filed.4 in
+    let low = (lowered-pushed a.rows.counts _ a.waiting.items c.args.file.now c.self.invariant.waits c.args.place.now (ap (λ r. r.counts) one.counts) counted (sym one.last ∙ c.if-last.true)).1 in
+    let fits = c.self.invariant.fits in
     omega (arith, low, fits, one.len, a.waiting.ok.0)
 
 pub invariant_of-self : goal.invariant_of-self
@@ -22,21 +21,13 @@ invariant_of-self c =
     let a = c.self.inside in
     let counted = subst (λ (v : Filed). IsCounted c.args.place.now (count_in_map v.counts c.args.file.now)) (sym c.self.view_is) c.requires in
     let one = c.sub_place-last.ensures in
-    let pushed = (lowered-pushed a.rows.counts _ a.waiting.items c.args.file.now c.self.invariant.filed.3 c.args.place.now (ap (λ r. r.counts) one.counts) counted (sym one.last ∙ c.if-last.true)).0 in
+    let pushed = (lowered-pushed a.rows.counts _ a.waiting.items c.args.file.now c.self.invariant.waits c.args.place.now refl counted (sym one.last ∙ c.if-last.true)).0 in
     let items : c.push_reserved.new.self.items ≡ a.waiting.items ++ c.args.file.now ∷ [] = search rules in
-    record {
-      filed = filed-counted a.rows _ a.waiting.items (vec_capacity a.waiting) a.names a.next c.self.invariant.filed _ c.push_reserved.new.self.items (vec_capacity c.push_reserved.new.self) one.counts
-          (subst (AreWaiting c.sub_place-last.new.self.counts) (sym items) pushed) one.len (omega (arith, c.push_reserved.ensures.capacity));
-      listed = listed-same a.rows.marks _ a.epoch a.grey.items (vec_capacity a.grey) c.self.invariant.listed a.grey.items (vec_capacity a.grey) (ap (λ r. r.marks) one.counts) refl (omega arith);
-    }
+    filed-counted a.rows _ _ _ _ _ _ _ _ c.self.invariant _ c.push_reserved.new.self.items (vec_capacity c.push_reserved.new.self) one.counts (subst (AreWaiting _) (sym items) pushed) one.len (omega (arith, c.push_reserved.ensures.capacity))
 
 pub invariant_of-self-else-last : goal.invariant_of-self-else-last
 invariant_of-self-else-last c =
     let a = c.self.inside in
     let counted = subst (λ (v : Filed). IsCounted c.args.place.now (count_in_map v.counts c.args.file.now)) (sym c.self.view_is) c.requires in
     let one = c.sub_place-last.ensures in
-    record {
-      filed = filed-counted a.rows _ a.waiting.items (vec_capacity a.waiting) a.names a.next c.self.invariant.filed _ a.waiting.items (vec_capacity a.waiting) one.counts
-          (lowered-kept a.rows.counts _ a.waiting.items c.args.file.now c.self.invariant.filed.3 c.args.place.now (ap (λ r. r.counts) one.counts) counted (sym one.last ∙ c.if-last.false)) one.len (omega arith);
-      listed = listed-same a.rows.marks _ a.epoch a.grey.items (vec_capacity a.grey) c.self.invariant.listed a.grey.items (vec_capacity a.grey) (ap (λ r. r.marks) one.counts) refl (omega arith);
-    }
+    filed-counted a.rows _ _ _ _ _ _ _ _ c.self.invariant _ a.waiting.items (vec_capacity a.waiting) one.counts (lowered-kept a.rows.counts _ a.waiting.items c.args.file.now c.self.invariant.waits c.args.place.now refl counted (sym one.last ∙ c.if-last.false)) one.len (omega arith)

@@ -5,4 +5,4 @@ use Rattle.af_desc.proofs.Naming.{named-is}
 use Rattle.af_desc.proofs.files.Files.named.Goals as goal
 
 pub returns : goal.returns
-returns c = c.find.ensures ∙ named-is c.self.inside.names c.self.inside.rows.files c.self.invariant.filed.2 c.args.name.now ∙ ap (λ (v : Filed). named v.files c.args.name.now) c.self.view_is
+returns c = c.find.ensures ∙ named-is c.self.inside.names c.self.inside.rows.files c.self.invariant.named c.args.name.now ∙ ap (λ (v : Filed). named v.files c.args.name.now) c.self.view_is

@@ -20,13 +20,11 @@ invariant_of-result c =
     let m = c.new.result.marks in
     let markless = c.new.ensures.marks in
     record {
-      filed = (
-        subst (λ n. n < 1) (sym c.new.ensures.last) (omega arith),
-        ap (λ m. map.contains_key m 0) none ∙ ap is_some (map.get-empty nat_cmp 0),
-        named-none-yet c.new-4.result c.new.result.files c.new-4.ensures none,
-        just-empty (λ n. nat_eq (places_in n) 0) c.new.result.counts _ uncounted c.new-2.ensures.items,
-        omega (arith, ap map.len uncounted ∙ map.len-empty nat_cmp Count),
-      );
+      above = subst (λ n. n < 1) (sym c.new.ensures.last) (omega arith);
+      begins = ap (λ m. map.contains_key m 0) none ∙ ap is_some (map.get-empty nat_cmp 0);
+      named = named-none-yet c.new-4.result c.new.result.files c.new-4.ensures none;
+      waits = just-empty (λ n. nat_eq (places_in n) 0) c.new.result.counts _ uncounted c.new-2.ensures.items;
+      fits = omega (arith, ap map.len uncounted ∙ map.len-empty nat_cmp Count);
       listed = (
         upto_none 0 m markless,
         just-empty is_grey_color (colors_in 0 m) _ (part_none (color_in 0) m markless) c.new-3.ensures.items,

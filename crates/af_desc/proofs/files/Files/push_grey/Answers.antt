@@ -29,10 +29,8 @@ invariant_of-self c =
     let white = ap (λ v. is_grey v.marks f) c.self.view_is ∙ (white-known c.args.self.now.marks f c.requires).1 in
     let listed = listed-grey a.rows.marks c.set_mark.new.self.marks a.epoch a.grey.items (vec_capacity a.grey) c.self.invariant.listed f (record { epoch = a.epoch; color = Grey; at = c.noted.result }) (ap (λ r. r.marks) c.set_mark.ensures.set) refl c.set_mark.ensures.len refl white in
     let items : c.push_reserved.new.self.items ≡ a.grey.items ++ f ∷ [] = search rules in
-    record {
-      filed = filed-marked a.rows _ a.waiting.items (vec_capacity a.waiting) a.names a.next c.self.invariant.filed _ c.set_mark.ensures.set;
-      listed = listed-same c.set_mark.new.self.marks c.set_mark.new.self.marks a.epoch (a.grey.items ++ f ∷ []) (vec_capacity a.grey) listed.1 _ (vec_capacity c.push_reserved.new.self) refl items (omega (arith, c.push_reserved.ensures.capacity));
-    }
+    let same = listed-same c.set_mark.new.self.marks _ a.epoch (a.grey.items ++ f ∷ []) (vec_capacity a.grey) listed.1 _ (vec_capacity c.push_reserved.new.self) (sym (ap (λ r. r.marks) c.set_mark.ensures.set)) items (omega (arith, c.push_reserved.ensures.capacity)) in
+    filed-marked a.rows _ _ _ _ _ _ _ _ c.self.invariant _ _ _ c.set_mark.ensures.set same
 
 pub returns-clause-colors : goal.returns-clause-colors
 returns-clause-colors c =

@@ -6,6 +6,7 @@ use Rattle.af_mark.specs.declared.color.Color.TheVariants.{Black}
 use Rattle.af_mark.specs.declared.mark.Mark.{Mark}
 use Rattle.af_mark.proofs.Colors.{color_after, color_known, color_now, same_marked}
 use Rattle.af_mark.proofs.Listed.{grey-known, listed-black, listed-moved}
+use Rattle.af_desc.specs.Rowed.{Rowed}
 use Rattle.af_desc.proofs.Filing.{filed-marked}
 use Rattle.af_desc.proofs.files.Files.take_grey.Goals as goal
 
@@ -22,11 +23,8 @@ invariant_of-self c =
     let e = c.strike.ensures in
     let less : (g : ℕ) → count_in g c.strike.new.grey.items ≡ count_in g a.grey.items - one g f = search rules in
     let black = listed-black a.rows.marks c.set_mark.new.self.marks a.epoch a.grey.items (vec_capacity a.grey) c.self.invariant.listed f x (ap (λ r. r.marks) set.set) refl set.len c.strike.new.grey.items (vec_capacity c.strike.new.grey) refl less (omega (arith, e.capacity)) in
-    let marked = filed-marked a.rows c.set_mark.new.self a.waiting.items (vec_capacity a.waiting) a.names a.next c.self.invariant.filed _ set.set in
-    record {
-      filed = filed-marked c.set_mark.new.self c.strike.new.rows a.waiting.items (vec_capacity a.waiting) a.names a.next marked _ e.rest;
-      listed = listed-moved c.set_mark.new.self.marks c.strike.new.rows.marks a.epoch c.strike.new.grey.items (vec_capacity c.strike.new.grey) black (e.colors a.epoch) (e.epochs a.epoch) e.len;
-    }
+    let moved = listed-moved c.set_mark.new.self.marks c.strike.new.rows.marks a.epoch c.strike.new.grey.items (vec_capacity c.strike.new.grey) black (e.colors a.epoch) (e.epochs a.epoch) e.len in
+    filed-marked a.rows c.strike.new.rows _ _ _ _ _ _ _ c.self.invariant _ c.strike.new.grey.items (vec_capacity c.strike.new.grey) (e.rest ∙ ap {A = Rowed} {B = Rowed} (λ r. record r { marks = c.strike.new.rows.marks }) set.set) moved
 
 pub returns-clause-colors : goal.returns-clause-colors
 returns-clause-colors c =
