@@ -12,7 +12,7 @@ use Rattle.af_base.specs.Steps.{Outcome, ProcessStep, answer, effect, needs_no_m
 use Rattle.af_base.specs.World.{World}
 use Rattle.af_base.proofs.Lookups.{none_some, some_same}
 use Rattle.af_base.proofs.Stepping.{accepted}
-use Rattle.af_steps.specs.Outcome.{Does, Refuses, error_of}
+use Rattle.af_steps.specs.Outcome.{Answers, Does, Refuses, error_of}
 
 -- An error leaves the world as it was.
 stays : (o : Option Errno) (frugal : Bool) (r : Reply) (after old : World) (e : Errno) → error_of o frugal ≡ Some e → Outcome o frugal r after old (reply.Refused e) old
@@ -22,21 +22,20 @@ stays None false r after old e is = inr (ap reply.Refused (sym (some_same ENOMEM
 
 module _ (old : Machine) (p : ℕ) (s : Step) (new : Machine) where
   -- A step that was done.
-  pub does-step : (r : Reply) → Does old p s r new → ProcessStep old.world p s r new.world × SamePass old new
+  pub does-step : (r : Reply) → Does old p s r new → Answers old p s r new
   does-step r d =
       let w = old.world in
       let gone = accepted (refusal w p s) (needs_no_memory s) (answer w p s) (effect w p s) w new.world d.0 d.2 in
       (subst (λ x. ProcessStep w p s x new.world) (sym d.1) gone, d.3)
 
   -- A step that was refused.
-  pub refuses-step : (e : Errno) → Refuses old p s e new → ProcessStep old.world p s (reply.Refused e) new.world × SamePass old new
+  pub refuses-step : (e : Errno) → Refuses old p s e new → Answers old p s (reply.Refused e) new
   refuses-step e d =
       let w = old.world in
       let kept = stays (refusal w p s) (needs_no_memory s) (answer w p s) (effect w p s) w e d.0 in
       subst (λ (m : Machine). ProcessStep w p s (reply.Refused e) m.world × SamePass old m) (sym d.1) (kept, (refl, refl))
 
   -- What a call comes to is a step with the reply that tells it.
-  pub answers-step : {T : Type 0} (o : Result T Errno) (tells : T → Reply) (r : Reply) → IfOk o (λ t. Does old p s (tells t) new) → IfErr o (λ e. Refuses old p s e new)
-      → IfOk o (λ t. r ≡ tells t) → IfErr o (λ e. r ≡ reply.Refused e) → ProcessStep old.world p s r new.world × SamePass old new
-  answers-step (Ok t) tells r done refused ok err = subst (λ x. ProcessStep old.world p s x new.world × SamePass old new) (sym ok) (does-step (tells t) done)
-  answers-step (Err e) tells r done refused ok err = subst (λ x. ProcessStep old.world p s x new.world × SamePass old new) (sym err) (refuses-step e refused)
+  pub answers-step : (t : Step) → t ≡ s → {T : Type 0} (o : Result T Errno) (tells : T → Reply) (r : Reply) → IfOk o (λ t. Does old p s (tells t) new) → IfErr o (λ e. Refuses old p s e new) → IfOk o (λ t. r ≡ tells t) → IfErr o (λ e. r ≡ reply.Refused e) → Answers old p t r new
+  answers-step t is (Ok a) tells r done refused ok err = subst (λ x. Answers old p x r new) (sym is) (subst (λ x. Answers old p s x new) (sym ok) (does-step (tells a) done))
+  answers-step t is (Err e) tells r done refused ok err = subst (λ x. Answers old p x r new) (sym is) (subst (λ x. Answers old p s x new) (sym err) (refuses-step e refused))

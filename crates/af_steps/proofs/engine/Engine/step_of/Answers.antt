@@ -1,108 +1,49 @@
-use Rattle.std.proofs.Common.{◌≡◌, ◌∙◌, sym, subst}
+use Rattle.std.proofs.Common.{◌≡◌, ◌∙◌, sym}
 use Rattle.af_base.specs.declared.events.Reply.TheVariants as reply
 use Rattle.af_base.specs.declared.events.Step.TheVariants as step
-use Rattle.af_base.specs.Pass.{SamePass}
-use Rattle.af_base.specs.Steps.{ProcessStep}
 use Rattle.af_steps.proofs.Folded.{answers-step}
 use Rattle.af_steps.proofs.engine.Engine.step_of.Goals as goal
 
 pub returns-in-Open : goal.returns-in-Open
-returns-in-Open c =
-    let call = c.open in
-    let told = c.fd_reply in
-    subst (λ s. ProcessStep c.args.self.now.world c.args.pid s told.result call.new.self.world × SamePass c.args.self.now call.new.self) (sym c.in-Open.is)
-    (answers-step c.args.self.now c.args.pid step.Open call.new.self call.result reply.Fd told.result call.ensures.done call.ensures.refused told.ensures.ok told.ensures.err)
+returns-in-Open c = answers-step _ _ _ _ _ c.in-Open.is c.open.result reply.Fd _ c.open.ensures.done c.open.ensures.refused c.fd_reply.ensures.ok c.fd_reply.ensures.err
 
 pub returns-in-Dup : goal.returns-in-Dup
-returns-in-Dup c =
-    let call = c.dup in
-    let told = c.fd_reply-in-Dup in
-    subst (λ s. ProcessStep c.args.self.now.world c.args.pid s told.result call.new.self.world × SamePass c.args.self.now call.new.self) (sym c.in-Dup.is)
-    (answers-step c.args.self.now c.args.pid (step.Dup c.in-Dup.from) call.new.self call.result reply.Fd told.result call.ensures.done call.ensures.refused told.ensures.ok told.ensures.err)
+returns-in-Dup c = answers-step _ _ _ _ _ c.in-Dup.is c.dup.result reply.Fd _ c.dup.ensures.done c.dup.ensures.refused c.fd_reply-in-Dup.ensures.ok c.fd_reply-in-Dup.ensures.err
 
 pub returns-in-Dup2 : goal.returns-in-Dup2
-returns-in-Dup2 c =
-    let call = c.dup2 in
-    let told = c.fd_reply-in-Dup2 in
-    subst (λ s. ProcessStep c.args.self.now.world c.args.pid s told.result call.new.self.world × SamePass c.args.self.now call.new.self) (sym c.in-Dup2.is)
-    (answers-step c.args.self.now c.args.pid (step.Dup2 c.in-Dup2.from c.in-Dup2.to) call.new.self call.result reply.Fd told.result call.ensures.done call.ensures.refused told.ensures.ok told.ensures.err)
+returns-in-Dup2 c = answers-step _ _ _ _ _ c.in-Dup2.is c.dup2.result reply.Fd _ c.dup2.ensures.done c.dup2.ensures.refused c.fd_reply-in-Dup2.ensures.ok c.fd_reply-in-Dup2.ensures.err
 
 pub returns-in-Close : goal.returns-in-Close
-returns-in-Close c =
-    let call = c.close in
-    let told = c.done_reply in
-    subst (λ s. ProcessStep c.args.self.now.world c.args.pid s told.result call.new.self.world × SamePass c.args.self.now call.new.self) (sym c.in-Close.is)
-    (answers-step c.args.self.now c.args.pid (step.Close c.in-Close.fd) call.new.self call.result (λ _. reply.Ok) told.result call.ensures.done call.ensures.refused told.ensures.ok told.ensures.err)
+returns-in-Close c = answers-step _ _ _ _ _ c.in-Close.is c.close.result (λ _. reply.Ok) _ c.close.ensures.done c.close.ensures.refused c.done_reply.ensures.ok c.done_reply.ensures.err
 
 pub returns-in-Fork : goal.returns-in-Fork
-returns-in-Fork c =
-    let call = c.fork in
-    let told = c.pid_reply in
-    subst (λ s. ProcessStep c.args.self.now.world c.args.pid s told.result call.new.self.world × SamePass c.args.self.now call.new.self) (sym c.in-Fork.is)
-    (answers-step c.args.self.now c.args.pid step.Fork call.new.self call.result reply.Pid told.result call.ensures.done call.ensures.refused told.ensures.ok told.ensures.err)
+returns-in-Fork c = answers-step _ _ _ _ _ c.in-Fork.is c.fork.result reply.Pid _ c.fork.ensures.done c.fork.ensures.refused c.pid_reply.ensures.ok c.pid_reply.ensures.err
 
 pub returns-in-Exit : goal.returns-in-Exit
-returns-in-Exit c =
-    let call = c.exit in
-    let told = c.done_reply-in-Exit in
-    subst (λ s. ProcessStep c.args.self.now.world c.args.pid s told.result call.new.self.world × SamePass c.args.self.now call.new.self) (sym c.in-Exit.is)
-    (answers-step c.args.self.now c.args.pid step.Exit call.new.self call.result (λ _. reply.Ok) told.result call.ensures.done call.ensures.refused told.ensures.ok told.ensures.err)
+returns-in-Exit c = answers-step _ _ _ _ _ c.in-Exit.is c.exit.result (λ _. reply.Ok) _ c.exit.ensures.done c.exit.ensures.refused c.done_reply-in-Exit.ensures.ok c.done_reply-in-Exit.ensures.err
 
 pub returns-in-Pair : goal.returns-in-Pair
-returns-in-Pair c =
-    let call = c.pair in
-    let told = c.fds_reply in
-    subst (λ s. ProcessStep c.args.self.now.world c.args.pid s told.result call.new.self.world × SamePass c.args.self.now call.new.self) (sym c.in-Pair.is)
-    (answers-step c.args.self.now c.args.pid (step.Pair c.in-Pair.kind) call.new.self call.result (λ t. reply.Fds t.0 t.1) told.result call.ensures.done call.ensures.refused told.ensures.ok told.ensures.err)
+returns-in-Pair c = answers-step _ _ _ _ _ c.in-Pair.is c.pair.result (λ t. reply.Fds t.0 t.1) _ c.pair.ensures.done c.pair.ensures.refused c.fds_reply.ensures.ok c.fds_reply.ensures.err
 
 pub returns-in-Socket : goal.returns-in-Socket
-returns-in-Socket c =
-    let call = c.socket in
-    let told = c.fd_reply-in-Socket in
-    subst (λ s. ProcessStep c.args.self.now.world c.args.pid s told.result call.new.self.world × SamePass c.args.self.now call.new.self) (sym c.in-Socket.is)
-    (answers-step c.args.self.now c.args.pid (step.Socket c.in-Socket.kind) call.new.self call.result reply.Fd told.result call.ensures.done call.ensures.refused told.ensures.ok told.ensures.err)
+returns-in-Socket c = answers-step _ _ _ _ _ c.in-Socket.is c.socket.result reply.Fd _ c.socket.ensures.done c.socket.ensures.refused c.fd_reply-in-Socket.ensures.ok c.fd_reply-in-Socket.ensures.err
 
 pub returns-in-Bind : goal.returns-in-Bind
-returns-in-Bind c =
-    let call = c.bind in
-    let told = c.done_reply-in-Bind in
-    subst (λ s. ProcessStep c.args.self.now.world c.args.pid s told.result call.new.self.world × SamePass c.args.self.now call.new.self) (sym c.in-Bind.is)
-    (answers-step c.args.self.now c.args.pid (step.Bind c.in-Bind.on c.in-Bind.name) call.new.self call.result (λ _. reply.Ok) told.result call.ensures.done call.ensures.refused told.ensures.ok told.ensures.err)
+returns-in-Bind c = answers-step _ _ _ _ _ c.in-Bind.is c.bind.result (λ _. reply.Ok) _ c.bind.ensures.done c.bind.ensures.refused c.done_reply-in-Bind.ensures.ok c.done_reply-in-Bind.ensures.err
 
 pub returns-in-Listen : goal.returns-in-Listen
-returns-in-Listen c =
-    let call = c.listen in
-    let told = c.done_reply-in-Listen in
-    subst (λ s. ProcessStep c.args.self.now.world c.args.pid s told.result call.new.self.world × SamePass c.args.self.now call.new.self) (sym c.in-Listen.is)
-    (answers-step c.args.self.now c.args.pid (step.Listen c.in-Listen.on c.in-Listen.backlog) call.new.self call.result (λ _. reply.Ok) told.result call.ensures.done call.ensures.refused told.ensures.ok told.ensures.err)
+returns-in-Listen c = answers-step _ _ _ _ _ c.in-Listen.is c.listen.result (λ _. reply.Ok) _ c.listen.ensures.done c.listen.ensures.refused c.done_reply-in-Listen.ensures.ok c.done_reply-in-Listen.ensures.err
 
 pub returns-in-Accept : goal.returns-in-Accept
-returns-in-Accept c =
-    let call = c.accept in
-    let told = c.fd_reply-in-Accept in
-    subst (λ s. ProcessStep c.args.self.now.world c.args.pid s told.result call.new.self.world × SamePass c.args.self.now call.new.self) (sym c.in-Accept.is)
-    (answers-step c.args.self.now c.args.pid (step.Accept c.in-Accept.on) call.new.self call.result reply.Fd told.result call.ensures.done call.ensures.refused told.ensures.ok told.ensures.err)
+returns-in-Accept c = answers-step _ _ _ _ _ c.in-Accept.is c.accept.result reply.Fd _ c.accept.ensures.done c.accept.ensures.refused c.fd_reply-in-Accept.ensures.ok c.fd_reply-in-Accept.ensures.err
 
 pub returns-in-Limit : goal.returns-in-Limit
-returns-in-Limit c =
-    let call = c.limit in
-    let told = c.done_reply-in-Limit in
-    subst (λ s. ProcessStep c.args.self.now.world c.args.pid s told.result call.new.self.world × SamePass c.args.self.now call.new.self) (sym c.in-Limit.is)
-    (answers-step c.args.self.now c.args.pid (step.Limit c.in-Limit.nofile) call.new.self call.result (λ _. reply.Ok) told.result call.ensures.done call.ensures.refused told.ensures.ok told.ensures.err)
+returns-in-Limit c = answers-step _ _ _ _ _ c.in-Limit.is c.limit.result (λ _. reply.Ok) _ c.limit.ensures.done c.limit.ensures.refused c.done_reply-in-Limit.ensures.ok c.done_reply-in-Limit.ensures.err
 
 pub returns-in-Connect : goal.returns-in-Connect
-returns-in-Connect c =
-    let call = c.connect in
-    let told = c.done_reply-in-Connect in
-    subst (λ s. ProcessStep c.args.self.now.world c.args.pid s told.result call.new.self.world × SamePass c.args.self.now call.new.self) (sym c.in-Connect.is)
-    (answers-step c.args.self.now c.args.pid (step.Connect c.in-Connect.on c.in-Connect.name) call.new.self call.result (λ _. reply.Ok) told.result call.ensures.done call.ensures.refused told.ensures.ok told.ensures.err)
+returns-in-Connect c = answers-step _ _ _ _ _ c.in-Connect.is c.connect.result (λ _. reply.Ok) _ c.connect.ensures.done c.connect.ensures.refused c.done_reply-in-Connect.ensures.ok c.done_reply-in-Connect.ensures.err
 
 pub returns-in-Send : goal.returns-in-Send
 returns-in-Send c =
-    let call = c.send in
-    let told = c.sent_reply in
-    let bytes = c.as_slice.result.now in
-    let attach = c.as_slice-in-Send.result.now in
-    let read : step.Send c.in-Send.on bytes attach ≡ c.args.step.now = (λ i. step.Send c.in-Send.on (c.as_slice.ensures i) (c.as_slice-in-Send.ensures i)) ∙ sym c.in-Send.is in
-    subst (λ s. ProcessStep c.args.self.now.world c.args.pid s told.result call.new.self.world × SamePass c.args.self.now call.new.self) read
-    (answers-step c.args.self.now c.args.pid (step.Send c.in-Send.on bytes attach) call.new.self call.result reply.Sent told.result call.ensures.done call.ensures.refused told.ensures.ok told.ensures.err)
+    let read : c.args.step.now ≡ step.Send c.in-Send.on c.as_slice.result.now c.as_slice-in-Send.result.now = c.in-Send.is ∙ sym (λ i. step.Send c.in-Send.on (c.as_slice.ensures i) (c.as_slice-in-Send.ensures i)) in
+    answers-step _ _ _ _ _ read c.send.result reply.Sent _ c.send.ensures.done c.send.ensures.refused c.sent_reply.ensures.ok c.sent_reply.ensures.err
