@@ -278,6 +278,7 @@ impl Files {
     }
 
     /// The first message out of the queue of that socket, if there is one. It takes no memory.
+    #[inline(always)]
     pub fn pop(&mut self, file: &FileRef) -> Option<Msg>
         ensures some { IfSome result (λ m. queue_in self.old.files file.now ≡ m ∷ drop 1 (queue_in self.old.files file.now)) }
         ensures none { IfNone result (queue_in self.old.files file.now ≡ []) }
