@@ -1,8 +1,10 @@
 //! The parts, lent for reading, and the counts that are kept. None takes memory.
-ghost use Rattle.std.specs.Prelude.{◌≡◌, IfErr, None, OnOk, Some, length, slice_get};
+ghost use Rattle.std.specs.Prelude.{◌≡◌, ℕ, IfErr, None, OnOk, Some, length, slice_get, true};
 ghost use Rattle.af_base.specs.Counts.{charged, inflight, refs, tabled, total};
 ghost use Rattle.af_base.specs.Refusals.{first_fit, on_charge};
-ghost use Rattle.af_base.specs.Whole.{IsWhole, IsWithin};
+ghost use Rattle.af_base.specs.Places.{InTable};
+ghost use Rattle.af_base.specs.Whole.{IsSound, IsWhole, IsWithin};
+ghost use Rattle.af_base.specs.World.{IsLive};
 
 use crate::holdings::Holdings;
 use af_base::errno::Errno;
@@ -88,6 +90,15 @@ impl Holdings {
         ensures { result ≡ total self.now.world }
     {
         self.ledger.total()
+    }
+
+    /// Whether nothing is in flight and no embryo waits: then a table holds each file.
+    #[inline(always)]
+    pub(crate) fn is_calm(&self) -> bool
+        requires sound { IsSound self.now.world }
+        ensures { result ≡ true → (f : ℕ) → IsLive self.now.world f → InTable self.now.world f }
+    {
+        self.ledger.total() == 0 && !self.files.has_embryos()
     }
 
     /// How many users there are: a user stays when its last process is gone.

@@ -1,4 +1,5 @@
 pub mod Begun
+pub mod Embryos
 pub mod Naming
 pub mod Filing
 pub mod Rowed

@@ -1,5 +1,5 @@
 -- Files under numbers that are never used again.
-use Rattle.std.specs.Prelude.{◌≡◌, ◌↔◌, ◌<◌, ◌≤◌, ℕ, ◌+◌, Bool, List, Option, Some, drop, false, unwrap_or}
+use Rattle.std.specs.Prelude.{◌≡◌, ◌↔◌, ◌<◌, ◌≤◌, ℕ, ◌+◌, ◌-◌, ◌^◌, Bool, List, Option, Some, drop, false, nat_lt, unwrap_or, if◌then◌else◌}
 use Rattle.std.specs.Option.{option_and_then, option_map_or}
 use Rattle.af_base.specs.declared.events.SockType.{SockType}
 use Rattle.std.specs.FinMap as map
@@ -7,6 +7,7 @@ use Rattle.af_base.specs.declared.events.State.{State}
 use Rattle.af_base.specs.declared.events.State.TheVariants as state
 use Rattle.af_base.specs.World.{Map, File, Socket, AsSocket}
 use Rattle.af_base.specs.Changes.{change_socket_at}
+use Rattle.af_base.specs.Counts.{total_of}
 use Rattle.af_base.specs.Refusals.{is_full_of, no_socket, socket_of}
 use Rattle.af_base.specs.Steps.{connected_socket}
 use Rattle.af_base.specs.Take.{take_from}
@@ -15,6 +16,7 @@ use Rattle.af_ledger.specs.Counted.{fewer, more, uncounted}
 use Rattle.af_ledger.specs.Kept.{AreWaiting, count_in_map}
 use Rattle.af_ledger.specs.declared.count.Count.{Count}
 use Rattle.af_ledger.specs.declared.place.Place.{Place}
+use Rattle.af_ledger.specs.declared.place.Place.TheVariants.{Backlog, Queue, Table}
 use Rattle.af_listen.specs.Named.{Named}
 use Rattle.af_mark.specs.Grey.{AreListed}
 use Rattle.af_mark.specs.Marked.{Marked, born, forgotten}
@@ -96,11 +98,28 @@ name_in files f = option_and_then (λ s. s.name) (socket_in files f)
 pub record AreNamed (names : Named) (files : Map File) : Type 0 where
   pub each : (name : List ℕ) (f : ℕ) → (map.get names name ≡ Some f) ↔ (name_in files f ≡ Some name)
 
--- The rows fit all else: numbers begin at 1 and rise, the names are those of the files, and the lists have just the files that wait and those that are grey, with room for all (this project's own).
-pub record AreFiled (rows : Rowed) (waiting : List ℕ) (room : ℕ) (names : Named) (next epoch : ℕ) (grey : List ℕ) (most : ℕ) : Type 0 where
+-- No more places are in backlogs than this number, unless it is as large as it can get (this project's own).
+abbrev pub AreEmbryos : Map Count → ℕ → Type 0
+AreEmbryos counts n = n < 2 ^ 64 - 1 → total_of (λ c. c.waiting) counts ≤ n
+
+-- The number of embryos with a place of this kind more (this project's own).
+abbrev pub with_embryo : Place → ℕ → ℕ
+with_embryo Table n = n
+with_embryo (Queue u) n = n
+with_embryo Backlog n = if nat_lt n (2 ^ 64 - 1) then n + 1 else n
+
+-- The same with one less (this project's own).
+abbrev pub without_embryo : Place → ℕ → ℕ
+without_embryo Table n = n
+without_embryo (Queue u) n = n
+without_embryo Backlog n = if nat_lt n (2 ^ 64 - 1) then n - 1 else n
+
+-- The rows fit all else: numbers begin at 1 and rise, the names are those of the files, the lists have just the files that wait and those that are grey, with room for all, and the embryos are counted (this project's own).
+pub record AreFiled (rows : Rowed) (waiting : List ℕ) (room : ℕ) (names : Named) (next epoch : ℕ) (grey : List ℕ) (most embryos : ℕ) : Type 0 where
   pub above : rows.last < next
   pub begins : map.contains_key rows.files 0 ≡ false
   pub named : AreNamed names rows.files
   pub waits : AreWaiting rows.counts waiting
   pub fits : map.len rows.counts ≤ room
   pub listed : AreListed rows.marks epoch grey most
+  pub backlogged : AreEmbryos rows.counts embryos

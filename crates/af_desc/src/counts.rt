@@ -3,7 +3,7 @@ ghost use Rattle.std.specs.Prelude.{◌≡◌, ℕ, false, true, IfSome, IfNone,
 ghost use Rattle.std.specs.FinMap as map;
 ghost use Rattle.af_ledger.specs.Counted.{places_in, IsCountable, IsCounted};
 ghost use Rattle.af_ledger.specs.Kept.{count_in_map, is_waiting};
-ghost use Rattle.af_desc.specs.Filed.{lowered, raised};
+ghost use Rattle.af_desc.specs.Filed.{lowered, raised, with_embryo, without_embryo};
 
 use crate::files::Files;
 use af_base::file_list::unlist;
@@ -68,6 +68,14 @@ impl Files {
         u64::from(self.count_at(file).inflight)
     }
 
+    /// Whether an embryo may wait: where the answer is no, none does.
+    #[inline(always)]
+    pub fn has_embryos(&self) -> bool
+        ensures { result ≡ false → (f : ℕ) → (count_in_map self.now.counts f).waiting ≡ 0 }
+    {
+        self.embryos > 0
+    }
+
     /// A file that no place holds, if there is one.
     #[inline(always)]
     pub fn next_waiting(&self) -> Option<FileRef>
@@ -87,6 +95,7 @@ impl Files {
         ensures { self.new ≡ raised place.now file.now self.old }
     {
         let first = self.rows.add_place(place, file);
+        self.embryos = with_embryo(self.embryos, place);
         if first {
             // Where several wait, who waits no more is mostly the one that came first.
             unlist(&mut self.waiting, file.ino(), 0);
@@ -101,8 +110,31 @@ impl Files {
         ensures { self.new ≡ lowered place.now file.now self.old }
     {
         let last = self.rows.sub_place(place, file);
+        self.embryos = without_embryo(self.embryos, place);
         if last {
             self.waiting.push_reserved(file.again());
         }
+    }
+}
+
+/// The number of embryos, with a place of this kind more. It counts no further than it can get.
+#[inline(always)]
+fn with_embryo(embryos: u64, place: &Place) -> u64
+    ensures { result ≡ with_embryo place.now embryos }
+{
+    match place {
+        Place::Backlog if embryos < u64::MAX => embryos + 1,
+        _ => embryos,
+    }
+}
+
+/// The same with one less.
+#[inline(always)]
+fn without_embryo(embryos: u64, place: &Place) -> u64
+    ensures { result ≡ without_embryo place.now embryos }
+{
+    match place {
+        Place::Backlog if embryos < u64::MAX => embryos.saturating_sub(1),
+        _ => embryos,
     }
 }

@@ -42,6 +42,8 @@ pub struct Files {
     pub(crate) bound: u64,
     pub(crate) next: u64,
     pub(crate) names: Names,
+    /// How many places in backlogs there are. It counts no further than it can get.
+    pub(crate) embryos: u64,
 }
 
 impl Model for Files {
@@ -57,7 +59,7 @@ impl Model for Files {
 
     ghost view = { λ a. record { files = a.rows.files; counts = a.rows.counts; marks = record { colors = colors_in a.epoch a.rows.marks; bound = a.bound }; next = a.next } };
 
-    ghost invariant = { λ a. AreFiled a.rows a.waiting.items (vec_capacity a.waiting) a.names a.next a.epoch a.grey.items (vec_capacity a.grey) };
+    ghost invariant = { λ a. AreFiled a.rows a.waiting.items (vec_capacity a.waiting) a.names a.next a.epoch a.grey.items (vec_capacity a.grey) a.embryos };
 }
 
 impl Files {
@@ -75,6 +77,7 @@ impl Files {
             bound: 0,
             next: 1,
             names: Names::new(alloc),
+            embryos: 0,
         }
     }
 

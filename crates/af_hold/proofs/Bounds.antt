@@ -88,7 +88,7 @@ charge-most u (m ∷ q) = omega (arith, by (nat_eq u m.user), charge-most u q, s
   by false = omega arith
 
 -- A file is in flight at most as often as there are queue places.
-inflight-total : (w : World) (f : ℕ) → inflight w f ≤ total w
+pub inflight-total : (w : World) (f : ℕ) → inflight w f ≤ total w
 inflight-total w f = total-below (λ x. count_in f (carried (queue_of x))) (λ x. sum_by (λ m. length m.attached) (queue_of x)) w.files w.files (λ i x is. (x, is, carried-most f (queue_of x)))
 
 -- A user is charged for at most as many queue places as there are.

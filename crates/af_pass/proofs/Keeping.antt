@@ -26,7 +26,7 @@ use Rattle.af_pass.proofs.Marked.{bound_blackened, bound_shaded, grey_blackened,
 use Rattle.af_pass.proofs.Moving.{counted_moves, marking_moves, since_moves, sweeping_moves}
 use Rattle.af_pass.proofs.Shaded.{all_marked, itself_marked, stays_grey_all}
 use Rattle.af_pass.proofs.Shading.{scan_counted, scan_marking, shade_counted, shade_marking, skip_counted, skip_marking, sweep_counted, visit_counted, visit_marking}
-use Rattle.af_pass.proofs.Sweeping.{counted_begin, marking_begin, moves_sweep, none_left, reclaimed_all, since_begin, sweeping_begin, sweeping_marked, sweeping_sweep}
+use Rattle.af_pass.proofs.Sweeping.{counted_begin, marking_begin, moves_sweep, none_left, reclaimed_all, reclaimed_none, since_begin, sweeping_begin, sweeping_marked, sweeping_sweep}
 
 -- Marking goes on in one stage only.
 pub marking_only : (s : Stage) → is_marking s ≡ true → s ≡ Marking
@@ -287,16 +287,31 @@ module _ {w begun : World} where
       let p = in_sweeping e k in
       p.sweeping.unmarked x (p.running.since.old x l low) l unmarked
 
-  -- Where all are swept in a settled world, no garbage of the begin is live, and the sockets of it were counted.
-  pub kept_over : (m : Marked) (c : Progress) → c.stage ≡ Sweeping → IsSettled w → ((f : ℕ) → c.swept ≤ f → f < m.bound → is_live w f ≡ false) → IsKept w begun m c → ((f : ℕ) → Garbage begun f → ¬ (IsLive w f)) × IsGarbageCount begun c.reclaimed
+  -- Where no garbage of the begin is live, the sockets of it were counted.
+  pub counted_all : {m : Marked} {c : Progress} → is_running c.stage ≡ true → ((f : ℕ) → Garbage begun f → ¬ (IsLive w f)) → IsKept w begun m c → IsGarbageCount begun c.reclaimed
+  counted_all {m = m} {c = c} t none k = by c.stage refl k.stage where
+    by : (s : Stage) → c.stage ≡ s → IsStage s w begun m c → IsGarbageCount begun c.reclaimed
+    by Resting e p = absurd (false≢true (sym (ap is_running e) ∙ t))
+    by Marking e p = subst (IsGarbageCount begun) (sym p.none_reclaimed) (reclaimed_none none (is_marked m) (is_grey m) (below c.visited) p.marking)
+    by Sweeping e p = reclaimed_all none (is_marked m) (below c.swept) c.reclaimed p.sweeping
+
+  -- Where a table holds each live file, no garbage of the begin is live.
+  pub none_tabled : {m : Marked} {c : Progress} → is_running c.stage ≡ true → ((f : ℕ) → IsLive w f → InTable w f) → IsKept w begun m c → (f : ℕ) → Garbage begun f → ¬ (IsLive w f)
+  none_tabled {m = m} {c = c} t tabled k f g l = by c.stage t k.stage where
+    by : (s : Stage) → is_running s ≡ true → IsStage s w begun m c → ⊥
+    by Resting e p = false≢true e
+    by Marking e p = p.running.since.stray.tables f g (tabled f l)
+    by Sweeping e p = p.running.since.stray.tables f g (tabled f l)
+
+  -- Where all are swept in a settled world, no garbage of the begin is live.
+  pub kept_over : (m : Marked) (c : Progress) → c.stage ≡ Sweeping → IsSettled w → ((f : ℕ) → c.swept ≤ f → f < m.bound → is_live w f ≡ false) → IsKept w begun m c → (f : ℕ) → Garbage begun f → ¬ (IsLive w f)
   kept_over m c e settled none k =
       let p = in_sweeping e k in
       let r = p.running in
-      let all : (f : ℕ) → IsLive w f → f < m.bound → below c.swept f ≡ true = λ f l b. elim (cases_lt f c.swept) [
+      none_left m.bound r.since (is_marked m) (below c.swept) c.reclaimed p.sweeping settled (λ f l b. elim (cases_lt f c.swept) [
         | inl d ↦ lt-ltb f c.swept d
         | inr d ↦ absurd (false≢true (sym (none f d b) ∙ l))
-      ] in
-      (none_left m.bound r.since (is_marked m) (below c.swept) c.reclaimed p.sweeping settled all, reclaimed_all m.bound r.since (is_marked m) (below c.swept) c.reclaimed p.sweeping settled all)
+      ])
 
 module _ (w begun : World) (m : Marked) (c : Progress) (x : ℕ) (l : IsLive w x) (t : ¬ (InTable w x)) (hs : (q : ℕ) → ¬ (Holds w q x)) (bare : held_by w x ≡ []) where
   -- With x forgotten the pass runs in the world without x.

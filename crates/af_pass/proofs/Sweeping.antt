@@ -144,15 +144,25 @@ module _ {begun now : World} (bound : ℕ) (s : IsSince begun now bound) (marked
   pub none_left : (f : ℕ) → Garbage begun f → ¬ (IsLive now f)
   none_left f g l = settled f (Goes f l (s.stray.tables f g) (λ q h. absurd (i.empty q f (all q (holder_live now q f h) (s.below q (s.stray.queues q f h g).0)) h g)))
 
-  -- Where all are swept, the sockets that were counted are the garbage of the begin.
-  pub reclaimed_all : IsGarbageCount begun reclaimed
-  reclaimed_all =
-      let none : left_count begun now marked ≡ 0 = count_same begun.files (λ e. is_socket e.1 && (is_live now e.0 && not (marked e.0))) (λ _. false) each ∙ count_none (map.entries begun.files) in
-      let n : reclaimed + left_count begun now marked ≡ reclaimed = omega (arith, none) in
+-- no garbage of the begin is live
+module _ {begun now : World} (none : (f : ℕ) → Garbage begun f → ¬ (IsLive now f)) where
+  -- Where sweeping goes on, the sockets that were counted are the garbage of the begin.
+  pub reclaimed_all : (marked swept : ℕ → Bool) (reclaimed : ℕ) → IsSweeping begun now marked swept reclaimed → IsGarbageCount begun reclaimed
+  reclaimed_all marked swept reclaimed i =
+      let none_left : left_count begun now marked ≡ 0 = count_same begun.files (λ e. is_socket e.1 && (is_live now e.0 && not (marked e.0))) (λ _. false) each ∙ count_none (map.entries begun.files) in
+      let n : reclaimed + left_count begun now marked ≡ reclaimed = omega (arith, none_left) in
       subst (IsGarbageCount begun) n i.counted where
         each : (k : ℕ) (v : File) → map.get begun.files k ≡ Some v → (is_socket v && (is_live now k && not (marked k))) ≡ false
         each k v is = by (is_live now k) refl (marked k) refl where
           by : (l : Bool) → is_live now k ≡ l → (m : Bool) → marked k ≡ m → (is_socket v && (is_live now k && not (marked k))) ≡ false
           by false e m d = ap (λ b. is_socket v && (b && not (marked k))) e ∙ and-false (is_socket v)
           by true e true d = ap (λ b. is_socket v && (b && not (marked k))) e ∙ ap (λ b. is_socket v && not b) d ∙ and-false (is_socket v)
-          by true e false d = absurd (none_left k (i.unmarked k (ap is_some is) e d) e)
+          by true e false d = absurd (none k (i.unmarked k (ap is_some is) e d) e)
+
+  -- Where marking goes on, there was none.
+  pub reclaimed_none : (marked grey visited : ℕ → Bool) → IsMarking begun now marked grey visited → IsGarbageCount begun 0
+  reclaimed_none marked grey visited i = (
+    λ _. false,
+    λ f. (λ e. absurd (false≢true e), λ g. absurd (none f g (i.live f g))),
+    sym ((λ j. count_by (λ e. and-false (is_socket e.1) j) (map.entries begun.files)) ∙ count_none (map.entries begun.files)),
+  )

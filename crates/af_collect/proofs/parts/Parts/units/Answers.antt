@@ -1,6 +1,7 @@
 use Rattle.std.proofs.Common.{◌+◌, add-zero, arith, refl, subst, sym, ◌∙◌}
 use Rattle.af_base.specs.Reached.{IsGarbageCount}
 use Rattle.af_pass.specs.Purged.{ArePurged}
+use Rattle.af_pass.proofs.Keeping.{counted_all, none_tabled}
 use Rattle.af_pass.proofs.Purging.{purged_join, purged_more, purged_none}
 use Rattle.af_collect.proofs.parts.Parts.units.Goals as goal
 
@@ -55,3 +56,15 @@ returns-then-not-unit-clause-purged c =
 pub returns-then-not-unit-clause-counted : goal.returns-then-not-unit-clause-counted
 returns-then-not-unit-clause-counted c = λ _.
     subst (λ s. IsGarbageCount s.value.world c.unit.new.self.progress.reclaimed) c.loop.invariant.begun (c.unit.ensures.counted c.if-not-unit.true)
+
+-- Where nothing is in flight nothing is purged.
+pub returns-then-is_calm-clause-purged : goal.returns-then-is_calm-clause-purged
+returns-then-is_calm-clause-purged c = purged_none c.args.self.now.places.world c.args.budget c.requires.sound.settled
+
+-- A table holds each file, so no garbage of the begin is live.
+pub returns-then-is_calm-clause-gone : goal.returns-then-is_calm-clause-gone
+returns-then-is_calm-clause-gone c = λ _. none_tabled c.requires.running (c.is_calm.ensures c.if-is_calm.true) c.requires.kept
+
+-- And its sockets were counted.
+pub returns-then-is_calm-clause-counted : goal.returns-then-is_calm-clause-counted
+returns-then-is_calm-clause-counted c = λ _. counted_all c.requires.running (none_tabled c.requires.running (c.is_calm.ensures c.if-is_calm.true) c.requires.kept) c.requires.kept

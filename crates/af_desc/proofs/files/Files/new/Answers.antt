@@ -10,6 +10,7 @@ use Rattle.af_mark.specs.Marked.{is_grey_color}
 use Rattle.af_mark.specs.declared.mark.Mark.{Mark}
 use Rattle.af_mark.proofs.Colors.{upto_none}
 use Rattle.af_order.proofs.Parts.{part_none}
+use Rattle.af_desc.proofs.Embryos.{embryos-empty}
 use Rattle.af_desc.proofs.Naming.{named-none-yet}
 use Rattle.af_desc.proofs.files.Files.new.Goals as goal
 
@@ -30,6 +31,7 @@ invariant_of-result c =
         just-empty is_grey_color (colors_in 0 m) _ (part_none (color_in 0) m markless) c.new-3.ensures.items,
         omega (arith, ap map.len markless ∙ map.len-empty nat_cmp Mark),
       );
+      backlogged = embryos-empty c.new.result.counts 0 uncounted;
     }
 
 pub returns : goal.returns
