@@ -17,6 +17,14 @@ impl Holdings {
         self.files.unmark();
     }
 
+    /// A pass is over: no file is marked.
+    pub(crate) fn rest(&mut self)
+        ensures known { (f : ℕ) → knows self.new.marks f ≡ knows self.old.marks f }
+        ensures rest { self.new ≡ record self.old { marks = self.new.marks } }
+    {
+        self.files.rest();
+    }
+
     /// A file is marked, and is to be scanned, if it was born before the pass and is not marked.
     #[inline(always)]
     pub(crate) fn shade(&mut self, file: &FileRef)

@@ -42,6 +42,7 @@ impl Store {
             return None;
         }
         self.parts.progress.stage = Stage::Resting;
+        self.parts.places.rest();
         Some(self.parts.progress.reclaimed)
     }
 
@@ -56,6 +57,7 @@ impl Store {
         self.parts.begin();
         while !self.parts.units(MAX_BUDGET) {}
         self.parts.progress.stage = Stage::Resting;
+        self.parts.places.rest();
         self.parts.progress.reclaimed
     }
 

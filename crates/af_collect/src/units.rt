@@ -82,6 +82,10 @@ impl Parts {
         ensures gone { result ≡ false → (f : ℕ) → Garbage self.old.begun.value.world f → ¬ (IsLive self.new.places.world f) }
         ensures counted { result ≡ false → IsGarbageCount self.old.begun.value.world self.new.progress.reclaimed }
     {
+        // Where all are marked no garbage of the begin is live.
+        if self.places.files().are_marked() {
+            return false;
+        }
         if self.is_marking() && self.mark_on() {
             return true;
         }

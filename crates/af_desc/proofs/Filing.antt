@@ -12,22 +12,23 @@ use Rattle.af_ledger.specs.Kept.{AreWaiting}
 use Rattle.af_ledger.specs.declared.count.Count.{Count}
 use Rattle.af_listen.specs.Named.{Named}
 use Rattle.af_mark.specs.Grey.{AreListed, colors_in, unmarked}
-use Rattle.af_mark.specs.Marked.{is_grey_color}
+use Rattle.af_mark.specs.Marked.{is_grey_color, white_count}
 use Rattle.af_mark.specs.declared.color.Color.TheVariants.{White}
 use Rattle.af_mark.specs.declared.mark.Mark.{Mark}
 use Rattle.af_mark.proofs.Colors.{color_after, color_white, color_without}
 use Rattle.af_mark.proofs.Listed.{listed-born, listed-gone, listed-same}
 use Rattle.af_order.proofs.Values.{gone_few}
 use Rattle.std.specs.Option.{option_map_or}
-use Rattle.af_desc.specs.Filed.{AreEmbryos, AreFiled, AreNamed, Filed, entered, name_of, without}
+use Rattle.af_desc.specs.Filed.{AreEmbryos, AreFiled, AreNamed, AreWhite, Filed, entered, name_of, without}
 use Rattle.af_desc.specs.Rowed.{Rowed, with_row, without_row}
 use Rattle.af_desc.proofs.Begun.{begun-made, begun-removed}
 use Rattle.af_desc.proofs.Embryos.{embryos-entered, embryos-removed}
 use Rattle.af_desc.proofs.Naming.{named-changed, named-new}
+use Rattle.af_desc.proofs.Whites.{white-entered}
 
-module _ {embryos : ℕ} (old new : Rowed) (ws : List ℕ) (room : ℕ) (names : Named) (next epoch : ℕ) (grey : List ℕ) (most : ℕ) (h : AreFiled old ws room names next epoch grey most embryos) where
+module _ {embryos bound white : ℕ} (old new : Rowed) (ws : List ℕ) (room : ℕ) (names : Named) (next epoch : ℕ) (grey : List ℕ) (most : ℕ) (h : AreFiled old ws room names next epoch grey most embryos bound white) where
   -- More room changes nothing.
-  pub filed-reserved : (vs : List ℕ) (space : ℕ) (gs : List ℕ) (wide : ℕ) → new ≡ record old { room = new.room } → vs ≡ ws → room ≤ space → gs ≡ grey → most ≤ wide → AreFiled new vs space names next epoch gs wide embryos
+  pub filed-reserved : (vs : List ℕ) (space : ℕ) (gs : List ℕ) (wide : ℕ) → new ≡ record old { room = new.room } → vs ≡ ws → room ≤ space → gs ≡ grey → most ≤ wide → AreFiled new vs space names next epoch gs wide embryos bound white
   filed-reserved vs space gs wide is waiting more greys wider = let low = h.above in let fits = h.fits in record {
     above = omega (arith, low, ap (λ r. r.last) is);
     begins = ap (λ r. map.contains_key r.files 0) is ∙ h.begins;
@@ -36,35 +37,41 @@ module _ {embryos : ℕ} (old new : Rowed) (ws : List ℕ) (room : ℕ) (names :
     fits = omega (arith, fits, more, ap (λ r. map.len r.counts) is);
     listed = listed-same old.marks new.marks epoch grey most h.listed gs wide (ap (λ r. r.marks) is) greys wider;
     backlogged = subst (λ m. AreEmbryos m embryos) (sym (ap (λ r. r.counts) is)) h.backlogged;
+    whites = subst (λ m. AreWhite m epoch bound next white) (sym (ap (λ r. r.marks) is)) h.whites;
   }
 
-  -- Other marks of the same files, and the list of those that are grey then.
-  pub filed-marked : (m : Map Mark) (gs : List ℕ) (wide : ℕ) → new ≡ record old { marks = m } → AreListed m epoch gs wide → AreFiled new ws room names next epoch gs wide embryos
-  filed-marked m gs wide is listed = subst (λ r. AreFiled r ws room names next epoch gs wide embryos) (sym is) (record { above = h.above; begins = h.begins; named = h.named; waits = h.waits; fits = h.fits; listed = listed; backlogged = h.backlogged })
+  -- Other marks of the same files, in another pass.
+  pub filed-renewed : (m : Map Mark) (e b : ℕ) (gs : List ℕ) (wide : ℕ) → new ≡ record old { marks = m } → AreListed m e gs wide → (n : ℕ) → AreWhite m e b next n → AreFiled new ws room names next e gs wide embryos b n
+  filed-renewed m e b gs wide is listed n whites =
+      subst (λ r. AreFiled r ws room names next e gs wide embryos b n) (sym is) (record { above = h.above; begins = h.begins; named = h.named; waits = h.waits; fits = h.fits; listed = listed; backlogged = h.backlogged; whites = whites })
+
+  -- Other marks of the same files, the list of those that are grey then, and how many are still to be marked.
+  pub filed-marked : (m : Map Mark) (gs : List ℕ) (wide : ℕ) → new ≡ record old { marks = m } → AreListed m epoch gs wide → (n : ℕ) → AreWhite m epoch bound next n → AreFiled new ws room names next epoch gs wide embryos bound n
+  filed-marked m gs wide is listed n whites = filed-renewed m epoch bound gs wide is listed n whites
 
   -- Other files of the same numbers, with the names that are theirs.
-  pub filed-named : (fs : Map File) (left : Named) → new ≡ record old { files = fs } → map.contains_key fs 0 ≡ false → AreNamed left fs → AreFiled new ws room left next epoch grey most embryos
-  filed-named fs left is begins named = subst (λ r. AreFiled r ws room left next epoch grey most embryos) (sym is) (record { above = h.above; begins = begins; named = named; waits = h.waits; fits = h.fits; listed = h.listed; backlogged = h.backlogged })
+  pub filed-named : (fs : Map File) (left : Named) → new ≡ record old { files = fs } → map.contains_key fs 0 ≡ false → AreNamed left fs → AreFiled new ws room left next epoch grey most embryos bound white
+  filed-named fs left is begins named = subst (λ r. AreFiled r ws room left next epoch grey most embryos bound white) (sym is) (record { above = h.above; begins = begins; named = named; waits = h.waits; fits = h.fits; listed = h.listed; backlogged = h.backlogged; whites = h.whites })
 
   -- A socket changes, but for its name.
-  pub socket_changed : (f : ℕ) (g : Socket → Socket) → ((s : Socket) → (g s).name ≡ s.name) → new ≡ record old { files = change_socket_at g old.files f } → AreFiled new ws room names next epoch grey most embryos
+  pub socket_changed : (f : ℕ) (g : Socket → Socket) → ((s : Socket) → (g s).name ≡ s.name) → new ≡ record old { files = change_socket_at g old.files f } → AreFiled new ws room names next epoch grey most embryos bound white
   socket_changed f g same is = filed-named (change_socket_at g old.files f) names is (changed-live (file_with g) old.files f 0 ∙ h.begins) (named-changed names old.files f g same h.named)
 
   -- Or nothing does, where memory is refused.
-  pub socket_either : {A B : Type 0} (r : Result A B) (f : ℕ) (g : Socket → Socket) → ((s : Socket) → (g s).name ≡ s.name) → OnOk r (new ≡ record old { files = change_socket_at g old.files f }) → OnErr r (new ≡ old) → AreFiled new ws room names next epoch grey most embryos
+  pub socket_either : {A B : Type 0} (r : Result A B) (f : ℕ) (g : Socket → Socket) → ((s : Socket) → (g s).name ≡ s.name) → OnOk r (new ≡ record old { files = change_socket_at g old.files f }) → OnErr r (new ≡ old) → AreFiled new ws room names next epoch grey most embryos bound white
   socket_either (Ok a) f g same ok err = socket_changed f g same ok
-  socket_either (Err b) f g same ok err = subst (λ r. AreFiled r ws room names next epoch grey most embryos) (sym err) h
+  socket_either (Err b) f g same ok err = subst (λ r. AreFiled r ws room names next epoch grey most embryos bound white) (sym err) h
 
   -- Other counts of the same files, and the list of those that wait then.
-  pub filed-counted : (m : Map Count) (vs : List ℕ) (space : ℕ) → new ≡ record old { counts = m } → AreWaiting m vs → map.len new.counts ≡ map.len old.counts → room ≤ space → (n : ℕ) → AreEmbryos m n → AreFiled new vs space names next epoch grey most n
+  pub filed-counted : (m : Map Count) (vs : List ℕ) (space : ℕ) → new ≡ record old { counts = m } → AreWaiting m vs → map.len new.counts ≡ map.len old.counts → room ≤ space → (n : ℕ) → AreEmbryos m n → AreFiled new vs space names next epoch grey most n bound white
   filed-counted m vs space is waits many more n counted =
       let fits = h.fits in
       let few : map.len m ≤ space = omega (arith, fits, many, more, ap (λ r. map.len r.counts) is) in
-      subst (λ r. AreFiled r vs space names next epoch grey most n) (sym is) (record { above = h.above; begins = h.begins; named = h.named; waits = waits; fits = few; listed = h.listed; backlogged = counted })
+      subst (λ r. AreFiled r vs space names next epoch grey most n bound white) (sym is) (record { above = h.above; begins = h.begins; named = h.named; waits = waits; fits = few; listed = h.listed; backlogged = counted; whites = h.whites })
 
   -- A file more, without a name, which waits.
   pub filed-entered : (x : File) (vs : List ℕ) (space : ℕ) → new ≡ with_row next x new.room old → map.contains_key old.files next ≡ false → name_of x ≡ None → AreWaiting new.counts vs → map.len new.counts ≤ space
-      → map.contains_key old.marks next ≡ false → map.len new.marks ≤ most → AreFiled new vs space names (next + 1) epoch grey most embryos
+      → map.contains_key old.marks next ≡ false → map.len new.marks ≤ most → AreFiled new vs space names (next + 1) epoch grey most embryos bound white
   filed-entered x vs space is stranger nameless waits fits unmarked few = let low = h.above in record {
     above = omega (arith, ap (λ r. r.last) is);
     begins = ap (λ r. map.contains_key r.files 0) is ∙ begun-made old.files next x (omega (arith, low)) h.begins;
@@ -73,19 +80,22 @@ module _ {embryos : ℕ} (old new : Rowed) (ws : List ℕ) (room : ℕ) (names :
     fits = fits;
     listed = listed-born old.marks new.marks epoch grey most h.listed next most (ap (λ r. r.marks) is) unmarked few;
     backlogged = subst (λ m. AreEmbryos m embryos) (sym (ap (λ r. r.counts) is)) (embryos-entered old.counts next embryos h.backlogged);
+    whites = white-entered old.marks new.marks epoch bound next white h.whites (ap (λ r. r.marks) is);
   }
 
   -- A file less that was not grey, with the names that are left, and those that wait without it.
   pub filed-removed : (k : ℕ) (left : Named) (vs : List ℕ) (space : ℕ) → new ≡ without_row k new.room old → AreNamed left (map.remove old.files k) → ((f : ℕ) → count_in f vs ≡ count_in f ws - one f k) → room ≤ space
-      → option_map_or is_grey_color (map.get (colors_in epoch old.marks) k) false ≡ false → AreFiled new vs space left next epoch grey most embryos
-  filed-removed k left vs space is named off more white = let low = h.above in let fits = h.fits in record {
+      → option_map_or is_grey_color (map.get (colors_in epoch old.marks) k) false ≡ false → (n : ℕ) → white_count (record { colors = map.remove (colors_in epoch old.marks) k; bound = bound }) ≤ n
+      → AreFiled new vs space left next epoch grey most embryos bound n
+  filed-removed k left vs space is named off more spared n few = let low = h.above in let fits = h.fits in record {
     above = omega (arith, low, ap (λ r. r.last) is);
     begins = ap (λ r. map.contains_key r.files 0) is ∙ begun-removed old.files k h.begins;
     named = subst (AreNamed left) (sym (ap (λ r. r.files) is)) named;
     waits = just-gone (λ c. nat_eq (places_in c) 0) old.counts new.counts ws k h.waits vs (ap (λ r. r.counts) is) off;
     fits = omega (arith, fits, more, ap (λ r. map.len r.counts) is, gone_few old.counts k);
-    listed = listed-gone old.marks new.marks epoch grey most h.listed k (ap (λ r. r.marks) is) white;
+    listed = listed-gone old.marks new.marks epoch grey most h.listed k (ap (λ r. r.marks) is) spared;
     backlogged = subst (λ m. AreEmbryos m embryos) (sym (ap (λ r. r.counts) is)) (embryos-removed old.counts k embryos h.backlogged);
+    whites = (h.whites.0, subst (λ cs. white_count (record { colors = cs; bound = bound }) ≤ n) (sym (color_without epoch old.marks new.marks k (ap (λ r. r.marks) is))) few);
   }
 
 -- What is seen of rows in a pass, with this bound and this next number.

@@ -4,3 +4,4 @@ pub mod Naming
 pub mod Filing
 pub mod Rowed
 pub mod Washing
+pub mod Whites

@@ -18,8 +18,9 @@ use Rattle.af_ledger.specs.declared.count.Count.{Count}
 use Rattle.af_ledger.specs.declared.place.Place.{Place}
 use Rattle.af_ledger.specs.declared.place.Place.TheVariants.{Backlog, Queue, Table}
 use Rattle.af_listen.specs.Named.{Named}
-use Rattle.af_mark.specs.Grey.{AreListed}
-use Rattle.af_mark.specs.Marked.{Marked, born, forgotten}
+use Rattle.af_mark.specs.Grey.{AreListed, colors_in}
+use Rattle.af_mark.specs.declared.mark.Mark.{Mark}
+use Rattle.af_mark.specs.Marked.{Marked, born, forgotten, white_count}
 use Rattle.af_queue.specs.Received.{Received, received}
 use Rattle.af_desc.specs.Rowed.{Rowed}
 
@@ -114,8 +115,12 @@ without_embryo Table n = n
 without_embryo (Queue u) n = n
 without_embryo Backlog n = if nat_lt n (2 ^ 64 - 1) then n - 1 else n
 
--- The rows fit all else: numbers begin at 1 and rise, the names are those of the files, the lists have just the files that wait and those that are grey, with room for all, and the embryos are counted (this project's own).
-pub record AreFiled (rows : Rowed) (waiting : List ℕ) (room : ℕ) (names : Named) (next epoch : ℕ) (grey : List ℕ) (most embryos : ℕ) : Type 0 where
+-- No more files than this number were born before the pass, and are not marked: they are those below the bound, which is no later than the next number (this project's own).
+abbrev pub AreWhite : Map Mark → ℕ → ℕ → ℕ → ℕ → Type 0
+AreWhite marks epoch bound next n = (bound ≤ next) × (white_count (record { colors = colors_in epoch marks; bound = bound }) ≤ n)
+
+-- The rows fit all else: numbers begin at 1 and rise, the names are those of the files, the lists have just the files that wait and those that are grey, with room for all, and the embryos, and the files that a pass has still to mark, are counted (this project's own).
+pub record AreFiled (rows : Rowed) (waiting : List ℕ) (room : ℕ) (names : Named) (next epoch : ℕ) (grey : List ℕ) (most embryos bound white : ℕ) : Type 0 where
   pub above : rows.last < next
   pub begins : map.contains_key rows.files 0 ≡ false
   pub named : AreNamed names rows.files
@@ -123,3 +128,4 @@ pub record AreFiled (rows : Rowed) (waiting : List ℕ) (room : ℕ) (names : Na
   pub fits : map.len rows.counts ≤ room
   pub listed : AreListed rows.marks epoch grey most
   pub backlogged : AreEmbryos rows.counts embryos
+  pub whites : AreWhite rows.marks epoch bound next white

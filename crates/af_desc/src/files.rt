@@ -44,6 +44,8 @@ pub struct Files {
     pub(crate) names: Names,
     /// How many places in backlogs there are. It counts no further than it can get.
     pub(crate) embryos: u64,
+    /// How many files the pass has still to mark.
+    pub(crate) white: usize,
 }
 
 impl Model for Files {
@@ -59,7 +61,7 @@ impl Model for Files {
 
     ghost view = { λ a. record { files = a.rows.files; counts = a.rows.counts; marks = record { colors = colors_in a.epoch a.rows.marks; bound = a.bound }; next = a.next } };
 
-    ghost invariant = { λ a. AreFiled a.rows a.waiting.items (vec_capacity a.waiting) a.names a.next a.epoch a.grey.items (vec_capacity a.grey) a.embryos };
+    ghost invariant = { λ a. AreFiled a.rows a.waiting.items (vec_capacity a.waiting) a.names a.next a.epoch a.grey.items (vec_capacity a.grey) a.embryos a.bound a.white };
 }
 
 impl Files {
@@ -78,6 +80,7 @@ impl Files {
             next: 1,
             names: Names::new(alloc),
             embryos: 0,
+            white: 0,
         }
     }
 
@@ -226,7 +229,9 @@ impl Files {
         ensures value { result ≡ socket_in self.old.files file.now }
         ensures gone { self.new ≡ without file.now self.old }
     {
+        let white = self.white_without(file);
         let gone = self.rows.remove(file);
+        self.white = white;
         unlist(&mut self.waiting, file.ino(), 0);
         let endpoint = gone?;
         if let Some(name) = endpoint.name() {

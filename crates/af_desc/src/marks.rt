@@ -1,11 +1,11 @@
 //! Which files a pass of the collector has marked, and which of these it has still to scan. No call
 //! takes memory.
-ghost use Rattle.std.specs.Prelude.{◌≡◌, ℕ, ◌-◌, Some, IsTrue, IfSome, IfNone, cond, false, nat_eq, option_map, true, vec_capacity};
+ghost use Rattle.std.specs.Prelude.{◌≡◌, ◌<◌, ◌≤◌, ℕ, ◌-◌, Some, IsTrue, IfSome, IfNone, cond, false, nat_eq, option_map, true, vec_capacity};
 ghost use Rattle.std.specs.FinMap as map;
 ghost use Rattle.af_base.specs.Counts.{count_in};
 ghost use Rattle.af_base.specs.Changes.{change_at};
 ghost use Rattle.af_mark.specs.Grey.{AreUpTo, colors_in, placed};
-ghost use Rattle.af_mark.specs.Marked.{blackened, is_grey, is_marked, is_white, knows, shaded};
+ghost use Rattle.af_mark.specs.Marked.{blackened, forgotten, is_grey, is_marked, is_white, knows, shaded, white_count};
 ghost use Rattle.af_mark.specs.declared.color.Color.TheVariants.{Black, Grey, White};
 
 use crate::files::Files;
@@ -26,6 +26,39 @@ impl Files {
         self.epoch = next_epoch(&mut self.rows, self.epoch);
         self.grey.clear();
         self.bound = self.next;
+        self.white = self.rows.len();
+    }
+
+    /// A pass is over: no file is marked, and none is still to be.
+    pub fn rest(&mut self)
+        ensures unmarked { (f : ℕ) → is_marked self.new.marks f ≡ false }
+        ensures known { (f : ℕ) → knows self.new.marks f ≡ knows self.old.marks f }
+        ensures rest { self.new ≡ record self.old { marks = self.new.marks } }
+    {
+        self.epoch = next_epoch(&mut self.rows, self.epoch);
+        self.grey.clear();
+        self.bound = 0;
+        self.white = 0;
+    }
+
+    /// Whether the pass has marked each file that was there when it began, and is still.
+    #[inline(always)]
+    pub fn are_marked(&self) -> bool
+        ensures { result ≡ true → (f : ℕ) → knows self.now.marks f ≡ true → f < self.now.marks.bound → is_marked self.now.marks f ≡ true }
+    {
+        self.white == 0
+    }
+
+    /// How many files the pass has still to mark where this one is gone.
+    #[inline(always)]
+    pub(crate) fn white_without(&self, file: &FileRef) -> usize
+        ensures { white_count (forgotten file.now self.now.marks) ≤ result }
+    {
+        // Where all are marked there is nothing to look up.
+        if self.white > 0 && file.ino().0 < self.bound && self.is_white(file) {
+            return self.white - 1;
+        }
+        self.white
     }
 
     /// The bound of the pass: files from this number on were born since it began.
@@ -48,7 +81,8 @@ impl Files {
     /// A white file is marked, and is to be scanned.
     #[inline(always)]
     fn push_grey(&mut self, file: &FileRef)
-        requires { is_white self.old.marks file.now ≡ true }
+        requires white { is_white self.old.marks file.now ≡ true }
+        requires within { file.now < self.old.marks.bound }
         ensures colors { self.new.marks ≡ record self.old.marks { colors = map.insert self.old.marks.colors file.now Grey } }
         ensures rest { self.new ≡ record self.old { marks = self.new.marks } }
     {
@@ -58,6 +92,7 @@ impl Files {
             at: noted(self.grey.len()),
         };
         self.rows.set_mark(file, mark);
+        self.white -= 1;
         self.grey.push_reserved(file.again());
     }
 

@@ -1,3 +1,4 @@
 -- Lemmas.
 pub mod Colors
 pub mod Listed
+pub mod Whites

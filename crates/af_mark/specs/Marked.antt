@@ -1,6 +1,7 @@
 -- What is known of each file's mark.
 use Rattle.std.specs.Prelude.{ℕ, ◌&&◌, Bool, true, false, not, nat_lt, if◌then◌else◌}
 use Rattle.std.specs.FinMap as map
+use Rattle.std.specs.List.{count_by}
 use Rattle.std.specs.Option.{option_map_or}
 use Rattle.af_base.specs.World.{Map}
 use Rattle.af_mark.specs.declared.color.Color.{Color}
@@ -54,3 +55,11 @@ shaded f m = if nat_lt f m.bound && is_white m f then record m { colors = map.in
 -- f was scanned, where it was grey (this project's own).
 abbrev pub blackened : ℕ → Marked → Marked
 blackened f m = if is_grey m f then record m { colors = map.insert m.colors f Black } else m
+
+-- Whether f, of this colour, was born before the pass and is not marked (this project's own).
+abbrev pub white_at : ℕ → ℕ → Color → Bool
+white_at bound f c = nat_lt f bound && not (is_mark c)
+
+-- How many known files were born before the pass and are not marked (this project's own).
+abbrev pub white_count : Marked → ℕ
+white_count m = count_by (λ e. white_at m.bound e.0 e.1) (map.entries m.colors)

@@ -303,6 +303,18 @@ module _ {w begun : World} where
     by Marking e p = p.running.since.stray.tables f g (tabled f l)
     by Sweeping e p = p.running.since.stray.tables f g (tabled f l)
 
+  -- Where each live file of the begin is marked, no garbage of the begin is live.
+  pub none_marked : {m : Marked} {c : Progress} → is_running c.stage ≡ true → ((f : ℕ) → knows m f ≡ true → f < m.bound → is_marked m f ≡ true) → IsKept w begun m c → (f : ℕ) → Garbage begun f → ¬ (IsLive w f)
+  none_marked {m = m} {c = c} t marked k f g l = by c.stage t k.stage where
+    by : (s : Stage) → is_running s ≡ true → IsStage s w begun m c → ⊥
+    by Resting e p = false≢true e
+    by Marking e p = false≢true (sym (p.marking.marks.only_reached f g) ∙ marked f (k.known f ∙ l) (p.running.since.below f g.0))
+    by Sweeping e p = false≢true (sym (p.sweeping.only_reached f g) ∙ marked f (k.known f ∙ l) (p.running.since.below f g.0))
+
+  -- A pass is over: of the marks it is only kept which files they know.
+  pub kept_rested : (m n : Marked) (c d : Progress) → d.stage ≡ Resting → ((f : ℕ) → knows n f ≡ knows m f) → IsKept w begun m c → IsKept w begun n d
+  kept_rested m n c d e same k = record { known = known_marks w m n same k.known; stage = subst (λ s. IsStage s w begun n d) (sym e) tt }
+
   -- Where all are swept in a settled world, no garbage of the begin is live.
   pub kept_over : (m : Marked) (c : Progress) → c.stage ≡ Sweeping → IsSettled w → ((f : ℕ) → c.swept ≤ f → f < m.bound → is_live w f ≡ false) → IsKept w begun m c → (f : ℕ) → Garbage begun f → ¬ (IsLive w f)
   kept_over m c e settled none k =

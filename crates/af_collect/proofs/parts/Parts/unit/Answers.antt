@@ -1,6 +1,8 @@
-use Rattle.std.proofs.Common.{◌≡◌, ap, sym, subst, ◌∙◌}
+use Rattle.std.proofs.Common.{◌≡◌, ◌<◌, ℕ, true, ap, sym, subst, ◌∙◌}
 use Rattle.af_base.specs.Reached.{IsGarbageCount}
 use Rattle.af_pass.specs.Purged.{ArePurged}
+use Rattle.af_mark.specs.Marked.{Marked, is_marked, knows}
+use Rattle.af_pass.proofs.Keeping.{counted_all, none_marked}
 use Rattle.af_pass.proofs.Purging.{purged_none}
 use Rattle.af_collect.proofs.parts.Parts.unit.Goals as goal
 use Rattle.af_collect.proofs.parts.Parts.unit.Goals.{else-is_marking-via-then-is_marking+else-mark_on, else-is_marking-via-else-is_marking}
@@ -19,3 +21,15 @@ returns-clause-counted c = λ over.
       | else-is_marking-via-else-is_marking w ↦ ap (λ p. p.begun) w.self-is
     ] in
     subst (λ s. IsGarbageCount s.value.world c.sweep_on.new.self.progress.reclaimed) begun (c.sweep_on.ensures.counted over)
+
+-- Where all are marked nothing is purged.
+pub returns-then-are_marked-clause-purged : goal.returns-then-are_marked-clause-purged
+returns-then-are_marked-clause-purged c = purged_none c.args.self.now.places.world 1 c.requires.sound.settled
+
+-- No garbage of the begin is live.
+pub returns-then-are_marked-clause-gone : goal.returns-then-are_marked-clause-gone
+returns-then-are_marked-clause-gone c = λ _. none_marked c.requires.running (subst (λ (m : Marked). (f : ℕ) → knows m f ≡ true → f < m.bound → is_marked m f ≡ true) c.files.ensures.marks (c.are_marked.ensures c.if-are_marked.true)) c.requires.kept
+
+-- And its sockets were counted.
+pub returns-then-are_marked-clause-counted : goal.returns-then-are_marked-clause-counted
+returns-then-are_marked-clause-counted c = λ _. counted_all c.requires.running (none_marked c.requires.running (subst (λ (m : Marked). (f : ℕ) → knows m f ≡ true → f < m.bound → is_marked m f ≡ true) c.files.ensures.marks (c.are_marked.ensures c.if-are_marked.true)) c.requires.kept) c.requires.kept

@@ -7,6 +7,7 @@ use Rattle.af_hold.specs.Stored.{Stored}
 use Rattle.af_pass.specs.Keeping.{is_running}
 use Rattle.af_pass.specs.Purged.{ArePurged}
 use Rattle.af_pass.proofs.Purging.{purged_join, purged_none, purged_whole}
+use Rattle.af_collect.specs.Collecting.{Collects}
 use Rattle.af_collect.specs.Shown.{Shown}
 use Rattle.af_collect.proofs.store.Store.collect.Goals as goal
 
@@ -53,4 +54,5 @@ returns-clause-collects c =
     let gone = subst (λ v. (f : ℕ) → Garbage v f → ¬ (IsLive d f)) i.begun (u.gone over) in
     let count = subst (λ v. IsGarbageCount v c.units.new.self.progress.reclaimed) i.begun (u.counted over) in
     let all = purged_join w b d i.purged.0 MAX_BUDGET i.purged.1 (subst (λ v. ArePurged v b d MAX_BUDGET) i.begun u.purged) in
-    record { test = count.0; is_garbage = count.1; purged = purged_whole d (i.purged.0 + MAX_BUDGET) count.0 all u.sound.settled gone count.1; counted = count }
+    let done : Collects w c.units.new.self.progress.reclaimed d = record { test = count.0; is_garbage = count.1; purged = purged_whole d (i.purged.0 + MAX_BUDGET) count.0 all u.sound.settled gone count.1; counted = count } in
+    subst (Collects w c.units.new.self.progress.reclaimed) (sym (ap (λ (s : Stored). s.world) c.rest.ensures.rest)) done

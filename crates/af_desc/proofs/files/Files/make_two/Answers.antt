@@ -55,7 +55,7 @@ invariant_of-self-2 c =
     (omega (arith, fits, same, first.ensures.len, first.ensures.capacity, second.ensures.len, second.ensures.capacity)) second.ensures.unmarked (omega (arith, marks, many, first.ensures.more, second.ensures.more)) in
     let all = filed-named second.new.rows c.point.new.self _ _ _ _ _ _ _ two second.new.rows.files a.names c.point.ensures two.begins two.named in
     let low = all.above in
-    record { above = omega (arith, low); begins = all.begins; named = all.named; waits = all.waits; fits = all.fits; listed = all.listed; backlogged = all.backlogged }
+    record { above = omega (arith, low); begins = all.begins; named = all.named; waits = all.waits; fits = all.fits; listed = all.listed; backlogged = all.backlogged; whites = (let bound = all.whites.0 in omega (arith, bound), all.whites.1) }
 
 pub returns-clause-ok : goal.returns-clause-ok
 returns-clause-ok c =

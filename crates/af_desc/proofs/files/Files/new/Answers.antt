@@ -12,6 +12,7 @@ use Rattle.af_mark.proofs.Colors.{upto_none}
 use Rattle.af_order.proofs.Parts.{part_none}
 use Rattle.af_desc.proofs.Embryos.{embryos-empty}
 use Rattle.af_desc.proofs.Naming.{named-none-yet}
+use Rattle.af_desc.proofs.Whites.{white-none}
 use Rattle.af_desc.proofs.files.Files.new.Goals as goal
 
 pub invariant_of-result : goal.invariant_of-result
@@ -32,6 +33,7 @@ invariant_of-result c =
         omega (arith, ap map.len markless ∙ map.len-empty nat_cmp Mark),
       );
       backlogged = embryos-empty c.new.result.counts 0 uncounted;
+      whites = white-none m 0 1;
     }
 
 pub returns : goal.returns
