@@ -1,6 +1,8 @@
 //! What a pass of the collector marks. No call takes memory.
-ghost use Rattle.std.specs.Prelude.{◌≡◌, ℕ, false};
-ghost use Rattle.af_mark.specs.Marked.{blackened, is_marked, knows, shaded};
+ghost use Rattle.std.specs.Prelude.{◌≡◌, ℕ, Bool, [], false, true};
+ghost use Rattle.af_base.specs.Counts.{tabled};
+ghost use Rattle.af_base.specs.Places.{held_by};
+ghost use Rattle.af_mark.specs.Marked.{blackened, is_marked, knows, shaded, visited};
 
 use crate::holdings::Holdings;
 use af_base::names::FileRef;
@@ -31,6 +33,15 @@ impl Holdings {
         ensures { self.new ≡ record self.old { marks = shaded file.now self.old.marks } }
     {
         self.files.shade(file);
+    }
+
+    /// A file is marked, if a table holds it, it was born before the pass and is not marked. It is to be
+    /// scanned if it holds something.
+    #[inline(always)]
+    pub(crate) fn visit(&mut self, file: &FileRef)
+        ensures { (bare : Bool) × (bare ≡ true → held_by self.old.world file.now ≡ []) × (self.new ≡ record self.old { marks = visited bare (tabled self.old.world file.now) file.now self.old.marks }) }
+    {
+        self.files.visit(file);
     }
 
     /// A file that was to be scanned is so no more, and stays marked.

@@ -5,9 +5,9 @@ ghost use Rattle.af_base.specs.Reached.{Garbage, IsGarbageCount};
 ghost use Rattle.af_base.specs.Whole.{IsSound};
 ghost use Rattle.af_mark.specs.Marked.{is_grey};
 ghost use Rattle.af_pass.specs.declared.Stage.TheVariants as stage;
-ghost use Rattle.af_pass.specs.Keeping.{is_running, shaded_tabled};
+ghost use Rattle.af_pass.specs.Keeping.{is_running};
 ghost use Rattle.af_pass.specs.Purged.{ArePurged};
-ghost use Rattle.af_collect.specs.Shown.{AreKept, with_marks};
+ghost use Rattle.af_collect.specs.Shown.{AreKept};
 
 use crate::parts::Parts;
 use crate::shading::shade_held;
@@ -67,6 +67,7 @@ impl Parts {
     }
 
     /// One unit, unless the pass is over.
+    #[inline(always)]
     fn unit(&mut self) -> bool
         requires kept { AreKept self.old }
         requires running { is_running self.old.progress.stage ≡ true }
@@ -93,6 +94,7 @@ impl Parts {
     }
 
     /// One unit of marking, unless nothing is left to visit or scan: then sweeping begins.
+    #[inline(always)]
     fn mark_on(&mut self) -> bool
         requires kept { AreKept self.old }
         requires marking { self.old.progress.stage ≡ stage.Marking }
@@ -163,6 +165,7 @@ impl Parts {
     }
 
     /// A file is visited: it is marked if a table holds it.
+    #[inline(always)]
     fn visit(&mut self, file: &FileRef)
         requires kept { AreKept self.old }
         requires marking { self.old.progress.stage ≡ stage.Marking }
@@ -176,21 +179,13 @@ impl Parts {
     {
         // Files' numbers are below the next one: that is what a whole world says of them.
         self.places.is_whole();
-        self.shade_tabled(file);
+        self.places.visit(file);
         self.progress.visited = file.ino().0 + 1;
         self.progress.looked += 1;
     }
 
-    /// A file is marked if a table holds it.
-    fn shade_tabled(&mut self, file: &FileRef)
-        ensures { self.new ≡ with_marks (shaded_tabled self.old.places.world file.now self.old.places.marks) self.old }
-    {
-        if self.places.tabled(file) > 0 {
-            self.places.shade(file);
-        }
-    }
-
     /// A marked file is scanned: all that it holds is marked.
+    #[inline(never)]
     fn scan(&mut self, file: &FileRef)
         requires kept { AreKept self.old }
         requires marking { self.old.progress.stage ≡ stage.Marking }

@@ -3,7 +3,8 @@ use Rattle.std.proofs.Common.{◌≡◌, ◌<◌, ℕ, ◌+◌, ◌-◌, true, r
 use Rattle.std.specs.FinMap as map
 use Rattle.af_base.specs.World.{Map}
 use Rattle.af_mark.specs.Grey.{color_in, colors_in, unmarked}
-use Rattle.af_mark.specs.Marked.{Marked, is_grey, is_white, white_count}
+use Rattle.af_mark.specs.Marked.{Marked, is_grey, is_mark, is_white, white_count}
+use Rattle.af_mark.specs.declared.color.Color.{Color}
 use Rattle.af_mark.specs.declared.color.Color.TheVariants.{Black, Grey, White}
 use Rattle.af_mark.specs.declared.mark.Mark.{Mark}
 use Rattle.af_mark.proofs.Colors.{color_after, color_white}
@@ -29,14 +30,18 @@ module _ (m n : Map Mark) (epoch bound next white : ℕ) (h : AreWhite m epoch b
 
   module _ (f : ℕ) (x : Mark) (is : n ≡ map.insert m f x) where
     -- A white file is marked: one less is still to be.
-    pub white-shaded : color_in epoch x ≡ Grey → is_white old f ≡ true → f < bound → (0 < white) × AreWhite n epoch bound next (white - 1)
-    white-shaded grey was low =
+    pub white-marked : (c : Color) → is_mark c ≡ true → color_in epoch x ≡ c → is_white old f ≡ true → f < bound → (0 < white) × AreWhite n epoch bound next (white - 1)
+    white-marked c marks shows was low =
         let few = h.1 in
-        let same = ap (λ cs. white_count (record { colors = cs; bound = bound })) (color_after epoch m n f x Grey is grey) in
-        let put = whites-put old f Grey in
+        let same = ap (λ cs. white_count (record { colors = cs; bound = bound })) (color_after epoch m n f x c is shows) in
+        let put = whites-put old f c in
         let one = adds-white old f was low in
-        let none = white-mark bound f Grey refl in
+        let none = white-mark bound f c marks in
         (omega (arith, few, put, one, none), (h.0, omega (arith, few, put, one, none, same)))
+
+    -- So it is where it is to be scanned.
+    pub white-shaded : color_in epoch x ≡ Grey → is_white old f ≡ true → f < bound → (0 < white) × AreWhite n epoch bound next (white - 1)
+    white-shaded = white-marked Grey refl
 
     -- A grey file is scanned: as many are still to be marked.
     pub white-scanned : color_in epoch x ≡ Black → is_grey old f ≡ true → AreWhite n epoch bound next white

@@ -1,12 +1,15 @@
 -- One row for each file, and the messages of all, seen as three maps.
-use Rattle.std.specs.Prelude.{◌≡◌, ℕ, List, Option, Some, option_map}
+use Rattle.std.specs.Prelude.{◌≡◌, ◌&&◌, ℕ, Bool, List, Option, Some, false, nat_lt, not, option_map, if◌then◌else◌}
 use Rattle.std.specs.Option.{option_map_or}
 use Rattle.std.specs.FinMap as map
 use Rattle.slab.specs.Slab.{Slab}
 use Rattle.af_base.specs.World.{AsSocket, File, Map, Message, Plain, Socket}
 use Rattle.af_ledger.specs.Counted.{uncounted}
 use Rattle.af_ledger.specs.declared.count.Count.{Count}
-use Rattle.af_mark.specs.Grey.{unmarked}
+use Rattle.af_ledger.specs.Kept.{count_in_map}
+use Rattle.af_mark.specs.Grey.{color_in, unmarked}
+use Rattle.af_mark.specs.Marked.{is_mark}
+use Rattle.af_mark.specs.declared.color.Color.TheVariants.{Black, Grey}
 use Rattle.af_mark.specs.declared.mark.Mark.{Mark}
 use Rattle.af_order.specs.Parts.{part}
 use Rattle.af_queue.specs.Chains.{messages_of, IsChain}
@@ -56,3 +59,11 @@ marks_of m = part (λ r. r.mark) m
 -- The chain of each row is its file's (this project's own).
 pub record AreChained (s : Slab Node) (m : Map Row) : Type 0 where
   pub each : (f : ℕ) (x : Row) → map.get m f ≡ Some x → IsChain s x.chain f
+
+-- Whether a pass has still to mark the file, and a table holds it (this project's own).
+abbrev pub is_due : ℕ → Rowed → ℕ → Bool
+is_due epoch r f = nat_lt 0 (count_in_map r.counts f).tabled && option_map_or (λ x. not (is_mark (color_in epoch x))) (map.get r.marks f) false
+
+-- The mark of a file that is marked in this pass: it is to be scanned if it holds something (this project's own).
+abbrev pub marking : ℕ → ℕ → Bool → Mark
+marking epoch at bare = record { epoch = epoch; color = if bare then Black else Grey; at = at }

@@ -1,11 +1,13 @@
 //! Which files a pass of the collector has marked, and which of these it has still to scan. No call
 //! takes memory.
-ghost use Rattle.std.specs.Prelude.{◌≡◌, ◌<◌, ◌≤◌, ℕ, ◌-◌, Some, IsTrue, IfSome, IfNone, cond, false, nat_eq, option_map, true, vec_capacity};
+ghost use Rattle.std.specs.Prelude.{◌≡◌, ◌<◌, ◌≤◌, ℕ, ◌-◌, Some, IsTrue, IfSome, IfNone, Bool, [], cond, false, nat_eq, option_map, true, vec_capacity};
 ghost use Rattle.std.specs.FinMap as map;
 ghost use Rattle.af_base.specs.Counts.{count_in};
 ghost use Rattle.af_base.specs.Changes.{change_at};
+ghost use Rattle.af_base.specs.Places.{held_in};
+ghost use Rattle.af_ledger.specs.Kept.{count_in_map};
 ghost use Rattle.af_mark.specs.Grey.{AreUpTo, colors_in, placed};
-ghost use Rattle.af_mark.specs.Marked.{blackened, forgotten, is_grey, is_marked, is_white, knows, shaded, white_count};
+ghost use Rattle.af_mark.specs.Marked.{blackened, forgotten, is_grey, is_marked, is_white, knows, shaded, visited, white_count};
 ghost use Rattle.af_mark.specs.declared.color.Color.TheVariants.{Black, Grey, White};
 
 use crate::files::Files;
@@ -75,6 +77,25 @@ impl Files {
     {
         if file.ino().0 < self.bound && self.is_white(file) {
             self.push_grey(file);
+        }
+    }
+
+    /// A file is marked, if a table holds it, it was born before the pass and is not marked. It is to be
+    /// scanned if it holds something. One look at its row.
+    #[inline(always)]
+    pub fn visit(&mut self, file: &FileRef)
+        ensures { (bare : Bool) × (bare ≡ true → held_in self.old.files file.now ≡ []) × (self.new ≡ record self.old { marks = visited bare (count_in_map self.old.counts file.now).tabled file.now self.old.marks }) }
+    {
+        if file.ino().0 >= self.bound {
+            return;
+        }
+        let at = noted(self.grey.len());
+        let Some(bare) = self.rows.visit(file, self.epoch, at) else {
+            return;
+        };
+        self.white -= 1;
+        if !bare {
+            self.grey.push_reserved(file.again());
         }
     }
 

@@ -1,7 +1,7 @@
 //! What is kept of one file.
-ghost use Rattle.std.specs.Prelude.{◌≡◌, ◌<◌, ◌∷◌, [], IfSome, IfNone, IfErr, IfOk, OnOk, OnErr, drop, length};
+ghost use Rattle.std.specs.Prelude.{◌≡◌, ◌<◌, ◌∷◌, [], IfSome, IfNone, IfErr, IfOk, OnOk, OnErr, drop, length, true};
 ghost use Rattle.af_base.specs.Changes.{file_with, pushed};
-ghost use Rattle.af_base.specs.Places.{queue_of};
+ghost use Rattle.af_base.specs.Places.{contents, queue_of};
 ghost use Rattle.af_base.specs.Refusals.{socket_of};
 ghost use Rattle.af_base.specs.Whole.{IsMessageWithin};
 ghost use Rattle.af_queue.specs.Chains.{IsChain, SameElsewhere};
@@ -31,6 +31,20 @@ pub struct Row {
 }
 
 impl Row {
+    /// Whether it has nothing to receive, and no name: then it holds nothing.
+    #[inline(always)]
+    pub fn is_bare(&self, _nodes: &Slab<Node>) -> bool
+        ensures { result ≡ true → contents (file_in _nodes.now self.now) ≡ [] }
+    {
+        if self.chain.len > 0 {
+            return false;
+        }
+        match &self.endpoint {
+            Some(endpoint) => endpoint.is_nameless(),
+            None => true,
+        }
+    }
+
     /// One message more, last in its queue, which is not full; a plain file has none, and the message
     /// goes. Where memory is refused nothing has changed, and the message comes back.
     #[inline(always)]

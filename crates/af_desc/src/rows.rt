@@ -1,14 +1,14 @@
 //! One row for each file.
-ghost use Rattle.std.specs.Prelude.{◌≡◌, ℕ, ◌+◌, ◌≤◌, ◌<◌, ◌∷◌, [], false, None, IsTrue, IsOk, IfSome, IfNone, IfErr, IfOk, OnOk, OnErr, drop, is_none, length, nat_eq, option_copied};
+ghost use Rattle.std.specs.Prelude.{◌≡◌, ℕ, ◌+◌, ◌≤◌, ◌<◌, ◌∷◌, [], false, None, IsTrue, IsOk, IfSome, IfNone, IfErr, IfOk, OnOk, OnErr, drop, is_none, is_some, length, nat_eq, option_copied, true};
 ghost use Rattle.std.specs.FinMap as map;
 ghost use Rattle.af_base.specs.Changes.{bound, change_socket_at, connected, dequeued, listening, pushed, queued};
-ghost use Rattle.af_base.specs.Places.{backlog_in, queue_in};
+ghost use Rattle.af_base.specs.Places.{backlog_in, held_in, queue_in};
 ghost use Rattle.af_base.specs.Refusals.{room_of};
 ghost use Rattle.af_base.specs.Whole.{IsMessageWithin};
 ghost use Rattle.af_ledger.specs.Counted.{fewer, more, places_in, IsCountable, IsCounted};
 ghost use Rattle.af_ledger.specs.Kept.{count_in_map};
 ghost use Rattle.af_desc.specs.Filed.{hung_up, popped, received_from, received_of, socket_in};
-ghost use Rattle.af_desc.specs.Rowed.{file_of, with_row, without_row};
+ghost use Rattle.af_desc.specs.Rowed.{file_of, is_due, marking, with_row, without_row};
 
 use crate::row::Row;
 use crate::socket::{Endpoint, Socket};
@@ -16,7 +16,7 @@ use af_base::items::Items;
 use af_base::limits::MAX_MESSAGES;
 use af_base::names::{FileRef, Ino};
 use af_ledger::{Count, Place};
-use af_mark::Mark;
+use af_mark::{Color, Mark};
 use af_order::Keyed;
 use af_queue::{Chain, Msg, Node, Queue, Taken};
 use slab::Slab;
@@ -358,6 +358,30 @@ impl Rows {
     {
         let row = self.rows.get_mut(file).unwrap();
         row.mark = mark;
+    }
+
+    /// A file that a table holds is marked in this pass, if it was not: it is black if it holds nothing,
+    /// and else grey, with this place in the list. Whether it holds nothing; nothing where it was not
+    /// marked now. It takes no memory.
+    #[inline(always)]
+    #[tactic(auto, using(crate::proofs::Rowed::chains, af_order::proofs::Parts::parts, af_order::proofs::Values::lent))]
+    pub fn visit(&mut self, file: &FileRef, epoch: u64, at: u32) -> Option<bool>
+        ensures due { is_some result ≡ is_due epoch self.old file.now }
+        ensures marked { IfSome result (λ bare. self.new ≡ record self.old { marks = map.insert self.old.marks file.now (marking epoch at bare) }) }
+        ensures len { map.len self.new.marks ≡ map.len self.old.marks }
+        ensures bare { IfSome result (λ bare. bare ≡ true → held_in self.old.files file.now ≡ []) }
+        ensures none { IfNone result (self.new ≡ self.old) }
+    {
+        let Some(row) = self.rows.get_mut(file) else {
+            return None;
+        };
+        if row.count.tabled == 0 || !matches!(row.mark.color_in(epoch), Color::White) {
+            return None;
+        }
+        let bare = row.is_bare(&self.nodes);
+        let color = if bare { Color::Black } else { Color::Grey };
+        row.mark = Mark { epoch, color, at };
+        Some(bare)
     }
 
     /// Nothing at run time: it says that what is kept of a file comes and goes together.

@@ -1,5 +1,5 @@
 //! A socket: what it is but for its queue, and the whole, lent for reading.
-ghost use Rattle.std.specs.Prelude.{◌≡◌, ℕ, ◌∷◌, [], ◌<◌, OnOk, OnErr, IfSome, IfNone, None, false, is_none, length, drop, option_copied};
+ghost use Rattle.std.specs.Prelude.{◌≡◌, ℕ, ◌∷◌, [], ◌<◌, OnOk, OnErr, IfSome, IfNone, None, false, true, is_none, length, drop, option_copied};
 ghost use Rattle.af_base.specs.Changes.{bound, connected, dequeued, listening, queued};
 ghost use Rattle.af_base.specs.Refusals.{room_of};
 ghost use Rattle.af_base.specs.Steps.{connected_socket, idle_socket};
@@ -75,6 +75,14 @@ impl Endpoint {
     {
         // The view says it: it is enough to look at a field.
         let _kind = &self.kind;
+    }
+
+    /// Whether it has no name: then nobody waits for it.
+    #[inline(always)]
+    pub fn is_nameless(&self) -> bool
+        ensures { result ≡ true → self.now.backlog ≡ [] }
+    {
+        self.bound.is_none()
     }
 
     /// Its type.

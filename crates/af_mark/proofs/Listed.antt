@@ -83,6 +83,14 @@ module _ (m n : Map Mark) (e : ℕ) (fs : List ℕ) (room : ℕ) (h : AreListed 
           (subst (AreUpTo e) (sym is) (upto_put e m f x (omega (arith, now)) h.0), pushed.0, omega (arith, fits, many)),
         )
 
+    -- A white file is black at once, and never in the list.
+    pub listed-bare : x.color ≡ Black → grey_by e m f ≡ false → AreListed n e fs room
+    listed-bare black white = let fits = h.2 in (
+      subst (AreUpTo e) (sym is) (upto_put e m f x (omega (arith, now)) h.0),
+      just-same is_grey_color (colors_in e m) (colors_in e n) fs f h.1 Black (color_after e m n f x Black is (color_now e x now ∙ black)) (sym white),
+      omega (arith, fits, many),
+    )
+
     -- A file is black, and in the list no more.
     pub listed-black : (gs : List ℕ) (most : ℕ) → x.color ≡ Black → ((g : ℕ) → count_in g gs ≡ count_in g fs - one g f) → room ≤ most → AreListed n e gs most
     listed-black gs most black less more = let fits = h.2 in (

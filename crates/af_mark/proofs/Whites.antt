@@ -1,5 +1,5 @@
 -- How many of the known files below the bound are not marked, as marks come, change and go.
-use Rattle.std.proofs.Common.{◌≡◌, ◌≤◌, ◌<◌, ℕ, ◌+◌, Bool, true, false, not, ◌&&◌, T, List, [], ◌∷◌, refl, sym, ap, ◌∙◌, subst, cond, nat_eq, arith, Ordering, is_eq}
+use Rattle.std.proofs.Common.{◌≡◌, ◌≤◌, ◌<◌, ℕ, ◌+◌, Bool, true, false, not, ◌&&◌, T, List, [], ◌∷◌, refl, sym, ap, ◌∙◌, subst, cond, arith, Ordering, is_eq}
 use Rattle.std.specs.Prelude.{Option, Some, None, is_some, nat_lt}
 use Rattle.std.specs.List.{sum_by}
 use Rattle.std.specs.Option.{option_map_or}

@@ -52,6 +52,14 @@ forgotten f m = record m { colors = map.remove m.colors f }
 abbrev pub shaded : ℕ → Marked → Marked
 shaded f m = if nat_lt f m.bound && is_white m f then record m { colors = map.insert m.colors f Grey } else m
 
+-- The same, but that f is black at once if it holds nothing: then there is nothing to scan (this project's own).
+abbrev pub marked_once : Bool → ℕ → Marked → Marked
+marked_once bare f m = if nat_lt f m.bound && is_white m f then record m { colors = map.insert m.colors f (if bare then Black else Grey) } else m
+
+-- The same, where so many numbers of tables stand for f (this project's own).
+abbrev pub visited : Bool → ℕ → ℕ → Marked → Marked
+visited bare tabled f m = if nat_lt 0 tabled then marked_once bare f m else m
+
 -- f was scanned, where it was grey (this project's own).
 abbrev pub blackened : ℕ → Marked → Marked
 blackened f m = if is_grey m f then record m { colors = map.insert m.colors f Black } else m

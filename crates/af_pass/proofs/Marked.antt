@@ -3,10 +3,13 @@ use Rattle.std.proofs.Common.{◌≡◌, ◌<◌, ℕ, Bool, true, false, not, �
 use Rattle.std.specs.Prelude.{Option, Some, None, is_some, nat_lt, ◌≤◌}
 use Rattle.std.specs.Cmp.{both_ways, nat_cmp_total, unsigned_tied}
 use Rattle.std.specs.FinMap as map
+use Rattle.std.specs.FinMap.{nat_cmp-IsAntisymmetric}
+use Rattle.std.specs.Ordering.{eq_by_cmp, nat_cmp}
 use Rattle.std.specs.Option.{option_map_or}
 use Rattle.std.proofs.lemmas.Bool.{eq-eqb, eqb-true, false≢true, le-ltb, lt-ltb}
 use Rattle.std.proofs.Math.Bool.{or-false, or-true, and-true, and-false}
 use Rattle.af_base.specs.World.{Map}
+use Rattle.af_base.proofs.Lookups.{insert-here}
 use Rattle.af_base.proofs.Same.{both}
 use Rattle.af_mark.specs.Marked.{blackened, born, forgotten, is_grey, is_grey_color, is_mark, is_marked, is_white, knows, Marked, shaded}
 use Rattle.af_mark.specs.declared.color.Color.{Color}
@@ -158,6 +161,31 @@ module _ (m : Marked) (x : ℕ) where
     by : (b : Bool) → (cond b (put m x Black) m).bound ≡ m.bound
     by true = refl
     by false = refl
+
+  -- A known file that was born before the pass is marked, if it is not white.
+  pub not_white : knows m x ≡ true → x < m.bound → (nat_lt x m.bound && is_white m x) ≡ false → is_marked m x ≡ true
+  not_white known low e = by (is_marked m x) refl where
+    by : (b : Bool) → is_marked m x ≡ b → is_marked m x ≡ true
+    by true d = d
+    by false d = absurd (false≢true (sym e ∙ (λ i. lt-ltb x m.bound low i && (known i && not (d i)))))
+
+  module _ (white : (nat_lt x m.bound && is_white m x) ≡ true) where
+    grey_then : shaded x m ≡ put m x Grey
+    grey_then = ap (λ b. cond b (put m x Grey) m) white
+
+    -- A white file is grey where it is shaded.
+    pub shaded_grey : is_grey (shaded x m) x ≡ true
+    shaded_grey = ap (λ n. is_grey n x) grey_then ∙ ap (λ o. option_map_or is_grey_color o false) (insert-here m.colors x Grey)
+
+    -- And black where it is scanned then.
+    pub shaded_black : blackened x (shaded x m) ≡ put m x Black
+    shaded_black =
+        ap (λ b. cond b (put (shaded x m) x Black) (shaded x m)) shaded_grey ∙ ap (λ n. put n x Black) grey_then
+        ∙ ap (λ cs. record m { colors = cs }) (map.same_map nat_cmp_total nat_cmp-IsAntisymmetric _ _ (λ q.
+        map.get-insert nat_cmp_total (map.insert m.colors x Grey) x Black q ∙ ap (cond (eq_by_cmp nat_cmp q x) (Some Black)) (map.get-insert nat_cmp_total m.colors x Grey q) ∙ each q (eq_by_cmp nat_cmp q x) ∙ sym (map.get-insert nat_cmp_total m.colors x Black q))) where
+          each : (q : ℕ) (b : Bool) → cond b (Some Black) (cond b (Some Grey) (map.get m.colors q)) ≡ cond b (Some Black) (map.get m.colors q)
+          each q true = refl
+          each q false = refl
 
 -- x is forgotten
 module _ (m : Marked) (x : ℕ) where

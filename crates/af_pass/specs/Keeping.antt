@@ -1,7 +1,6 @@
 -- The whole of what is kept: the world, and beside it the marks and how far the pass is.
 use Rattle.std.specs.Prelude.{◌≡◌, ◌≤◌, ◌+◌, ◌&&◌, ℕ, Bool, true, false, not, nat_eq, nat_lt, List, [], ◌∷◌, length, take, if◌then◌else◌}
 use Rattle.af_base.specs.World.{World, IsLive, is_live}
-use Rattle.af_base.specs.Counts.{tabled}
 use Rattle.af_base.specs.Pass.{Idle, Pass, Running}
 use Rattle.af_base.specs.Places.{backlog_at, carried, queue_at}
 use Rattle.af_base.specs.Reached.{Garbage}
@@ -92,10 +91,6 @@ shaded_all (f ∷ fs) m = shaded_all fs (shaded f m)
 -- The same, where marking goes on.
 abbrev pub shaded_in : Stage → List ℕ → Marked → Marked
 shaded_in stage fs m = if is_marking stage then shaded_all fs m else m
-
--- The marks with the file shaded, if a table holds it.
-abbrev pub shaded_tabled : World → ℕ → Marked → Marked
-shaded_tabled w f m = if nat_lt 0 (tabled w f) then shaded f m else m
 
 -- What a file would lose first: what its first message carries, or, where it has none, its first embryo.
 abbrev pub first_held : World → ℕ → List ℕ
