@@ -10,14 +10,16 @@ use Rattle.af_table.specs.Procs.{row_in}
 use Rattle.af_hold.specs.Stored.{Stored}
 use Rattle.af_mark.specs.Marked.{Marked, is_marked}
 use Rattle.af_pass.specs.Keeping.{IsKept, is_marking}
+use Rattle.af_pass.specs.declared.Progress.{Progress}
 use Rattle.af_collect.specs.declared.parts.Parts.{Parts}
 
--- The world, below which number each table has room, the pass that runs, and how many files were looked at since it began (this project's profile).
+-- The world, below which number each table has room, the pass that runs, which files it has marked, and how far it is (this project's profile).
 pub record Shown : Type 0 where
   pub world : World
   pub rows : Map ℕ
   pub pass : Pass
-  pub looked : ℕ
+  pub marks : Marked
+  pub progress : Progress
 
 -- Below which number process p has room: below none, where there is no such process (this project's profile).
 abbrev pub room_at : Shown → ℕ → ℕ

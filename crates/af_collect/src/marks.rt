@@ -1,8 +1,9 @@
 //! What a pass of the collector marks. No call takes memory.
-ghost use Rattle.std.specs.Prelude.{◌≡◌, ℕ, Bool, [], false, true};
+ghost use Rattle.std.specs.Prelude.{◌≡◌, ℕ, [], false, true};
 ghost use Rattle.af_base.specs.Counts.{tabled};
 ghost use Rattle.af_base.specs.Places.{held_by};
 ghost use Rattle.af_mark.specs.Marked.{blackened, is_marked, knows, shaded, visited};
+ghost use Rattle.af_pass.specs.Keeping.{is_due};
 
 use crate::holdings::Holdings;
 use af_base::names::FileRef;
@@ -35,13 +36,16 @@ impl Holdings {
         self.files.shade(file);
     }
 
-    /// A file is marked, if a table holds it, it was born before the pass and is not marked. It is to be
-    /// scanned if it holds something.
+    /// Marks a file if a table holds it, it was there when the pass began, and it is not marked. If it
+    /// holds nothing and may be scanned, it is scanned in the same look at its row; else it is to be
+    /// scanned. Returns whether it was scanned.
     #[inline(always)]
-    pub(crate) fn visit(&mut self, file: &FileRef)
-        ensures { (bare : Bool) × (bare ≡ true → held_by self.old.world file.now ≡ []) × (self.new ≡ record self.old { marks = visited bare (tabled self.old.world file.now) file.now self.old.marks }) }
+    pub(crate) fn visit(&mut self, file: &FileRef, may_scan: bool) -> bool
+        ensures marks { self.new ≡ record self.old { marks = visited result (tabled self.old.world file.now) file.now self.old.marks } }
+        ensures scanned { result ≡ true → (held_by self.old.world file.now ≡ []) × (is_due self.old.world self.old.marks file.now ≡ true) }
+        ensures asked { result ≡ true → may_scan ≡ true }
     {
-        self.files.visit(file);
+        self.files.visit(file, may_scan)
     }
 
     /// A file that was to be scanned is so no more, and stays marked.

@@ -4,7 +4,8 @@ ghost use Rattle.af_base.specs.World.{World};
 ghost use Rattle.af_base.specs.Pass.{Idle, Running, Slices};
 ghost use Rattle.af_base.specs.Unheld.{Settles};
 ghost use Rattle.af_base.specs.Whole.{IsSound};
-ghost use Rattle.af_pass.specs.Keeping.{runs};
+ghost use Rattle.af_mark.specs.Marked.{is_marked};
+ghost use Rattle.af_pass.specs.Keeping.{IsKept, runs};
 ghost use Rattle.af_collect.specs.Collecting.{Collects};
 ghost use Rattle.af_collect.specs.Shown.{slice_reply};
 
@@ -20,11 +21,33 @@ impl Store {
         self.parts.is_running()
     }
 
-    /// A pass begins, over the world as it stands. It costs the same however many files there are.
+    /// Returns how many files the pass has visited, scanned and swept since it began: 0 after a begin,
+    /// and changed by no call but a slice.
+    pub fn looked(&self) -> u64
+        ensures { result ≡ self.now.progress.looked }
+    {
+        self.parts.progress.looked
+    }
+
+    /// Does nothing: it tells the prover what a pass that runs keeps between any two calls, of its
+    /// marks and of how far it is.
+    pub fn lemma_pass(&self)
+        ensures { (begun : World) (spent : ℕ) → self.now.pass ≡ Running begun spent → IsKept self.now.world begun self.now.marks self.now.progress }
+    {
+        // The invariant says it: it is enough to look at a field.
+        let _parts = &self.parts;
+    }
+
+    /// Begins a pass over the world as it stands: no file is marked yet, and none was looked at. It
+    /// costs the same however many files there are.
     pub fn begin(&mut self)
         requires idle { runs self.old.pass ≡ false }
         requires sound { IsSound self.old.world }
-        ensures { self.new ≡ record self.old { pass = Running self.old.world 0; looked = 0 } }
+        ensures world { self.new.world ≡ self.old.world }
+        ensures rows { self.new.rows ≡ self.old.rows }
+        ensures pass { self.new.pass ≡ Running self.old.world 0 }
+        ensures unmarked { (f : ℕ) → is_marked self.new.marks f ≡ false }
+        ensures looked { self.new.progress.looked ≡ 0 }
     {
         self.parts.begin();
     }
@@ -36,7 +59,8 @@ impl Store {
         requires sound { IsSound self.old.world }
         ensures does { (begun : World) (spent pass : ℕ) → self.old.pass ≡ Running begun spent → Slices begun self.old.world spent budget pass (slice_reply pass result) self.new.world self.new.pass }
         ensures sound { IsSound self.new.world }
-        ensures looked { self.new.looked ≤ self.old.looked + budget }
+        ensures looked { self.new.progress.looked ≤ self.old.progress.looked + budget }
+        ensures rises { self.old.progress.looked ≤ self.new.progress.looked }
     {
         if !self.parts.units(budget) {
             return None;
@@ -69,7 +93,7 @@ impl Store {
         ensures sound { IsSound self.new.world }
         ensures rows { self.new.rows ≡ self.old.rows }
         ensures pass { self.new.pass ≡ self.old.pass }
-        ensures looked { self.new.looked ≡ self.old.looked }
+        ensures progress { self.new.progress ≡ record self.old.progress { reclaimed = self.new.progress.reclaimed } }
     {
         // Most steps let nothing go, and then there is nothing to call.
         let Some(_) = self.parts.places.next_waiting() else {

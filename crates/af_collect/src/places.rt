@@ -47,7 +47,7 @@ impl Store {
     #[inline(always)]
     pub fn table_out(&mut self, pid: Pid, fd: Fd)
         requires { is_none (table_at self.old.world pid fd) ≡ false }
-        ensures { self.new ≡ record self.old { world = uninstall self.old.world pid fd } }
+        ensures { self.new ≡ record self.old { world = uninstall self.old.world pid fd; marks = self.new.marks } }
     {
         self.parts.shade_number(pid, fd);
         let places = &mut self.parts.places;
@@ -105,7 +105,7 @@ impl Store {
         requires free { (k : ℕ) × (fds.now ≡ lowest_free k (process_at self.old.world pid)) }
         requires row { All (λ n. n < room_at self.old pid) fds.now }
         ensures taken { IfOk result (λ t. t ≡ received_of (socket_at self.old.world socket.now) max) }
-        ensures world { OnOk result (self.new ≡ record self.old { world = install_all (with_queue self.old.world socket.now (taken_at self.old.world socket.now max).rest) pid (zip fds.now (taken_at self.old.world socket.now max).attached) }) }
+        ensures world { OnOk result (self.new ≡ record self.old { world = install_all (with_queue self.old.world socket.now (taken_at self.old.world socket.now max).rest) pid (zip fds.now (taken_at self.old.world socket.now max).attached); marks = self.new.marks }) }
         ensures err { OnErr result (self.new ≡ self.old) }
     {
         let places = &mut self.parts.places;

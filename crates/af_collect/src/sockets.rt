@@ -26,7 +26,7 @@ impl Store {
     /// error nothing has changed.
     pub fn make_sock(&mut self, kind: SockType) -> Result<FileRef, AllocError>
         requires { is_full self.old.world 1 ≡ false }
-        ensures ok { OnOk result (self.new ≡ record self.old { world = add_file self.old.world (world.AsSocket (idle_socket kind)) }) }
+        ensures ok { OnOk result (self.new ≡ record self.old { world = add_file self.old.world (world.AsSocket (idle_socket kind)); marks = self.new.marks }) }
         ensures ino { IfOk result (λ ino. ino ≡ self.old.world.next_ino) }
         ensures spared { IfOk result (λ ino. Spares self.new.pass ino) }
         ensures err { OnErr result (self.new ≡ self.old) }
@@ -41,7 +41,7 @@ impl Store {
         requires room { is_full self.old.world 1 ≡ false }
         requires socket { is_none (socket_at self.old.world client.now) ≡ false }
         requires idle { IfSome (socket_at self.old.world client.now) (λ s. s.state ≡ State.Idle) }
-        ensures ok { OnOk result (self.new ≡ record self.old { world = with_socket (add_file self.old.world (world.AsSocket (connected_socket kind client.now))) client.now (connected self.old.world.next_ino) }) }
+        ensures ok { OnOk result (self.new ≡ record self.old { world = with_socket (add_file self.old.world (world.AsSocket (connected_socket kind client.now))) client.now (connected self.old.world.next_ino); marks = self.new.marks }) }
         ensures ino { IfOk result (λ ino. ino ≡ self.old.world.next_ino) }
         ensures spared { IfOk result (λ ino. Spares self.new.pass ino) }
         ensures err { OnErr result (self.new ≡ self.old) }
@@ -99,7 +99,7 @@ impl Store {
         requires free { table_at self.old.world pid fd ≡ None }
         requires some { 0 < length (backlog_at self.old.world listener.now) }
         requires spared { Spares self.old.pass listener.now }
-        ensures { (embryo : ℕ) → slice_get (backlog_at self.old.world listener.now) 0 ≡ Some embryo → self.new ≡ record self.old { world = install (with_socket self.old.world listener.now dequeued) pid fd embryo } }
+        ensures { (embryo : ℕ) → slice_get (backlog_at self.old.world listener.now) 0 ≡ Some embryo → self.new ≡ record self.old { world = install (with_socket self.old.world listener.now dequeued) pid fd embryo; marks = self.new.marks } }
     {
         self.parts.shade_embryo(listener);
         let places = &mut self.parts.places;

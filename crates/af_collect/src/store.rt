@@ -43,7 +43,7 @@ impl Model for Store {
 
     ghost coded = { Prim.hlevel (codes, map.code) };
 
-    ghost view = { λ s. record { world = s.parts.places.world; rows = s.parts.places.rows; pass = pass_of s.parts.progress.stage s.parts.begun.value.world s.parts.progress.looked; looked = s.parts.progress.looked } };
+    ghost view = { λ s. record { world = s.parts.places.world; rows = s.parts.places.rows; pass = pass_of s.parts.progress.stage s.parts.begun.value.world s.parts.progress.looked; marks = s.parts.places.marks; progress = s.parts.progress } };
 
     ghost invariant = { λ s. AreKept s.parts };
 }
@@ -78,6 +78,8 @@ impl Store {
         requires room { is_crowded self.old.world ≡ false }
         ensures ok { OnOk result (self.new.world ≡ spawned self.old.world uid limit privileged) }
         ensures pass { self.new.pass ≡ self.old.pass }
+        ensures progress { self.new.progress ≡ self.old.progress }
+        ensures marks { self.new.marks ≡ self.old.marks }
         ensures pid { IfOk result (λ pid. pid ≡ self.old.world.next_pid) }
         ensures err { OnErr result (self.new ≡ self.old) }
     {
@@ -103,6 +105,8 @@ impl Store {
     pub fn room_for(&mut self, pid: Pid, count: usize) -> Result<(), AllocError>
         ensures world { self.new.world ≡ self.old.world }
         ensures pass { self.new.pass ≡ self.old.pass }
+        ensures progress { self.new.progress ≡ self.old.progress }
+        ensures marks { self.new.marks ≡ self.old.marks }
         ensures row { OnOk result (0 < count → (process_at self.old.world pid).limit ≤ room_at self.new pid) }
         ensures none { count ≡ 0 → IsOk result }
         ensures ready { (process_at self.old.world pid).limit ≤ room_at self.old pid → IsOk result }
@@ -115,7 +119,7 @@ impl Store {
     /// an error nothing has changed.
     pub fn make_plain(&mut self) -> Result<FileRef, AllocError>
         requires { is_full self.old.world 1 ≡ false }
-        ensures ok { OnOk result (self.new ≡ record self.old { world = add_file self.old.world Plain }) }
+        ensures ok { OnOk result (self.new ≡ record self.old { world = add_file self.old.world Plain; marks = self.new.marks }) }
         ensures ino { IfOk result (λ ino. ino ≡ self.old.world.next_ino) }
         ensures spared { IfOk result (λ ino. Spares self.new.pass ino) }
         ensures err { OnErr result (self.new ≡ self.old) }
@@ -128,7 +132,7 @@ impl Store {
     /// error, none, and nothing has changed.
     pub fn make_two(&mut self, kind: SockType) -> Result<(FileRef, FileRef), AllocError>
         requires { is_full self.old.world 2 ≡ false }
-        ensures ok { OnOk result (self.new ≡ record self.old { world = with_pair self.old.world kind }) }
+        ensures ok { OnOk result (self.new ≡ record self.old { world = with_pair self.old.world kind; marks = self.new.marks }) }
         ensures inos { IfOk result (λ both. (both.0 ≡ self.old.world.next_ino) × (both.1 ≡ self.old.world.next_ino + 1)) }
         ensures spared { IfOk result (λ both. Spares self.new.pass both.0 × Spares self.new.pass both.1) }
         ensures err { OnErr result (self.new ≡ self.old) }
@@ -144,6 +148,8 @@ impl Store {
         requires room { is_crowded self.old.world ≡ false }
         ensures ok { OnOk result (self.new.world ≡ add_process self.old.world (process_at self.old.world pid)) }
         ensures pass { self.new.pass ≡ self.old.pass }
+        ensures progress { self.new.progress ≡ self.old.progress }
+        ensures marks { self.new.marks ≡ self.old.marks }
         ensures pid { IfOk result (λ child. child ≡ self.old.world.next_pid) }
         ensures err { OnErr result (self.new ≡ self.old) }
     {
@@ -157,6 +163,7 @@ impl Store {
     pub fn remove_process(&mut self, pid: Pid)
         ensures world { self.new.world ≡ remove_process self.old.world pid }
         ensures pass { self.new.pass ≡ self.old.pass }
+        ensures progress { self.new.progress ≡ self.old.progress }
     {
         self.parts.shade_table(pid);
         let places = &mut self.parts.places;

@@ -3,7 +3,7 @@ ghost use Rattle.std.specs.Prelude.{◌≡◌, ◌<◌, ◌≤◌, ◌+◌, ℕ,
 ghost use Rattle.af_base.specs.World.{IsLive, is_live};
 ghost use Rattle.af_base.specs.Reached.{Garbage, IsGarbageCount};
 ghost use Rattle.af_base.specs.Whole.{IsSound};
-ghost use Rattle.af_mark.specs.Marked.{is_grey};
+ghost use Rattle.af_mark.specs.Marked.{is_grey, is_marked};
 ghost use Rattle.af_pass.specs.declared.Stage.TheVariants as stage;
 ghost use Rattle.af_pass.specs.Keeping.{is_running};
 ghost use Rattle.af_pass.specs.Purged.{ArePurged};
@@ -16,7 +16,8 @@ use af_pass::{Progress, Stage};
 use std::snapshot::Snapshot;
 
 impl Parts {
-    /// A pass begins, over the files that are there. It costs the same however many there are.
+    /// Begins a pass over the files that are there: none is marked. It costs the same however many
+    /// there are.
     pub fn begin(&mut self)
         requires kept { AreKept self.old }
         requires sound { IsSound self.old.places.world }
@@ -25,6 +26,7 @@ impl Parts {
         ensures begun { self.new.begun.value ≡ self.old.places }
         ensures stage { self.new.progress.stage ≡ stage.Marking }
         ensures looked { self.new.progress.looked ≡ 0 }
+        ensures unmarked { (f : ℕ) → is_marked self.new.places.marks f ≡ false }
     {
         self.begun = Snapshot::of(&self.places);
         self.places.unmark();
@@ -37,8 +39,9 @@ impl Parts {
         };
     }
 
-    /// As many units as the budget has. Whether the pass was over before: then no garbage of its begin
-    /// is left, and the number of reclaimed sockets is the number of those that were garbage.
+    /// Does as many units as the budget has. Returns whether the pass was over before: then no garbage
+    /// of its begin is left, and the number of reclaimed sockets is the number of those that were
+    /// garbage.
     pub fn units(&mut self, budget: u32) -> bool
         requires kept { AreKept self.old }
         requires running { is_running self.old.progress.stage ≡ true }
@@ -50,6 +53,7 @@ impl Parts {
         ensures begun { self.new.begun ≡ self.old.begun }
         ensures purged { ArePurged self.old.begun.value.world self.old.places.world self.new.places.world budget }
         ensures looked { self.new.progress.looked ≤ self.old.progress.looked + budget }
+        ensures rises { self.old.progress.looked ≤ self.new.progress.looked }
         ensures working { result ≡ false → self.new.progress.looked ≡ self.old.progress.looked + budget }
         ensures gone { result ≡ true → (f : ℕ) → Garbage self.old.begun.value.world f → ¬ (IsLive self.new.places.world f) }
         ensures counted { result ≡ true → IsGarbageCount self.old.begun.value.world self.new.progress.reclaimed }
@@ -58,69 +62,80 @@ impl Parts {
         if self.places.is_calm() {
             return true;
         }
-        for _ in 0..budget {
-            if !self.unit() {
+        let mut left = budget;
+        while left > 0 {
+            let units = self.unit(left);
+            if units == 0 {
                 return true;
             }
+            left -= units;
         }
         false
     }
 
-    /// One unit, unless the pass is over.
+    /// Does one unit, or two where a file is visited and scanned in one look and two are left. Returns
+    /// how many, 0 where the pass is over.
     #[inline(always)]
-    fn unit(&mut self) -> bool
+    fn unit(&mut self, left: u32) -> u32
         requires kept { AreKept self.old }
         requires running { is_running self.old.progress.stage ≡ true }
         requires sound { IsSound self.old.places.world }
+        requires some { 0 < left }
         ensures kept { AreKept self.new }
         ensures running { is_running self.new.progress.stage ≡ true }
         ensures sound { IsSound self.new.places.world }
         ensures rows { self.new.places.rows ≡ self.old.places.rows }
         ensures begun { self.new.begun ≡ self.old.begun }
-        ensures purged { ArePurged self.old.begun.value.world self.old.places.world self.new.places.world 1 }
-        ensures went { result ≡ true → self.new.progress.looked ≡ self.old.progress.looked + 1 }
-        ensures still { result ≡ false → self.new.progress.looked ≡ self.old.progress.looked }
-        ensures gone { result ≡ false → (f : ℕ) → Garbage self.old.begun.value.world f → ¬ (IsLive self.new.places.world f) }
-        ensures counted { result ≡ false → IsGarbageCount self.old.begun.value.world self.new.progress.reclaimed }
+        ensures few { result ≤ left }
+        ensures purged { ArePurged self.old.begun.value.world self.old.places.world self.new.places.world result }
+        ensures looked { self.new.progress.looked ≡ self.old.progress.looked + result }
+        ensures gone { result ≡ 0 → (f : ℕ) → Garbage self.old.begun.value.world f → ¬ (IsLive self.new.places.world f) }
+        ensures counted { result ≡ 0 → IsGarbageCount self.old.begun.value.world self.new.progress.reclaimed }
     {
         // Where all are marked no garbage of the begin is live.
         if self.places.files().are_marked() {
-            return false;
+            return 0;
         }
-        if self.is_marking() && self.mark_on() {
-            return true;
+        if self.is_marking() {
+            let units = self.mark_on(left);
+            if units > 0 {
+                return units;
+            }
         }
         self.sweep_on()
     }
 
-    /// One unit of marking, unless nothing is left to visit or scan: then sweeping begins.
+    /// Does one unit of marking, or two. Returns how many, 0 where nothing is left to visit or scan:
+    /// then sweeping begins.
     #[inline(always)]
-    fn mark_on(&mut self) -> bool
+    fn mark_on(&mut self, left: u32) -> u32
         requires kept { AreKept self.old }
         requires marking { self.old.progress.stage ≡ stage.Marking }
         requires sound { IsSound self.old.places.world }
+        requires some { 0 < left }
         ensures kept { AreKept self.new }
         ensures places { self.new.places ≡ record self.old.places { marks = self.new.places.marks } }
         ensures begun { self.new.begun ≡ self.old.begun }
-        ensures went { result ≡ true → (self.new.progress.looked ≡ self.old.progress.looked + 1) × (self.new.progress.stage ≡ stage.Marking) }
-        ensures over { result ≡ false → (self.new.progress.looked ≡ self.old.progress.looked) × (self.new.progress.stage ≡ stage.Sweeping) }
+        ensures few { result ≤ left }
+        ensures looked { self.new.progress.looked ≡ self.old.progress.looked + result }
+        ensures went { 0 < result → self.new.progress.stage ≡ stage.Marking }
+        ensures over { result ≡ 0 → self.new.progress.stage ≡ stage.Sweeping }
     {
         if let Some((file, at)) = self.next_from(self.progress.visited) {
             self.near = at;
-            self.visit(&file);
-            return true;
+            return self.visit(&file, left);
         }
         if let Some(file) = self.places.files().next_grey() {
             self.scan(&file);
-            return true;
+            return 1;
         }
         self.progress.visited = self.places.files().bound().0;
         self.progress.stage = Stage::Sweeping;
-        false
+        0
     }
 
-    /// One unit of sweeping, unless all is swept.
-    fn sweep_on(&mut self) -> bool
+    /// Does one unit of sweeping. Returns how many it did, 0 where all is swept.
+    fn sweep_on(&mut self) -> u32
         requires kept { AreKept self.old }
         requires sweeping { self.old.progress.stage ≡ stage.Sweeping }
         requires sound { IsSound self.old.places.world }
@@ -129,18 +144,18 @@ impl Parts {
         ensures rows { self.new.places.rows ≡ self.old.places.rows }
         ensures begun { self.new.begun ≡ self.old.begun }
         ensures stage { self.new.progress.stage ≡ stage.Sweeping }
-        ensures purged { ArePurged self.old.begun.value.world self.old.places.world self.new.places.world 1 }
-        ensures went { result ≡ true → self.new.progress.looked ≡ self.old.progress.looked + 1 }
-        ensures still { result ≡ false → self.new.progress.looked ≡ self.old.progress.looked }
-        ensures gone { result ≡ false → (f : ℕ) → Garbage self.old.begun.value.world f → ¬ (IsLive self.new.places.world f) }
-        ensures counted { result ≡ false → IsGarbageCount self.old.begun.value.world self.new.progress.reclaimed }
+        ensures few { result ≤ 1 }
+        ensures purged { ArePurged self.old.begun.value.world self.old.places.world self.new.places.world result }
+        ensures looked { self.new.progress.looked ≡ self.old.progress.looked + result }
+        ensures gone { result ≡ 0 → (f : ℕ) → Garbage self.old.begun.value.world f → ¬ (IsLive self.new.places.world f) }
+        ensures counted { result ≡ 0 → IsGarbageCount self.old.begun.value.world self.new.progress.reclaimed }
     {
         let Some((file, at)) = self.next_from(self.progress.swept) else {
-            return false;
+            return 0;
         };
         self.near = at;
         self.sweep(&file);
-        true
+        1
     }
 
     /// The live file with the least number from this one on, of those that the pass goes over, and
@@ -164,24 +179,29 @@ impl Parts {
         Some((file, at))
     }
 
-    /// A file is visited: it is marked if a table holds it.
+    /// Visits a file: marks it if a table holds it, and scans it in the same look if it holds nothing
+    /// and two units are left. Returns how many units that was.
     #[inline(always)]
-    fn visit(&mut self, file: &FileRef)
+    fn visit(&mut self, file: &FileRef, left: u32) -> u32
         requires kept { AreKept self.old }
         requires marking { self.old.progress.stage ≡ stage.Marking }
+        requires some { 0 < left }
         requires live { IsLive self.old.places.world file.now }
         requires within { (self.old.progress.visited ≤ file.now) × (file.now < self.old.places.marks.bound) }
         requires least { (g : ℕ) → self.old.progress.visited ≤ g → g < file.now → is_live self.old.places.world g ≡ false }
         ensures kept { AreKept self.new }
         ensures places { self.new.places ≡ record self.old.places { marks = self.new.places.marks } }
         ensures begun { self.new.begun ≡ self.old.begun }
-        ensures progress { self.new.progress ≡ record self.old.progress { visited = file.now + 1; looked = self.old.progress.looked + 1 } }
+        ensures units { (0 < result) × (result ≤ left) }
+        ensures progress { self.new.progress ≡ record self.old.progress { visited = file.now + 1; looked = self.old.progress.looked + result } }
     {
         // Files' numbers are below the next one: that is what a whole world says of them.
         self.places.is_whole();
-        self.places.visit(file);
+        let scanned = self.places.visit(file, left > 1);
+        let units = if scanned { 2 } else { 1 };
         self.progress.visited = file.ino().0 + 1;
-        self.progress.looked += 1;
+        self.progress.looked += u64::from(units);
+        units
     }
 
     /// A marked file is scanned: all that it holds is marked.

@@ -12,6 +12,7 @@ impl Store {
     pub fn holdings(&self) -> &Holdings
         ensures world { result.now.world ≡ self.now.world }
         ensures rows { result.now.rows ≡ self.now.rows }
+        ensures marks { result.now.marks ≡ self.now.marks }
     {
         &self.parts.places
     }

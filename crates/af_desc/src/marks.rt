@@ -80,23 +80,29 @@ impl Files {
         }
     }
 
-    /// A file is marked, if a table holds it, it was born before the pass and is not marked. It is to be
-    /// scanned if it holds something. One look at its row.
+    /// Marks a file if a table holds it, it was there when the pass began, and it is not marked. If it
+    /// holds nothing and may be scanned, it is scanned in the same look at its row; else it is to be
+    /// scanned. Returns whether it was scanned.
     #[inline(always)]
-    pub fn visit(&mut self, file: &FileRef)
-        ensures { (bare : Bool) × (bare ≡ true → held_in self.old.files file.now ≡ []) × (self.new ≡ record self.old { marks = visited bare (count_in_map self.old.counts file.now).tabled file.now self.old.marks }) }
+    pub fn visit(&mut self, file: &FileRef, may_scan: bool) -> bool
+        ensures marks { self.new ≡ record self.old { marks = visited result (count_in_map self.old.counts file.now).tabled file.now self.old.marks } }
+        ensures bare { result ≡ true → held_in self.old.files file.now ≡ [] }
+        ensures tabled { result ≡ true → 0 < (count_in_map self.old.counts file.now).tabled }
+        ensures white { result ≡ true → (file.now < self.old.marks.bound) × (is_white self.old.marks file.now ≡ true) }
+        ensures asked { result ≡ true → may_scan ≡ true }
     {
         if file.ino().0 >= self.bound {
-            return;
+            return false;
         }
         let at = noted(self.grey.len());
-        let Some(bare) = self.rows.visit(file, self.epoch, at) else {
-            return;
+        let Some(scanned) = self.rows.visit(file, self.epoch, at, may_scan) else {
+            return false;
         };
         self.white -= 1;
-        if !bare {
+        if !scanned {
             self.grey.push_reserved(file.again());
         }
+        scanned
     }
 
     /// A white file is marked, and is to be scanned.

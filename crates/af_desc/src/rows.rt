@@ -360,16 +360,17 @@ impl Rows {
         row.mark = mark;
     }
 
-    /// A file that a table holds is marked in this pass, if it was not: it is black if it holds nothing,
-    /// and else grey, with this place in the list. Whether it holds nothing; nothing where it was not
-    /// marked now. It takes no memory.
+    /// Marks a file that a table holds, if it is not marked in this pass. It is grey, with this place
+    /// in the list, or black at once, if it holds nothing and may be scanned. Returns whether it is
+    /// black, and nothing where it was not marked now.
     #[inline(always)]
     #[tactic(auto, using(crate::proofs::Rowed::chains, af_order::proofs::Parts::parts, af_order::proofs::Values::lent))]
-    pub fn visit(&mut self, file: &FileRef, epoch: u64, at: u32) -> Option<bool>
+    pub fn visit(&mut self, file: &FileRef, epoch: u64, at: u32, may_scan: bool) -> Option<bool>
         ensures due { is_some result ≡ is_due epoch self.old file.now }
-        ensures marked { IfSome result (λ bare. self.new ≡ record self.old { marks = map.insert self.old.marks file.now (marking epoch at bare) }) }
+        ensures marked { IfSome result (λ black. self.new ≡ record self.old { marks = map.insert self.old.marks file.now (marking epoch at black) }) }
         ensures len { map.len self.new.marks ≡ map.len self.old.marks }
-        ensures bare { IfSome result (λ bare. bare ≡ true → held_in self.old.files file.now ≡ []) }
+        ensures bare { IfSome result (λ black. black ≡ true → held_in self.old.files file.now ≡ []) }
+        ensures asked { IfSome result (λ black. black ≡ true → may_scan ≡ true) }
         ensures none { IfNone result (self.new ≡ self.old) }
     {
         let Some(row) = self.rows.get_mut(file) else {
@@ -378,10 +379,10 @@ impl Rows {
         if row.count.tabled == 0 || !matches!(row.mark.color_in(epoch), Color::White) {
             return None;
         }
-        let bare = row.is_bare(&self.nodes);
-        let color = if bare { Color::Black } else { Color::Grey };
+        let black = may_scan && row.is_bare(&self.nodes);
+        let color = if black { Color::Black } else { Color::Grey };
         row.mark = Mark { epoch, color, at };
-        Some(bare)
+        Some(black)
     }
 
     /// Nothing at run time: it says that what is kept of a file comes and goes together.

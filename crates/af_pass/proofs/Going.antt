@@ -153,8 +153,9 @@ module _ (begun old : World) (x : ℕ) where
   counted_drop marked grey visited swept looked a =
       let scanned : (f : ℕ) → nat_eq x f ≡ false → is_scanned (but marked x) (but grey x) f ≡ is_scanned marked grey f = λ f e j. but_other marked x f e j && not (but_other grey x f e j) in
       let v = fewer visited visited (λ f _. refl) in
+      let c = fewer (is_scanned marked grey) (is_scanned (but marked x) (but grey x)) scanned in
       let w = fewer swept swept (λ f _. refl) in
       let nv = fewer (λ f. not (visited f)) (λ f. not (visited f)) (λ f _. refl) in
       let nc = fewer (λ f. not (is_scanned marked grey f)) (λ f. not (is_scanned (but marked x) (but grey x) f)) (λ f e. ap not (scanned f e)) in
       let nw = fewer (λ f. not (swept f)) (λ f. not (swept f)) (λ f _. refl) in
-      record { at_least = omega (arith, a.at_least, v, w); at_most = omega (arith, a.at_most, nv, nc, nw) }
+      record { at_least = omega (arith, a.at_least, v, c, w); at_most = omega (arith, a.at_most, nv, nc, nw) }

@@ -15,16 +15,16 @@ use Rattle.af_base.proofs.Elements.{Contains-first, Contains-later, Contains-non
 use Rattle.af_base.proofs.Held.{InTable-tabled, tabled-InTable}
 use Rattle.af_base.proofs.Lookups.{not_same}
 use Rattle.af_base.proofs.Purging.{live-emptied}
-use Rattle.af_mark.specs.Marked.{blackened, forgotten, is_grey, is_marked, is_white, knows, Marked, marked_once, shaded, visited}
-use Rattle.af_mark.specs.declared.color.Color.TheVariants.{Black, Grey}
+use Rattle.af_mark.specs.Marked.{blackened, forgotten, is_grey, is_marked, is_white, knows, Marked, shaded, visited}
+use Rattle.af_mark.specs.declared.color.Color.TheVariants.{Black}
 use Rattle.af_pass.specs.declared.Stage.{Stage}
 use Rattle.af_pass.specs.declared.Stage.TheVariants.{Marking, Resting, Sweeping}
 use Rattle.af_pass.specs.declared.Progress.{Progress}
 use Rattle.af_pass.specs.Since.{AreCounted, Covers, IsMarking, IsSince, IsSweeping, Moves, is_scanned, is_socket_at}
-use Rattle.af_pass.specs.Keeping.{AreKnown, IsInMarking, IsInSweeping, IsKept, IsRunning, IsStage, below, counted, is_counted, is_marking, is_running, is_sweeping, shaded_all}
+use Rattle.af_pass.specs.Keeping.{AreKnown, IsInMarking, IsInSweeping, IsKept, IsRunning, IsStage, below, counted, is_counted, is_due, is_marking, is_running, is_sweeping, shaded_all, units_of}
 use Rattle.af_pass.proofs.Going.{counted_drop, is_reclaimed, marking_drop, never_garbage, since_drop, sweeping_drop}
 use Rattle.af_pass.proofs.Known.{known_gone, known_marks, known_world}
-use Rattle.af_pass.proofs.Marked.{bound_blackened, bound_shaded, grey_blackened, grey_forgotten, grey_marked, grey_shaded, knows_blackened, knows_shaded, marked_blackened, marked_forgotten, marked_known, marked_shaded, not_white, shaded_beyond, shaded_black, shaded_grey}
+use Rattle.af_pass.proofs.Marked.{bound_blackened, bound_shaded, grey_blackened, grey_forgotten, grey_marked, grey_shaded, knows_blackened, knows_shaded, marked_blackened, marked_forgotten, marked_known, marked_shaded, shaded_beyond, shaded_black, shaded_grey}
 use Rattle.af_pass.proofs.Moving.{counted_moves, marking_moves, since_moves, sweeping_moves}
 use Rattle.af_pass.proofs.Shaded.{all_marked, itself_marked, stays_grey_all}
 use Rattle.af_pass.proofs.Shading.{scan_counted, scan_marking, shade_counted, shade_marking, skip_counted, skip_marking, sweep_counted, visit_counted, visit_marking}
@@ -155,17 +155,17 @@ module _ {w begun : World} where
       kept_shaded_all fs (shaded x m) c t (λ f h. each f (Contains-later x fs f h)) (kept_shaded m c x t at.0 at.1 k)
 
   -- A grey file is scanned, where all that it holds is marked.
-  scan_held : (m : Marked) (c : Progress) (x n : ℕ) → c.looked ≤ n → n ≤ c.looked + 1 → c.stage ≡ Marking → is_grey m x ≡ true → ((f : ℕ) → IsLive begun f → Holds w x f → is_marked m f ≡ true) → IsKept w begun m c → IsKept w begun (blackened x m) (record c { looked = n })
-  scan_held m c x n least most e grey held k =
+  scan_held : (m : Marked) (c : Progress) (x : ℕ) → c.stage ≡ Marking → is_grey m x ≡ true → ((f : ℕ) → IsLive begun f → Holds w x f → is_marked m f ≡ true) → IsKept w begun m c → IsKept w begun (blackened x m) (record c { looked = c.looked + 1 })
+  scan_held m c x e grey held k =
       let p = in_marking e k in
       let r = p.running in
       let marked = grey_marked m x grey in
       let live : IsLive w x = sym (k.known x) ∙ marked_known m x marked in
       let is = marked_blackened m x in
       let waits = grey_blackened m x in
-      let d : Progress = record c { looked = n } in
+      let d : Progress = record c { looked = c.looked + 1 } in
       let q : IsInMarking w begun (blackened x m) d = record {
-        running = running_of (blackened x m) d is waits (bound_blackened m x) r.since r.marked (scan_counted (is_marked m) (is_grey m) (below c.visited) x (below c.swept) c.looked n least most (r.marked x marked) live marked grey r.counted) r.low;
+        running = running_of (blackened x m) d is waits (bound_blackened m x) r.since r.marked (scan_counted (is_marked m) (is_grey m) (below c.visited) x (below c.swept) c.looked (r.marked x marked) live marked grey r.counted) r.low;
         marking = marking_of (below c.visited) is waits (scan_marking (is_marked m) (is_grey m) (below c.visited) x r.since.sound.whole held p.marking);
         unswept = p.unswept;
         none_reclaimed = p.none_reclaimed;
@@ -177,7 +177,7 @@ module _ {w begun : World} where
   pub kept_scan : (m : Marked) (c : Progress) (x : ℕ) → IsWhole w → c.stage ≡ Marking → is_grey m x ≡ true → IsKept w begun m c → IsKept w begun (blackened x (shaded_all (held_by w x) m)) (record c { looked = c.looked + 1 })
   kept_scan m c x whole e grey k =
       let r = (in_marking e k).running in
-      scan_held (shaded_all (held_by w x) m) c x (c.looked + 1) (omega arith) (omega arith) e (stays_grey_all (held_by w x) m x grey)
+      scan_held (shaded_all (held_by w x) m) c x e (stays_grey_all (held_by w x) m x grey)
       (λ f b h. all_marked (held_by w x) m f h (k.known f ∙ whole.queues_live x f h) (r.since.below f b))
       (kept_shaded_all (held_by w x) m c (ap is_marking e) (held_kept x whole r (grey_spared x e grey k)) k)
 
@@ -203,35 +203,41 @@ module _ {w begun : World} where
       } in
       record { known = k.known; stage = subst (λ s. IsStage s w begun m d) (sym e) q }
 
-  -- The next live file is visited: it is marked if a table holds it, and is to be scanned if it holds something.
-  pub kept_visit : (bare : Bool) (m : Marked) (c : Progress) (x : ℕ) → (bare ≡ true → held_by w x ≡ []) → IsWhole w → c.stage ≡ Marking → IsLive w x → c.visited ≤ x → x < m.bound → ((g : ℕ) → c.visited ≤ g → g < x → is_live w g ≡ false)
-      → IsKept w begun m c → IsKept w begun (visited bare (tabled w x) x m) (record c { visited = x + 1; looked = c.looked + 1 })
-  kept_visit bare m c x empty whole e l from low none k = by (nat_lt 0 (tabled w x)) refl where
+  -- The next live file is visited: it is marked if a table holds it. If it was not marked and holds nothing, it may be scanned in the same look, which then counts as two.
+  pub kept_visit : (scanned : Bool) (m : Marked) (c : Progress) (x : ℕ) → (scanned ≡ true → (held_by w x ≡ []) × (is_due w m x ≡ true)) → IsWhole w → c.stage ≡ Marking → IsLive w x → c.visited ≤ x → x < m.bound → ((g : ℕ) → c.visited ≤ g → g < x → is_live w g ≡ false)
+      → IsKept w begun m c → IsKept w begun (visited scanned (tabled w x) x m) (record c { visited = x + 1; looked = c.looked + units_of scanned })
+  kept_visit scanned m c x bare whole e l from low none k = by scanned refl where
     known : knows m x ≡ true
     known = k.known x ∙ l
 
     grey : InTable w x → IsKept w begun (shaded x m) c
     grey t = kept_shaded m c x (ap is_marking e) l (λ g. (in_marking e k).running.since.stray.tables x g t) k
 
-    here : (n : Marked) → n.bound ≡ m.bound → (InTable w x → is_marked n x ≡ true) → IsKept w begun n c → IsKept w begun n (record c { visited = x + 1; looked = c.looked + 1 })
-    here n same is i = visit_tabled n c x whole e l from (subst (λ b. x < b) (sym same) low) none is i
+    here : (n : Marked) (d : Progress) → d.stage ≡ Marking → d.visited ≤ x → ((g : ℕ) → d.visited ≤ g → g < x → is_live w g ≡ false) → n.bound ≡ m.bound → (InTable w x → is_marked n x ≡ true) → IsKept w begun n d → IsKept w begun n (record d { visited = x + 1; looked = d.looked + 1 })
+    here n d y f g same is i = visit_tabled n d x whole y l f (subst (λ b. x < b) (sym same) low) g is i
 
-    once : (b d : Bool) → bare ≡ b → (nat_lt x m.bound && is_white m x) ≡ d → InTable w x → IsKept w begun (if d then record m { colors = map.insert m.colors x (if b then Black else Grey) } else m) (record c { visited = x + 1; looked = c.looked + 1 })
-    once b false y z t = here m refl (λ _. not_white m x known low z) k
-    once false true y z t =
-        let same : shaded x m ≡ record m { colors = map.insert m.colors x Grey } = ap (λ d. if d then record m { colors = map.insert m.colors x Grey } else m) z in
-        subst (λ n. IsKept w begun n (record c { visited = x + 1; looked = c.looked + 1 })) same (here (shaded x m) (bound_shaded m x) (λ _. itself_marked m x known low) (grey t))
-    once true true y z t =
-        let waits = shaded_grey m x z in
-        let black = scan_held (shaded x m) c x c.looked (omega arith) (omega arith) e waits (λ f _ h. absurd (Contains-none f (subst (λ fs. Contains fs f) (empty y) h))) (grey t) in
-        subst (λ n. IsKept w begun n (record c { visited = x + 1; looked = c.looked + 1 })) (shaded_black m x z)
-        (here (blackened x (shaded x m)) (bound_blackened (shaded x m) x ∙ bound_shaded m x) (λ _. ap (λ t. t x) (marked_blackened (shaded x m) x) ∙ itself_marked m x known low) black)
+    marks : IsKept w begun (visited false (tabled w x) x m) (record c { visited = x + 1; looked = c.looked + 1 })
+    marks = cases (nat_lt 0 (tabled w x)) refl where
+      cases : (b : Bool) → nat_lt 0 (tabled w x) ≡ b → IsKept w begun (if b then shaded x m else m) (record c { visited = x + 1; looked = c.looked + 1 })
+      cases true d = here (shaded x m) c e from none (bound_shaded m x) (λ _. itself_marked m x known low) (grey (InTable-tabled w x (ltb-true 0 (tabled w x) d)))
+      cases false d =
+          let untabled = ltb-false 0 (tabled w x) d in
+          here m c e from none refl (λ t. let some = tabled-InTable w x t in absurd (omega (arith, untabled, some))) k
 
-    by : (b : Bool) → nat_lt 0 (tabled w x) ≡ b → IsKept w begun (if b then marked_once bare x m else m) (record c { visited = x + 1; looked = c.looked + 1 })
-    by true d = once bare (nat_lt x m.bound && is_white m x) refl refl (InTable-tabled w x (ltb-true 0 (tabled w x) d))
-    by false d =
-        let untabled = ltb-false 0 (tabled w x) d in
-        here m refl (λ t. let some = tabled-InTable w x t in absurd (omega (arith, untabled, some))) k
+    scans : (held_by w x ≡ []) × (is_due w m x ≡ true) → IsKept w begun (visited true (tabled w x) x m) (record c { visited = x + 1; looked = c.looked + 2 })
+    scans h =
+        let due = and_parts (nat_lt 0 (tabled w x)) (nat_lt x m.bound && is_white m x) h.1 in
+        let t = InTable-tabled w x (ltb-true 0 (tabled w x) due.0) in
+        let d : Progress = record c { looked = c.looked + 1 } in
+        let black : IsKept w begun (blackened x (shaded x m)) d = subst (λ fs. IsKept w begun (blackened x (shaded_all fs (shaded x m))) d) h.0 (kept_scan (shaded x m) c x whole e (shaded_grey m x due.1) (grey t)) in
+        let past = here (blackened x (shaded x m)) d e from none (bound_blackened (shaded x m) x ∙ bound_shaded m x) (λ _. ap (λ t. t x) (marked_blackened (shaded x m) x) ∙ itself_marked m x known low) black in
+        let is : blackened x (shaded x m) ≡ visited true (tabled w x) x m = shaded_black m x due.1 ∙ sym (λ i. if due.0 i then (if due.1 i then record m { colors = map.insert m.colors x Black } else m) else m) in
+        let counts : c.looked + 1 + 1 ≡ c.looked + 2 = omega arith in
+        subst (λ n. IsKept w begun (visited true (tabled w x) x m) (record c { visited = x + 1; looked = n })) counts (subst (λ n. IsKept w begun n (record c { visited = x + 1; looked = c.looked + 1 + 1 })) is past)
+
+    by : (s : Bool) → scanned ≡ s → IsKept w begun (visited s (tabled w x) x m) (record c { visited = x + 1; looked = c.looked + units_of s })
+    by true y = scans (bare y)
+    by false y = marks
 
   -- Marking ends, where all are visited and none is grey.
   pub kept_finish : (m : Marked) (c : Progress) → IsWhole w → c.stage ≡ Marking → ((f : ℕ) → c.visited ≤ f → f < m.bound → is_live w f ≡ false) → ((f : ℕ) → is_grey m f ≡ false)

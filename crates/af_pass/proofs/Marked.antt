@@ -162,13 +162,6 @@ module _ (m : Marked) (x : ℕ) where
     by true = refl
     by false = refl
 
-  -- A known file that was born before the pass is marked, if it is not white.
-  pub not_white : knows m x ≡ true → x < m.bound → (nat_lt x m.bound && is_white m x) ≡ false → is_marked m x ≡ true
-  not_white known low e = by (is_marked m x) refl where
-    by : (b : Bool) → is_marked m x ≡ b → is_marked m x ≡ true
-    by true d = d
-    by false d = absurd (false≢true (sym e ∙ (λ i. lt-ltb x m.bound low i && (known i && not (d i)))))
-
   module _ (white : (nat_lt x m.bound && is_white m x) ≡ true) where
     grey_then : shaded x m ≡ put m x Grey
     grey_then = ap (λ b. cond b (put m x Grey) m) white

@@ -76,8 +76,9 @@ module _ {begun old new : World} (m : Moves begun old new) where
   counted_moves visited scanned swept looked i = record {
     at_least =
         let a = live_count_same visited in
+        let b = live_count_same scanned in
         let c = live_count_same swept in
-        omega (arith, i.at_least, a, c);
+        omega (arith, i.at_least, a, b, c);
     at_most =
         let a = live_count_same (λ f. not (visited f)) in
         let b = live_count_same (λ f. not (scanned f)) in

@@ -1,5 +1,5 @@
 -- Marks are set, files are scanned, visited and swept: what is kept while a pass runs.
-use Rattle.std.proofs.Common.{◌≡◌, ◌≤◌, ℕ, ◌+◌, Bool, true, false, not, ◌&&◌, ◌||◌, ◌⊎◌, inl, inr, refl, sym, ap, ◌∙◌, subst, nat_eq, arith}
+use Rattle.std.proofs.Common.{◌≡◌, ℕ, ◌+◌, Bool, true, false, not, ◌&&◌, ◌||◌, ◌⊎◌, inl, inr, refl, sym, ap, ◌∙◌, subst, nat_eq, arith}
 use Rattle.std.proofs.Math.Bool.{and-true}
 use Rattle.af_base.specs.World.{World, IsLive}
 use Rattle.af_base.specs.Places.{Holds, InTable}
@@ -74,17 +74,18 @@ module _ {begun now : World} (marked grey visited : ℕ → Bool) (x : ℕ) wher
     queues = i.queues;
   }
 
-  -- To scan x, which was grey, counts one file more, or nothing, where it was scanned as it was visited.
-  pub scan_counted : (swept : ℕ → Bool) (looked n : ℕ) → looked ≤ n → n ≤ looked + 1 → IsLive begun x → IsLive now x → marked x ≡ true → grey x ≡ true
-      → AreCounted begun now visited (is_scanned marked grey) swept looked → AreCounted begun now visited (is_scanned marked (but grey x)) swept n
-  scan_counted swept looked n low high b l m g a =
+  -- To scan x, which was grey, counts one file more.
+  pub scan_counted : (swept : ℕ → Bool) (looked : ℕ) → IsLive begun x → IsLive now x → marked x ≡ true → grey x ≡ true
+      → AreCounted begun now visited (is_scanned marked grey) swept looked → AreCounted begun now visited (is_scanned marked (but grey x)) swept (looked + 1)
+  scan_counted swept looked b l m g a =
       let before = is_scanned marked grey in
       let after = is_scanned marked (but grey x) in
       let miss : before x ≡ false = λ i. m i && not (g i) in
       let hit : after x ≡ true = λ i. m i && not (g i && not (itself x i)) in
       let other : (f : ℕ) → IsLive now f → nat_eq x f ≡ false → before f ≡ after f = λ f _ d. sym (scanned_other marked grey x f d) in
+      let more = live_more begun now before after x b l miss hit other in
       let less = live_less begun now before after x b l miss hit other in
-      record { at_least = omega (arith, a.at_least, low); at_most = omega (arith, a.at_most, less, high) }
+      record { at_least = omega (arith, a.at_least, more); at_most = omega (arith, a.at_most, less) }
 
 module _ {begun now : World} (marked grey visited visited' : ℕ → Bool) where
   visits : ((f : ℕ) → visited f ≡ false → InTable now f → (marked f ≡ true) ⊎ (visited' f ≡ false)) → IsMarking begun now marked grey visited → IsMarking begun now marked grey visited'

@@ -59,11 +59,12 @@ module _ (w : World) (marked grey visited : ℕ → Bool) (unmarked : (f : ℕ) 
       let none : (p : ℕ → Bool) → ((f : ℕ) → p f ≡ false) → live_count w w p ≡ 0 = λ p h. nothing p h (map.entries w.files) in
       let most : (p : ℕ → Bool) → live_count w w p ≤ map.len w.files = λ p. subst (λ n. live_count w w p ≤ n) (sym (map.len-entries w.files)) (count_by-le-length (λ e. is_live w e.0 && p e.0) (map.entries w.files)) in
       let a = none visited unvisited in
+      let b = none (is_scanned marked grey) (λ f. ap (λ b. b && not (grey f)) (unmarked f)) in
       let c = none swept unswept in
       let d = most (λ f. not (visited f)) in
       let e = most (λ f. not (is_scanned marked grey f)) in
       let g = most (λ f. not (swept f)) in
-      record { at_least = omega (arith, a, c); at_most = omega (arith, d, e, g) } where
+      record { at_least = omega (arith, a, b, c); at_most = omega (arith, d, e, g) } where
         nothing : (p : ℕ → Bool) → ((f : ℕ) → p f ≡ false) → (es : List (ℕ × File)) → count_by (λ e. is_live w e.0 && p e.0) es ≡ 0
         nothing p h es = (λ i. count_by (λ e. is_live w e.0 && h e.0 i) es) ∙ (λ i. count_by (λ e. and-false (is_live w e.0) i) es) ∙ count_none es
 

@@ -1,10 +1,11 @@
 -- The whole of what is kept: the world, and beside it the marks and how far the pass is.
 use Rattle.std.specs.Prelude.{◌≡◌, ◌≤◌, ◌+◌, ◌&&◌, ℕ, Bool, true, false, not, nat_eq, nat_lt, List, [], ◌∷◌, length, take, if◌then◌else◌}
 use Rattle.af_base.specs.World.{World, IsLive, is_live}
+use Rattle.af_base.specs.Counts.{tabled}
 use Rattle.af_base.specs.Pass.{Idle, Pass, Running}
 use Rattle.af_base.specs.Places.{backlog_at, carried, queue_at}
 use Rattle.af_base.specs.Reached.{Garbage}
-use Rattle.af_mark.specs.Marked.{Marked, is_grey, is_marked, knows, shaded}
+use Rattle.af_mark.specs.Marked.{Marked, is_grey, is_marked, is_white, knows, shaded}
 use Rattle.af_pass.specs.declared.Stage.{Stage}
 use Rattle.af_pass.specs.declared.Stage.TheVariants.{Marking, Resting, Sweeping}
 use Rattle.af_pass.specs.declared.Progress.{Progress}
@@ -91,6 +92,15 @@ shaded_all (f ∷ fs) m = shaded_all fs (shaded f m)
 -- The same, where marking goes on.
 abbrev pub shaded_in : Stage → List ℕ → Marked → Marked
 shaded_in stage fs m = if is_marking stage then shaded_all fs m else m
+
+-- Whether a visit marks the file: a table holds it, it was there at the begin, and it is not marked (net/unix/garbage.c: from the tables on).
+abbrev pub is_due : World → Marked → ℕ → Bool
+is_due w m f = nat_lt 0 (tabled w f) && (nat_lt f m.bound && is_white m f)
+
+-- How many units a visit takes: one, and one more if the file was scanned too (this project's profile: what a budget counts).
+abbrev pub units_of : Bool → ℕ
+units_of false = 1
+units_of true = 2
 
 -- What a file would lose first: what its first message carries, or, where it has none, its first embryo.
 abbrev pub first_held : World → ℕ → List ℕ

@@ -56,9 +56,9 @@ pub record IsSweeping (begun now : World) (marked swept : ℕ → Bool) (reclaim
   pub empty : (s f : ℕ) → swept s ≡ true → Holds now s f → ¬ (Garbage begun f)
   pub counted : IsGarbageCount begun (reclaimed + left_count begun now marked)
 
--- Each unit looked at one file of the begin, and no file is visited, scanned or swept twice; what holds nothing is scanned as it is visited (this project's profile: what a budget counts).
+-- Each unit looked at one file of the begin, and no file is visited, scanned or swept twice (this project's profile: what a budget counts).
 pub record AreCounted (begun now : World) (visited scanned swept : ℕ → Bool) (looked : ℕ) : Type 0 where
-  pub at_least : live_count begun now visited + live_count begun now swept ≤ looked
+  pub at_least : live_count begun now visited + live_count begun now scanned + live_count begun now swept ≤ looked
   pub at_most : looked + live_count begun now (λ f. not (visited f)) + live_count begun now (λ f. not (scanned f)) + live_count begun now (λ f. not (swept f)) ≤ 3 * map.len begun.files
 
 -- A change of places, or a file more: the files of the begin stay as they were, and no garbage of the begin is in a new place (this project's profile).

@@ -151,7 +151,7 @@ impl Engine {
 #[inline(always)]
 fn vacate(store: &mut Store, pid: Pid, fd: Fd, taken: bool)
     requires { is_none (table_at store.old.world pid fd) ≡ not taken }
-    ensures { store.new ≡ record store.old { world = uninstall store.old.world pid fd } }
+    ensures { store.new ≡ record store.old { world = uninstall store.old.world pid fd; marks = store.new.marks } }
 {
     if taken {
         store.table_out(pid, fd);
