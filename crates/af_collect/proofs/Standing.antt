@@ -63,6 +63,10 @@ shown p t = record { world = t.world; rows = t.rows; pass = pass_of p.progress.s
 pub seen-changed : (p : Parts) (h : Inside) (o : Shown) (f : World → World) → the_view h ≡ p.places → shown p p.places ≡ o → shown p (record (the_view h) { world = f (the_view h).world }) ≡ record o { world = f o.world }
 seen-changed p h o f opened is = ap {A = Stored} {B = Shown} (λ t. shown p (record t { world = f t.world })) opened ∙ ap {A = Shown} {B = Shown} (λ t. record t { world = f t.world }) is
 
+-- The same, where other files are marked then.
+pub seen-marked : (p : Parts) (h : Inside) (o : Shown) (f : World → World) (m : Marked) → the_view h ≡ p.places → shown p p.places ≡ o → shown p (record (the_view h) { world = f (the_view h).world; marks = m }) ≡ record o { world = f o.world; marks = m }
+seen-marked p h o f m opened is = ap {A = Stored} {B = Shown} (λ t. shown p (record t { world = f t.world; marks = m })) opened ∙ ap {A = Shown} {B = Shown} (λ t. record t { world = f t.world; marks = m }) is
+
 -- And what a caller sees of the world is what stands there.
 pub seen-world : (p : Parts) (h : Inside) (o : Shown) → the_view h ≡ p.places → shown p p.places ≡ o → o.world ≡ (the_view h).world
 seen-world p h o opened is = sym (ap (λ (t : Stored). t.world) opened ∙ ap (λ (t : Shown). t.world) is)

@@ -6,7 +6,7 @@ use Rattle.af_collect.proofs.parts.Parts.sweep_on.Goals as goal
 
 -- Where all are swept, nothing changes.
 pub returns-in_default-clause-purged : goal.returns-in_default-clause-purged
-returns-in_default-clause-purged c = purged_none c.args.self.now.places.world 1 c.requires.sound.settled
+returns-in_default-clause-purged c = purged_none c.args.self.now.places.world 0 c.requires.sound.settled
 
 -- No garbage of the begin is left.
 pub returns-in_default-clause-gone : goal.returns-in_default-clause-gone

@@ -1,4 +1,4 @@
-use Rattle.std.proofs.Common.{◌+◌, add-zero, arith, refl, subst, sym, ◌∙◌}
+use Rattle.std.proofs.Common.{◌≡◌, ◌≤◌, ◌+◌, ◌-◌, ℕ, arith, refl, subst, ◌∙◌}
 use Rattle.af_base.specs.Reached.{IsGarbageCount}
 use Rattle.af_pass.specs.Purged.{ArePurged}
 use Rattle.af_pass.proofs.Keeping.{counted_all, none_tabled}
@@ -6,56 +6,69 @@ use Rattle.af_pass.proofs.Purging.{purged_join, purged_more, purged_none}
 use Rattle.af_collect.proofs.parts.Parts.units.Goals as goal
 
 -- At first nothing was done.
-pub loop-init : goal.loop-init
-loop-init c =
+pub loop-left-init : goal.loop-left-init
+loop-left-init c =
     let now = c.args.self.now in
     let r = c.requires in
+    let budget = c.args.budget in
     record {
       kept = r.kept;
       running = r.running;
       sound = r.sound;
       rows = refl;
       begun = refl;
-      purged = purged_none now.places.world 0 r.sound.settled;
-      looked = sym (add-zero now.progress.looked);
+      few = omega arith;
+      purged = purged_none now.places.world (budget - budget) r.sound.settled;
+      looked = refl;
     }
 
--- One unit more purges one file more at most.
-pub loop-preserved : goal.loop-preserved
-loop-preserved c =
+-- Some units more purge as many files more at most.
+pub loop-left-preserved : goal.loop-left-preserved
+loop-left-preserved c =
     let first = c.args.self.now.places.world in
-    let before = c.loop.self.places.world in
-    let after = c.unit.new.self.places.world in
-    let i = c.loop.invariant in
-    let u = c.unit.ensures in
-    let one = subst (λ s. ArePurged s.value.world before after 1) i.begun u.purged in
+    let before = c.loop-left.self.places.world in
+    let after = c.unit-units.new.self.places.world in
+    let budget = c.args.budget in
+    let left = c.loop-left.left in
+    let i = c.loop-left.invariant in
+    let u = c.unit-units.ensures in
+    let n = c.unit-units.result in
+    let few = i.few in
+    let low = u.few in
     let so_far = i.looked in
-    let further = u.went c.if-not-unit.false in
+    let further = u.looked in
+    let some = subst (λ s. ArePurged s.value.world before after n) i.begun u.purged in
+    let adds : (budget - left) + n ≤ budget - (left - n) = omega (arith, few, low) in
     record {
       kept = u.kept;
       running = u.running;
       sound = u.sound;
       rows = u.rows ∙ i.rows;
       begun = u.begun ∙ i.begun;
-      purged = purged_join first before after c.loop.counter 1 i.purged one;
-      looked = omega (arith, so_far, further);
+      few = omega (arith, few, low);
+      purged = purged_more first after ((budget - left) + n) (budget - (left - n)) adds (purged_join first before after (budget - left) n i.purged some);
+      looked = omega (arith, so_far, further, few, low);
     }
 
--- The pass is over: with the last unit, no more was purged than the budget has.
-pub returns-then-not-unit-clause-purged : goal.returns-then-not-unit-clause-purged
-returns-then-not-unit-clause-purged c =
+-- The pass is over: no more was purged than the budget has.
+pub returns-then-units-eq0-clause-purged : goal.returns-then-units-eq0-clause-purged
+returns-then-units-eq0-clause-purged c =
     let first = c.args.self.now.places.world in
-    let before = c.loop.self.places.world in
-    let after = c.unit.new.self.places.world in
-    let i = c.loop.invariant in
-    let one = subst (λ s. ArePurged s.value.world before after 1) i.begun c.unit.ensures.purged in
-    let low = c.loop-test.true in
-    purged_more first after (c.loop.counter + 1) c.args.budget (omega (arith, low)) (purged_join first before after c.loop.counter 1 i.purged one)
+    let before = c.loop-left.self.places.world in
+    let after = c.unit-units.new.self.places.world in
+    let budget = c.args.budget in
+    let left = c.loop-left.left in
+    let i = c.loop-left.invariant in
+    let n = c.unit-units.result in
+    let few = i.few in
+    let low = c.unit-units.ensures.few in
+    let some = subst (λ s. ArePurged s.value.world before after n) i.begun c.unit-units.ensures.purged in
+    purged_more first after ((budget - left) + n) budget (omega (arith, few, low)) (purged_join first before after (budget - left) n i.purged some)
 
 -- The begin is the same still.
-pub returns-then-not-unit-clause-counted : goal.returns-then-not-unit-clause-counted
-returns-then-not-unit-clause-counted c = λ _.
-    subst (λ s. IsGarbageCount s.value.world c.unit.new.self.progress.reclaimed) c.loop.invariant.begun (c.unit.ensures.counted c.if-not-unit.true)
+pub returns-then-units-eq0-clause-counted : goal.returns-then-units-eq0-clause-counted
+returns-then-units-eq0-clause-counted c = λ _.
+    subst (λ s. IsGarbageCount s.value.world c.unit-units.new.self.progress.reclaimed) c.loop-left.invariant.begun (c.unit-units.ensures.counted c.if-units-eq0.true)
 
 -- Where nothing is in flight nothing is purged.
 pub returns-then-is_calm-clause-purged : goal.returns-then-is_calm-clause-purged

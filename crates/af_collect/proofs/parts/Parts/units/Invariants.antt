@@ -1,18 +1,22 @@
--- So far the pass runs on, it looked at so many files more, and it purged at most so many.
-use Rattle.std.proofs.Common.{◌≡◌, ◌+◌, true}
+-- So far the pass runs on, it looked at as many files as units were done, and it purged at most so many.
+use Rattle.std.proofs.Common.{◌≡◌, ◌≤◌, ◌+◌, ◌-◌, true}
 use Rattle.af_base.specs.Whole.{IsSound}
 use Rattle.af_pass.specs.Keeping.{is_running}
 use Rattle.af_pass.specs.Purged.{ArePurged}
 use Rattle.af_collect.specs.Shown.{AreKept}
 use Rattle.af_collect.proofs.parts.Parts.units.Given as goal
 
-abbrev pub invariant-loop : goal.invariant-loop
-invariant-loop l = record {
+abbrev pub invariant-loop-left : goal.invariant-loop-left
+invariant-loop-left l = record {
   kept : AreKept l.self;
   running : is_running l.self.progress.stage ≡ true;
   sound : IsSound l.self.places.world;
   rows : l.self.places.rows ≡ l.fn.self.places.rows;
   begun : l.self.begun ≡ l.fn.self.begun;
-  purged : ArePurged l.fn.self.begun.value.world l.fn.self.places.world l.self.places.world l.counter;
-  looked : l.self.progress.looked ≡ l.fn.self.progress.looked + l.counter;
+  few : l.left ≤ l.fn.budget;
+  purged : ArePurged l.fn.self.begun.value.world l.fn.self.places.world l.self.places.world (l.fn.budget - l.left);
+  looked : l.self.progress.looked + l.left ≡ l.fn.self.progress.looked + l.fn.budget;
 }
+
+abbrev pub decreases-loop-left : goal.decreases-loop-left
+decreases-loop-left l = l.left

@@ -66,7 +66,7 @@ pub returns-in_default-clause-ok : goal.returns-in_default-clause-ok
 returns-in_default-clause-ok c =
     let p = c.self.inside.parts in
     let h = c.places.inside in
-    (λ i. shown p (record (the_view h) { world = put c i })) ∙ seen-changed p h _ (λ v. push_message v c.args.socket.now c.args.message) c.places.view_is c.self.view_is
+    (λ i. shown p (record (the_view h) { world = put c i; marks = (ap (λ v. v.marks) c.in_default.ensures.ok ∙ ap (λ v. v.marks) c.hold_all.ensures.rest) i })) ∙ seen-changed p h _ (λ v. push_message v c.args.socket.now c.args.message) c.places.view_is c.self.view_is
 
 pub drop_all-requires : goal.drop_all-requires
 drop_all-requires c =
