@@ -20,12 +20,12 @@ impl Holdings {
         self.files.unmark();
     }
 
-    /// A pass is over: no file is marked.
-    pub(crate) fn rest(&mut self)
+    /// Ends a pass: no file is marked.
+    pub(crate) fn end_pass(&mut self)
         ensures known { (f : ℕ) → knows self.new.marks f ≡ knows self.old.marks f }
         ensures rest { self.new ≡ record self.old { marks = self.new.marks } }
     {
-        self.files.rest();
+        self.files.end_pass();
     }
 
     /// A file is marked, and is to be scanned, if it was born before the pass and is not marked.

@@ -66,7 +66,7 @@ impl Store {
             return None;
         }
         self.parts.progress.stage = Stage::Resting;
-        self.parts.places.rest();
+        self.parts.places.end_pass();
         Some(self.parts.progress.reclaimed)
     }
 
@@ -81,7 +81,7 @@ impl Store {
         self.parts.begin();
         while !self.parts.units(MAX_BUDGET) {}
         self.parts.progress.stage = Stage::Resting;
-        self.parts.places.rest();
+        self.parts.places.end_pass();
         self.parts.progress.reclaimed
     }
 

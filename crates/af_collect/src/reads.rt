@@ -92,7 +92,7 @@ impl Holdings {
         self.ledger.total()
     }
 
-    /// Whether nothing is in flight and no embryo waits: then a table holds each file.
+    /// Returns whether nothing is in flight and no embryo waits. If so, a table holds each live file.
     #[inline(always)]
     pub(crate) fn is_calm(&self) -> bool
         requires sound { IsSound self.now.world }

@@ -64,6 +64,6 @@ pub record AreChained (s : Slab Node) (m : Map Row) : Type 0 where
 abbrev pub is_due : ℕ → Rowed → ℕ → Bool
 is_due epoch r f = nat_lt 0 (count_in_map r.counts f).tabled && option_map_or (λ x. not (is_mark (color_in epoch x))) (map.get r.marks f) false
 
--- The mark of a file that is marked in this pass: it is to be scanned if it holds something (this project's own).
+-- The mark of a file that is marked in this pass, and to be scanned unless it is black (this project's own).
 abbrev pub marking : ℕ → ℕ → Bool → Mark
-marking epoch at bare = record { epoch = epoch; color = if bare then Black else Grey; at = at }
+marking epoch at black = record { epoch = epoch; color = if black then Black else Grey; at = at }

@@ -68,7 +68,7 @@ impl Files {
         u64::from(self.count_at(file).inflight)
     }
 
-    /// Whether an embryo may wait: where the answer is no, none does.
+    /// Returns whether an embryo may wait to be accepted. If not, none does.
     #[inline(always)]
     pub fn has_embryos(&self) -> bool
         ensures { result ≡ false → (f : ℕ) → (count_in_map self.now.counts f).waiting ≡ 0 }
@@ -117,7 +117,7 @@ impl Files {
     }
 }
 
-/// The number of embryos, with a place of this kind more. It counts no further than it can get.
+/// Returns the number of embryos with one place of this kind more. At its largest it stands still.
 #[inline(always)]
 fn with_embryo(embryos: u64, place: &Place) -> u64
     ensures { result ≡ with_embryo place.now embryos }
@@ -128,7 +128,7 @@ fn with_embryo(embryos: u64, place: &Place) -> u64
     }
 }
 
-/// The same with one less.
+/// Returns the number of embryos with one place of this kind less. At its largest it stands still.
 #[inline(always)]
 fn without_embryo(embryos: u64, place: &Place) -> u64
     ensures { result ≡ without_embryo place.now embryos }

@@ -42,9 +42,9 @@ pub struct Files {
     pub(crate) bound: u64,
     pub(crate) next: u64,
     pub(crate) names: Names,
-    /// How many places in backlogs there are. It counts no further than it can get.
+    /// The number of places in backlogs. At its largest it stands still.
     pub(crate) embryos: u64,
-    /// How many files the pass has still to mark.
+    /// The number of files that the pass has still to mark.
     pub(crate) white: usize,
 }
 

@@ -31,8 +31,8 @@ impl Files {
         self.white = self.rows.len();
     }
 
-    /// A pass is over: no file is marked, and none is still to be.
-    pub fn rest(&mut self)
+    /// Ends a pass: no file is marked, and none is still to be.
+    pub fn end_pass(&mut self)
         ensures unmarked { (f : ℕ) → is_marked self.new.marks f ≡ false }
         ensures known { (f : ℕ) → knows self.new.marks f ≡ knows self.old.marks f }
         ensures rest { self.new ≡ record self.old { marks = self.new.marks } }
@@ -43,7 +43,7 @@ impl Files {
         self.white = 0;
     }
 
-    /// Whether the pass has marked each file that was there when it began, and is still.
+    /// Returns whether the pass has marked each file that was there when it began and is still live.
     #[inline(always)]
     pub fn are_marked(&self) -> bool
         ensures { result ≡ true → (f : ℕ) → knows self.now.marks f ≡ true → f < self.now.marks.bound → is_marked self.now.marks f ≡ true }
@@ -51,7 +51,7 @@ impl Files {
         self.white == 0
     }
 
-    /// How many files the pass has still to mark where this one is gone.
+    /// Returns how many files the pass has still to mark once this one is gone.
     #[inline(always)]
     pub(crate) fn white_without(&self, file: &FileRef) -> usize
         ensures { white_count (forgotten file.now self.now.marks) ≤ result }

@@ -31,7 +31,7 @@ pub struct Row {
 }
 
 impl Row {
-    /// Whether it has nothing to receive, and no name: then it holds nothing.
+    /// Returns whether it has nothing to receive and no name. If so, it holds nothing.
     #[inline(always)]
     pub fn is_bare(&self, _nodes: &Slab<Node>) -> bool
         ensures { result ≡ true → contents (file_in _nodes.now self.now) ≡ [] }

@@ -77,7 +77,7 @@ impl Endpoint {
         let _kind = &self.kind;
     }
 
-    /// Whether it has no name: then nobody waits for it.
+    /// Returns whether it has no name. If so, no embryo waits in its backlog.
     #[inline(always)]
     pub fn is_nameless(&self) -> bool
         ensures { result ≡ true → self.now.backlog ≡ [] }

@@ -52,13 +52,13 @@ forgotten f m = record m { colors = map.remove m.colors f }
 abbrev pub shaded : ℕ → Marked → Marked
 shaded f m = if nat_lt f m.bound && is_white m f then record m { colors = map.insert m.colors f Grey } else m
 
--- The same, but that f is black at once if it holds nothing: then there is nothing to scan (this project's own).
+-- The same, but f is black at once where it was scanned too (this project's own).
 abbrev pub marked_once : Bool → ℕ → Marked → Marked
-marked_once bare f m = if nat_lt f m.bound && is_white m f then record m { colors = map.insert m.colors f (if bare then Black else Grey) } else m
+marked_once scanned f m = if nat_lt f m.bound && is_white m f then record m { colors = map.insert m.colors f (if scanned then Black else Grey) } else m
 
--- The same, where so many numbers of tables stand for f (this project's own).
+-- f was visited: it is marked if a number of a table stands for it (this project's own).
 abbrev pub visited : Bool → ℕ → ℕ → Marked → Marked
-visited bare tabled f m = if nat_lt 0 tabled then marked_once bare f m else m
+visited scanned tabled f m = if nat_lt 0 tabled then marked_once scanned f m else m
 
 -- f was scanned, where it was grey (this project's own).
 abbrev pub blackened : ℕ → Marked → Marked

@@ -55,4 +55,4 @@ returns-clause-collects c =
     let count = subst (λ v. IsGarbageCount v c.units.new.self.progress.reclaimed) i.begun (u.counted over) in
     let all = purged_join w b d i.purged.0 MAX_BUDGET i.purged.1 (subst (λ v. ArePurged v b d MAX_BUDGET) i.begun u.purged) in
     let done : Collects w c.units.new.self.progress.reclaimed d = record { test = count.0; is_garbage = count.1; purged = purged_whole d (i.purged.0 + MAX_BUDGET) count.0 all u.sound.settled gone count.1; counted = count } in
-    subst (Collects w c.units.new.self.progress.reclaimed) (sym (ap (λ (s : Stored). s.world) c.rest.ensures.rest)) done
+    subst (Collects w c.units.new.self.progress.reclaimed) (sym (ap (λ (s : Stored). s.world) c.end_pass.ensures.rest)) done

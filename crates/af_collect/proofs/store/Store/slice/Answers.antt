@@ -16,7 +16,7 @@ returns-clause-does c = λ begun spent pass e.
     let n = c.units.new.self.progress.reclaimed in
     let u = c.units.ensures in
     let is = seen_begun p.progress.stage b begun p.progress.looked spent (ap (λ (s : Shown). s.pass) c.self.view_is ∙ e) in
-    let left = ap (λ (s : Stored). s.world) c.rest.ensures.rest in
+    let left = ap (λ (s : Stored). s.world) c.end_pass.ensures.rest in
     subst (λ x. Slices begun c.args.self.now.world spent c.args.budget pass (reply.Done pass n) x Idle) (sym left)
     (subst (λ (s : Shown). Slices begun s.world spent c.args.budget pass (reply.Done pass n) v Idle) c.self.view_is
     (subst (λ x. Slices x p.places.world spent c.args.budget pass (reply.Done pass n) v Idle) is

@@ -4,7 +4,7 @@ use Rattle.std.specs.FinMap as map
 use Rattle.af_mark.proofs.Colors.{color_known}
 use Rattle.af_desc.proofs.Filing.{filed-renewed}
 use Rattle.af_desc.proofs.Whites.{white-none}
-use Rattle.af_desc.proofs.files.Files.rest.Goals as goal
+use Rattle.af_desc.proofs.files.Files.end_pass.Goals as goal
 
 pub returns-clause-known : goal.returns-clause-known
 returns-clause-known c = λ f.
