@@ -1,9 +1,9 @@
 -- Messages of many queues in one slab, each linked to the one behind it.
-use Rattle.std.specs.Prelude.{◌≡◌, ◌≢◌, ◌<◌, ◌≤◌, ◌^◌, ℕ, zero, suc, List, [], ◌∷◌, Some, nat_eq, false}
+use Rattle.std.specs.Prelude.{◌≡◌, ◌≢◌, ◌<◌, ◌≤◌, ◌+◌, ◌^◌, ℕ, zero, suc, List, [], ◌∷◌, Some, nat_eq, false}
 use Rattle.std.specs.List.{list_any}
 use Rattle.std.specs.Option.{option_map_or}
 use Rattle.slab.specs.Slab as slots
-use Rattle.slab.specs.Slab.{HasRoomFor, Slab}
+use Rattle.slab.specs.Slab.{HasRoomFor, Slab, slab_len}
 use Rattle.af_base.specs.World.{Message}
 use Rattle.af_base.specs.Whole.{IsMessageWithin}
 use Rattle.af_base.specs.declared.limits.TheConstants.{MAX_MESSAGES}
@@ -42,6 +42,10 @@ pub record IsChain (s : Slab Node) (c : Chain) (f : ℕ) : Type 0 where
 -- The nodes of all other files are as they were (this project's own).
 abbrev pub SameElsewhere : Slab Node → Slab Node → ℕ → Type 0
 SameElsewhere s t f = (q : ℕ) (x : Node) → slots.get s q ≡ Some x → x.owner ≢ f → slots.get t q ≡ Some x
+
+-- No node is lost: as many come and go as the queue has messages more or less (this project's own).
+abbrev pub KeepsNodes : Slab Node → Chain → Slab Node → Chain → Type 0
+KeepsNodes s c t d = slab_len t + c.len ≡ slab_len s + d.len
 
 -- There is room for one node more, and a key of 32 bits (this project's own).
 abbrev pub HasRoom : Slab Node → Type 0

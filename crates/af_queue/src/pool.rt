@@ -1,5 +1,5 @@
 //! The messages of many queues in one table, each with the key of the one behind it.
-ghost use Rattle.std.specs.Prelude.{◌≡◌, ◌≢◌, ◌<◌, ◌≤◌, ◌∷◌, ◌++◌, ℕ, [], Some, IfSome, IfNone, IfErr, IfOk, OnOk, OnErr, drop, length, slice_get};
+ghost use Rattle.std.specs.Prelude.{◌≡◌, ◌≢◌, ◌<◌, ◌≤◌, ◌∷◌, ◌++◌, ℕ, [], Some, IfSome, IfNone, IfOk, IsOk, OnOk, OnErr, drop, length, slice_get};
 ghost use Rattle.std.specs.Option.{option_map_or};
 ghost use Rattle.slab.specs.Slab as slots;
 ghost use Rattle.slab.specs.Slab.{SameValues};
@@ -7,7 +7,7 @@ ghost use Rattle.smallvec.specs.SmallVec.{small_vec_len};
 ghost use Rattle.af_base.specs.Take.{cut, take_from, take_stream};
 ghost use Rattle.af_base.specs.Whole.{IsMessageWithin};
 ghost use Rattle.af_queue.specs.declared.chain.Node.{Node};
-ghost use Rattle.af_queue.specs.Chains.{messages_of, HasRoom, IsChain, SameElsewhere};
+ghost use Rattle.af_queue.specs.Chains.{messages_of, HasRoom, IsChain, KeepsNodes, SameElsewhere};
 ghost use Rattle.af_queue.specs.Received.{message_at, received, sender_at};
 
 use crate::chain::{Chain, Node};
@@ -21,31 +21,14 @@ use slab::Slab;
 use smallvec::SmallVec;
 use std::alloc::{AllocError, Global};
 
-/// One message more, last in this chain, which is that file's. Where memory is refused nothing has
-/// changed, and the message comes back.
+/// Makes room for one message more, so that the next `push` cannot fail. No queue changes. Refused
+/// where memory is, and where no key of 32 bits is left.
 #[inline(always)]
-pub fn push(nodes: &mut Slab<Node>, chain: &mut Chain, owner: Ino, message: Msg) -> Result<(), Msg>
-    requires chain { IsChain nodes.old chain.old owner }
-    requires few { length (messages_of nodes.old chain.old) < MAX_MESSAGES }
-    requires within { IsMessageWithin message }
-    ensures chain { IsChain nodes.new chain.new owner }
-    ensures messages { OnOk result (messages_of nodes.new chain.new ≡ messages_of nodes.old chain.old ++ message ∷ []) }
-    ensures others { SameElsewhere nodes.old nodes.new owner }
-    ensures back { IfErr result (λ refused. refused ≡ message) }
-    ensures same { OnErr result (messages_of nodes.new chain.new ≡ messages_of nodes.old chain.old) }
-{
-    if room(nodes).is_err() {
-        return Err(message);
-    }
-    append(nodes, chain, owner, message);
-    Ok(())
-}
-
-/// Room for one message more. Keys have 32 bits: where none is left, it is as if memory was refused.
-#[inline(always)]
-fn room(nodes: &mut Slab<Node>) -> Result<(), AllocError>
-    ensures same { SameValues nodes.old nodes.new }
+pub fn room(nodes: &mut Slab<Node>) -> Result<(), AllocError>
     ensures ok { OnOk result (HasRoom nodes.new) }
+    ensures succeeds { HasRoom nodes.old → IsOk result }
+    ensures same { SameValues nodes.old nodes.new }
+    ensures none_lost { slots.slab_len nodes.new ≡ slots.slab_len nodes.old }
 {
     if nodes.vacant_key() > u32::MAX as usize {
         return Err(AllocError);
@@ -53,16 +36,18 @@ fn room(nodes: &mut Slab<Node>) -> Result<(), AllocError>
     nodes.reserve(1)
 }
 
-/// The same where there is room for it: it takes no memory.
+/// Appends a message to this chain, which is that file's and not full. It cannot fail, since there is
+/// room.
 #[inline(always)]
-fn append(nodes: &mut Slab<Node>, chain: &mut Chain, owner: Ino, message: Msg)
+pub fn push(nodes: &mut Slab<Node>, chain: &mut Chain, owner: Ino, message: Msg)
     requires chain { IsChain nodes.old chain.old owner }
-    requires few { chain.old.len < MAX_MESSAGES }
+    requires few { length (messages_of nodes.old chain.old) < MAX_MESSAGES }
     requires within { IsMessageWithin message }
     requires room { HasRoom nodes.old }
     ensures chain { IsChain nodes.new chain.new owner }
     ensures messages { messages_of nodes.new chain.new ≡ messages_of nodes.old chain.old ++ message ∷ [] }
     ensures others { SameElsewhere nodes.old nodes.new owner }
+    ensures none_lost { KeepsNodes nodes.old chain.old nodes.new chain.new }
 {
     let key = nodes.insert_reserved(Node {
         message,
@@ -87,6 +72,7 @@ fn append(nodes: &mut Slab<Node>, chain: &mut Chain, owner: Ino, message: Msg)
 fn link(nodes: &mut Slab<Node>, key: u32, next: u32)
     ensures linked { (x : Node) → slots.get nodes.old key ≡ Some x → slots.get nodes.new key ≡ Some (record x { next = next }) }
     ensures others { (q : ℕ) → q ≢ key → slots.get nodes.new q ≡ slots.get nodes.old q }
+    ensures none_lost { slots.slab_len nodes.new ≡ slots.slab_len nodes.old }
 {
     if let Some(node) = nodes.get_mut(key as usize) {
         node.next = next;
@@ -103,6 +89,7 @@ pub fn pop(nodes: &mut Slab<Node>, chain: &mut Chain, owner: Ino) -> Option<Msg>
     ensures rest { messages_of nodes.new chain.new ≡ drop 1 (messages_of nodes.old chain.old) }
     ensures within { IfSome result IsMessageWithin }
     ensures others { SameElsewhere nodes.old nodes.new owner }
+    ensures none_lost { KeepsNodes nodes.old chain.old nodes.new chain.new }
 {
     if chain.len == 0 {
         return None;
@@ -132,6 +119,7 @@ pub fn take(
     ensures rest { OnOk result (messages_of nodes.new chain.new ≡ (take_from kind (messages_of nodes.old chain.old) max).rest) }
     ensures chain { IsChain nodes.new chain.new owner }
     ensures others { SameElsewhere nodes.old nodes.new owner }
+    ensures none_lost { KeepsNodes nodes.old chain.old nodes.new chain.new }
     ensures same { OnErr result (messages_of nodes.new chain.new ≡ messages_of nodes.old chain.old) }
 {
     match kind {
@@ -154,6 +142,7 @@ fn take_packet(
     ensures rest { messages_of nodes.new chain.new ≡ drop 1 (messages_of nodes.old chain.old) }
     ensures chain { IsChain nodes.new chain.new owner }
     ensures others { SameElsewhere nodes.old nodes.new owner }
+    ensures none_lost { KeepsNodes nodes.old chain.old nodes.new chain.new }
 {
     match pop(nodes, chain, owner) {
         Some(message) => message.into_taken(max),
@@ -175,6 +164,7 @@ fn take_stream(
     ensures rest { OnOk result (messages_of nodes.new chain.new ≡ (take_stream (messages_of nodes.old chain.old) max).rest) }
     ensures chain { IsChain nodes.new chain.new owner }
     ensures others { SameElsewhere nodes.old nodes.new owner }
+    ensures none_lost { KeepsNodes nodes.old chain.old nodes.new chain.new }
     ensures same { OnErr result (messages_of nodes.new chain.new ≡ messages_of nodes.old chain.old) }
 {
     let queue = Queue::of(nodes, chain);
@@ -204,6 +194,7 @@ fn cut(
     ensures user { result.1 ≡ sender_at count (messages_of nodes.old chain.old) }
     ensures chain { IsChain nodes.new chain.new owner }
     ensures others { SameElsewhere nodes.old nodes.new owner }
+    ensures none_lost { KeepsNodes nodes.old chain.old nodes.new chain.new }
 {
     let mut left = count;
     while let Some(rest) = drop_shorter(nodes, chain, owner, left) {
@@ -226,6 +217,7 @@ fn drop_shorter(
     ensures fewer { IfSome result (λ _. length (messages_of nodes.new chain.new) < length (messages_of nodes.old chain.old)) }
     ensures chain { IsChain nodes.new chain.new owner }
     ensures others { SameElsewhere nodes.old nodes.new owner }
+    ensures none_lost { KeepsNodes nodes.old chain.old nodes.new chain.new }
     ensures nodes { IfNone result (nodes.new ≡ nodes.old) }
     ensures same { IfNone result (chain.new ≡ chain.old) }
     ensures long { IfNone result (IfSome (slice_get (messages_of nodes.old chain.old) 0) (λ m. count ≤ length m.bytes)) }
@@ -256,6 +248,7 @@ fn cut_first(
     ensures user { result.1 ≡ option_map_or (λ m. m.user) (slice_get (messages_of nodes.old chain.old) 0) 0 }
     ensures chain { IsChain nodes.new chain.new owner }
     ensures others { SameElsewhere nodes.old nodes.new owner }
+    ensures none_lost { KeepsNodes nodes.old chain.old nodes.new chain.new }
 {
     if count < Queue::of(nodes, chain).front_len() {
         return shorten_first(nodes, chain, owner, alloc, count);
@@ -284,6 +277,7 @@ fn shorten_first(
     ensures user { result.1 ≡ option_map_or (λ m. m.user) (slice_get (messages_of nodes.old chain.now) 0) 0 }
     ensures chain { IsChain nodes.new chain.now owner }
     ensures others { SameElsewhere nodes.old nodes.new owner }
+    ensures none_lost { slots.slab_len nodes.new ≡ slots.slab_len nodes.old }
 {
     let Some(node) = nodes.get_mut(chain.first as usize) else {
         return (SmallVec::new(alloc), Uid(0));

@@ -1,7 +1,7 @@
 -- What is still to be cut is cut to the same.
 use Rattle.std.proofs.Common.{◌≡◌, ◌<◌, length}
 use Rattle.af_base.specs.Take.{cut}
-use Rattle.af_queue.specs.Chains.{messages_of, IsChain, SameElsewhere}
+use Rattle.af_queue.specs.Chains.{messages_of, IsChain, KeepsNodes, SameElsewhere}
 use Rattle.af_queue.specs.Received.{message_at}
 use Rattle.af_queue.proofs.pool.cut.Given as goal
 
@@ -12,6 +12,7 @@ invariant-loop-rest l = record {
   at : message_at l.left (messages_of l.nodes l.chain) ≡ message_at l.fn.count (messages_of l.initial.nodes l.initial.chain);
   chain : IsChain l.nodes l.chain l.fn.owner;
   others : SameElsewhere l.initial.nodes l.nodes l.fn.owner;
+  none_lost : KeepsNodes l.initial.nodes l.initial.chain l.nodes l.chain;
 }
 
 abbrev pub decreases-loop-rest : goal.decreases-loop-rest

@@ -1,21 +1,22 @@
-use Rattle.std.proofs.Common.{[], ◌∷◌, ◌++◌, ap, ◌∙◌, arith}
-use Rattle.af_queue.proofs.Chains.{path_many, same_queue}
+use Rattle.std.proofs.Common.{arith, refl}
+use Rattle.af_queue.proofs.Chains.{path_many, pushed, pushed_elsewhere}
 use Rattle.af_queue.proofs.pool.push.Goals as goal
 
-pub append-requires-clause-chain : goal.append-requires-clause-chain
-append-requires-clause-chain c = (same_queue c.args.nodes.now c.room.new.nodes c.args.owner c.args.chain.now c.room.ensures.same c.requires.chain).0
-
-pub append-requires-clause-few : goal.append-requires-clause-few
-append-requires-clause-few c =
+pub returns-clause-chain : goal.returns-clause-chain
+returns-clause-chain c =
     let chain = c.args.chain.now in
+    let insert = c.insert_reserved-key in
     let few = c.requires.few in
-    omega (arith, few, path_many c.args.nodes.now c.args.owner chain.last chain.first chain.len c.requires.chain.path)
+    record { few = omega (arith, few, path_many c.args.nodes.now c.args.owner chain.last chain.first chain.len c.requires.chain.path); path = (pushed c.args.nodes.now insert.new.self c.link.new.nodes c.args.owner chain.last insert.result _ insert.ensures.was_vacant refl c.requires.within insert.ensures.updates c.link.ensures.linked c.link.ensures.others chain.first chain.len c.if-chain-eq0.false c.requires.chain.path).0 }
 
 pub returns-clause-messages : goal.returns-clause-messages
-returns-clause-messages c = c.append.ensures.messages ∙ ap (λ q. q ++ c.args.message ∷ []) (same_queue c.args.nodes.now c.room.new.nodes c.args.owner c.args.chain.now c.room.ensures.same c.requires.chain).1
+returns-clause-messages c =
+    let chain = c.args.chain.now in
+    let insert = c.insert_reserved-key in
+    (pushed c.args.nodes.now insert.new.self c.link.new.nodes c.args.owner chain.last insert.result _ insert.ensures.was_vacant refl c.requires.within insert.ensures.updates c.link.ensures.linked c.link.ensures.others chain.first chain.len c.if-chain-eq0.false c.requires.chain.path).1
 
-pub returns-then-is_err-clause-chain : goal.returns-then-is_err-clause-chain
-returns-then-is_err-clause-chain c = (same_queue c.args.nodes.now c.room.new.nodes c.args.owner c.args.chain.now c.room.ensures.same c.requires.chain).0
-
-pub returns-then-is_err-clause-same : goal.returns-then-is_err-clause-same
-returns-then-is_err-clause-same c = (same_queue c.args.nodes.now c.room.new.nodes c.args.owner c.args.chain.now c.room.ensures.same c.requires.chain).1
+pub returns-clause-others : goal.returns-clause-others
+returns-clause-others c =
+    let chain = c.args.chain.now in
+    let insert = c.insert_reserved-key in
+    pushed_elsewhere c.args.nodes.now insert.new.self c.link.new.nodes c.args.owner chain.last insert.result _ insert.ensures.was_vacant refl c.requires.within insert.ensures.updates c.link.ensures.linked c.link.ensures.others chain.first chain.len c.if-chain-eq0.false c.requires.chain.path
