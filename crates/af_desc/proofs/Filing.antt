@@ -1,5 +1,5 @@
 -- That the rows fit all else, whatever comes, goes or is counted, and what is seen of them then.
-use Rattle.std.proofs.Common.{◌≡◌, ◌≤◌, ◌+◌, ◌-◌, ℕ, false, List, refl, sym, ap, ◌∙◌, subst, nat_eq, arith}
+use Rattle.std.proofs.Common.{◌≡◌, ◌≤◌, ◌+◌, ◌-◌, ℕ, Bool, false, List, refl, sym, ap, ◌∙◌, subst, nat_eq, arith}
 use Rattle.std.specs.Prelude.{None, Result, Ok, Err, OnErr, OnOk}
 use Rattle.std.specs.FinMap as map
 use Rattle.af_base.specs.Changes.{change_socket_at, file_with}
@@ -53,14 +53,21 @@ module _ {embryos bound white : ℕ} (old new : Rowed) (ws : List ℕ) (room : �
   pub filed-named : (fs : Map File) (left : Named) → new ≡ record old { files = fs } → map.contains_key fs 0 ≡ false → AreNamed left fs → AreFiled new ws room left next epoch grey most embryos bound white
   filed-named fs left is begins named = subst (λ r. AreFiled r ws room left next epoch grey most embryos bound white) (sym is) (record { above = h.above; begins = begins; named = named; waits = h.waits; fits = h.fits; listed = h.listed; backlogged = h.backlogged; whites = h.whites })
 
-  -- A socket changes, but for its name.
-  pub socket_changed : (f : ℕ) (g : Socket → Socket) → ((s : Socket) → (g s).name ≡ s.name) → new ≡ record old { files = change_socket_at g old.files f } → AreFiled new ws room names next epoch grey most embryos bound white
-  socket_changed f g same is = filed-named (change_socket_at g old.files f) names is (changed-live (file_with g) old.files f 0 ∙ h.begins) (named-changed names old.files f g same h.named)
+  -- A socket changes, but for its name, and there is room for a message more or less.
+  pub socket_changed : {b : Bool} (f : ℕ) (g : Socket → Socket) → ((s : Socket) → (g s).name ≡ s.name) → new ≡ record old { files = change_socket_at g old.files f; message_room = b } → AreFiled new ws room names next epoch grey most embryos bound white
+  socket_changed f g same is =
+      let begins = changed-live (file_with g) old.files f 0 ∙ h.begins in
+      subst (λ r. AreFiled r ws room names next epoch grey most embryos bound white) (sym is)
+      (record { above = h.above; begins = begins; named = named-changed names old.files f g same h.named; waits = h.waits; fits = h.fits; listed = h.listed; backlogged = h.backlogged; whites = h.whites })
 
   -- Or nothing does, where memory is refused.
-  pub socket_either : {A B : Type 0} (r : Result A B) (f : ℕ) (g : Socket → Socket) → ((s : Socket) → (g s).name ≡ s.name) → OnOk r (new ≡ record old { files = change_socket_at g old.files f }) → OnErr r (new ≡ old) → AreFiled new ws room names next epoch grey most embryos bound white
-  socket_either (Ok a) f g same ok err = socket_changed f g same ok
-  socket_either (Err b) f g same ok err = subst (λ r. AreFiled r ws room names next epoch grey most embryos bound white) (sym err) h
+  pub socket_either : {A B : Type 0} (b : Bool) (r : Result A B) (f : ℕ) (g : Socket → Socket) → ((s : Socket) → (g s).name ≡ s.name) → OnOk r (new ≡ record old { files = change_socket_at g old.files f; message_room = b }) → OnErr r (new ≡ old) → AreFiled new ws room names next epoch grey most embryos bound white
+  socket_either b (Ok a) f g same ok err = socket_changed f g same ok
+  socket_either b (Err e) f g same ok err = subst (λ r. AreFiled r ws room names next epoch grey most embryos bound white) (sym err) h
+
+  -- There is room for a message more or less.
+  pub filed-roomed : {b : Bool} → new ≡ record old { message_room = b } → AreFiled new ws room names next epoch grey most embryos bound white
+  filed-roomed is = subst (λ r. AreFiled r ws room names next epoch grey most embryos bound white) (sym is) (record { above = h.above; begins = h.begins; named = h.named; waits = h.waits; fits = h.fits; listed = h.listed; backlogged = h.backlogged; whites = h.whites })
 
   -- Other counts of the same files, and the list of those that wait then.
   pub filed-counted : (m : Map Count) (vs : List ℕ) (space : ℕ) → new ≡ record old { counts = m } → AreWaiting m vs → map.len new.counts ≡ map.len old.counts → room ≤ space → (n : ℕ) → AreEmbryos m n → AreFiled new vs space names next epoch grey most n bound white
@@ -101,7 +108,7 @@ module _ {embryos bound white : ℕ} (old new : Rowed) (ws : List ℕ) (room : �
 -- What is seen of rows in a pass, with this bound and this next number.
 module _ (epoch bound : ℕ) where
   abbrev pub seen : Rowed → ℕ → Filed
-  seen r next = record { files = r.files; counts = r.counts; marks = record { colors = colors_in epoch r.marks; bound = bound }; next = next }
+  seen r next = record { files = r.files; counts = r.counts; marks = record { colors = colors_in epoch r.marks; bound = bound }; next = next; message_room = r.message_room }
 
   -- Of a file more.
   pub seen-entered : (r : Rowed) (next room : ℕ) (x : File) → seen (with_row next x room r) (next + 1) ≡ entered x (seen r next)

@@ -6,7 +6,7 @@ use Rattle.std.specs.FinMap as map
 use Rattle.std.specs.FinMap.{nat_cmp-IsAntisymmetric, same_map}
 use Rattle.std.specs.Ordering.{nat_cmp}
 use Rattle.std.specs.Cmp.{nat_cmp_total}
-use Rattle.slab.specs.Slab.{Slab}
+use Rattle.slab.specs.Slab.{SameValues, Slab}
 use Rattle.af_base.specs.Changes.{change_socket_at, file_with}
 use Rattle.af_base.specs.Places.{carried, contents, held_in}
 use Rattle.af_base.specs.Refusals.{socket_of}
@@ -16,7 +16,7 @@ use Rattle.af_order.proofs.Parts.{part_get, part_kept, part_put}
 use Rattle.af_order.proofs.Values.{lent_changed, lent_same}
 use Rattle.af_queue.specs.Chains.{messages_of, IsChain, SameElsewhere}
 use Rattle.af_queue.specs.declared.chain.Node.{Node}
-use Rattle.af_queue.proofs.Chains.{none_chain, none_of, other_queue}
+use Rattle.af_queue.proofs.Chains.{none_chain, none_of, other_queue, same_queue}
 use Rattle.af_desc.specs.Filed.{socket_in}
 use Rattle.af_desc.specs.Rowed.{counts_of, file_in, file_of, files_of, marks_of, refilled, AreChained}
 use Rattle.af_desc.specs.declared.row.Row.{Row}
@@ -136,6 +136,17 @@ module _ (s t : Slab Node) (m : Map Row) (f o : ℕ) (y : Row) (e : o ≡ f) (h 
 
   pub messages_stay : (x : Row) → map.get m f ≡ Some x → file_in t y ≡ file_in s x → files_of t (map.insert m f y) ≡ files_of s m
   messages_stay x at is = files_changed ∙ lent_same (files_of s m) f (file_in s x) (file_in t y) (file_is m f x at s) is
+
+-- There is room for messages more: those of all files stay.
+module _ (s t : Slab Node) (m : Map Row) (same : SameValues s t) (h : AreChained s m) where
+  pub chains_roomed : AreChained t m
+  chains_roomed = record { each = λ g z at. (same_queue s t g z.chain same (h.each g z at)).0 }
+
+  pub files_roomed : files_of t m ≡ files_of s m
+  files_roomed = same_map nat_cmp_total nat_cmp-IsAntisymmetric _ _ (λ g. part_get (file_in t) m g ∙ by g (map.get m g) refl ∙ sym (part_get (file_in s) m g)) where
+    by : (g : ℕ) (q : Option Row) → map.get m g ≡ q → option_map (file_in t) q ≡ option_map (file_in s) q
+    by g None was = refl
+    by g (Some z) was = ap (λ q. Some (file_of (option_map (refilled q) z.endpoint))) (same_queue s t g z.chain same (h.each g z was)).1
 
 -- What is no socket has nothing to receive, and no change of a socket changes it.
 module _ (s : Slab Node) (m : Map Row) (f : ℕ) where

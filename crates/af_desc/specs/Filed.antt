@@ -24,12 +24,13 @@ use Rattle.af_mark.specs.Marked.{Marked, born, forgotten, white_count}
 use Rattle.af_queue.specs.Received.{Received, received}
 use Rattle.af_desc.specs.Rowed.{Rowed}
 
--- The world's files, how many places hold each, what a pass knows of each, and the number that the next one gets (this project's own).
+-- The world's files, how many places hold each, what a pass knows of each, the number that the next one gets, and whether there is room for a message more (this project's own).
 pub record Filed : Type 0 where
   pub files : Map File
   pub counts : Map Count
   pub marks : Marked
   pub next : ℕ
+  pub message_room : Bool
 
 -- Whether k files more are too many, or have no inode numbers left (open(2), ENFILE).
 abbrev pub is_full : Filed → ℕ → Bool
@@ -41,7 +42,7 @@ is_live v f = map.contains_key v.files f
 
 -- A file more, under the next number, which no place holds and no pass has marked (this project's own).
 abbrev pub entered : File → Filed → Filed
-entered x v = record { files = map.insert v.files v.next x; counts = map.insert v.counts v.next uncounted; marks = born v.next v.marks; next = v.next + 1 }
+entered x v = record v { files = map.insert v.files v.next x; counts = map.insert v.counts v.next uncounted; marks = born v.next v.marks; next = v.next + 1 }
 
 -- Two sockets more, connected to each other (socketpair(2)).
 abbrev pub paired : SockType → Filed → Filed
@@ -62,6 +63,10 @@ lowered p f v = record v { counts = map.insert v.counts f (fewer p (count_in_map
 -- The file f is changed, if it is a socket (this project's own).
 abbrev pub changed : (Socket → Socket) → ℕ → Filed → Filed
 changed g f v = record v { files = change_socket_at g v.files f }
+
+-- The same, and room for a message comes or goes (this project's own).
+abbrev pub changed_queue : (Socket → Socket) → ℕ → Bool → Filed → Filed
+changed_queue g f room v = record (changed g f v) { message_room = room }
 
 -- A socket whose peer is gone (unix(7)).
 abbrev pub hung_up : Socket → Socket

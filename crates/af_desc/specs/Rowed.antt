@@ -16,17 +16,18 @@ use Rattle.af_queue.specs.Chains.{messages_of, IsChain}
 use Rattle.af_queue.specs.declared.chain.Node.{Node}
 use Rattle.af_desc.specs.declared.row.Row.{Row}
 
--- The files, how many places hold each, the mark of each, the last number that there was, and for how many more there is room (this project's own).
+-- The files, how many places hold each, the mark of each, the last number that there was, for how many more there is room, and whether there is room for a message more (this project's own).
 pub record Rowed : Type 0 where
   pub files : Map File
   pub counts : Map Count
   pub marks : Map Mark
   pub last : ℕ
   pub room : ℕ
+  pub message_room : Bool
 
 -- A row more, of this file, which no place holds and no pass has marked; there is so much room then (this project's own).
 abbrev pub with_row : ℕ → File → ℕ → Rowed → Rowed
-with_row f x room r = record { files = map.insert r.files f x; counts = map.insert r.counts f uncounted; marks = map.insert r.marks f unmarked; last = f; room = room }
+with_row f x room r = record r { files = map.insert r.files f x; counts = map.insert r.counts f uncounted; marks = map.insert r.marks f unmarked; last = f; room = room }
 
 -- A row less (this project's own).
 abbrev pub without_row : ℕ → ℕ → Rowed → Rowed

@@ -1,5 +1,5 @@
 //! The files, by their numbers.
-ghost use Rattle.std.specs.Prelude.{◌≡◌, ℕ, ◌+◌, ◌<◌, ◌∷◌, ◌≤◌, [], false, None, IsTrue, IfSome, IfNone, IfErr, IfOk, OnOk, OnErr, is_none, length, drop, vec_capacity};
+ghost use Rattle.std.specs.Prelude.{◌≡◌, ℕ, ◌+◌, ◌<◌, ◌∷◌, ◌≤◌, [], false, None, IsTrue, IsOk, IfSome, IfNone, IfErr, IfOk, OnOk, OnErr, is_none, length, drop, true, vec_capacity};
 ghost use Rattle.std.specs.FinMap as map;
 ghost use Rattle.af_base.specs.World as world;
 ghost use Rattle.af_base.specs.Places.{backlog_in, queue_in};
@@ -11,7 +11,7 @@ ghost use Rattle.af_base.specs.Whole.{IsMessageWithin};
 ghost use Rattle.af_ledger.specs.Kept.{AreWaiting};
 ghost use Rattle.af_mark.specs.Marked.{is_grey};
 ghost use Rattle.af_desc.specs.Rowed.{file_of, with_row};
-ghost use Rattle.af_desc.specs.Filed.{changed, entered, hung_up, is_full, is_live, name_of, paired, popped, received_from, received_of, socket_in, state_in, without};
+ghost use Rattle.af_desc.specs.Filed.{changed, changed_queue, entered, hung_up, is_full, is_live, name_of, paired, popped, received_from, received_of, socket_in, state_in, without};
 
 use crate::rows::Rows;
 use crate::socket::{Endpoint, Socket};
@@ -59,7 +59,7 @@ impl Model for Files {
 
     ghost coded = { Prim.hlevel (codes, map.code) };
 
-    ghost view = { λ a. record { files = a.rows.files; counts = a.rows.counts; marks = record { colors = colors_in a.epoch a.rows.marks; bound = a.bound }; next = a.next } };
+    ghost view = { λ a. record { files = a.rows.files; counts = a.rows.counts; marks = record { colors = colors_in a.epoch a.rows.marks; bound = a.bound }; next = a.next; message_room = a.rows.message_room } };
 
     ghost invariant = { λ a. AreFiled a.rows a.waiting.items (vec_capacity a.waiting) a.names a.next a.epoch a.grey.items (vec_capacity a.grey) a.embryos a.bound a.white };
 }
@@ -68,7 +68,10 @@ impl Files {
     /// No file; numbers begin at 1. It takes no memory.
     #[tactic(auto, using(crate::proofs::Begun::begun))]
     pub fn new(alloc: Global) -> Files
-        ensures { result ≡ record { files = map.empty; counts = map.empty; marks = record { colors = map.empty; bound = 0 }; next = 1 } }
+        ensures files { result.files ≡ map.empty }
+        ensures counts { result.counts ≡ map.empty }
+        ensures marks { result.marks ≡ record { colors = map.empty; bound = 0 } }
+        ensures next { result.next ≡ 1 }
     {
         Files {
             alloc,
@@ -249,17 +252,25 @@ impl Files {
         self.rows.hang_up(file);
     }
 
-    /// One message more, last in the queue of that socket, which is not full. A plain file or a
-    /// stranger has no queue, and there the message is dropped. Where memory is refused nothing has
-    /// changed, and the message comes back.
-    pub fn push(&mut self, file: &FileRef, message: Msg) -> Result<(), Msg>
+    /// Makes room for one message more, so that the next `push` cannot fail. On an error no file has
+    /// changed.
+    pub fn room_for_message(&mut self) -> Result<(), AllocError>
+        ensures ok { OnOk result (self.new.message_room ≡ true) }
+        ensures succeeds { self.old.message_room ≡ true → IsOk result }
+        ensures rest { self.new ≡ record self.old { message_room = self.new.message_room } }
+    {
+        self.rows.room_for_message()
+    }
+
+    /// Appends a message to the queue of that socket, which is not full. A plain file or a stranger has
+    /// no queue, and there the message is dropped. It cannot fail, since there is room.
+    pub fn push(&mut self, file: &FileRef, message: Msg)
         requires few { length (queue_in self.old.files file.now) < MAX_MESSAGES }
         requires within { IsMessageWithin message }
-        ensures ok { OnOk result (self.new ≡ changed (pushed message) file.now self.old) }
-        ensures back { IfErr result (λ refused. refused ≡ message) }
-        ensures err { OnErr result (self.new ≡ self.old) }
+        requires room { self.old.message_room ≡ true }
+        ensures { self.new ≡ changed_queue (pushed message) file.now self.new.message_room self.old }
     {
-        self.rows.push_message(file, message)
+        self.rows.push_message(file, message);
     }
 
     /// A copy of what a receive of at most so many bytes would take out of the queue of that socket
@@ -279,7 +290,7 @@ impl Files {
     pub fn take(&mut self, file: &FileRef, max: usize) -> Result<Taken, AllocError>
         requires { 0 < max }
         ensures taken { IfOk result (λ t. t ≡ received_of (socket_in self.old.files file.now) max) }
-        ensures ok { OnOk result (self.new ≡ changed (received_from max) file.now self.old) }
+        ensures ok { OnOk result (self.new ≡ changed_queue (received_from max) file.now self.new.message_room self.old) }
         ensures err { OnErr result (self.new ≡ self.old) }
     {
         self.rows.take(file, self.alloc, max)
@@ -290,7 +301,7 @@ impl Files {
     pub fn pop(&mut self, file: &FileRef) -> Option<Msg>
         ensures some { IfSome result (λ m. queue_in self.old.files file.now ≡ m ∷ drop 1 (queue_in self.old.files file.now)) }
         ensures none { IfNone result (queue_in self.old.files file.now ≡ []) }
-        ensures rest { self.new ≡ changed popped file.now self.old }
+        ensures rest { self.new ≡ changed_queue popped file.now self.new.message_room self.old }
     {
         self.rows.pop_message(file)
     }

@@ -1,10 +1,10 @@
 //! What is kept of one file.
-ghost use Rattle.std.specs.Prelude.{◌≡◌, ◌<◌, ◌∷◌, [], IfSome, IfNone, IfErr, IfOk, OnOk, OnErr, drop, length, true};
+ghost use Rattle.std.specs.Prelude.{◌≡◌, ◌<◌, ◌∷◌, [], IfSome, IfNone, IfOk, OnOk, OnErr, drop, length, true};
 ghost use Rattle.af_base.specs.Changes.{file_with, pushed};
 ghost use Rattle.af_base.specs.Places.{contents, queue_of};
 ghost use Rattle.af_base.specs.Refusals.{socket_of};
 ghost use Rattle.af_base.specs.Whole.{IsMessageWithin};
-ghost use Rattle.af_queue.specs.Chains.{IsChain, SameElsewhere};
+ghost use Rattle.af_queue.specs.Chains.{has_room, IsChain, SameElsewhere};
 ghost use Rattle.af_desc.specs.Filed.{popped, received_from, received_of};
 ghost use Rattle.af_desc.specs.Rowed.{file_in};
 
@@ -45,24 +45,22 @@ impl Row {
         }
     }
 
-    /// One message more, last in its queue, which is not full; a plain file has none, and the message
-    /// goes. Where memory is refused nothing has changed, and the message comes back.
+    /// Appends a message to its queue, which is not full. A plain file has none, and the message is
+    /// dropped. It cannot fail, since there is room.
     #[inline(always)]
-    pub fn push(&mut self, nodes: &mut Slab<Node>, owner: Ino, message: Msg) -> Result<(), Msg>
+    pub fn push(&mut self, nodes: &mut Slab<Node>, owner: Ino, message: Msg)
         requires chain { IsChain nodes.old self.old.chain owner }
         requires few { length (queue_of (file_in nodes.old self.old)) < MAX_MESSAGES }
         requires within { IsMessageWithin message }
-        ensures file { OnOk result (file_in nodes.new self.new ≡ file_with (pushed message) (file_in nodes.old self.old)) }
-        ensures back { IfErr result (λ refused. refused ≡ message) }
-        ensures err { OnErr result (file_in nodes.new self.new ≡ file_in nodes.old self.old) }
+        requires room { has_room nodes.old ≡ true }
+        ensures file { file_in nodes.new self.new ≡ file_with (pushed message) (file_in nodes.old self.old) }
         ensures chain { IsChain nodes.new self.new.chain owner }
         ensures others { SameElsewhere nodes.old nodes.new owner }
         ensures rest { self.new ≡ record self.old { chain = self.new.chain } }
     {
-        let Some(_) = &self.endpoint else {
-            return Ok(());
-        };
-        pool::push(nodes, &mut self.chain, owner, message)
+        if let Some(_) = &self.endpoint {
+            pool::push(nodes, &mut self.chain, owner, message);
+        }
     }
 
     /// The first message out of its queue, if there is one. It takes no memory.
@@ -97,6 +95,7 @@ impl Row {
         ensures taken { IfOk result (λ t. t ≡ received_of (socket_of (file_in nodes.old self.old)) max) }
         ensures file { OnOk result (file_in nodes.new self.new ≡ file_with (received_from max) (file_in nodes.old self.old)) }
         ensures err { OnErr result (file_in nodes.new self.new ≡ file_in nodes.old self.old) }
+        ensures unchanged { OnErr result (nodes.new ≡ nodes.old) }
         ensures chain { IsChain nodes.new self.new.chain owner }
         ensures others { SameElsewhere nodes.old nodes.new owner }
         ensures rest { self.new ≡ record self.old { chain = self.new.chain } }

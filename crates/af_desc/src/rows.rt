@@ -18,7 +18,7 @@ use af_base::names::{FileRef, Ino};
 use af_ledger::{Count, Place};
 use af_mark::{Color, Mark};
 use af_order::Keyed;
-use af_queue::{Chain, Msg, Node, Queue, Taken};
+use af_queue::{Chain, Msg, Node, Queue, Taken, pool};
 use slab::Slab;
 use std::alloc::{AllocError, Global};
 use std::marker::Model;
@@ -36,13 +36,14 @@ pub struct Rows {
 impl Model for Rows {
     ghost use Rattle.std.specs.FinMap as map;
     ghost use Rattle.std.specs.Coded.{codes};
+    ghost use Rattle.af_queue.specs.Chains.{has_room};
     ghost use Rattle.af_desc.specs.Rowed.{Rowed, counts_of, files_of, marks_of, AreChained};
 
     ghost Value = { Rowed };
 
     ghost coded = { Prim.hlevel (codes, map.code) };
 
-    ghost view = { λ a. record { files = files_of a.nodes a.rows.values; counts = counts_of a.rows.values; marks = marks_of a.rows.values; last = a.rows.last; room = a.rows.room } };
+    ghost view = { λ a. record { files = files_of a.nodes a.rows.values; counts = counts_of a.rows.values; marks = marks_of a.rows.values; last = a.rows.last; room = a.rows.room; message_room = has_room a.nodes } };
 
     ghost invariant = { λ a. AreChained a.nodes a.rows.values };
 }
@@ -262,22 +263,28 @@ impl Rows {
         endpoint.dequeue()
     }
 
-    /// One message more, last in the queue of that socket, which is not full; a plain file or a
-    /// stranger has none, and the message goes. Where memory is refused nothing has changed, and the
-    /// message comes back.
+    /// Makes room for one message more, so that the next `push_message` cannot fail.
+    pub fn room_for_message(&mut self) -> Result<(), AllocError>
+        ensures ok { OnOk result (self.new.message_room ≡ true) }
+        ensures succeeds { self.old.message_room ≡ true → IsOk result }
+        ensures rest { self.new ≡ record self.old { message_room = self.new.message_room } }
+    {
+        pool::room(&mut self.nodes)
+    }
+
+    /// Appends a message to the queue of that socket, which is not full. A plain file or a stranger has
+    /// none, and the message is dropped. It cannot fail, since there is room.
     #[inline(always)]
     #[tactic(auto, using(crate::proofs::Rowed::messages, af_order::proofs::Parts::parts))]
-    pub fn push_message(&mut self, file: &FileRef, message: Msg) -> Result<(), Msg>
+    pub fn push_message(&mut self, file: &FileRef, message: Msg)
         requires few { length (queue_in self.old.files file.now) < MAX_MESSAGES }
         requires within { IsMessageWithin message }
-        ensures ok { OnOk result (self.new ≡ record self.old { files = change_socket_at (pushed message) self.old.files file.now }) }
-        ensures back { IfErr result (λ refused. refused ≡ message) }
-        ensures err { OnErr result (self.new ≡ self.old) }
+        requires room { self.old.message_room ≡ true }
+        ensures { self.new ≡ record self.old { files = change_socket_at (pushed message) self.old.files file.now; message_room = self.new.message_room } }
     {
-        let Some(row) = self.rows.get_mut(file) else {
-            return Ok(());
-        };
-        row.push(&mut self.nodes, file.ino(), message)
+        if let Some(row) = self.rows.get_mut(file) {
+            row.push(&mut self.nodes, file.ino(), message);
+        }
     }
 
     /// The first message out of the queue of that socket, if there is one. It takes no memory.
@@ -286,7 +293,7 @@ impl Rows {
     pub fn pop_message(&mut self, file: &FileRef) -> Option<Msg>
         ensures some { IfSome result (λ m. queue_in self.old.files file.now ≡ m ∷ drop 1 (queue_in self.old.files file.now)) }
         ensures none { IfNone result (queue_in self.old.files file.now ≡ []) }
-        ensures rest { self.new ≡ record self.old { files = change_socket_at popped self.old.files file.now } }
+        ensures rest { self.new ≡ record self.old { files = change_socket_at popped self.old.files file.now; message_room = self.new.message_room } }
     {
         let row = self.rows.get_mut(file)?;
         row.pop(&mut self.nodes, file.ino())
@@ -299,7 +306,7 @@ impl Rows {
     pub fn take(&mut self, file: &FileRef, alloc: Global, max: usize) -> Result<Taken, AllocError>
         requires { 0 < max }
         ensures taken { IfOk result (λ t. t ≡ received_of (socket_in self.old.files file.now) max) }
-        ensures rest { OnOk result (self.new ≡ record self.old { files = change_socket_at (received_from max) self.old.files file.now }) }
+        ensures rest { OnOk result (self.new ≡ record self.old { files = change_socket_at (received_from max) self.old.files file.now; message_room = self.new.message_room }) }
         ensures err { OnErr result (self.new ≡ self.old) }
     {
         let Some(row) = self.rows.get_mut(file) else {

@@ -1,5 +1,5 @@
 -- Messages of many queues in one slab, each linked to the one behind it.
-use Rattle.std.specs.Prelude.{◌≡◌, ◌≢◌, ◌<◌, ◌≤◌, ◌+◌, ◌^◌, ℕ, zero, suc, List, [], ◌∷◌, Some, nat_eq, false}
+use Rattle.std.specs.Prelude.{◌≡◌, ◌&&◌, Bool, nat_lt, ◌≢◌, ◌<◌, ◌≤◌, ◌+◌, ◌^◌, ℕ, zero, suc, List, [], ◌∷◌, Some, nat_eq, false}
 use Rattle.std.specs.List.{list_any}
 use Rattle.std.specs.Option.{option_map_or}
 use Rattle.slab.specs.Slab as slots
@@ -50,3 +50,7 @@ KeepsNodes s c t d = slab_len t + c.len ≡ slab_len s + d.len
 -- There is room for one node more, and a key of 32 bits (this project's own).
 abbrev pub HasRoom : Slab Node → Type 0
 HasRoom s = HasRoomFor s 1 × (s.vacant_key < 2 ^ 32)
+
+-- Whether there is (this project's own).
+abbrev pub has_room : Slab Node → Bool
+has_room s = nat_lt (slab_len s) s.capacity && nat_lt s.vacant_key (2 ^ 32)

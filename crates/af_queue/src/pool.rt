@@ -1,13 +1,12 @@
 //! The messages of many queues in one table, each with the key of the one behind it.
-ghost use Rattle.std.specs.Prelude.{◌≡◌, ◌≢◌, ◌<◌, ◌≤◌, ◌∷◌, ◌++◌, ℕ, [], Some, IfSome, IfNone, IfOk, IsOk, OnOk, OnErr, drop, length, slice_get};
+ghost use Rattle.std.specs.Prelude.{◌≡◌, ◌≢◌, ◌<◌, ◌≤◌, ◌∷◌, ◌++◌, ℕ, [], Some, IfSome, IfNone, IfOk, IsOk, OnOk, OnErr, drop, length, slice_get, true};
 ghost use Rattle.std.specs.Option.{option_map_or};
 ghost use Rattle.slab.specs.Slab as slots;
-ghost use Rattle.slab.specs.Slab.{SameValues};
 ghost use Rattle.smallvec.specs.SmallVec.{small_vec_len};
 ghost use Rattle.af_base.specs.Take.{cut, take_from, take_stream};
 ghost use Rattle.af_base.specs.Whole.{IsMessageWithin};
 ghost use Rattle.af_queue.specs.declared.chain.Node.{Node};
-ghost use Rattle.af_queue.specs.Chains.{messages_of, HasRoom, IsChain, KeepsNodes, SameElsewhere};
+ghost use Rattle.af_queue.specs.Chains.{has_room, messages_of, IsChain, KeepsNodes, SameElsewhere};
 ghost use Rattle.af_queue.specs.Received.{message_at, received, sender_at};
 
 use crate::chain::{Chain, Node};
@@ -25,10 +24,9 @@ use std::alloc::{AllocError, Global};
 /// where memory is, and where no key of 32 bits is left.
 #[inline(always)]
 pub fn room(nodes: &mut Slab<Node>) -> Result<(), AllocError>
-    ensures ok { OnOk result (HasRoom nodes.new) }
-    ensures succeeds { HasRoom nodes.old → IsOk result }
-    ensures same { SameValues nodes.old nodes.new }
-    ensures none_lost { slots.slab_len nodes.new ≡ slots.slab_len nodes.old }
+    ensures ok { OnOk result (has_room nodes.new ≡ true) }
+    ensures succeeds { has_room nodes.old ≡ true → IsOk result }
+    ensures rest { nodes.new ≡ record nodes.old { capacity = nodes.new.capacity } }
 {
     if nodes.vacant_key() > u32::MAX as usize {
         return Err(AllocError);
@@ -43,7 +41,7 @@ pub fn push(nodes: &mut Slab<Node>, chain: &mut Chain, owner: Ino, message: Msg)
     requires chain { IsChain nodes.old chain.old owner }
     requires few { length (messages_of nodes.old chain.old) < MAX_MESSAGES }
     requires within { IsMessageWithin message }
-    requires room { HasRoom nodes.old }
+    requires room { has_room nodes.old ≡ true }
     ensures chain { IsChain nodes.new chain.new owner }
     ensures messages { messages_of nodes.new chain.new ≡ messages_of nodes.old chain.old ++ message ∷ [] }
     ensures others { SameElsewhere nodes.old nodes.new owner }
@@ -121,6 +119,7 @@ pub fn take(
     ensures others { SameElsewhere nodes.old nodes.new owner }
     ensures none_lost { KeepsNodes nodes.old chain.old nodes.new chain.new }
     ensures same { OnErr result (messages_of nodes.new chain.new ≡ messages_of nodes.old chain.old) }
+    ensures unchanged { OnErr result (nodes.new ≡ nodes.old) }
 {
     match kind {
         SockType::Stream => take_stream(nodes, chain, owner, alloc, max),
@@ -166,6 +165,7 @@ fn take_stream(
     ensures others { SameElsewhere nodes.old nodes.new owner }
     ensures none_lost { KeepsNodes nodes.old chain.old nodes.new chain.new }
     ensures same { OnErr result (messages_of nodes.new chain.new ≡ messages_of nodes.old chain.old) }
+    ensures unchanged { OnErr result (nodes.new ≡ nodes.old) }
 {
     let queue = Queue::of(nodes, chain);
     let (count, _) = queue.span(max);

@@ -36,5 +36,5 @@ invariant_of-result c =
       whites = white-none m 0 1;
     }
 
-pub returns : goal.returns
-returns c = λ i. record { files = c.new.ensures.files i; counts = c.new.ensures.counts i; marks = record { colors = part_none (color_in 0) c.new.result.marks c.new.ensures.marks i; bound = 0 }; next = 1 }
+pub returns-clause-marks : goal.returns-clause-marks
+returns-clause-marks c = λ i. record { colors = part_none (color_in 0) c.new.result.marks c.new.ensures.marks i; bound = 0 }

@@ -9,5 +9,5 @@ push-requires-clause-chain c =
     let at = sym c.get_mut.ensures.value ∙ ap option_copied_mut c.in-Some.is in
     chained_at a.nodes a.rows.values c.args.file.now c.ino.result c.in-Some.row.now c.ino.ensures at c.self.invariant
 
-pub invariant_of-self-2 : goal.invariant_of-self-2
-invariant_of-self-2 c = chains_changed c.self.inside.nodes c.push.new.nodes c.self.inside.rows.values c.args.file.now c.ino.result c.push.new.self c.ino.ensures c.self.invariant c.push.ensures.chain c.push.ensures.others
+pub invariant_of-self : goal.invariant_of-self
+invariant_of-self c = chains_changed c.self.inside.nodes c.push.new.nodes c.self.inside.rows.values c.args.file.now c.ino.result c.push.new.self c.ino.ensures c.self.invariant c.push.ensures.chain c.push.ensures.others
