@@ -1,5 +1,5 @@
 -- What stands in a store: it is exact, and what is kept of the pass is kept with it.
-use Rattle.std.proofs.Common.{◌≡◌, ℕ, List, false, ap, sym, ◌∙◌, subst}
+use Rattle.std.proofs.Common.{◌≡◌, ℕ, Bool, List, false, ap, sym, ◌∙◌, subst}
 use Rattle.std.specs.Prelude.{Err, IsTrue, Ok, OnErr, OnOk, Result, is_none}
 use Rattle.std.specs.FinMap as map
 use Rattle.af_base.specs.World.{AsSocket, Socket, World}
@@ -57,15 +57,15 @@ module _ {T E : Type 0} (r : Result T E) (p : Parts) (h : Inside) (new : Filed) 
 
 -- What a store shows of these holdings, where the pass is that of these parts.
 abbrev pub shown : Parts → Stored → Shown
-shown p t = record { world = t.world; rows = t.rows; pass = pass_of p.progress.stage p.begun.value.world p.progress.looked; marks = t.marks; progress = p.progress }
+shown p t = record { world = t.world; rows = t.rows; message_room = t.message_room; pass = pass_of p.progress.stage p.begun.value.world p.progress.looked; marks = t.marks; progress = p.progress }
 
 -- Where the world alone is changed, a caller sees it change so.
 pub seen-changed : (p : Parts) (h : Inside) (o : Shown) (f : World → World) → the_view h ≡ p.places → shown p p.places ≡ o → shown p (record (the_view h) { world = f (the_view h).world }) ≡ record o { world = f o.world }
 seen-changed p h o f opened is = ap {A = Stored} {B = Shown} (λ t. shown p (record t { world = f t.world })) opened ∙ ap {A = Shown} {B = Shown} (λ t. record t { world = f t.world }) is
 
--- The same, where other files are marked then.
-pub seen-marked : (p : Parts) (h : Inside) (o : Shown) (f : World → World) (m : Marked) → the_view h ≡ p.places → shown p p.places ≡ o → shown p (record (the_view h) { world = f (the_view h).world; marks = m }) ≡ record o { world = f o.world; marks = m }
-seen-marked p h o f m opened is = ap {A = Stored} {B = Shown} (λ t. shown p (record t { world = f t.world; marks = m })) opened ∙ ap {A = Shown} {B = Shown} (λ t. record t { world = f t.world; marks = m }) is
+-- The same, where other files are marked then, and there is room for a message more or less.
+pub seen-moved : (p : Parts) (h : Inside) (o : Shown) (f : World → World) (m : Marked) (b : Bool) → the_view h ≡ p.places → shown p p.places ≡ o → shown p (record (the_view h) { world = f (the_view h).world; marks = m; message_room = b }) ≡ record o { world = f o.world; marks = m; message_room = b }
+seen-moved p h o f m b opened is = ap {A = Stored} {B = Shown} (λ t. shown p (record t { world = f t.world; marks = m; message_room = b })) opened ∙ ap {A = Shown} {B = Shown} (λ t. record t { world = f t.world; marks = m; message_room = b }) is
 
 -- And what a caller sees of the world is what stands there.
 pub seen-world : (p : Parts) (h : Inside) (o : Shown) → the_view h ≡ p.places → shown p p.places ≡ o → o.world ≡ (the_view h).world

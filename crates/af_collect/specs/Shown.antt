@@ -1,5 +1,5 @@
 -- What a store shows, and what its parts keep.
-use Rattle.std.specs.Prelude.{◌≡◌, ℕ, List, [], Option, None, Some, slice_get, true}
+use Rattle.std.specs.Prelude.{◌≡◌, ℕ, Bool, List, [], Option, None, Some, slice_get, true}
 use Rattle.std.specs.Option.{option_map_or}
 use Rattle.af_base.specs.declared.events.Reply.{Reply}
 use Rattle.af_base.specs.declared.events.Reply.TheVariants as reply
@@ -13,10 +13,11 @@ use Rattle.af_pass.specs.Keeping.{IsKept, is_marking}
 use Rattle.af_pass.specs.declared.Progress.{Progress}
 use Rattle.af_collect.specs.declared.parts.Parts.{Parts}
 
--- The world, below which number each table has room, the pass that runs, which files it has marked, and how far it is (this project's profile).
+-- The world, below which number each table has room, whether there is room for a message more, the pass that runs, which files it has marked, and how far it is (this project's profile).
 pub record Shown : Type 0 where
   pub world : World
   pub rows : Map ℕ
+  pub message_room : Bool
   pub pass : Pass
   pub marks : Marked
   pub progress : Progress

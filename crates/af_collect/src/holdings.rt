@@ -42,7 +42,7 @@ impl Model for Holdings {
 
     ghost coded = { Prim.hlevel (codes, map.code) };
 
-    ghost view = { λ a. record { world = world_of a.procs a.files a.ledger; rows = a.procs.rows; marks = a.files.marks } };
+    ghost view = { λ a. record { world = world_of a.procs a.files a.ledger; rows = a.procs.rows; message_room = a.files.message_room; marks = a.files.marks } };
 
     ghost invariant = { λ a. AreExact a.procs a.files a.ledger };
 }

@@ -1,7 +1,7 @@
 //! Place changes of single numbers and messages. Each is one change of the world, and keeps the
 //! counts in step with it. A file that lost its last place waits, with all that it holds, until
 //! `release` comes to it.
-ghost use Rattle.std.specs.Prelude.{◌≡◌, ◌<◌, ◌≤◌, ◌+◌, ◌∷◌, ◌^◌, [], ℕ, None, IsTrue, IfOk, OnOk, OnErr, length, map, drop, false, is_none};
+ghost use Rattle.std.specs.Prelude.{◌≡◌, ◌<◌, ◌≤◌, ◌+◌, ◌∷◌, ◌^◌, [], ℕ, None, IsTrue, IfOk, OnOk, OnErr, length, map, drop, false, is_none, true};
 ghost use Rattle.std.specs.List.{zip, All, Contains};
 ghost use Rattle.std.specs.FinMap as finmap;
 ghost use Rattle.af_base.specs.World as world;
@@ -55,9 +55,9 @@ impl Store {
         places.files.lower(&Place::Table, &file);
     }
 
-    /// A message into the queue of a socket, last. It carries live files, and each of these places is
-    /// charged to its user, who is the user of a process. On an error nothing has changed.
-    pub fn put_msg(&mut self, socket: &FileRef, message: Msg) -> Result<(), AllocError>
+    /// Appends a message to the queue of a socket. It carries live files, and each of these places is
+    /// charged to its user, who is the user of a process. It cannot fail, since there is room.
+    pub fn put_msg(&mut self, socket: &FileRef, message: Msg)
         requires live { (f : ℕ) → Contains message.attached f → world.IsLive self.old.world f }
         requires spared { (f : ℕ) → Contains message.attached f → Spares self.old.pass f }
         requires user { IsOfProcess self.old.world message.user }
@@ -65,8 +65,8 @@ impl Store {
         requires flying { total self.old.world + length message.attached ≤ MAX_INFLIGHT }
         requires socket { is_none (socket_at self.old.world socket.now) ≡ false }
         requires queue { length (queue_at self.old.world socket.now) < MAX_MESSAGES }
-        ensures ok { OnOk result (self.new ≡ record self.old { world = push_message self.old.world socket.now message }) }
-        ensures err { OnErr result (self.new ≡ self.old) }
+        requires room { self.old.message_room ≡ true }
+        ensures { self.new ≡ record self.old { world = push_message self.old.world socket.now message; message_room = self.new.message_room } }
     {
         let places = &mut self.parts.places;
         hold_all(
@@ -75,17 +75,7 @@ impl Store {
             message.user(),
             message.attached(),
         );
-        let Err(refused) = places.files.push(socket, message) else {
-            return Ok(());
-        };
-        // It has no place after all: what it carries is as it was.
-        drop_all(
-            &mut places.files,
-            &mut places.ledger,
-            refused.user(),
-            refused.attached(),
-        );
-        Err(AllocError)
+        places.files.push(socket, message);
     }
 
     /// What a receive of at most `max` bytes takes out of a queue (recvmsg(2)): its first files come
@@ -105,7 +95,7 @@ impl Store {
         requires free { (k : ℕ) × (fds.now ≡ lowest_free k (process_at self.old.world pid)) }
         requires row { All (λ n. n < room_at self.old pid) fds.now }
         ensures taken { IfOk result (λ t. t ≡ received_of (socket_at self.old.world socket.now) max) }
-        ensures world { OnOk result (self.new ≡ record self.old { world = install_all (with_queue self.old.world socket.now (taken_at self.old.world socket.now max).rest) pid (zip fds.now (taken_at self.old.world socket.now max).attached); marks = self.new.marks }) }
+        ensures world { OnOk result (self.new ≡ record self.old { world = install_all (with_queue self.old.world socket.now (taken_at self.old.world socket.now max).rest) pid (zip fds.now (taken_at self.old.world socket.now max).attached); marks = self.new.marks; message_room = self.new.message_room }) }
         ensures err { OnErr result (self.new ≡ self.old) }
     {
         let places = &mut self.parts.places;

@@ -22,7 +22,7 @@ impl Holdings {
     /// memory.
     #[inline(always)]
     fn drop_first(&mut self, file: &FileRef) -> bool
-        ensures world { self.new ≡ record self.old { world = with_queue self.old.world file.now (drop 1 (queue_at self.old.world file.now)) } }
+        ensures world { self.new ≡ record self.old { world = with_queue self.old.world file.now (drop 1 (queue_at self.old.world file.now)); message_room = self.new.message_room } }
         ensures some { IsTrue result → 0 < length (queue_at self.old.world file.now) }
         ensures none { result ≡ false → queue_at self.old.world file.now ≡ [] }
     {
@@ -57,7 +57,7 @@ impl Holdings {
     /// it. Whether the file had one of the two. It takes no memory.
     #[inline(always)]
     pub(crate) fn drop_place(&mut self, file: &FileRef) -> bool
-        ensures world { self.new ≡ record self.old { world = without_place self.old.world file.now } }
+        ensures world { self.new ≡ record self.old { world = without_place self.old.world file.now; message_room = self.new.message_room } }
         ensures some { IsTrue result → 0 < places_at self.old.world file.now }
         ensures none { result ≡ false → places_at self.old.world file.now ≡ 0 }
     {
@@ -69,7 +69,7 @@ impl Holdings {
 
     /// All places that a file holds are dropped. It takes no memory.
     pub(crate) fn empty(&mut self, file: &FileRef)
-        ensures { self.new ≡ record self.old { world = emptied (nat_eq file.now) self.old.world } }
+        ensures { self.new ≡ record self.old { world = emptied (nat_eq file.now) self.old.world; message_room = self.new.message_room } }
     {
         while self.drop_place(file) {}
     }

@@ -1,5 +1,5 @@
 //! All that is there, and beside it the pass that runs.
-ghost use Rattle.std.specs.Prelude.{◌≡◌, ◌<◌, ◌≤◌, ◌+◌, ℕ, false, None, Some, IsTrue, IsOk, IfOk, OnOk, OnErr};
+ghost use Rattle.std.specs.Prelude.{◌≡◌, ◌<◌, ◌≤◌, ◌+◌, ℕ, false, None, Some, IsTrue, IsOk, IfOk, OnOk, OnErr, true};
 ghost use Rattle.std.specs.FinMap as map;
 ghost use Rattle.af_base.specs.World.{Plain, empty_world};
 ghost use Rattle.af_base.specs.Changes.{add_file, add_process, remove_process, set_limit};
@@ -43,7 +43,7 @@ impl Model for Store {
 
     ghost coded = { Prim.hlevel (codes, map.code) };
 
-    ghost view = { λ s. record { world = s.parts.places.world; rows = s.parts.places.rows; pass = pass_of s.parts.progress.stage s.parts.begun.value.world s.parts.progress.looked; marks = s.parts.places.marks; progress = s.parts.progress } };
+    ghost view = { λ s. record { world = s.parts.places.world; rows = s.parts.places.rows; message_room = s.parts.places.message_room; pass = pass_of s.parts.progress.stage s.parts.begun.value.world s.parts.progress.looked; marks = s.parts.places.marks; progress = s.parts.progress } };
 
     ghost invariant = { λ s. AreKept s.parts };
 }
@@ -113,6 +113,17 @@ impl Store {
     {
         let places = &mut self.parts.places;
         places.procs.room_for(pid, count)
+    }
+
+    /// Makes room for one message more, so that the next `put_msg` cannot fail. On an error nothing that
+    /// a process can see has changed.
+    pub fn room_for_message(&mut self) -> Result<(), AllocError>
+        ensures ok { OnOk result (self.new.message_room ≡ true) }
+        ensures succeeds { self.old.message_room ≡ true → IsOk result }
+        ensures rest { self.new ≡ record self.old { message_room = self.new.message_room } }
+    {
+        let places = &mut self.parts.places;
+        places.files.room_for_message()
     }
 
     /// A plain file more, which waits for its first place: without one, `release` takes it away. On

@@ -65,10 +65,6 @@ module _ {embryos bound white : ℕ} (old new : Rowed) (ws : List ℕ) (room : �
   socket_either b (Ok a) f g same ok err = socket_changed f g same ok
   socket_either b (Err e) f g same ok err = subst (λ r. AreFiled r ws room names next epoch grey most embryos bound white) (sym err) h
 
-  -- There is room for a message more or less.
-  pub filed-roomed : {b : Bool} → new ≡ record old { message_room = b } → AreFiled new ws room names next epoch grey most embryos bound white
-  filed-roomed is = subst (λ r. AreFiled r ws room names next epoch grey most embryos bound white) (sym is) (record { above = h.above; begins = h.begins; named = h.named; waits = h.waits; fits = h.fits; listed = h.listed; backlogged = h.backlogged; whites = h.whites })
-
   -- Other counts of the same files, and the list of those that wait then.
   pub filed-counted : (m : Map Count) (vs : List ℕ) (space : ℕ) → new ≡ record old { counts = m } → AreWaiting m vs → map.len new.counts ≡ map.len old.counts → room ≤ space → (n : ℕ) → AreEmbryos m n → AreFiled new vs space names next epoch grey most n bound white
   filed-counted m vs space is waits many more n counted =

@@ -142,12 +142,6 @@ module _ (s t : Slab Node) (m : Map Row) (same : SameValues s t) (h : AreChained
   pub chains_roomed : AreChained t m
   chains_roomed = record { each = λ g z at. (same_queue s t g z.chain same (h.each g z at)).0 }
 
-  pub files_roomed : files_of t m ≡ files_of s m
-  files_roomed = same_map nat_cmp_total nat_cmp-IsAntisymmetric _ _ (λ g. part_get (file_in t) m g ∙ by g (map.get m g) refl ∙ sym (part_get (file_in s) m g)) where
-    by : (g : ℕ) (q : Option Row) → map.get m g ≡ q → option_map (file_in t) q ≡ option_map (file_in s) q
-    by g None was = refl
-    by g (Some z) was = ap (λ q. Some (file_of (option_map (refilled q) z.endpoint))) (same_queue s t g z.chain same (h.each g z was)).1
-
 -- What is no socket has nothing to receive, and no change of a socket changes it.
 module _ (s : Slab Node) (m : Map Row) (f : ℕ) where
   pub stranger_is_none : map.get m f ≡ None → socket_in (files_of s m) f ≡ None

@@ -32,14 +32,7 @@ module _ (epoch bound : ℕ) (r : Rowed) (f : ℕ) where
     by None = refl
     by (Some x) = refl
 
-  -- A file that was born since the pass began stays as it is.
-  pub visited-beyond : bound ≤ f → visited false tabled f now ≡ now
-  visited-beyond high = by (nat_lt 0 tabled) where
-    by : (b : Bool) → cond b (cond (nat_lt f bound && is_white now f) (record now { colors = map.insert now.colors f Grey }) now) now ≡ now
-    by true = ap (λ b. cond (b && is_white now f) (record now { colors = map.insert now.colors f Grey }) now) (le-ltb f bound high)
-    by false = refl
-
-  -- So does one that is not due.
+  -- A file that is not due stays as it is.
   pub visited-not : is_due epoch r f ≡ false → visited false tabled f now ≡ now
   visited-not spared = by (nat_lt 0 tabled) refl where
     by : (b : Bool) → nat_lt 0 tabled ≡ b → cond b (cond (nat_lt f bound && is_white now f) (record now { colors = map.insert now.colors f Grey }) now) now ≡ now

@@ -12,9 +12,8 @@ use Rattle.af_base.specs.Counts.{total}
 use Rattle.af_base.specs.Places.{queue_at, queue_of}
 use Rattle.af_base.specs.Refusals.{no_socket, socket_at, socket_of}
 use Rattle.af_base.specs.Whole.{IsMessageWithin}
-use Rattle.af_ledger.specs.Kept.{CanDropAll, CanHoldAll, Kept, dropped_all, held_all, is_user}
+use Rattle.af_ledger.specs.Kept.{CanHoldAll, Kept, held_all, is_user}
 use Rattle.af_ledger.specs.declared.place.Place.TheVariants.{Queue}
-use Rattle.af_ledger.proofs.HeldAll.{held-can-drop, held-dropped}
 use Rattle.af_hold.specs.Agreement.{Agrees, IsExact}
 use Rattle.af_hold.specs.Limits.{IsOfProcess}
 use Rattle.af_hold.proofs.Bounds.{can-hold-all}
@@ -46,14 +45,6 @@ module _ (w v : World) (same : w ≡ v) (k : Kept) (m : Message) (h : IsExact w 
   -- Its places can be counted and charged.
   pub can-put : CanHoldAll m.user m.attached k
   can-put = can-hold-all w m k h.within flies sends (λ f c. h.counted f ∙ lives f c) h.agrees
-
-  -- What is held so may be dropped again, by the same user and the same files.
-  pub can-drop-put : (l : Kept) (u : ℕ) (fs : List ℕ) → l ≡ held_all (Queue m.user) m.attached k → u ≡ m.user → fs ≡ m.attached → CanDropAll u fs l
-  can-drop-put l u fs held sender carried = subst (λ n. CanDropAll n fs l) (sym sender) (subst (λ gs. CanDropAll m.user gs l) (sym carried) (subst (CanDropAll m.user m.attached) (sym held) (held-can-drop m.user m.attached k can-put)))
-
-  -- And then all is as it was.
-  pub put-dropped : (l n : Kept) (u : ℕ) (fs : List ℕ) → l ≡ held_all (Queue m.user) m.attached k → u ≡ m.user → fs ≡ m.attached → n ≡ dropped_all (Queue u) fs l → n ≡ k
-  put-dropped l n u fs held sender carried dropped = dropped ∙ (λ i. dropped_all (Queue (sender i)) (carried i) (held i)) ∙ held-dropped m.user m.attached k can-put
 
   -- And all is exact with it.
   pub exact-put : (s : ℕ) → is_none (socket_at v s) ≡ false → length (queue_at v s) < MAX_MESSAGES → IsMessageWithin m → IsExact (push_message w s m) (held_all (Queue m.user) m.attached k)

@@ -238,46 +238,6 @@ module _ (u : ℕ) where
       let total : k.total - length (f ∷ fs) ≡ (dropped (Queue u) f k).total - length fs = omega arith in
       (λ i. record k { counts = (dropped_all (Queue u) (f ∷ fs) k).counts; users = users i; total = total i }) ∙ freed-dropped_all fs (dropped (Queue u) f k)
 
--- Two entries that are there alike, and have the same numbers, are the same.
-same_entry : (a b : Option Count) → is_some a ≡ is_some b → unwrap_or a uncounted ≡ unwrap_or b uncounted → a ≡ b
-same_entry None None there same = refl
-same_entry None (Some y) there same = absurd (false≢true there)
-same_entry (Some x) None there same = absurd (false≢true (sym there))
-same_entry (Some x) (Some y) there same = ap Some same
-
-module _ (u : ℕ) (fs : List ℕ) (k : Kept) (h : CanHoldAll u fs k) where
-  -- What was held can be dropped.
-  pub held-can-drop : CanDropAll u fs (held_all (Queue u) fs k)
-  held-can-drop = record {
-    counted = λ f. omega (arith, inflight-held_all u f fs k);
-    charge = omega (arith, charge-held_all u u fs k h.user, ap {B = ℕ} (λ b. cond b (length fs) 0) (itself u));
-    total = omega (arith, total-held_all u fs k);
-  }
-
-  -- What is held and dropped again is as it was.
-  pub held-dropped : dropped_all (Queue u) fs (held_all (Queue u) fs k) ≡ k
-  held-dropped = λ i. record { counts = counts i; users = users i; total = total i } where
-    more : Kept
-    more = held_all (Queue u) fs k
-
-    entry : (g : ℕ) → map.get (dropped_all (Queue u) fs more).counts g ≡ map.get k.counts g
-    entry g =
-        let tabled = tabled-dropped_all u g fs more ∙ tabled-held_all u g fs k in
-        let inflight : (count_of (dropped_all (Queue u) fs more) g).inflight ≡ (count_of k g).inflight = omega (arith, inflight-dropped_all u g fs more held-can-drop, inflight-held_all u g fs k) in
-        let waiting = waiting-dropped_all u g fs more ∙ waiting-held_all u g fs k in
-        same_entry _ _ (has-dropped_all u g fs more held-can-drop ∙ has-held_all u g fs k h.known) (λ i. record { tabled = tabled i; inflight = inflight i; waiting = waiting i })
-
-    counts : (dropped_all (Queue u) fs more).counts ≡ k.counts
-    counts = same_map nat_cmp_total nat_cmp-IsAntisymmetric _ _ entry
-
-    users : (dropped_all (Queue u) fs more).users ≡ k.users
-    users =
-        sym (ap (λ l. l.users) (freed-dropped_all u fs more)) ∙ ap (recharged (λ n. n - length fs) u) (sym (ap (λ l. l.users) (charged-held_all u fs k)))
-        ∙ recharged-twice u (λ n. n + length fs) (λ n. n - length fs) k.users ∙ recharged-same u (λ n. n + length fs - length fs) k.users (λ n. omega arith)
-
-    total : (dropped_all (Queue u) fs more).total ≡ k.total
-    total = omega (arith, total-dropped_all u fs more held-can-drop, total-held_all u fs k)
-
 -- A list split at one of its places.
 pub at-place : (xs : List ℕ) (i x : ℕ) → i < length xs → x ≡ slice_index_or xs i x → xs ≡ take i xs ++ x ∷ drop (i + 1) xs
 at-place xs i x low read =

@@ -120,7 +120,8 @@ impl Engine {
         let message = Msg::new(bytes, envelope.attached, envelope.user);
         // What tables hold is no garbage of a pass that runs.
         self.store.is_spared();
-        self.store.put_msg(&envelope.peer, message)?;
+        self.store.room_for_message()?;
+        self.store.put_msg(&envelope.peer, message);
         self.store.release();
         Ok(count)
     }

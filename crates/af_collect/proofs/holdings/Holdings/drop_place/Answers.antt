@@ -7,18 +7,20 @@ use Rattle.af_hold.proofs.Losing.{lost-embryo}
 use Rattle.af_hold.proofs.Shedding.{none-popped}
 use Rattle.af_collect.proofs.holdings.Holdings.drop_place.Goals as goal
 
--- Where there is no message, nothing has changed so far.
-unchanged : (old mid : Stored) (f : ℕ) → mid ≡ record old { world = with_queue old.world f (drop 1 (queue_at old.world f)) } → queue_at old.world f ≡ [] → mid ≡ old
-unchanged old mid f is silent = is ∙ ap {A = World} {B = Stored} (λ v. record old { world = v }) (none-popped old.world f silent)
+-- Where there is no message, nothing but the room for one has changed so far.
+unchanged : (old mid : Stored) (f : ℕ) → mid ≡ record old { world = with_queue old.world f (drop 1 (queue_at old.world f)); message_room = mid.message_room } → queue_at old.world f ≡ [] → mid ≡ record old { message_room = mid.message_room }
+unchanged old mid f is silent = is ∙ ap {A = World} {B = Stored} (λ v. record old { world = v; message_room = mid.message_room }) (none-popped old.world f silent)
 
 pub returns-clause-world : goal.returns-clause-world
 returns-clause-world c =
     let old = c.args.self.now in
     let f = c.args.file.now in
     let silent = c.drop_first.ensures.none c.if-drop_first.false in
+    let mid = c.drop_first.new.self in
+    let room = ap (λ (s : Stored). s.message_room) c.drop_embryo.ensures.world in
     c.drop_embryo.ensures.world
-    ∙ ap {A = Stored} {B = Stored} (λ s. record s { world = with_socket s.world f dequeued }) (unchanged old c.drop_first.new.self f c.drop_first.ensures.world silent)
-    ∙ ap {A = World} {B = Stored} (λ v. record old { world = v }) (sym (lost-embryo old.world f silent))
+    ∙ ap {A = Stored} {B = Stored} (λ s. record s { world = with_socket s.world f dequeued }) (unchanged old mid f c.drop_first.ensures.world silent)
+    ∙ (λ i. record old { world = sym (lost-embryo old.world f silent) i; message_room = sym room i })
 
 pub returns-clause-some : goal.returns-clause-some
 returns-clause-some c t =

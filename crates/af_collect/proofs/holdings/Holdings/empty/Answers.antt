@@ -25,4 +25,4 @@ returns c =
     let world = ap (λ (s : Stored). s.world) c.drop_place.ensures.world ∙ none-lost w f none ∙ sym (emptied-bare w f (none-silent w f none) (none-held w f none)) ∙ c.loop.invariant.emptied in
     let rows = ap (λ (s : Stored). s.rows) c.drop_place.ensures.world ∙ c.loop.invariant.rows in
     let marks = ap (λ (s : Stored). s.marks) c.drop_place.ensures.world ∙ c.loop.invariant.marks in
-    λ i. record { world = world i; rows = rows i; marks = marks i }
+    λ i. record { world = world i; rows = rows i; message_room = c.drop_place.new.self.message_room; marks = marks i }

@@ -16,7 +16,7 @@ use Rattle.af_collect.specs.declared.parts.Parts.{Parts}
 use Rattle.af_collect.proofs.Losing.{kept_lost}
 use Rattle.af_collect.proofs.parts.Parts.release.Goals as goal
 
-module _ (p q : Parts) (h : Stored) (f : ℕ) (frame : q ≡ with_marks q.places.marks p) (is : h ≡ record q.places { world = without_place q.places.world f }) where
+module _ (p q : Parts) (h : Stored) (f : ℕ) (frame : q ≡ with_marks q.places.marks p) (is : h ≡ record q.places { world = without_place q.places.world f; message_room = h.message_room }) where
   -- The file lost the first of what it held.
   lost : h.world ≡ without_place p.places.world f
   lost = ap (λ (s : Stored). s.world) is ∙ ap (λ (o : Parts). without_place o.places.world f) frame

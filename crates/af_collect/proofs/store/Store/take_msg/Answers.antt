@@ -20,7 +20,7 @@ use Rattle.af_pass.specs.Keeping.{Spares, shaded_in}
 use Rattle.af_collect.specs.Shown.{Shown}
 use Rattle.af_collect.specs.contracts.holdings.Holdings.{the_view}
 use Rattle.af_collect.proofs.Placed.{kept_taken}
-use Rattle.af_collect.proofs.Standing.{Receives, Stands, both-same, seen-marked, seen-world, shown, stood}
+use Rattle.af_collect.proofs.Standing.{Receives, Stands, both-same, seen-moved, seen-world, shown, stood}
 use Rattle.af_collect.proofs.store.Store.take_msg.Goals as goal
 
 pub table_in_all-requires-clause-known : goal.table_in_all-requires-clause-known
@@ -118,5 +118,5 @@ pub returns-clause-world : goal.returns-clause-world
 returns-clause-world c =
     let p = c.self.inside.parts in
     let h = c.places.inside in
-    (λ i. shown p (record { world = received c i; rows = c.table_in_all.ensures.rows i; marks = c.shade_taken.new.files.marks }))
-    ∙ seen-marked p h _ (λ v. let t = taken_at v c.args.socket.now c.args.max in install_all (with_queue v c.args.socket.now t.rest) c.args.pid (zip c.args.fds.now t.attached)) c.shade_taken.new.files.marks c.places.view_is c.self.view_is
+    (λ i. shown p (record { world = received c i; rows = c.table_in_all.ensures.rows i; message_room = c.shade_taken.new.files.message_room; marks = c.shade_taken.new.files.marks }))
+    ∙ seen-moved p h _ (λ v. let t = taken_at v c.args.socket.now c.args.max in install_all (with_queue v c.args.socket.now t.rest) c.args.pid (zip c.args.fds.now t.attached)) c.shade_taken.new.files.marks c.shade_taken.new.files.message_room c.places.view_is c.self.view_is

@@ -4,7 +4,8 @@ use Rattle.af_base.specs.Changes.{push_message}
 use Rattle.af_base.specs.Pass.{Machine}
 use Rattle.af_base.specs.Places.{InTable}
 use Rattle.af_base.specs.Unheld.{Settles}
-use Rattle.af_base.specs.World.{Message}
+use Rattle.af_base.specs.World.{IsLive, Message}
+use Rattle.af_pass.specs.Keeping.{Spares}
 use Rattle.af_collect.specs.Shown.{Shown}
 use Rattle.af_steps.proofs.engine.Engine.post.Goals as goal
 
@@ -14,13 +15,16 @@ carried inside old m given shown is tabled f h = subst (λ (x : Machine). InTabl
 
 pub put_msg-requires-clause-live : goal.put_msg-requires-clause-live
 put_msg-requires-clause-live c =
-    λ f h. c.self.invariant.0.whole.tables_live f (carried (record { world = c.self.inside.store.world; pass = c.self.inside.store.pass; last_pass = c.self.inside.last_pass }) c.args.self.now c.new-message.result (record { bytes = c.args.bytes.items; attached = c.args.envelope.attached.items; user = c.args.envelope.user }) c.self.view_is c.new-message.ensures c.requires.tabled f h)
+    λ f h. subst (λ (s : Shown). IsLive s.world f) (sym c.room_for_message.ensures.rest)
+    (c.self.invariant.0.whole.tables_live f (carried (record { world = c.self.inside.store.world; pass = c.self.inside.store.pass; last_pass = c.self.inside.last_pass }) c.args.self.now c.new-message.result (record { bytes = c.args.bytes.items; attached = c.args.envelope.attached.items; user = c.args.envelope.user }) c.self.view_is c.new-message.ensures c.requires.tabled f h))
 
 pub put_msg-requires-clause-spared : goal.put_msg-requires-clause-spared
 put_msg-requires-clause-spared c =
-    λ f h. c.is_spared.ensures f (carried (record { world = c.self.inside.store.world; pass = c.self.inside.store.pass; last_pass = c.self.inside.last_pass }) c.args.self.now c.new-message.result (record { bytes = c.args.bytes.items; attached = c.args.envelope.attached.items; user = c.args.envelope.user }) c.self.view_is c.new-message.ensures c.requires.tabled f h)
+    λ f h. subst (λ (s : Shown). Spares s.pass f) (sym c.room_for_message.ensures.rest)
+    (c.is_spared.ensures f (carried (record { world = c.self.inside.store.world; pass = c.self.inside.store.pass; last_pass = c.self.inside.last_pass }) c.args.self.now c.new-message.result (record { bytes = c.args.bytes.items; attached = c.args.envelope.attached.items; user = c.args.envelope.user }) c.self.view_is c.new-message.ensures c.requires.tabled f h))
 
 pub returns-clause-settles : goal.returns-clause-settles
 returns-clause-settles c =
-    let leads = ap (λ (s : Shown). s.world) c.in_ok-put_msg.ensures.ok ∙ (λ i. push_message (c.self.view_is i).world c.args.envelope.peer (c.new-message.ensures i)) in
+    let peer = c.args.envelope.peer in
+    let leads = ap (λ (s : Shown). s.world) c.put_msg.ensures ∙ ap (λ (s : Shown). push_message s.world peer c.new-message.result) c.room_for_message.ensures.rest ∙ (λ i. push_message (c.self.view_is i).world peer (c.new-message.ensures i)) in
     subst (λ v. Settles v c.release.new.self.world) leads c.release.ensures.settles
