@@ -4,6 +4,7 @@ use Rattle.std.specs.Prelude.{Some, is_some}
 use Rattle.std.specs.Option.{option_map_or}
 use Rattle.std.specs.List.{Contains, sum_by}
 use Rattle.std.specs.FinMap as map
+use Rattle.std.proofs.lemmas.Bool.{false≢true}
 use Rattle.std.proofs.lemmas.List.Elements.{Contains-append_cases, Contains-append_left, Contains-append_right, Contains-push_cases}
 use Rattle.af_base.specs.declared.events.SockType.{SockType}
 use Rattle.af_base.specs.declared.events.State.TheVariants as state
@@ -18,6 +19,7 @@ use Rattle.af_base.specs.Steps.{connected_socket, with_embryo}
 use Rattle.af_base.specs.Whole.{AreMutual, IsSocketWithin, IsWhole, IsWithin, name_at, state_at, state_of}
 use Rattle.af_base.proofs.Born.{fresh_file}
 use Rattle.af_base.proofs.Embryos.{Contains-dropped, length-drop_most, waiting-accepted, waiting-add_file, waiting-changed, waiting-none, waiting-queued}
+use Rattle.af_base.proofs.Held.{one-most}
 use Rattle.af_base.proofs.Lookups.{insert-other, same_or_not, some_same, told_apart}
 use Rattle.af_base.proofs.Moved.{held-changed, live-changed, others-changed, state-others, state-there, there-changed, there-holds, total-changed}
 use Rattle.af_base.proofs.Named.{name-changed, names-bound, names-changed, names-kept}
@@ -38,15 +40,12 @@ whole-bound w s given none k = whole-socket w s (bound given) (λ x f is h. inl 
 pub within-bound : (w : World) (s : ℕ) (given : List ℕ) (x : Socket) → IsWithin w → map.get w.files s ≡ Some (AsSocket x) → is_name given ≡ true → IsWithin (with_socket w s (bound given))
 within-bound w s given x k at fits = within-still w s (bound given) x k at (λ y. refl) (λ before. record {
   queue = before.queue;
+  least = before.least;
   room = before.room;
   backlog = before.backlog;
   name = λ name is. subst (λ n. is_name n ≡ true) (some_same given name is) fits;
   messages = before.messages;
 })
-
--- A number is another one once at most.
-one-most : (f g : ℕ) → one f g ≤ 1
-one-most f g = elim (nat_eq f g) as (λ b. cond b 1 0 ≤ 1) [ true ↦ omega arith | false ↦ omega arith ]
 
 -- Nobody is connected to a socket that is connected to nobody.
 not_peer : (w : World) (s f : ℕ) → AreMutual w → has_peer (state_at w s) ≡ false → ¬ (state_at w f ≡ state.Connected s)
@@ -70,10 +69,11 @@ whole-listening w s b x at idle k =
             state-others w s (listening b) p (told_apart p s (λ same. not_peer w s f k.peers alone (before ∙ ap state.Connected same))) ∙ k.peers f p before
       ]
 
--- A socket that was never connected, and listens now.
-pub within-listening : (w : World) (s b : ℕ) (x : Socket) → IsWithin w → map.get w.files s ≡ Some (AsSocket x) → x.state ≡ state.Idle → b ≤ MAX_BACKLOG → IsWithin (with_socket w s (listening b))
-within-listening w s b x k at idle low = within-still w s (listening b) x k at (λ y. refl) (λ before. record {
+-- A socket that was never connected, and listens now, with room for one embryo at least.
+pub within-listening : (w : World) (s b : ℕ) (x : Socket) → IsWithin w → map.get w.files s ≡ Some (AsSocket x) → x.state ≡ state.Idle → 1 ≤ b → b ≤ MAX_BACKLOG → IsWithin (with_socket w s (listening b))
+within-listening w s b x k at idle some low = within-still w s (listening b) x k at (λ y. refl) (λ before. record {
   queue = before.queue;
+  least = λ l. some;
   room = low;
   backlog = let none : room_of x.state ≡ 0 = ap room_of idle in let most = before.backlog in omega (arith, none, most);
   name = before.name;
@@ -84,6 +84,7 @@ within-listening w s b x k at idle low = within-still w s (listening b) x k at (
 within-connected : (w : World) (s p : ℕ) (x : Socket) → IsWithin w → map.get w.files s ≡ Some (AsSocket x) → x.state ≡ state.Idle → IsWithin (with_socket w s (connected p))
 within-connected w s p x k at idle = within-still w s (connected p) x k at (λ y. refl) (λ before. record {
   queue = before.queue;
+  least = λ l. absurd (false≢true l);
   room = omega arith;
   backlog = let none : room_of x.state ≡ 0 = ap room_of idle in let most = before.backlog in omega (arith, none, most);
   name = before.name;
@@ -114,6 +115,7 @@ whole-queued w s n x at live none k = whole-socket w s (queued n) gain (mutual-c
 pub within-queued : (w : World) (s n : ℕ) (x : Socket) → IsWithin w → map.get w.files s ≡ Some (AsSocket x) → length x.backlog < room_of x.state → IsWithin (with_socket w s (queued n))
 within-queued w s n x k at room = within-still w s (queued n) x k at (λ y. refl) (λ before. record {
   queue = before.queue;
+  least = before.least;
   room = before.room;
   backlog = omega (arith, room, length-append x.backlog (n ∷ []));
   name = before.name;
@@ -133,6 +135,7 @@ whole-accepted w s x at k = whole-socket w s dequeued
 pub within-accepted : (w : World) (s : ℕ) (x : Socket) → IsWithin w → map.get w.files s ≡ Some (AsSocket x) → IsWithin (with_socket w s dequeued)
 within-accepted w s x k at = within-still w s dequeued x k at (λ y. refl) (λ before. record {
   queue = before.queue;
+  least = before.least;
   room = before.room;
   backlog = let most = before.backlog in omega (arith, most, length-drop_most x.backlog);
   name = before.name;

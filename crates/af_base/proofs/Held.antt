@@ -19,6 +19,15 @@ use Rattle.af_base.proofs.Sums.{total-remove, first, second}
 pub count-cons : (f x : ℕ) (xs : List ℕ) → count_in f (x ∷ xs) ≡ one f x + count_in f xs
 count-cons f x xs = sum_by-cons _ x xs
 
+-- A number is another at most once.
+pub one-most : (f g : ℕ) → one f g ≤ 1
+one-most f g = elim (nat_eq f g) as (λ b. cond b 1 0 ≤ 1) [ true ↦ omega arith | false ↦ omega arith ]
+
+-- A list has a number at most as often as it is long.
+pub count-length : (f : ℕ) (xs : List ℕ) → count_in f xs ≤ length xs
+count-length f [] = omega arith
+count-length f (x ∷ xs) = omega (arith, count-cons f x xs, one-most f x, count-length f xs)
+
 one-same : (f x : ℕ) → f ≡ x → one f x ≡ 1
 one-same f x e = ap {B = ℕ} (λ b. cond b 1 0) (eq-eqb f x e)
 

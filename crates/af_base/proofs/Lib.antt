@@ -11,6 +11,8 @@ pub mod Same
 pub mod Elements
 pub mod Lookups
 pub mod Totals
+pub mod CountSums
+pub mod Calm
 pub mod Dropped
 pub mod Moved
 pub mod Named

@@ -13,7 +13,7 @@ use Rattle.af_base.specs.Places.{Holds, backlog_of, contents, queue_of}
 use Rattle.af_base.specs.Counts.{count_in, one, refs}
 use Rattle.af_base.specs.Unheld.{IsSettled}
 use Rattle.af_base.specs.Changes.{add_file, install}
-use Rattle.af_base.specs.Refusals.{is_full, room_of, socket_of}
+use Rattle.af_base.specs.Refusals.{is_full, is_listening, socket_of}
 use Rattle.af_base.specs.Steps.{connected_socket, idle_socket}
 use Rattle.af_base.specs.Whole.{IsWhole, IsWithin, name_at, state_at, state_of}
 use Rattle.af_base.proofs.Born.{fresh_file}
@@ -161,9 +161,9 @@ module _ (w : World) where
       }
 
   -- A blank socket more that does not listen, where there is room for one.
-  pub within-blank : (s : Socket) → IsWithin w → is_full w 1 ≡ false → s.queue ≡ [] → s.backlog ≡ [] → s.name ≡ None → room_of s.state ≡ 0 → IsWithin (add_file w (AsSocket s))
-  within-blank s k room bare none_waits unnamed no_room =
+  pub within-blank : (s : Socket) → IsWithin w → is_full w 1 ≡ false → s.queue ≡ [] → s.backlog ≡ [] → s.name ≡ None → is_listening s.state ≡ false → IsWithin (add_file w (AsSocket s))
+  within-blank s k room bare none_waits unnamed silent =
       let parts = neither _ _ room in
       let few = ltb-false MAX_FILES (map.len w.files + 1) parts.0 in
       let low = ltb-false (MAX_INO + 1) (w.next_ino + 1) parts.1 in
-      within-add_file w s k few (omega (arith, low)) bare none_waits unnamed no_room
+      within-add_file w s k few (omega (arith, low)) bare none_waits unnamed silent

@@ -101,7 +101,7 @@ module _ (t : ℕ → Bool) (w : World) where
 
     by : (b : Bool) (x : File) (s : Socket) → ((y : Socket) → x ≡ AsSocket y → IsSocketWithin y) → (if b then empty_file x else x) ≡ AsSocket s → IsSocketWithin s
     by true Plain s fits d = absurd (none_some s (ap socket_of d))
-    by true (AsSocket y) s fits d = subst IsSocketWithin (socket_same _ s d) (let before = fits y refl in record { queue = omega arith; room = before.room; backlog = omega arith; name = before.name; messages = λ m h. absurd (Contains-none m h) })
+    by true (AsSocket y) s fits d = subst IsSocketWithin (socket_same _ s d) (let before = fits y refl in record { queue = omega arith; least = before.least; room = before.room; backlog = omega arith; name = before.name; messages = λ m h. absurd (Contains-none m h) })
     by false x s fits d = fits s d
 
 -- A sound world, purged, is sound.

@@ -206,7 +206,7 @@ fits-listen w p n b k row =
     let unconnected = neither _ _ quiet.0 in
     let idle = never-connected s.state unconnected.1 quiet.1 in
     let low = both (nat_le 1 b) (nat_le b MAX_BACKLOG) (holds parts.1) in
-    (whole-listening w (ino_on w p n) b s there idle k.0, within-listening w (ino_on w p n) b s k.1 there idle (leb-true b MAX_BACKLOG low.1))
+    (whole-listening w (ino_on w p n) b s there idle k.0, within-listening w (ino_on w p n) b s k.1 there idle (leb-true 1 b low.0) (leb-true b MAX_BACKLOG low.1))
 
 -- A client and its embryo fit.
 fits-connect : (w : World) (p n : ℕ) (name : List ℕ) → Fits w → NoneFits (step_row w p (step.Connect n name)) → Fits (effect w p (step.Connect n name))

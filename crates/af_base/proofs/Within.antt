@@ -17,7 +17,7 @@ use Rattle.af_base.specs.Places.{carried, queue_of}
 use Rattle.af_base.specs.Counts.{total, total_of}
 use Rattle.af_base.specs.Unheld.{Settles, file_without, state_without, without}
 use Rattle.af_base.specs.Changes.{add_file, add_process, add_user, change_at, file_with, install, install_all, push_message, uninstall, with_queue, with_socket}
-use Rattle.af_base.specs.Refusals.{is_crowded, is_full, room_of, socket_of}
+use Rattle.af_base.specs.Refusals.{is_crowded, is_full, is_listening, room_of, socket_of}
 use Rattle.af_base.specs.Release.{messages_in}
 use Rattle.af_base.specs.Steps.{connected_socket, spawned, with_pair}
 use Rattle.af_base.specs.Whole.{IsMessageWithin, IsProcessWithin, IsSocketWithin, IsWithin}
@@ -155,6 +155,7 @@ within-push w s m x k at fits room few = within-changed w s (λ y. record y { qu
     let long = length-append y.queue (m ∷ []) in
     record {
       queue = let low : length y.queue < MAX_MESSAGES = subst (λ z. length z.queue < MAX_MESSAGES) same room in omega (arith, long, low);
+      least = before.least;
       room = before.room;
       backlog = before.backlog;
       name = before.name;
@@ -169,6 +170,7 @@ within-left w s x fs rest k at left = within-changed w s (λ y. record y { queue
     let fewer = left.fewer in
     record {
       queue = let low = before.queue in omega (arith, low, fewer, ap length same);
+      least = before.least;
       room = before.room;
       backlog = before.backlog;
       name = before.name;
@@ -216,9 +218,16 @@ within-add_process w q k room fits =
 pub within-spawned : (w : World) (uid nofile : ℕ) (privileged : Bool) → IsWithin w → is_crowded w ≡ false → nofile ≤ MAX_NOFILE → IsWithin (spawned w uid nofile privileged)
 within-spawned w uid nofile privileged k room low = within-add_user _ uid (within-add_process w _ k room (record { limit = low; numbers = λ n l. absurd (false≢true (sym (ap is_some (map.get-empty nat_cmp n)) ∙ l)) }))
 
+-- A socket that does not listen has room for no embryo.
+no_room : (t : State) → is_listening t ≡ false → room_of t ≡ 0
+no_room state.Idle e = refl
+no_room (state.Listening b) e = absurd (false≢true (sym e))
+no_room (state.Connected p) e = refl
+no_room state.HungUp e = refl
+
 -- A socket more with nothing in it, which does not listen and has no name, where there is room for one.
-pub within-add_file : (w : World) (s : Socket) → IsWithin w → map.len w.files + 1 ≤ MAX_FILES → w.next_ino ≤ MAX_INO → s.queue ≡ [] → s.backlog ≡ [] → s.name ≡ None → room_of s.state ≡ 0 → IsWithin (add_file w (AsSocket s))
-within-add_file w s k room low bare none_waits unnamed no_room = record {
+pub within-add_file : (w : World) (s : Socket) → IsWithin w → map.len w.files + 1 ≤ MAX_FILES → w.next_ino ≤ MAX_INO → s.queue ≡ [] → s.backlog ≡ [] → s.name ≡ None → is_listening s.state ≡ false → IsWithin (add_file w (AsSocket s))
+within-add_file w s k room low bare none_waits unnamed silent = record {
   process_count = k.process_count;
   file_count = let more = len-insert_most w.files w.next_ino (AsSocket s) in omega (arith, room, more);
   flying =
@@ -232,7 +241,8 @@ within-add_file w s k room low bare none_waits unnamed no_room = record {
   sockets = λ f t is. elim (same_or_not f w.next_ino) [
     | inl same ↦ subst IsSocketWithin (socket_same s t (some_same _ _ (sym (insert-here w.files w.next_ino (AsSocket s)) ∙ ap (map.get (map.insert w.files w.next_ino (AsSocket s))) (sym same) ∙ is))) (record {
       queue = let short : length s.queue ≡ 0 = ap length bare in omega (arith, short);
-      room = omega (arith, no_room);
+      least = λ l. absurd (false≢true (sym silent ∙ l));
+      room = let none = no_room s.state silent in omega (arith, none);
       backlog = let short : length s.backlog ≡ 0 = ap length none_waits in omega (arith, short);
       name = λ name is. absurd (none_some name (sym unnamed ∙ is));
       messages = λ m h. absurd (Contains-none m (subst (λ q. Contains q m) bare h));
@@ -265,6 +275,13 @@ same_room gone (state.Listening b) = refl
 same_room gone (state.Connected p) = elim (gone p) as (λ b. room_of (cond b state.HungUp (state.Connected p)) ≡ 0) [ true ↦ refl | false ↦ refl ]
 same_room gone state.HungUp = refl
 
+-- Who hangs up did not listen, and does not.
+same_listening : (gone : ℕ → Bool) (t : State) → is_listening (state_without gone t) ≡ is_listening t
+same_listening gone state.Idle = refl
+same_listening gone (state.Listening b) = refl
+same_listening gone (state.Connected p) = elim (gone p) as (λ b. is_listening (cond b state.HungUp (state.Connected p)) ≡ false) [ true ↦ refl | false ↦ refl ]
+same_listening gone state.HungUp = refl
+
 -- Without some files.
 pub within-gone : (gone : ℕ → Bool) (w : World) → IsWithin w → IsWithin (without gone w)
 within-gone gone w k = record {
@@ -294,6 +311,7 @@ within-gone gone w k = record {
       let before = k.sockets f t e in
       subst IsSocketWithin (socket_same _ s d) (record {
         queue = before.queue;
+        least = λ l. subst (λ r. 1 ≤ r) (sym (same_room gone t.state)) (before.least (sym (same_listening gone t.state) ∙ l));
         room = subst (λ r. r ≤ MAX_BACKLOG) (sym (same_room gone t.state)) before.room;
         backlog = subst (λ r. length t.backlog ≤ r) (sym (same_room gone t.state)) before.backlog;
         name = before.name;

@@ -10,7 +10,7 @@ use Rattle.af_base.specs.World.{World, Process, Socket, File, Plain, AsSocket, M
 use Rattle.af_base.specs.Places.{InTable, Holds}
 use Rattle.af_base.specs.Counts.{total, waiting}
 use Rattle.af_base.specs.Names.{is_name}
-use Rattle.af_base.specs.Refusals.{room_of, socket_at}
+use Rattle.af_base.specs.Refusals.{is_listening, room_of, socket_at}
 use Rattle.af_base.specs.Unheld.{IsSettled}
 
 -- Whom a file can talk to: a plain file nobody.
@@ -54,9 +54,10 @@ pub record IsMessageWithin (m : Message) : Type 0 where
   pub bytes : length m.bytes ≤ MAX_BYTES
   pub attached : length m.attached ≤ SCM_MAX_FD
 
--- A socket within the limits (this project's profile).
+-- A socket within the limits: one that listens has room for at least one embryo (listen(2); this project's profile).
 pub record IsSocketWithin (s : Socket) : Type 0 where
   pub queue : length s.queue ≤ MAX_MESSAGES
+  pub least : is_listening s.state ≡ true → 1 ≤ room_of s.state
   pub room : room_of s.state ≤ MAX_BACKLOG
   pub backlog : length s.backlog ≤ room_of s.state
   pub name : (name : List ℕ) → s.name ≡ Some name → is_name name ≡ true

@@ -63,11 +63,12 @@ impl Store {
         places.files.bind(socket, name)
     }
 
-    /// A socket that has a name and was never connected waits for connections from now on, so many
-    /// at most (listen(2)). On an error nothing has changed.
+    /// Makes a socket that has a name, and was never connected, wait for connections (listen(2)). At
+    /// most `most` embryos wait at it, from 1 to `MAX_BACKLOG`. On an error nothing has changed.
     pub fn listen(&mut self, socket: &FileRef, most: u32) -> Result<(), AllocError>
         requires named { IfSome (socket_at self.old.world socket.now) (λ s. is_none s.name ≡ false) }
         requires idle { IfSome (socket_at self.old.world socket.now) (λ s. s.state ≡ State.Idle) }
+        requires some { 1 ≤ most }
         requires few { most ≤ MAX_BACKLOG }
         ensures ok { OnOk result (self.new ≡ record self.old { world = with_socket self.old.world socket.now (listening most) }) }
         ensures err { OnErr result (self.new ≡ self.old) }

@@ -13,6 +13,7 @@ use Rattle.af_base.specs.Steps.{spawned}
 use Rattle.af_base.specs.Unheld.{without}
 use Rattle.af_base.specs.Whole.{IsWhole}
 use Rattle.af_base.proofs.Born.{fresh_process, total-empty}
+use Rattle.af_base.proofs.CountSums.{refs-add_up}
 use Rattle.af_base.proofs.Dropped.{same_queue, total-without}
 use Rattle.af_base.proofs.Embryos.{waiting-changed}
 use Rattle.af_base.proofs.Held.{tabled-InTable}
@@ -31,7 +32,7 @@ use Rattle.af_ledger.proofs.Laws.{charge-added, count-entered, count-struck, inf
 use Rattle.af_ledger.proofs.Users.{user-added, user-stays}
 use Rattle.af_hold.specs.Agreement.{Agrees}
 use Rattle.af_hold.proofs.Dropped.{same_backlog}
-use Rattle.af_hold.proofs.Recounts.{charged-push, charged-shed, refs-add_up, tabled-install, tabled-uninstall, total-new, total-weightless, waiting-dequeued}
+use Rattle.af_hold.proofs.Recounts.{charged-push, charged-shed, tabled-install, tabled-uninstall, total-new, total-weightless, waiting-dequeued}
 use Rattle.af_hold.proofs.Sheds.{Sheds}
 
 -- Each process has a user that is kept.

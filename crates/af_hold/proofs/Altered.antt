@@ -79,10 +79,10 @@ pub exact-bound : (w : World) (s : ℕ) (name : List ℕ) (k : Kept) → is_name
 exact-bound w s name k fits free h = exact-altered w s (bound name) (λ x. refl) (λ x. refl) k (λ x at. (whole-bound w s name (named-none w name free) h.whole, within-bound w s name x h.within at fits)) h
 
 -- A socket that was never connected, and listens now.
-pub exact-listening : (w : World) (s b : ℕ) (k : Kept) → IfSome (socket_at w s) (λ x. x.state ≡ state.Idle) → b ≤ MAX_BACKLOG → IsExact w k → IsExact (with_socket w s (listening b)) k
-exact-listening w s b k idle few h = exact-altered w s (listening b) (λ x. refl) (λ x. refl) k (λ x at.
+pub exact-listening : (w : World) (s b : ℕ) (k : Kept) → IfSome (socket_at w s) (λ x. x.state ≡ state.Idle) → 1 ≤ b → b ≤ MAX_BACKLOG → IsExact w k → IsExact (with_socket w s (listening b)) k
+exact-listening w s b k idle some few h = exact-altered w s (listening b) (λ x. refl) (λ x. refl) k (λ x at.
     let alone = if-there (λ y. y.state ≡ state.Idle) w s x at idle in
-    (whole-listening w s b x at alone h.whole, within-listening w s b x h.within at alone few)) h
+    (whole-listening w s b x at alone h.whole, within-listening w s b x h.within at alone some few)) h
 
 -- Nobody waits at a socket that was never connected.
 pub idle-alone : (w : World) (s : ℕ) → IsWithin w → IfSome (socket_at w s) (λ x. x.state ≡ state.Idle) → IfSome (socket_at w s) (λ x. x.backlog ≡ [])

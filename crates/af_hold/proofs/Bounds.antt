@@ -7,28 +7,22 @@ use Rattle.std.proofs.lemmas.Bool.{cases_lt}
 use Rattle.std.proofs.lemmas.List.Sums.{sum_by-cons}
 use Rattle.af_base.specs.declared.limits.TheConstants.{MAX_INFLIGHT, MAX_NOFILE, MAX_PROCESSES}
 use Rattle.af_base.specs.World.{AsSocket, Map, Message, Process, Socket, World}
-use Rattle.af_base.specs.Places.{carried, queue_of, table_at}
-use Rattle.af_base.specs.Counts.{charge, charged, count_in, inflight, one, tabled, total, total_of}
+use Rattle.af_base.specs.Places.{queue_of, table_at}
+use Rattle.af_base.specs.Counts.{charge, charged, one, tabled, total, total_of}
 use Rattle.af_base.specs.Whole.{IsWithin}
-use Rattle.af_base.proofs.Held.{tabled-InTable}
+use Rattle.af_base.proofs.CountSums.{inflight-total}
+use Rattle.af_base.proofs.Held.{one-most, tabled-InTable}
 use Rattle.af_base.proofs.Lookups.{none_some, not_same, remove-here, remove-other, same_or_not, itself}
-use Rattle.af_base.proofs.Places.{count-append, inflight-left}
+use Rattle.af_base.proofs.Places.{inflight-left}
 use Rattle.af_base.proofs.Sums.{total-remove}
 use Rattle.af_base.proofs.Totals.{total-below, total-most}
 use Rattle.af_base.proofs.Within.{total-left}
 use Rattle.af_ledger.specs.Kept.{CanDrop, CanDropAll, CanHold, CanHoldAll, Kept, count_of, has_count, is_user}
 use Rattle.af_ledger.specs.declared.place.Place.TheVariants.{Backlog, Table}
-use Rattle.af_ledger.proofs.HeldAll.{count-length, one-itself}
+use Rattle.af_ledger.proofs.HeldAll.{one-itself}
 use Rattle.af_hold.specs.Agreement.{Agrees}
 use Rattle.af_hold.proofs.Recounts.{charged-shed, waiting-dequeued}
 use Rattle.af_hold.proofs.Sheds.{Sheds}
-
--- A number is another at most once.
-pub one-most : (f g : ℕ) → one f g ≤ 1
-one-most f g = by (nat_eq f g) where
-  by : (b : Bool) → cond b 1 0 ≤ 1
-  by true = omega arith
-  by false = omega arith
 
 -- All numbers of the map are below n.
 abbrev AreBelow : ℕ → Map ℕ → Type 0
@@ -74,11 +68,6 @@ tabled-most w f k within agrees =
 pub can-hold-table : (w : World) (f : ℕ) (k : Kept) → IsWithin w → Agrees w k → CanHold Table f k
 can-hold-table w f k within agrees = (let most = tabled-most w f k within agrees in omega (arith, most), tt)
 
--- A queue has a file in at most as many places as it has places.
-carried-most : (f : ℕ) (q : List Message) → count_in f (carried q) ≤ sum_by (λ m. length m.attached) q
-carried-most f [] = omega arith
-carried-most f (m ∷ q) = omega (arith, count-append f m.attached (carried q), count-length f m.attached, carried-most f q, sum_by-cons (λ m. length m.attached) m q)
-
 -- A queue charges a user for at most as many places as it has.
 charge-most : (u : ℕ) (q : List Message) → sum_by (charge u) q ≤ sum_by (λ m. length m.attached) q
 charge-most u [] = omega arith
@@ -86,10 +75,6 @@ charge-most u (m ∷ q) = omega (arith, by (nat_eq u m.user), charge-most u q, s
   by : (b : Bool) → cond b (length m.attached) 0 ≤ length m.attached
   by true = omega arith
   by false = omega arith
-
--- A file is in flight at most as often as there are queue places.
-pub inflight-total : (w : World) (f : ℕ) → inflight w f ≤ total w
-inflight-total w f = total-below (λ x. count_in f (carried (queue_of x))) (λ x. sum_by (λ m. length m.attached) (queue_of x)) w.files w.files (λ i x is. (x, is, carried-most f (queue_of x)))
 
 -- A user is charged for at most as many queue places as there are.
 charged-total : (w : World) (u : ℕ) → charged w u ≤ total w

@@ -6,24 +6,15 @@ use Rattle.std.specs.List.{sum_by}
 use Rattle.std.specs.FinMap as map
 use Rattle.std.proofs.lemmas.List.Sums.{sum_by-cons, sum_by-append}
 use Rattle.af_base.specs.World.{AsSocket, Map, Message, Process, Socket, World}
-use Rattle.af_base.specs.Places.{backlog_of, carried, contents, queue_of}
-use Rattle.af_base.specs.Counts.{charge, charged, count_in, inflight, one, refs, tabled, total_of, waiting}
+use Rattle.af_base.specs.Places.{backlog_of, queue_of}
+use Rattle.af_base.specs.Counts.{charge, charged, count_in, one, tabled, total_of, waiting}
 use Rattle.af_base.specs.Changes.{dequeued, file_with, install, push_message, uninstall, with_queue, with_socket}
 use Rattle.af_base.proofs.Held.{count-cons}
 use Rattle.af_base.proofs.Lookups.{none_some, remove-here, remove-other, same_or_not}
-use Rattle.af_base.proofs.Places.{count-append, refs-install, refs-uninstall}
+use Rattle.af_base.proofs.Places.{refs-install, refs-uninstall}
 use Rattle.af_base.proofs.Sums.{total-change_at, total-insert, total-remove}
 use Rattle.af_base.proofs.Totals.{total-same}
 use Rattle.af_hold.proofs.Sheds.{Sheds}
-
--- A total of sums is the sum of the totals.
-sums-added : {X : Type 0} (F G H : X → ℕ) → ((x : X) → F x ≡ G x + H x) → (es : List (ℕ × X)) → sum_by (λ e. F e.1) es ≡ sum_by (λ e. G e.1) es + sum_by (λ e. H e.1) es
-sums-added F G H each [] = refl
-sums-added F G H each (e ∷ es) = omega (arith, sums-added F G H each es, each e.1, sum_by-cons (λ d. F d.1) e es, sum_by-cons (λ d. G d.1) e es, sum_by-cons (λ d. H d.1) e es)
-
--- A file is held in tables, in queues and in backlogs.
-pub refs-add_up : (w : World) (f : ℕ) → refs w f ≡ tabled w f + inflight w f + waiting w f
-refs-add_up w f = omega (arith, sums-added (λ x. count_in f (contents x)) (λ x. count_in f (carried (queue_of x))) (λ x. count_in f (backlog_of x)) (λ x. count-append f (carried (queue_of x)) (backlog_of x)) (map.entries w.files))
 
 -- A number taken into use stands for one file more.
 pub tabled-install : (w : World) (p n g f : ℕ) (q : Process) → map.get w.processes p ≡ Some q → map.get q.table n ≡ None → tabled (install w p n g) f ≡ tabled w f + one f g

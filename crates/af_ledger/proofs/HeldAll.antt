@@ -1,5 +1,5 @@
 -- The numbers kept where several files gain or lose a place in a queue at once.
-use Rattle.std.proofs.Common.{◌≡◌, ◌<◌, ◌≤◌, ℕ, ◌+◌, ◌-◌, Bool, true, false, List, [], ◌∷◌, ◌++◌, length, length-append, suc, add-one, drop-cons, refl, sym, ap, ◌∙◌, subst, cond, nat_eq, arith, take, drop}
+use Rattle.std.proofs.Common.{◌≡◌, ◌<◌, ℕ, ◌+◌, ◌-◌, Bool, true, false, List, [], ◌∷◌, ◌++◌, length, length-append, suc, add-one, drop-cons, refl, sym, ap, ◌∙◌, subst, cond, nat_eq, arith, take, drop}
 use Rattle.std.specs.Prelude.{IsTrue, None, Option, Some, is_some, slice_index_or, unwrap_or}
 use Rattle.std.specs.Cmp.{nat_cmp_total, nat_eq_equiv}
 use Rattle.std.specs.FinMap as map
@@ -14,7 +14,7 @@ use Rattle.std.proofs.lemmas.Map.Steps.{set_value_same}
 use Rattle.std.proofs.lemmas.List.Elements.{Contains-append_left, Contains-append_right}
 use Rattle.af_base.specs.Counts.{count_in, one}
 use Rattle.af_base.proofs.Elements.{Contains-first, Contains-later}
-use Rattle.af_base.proofs.Held.{count-cons}
+use Rattle.af_base.proofs.Held.{count-cons, count-length}
 use Rattle.af_base.proofs.Lookups.{itself, some_is}
 use Rattle.af_ledger.specs.Kept.{CanDrop, CanDropAll, CanHold, CanHoldAll, Kept, charge_of, charged_by, count_of, dropped, dropped_all, freed_by, has_count, held, held_all, is_user, recharged}
 use Rattle.af_ledger.specs.Counted.{uncounted}
@@ -37,21 +37,9 @@ charge-nothing : (b : Bool) → ◌≡◌ {A = ℕ} (cond b 0 0) 0
 charge-nothing true = refl
 charge-nothing false = refl
 
--- A number is another at most once.
-one-most : (f g : ℕ) → one f g ≤ 1
-one-most f g = by (nat_eq f g) where
-  by : (b : Bool) → cond b 1 0 ≤ 1
-  by true = omega arith
-  by false = omega arith
-
 -- A number is itself once.
 pub one-itself : (f : ℕ) → one f f ≡ 1
 one-itself f = ap {B = ℕ} (λ b. cond b 1 0) (itself f)
-
--- A list has a number at most as often as it is long.
-pub count-length : (f : ℕ) (xs : List ℕ) → count_in f xs ≤ length xs
-count-length f [] = omega arith
-count-length f (x ∷ xs) = omega (arith, count-cons f x xs, one-most f x, count-length f xs)
 
 -- One more is held after the others.
 pub held-last : (p : Place) (fs : List ℕ) (f : ℕ) (k : Kept) → held_all p (fs ++ f ∷ []) k ≡ held p f (held_all p fs k)

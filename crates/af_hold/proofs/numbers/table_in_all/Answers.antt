@@ -5,6 +5,7 @@ use Rattle.std.proofs.lemmas.List.Elements.{All-head, All-rest}
 use Rattle.af_base.specs.World.{Map}
 use Rattle.af_base.specs.Changes.{change_at, installed}
 use Rattle.af_base.proofs.Elements.{Contains-first, Contains-later}
+use Rattle.af_base.proofs.Held.{one-most}
 use Rattle.std.specs.FinMap as finmap
 use Rattle.af_desc.specs.Filed.{Filed}
 use Rattle.af_ledger.specs.Kept.{Charged, count_in_map, held_all, kept_of}
@@ -12,7 +13,6 @@ use Rattle.af_ledger.specs.declared.place.Place.TheVariants.{Table}
 use Rattle.af_ledger.proofs.Laws.{has-held, tabled-tabled}
 use Rattle.af_table.specs.Procs.{row_in}
 use Rattle.af_hold.specs.Stored.{filled}
-use Rattle.af_hold.proofs.Bounds.{one-most}
 use Rattle.af_hold.proofs.Filling.{no-files, no-numbers}
 use Rattle.af_hold.proofs.numbers.table_in_all.Goals as goal
 

@@ -3,9 +3,9 @@ use Rattle.std.proofs.lemmas.Bool.{cases_Bool, false≢true}
 use Rattle.af_base.specs.Places.{InTable}
 use Rattle.af_base.specs.Unheld.{IsSettled}
 use Rattle.af_base.specs.World.{IsLive}
+use Rattle.af_base.proofs.Calm.{all_tabled}
 use Rattle.af_hold.specs.Stored.{Stored}
 use Rattle.af_collect.specs.contracts.holdings.Holdings.{the_view}
-use Rattle.af_collect.proofs.Calm.{all_tabled}
 use Rattle.af_collect.proofs.holdings.Holdings.is_calm.Goals as goal
 
 -- Nothing is in flight, and no embryo waits.

@@ -26,7 +26,7 @@ both c =
     let s = c.args.socket.now in
     let idle = subst (λ (v : World). IfSome (socket_at v s) (λ x. x.state ≡ state.Idle)) back c.requires.idle in
     let e = c.listen.ensures in
-    stands-socket c.listen.result p h _ e.err was s (listening c.args.most) (λ x. refl) e.ok (exact-listening w s c.args.most (kept_of h.files.counts h.ledger) idle c.requires.few was.0)
+    stands-socket c.listen.result p h _ e.err was s (listening c.args.most) (λ x. refl) e.ok (exact-listening w s c.args.most (kept_of h.files.counts h.ledger) idle c.requires.some c.requires.few was.0)
 
 pub invariant_of-places : goal.invariant_of-places
 invariant_of-places c = (both c).0

@@ -1,13 +1,12 @@
--- Where nothing is in flight and no embryo waits, nothing is garbage.
+-- Where nothing is in flight and no embryo waits, all files stand in tables.
 use Rattle.std.proofs.Common.{◌≡◌, ℕ, inl, inr, arith}
 use Rattle.std.proofs.lemmas.Bool.{cases_lt}
 use Rattle.af_base.specs.World.{IsLive, World}
 use Rattle.af_base.specs.Counts.{refs, tabled, total, waiting}
 use Rattle.af_base.specs.Places.{InTable}
 use Rattle.af_base.specs.Unheld.{Goes, IsSettled}
+use Rattle.af_base.proofs.CountSums.{inflight-total, refs-add_up}
 use Rattle.af_base.proofs.Held.{InTable-tabled, held_by_none}
-use Rattle.af_hold.proofs.Bounds.{inflight-total}
-use Rattle.af_hold.proofs.Recounts.{refs-add_up}
 
 -- Where nothing is in flight and no embryo waits, a table holds each file of a settled world: so nothing is garbage.
 pub all_tabled : (w : World) → IsSettled w → total w ≡ 0 → ((f : ℕ) → waiting w f ≡ 0) → (f : ℕ) → IsLive w f → InTable w f
