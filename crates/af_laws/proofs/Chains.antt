@@ -14,12 +14,13 @@ use Rattle.af_base.specs.Unheld.{Goes, Settles, without}
 use Rattle.af_base.specs.Reached.{ByTable, BySocket, Reached}
 use Rattle.af_base.specs.Changes.{file_with, install, push_message, with_table}
 use Rattle.af_base.specs.Pass.{Purges, emptied}
+use Rattle.af_base.proofs.Calm.{all_tabled}
 use Rattle.af_base.proofs.Lookups.{none_some}
 use Rattle.af_base.proofs.Places.{carried-push}
 use Rattle.af_base.proofs.Purging.{from_emptied, to_emptied}
 use Rattle.af_base.proofs.Settling.{from_without, none_in, to_without}
 use Rattle.af_base.proofs.Stepping.{get-change_at}
-use Rattle.af_laws.specs.Reaching.{GroupsOfTheirOwnAreGarbage, InstallKeepsReached, PlacesKeepReached, PurgingKeepsReached, ReachedIsHeld, SendKeepsReached, SettlingKeepsReached}
+use Rattle.af_laws.specs.Reaching.{GroupsOfTheirOwnAreGarbage, InstallKeepsReached, NothingInFlightIsNoGarbage, PlacesKeepReached, PurgingKeepsReached, ReachedIsHeld, SendKeepsReached, SettlingKeepsReached}
 
 -- what holds something is live
 pub holder_live : (w : World) (s f : ℕ) → Holds w s f → IsLive w s
@@ -35,6 +36,10 @@ places_keep_reached old new has _ (BySocket s f r h) = BySocket s f (places_keep
 pub reached_is_held : ReachedIsHeld
 reached_is_held w _ (ByTable f t) (Goes g l no_table hs) = no_table t
 reached_is_held w _ (BySocket s f r h) (Goes g l no_table hs) = reached_is_held w s r (hs s h)
+
+-- A file that a table holds is reached.
+pub nothing_in_flight_is_no_garbage : NothingInFlightIsNoGarbage
+nothing_in_flight_is_no_garbage w settled none nobody = (all_tabled w settled none nobody, λ f garbage. garbage.1 (ByTable f (all_tabled w settled none nobody f garbage.0)))
 
 pub groups_of_their_own_are_garbage : GroupsOfTheirOwnAreGarbage
 groups_of_their_own_are_garbage w group apart closed f is = ((apart f is).0, λ r. out f r is) where

@@ -15,12 +15,13 @@ use Rattle.af_base.specs.Reached.{is_socket}
 use Rattle.af_base.specs.Changes.{file_with, install, push_message, uninstall, with_queue}
 use Rattle.std.proofs.lemmas.List.Sums.{sum_by-append, sum_by-cons}
 use Rattle.af_base.proofs.Born.{fresh_process, refs-add_process}
+use Rattle.af_base.proofs.CountSums.{refs-add_up}
 use Rattle.af_base.proofs.Ended.{refs-remove_process}
 use Rattle.af_base.proofs.Moved.{table-there}
 use Rattle.af_base.proofs.Replaced.{refs-replace}
 use Rattle.af_base.proofs.Sums.{total-change_at}
 use Rattle.af_base.proofs.Held.{Contains-count, InTable-tabled, count-Contains, held_by_none, held_by_some, tabled-InTable, total-has, total-some}
-use Rattle.af_base.proofs.Places.{count-append, inflight-left, inflight-push, refs-install, refs-left, refs-push, refs-uninstall}
+use Rattle.af_base.proofs.Places.{inflight-left, inflight-push, refs-install, refs-left, refs-push, refs-uninstall}
 use Rattle.af_base.proofs.Settling.{none_in}
 use Rattle.af_laws.specs.Places.{ExitCounts, ExitKeepsCharges, ForkCounts, GarbageCountsOnce, HoldsInQueueOrBacklog, InstallCounts, NoneWhereNotInFlight, NoneWhereNotWaiting, NoneWhereUnplaced, NoneWhereUntabled, ReceiveCounts, ReceiveDischarges, ReferencesAddUp, ReplaceCounts, SendCharges, SendCounts, UninstallCounts}
 
@@ -100,22 +101,8 @@ none_where_not_waiting w f = (
   ],
 )
 
--- what files hold is in their queues and in their backlogs
-contents_counted : (f : ℕ) (es : List (ℕ × File)) → sum_by (λ e. count_in f (contents e.1)) es ≡ sum_by (λ e. count_in f (carried (queue_of e.1))) es + sum_by (λ e. count_in f (backlog_of e.1)) es
-contents_counted f [] = refl
-contents_counted f (e ∷ es) =
-    let rest = contents_counted f es in
-    omega (
-      arith,
-      rest,
-      count-append f (carried (queue_of e.1)) (backlog_of e.1),
-      sum_by-cons (λ d. count_in f (contents d.1)) e es,
-      sum_by-cons (λ d. count_in f (carried (queue_of d.1))) e es,
-      sum_by-cons (λ d. count_in f (backlog_of d.1)) e es,
-    )
-
 pub references_add_up : ReferencesAddUp
-references_add_up w f = omega (arith, contents_counted f (map.entries w.files))
+references_add_up = refs-add_up
 
 pub install_counts : InstallCounts
 install_counts w p n g f there free = by (map.get w.processes p) refl where

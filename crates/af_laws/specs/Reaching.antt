@@ -5,7 +5,8 @@ use Rattle.af_base.specs.declared.events.Reply.{Reply}
 use Rattle.af_base.specs.declared.events.Step.{Step}
 use Rattle.af_base.specs.World.{World, Message, IsLive}
 use Rattle.af_base.specs.Places.{table_at, InTable, Holds}
-use Rattle.af_base.specs.Unheld.{Unheld, Settles}
+use Rattle.af_base.specs.Counts.{total, waiting}
+use Rattle.af_base.specs.Unheld.{IsSettled, Unheld, Settles}
 use Rattle.af_base.specs.Reached.{Reached, Garbage}
 use Rattle.af_base.specs.Changes.{install, push_message}
 use Rattle.af_base.specs.Steps.{ProcessStep, SpawnStep}
@@ -36,6 +37,10 @@ ReachedIsHeld = (w : World) (f : ℕ) → Reached w f → ¬ (Unheld w f)
 -- Live files that no table holds, and that only they themselves hold, are garbage: a listener in the queue of its own embryo, and the embryo in its backlog (net/unix/garbage.c).
 abbrev pub GroupsOfTheirOwnAreGarbage : Type 0
 GroupsOfTheirOwnAreGarbage = (w : World) (group : ℕ → Bool) → ((f : ℕ) → group f ≡ true → IsLive w f × (¬ (InTable w f))) → ((s f : ℕ) → group f ≡ true → Holds w s f → group s ≡ true) → (f : ℕ) → group f ≡ true → Garbage w f
+
+-- A settled world with nothing in flight, and no embryo in a backlog, has no garbage: a table holds each live file.
+abbrev pub NothingInFlightIsNoGarbage : Type 0
+NothingInFlightIsNoGarbage = (w : World) → IsSettled w → total w ≡ 0 → ((f : ℕ) → waiting w f ≡ 0) → ((f : ℕ) → IsLive w f → InTable w f) × ((f : ℕ) → ¬ (Garbage w f))
 
 -- The same files are reached before and after settling.
 abbrev pub SettlingKeepsReached : Type 0

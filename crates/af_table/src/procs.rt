@@ -1,9 +1,11 @@
 //! The processes by pid.
-ghost use Rattle.std.specs.Prelude.{◌≡◌, ℕ, ◌+◌, ◌≤◌, ◌<◌, IsTrue, IfSome, IfNone, IfOk, OnOk, OnErr, IsOk};
+ghost use Rattle.std.specs.Prelude.{◌≡◌, ℕ, ◌+◌, ◌≤◌, ◌<◌, IsTrue, IfSome, IfNone, IfOk, OnOk, OnErr, IsOk, slice_get};
+ghost use Rattle.std.specs.Option.{option_and_then, option_map};
 ghost use Rattle.std.specs.FinMap as map;
 ghost use Rattle.af_base.specs.Changes.{change_at, installed, limited, taken_out};
 ghost use Rattle.af_base.specs.Places.{number_in};
 ghost use Rattle.af_base.specs.Refusals.{process_in};
+ghost use Rattle.af_base.specs.Table.{free_numbers};
 ghost use Rattle.af_table.specs.Procs.{row_in, started};
 
 use crate::hints::Hints;
@@ -79,6 +81,24 @@ impl Procs {
         let index = self.hints.place(&self.processes, pid)?;
         let (_, process) = self.processes.get_index(index).unwrap();
         Some(process)
+    }
+
+    /// Returns the user of the process, its limit on descriptors, and whether it is privileged:
+    /// exempt from the bound on its user's descriptors in flight (unix(7), CAP_SYS_RESOURCE). Returns
+    /// `None` for a stranger.
+    pub fn who(&self, pid: Pid) -> Option<(Uid, u32, bool)>
+        ensures { result ≡ option_map (λ p. (p.user, p.limit, p.privileged)) (map.get self.now.processes pid) }
+    {
+        let process = self.find(pid)?;
+        Some((process.user(), process.limit(), process.is_privileged()))
+    }
+
+    /// Returns the lowest free number of the process (open(2)). Returns `None` where all numbers below
+    /// its limit are open, and for a stranger.
+    pub fn lowest(&self, pid: Pid) -> Option<Fd>
+        ensures { result ≡ option_and_then (λ p. slice_get (free_numbers p) 0) (map.get self.now.processes pid) }
+    {
+        self.find(pid)?.lowest()
     }
 
     /// What the number of the process stands for: nothing where it is free, or there is no such

@@ -1,7 +1,8 @@
-//! Look-ups whose hint is wrong: the hints have 256 places, and more processes live.
+//! Processes and their tables: who a process is, its lowest free number, and look-ups whose hint is
+//! wrong, since the hints have 256 places and more processes live.
 ghost use Rattle.std.specs.Prelude.{◌≡◌};
 
-use af_base::names::{Pid, Uid};
+use af_base::names::{Fd, FileRef, Ino, Pid, Uid};
 use af_table::Procs;
 use std::process::Abort;
 use std::test::Fail;
@@ -26,6 +27,34 @@ fn come_and_go(rt: &impl Abort, procs: &mut Procs) -> Result<(), Fail>
         assert_eq!(rt; limit, expected);
     }
     Ok(())
+}
+
+/// A process is who it was spawned as. Its lowest free number rises with each that is taken into use,
+/// falls when a lower one is given up, and ends at the limit.
+fn fill_up(rt: &impl Abort, procs: &mut Procs) -> Result<(), Fail>
+    requires { procs.old.next_pid ≡ 1 }
+{
+    procs.room_to_spawn()?;
+    let pid = procs.spawn(Uid(7), 2, true);
+    assert_eq!(rt; procs.who(pid), Some((Uid(7), 2, true)));
+    assert_eq!(rt; procs.lowest(pid), Some(Fd(0)));
+    procs.room_for(pid, 2)?;
+    procs.install(pid, Fd(0), FileRef::new(Ino(1), 0));
+    assert_eq!(rt; procs.lowest(pid), Some(Fd(1)));
+    procs.install(pid, Fd(1), FileRef::new(Ino(1), 0));
+    assert_eq!(rt; procs.lowest(pid), None);
+    assert!(rt; procs.take_out(pid, Fd(0)).is_some());
+    assert_eq!(rt; procs.lowest(pid), Some(Fd(0)));
+    let stranger = Pid(2);
+    assert_eq!(rt; procs.who(stranger), None);
+    assert_eq!(rt; procs.lowest(stranger), None);
+    Ok(())
+}
+
+#[test]
+fn numbers_are_given_from_the_lowest(rt: HostRuntime) -> Result<(), Fail> {
+    let mut procs = Procs::new(rt.alloc());
+    fill_up(&rt, &mut procs)
 }
 
 #[test]
