@@ -1,5 +1,6 @@
 //! Laws of reach: what a chain of places that begins in a table leads to.
-ghost use Rattle.af_laws.specs.Reaching.{PlacesKeepReached, GroupsOfTheirOwnAreGarbage, NothingInFlightIsNoGarbage, InstallKeepsReached, SendKeepsReached, ReachedIsHeld};
+ghost use Rattle.af_laws.specs.Reaching.{PlacesKeepReached, GroupsOfTheirOwnAreGarbage, InstallKeepsReached, SendKeepsReached, ReachedIsHeld};
+ghost use Rattle.af_laws.specs.Reaching.{NothingInFlightIsNoGarbage};
 ghost use Rattle.af_laws.specs.Reaching.{SettlingKeepsReached, PurgingKeepsReached, SpawnReachesNoGarbage, StepReachesNoGarbage, GarbageStaysOutOfReach, GarbageIsNeverReached};
 
 /// What is reached stays reached where no place is lost.
@@ -28,8 +29,8 @@ pub fn groups_of_their_own_are_garbage()
     ensures { GroupsOfTheirOwnAreGarbage }
 {}
 
-/// A settled world with nothing in flight, and no embryo in a backlog, has no garbage: a table holds
-/// each live file.
+/// A settled world with nothing in flight, and no embryo in a backlog, has no garbage: a table
+/// holds each live file.
 pub fn nothing_in_flight_is_no_garbage()
     ensures { NothingInFlightIsNoGarbage }
 {}

@@ -1,8 +1,10 @@
 -- The processes with their tables, and the room that was made for more.
-use Rattle.std.specs.Prelude.{ℕ, Bool, List, unwrap_or}
+use Rattle.std.specs.Prelude.{ℕ, Bool, List, Option, slice_get, unwrap_or}
+use Rattle.std.specs.Option.{option_and_then, option_map}
 use Rattle.std.specs.FinMap as map
 use Rattle.af_base.specs.World.{Map, Process}
 use Rattle.af_base.specs.Listing.{keyed}
+use Rattle.af_base.specs.Table.{free_numbers}
 use Rattle.af_table.specs.Slots.{Roomed}
 
 -- The processes as the world has them; below which number each has room to install; the next pid; and for how many further processes there is room (this project's profile).
@@ -15,6 +17,14 @@ pub record Procs : Type 0 where
 -- Below which number process p has room to install by these rows: below none, where there is no such process (this project's profile).
 abbrev pub row_in : Map ℕ → ℕ → ℕ
 row_in rows p = unwrap_or (map.get rows p) 0
+
+-- Who process p of these is, if it is there: its user, its limit, and whether it is privileged (getrlimit(2), RLIMIT_NOFILE; unix(7), CAP_SYS_RESOURCE).
+abbrev pub who_in : Map Process → ℕ → Option (ℕ × ℕ × Bool)
+who_in processes p = option_map (λ q. (q.user, q.limit, q.privileged)) (map.get processes p)
+
+-- The lowest free number of process p of these, if it is there and one is free (open(2)).
+abbrev pub lowest_in : Map Process → ℕ → Option ℕ
+lowest_in processes p = option_and_then (λ q. slice_get (free_numbers q) 0) (map.get processes p)
 
 -- A process that has just started: its table is empty (fork(2); without a parent, as spawn has it, this project's own).
 abbrev pub started : ℕ → ℕ → Bool → Process

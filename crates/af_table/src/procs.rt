@@ -1,12 +1,10 @@
 //! The processes by pid.
-ghost use Rattle.std.specs.Prelude.{◌≡◌, ℕ, ◌+◌, ◌≤◌, ◌<◌, IsTrue, IfSome, IfNone, IfOk, OnOk, OnErr, IsOk, slice_get};
-ghost use Rattle.std.specs.Option.{option_and_then, option_map};
+ghost use Rattle.std.specs.Prelude.{◌≡◌, ℕ, ◌+◌, ◌≤◌, ◌<◌, IsTrue, IfSome, IfNone, IfOk, OnOk, OnErr, IsOk};
 ghost use Rattle.std.specs.FinMap as map;
 ghost use Rattle.af_base.specs.Changes.{change_at, installed, limited, taken_out};
 ghost use Rattle.af_base.specs.Places.{number_in};
 ghost use Rattle.af_base.specs.Refusals.{process_in};
-ghost use Rattle.af_base.specs.Table.{free_numbers};
-ghost use Rattle.af_table.specs.Procs.{row_in, started};
+ghost use Rattle.af_table.specs.Procs.{lowest_in, row_in, started, who_in};
 
 use crate::hints::Hints;
 use crate::process::Process;
@@ -83,20 +81,20 @@ impl Procs {
         Some(process)
     }
 
-    /// Returns the user of the process, its limit on descriptors, and whether it is privileged:
-    /// exempt from the bound on its user's descriptors in flight (unix(7), CAP_SYS_RESOURCE). Returns
-    /// `None` for a stranger.
+    /// Returns the user of the process, its limit on descriptors, and whether it is privileged, so
+    /// exempt from the bound on its user's descriptors in flight (unix(7), CAP_SYS_RESOURCE).
+    /// Returns `None` where there is no such process.
     pub fn who(&self, pid: Pid) -> Option<(Uid, u32, bool)>
-        ensures { result ≡ option_map (λ p. (p.user, p.limit, p.privileged)) (map.get self.now.processes pid) }
+        ensures { result ≡ who_in self.now.processes pid }
     {
         let process = self.find(pid)?;
         Some((process.user(), process.limit(), process.is_privileged()))
     }
 
-    /// Returns the lowest free number of the process (open(2)). Returns `None` where all numbers below
-    /// its limit are open, and for a stranger.
+    /// Returns the lowest free number of the process (open(2)). Returns `None` where all numbers
+    /// below its limit are open, and where there is no such process.
     pub fn lowest(&self, pid: Pid) -> Option<Fd>
-        ensures { result ≡ option_and_then (λ p. slice_get (free_numbers p) 0) (map.get self.now.processes pid) }
+        ensures { result ≡ lowest_in self.now.processes pid }
     {
         self.find(pid)?.lowest()
     }

@@ -29,8 +29,8 @@ fn come_and_go(rt: &impl Abort, procs: &mut Procs) -> Result<(), Fail>
     Ok(())
 }
 
-/// A process is who it was spawned as. Its lowest free number rises with each that is taken into use,
-/// falls when a lower one is given up, and ends at the limit.
+/// A process is who it was spawned as. Its lowest free number rises with each number that is taken
+/// into use, ends at the limit, and falls when a lower one is given up.
 fn fill_up(rt: &impl Abort, procs: &mut Procs) -> Result<(), Fail>
     requires { procs.old.next_pid ≡ 1 }
 {
