@@ -1,5 +1,5 @@
 //! Room for a copy of a reply, had before the step that gives it.
-ghost use Rattle.std.specs.Prelude.{◌≡◌, ◌≤◌, IfOk};
+ghost use Rattle.std.specs.Prelude.{◌≡◌, IfOk};
 ghost use Rattle.af_layer.specs.Room.{HasRoomFor, most_bytes, most_fds};
 
 use af_base::events::{Event, Reply, Step};
@@ -54,9 +54,10 @@ fn most_of(event: &Event) -> (usize, usize)
 }
 
 impl ReplyRoom {
-    /// Room for the reply to an event, whichever it will be.
+    /// Reserves room for the reply to an event, whichever it will be, and no more than that.
     pub fn for_event(alloc: Global, event: &Event) -> Result<ReplyRoom, AllocError>
-        ensures { IfOk result (λ room. (most_bytes event.now ≤ room.bytes) × (most_fds event.now ≤ room.fds)) }
+        ensures bytes { IfOk result (λ room. room.bytes ≡ most_bytes event.now) }
+        ensures fds { IfOk result (λ room. room.fds ≡ most_fds event.now) }
     {
         let (bytes, fds) = most_of(event);
         Ok(ReplyRoom {
