@@ -1,4 +1,5 @@
 //! The whole program over memory.
 mod programs;
 mod races;
+mod rows;
 mod words;

@@ -10,7 +10,8 @@ type Part = (usize, &'static str);
 type Block = (usize, &'static [Part]);
 
 /// 64 queues full of messages with 253 descriptors each, and one with 48 of them and 144 more
-/// descriptors: 1,048,576 descriptors in flight. Each pair is held by a child.
+/// descriptors: 1,048,576 descriptors in flight. Each pair is held by a child. The last queue is
+/// full too, of messages without descriptors, and a process without privilege sends.
 static FULL_QUEUES: [Block; 3] = [
     (1, &[(1, "spawn 1000 2 priv\n")]),
     (
@@ -26,10 +27,13 @@ static FULL_QUEUES: [Block; 3] = [
         &[
             (1, "1 pair seqpacket\n"),
             (48, "1 send 0 m 0*253\n"),
-            (1, "1 send 0 m 0*144\ntotals\n"),
+            (1, "1 send 0 m 0*144\n"),
+            (14, "1 send 0 m\n"),
+            (1, "totals\n1 send 0 m 0\n1 send 0 m\n"),
             (1, "1 send 0 m 0\n1 send 0 m\n"),
             (1, "1 recv 1 1 0\ntotals\n"),
             (1, "1 send 0 m 0*253\n1 send 0 m 0\n"),
+            (1, "spawn 1000 2\n66 pair stream\n66 send 0 m 0\n"),
         ],
     ),
 ];
@@ -38,10 +42,15 @@ const QUEUES: &str = "sent 1
 user 1000 inflight 1048576
 ENOBUFS
 sent 1
+ENOBUFS
+EAGAIN
 got m ctrunc
 user 1000 inflight 1048323
 sent 1
 ENOBUFS
+pid 66
+fds 0 1
+ETOOMANYREFS
 ";
 
 /// 128 embryos wait at a listener, each with 64 messages; of 64 embryos each message has 253
@@ -88,18 +97,21 @@ user 1000 inflight 0
 check ok live 2 garbage 0
 ";
 
-/// A chain of 65,535 sockets, each in the queue of the next and of no other, and a plain file: as
-/// many files as may be live. The chain goes by one close. No bound is proved for the stack.
+/// A chain of 65,531 sockets, each in the queue of the next and of no other; a listener with one
+/// embryo, its client, and a client that waits for room; and a plain file: as many files as may be
+/// live. The chain goes by one close. No bound is proved for the stack.
 static FULL_MACHINE: [Block; 3] = [
     (
         1,
         &[
-            (1, "spawn 1000 4 priv\n"),
+            (1, "spawn 1000 4 priv\nspawn 1000 0\nspawn 1000 4\n"),
+            (1, "3 socket stream\n3 bind 0 hub\n3 listen 0 1\n"),
+            (1, "3 socket stream\n3 connect 1 hub\n3 socket stream\n"),
             (1, "1 pair seqpacket\n1 close 1\n"),
         ],
     ),
     (
-        32_767,
+        32_765,
         &[
             (1, "1 pair seqpacket\n1 send 2 a 0\n"),
             (1, "1 close 0\n1 close 2\n"),
@@ -111,20 +123,28 @@ static FULL_MACHINE: [Block; 3] = [
         1,
         &[
             (1, "totals\n1 pair seqpacket\n1 open\n"),
-            (1, "1 open\n1 socket stream\ncheck\n"),
-            (1, "1 close 0\ncheck\ntotals\n"),
+            (1, "1 open\n1 socket stream\n"),
+            (1, "2 open\n2 socket stream\n2 pair stream\n"),
+            (1, "3 connect 2 hub\n3 accept 0\n3 connect 2 hub\n"),
+            (1, "check\n1 close 0\ncheck\ntotals\n"),
         ],
     ),
 ];
 
-const MACHINE: &str = "user 1000 inflight 65534
+const MACHINE: &str = "user 1000 inflight 65530
 ENFILE
 fd 1
 ENFILE
 ENFILE
+EMFILE
+EMFILE
+EMFILE
+EAGAIN
+fd 3
+ENFILE
 check ok live 65536 garbage 0
 ok
-check ok live 1 garbage 0
+check ok live 5 garbage 0
 user 1000 inflight 0
 ";
 
