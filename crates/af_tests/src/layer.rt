@@ -6,3 +6,5 @@ mod books;
 mod drives;
 mod gates;
 mod growths;
+mod limits;
+mod wide;

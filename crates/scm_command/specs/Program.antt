@@ -1,11 +1,10 @@
 -- What the program answers.
-use Rattle.std.specs.Prelude.{◌≡◌, ◌*◌, ◌⊎◌, ℕ, List, Bool, true, Option, Result, Ok, Err, IfOk, IfErr}
+use Rattle.std.specs.Prelude.{◌≡◌, ◌⊎◌, ℕ, List, Bool, true, Option, Result, Ok, Err, IfOk, IfErr}
 use Rattle.std.specs.Io.KnownBytes.{Appends}
 use Rattle.scm_run.specs.Script.{RanToEnd, StopsBy, is_read_fault, is_write_fault}
 use Rattle.scm_run.specs.declared.fault.RunFault.{RunFault}
 use Rattle.scm_run.specs.declared.fault.RunFault.TheVariants as fault
-use Rattle.scm_race.specs.Race.{RacedTo, outcome_text}
-use Rattle.scm_race.specs.declared.outcome.Outcome.{Outcome}
+use Rattle.scm_race.specs.Race.{RaceText}
 use Rattle.scm_command.specs.declared.task.Task.{Task}
 use Rattle.scm_command.specs.declared.task.Task.TheVariants.{Race, Run}
 
@@ -29,13 +28,6 @@ pub record RanScript (told left before after : Option (List ℕ)) (read_failed w
   pub read : read_failed ≡ is_read_fault outcome
   pub write : write_failed ≡ is_write_fault outcome
   pub answered : status ≡ run_status outcome
-
--- The text is that of the outcome of a race that ended well, in which each worker did all its steps.
-pub record RaceText (workers steps seed budget : ℕ) (text : List ℕ) : Type 0 where
-  pub outcome : Outcome
-  pub raced : RacedTo workers steps seed budget outcome
-  pub all_steps : outcome.steps ≡ workers * steps
-  pub lines : text ≡ outcome_text outcome
 
 -- There was a race that ended well, and its text was written.
 abbrev pub RanRace : ℕ → ℕ → ℕ → ℕ → Option (List ℕ) → Option (List ℕ) → Type 0

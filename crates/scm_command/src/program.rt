@@ -2,10 +2,11 @@
 ghost use Rattle.std.specs.Prelude.{◌≡◌, ◌≢◌, ◌≤◌, ◌⊎◌, ℕ, IfOk, false, true, map, string_bytes};
 ghost use Rattle.clap.specs.Words.{kind_of};
 ghost use Rattle.clap.specs.declared.error.kind.ErrorKind.TheVariants.{OutOfMemory};
-ghost use Rattle.scm_command.specs.Program.{Did, RaceText, RanRace, RanScript, WroteNoRace, fault_status};
+ghost use Rattle.scm_command.specs.Program.{Did, RanRace, RanScript, WroteNoRace, fault_status};
 ghost use Rattle.scm_command.specs.Task.{IsInRange, Names, fits};
 ghost use Rattle.scm_command.specs.declared.task.Task.{Task as Asked};
 ghost use Rattle.scm_command.specs.declared.task.Task.TheVariants as task;
+ghost use Rattle.scm_race.specs.Race.{RaceText};
 
 use crate::task::{Task, task_of};
 use clap::error::ErrorKind;
@@ -55,17 +56,21 @@ fn refuse<E: Write>(errors: &mut E, error: &clap::Error) -> u8
     UNREADABLE
 }
 
-/// Lets workers race, and makes the lines that tell what that came to.
+/// Lets workers race, and makes the lines that tell the book of that race.
 fn race_text<H: Threads + Wait + Sync>(
     rt: &H,
     alloc: Global,
     race: Race,
 ) -> Result<String, RaceFault>
     requires { IsInRange (task.Race race.workers race.steps race.seed race.budget) }
-    ensures { IfOk result (λ text. RaceText race.workers race.steps race.seed race.budget (string_bytes text)) }
+    ensures { IfOk result (λ text.
+        RaceText race.workers race.steps race.seed race.budget (string_bytes text)) }
 {
     let outcome = race.run(rt, alloc)?;
-    Ok(outcome.text(alloc)?)
+    let text = outcome.text(alloc);
+    // Dropped by a call: at the end of the block each part would be dropped, and proved, by itself.
+    drop(outcome);
+    Ok(text?)
 }
 
 /// Lets workers race, writes what that came to, and answers the exit status.

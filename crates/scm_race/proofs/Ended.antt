@@ -5,8 +5,7 @@ use Rattle.af_layer.specs.Audit.{IsWhole, nobody}
 use Rattle.af_layer.specs.Drive.{Driven, Made}
 use Rattle.af_layer.specs.Log.{IsLegal, Logged, Pair, of_seat}
 use Rattle.af_layer.specs.Seats.{Seated}
-use Rattle.scm_race.specs.Race.{EndsInPass, Raced, RacedTo, spawned, works_of_race}
-use Rattle.scm_race.specs.declared.outcome.Outcome.{Outcome}
+use Rattle.scm_race.specs.Race.{EndsInPass, Raced, spawned, worker_steps, works_of_race}
 use Rattle.scm_race.proofs.Counted.{counted}
 use Rattle.scm_race.proofs.Raced.{raced}
 use Rattle.scm_race.proofs.Works.{script-count}
@@ -49,8 +48,8 @@ module _ (workers steps seed budget : ℕ) (b : Logged) (all opened driven hande
   pub race-raced : Raced workers steps seed budget b
   race-raced = raced workers steps seed budget b opened driven last opened-count fresh drove last-number last-list legal (subst (IsWhole b) joined whole)
 
--- A race that ended well tells all steps of all workers.
-pub told : (workers steps seed budget : ℕ) (outcome : Outcome) → 5 ≤ steps → RacedTo workers steps seed budget outcome → outcome.steps ≡ workers * steps
-told workers steps seed budget outcome some (b, race, is) =
-    is.0 ∙ counted workers steps b.log (λ i d lt. (race.legal.of_seats i d lt).0) (λ k low high.
+-- The workers of a race that ended well have all their steps in its log.
+pub all-steps : (workers steps seed budget : ℕ) (b : Logged) → 5 ≤ steps → Raced workers steps seed budget b → worker_steps workers b.log ≡ workers * steps
+all-steps workers steps seed budget b some race =
+    counted workers steps b.log (λ i d lt. (race.legal.of_seats i d lt).0) (λ k low high.
     sym (length-map (of_seat k b.log) (λ p. p.0)) ∙ ap length (race.scripts k low high) ∙ script-count k workers steps seed some)

@@ -1,4 +1,7 @@
 -- Which fault of a race a fault of the layer is: want of memory is told apart, as this project's profile has it.
+use Rattle.af_base.specs.declared.errno.Errno.TheVariants.{ENOMEM}
+use Rattle.af_base.specs.declared.events.Reply.{Reply}
+use Rattle.af_base.specs.declared.events.Reply.TheVariants as reply
 use Rattle.af_layer.specs.declared.book.CallError.{CallError}
 use Rattle.af_layer.specs.declared.book.CallError.TheVariants as call
 use Rattle.af_layer.specs.declared.driving.DriveFault.{DriveFault}
@@ -24,3 +27,8 @@ abbrev pub of_drive : DriveFault → RaceFault
 of_drive drive.NoRoom = Memory
 of_drive drive.TooFewSeats = Failed
 of_drive (drive.Call seat error) = of_call error
+
+-- Of an answer to the start of a process, which is not the pid that it should have.
+abbrev pub of_spawn : Reply → RaceFault
+of_spawn (reply.Refused ENOMEM) = Memory
+of_spawn other = Failed

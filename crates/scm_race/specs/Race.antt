@@ -1,5 +1,5 @@
 -- A race on one layer, and what it comes to. This project's profile.
-use Rattle.std.specs.Prelude.{◌≡◌, ◌≤◌, ◌+◌, ◌%◌, ℕ, zero, suc, List, [], ◌∷◌, ◌++◌, map, filter_map, nat_le, false, codes, Option, Some, None}
+use Rattle.std.specs.Prelude.{◌≡◌, ◌≤◌, ◌+◌, ◌*◌, ◌%◌, ℕ, zero, suc, List, [], ◌∷◌, ◌++◌, map, filter_map, nat_le, false, codes, Option, Some, None}
 use Rattle.std.specs.List.{count_by, flat_map}
 use Rattle.std.specs.Fmt.{decimal}
 use Rattle.std.specs.FinMap as finmap
@@ -12,7 +12,6 @@ use Rattle.af_layer.specs.Drive.{Collects, Script, Turned, Work, events_of}
 use Rattle.af_layer.specs.Log.{IsLegal, Logged, Pair, of_seat}
 use Rattle.af_layer.specs.Seats.{Seated}
 use Rattle.scm_work.specs.Script.{script_of}
-use Rattle.scm_race.specs.declared.outcome.Outcome.{Outcome}
 
 -- The process of a worker: two users in turn, with room for 32 descriptors and no privilege.
 abbrev pub spawn_of : ℕ → Event
@@ -64,14 +63,14 @@ pub record Raced (workers steps seed budget : ℕ) (b : Logged) : Type 0 where
 abbrev pub worker_steps : ℕ → List Entry → ℕ
 worker_steps workers log = count_by (λ e. nat_le e.seat workers) log
 
--- The outcome is what the book shows: how many entries the workers have, and how many files are live.
-abbrev pub OutcomeOf : ℕ → Logged → Outcome → Type 0
-OutcomeOf workers b outcome = (outcome.steps ≡ worker_steps workers b.log) × (outcome.left ≡ finmap.len b.machine.world.files)
+-- The lines that tell a race of so many workers, by the book that was closed: how many entries the workers have, and how many files are live.
+abbrev pub outcome_text : ℕ → Logged → List ℕ
+outcome_text workers b =
+    codes "steps " ++ (decimal (worker_steps workers b.log) ++ (codes "\naudit ok\nleft " ++ (decimal (finmap.len b.machine.world.files) ++ 10 ∷ [])))
 
--- The race of this log ended well, with this outcome.
-abbrev pub RacedTo : ℕ → ℕ → ℕ → ℕ → Outcome → Type 0
-RacedTo workers steps seed budget outcome = (b : Logged) × Raced workers steps seed budget b × OutcomeOf workers b outcome
-
--- The lines of an outcome.
-abbrev pub outcome_text : Outcome → List ℕ
-outcome_text outcome = codes "steps " ++ (decimal outcome.steps ++ (codes "\naudit ok\nleft " ++ (decimal outcome.left ++ 10 ∷ [])))
+-- The text tells the book of a race that ended well, in whose log each worker has all its steps.
+pub record RaceText (workers steps seed budget : ℕ) (text : List ℕ) : Type 0 where
+  pub book : Logged
+  pub raced : Raced workers steps seed budget book
+  pub all_steps : worker_steps workers book.log ≡ workers * steps
+  pub lines : text ≡ outcome_text workers book

@@ -1,5 +1,5 @@
 //! The end of a race, when all workers are back: the children exit, and the collector is done.
-ghost use Rattle.std.specs.Prelude.{◌≡◌, ◌++◌, ℕ, List, OnOk};
+ghost use Rattle.std.specs.Prelude.{◌≡◌, ◌++◌, ℕ, IfErr, List, OnOk};
 ghost use Rattle.af_base.specs.declared.events.Event.{Event as Asked};
 ghost use Rattle.af_base.specs.declared.events.Reply.{Reply as Answer};
 ghost use Rattle.af_layer.specs.Drive.{WentOn};
@@ -79,7 +79,12 @@ pub fn end_pass<R: Wait>(rt: &R, layer: &Layer, main: &mut Seat) -> Result<(), R
 /// Makes a whole pass, which has to be done.
 pub fn last_pass<R: Wait>(rt: &R, layer: &Layer, main: &mut Seat) -> Result<(), RaceFault>
     ensures number { main.new.number ≡ main.old.number }
-    ensures done { OnOk result ((pass reclaimed : ℕ) × (main.new ≡ grown main.old Asked.Pass (Answer.Done pass reclaimed))) }
+    ensures done { OnOk result ((pass reclaimed : ℕ)
+        × (main.new ≡ grown main.old Asked.Pass (Answer.Done pass reclaimed))) }
+
+    // A pass asks for no memory: where it was answered, a fault is no want of any.
+    ensures answered { IfErr result (λ fault. (reply : Answer)
+        → main.new ≡ grown main.old Asked.Pass reply → fault ≡ RaceFault.Failed) }
 {
     layer.call(rt, main, Event::Pass)?;
     match main.list().last() {

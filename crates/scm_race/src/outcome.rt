@@ -1,19 +1,21 @@
 //! What a race comes to.
 ghost use Rattle.std.specs.Prelude.{◌≡◌, IfOk, string_bytes};
 ghost use Rattle.std.specs.FinMap as map;
-ghost use Rattle.af_layer.specs.Log.{IsLegal};
-ghost use Rattle.scm_race.specs.Race.{OutcomeOf, outcome_text, worker_steps};
+ghost use Rattle.scm_race.specs.Race.{outcome_text, worker_steps};
 
-use af_layer::{Book, Entry};
+use af_layer::{Closed, Entry};
 use std::alloc::{AllocError, Global};
 
-/// What a race comes to, when the layer was closed without a fault.
-#[derive(Clone, Copy, Debug, PartialEq, Eq)]
+/// What a race comes to: its layer, which was closed without a fault.
+///
+/// The log of the closed book has all that was done in the race. What is told of a race is counted
+/// in this book.
+#[derive(Drop)]
 pub struct Outcome {
-    /// How many events the workers did.
-    pub steps: usize,
-    /// How many files are live at the end.
-    pub left: usize,
+    /// How many workers there were. Their seats are those from 1 to this number.
+    pub workers: u32,
+    /// The engine and the log, as the audit left them.
+    pub closed: Closed,
 }
 
 /// How many entries of a log are of the seats from 1 to this number.
@@ -24,21 +26,27 @@ fn steps_up_to(log: &[Entry], workers: u32) -> usize
 }
 
 impl Outcome {
-    /// What this book shows, where its first seats are those of so many workers.
-    pub(crate) fn of(book: &Book, workers: u32) -> Outcome
-        ensures outcome { OutcomeOf workers book.now result }
-        ensures legal { IsLegal book.now.seats book.now.machine book.now.log }
+    /// Counts the events that the workers did.
+    pub fn steps(&self) -> usize
+        ensures { result ≡ worker_steps self.now.workers self.now.closed.book.log }
     {
-        Outcome {
-            steps: steps_up_to(book.log(), workers),
-            left: book.engine().live(),
-        }
+        steps_up_to(self.closed.book.log(), self.workers)
     }
 
-    /// The three lines that tell it. The error says that memory was refused.
-    pub fn text(&self, alloc: Global) -> Result<String, AllocError>
-        ensures { IfOk result (λ text. string_bytes text ≡ outcome_text self.now) }
+    /// Returns how many files are live at the end.
+    pub fn left(&self) -> usize
+        ensures { result ≡ map.len self.now.closed.book.machine.world.files }
     {
-        format!(in alloc; "steps {}\naudit ok\nleft {}\n", self.steps, self.left)
+        self.closed.book.engine().live()
+    }
+
+    /// Writes the three lines that tell the race. The error says that memory was refused.
+    pub fn text(&self, alloc: Global) -> Result<String, AllocError>
+        ensures { IfOk result (λ text.
+            string_bytes text ≡ outcome_text self.now.workers self.now.closed.book) }
+    {
+        let steps = self.steps();
+        let left = self.left();
+        format!(in alloc; "steps {steps}\naudit ok\nleft {left}\n")
     }
 }

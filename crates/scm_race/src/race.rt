@@ -4,7 +4,7 @@ ghost use Rattle.af_layer.specs.Audit.{IsWhole};
 ghost use Rattle.af_layer.specs.Drive.{Driven, Made};
 ghost use Rattle.af_layer.specs.Log.{IsLegal, Logged};
 ghost use Rattle.af_layer.specs.Seats.{Seated};
-ghost use Rattle.scm_race.specs.Race.{EndsInPass, Raced, RacedTo, works_of_race};
+ghost use Rattle.scm_race.specs.Race.{EndsInPass, Raced, worker_steps, works_of_race};
 ghost use Rattle.scm_work.specs.declared.script.TheConstants.{MIN_STEPS, MAX_STEPS};
 ghost use Rattle.scm_work.specs.declared.table.TheConstants.{MAX_WORKERS};
 
@@ -46,23 +46,28 @@ impl Race {
     /// Each worker has a seat, a process and a script of its own, and the collector has the seat
     /// after them. The last seat is the calling thread's: from it the processes are started, the
     /// children that the workers forked exit, and the last pass is made when all are back. Then the
-    /// layer is closed, and its log is what was done.
+    /// layer is closed and handed out: its log has all that was done.
     ///
     /// `Memory` says that memory was refused. `Failed` is any other fault: a call that was refused,
     /// a process with another pid, a last pass that was not done, or what the audit found.
     pub fn run<R: Threads + Wait + Sync>(self, rt: &R, alloc: Global) -> Result<Outcome, RaceFault>
         requires workers { (1 ≤ self.workers) × (self.workers ≤ MAX_WORKERS) }
         requires steps { (MIN_STEPS ≤ self.steps) × (self.steps ≤ MAX_STEPS) }
-        ensures raced { IfOk result (RacedTo self.workers self.steps self.seed self.budget) }
-        ensures steps { IfOk result (λ outcome. outcome.steps ≡ self.workers * self.steps) }
+        ensures raced { IfOk result (λ outcome.
+            Raced self.workers self.steps self.seed self.budget outcome.closed.book) }
+        ensures workers { IfOk result (λ outcome. outcome.workers ≡ self.workers) }
+        ensures steps { IfOk result (λ outcome.
+            worker_steps self.workers outcome.closed.book.log ≡ self.workers * self.steps) }
     {
         let (layer, seats) = Layer::open(alloc, self.workers + 2)?;
         let seats = self.play(rt, alloc, &layer, seats)?;
         let closed = layer.close(seats)?;
-        let outcome = Outcome::of(&closed.book, self.workers);
-        // Dropped by a call: at the end of the block each part would be dropped, and proved, by itself.
-        drop(closed);
-        Ok(outcome)
+        // The invariant of the book, which the contract of `play` asks for.
+        closed.book.log();
+        Ok(Outcome {
+            workers: self.workers,
+            closed,
+        })
     }
 
     /// Plays the whole race on a layer that was just opened, and gives its seats back.
@@ -78,8 +83,10 @@ impl Race {
         requires workers { (1 ≤ self.workers) × (self.workers ≤ MAX_WORKERS) }
         requires steps { (MIN_STEPS ≤ self.steps) × (self.steps ≤ MAX_STEPS) }
         requires count { vec_len seats ≡ self.workers + 2 }
-        requires fresh { (i : ℕ) (other : Seated) → i < self.workers + 2 → slice_index_or seats.items i other ≡ record { number = i + 1; list = [] } }
-        ensures { IfOk result (λ after. (b : Logged) → IsLegal b.seats b.machine b.log → IsWhole b after.items → Raced self.workers self.steps self.seed self.budget b) }
+        requires fresh { (i : ℕ) (other : Seated) → i < self.workers + 2
+            → slice_index_or seats.items i other ≡ record { number = i + 1; list = [] } }
+        ensures { IfOk result (λ after. (b : Logged) → IsLegal b.seats b.machine b.log
+            → IsWhole b after.items → Raced self.workers self.steps self.seed self.budget b) }
     {
         let mut main = seats.pop().unwrap();
         start_processes(rt, layer, &mut main, self.workers)?;
@@ -99,7 +106,8 @@ impl Race {
     ) -> Result<Vec<Seat>, RaceFault>
         requires workers { self.workers ≤ MAX_WORKERS }
         requires steps { (MIN_STEPS ≤ self.steps) × (self.steps ≤ MAX_STEPS) }
-        ensures { IfOk result (λ after. Driven Made seats.items (works_of_race self.workers self.steps self.seed self.budget) after.items) }
+        ensures { let works = works_of_race self.workers self.steps self.seed self.budget in
+            IfOk result (λ after. Driven Made seats.items works after.items) }
     {
         let scripts = scripts(alloc, self.workers, self.steps, self.seed)?;
         let turns = Turns {

@@ -1,6 +1,8 @@
 //! The start of a race: the processes, and the scripts.
-ghost use Rattle.std.specs.Prelude.{◌≡◌, ◌≤◌, ◌++◌, ◌∷◌, [], IfOk, OnOk, map};
+ghost use Rattle.std.specs.Prelude.{◌≡◌, ◌≤◌, ◌++◌, ◌∷◌, [], IfErr, IfOk, OnOk, map};
+ghost use Rattle.af_base.specs.declared.events.Reply.{Reply as Answer};
 ghost use Rattle.af_base.specs.declared.events.Reply.TheVariants as answer;
+ghost use Rattle.scm_race.specs.Faults.{of_spawn};
 ghost use Rattle.scm_race.specs.Race.{scripts_of, spawn_of, spawned};
 ghost use Rattle.scm_work.specs.declared.script.TheConstants.{MIN_STEPS, MAX_STEPS};
 ghost use Rattle.scm_work.specs.declared.table.TheConstants.{MAX_WORKERS};
@@ -39,7 +41,12 @@ fn start_process<R: Wait>(
     worker: u32,
 ) -> Result<(), RaceFault>
     ensures number { main.new.number ≡ main.old.number }
-    ensures started { OnOk result (main.new.list ≡ main.old.list ++ (spawn_of worker, answer.Pid worker) ∷ []) }
+    ensures started { OnOk result
+        (main.new.list ≡ main.old.list ++ (spawn_of worker, answer.Pid worker) ∷ []) }
+
+    // Where the start was answered, the answer says which fault it is.
+    ensures answered { IfErr result (λ fault. (reply : Answer)
+        → main.new.list ≡ main.old.list ++ (spawn_of worker, reply) ∷ [] → fault ≡ of_spawn reply) }
 {
     layer.call(rt, main, spawn_of(worker))?;
     match main.list().last() {
@@ -75,7 +82,8 @@ pub fn scripts(
 ) -> Result<Vec<Vec<Event>>, AllocError>
     requires workers { workers ≤ MAX_WORKERS }
     requires steps { (MIN_STEPS ≤ steps) × (steps ≤ MAX_STEPS) }
-    ensures { IfOk result (λ v. map (λ script. script.items) v.items ≡ scripts_of workers workers steps seed) }
+    ensures { IfOk result (λ v.
+        map (λ script. script.items) v.items ≡ scripts_of workers workers steps seed) }
 {
     let mut scripts = Vec::with_capacity(alloc, workers as usize)?;
     for before in 0..workers {

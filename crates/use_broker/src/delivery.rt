@@ -1,5 +1,5 @@
 //! A descriptor that goes through a connection.
-ghost use Rattle.std.specs.Prelude.{◌≡◌, IfOk, OnOk};
+ghost use Rattle.std.specs.Prelude.{◌≡◌, IfErr, IfOk, OnOk};
 ghost use Rattle.use_broker.specs.Delivery.{Delivers, IsIdle, Takes};
 
 use jaywardrobe::{Engine, Errno, Fd, Pid, Received};
@@ -36,10 +36,14 @@ impl fmt::Display for Undelivered {
     }
 }
 
-/// Sends a descriptor from one end of a connection, and receives it at the other. The number that is
-/// answered is the receiver's, and stands for the file that the sender's number stood for.
+/// Sends a descriptor from one end of a connection, and receives it at the other. The number that
+/// is answered is the receiver's, and stands for the file that the sender's number stood for. The
+/// error is `Busy` only where something else waits at the receiver's end.
 pub fn deliver(engine: &mut Engine, from: &End, fd: Fd, to: &End) -> Result<Fd, Undelivered>
-    ensures { IfOk result (λ got. Delivers engine.old.world from.now.pid fd engine.new.world to.now.pid got) }
+    ensures delivered { IfOk result (λ got.
+        Delivers engine.old.world from.now.pid fd engine.new.world to.now.pid got) }
+    ensures busy { IfErr result (λ error.
+        error ≡ Undelivered.Busy → ¬ (IsIdle engine.old.world to.now.pid to.now.fd)) }
 {
     check_idle(engine, to)?;
     match engine.send(from.pid, from.fd, PAYLOAD, &[fd]) {
@@ -48,13 +52,17 @@ pub fn deliver(engine: &mut Engine, from: &End, fd: Fd, to: &End) -> Result<Fd, 
     }
 }
 
-/// Whether nothing waits to be received at this end of a connection.
+/// Tests that nothing waits to be received at this end of a connection. Where the other end is
+/// closed the error is EPIPE.
 fn check_idle(engine: &mut Engine, end: &End) -> Result<(), Undelivered>
     ensures idle { OnOk result (IsIdle engine.old.world end.now.pid end.now.fd) }
     ensures same { OnOk result (engine.new ≡ engine.old) }
+    ensures busy { IfErr result (λ error.
+        error ≡ Undelivered.Busy → ¬ (IsIdle engine.old.world end.now.pid end.now.fd)) }
 {
     match engine.peek(end.pid, end.fd, 1, 0) {
-        Ok(_) => Err(Undelivered::Busy),
+        Ok(Received::Got { .. }) => Err(Undelivered::Busy),
+        Ok(Received::End) => Err(Undelivered::Refused(Errno::EPIPE)),
         Err(Errno::EAGAIN) => Ok(()),
         Err(error) => Err(Undelivered::Refused(error)),
     }
@@ -62,7 +70,8 @@ fn check_idle(engine: &mut Engine, end: &End) -> Result<(), Undelivered>
 
 /// Receives one descriptor, and answers its number.
 fn receive(engine: &mut Engine, end: &End) -> Result<Fd, Undelivered>
-    ensures { IfOk result (λ got. Takes engine.old end.now.pid end.now.fd got engine.new) }
+    ensures taken { IfOk result (λ got. Takes engine.old end.now.pid end.now.fd got engine.new) }
+    ensures not_busy { IfErr result (λ error. ¬ (error ≡ Undelivered.Busy)) }
 {
     match engine.recv(end.pid, end.fd, 1, 1) {
         Ok(Received::Got { fds, .. }) => match fds.as_slice() {

@@ -1,6 +1,8 @@
-//! A gate of flags: each worker waits until all are inside, so that they run beside each other.
-use super::bench::{Outcome, Play, end_of, spawn_from, step};
-use af_base::events::{Event, Step};
+//! Gates of flags: one at which each worker waits until all are inside, so that they run beside
+//! each other, and one that lets the second seat call when the first has called.
+use super::bench::{Outcome, Play, end_of, spawn, spawn_from, step};
+use af_base::events::{Event, Reply, Step};
+use af_base::names::Pid;
 use af_layer::{Gate, Layer, Seat, Turns, drive};
 use std::alloc::{AllocError, Global};
 use std::sync::Wait;
@@ -26,6 +28,18 @@ fn are_up(flags: &AtomicU64) -> bool {
     flags.load(Ordering::SeqCst) == ALL
 }
 
+/// Waits until just these flags are up, and no longer than it takes to look so often. Returns
+/// whether they are.
+fn wait_for(flags: &AtomicU64, wanted: u64) -> bool {
+    for _ in 0..20_000_000u32 {
+        if flags.load(Ordering::SeqCst) == wanted {
+            return true;
+        }
+        thread::yield_now();
+    }
+    false
+}
+
 impl Flags {
     fn new() -> Flags {
         Flags {
@@ -49,15 +63,11 @@ impl Flags {
         }
     }
 
-    /// Waits until the flags of all seats are up, and no longer than it takes to look so often.
+    /// Waits until the flags of all seats are up.
     fn wait(&self, flags: &AtomicU64) {
-        for _ in 0..20_000_000u32 {
-            if are_up(flags) {
-                return;
-            }
-            thread::yield_now();
+        if !wait_for(flags, ALL) {
+            self.fail();
         }
-        self.fail();
     }
 
     /// Whether each seat made its four calls, and nothing failed.
@@ -172,4 +182,98 @@ fn gate_all_inside(rt: HostRuntime) {
         collector: Some(turns),
     };
     assert!(rt; end_of(&rt, rt.alloc(), 4, &inside) == Some(WELL));
+}
+
+/// Flags of two seats, each of which calls when the other has.
+#[derive(Drop)]
+struct Turnstile {
+    /// The first seat's call has returned.
+    returned: AtomicU64,
+    /// The second seat has made a call behind it.
+    followed: AtomicU64,
+    failures: AtomicU64,
+}
+
+impl Turnstile {
+    fn new() -> Turnstile {
+        Turnstile {
+            returned: AtomicU64::new(0),
+            followed: AtomicU64::new(0),
+            failures: AtomicU64::new(0),
+        }
+    }
+
+    fn wait(&self, flag: &AtomicU64) {
+        if !wait_for(flag, 1) {
+            self.failures.fetch_add(1, Ordering::SeqCst);
+        }
+    }
+}
+
+impl Gate for Turnstile {
+    fn before(&self, seat: u32, nth: u32) {
+        match (seat, nth) {
+            (2, 1) => self.wait(&self.returned),
+            (2, 2) => self.followed.store(1, Ordering::SeqCst),
+            _ => {}
+        }
+    }
+
+    fn after(&self, seat: u32, _nth: u32) {
+        if seat == 1 {
+            self.returned.store(1, Ordering::SeqCst);
+            // Were this before the call, the second seat's first call would come before it.
+            self.wait(&self.followed);
+        }
+    }
+}
+
+/// A script of one start, and one of two.
+fn starts(alloc: Global) -> Result<Vec<Vec<Event>>, AllocError> {
+    Ok(vec![in alloc; vec![in alloc; spawn()]?, vec![in alloc; spawn(), spawn()]?]?)
+}
+
+/// Whether the process of this pid was started by the first call from this seat.
+fn started(seat: &Seat, pid: u32) -> bool {
+    match seat.list().first() {
+        Some((_, reply)) => *reply == Reply::Pid(Pid(pid)),
+        None => false,
+    }
+}
+
+/// Whether the first seat's call came before those of the second.
+fn are_in_turn(seats: &[Seat]) -> bool {
+    seats.len() == 2 && started(&seats[0], 1) && started(&seats[1], 2)
+}
+
+/// The second seat calls when the first has called.
+struct InTurn;
+
+impl Play for InTurn {
+    fn on<R: Threads + Wait + Sync>(
+        &self,
+        rt: &R,
+        alloc: Global,
+        layer: &Layer,
+        seats: Vec<Seat>,
+    ) -> Option<Vec<Seat>> {
+        let scripts = starts(alloc).ok()?;
+        let turnstile = Turnstile::new();
+        let seats = drive(rt, layer, seats, scripts, None, &turnstile).ok()?;
+        if turnstile.failures.load(Ordering::SeqCst) == 0 && are_in_turn(&seats) {
+            Some(seats)
+        } else {
+            None
+        }
+    }
+}
+
+#[test]
+fn gate_is_told_of_a_call_that_was_made(rt: HostRuntime) {
+    let well = Outcome {
+        fault: None,
+        entries: 3,
+        seats: 0,
+    };
+    assert!(rt; end_of(&rt, rt.alloc(), 2, &InTurn) == Some(well));
 }

@@ -13,11 +13,11 @@ if_ok (Ok x) h f = f x h
 if_ok (Err e) h f = h
 
 -- The receiver was idle, so it got what was sent.
-pub returns-in-Ok : goal.returns-in-Ok
-returns-in-Ok c =
+pub returns-in-Ok-clause-delivered : goal.returns-in-Ok-clause-delivered
+returns-in-Ok-clause-delivered c =
     let from = c.args.from.now in
     let to = c.args.to.now in
     let Sends : Machine → Type 0 = λ m. Does m from.pid (step.Send from.fd (46 ∷ []) (c.args.fd ∷ [])) (reply.Sent c.in-Ok.field-0) c.send.new.self in
     let sent : Sends c.args.engine.now = subst Sends c.in_ok-check_idle.ensures.same c.in-Ok.ensures.done in
-    if_ok c.receive.result c.receive.ensures
+    if_ok c.receive.result c.receive.ensures.taken
     (λ got took. delivered c.args.engine.now c.send.new.self c.receive.new.engine from.pid from.fd c.args.fd to.pid to.fd got (46 ∷ []) (reply.Sent c.in-Ok.field-0) c.in_ok-check_idle.ensures.idle sent took)

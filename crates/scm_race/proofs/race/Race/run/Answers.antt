@@ -1,12 +1,10 @@
-use Rattle.scm_race.proofs.Ended.{told}
+use Rattle.scm_race.proofs.Ended.{all-steps}
 use Rattle.scm_race.proofs.race.Race.run.Goals as goal
 
 pub returns-clause-raced : goal.returns-clause-raced
-returns-clause-raced g c =
-    let b = c.in_ok-closed.closed.book in
-    (b, c.in_ok-seats.ensures b c.of-outcome.ensures.legal c.in_ok-closed.ensures.whole, c.of-outcome.ensures.outcome)
+returns-clause-raced g c = c.in_ok-seats.ensures c.in_ok-closed.closed.book c.log.ensures.legal c.in_ok-closed.ensures.whole
 
 pub returns-clause-steps : goal.returns-clause-steps
 returns-clause-steps g c =
     let race = c.args.self in
-    told race.workers race.steps race.seed race.budget c.of-outcome.result c.requires.steps.0 (returns-clause-raced g c)
+    all-steps race.workers race.steps race.seed race.budget c.in_ok-closed.closed.book c.requires.steps.0 (returns-clause-raced g c)

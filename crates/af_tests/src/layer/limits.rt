@@ -1,0 +1,96 @@
+//! What is refused at a limit: a call where the log is full, a layer of too few or too many seats,
+//! and a drive of more work than seats.
+use super::bench::{Outcome, Play, end_of, scripts};
+use af_base::events::Event;
+use af_layer::{Book, CallError, DriveFault, Layer, OpenError, OpenGate, Seat, Turns, drive};
+use std::alloc::Global;
+use std::process::Abort;
+use std::sync::Wait;
+use std::test::Fail;
+use std::thread::Threads;
+
+/// How many entries a log may have.
+const ENTRIES: usize = 1_048_576;
+
+/// Makes so many calls, and returns whether all were done. Each is a slice where no pass runs,
+/// which is logged as refused.
+fn fill(book: &mut Book, calls: usize) -> bool {
+    for _ in 0..calls {
+        if book.call(1, Event::Slice(1)).is_err() {
+            return false;
+        }
+    }
+    true
+}
+
+/// Returns whether the book makes no call, since its log is full.
+fn is_full(book: &mut Book) -> bool {
+    book.call(1, Event::Slice(1)) == Err(CallError::LogFull) && book.log().len() == ENTRIES
+}
+
+/// The log takes its last entry, and no further one.
+fn fills_up(rt: &impl Abort, book: &mut Book) {
+    assert!(rt; fill(book, ENTRIES));
+    assert!(rt; is_full(book));
+}
+
+#[test]
+fn log_is_full_after_1_048_576_calls(rt: HostRuntime) -> Result<(), Fail> {
+    let mut book = Book::new(rt.alloc(), 1)?;
+    fills_up(&rt, &mut book);
+    Ok(())
+}
+
+/// Returns why no layer of so many seats is opened, if none is.
+fn refusal_of(alloc: Global, seats: u32) -> Option<OpenError> {
+    Layer::open(alloc, seats).err()
+}
+
+#[test]
+fn layers_have_1_to_64_seats(rt: HostRuntime) {
+    for seats in [0, 65, u32::MAX] {
+        assert!(rt;
+            refusal_of(rt.alloc(), seats) == Some(OpenError::BadCount),
+            "{seats}"
+        );
+    }
+    for seats in [1, 64] {
+        assert!(rt; refusal_of(rt.alloc(), seats).is_none(), "{seats}");
+    }
+}
+
+/// Two scripts and a collector are handed to a drive that has too few seats for them.
+struct TooFew;
+
+impl Play for TooFew {
+    fn on<R: Threads + Wait + Sync>(
+        &self,
+        rt: &R,
+        alloc: Global,
+        layer: &Layer,
+        seats: Vec<Seat>,
+    ) -> Option<Vec<Seat>> {
+        let scripts = scripts(alloc, 2, 3).ok()?;
+        let turns = Turns {
+            turns: 1,
+            budget: 1,
+        };
+        match drive(rt, layer, seats, scripts, Some(turns), &OpenGate) {
+            Ok(_) => None,
+            Err(error) if error.fault == DriveFault::TooFewSeats => Some(error.seats),
+            Err(_) => None,
+        }
+    }
+}
+
+/// Nothing was started, and the audit of the two seats ends well.
+#[test]
+fn two_scripts_and_a_collector_want_three_seats(rt: HostRuntime) {
+    let untouched = Outcome {
+        fault: None,
+        entries: 0,
+        seats: 0,
+    };
+    assert!(rt; end_of(&rt, rt.alloc(), 2, &TooFew) == Some(untouched));
+    assert!(rt; end_of(&rt, rt.alloc(), 3, &TooFew).is_none());
+}
