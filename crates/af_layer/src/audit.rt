@@ -1,4 +1,5 @@
-//! The audit: each seat's list is its part of the log. It takes no memory, and goes over the log once.
+//! The audit: each seat's list is its part of the log. It takes no memory, and goes over the log
+//! once.
 ghost use Rattle.std.specs.Prelude.{◌≡◌, ◌≢◌, ◌↔◌, ◌<◌, ◌≤◌, ◌+◌, ◌∷◌, ℕ, All, IsTrue, List, MatchBool, MatchOption, drop, length, slice_index};
 ghost use Rattle.af_layer.specs.declared.book.Entry.{Entry as LogEntry};
 ghost use Rattle.af_layer.specs.Audit.{HasFault, IsAudited, IsMissing, IsStranger, IsWhole, IsWrong, NoStranger, NoneMissing, number_at};
@@ -35,7 +36,9 @@ fn is_pair(pair: &(Event, Reply), entry: &Entry) -> bool
 /// Whether one of the seats before this place has the number.
 fn is_before(seats: &[Seat], end: usize, number: u32) -> bool
     requires { end ≤ length seats.now }
-    ensures { MatchBool result ((j : ℕ) × (j < end) × (number_at seats.now j ≡ number)) ((j : ℕ) → j < end → number_at seats.now j ≢ number) }
+    ensures { MatchBool result
+        ((j : ℕ) × (j < end) × (number_at seats.now j ≡ number))
+        ((j : ℕ) → j < end → number_at seats.now j ≢ number) }
 {
     for j in 0..end {
         let seat = &seats[j];
@@ -91,7 +94,9 @@ fn places(seats: &[Seat], count: u32) -> [usize; NUMBERS]
 /// How much of a list was in the log, after one entry more of its seat; nothing, where the list has
 /// something else.
 fn advance(list: &[(Event, Reply)], cursor: Option<usize>, entry: &Entry) -> Option<usize>
-    ensures { (log : List LogEntry) (i : ℕ) → drop i log ≡ entry.now ∷ drop (i + 1) log → Tracks log list.now entry.now.seat i cursor → Tracks log list.now entry.now.seat (i + 1) result }
+    ensures { (log : List LogEntry) (i : ℕ) → drop i log ≡ entry.now ∷ drop (i + 1) log
+        → Tracks log list.now entry.now.seat i cursor
+        → Tracks log list.now entry.now.seat (i + 1) result }
 {
     let cursor = cursor?;
     let pair = list.get(cursor)?;
@@ -105,7 +110,8 @@ fn advance(list: &[(Event, Reply)], cursor: Option<usize>, entry: &Entry) -> Opt
 /// Goes over the log once, and moves for each entry the cursor of its seat.
 fn walk(log: &[Entry], seats: &[Seat], places: &[usize], cursors: &mut [Option<usize>])
     requires cursors { length cursors.old ≡ length places.now }
-    requires places { (k : ℕ) → k < length places.now → slice_index places.now k < length seats.now }
+    requires places { (k : ℕ) → k < length places.now
+        → slice_index places.now k < length seats.now }
     requires log { All (λ e. e.seat < length places.now) log.now }
     requires start { AllTrack log.now seats.now places.now 0 cursors.old }
     ensures { AllTrack log.now seats.now places.now (length log.now) cursors.new }
@@ -123,7 +129,9 @@ fn wrong(log: &[Entry], seats: &[Seat], count: u32) -> Option<u32>
     requires log { All (λ e. (1 ≤ e.seat) × (e.seat ≤ count)) log.now }
     requires known { NoStranger count seats.now }
     requires all_there { NoneMissing count seats.now }
-    ensures { MatchOption result ((k : ℕ) → 1 ≤ k → k ≤ count → IsAudited log.now seats.now k) (λ k. (1 ≤ k) × (k ≤ count) × IsWrong log.now seats.now k) }
+    ensures { MatchOption result
+        ((k : ℕ) → 1 ≤ k → k ≤ count → IsAudited log.now seats.now k)
+        (λ k. (1 ≤ k) × (k ≤ count) × IsWrong log.now seats.now k) }
 {
     let places = places(seats, count);
     let mut cursors = [Some(0); NUMBERS];

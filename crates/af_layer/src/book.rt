@@ -67,7 +67,8 @@ impl Model for Book {
 }
 
 impl Book {
-    /// A book for so many seats, 1 to 64, in which nothing was done.
+    /// Makes a book for so many seats, 1 to 64, in which nothing was done. The error says that
+    /// memory was refused.
     pub fn new(alloc: Global, seats: u32) -> Result<Book, AllocError>
         requires { (1 ≤ seats) × (seats ≤ MAX_SEATS) }
         ensures { IfOk result (λ book. book ≡ record { seats = seats; machine = fresh; log = [] }) }
@@ -80,7 +81,7 @@ impl Book {
         })
     }
 
-    /// How many seats there are, 1 to 64. They are numbered from 1.
+    /// Returns how many seats there are, 1 to 64. They are numbered from 1.
     pub fn seats(&self) -> u32
         ensures value { result ≡ self.now.seats }
         ensures range { (1 ≤ result) × (result ≤ MAX_SEATS) }
@@ -88,7 +89,7 @@ impl Book {
         self.seats
     }
 
-    /// All that was done, in order, by a run from the fresh machine to the engine as it stands.
+    /// Returns all that was done, in order: a run from the fresh machine to the engine as it is.
     pub fn log(&self) -> &[Entry]
         ensures value { result.now ≡ self.now.log }
         ensures legal { IsLegal self.now.seats self.now.machine self.now.log }
@@ -96,7 +97,7 @@ impl Book {
         self.log.as_slice()
     }
 
-    /// The engine as it stands.
+    /// Lends the engine as it stands.
     pub fn engine(&self) -> &Engine
         ensures { result.now ≡ self.now.machine }
     {
@@ -126,8 +127,8 @@ impl Book {
     }
 }
 
-/// Room in the log of so many seats for an entry of this one, and for a copy of the reply to its event;
-/// or why the call does nothing. The log stays as it is.
+/// Room in the log of so many seats for an entry of this one, and for a copy of the reply to its
+/// event; or why the call does nothing. The log stays as it is.
 fn room_for(
     alloc: Global,
     seats: u32,
@@ -135,10 +136,15 @@ fn room_for(
     seat: u32,
     event: &Event,
 ) -> Result<ReplyRoom, CallError>
-    ensures reply { IfOk result (λ room. (most_bytes event.now ≤ room.bytes) × (most_fds event.now ≤ room.fds)) }
+    ensures reply { IfOk result (λ room.
+        (most_bytes event.now ≤ room.bytes) × (most_fds event.now ≤ room.fds)) }
     ensures entry { OnOk result (vec_len log.new < vec_capacity log.new) }
     ensures seat { OnOk result ((1 ≤ seat) × (seat ≤ seats)) }
-    ensures refused { (machine : Machine) → Answers (refusal (record { seats = seats; machine = machine; log = log.old.items }) seat) result }
+    ensures refused { (machine : Machine) → Answers (refusal (record {
+      seats = seats;
+      machine = machine;
+      log = log.old.items;
+    }) seat) result }
     ensures log { log.new.items ≡ log.old.items }
 {
     if seat == 0 || seat > seats {

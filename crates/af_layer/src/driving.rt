@@ -50,7 +50,8 @@ fn are_enough(seats: &[Seat], scripts: &[Vec<Event>], collector: Option<Turns>) 
 /// Room for so many workers, and for as many seats.
 fn rooms(alloc: Global, count: usize) -> Result<(Vec<Worker>, Vec<Seat>), AllocError>
     ensures empty { IfOk result (λ rooms. (rooms.0.items ≡ []) × (rooms.1.items ≡ [])) }
-    ensures room { IfOk result (λ rooms. (count ≤ vec_capacity rooms.0) × (count ≤ vec_capacity rooms.1)) }
+    ensures room { IfOk result (λ rooms.
+        (count ≤ vec_capacity rooms.0) × (count ≤ vec_capacity rooms.1)) }
 {
     Ok((
         Vec::with_capacity(alloc, count)?,
@@ -117,10 +118,10 @@ fn take_back(mut seats: Vec<Seat>, workers: Vec<Worker>) -> Vec<Seat>
     seats
 }
 
-/// Does script i from the i-th seat, each in a thread of its own, and in the calling thread where the
-/// system gives none. With a collector the seat after these makes its turns: a begin where the seat's
-/// list is empty or ends in a reply other than `Started` and `Working`, and else a slice. The other
-/// seats come back untouched.
+/// Does script i from the i-th seat, each in a thread of its own, and in the calling thread where
+/// the system gives none. With a collector the seat after these makes its turns: a begin where the
+/// seat's list is empty or ends in a reply other than `Started` and `Working`, and else a slice.
+/// The other seats come back untouched.
 ///
 /// A worker stops at the first call that is refused; the others go on to their ends. All seats come
 /// back either way, in their order.
@@ -132,11 +133,15 @@ pub fn drive<R: Threads + Wait + Sync, G: Gate + Sync>(
     collector: Option<Turns>,
     gate: &G,
 ) -> Result<Vec<Seat>, DriveError>
-    ensures done { IfOk result (λ v. Driven Made seats.items (works_of scripts.items collector) v.items) }
-    ensures part { IfErr result (λ e. Driven Part seats.items (works_of scripts.items collector) e.seats.items) }
+    ensures done { IfOk result (λ v.
+        Driven Made seats.items (works_of scripts.items collector) v.items) }
+    ensures part { IfErr result (λ e.
+        Driven Part seats.items (works_of scripts.items collector) e.seats.items) }
     ensures enough { OnOk result (length (works_of scripts.items collector) ≤ vec_len seats) }
-    ensures few { IfErr result (λ e. (e.fault ≡ DriveFault.TooFewSeats) ↔ (vec_len seats < length (works_of scripts.items collector))) }
-    ensures fault { IfErr result (λ e. AtFault seats.items (works_of scripts.items collector) e.fault e.seats.items) }
+    ensures few { IfErr result (λ e. (e.fault ≡ DriveFault.TooFewSeats)
+        ↔ (vec_len seats < length (works_of scripts.items collector))) }
+    ensures fault { IfErr result (λ e.
+        AtFault seats.items (works_of scripts.items collector) e.fault e.seats.items) }
 {
     if !are_enough(seats.as_slice(), scripts.as_slice(), collector) {
         return Err(DriveError {

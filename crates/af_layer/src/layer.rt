@@ -50,11 +50,16 @@ pub struct CloseError {
 }
 
 impl Layer {
-    /// A layer in which nothing was done, and its seats, numbered from 1.
+    /// Opens a layer in which nothing was done, with so many seats, numbered from 1.
+    ///
+    /// The error is `BadCount` for fewer than 1 and more than 64, and else that memory was refused.
     pub fn open(alloc: Global, seats: u32) -> Result<(Layer, Vec<Seat>), OpenError>
         ensures count { IfOk result (λ opened. vec_len opened.1 ≡ seats) }
-        ensures seats { IfOk result (λ opened. (i : ℕ) (other : Seated) → i < seats → slice_index_or opened.1.items i other ≡ record { number = i + 1; list = [] }) }
-        ensures refused { MatchBool (is_seat MAX_SEATS seats) (IfErr result (λ e. e ≡ OpenError.NoRoom)) (result ≡ Err OpenError.BadCount) }
+        ensures seats { IfOk result (λ opened. (i : ℕ) (other : Seated) → i < seats
+            → slice_index_or opened.1.items i other ≡ record { number = i + 1; list = [] }) }
+        ensures refused { MatchBool (is_seat MAX_SEATS seats)
+            (IfErr result (λ e. e ≡ OpenError.NoRoom))
+            (result ≡ Err OpenError.BadCount) }
     {
         if seats == 0 || seats > MAX_SEATS {
             return Err(OpenError::BadCount);

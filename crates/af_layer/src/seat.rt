@@ -35,14 +35,14 @@ impl Seat {
         }
     }
 
-    /// Its number, from 1.
+    /// Returns its number, from 1.
     pub fn number(&self) -> u32
         ensures { result ≡ self.now.number }
     {
         self.number
     }
 
-    /// What was asked from here and answered, in order.
+    /// Returns what was asked from here and answered, in order.
     pub fn list(&self) -> &[(Event, Reply)]
         ensures { result.now ≡ self.now.list }
     {
@@ -51,13 +51,15 @@ impl Seat {
 
     /// Does one event on a book, under this seat's number, and keeps it with its reply.
     ///
-    /// Room for the pair is had first, and where it is refused the error is `NoRoom`; else the errors
-    /// are those of [`Book::call`]. After an error the book and the seat are as they were, and the
-    /// event is given up.
+    /// Room for the pair is had first, and where it is refused the error is `NoRoom`; else the
+    /// errors are those of [`Book::call`]. After an error the book and the seat are as they were,
+    /// and the event is given up.
     pub fn call_in(&mut self, book: &mut Book, event: Event) -> Result<(), CallError>
-        ensures done { OnOk result ((reply : Answer) × (self.new ≡ grown self.old event reply) × Calls book.old self.old.number event reply book.new) }
+        ensures done { OnOk result ((reply : Answer) × (self.new ≡ grown self.old event reply)
+            × Calls book.old self.old.number event reply book.new) }
         ensures open { OnOk result (refusal book.old self.old.number ≡ None) }
-        ensures refused { IfErr result (λ e. (e ≡ CallError.NoRoom) ⊎ (refusal book.old self.old.number ≡ Some e)) }
+        ensures refused { IfErr result (λ e.
+            (e ≡ CallError.NoRoom) ⊎ (refusal book.old self.old.number ≡ Some e)) }
         ensures seat { OnErr result (self.new ≡ self.old) }
         ensures book { OnErr result (book.new ≡ book.old) }
     {

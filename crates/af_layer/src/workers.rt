@@ -14,13 +14,13 @@ use std::sync::Wait;
 use std::thread;
 use std::thread::Threads;
 
-/// What is called round each call of a drive: with the seat's number, and the number of the call in
-/// this drive, from 1. No lock is held then.
+/// What is called round each call of a drive: with the seat's number, and the number of the seat's
+/// call in this drive, from 1. No lock is held then.
 pub trait Gate {
-    /// A call comes.
+    /// Is told that a call comes. The call is not made before this returns.
     fn before(&self, seat: u32, nth: u32);
 
-    /// A call has returned.
+    /// Is told that a call has returned, done or refused.
     fn after(&self, seat: u32, nth: u32);
 }
 
@@ -66,7 +66,11 @@ impl Model for Worker {
 
     ghost Value = { Job };
 
-    ghost view = { λ w. record { seat = w.seat; work = option_map work_of w.task; fault = w.fault } };
+    ghost view = { λ w. record {
+      seat = w.seat;
+      work = option_map work_of w.task;
+      fault = w.fault;
+    } };
 }
 
 /// One call, with the gate before and after it.
@@ -128,8 +132,10 @@ fn collect<R: Wait, G: Gate>(
     gate: &G,
 ) -> Result<(), CallError>
     ensures number { seat.new.number ≡ seat.old.number }
-    ensures made { OnOk result (Made (Some (Collects turns.turns turns.budget)) seat.old.list seat.new.list) }
-    ensures short { OnErr result (Short (Some (Collects turns.turns turns.budget)) seat.old.list seat.new.list) }
+    ensures made { OnOk result
+        (Made (Some (Collects turns.turns turns.budget)) seat.old.list seat.new.list) }
+    ensures short { OnErr result
+        (Short (Some (Collects turns.turns turns.budget)) seat.old.list seat.new.list) }
 {
     for turn in 0..turns.turns {
         let event = next_event(seat, turns.budget);

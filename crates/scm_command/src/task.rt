@@ -199,7 +199,7 @@ fn task_by<'a, S: AsStr>(command: &mut Command<'a>, words: &'a [S]) -> Result<Ta
     }
 }
 
-/// The task that a command line names. Its first word is the program's name.
+/// Reads the task that a command line names. Its first word is the program's name.
 ///
 /// A call for help or for the version is an error too, with that text.
 pub fn task_of<'a, S: AsStr>(alloc: Global, words: &'a [S]) -> Result<Task, Error>

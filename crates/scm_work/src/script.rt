@@ -58,7 +58,7 @@ fn push_opening(alloc: Global, script: &mut Vec<Event>, worker: u32) -> Result<(
     Ok(())
 }
 
-/// The script of a worker: so many events, all of the process with the worker's number.
+/// Makes the script of a worker: so many events, all of the process with the worker's number.
 ///
 /// The worker makes a listener at 0, a stream where its number is odd and of packets where it is even,
 /// and a pair of sockets. Then come the events of the next words of its generator, and at the end

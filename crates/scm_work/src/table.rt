@@ -42,7 +42,7 @@ fn type_of(number: u32) -> SockType
     }
 }
 
-/// The abstract name of a worker's listener: `w` and the worker's number.
+/// Makes the abstract name of a worker's listener (unix(7)): `w` and the worker's number.
 pub fn listener_name(alloc: Global, worker: u32) -> Result<Items<u8>, AllocError>
     ensures { IfOk result (λ name. name ≡ name_of worker) }
 {
@@ -99,8 +99,8 @@ fn step_of_word(alloc: Global, workers: u32, word: u64) -> Result<Step, AllocErr
     Ok(step)
 }
 
-/// The event that a word stands for, of the worker with this number, where there are so many. The
-/// process of a worker has its number. The error says that memory was refused.
+/// Makes the event that a word stands for, of the worker with this number, where there are so many.
+/// The process of a worker has its number. The error says that memory was refused.
 pub fn event_of_word(
     alloc: Global,
     worker: u32,
