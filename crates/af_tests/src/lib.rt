@@ -15,3 +15,5 @@ mod plain;
 mod steps;
 #[cfg(test)]
 mod table;
+#[cfg(test)]
+mod units;

@@ -2,7 +2,10 @@
 //! worked scripts of `scm_cases`, with each refusal.
 mod acts;
 mod chains;
+mod cycle;
+mod full;
 mod growths;
+mod installs;
+mod lives;
 mod runs;
-mod units;
 mod views;

@@ -2,7 +2,9 @@
 //! and a drive of more work than seats.
 use super::bench::{Outcome, Play, end_of, scripts};
 use af_base::events::Event;
-use af_layer::{Book, CallError, DriveFault, Layer, OpenError, OpenGate, Seat, Turns, drive};
+use af_layer::{
+    Book, CallError, DriveError, DriveFault, Layer, OpenError, OpenGate, Seat, Turns, drive,
+};
 use std::alloc::Global;
 use std::process::Abort;
 use std::sync::Wait;
@@ -59,7 +61,37 @@ fn layers_have_1_to_64_seats(rt: HostRuntime) {
     }
 }
 
-/// Two scripts and a collector are handed to a drive that has too few seats for them.
+/// Whether a drive had too few seats.
+fn had_too_few_seats(error: &DriveError) -> bool {
+    match error.fault {
+        DriveFault::TooFewSeats => true,
+        DriveFault::NoRoom | DriveFault::Call(_, _) => false,
+    }
+}
+
+/// The seats of a drive that had too few for two scripts and a collector. Nothing, where it had
+/// enough.
+fn refused<R: Threads + Wait + Sync>(
+    rt: &R,
+    alloc: Global,
+    layer: &Layer,
+    seats: Vec<Seat>,
+) -> Option<Vec<Seat>> {
+    let scripts = scripts(alloc, 2, 3).ok()?;
+    let turns = Turns {
+        turns: 1,
+        budget: 1,
+    };
+    match drive(rt, layer, seats, scripts, Some(turns), &OpenGate) {
+        Ok(_) => None,
+        Err(error) => {
+            let too_few = had_too_few_seats(&error);
+            if too_few { Some(error.seats) } else { None }
+        }
+    }
+}
+
+/// A drive has too few seats.
 struct TooFew;
 
 impl Play for TooFew {
@@ -70,16 +102,7 @@ impl Play for TooFew {
         layer: &Layer,
         seats: Vec<Seat>,
     ) -> Option<Vec<Seat>> {
-        let scripts = scripts(alloc, 2, 3).ok()?;
-        let turns = Turns {
-            turns: 1,
-            budget: 1,
-        };
-        match drive(rt, layer, seats, scripts, Some(turns), &OpenGate) {
-            Ok(_) => None,
-            Err(error) if error.fault == DriveFault::TooFewSeats => Some(error.seats),
-            Err(_) => None,
-        }
+        refused(rt, alloc, layer, seats)
     }
 }
 

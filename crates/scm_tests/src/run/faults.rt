@@ -117,6 +117,16 @@ fn much_text(alloc: Global) -> Result<(Vec<u8>, Vec<u8>), AllocError> {
     Ok((script, texts))
 }
 
+/// A script may come in thousands of reads, one byte each.
+#[test]
+fn thousands_of_reads(rt: HostRuntime) -> Result<(), Fail> {
+    let (script, texts) = much_text(rt.alloc())?;
+    let reading = pace(1, script.len().saturating_add(1));
+    let done = run_over(&rt, script.as_slice(), texts.as_slice(), reading, AMPLE);
+    assert_eq!(rt; done, Ok(202));
+    Ok(())
+}
+
 /// What is read at once is written in no more than 17 writes. Where the first of them fails there is
 /// no second.
 #[test]

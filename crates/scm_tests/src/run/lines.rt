@@ -1,10 +1,13 @@
 //! Lines that are too long to be cases, and bytes that are no text.
 use super::streams::{AMPLE, Pace, run_over};
-use scm_lines::MAX_LINE;
 use scm_run::RunFault;
 use std::alloc::{AllocError, AllocGlobal};
 use std::process::Abort;
 use std::test::Fail;
+
+/// The most bytes that a line may have, without its end. The test has its own number, so that it
+/// fails where the program's changes.
+const LONGEST: usize = 262_144;
 
 /// A line as long as a line may be, with this behind it, ends a run so.
 fn after_a_long_line<T: Abort + AllocGlobal>(
@@ -12,7 +15,7 @@ fn after_a_long_line<T: Abort + AllocGlobal>(
     ending: &[u8],
     end: Result<u64, RunFault>,
 ) -> Result<(), AllocError> {
-    let mut line = vec![in rt.alloc(); b' '; MAX_LINE]?;
+    let mut line = vec![in rt.alloc(); b' '; LONGEST]?;
     line.extend_from_slice(ending)?;
     assert!(rt; run_over(rt, line.as_slice(), b"", AMPLE, AMPLE) == end);
     Ok(())
@@ -39,8 +42,8 @@ fn the_longest_line(rt: HostRuntime) -> Result<(), Fail> {
 /// A line that is too long is refused before it is read whole.
 #[test]
 fn refuses_a_long_line_at_once(rt: HostRuntime) -> Result<(), Fail> {
-    let line = vec![in rt.alloc(); b'x'; MAX_LINE + 1]?;
-    for (at_once, calls) in [(1, MAX_LINE + 1), (4_096, MAX_LINE / 4_096 + 1)] {
+    let line = vec![in rt.alloc(); b'x'; 262_145]?;
+    for (at_once, calls) in [(1, 262_145), (4_096, 65)] {
         let reading = Pace { at_once, calls };
         let end = run_over(&rt, line.as_slice(), b"", reading, AMPLE);
         assert_eq!(rt; end, Err(RunFault::Unreadable(1)));

@@ -1,0 +1,11 @@
+use Rattle.std.proofs.Common.{ap}
+use Rattle.af_base.specs.declared.events.SockType.TheVariants.{Stream}
+use Rattle.af_base.specs.Steps.{idle_socket}
+use Rattle.af_base.specs.World.{AsSocket}
+use Rattle.af_collect.specs.Shown.{Shown}
+use Rattle.af_steps.proofs.Made.{added-live}
+use Rattle.af_tests.proofs.units.socket.Goals as goal
+
+pub install-requires-clause-live : goal.install-requires-clause-live
+install-requires-clause-live c =
+    added-live c.args.store.now.world (AsSocket (idle_socket Stream)) c.make_sock.new.self.world c.in_ok-file.file (ap (λ (s : Shown). s.world) c.in_ok-file.ensures.ok) c.in_ok-file.ensures.ino

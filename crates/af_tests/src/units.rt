@@ -1,0 +1,147 @@
+//! What a pass looks at, and that none is marked where it begins: an engine tells neither.
+ghost use Rattle.std.specs.Prelude.{◌≡◌, ◌∷◌, [], IfOk};
+ghost use Rattle.af_base.specs.World.{IsLive};
+ghost use Rattle.af_pass.specs.Keeping.{Spares};
+
+use af_base::errno::Errno;
+use af_base::events::SockType;
+use af_base::names::{Fd, FileRef, Ino, Pid, Uid};
+use af_collect::Store;
+use af_queue::{Attached, Msg};
+use smallvec::SmallVec;
+use std::alloc::{AllocError, Global};
+use std::process::Abort;
+
+/// The file comes to the lowest free number of the process.
+fn install(store: &mut Store, pid: Pid, file: FileRef) -> Result<(), Errno>
+    requires live { IsLive store.old.world file }
+    requires spared { Spares store.old.pass file }
+{
+    let process = store.holdings().procs().find(pid).ok_or(Errno::ESRCH)?;
+    let fd = process.lowest().ok_or(Errno::EMFILE)?;
+    store.room_for(pid, 1)?;
+    store.table_in(pid, fd, file);
+    store.release();
+    Ok(())
+}
+
+/// The process opens a plain file.
+fn open(store: &mut Store, pid: Pid) -> Result<(), Errno> {
+    if store.holdings().files().is_full(1) {
+        return Err(Errno::ENFILE);
+    }
+    let file = store.make_plain()?;
+    install(store, pid, file)
+}
+
+/// The process makes a socket.
+fn socket(store: &mut Store, pid: Pid) -> Result<(), Errno> {
+    if store.holdings().files().is_full(1) {
+        return Err(Errno::ENFILE);
+    }
+    let file = store.make_sock(SockType::Stream)?;
+    install(store, pid, file)
+}
+
+/// Just this file, as a message carries it.
+fn just(alloc: Global, file: FileRef) -> Result<Attached, AllocError>
+    ensures { IfOk result (λ files. files.items ≡ file ∷ []) }
+{
+    let mut files = SmallVec::with_capacity(alloc, 1)?;
+    files.push(file)?;
+    Ok(files)
+}
+
+/// A message of one byte comes into the queue of the socket at this number, and carries it.
+fn carry_itself(store: &mut Store, alloc: Global, pid: Pid, on: Fd) -> Result<(), Errno> {
+    // Nothing goes. The prover is told that the world is sound.
+    store.release();
+    store.is_spared();
+    let holdings = store.holdings();
+    let process = holdings.procs().find(pid).ok_or(Errno::ESRCH)?;
+    let file = process.lookup(on).ok_or(Errno::EBADF)?;
+    let socket = holdings.files().socket(&file).ok_or(Errno::ENOTSOCK)?;
+    if socket.queue().len() > 0 || holdings.total() > 0 {
+        return Err(Errno::EAGAIN);
+    }
+    let user = process.user();
+    let message = Msg::new(b"x".to_vec(alloc)?, just(alloc, file.again())?, user);
+    store.room_for_message()?;
+    store.put_msg(&file, message);
+    store.release();
+    Ok(())
+}
+
+/// A process starts, and opens so many plain files.
+fn open_many(store: &mut Store, files: u32) -> Result<Pid, Errno> {
+    if store.holdings().is_crowded() {
+        return Err(Errno::EAGAIN);
+    }
+    let pid = store.spawn(Uid(1000), 1_024, false)?;
+    for _ in 0..files {
+        open(store, pid)?;
+    }
+    Ok(pid)
+}
+
+/// 20 processes open 1,000 plain files each. A socket is in its own queue, so that a pass looks at
+/// the files.
+fn fill(store: &mut Store, alloc: Global) -> Result<(), Errno> {
+    let first = open_many(store, 1_000)?;
+    for _ in 1..20 {
+        open_many(store, 1_000)?;
+    }
+    socket(store, first)?;
+    carry_itself(store, alloc, first, Fd(1_000))
+}
+
+/// A pass begins. It has looked at no file, and none is marked.
+fn begin(rt: &impl Abort, store: &mut Store) {
+    store.release();
+    assert!(rt; !store.is_passing());
+    store.begin();
+    assert!(rt; store.looked() == 0);
+    for ino in 1..=20_001 {
+        assert!(rt; is_unmarked(store, ino));
+    }
+}
+
+/// Whether the file is live, and not marked.
+fn is_unmarked(store: &Store, ino: u64) -> bool {
+    let files = store.holdings().files();
+    files
+        .find(Ino(ino))
+        .is_some_and(|file| !files.is_marked(&file))
+}
+
+/// The pass goes on by a slice, which looks at no more files than its budget. Whether it is done.
+fn slice(rt: &impl Abort, store: &mut Store, budget: u32) -> bool {
+    store.release();
+    assert!(rt; store.is_passing());
+    let before = store.looked();
+    let reclaimed = store.slice(budget);
+    let rise = store.looked().checked_sub(before);
+    assert!(rt; rise.is_some_and(|rise| rise <= u64::from(budget)));
+    assert!(rt; reclaimed.is_none_or(|sockets| sockets == 0));
+    reclaimed.is_some()
+}
+
+/// The pass is done within 100 slices, and has looked at each of 20,000 files three times at most.
+fn slices(rt: &impl Abort, store: &mut Store) {
+    for _ in 0..100 {
+        if slice(rt, store, 977) {
+            break;
+        }
+    }
+    assert!(rt; !store.is_passing());
+    let looked = store.looked();
+    assert!(rt; 20_000 < looked && looked <= 60_000, "{looked}");
+}
+
+#[test]
+fn units_are_counted(rt: HostRuntime) {
+    let mut store = Store::new(rt.alloc());
+    assert!(rt; fill(&mut store, rt.alloc()).is_ok());
+    begin(&rt, &mut store);
+    slices(&rt, &mut store);
+}
