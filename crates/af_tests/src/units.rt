@@ -1,4 +1,5 @@
-//! What a pass looks at, and that none is marked where it begins: an engine tells neither.
+//! How many files a pass looks at, and that none is marked right after its begin. An engine shows
+//! neither, so that these tests drive a store.
 ghost use Rattle.std.specs.Prelude.{◌≡◌, ◌∷◌, [], IfOk};
 ghost use Rattle.af_base.specs.World.{IsLive};
 ghost use Rattle.af_pass.specs.Keeping.{Spares};
@@ -12,7 +13,7 @@ use smallvec::SmallVec;
 use std::alloc::{AllocError, Global};
 use std::process::Abort;
 
-/// The file comes to the lowest free number of the process.
+/// Installs the file at the lowest free number of the process.
 fn install(store: &mut Store, pid: Pid, file: FileRef) -> Result<(), Errno>
     requires live { IsLive store.old.world file }
     requires spared { Spares store.old.pass file }
@@ -25,7 +26,7 @@ fn install(store: &mut Store, pid: Pid, file: FileRef) -> Result<(), Errno>
     Ok(())
 }
 
-/// The process opens a plain file.
+/// Opens a plain file in the process.
 fn open(store: &mut Store, pid: Pid) -> Result<(), Errno> {
     if store.holdings().files().is_full(1) {
         return Err(Errno::ENFILE);
@@ -34,7 +35,7 @@ fn open(store: &mut Store, pid: Pid) -> Result<(), Errno> {
     install(store, pid, file)
 }
 
-/// The process makes a socket.
+/// Makes a socket in the process.
 fn socket(store: &mut Store, pid: Pid) -> Result<(), Errno> {
     if store.holdings().files().is_full(1) {
         return Err(Errno::ENFILE);
@@ -43,7 +44,7 @@ fn socket(store: &mut Store, pid: Pid) -> Result<(), Errno> {
     install(store, pid, file)
 }
 
-/// Just this file, as a message carries it.
+/// Returns the list of this one file, as a message carries it.
 fn just(alloc: Global, file: FileRef) -> Result<Attached, AllocError>
     ensures { IfOk result (λ files. files.items ≡ file ∷ []) }
 {
@@ -52,9 +53,9 @@ fn just(alloc: Global, file: FileRef) -> Result<Attached, AllocError>
     Ok(files)
 }
 
-/// A message of one byte comes into the queue of the socket at this number, and carries it.
+/// Puts a message into the queue of the socket at this number, which carries that socket.
 fn carry_itself(store: &mut Store, alloc: Global, pid: Pid, on: Fd) -> Result<(), Errno> {
-    // Nothing goes. The prover is told that the world is sound.
+    // Nothing is unreferenced here: the call tells the prover that the world is sound.
     store.release();
     store.is_spared();
     let holdings = store.holdings();
@@ -72,7 +73,7 @@ fn carry_itself(store: &mut Store, alloc: Global, pid: Pid, on: Fd) -> Result<()
     Ok(())
 }
 
-/// A process starts, and opens so many plain files.
+/// Starts a process that opens so many plain files.
 fn open_many(store: &mut Store, files: u32) -> Result<Pid, Errno> {
     if store.holdings().is_crowded() {
         return Err(Errno::EAGAIN);
@@ -84,8 +85,8 @@ fn open_many(store: &mut Store, files: u32) -> Result<Pid, Errno> {
     Ok(pid)
 }
 
-/// 20 processes open 1,000 plain files each. A socket is in its own queue, so that a pass looks at
-/// the files.
+/// Opens 1,000 plain files in each of 20 processes. A socket that a table holds is in its own
+/// queue: where nothing is in flight, a pass looks at no file.
 fn fill(store: &mut Store, alloc: Global) -> Result<(), Errno> {
     let first = open_many(store, 1_000)?;
     for _ in 1..20 {
@@ -95,7 +96,7 @@ fn fill(store: &mut Store, alloc: Global) -> Result<(), Errno> {
     carry_itself(store, alloc, first, Fd(1_000))
 }
 
-/// A pass begins. It has looked at no file, and none is marked.
+/// Begins a pass, which has looked at no file and marked none.
 fn begin(rt: &impl Abort, store: &mut Store) {
     store.release();
     assert!(rt; !store.is_passing());
@@ -106,7 +107,7 @@ fn begin(rt: &impl Abort, store: &mut Store) {
     }
 }
 
-/// Whether the file is live, and not marked.
+/// Returns whether the file is live, and not marked.
 fn is_unmarked(store: &Store, ino: u64) -> bool {
     let files = store.holdings().files();
     files
@@ -114,7 +115,7 @@ fn is_unmarked(store: &Store, ino: u64) -> bool {
         .is_some_and(|file| !files.is_marked(&file))
 }
 
-/// The pass goes on by a slice, which looks at no more files than its budget. Whether it is done.
+/// Does a slice, which looks at no more files than its budget. Returns whether the pass is done.
 fn slice(rt: &impl Abort, store: &mut Store, budget: u32) -> bool {
     store.release();
     assert!(rt; store.is_passing());
@@ -126,7 +127,7 @@ fn slice(rt: &impl Abort, store: &mut Store, budget: u32) -> bool {
     reclaimed.is_some()
 }
 
-/// The pass is done within 100 slices, and has looked at each of 20,000 files three times at most.
+/// Ends the pass within 100 slices. It has looked at 20,000 files three times each, or less.
 fn slices(rt: &impl Abort, store: &mut Store) {
     for _ in 0..100 {
         if slice(rt, store, 977) {

@@ -8,7 +8,8 @@ use std::alloc::{AllocError, Global};
 use std::process::Abort;
 use std::test::Fail;
 
-/// Socket 1 of a pair goes into its own queue, and its number is closed. Number 1 stands for socket 2.
+/// Returns the events that put socket 1 of a pair into its own queue and close its number. Number 1
+/// stands for socket 2.
 fn cycle_events(alloc: Global) -> Result<Vec<Event>, AllocError> {
     let events = vec![in alloc;
         Event::Spawn {
@@ -23,7 +24,7 @@ fn cycle_events(alloc: Global) -> Result<Vec<Event>, AllocError> {
     Ok(events)
 }
 
-/// The engine runs all events, and these are the replies.
+/// Runs all events by one call, and compares the replies.
 fn runs(rt: &impl Abort, engine: &mut Engine, events: &[Event], wanted: &[Reply]) {
     match engine.run(events) {
         Ok(replies) => assert!(rt; replies.as_slice() == wanted, "{replies:?}"),
@@ -31,7 +32,7 @@ fn runs(rt: &impl Abort, engine: &mut Engine, events: &[Event], wanted: &[Reply]
     }
 }
 
-/// Of the files that the engine lists, tables lead to these, and to those no table does.
+/// Compares the files that are reached, and those that are garbage, of what the engine lists.
 fn lists(
     rt: &impl Abort,
     alloc: Global,

@@ -8,7 +8,7 @@ use std::alloc::{AllocError, Global};
 use std::process::Abort;
 use std::test::Fail;
 
-/// A process starts with the highest limit, and opens so many files.
+/// Starts a process with the highest limit, which opens so many files.
 fn open_many(rt: &impl Abort, engine: &mut Engine, pid: Pid, files: u32) {
     let spawn = Event::Spawn {
         uid: Uid(1000),
@@ -22,7 +22,7 @@ fn open_many(rt: &impl Abort, engine: &mut Engine, pid: Pid, files: u32) {
     }
 }
 
-/// The engine lists so many files.
+/// Counts the files that the engine lists.
 fn lists(rt: &impl Abort, engine: &Engine, files: usize) -> Result<(), AllocError> {
     assert!(rt; engine.listing()?.files().len() == files);
     Ok(())

@@ -9,10 +9,9 @@ use std::alloc::{AllocError, Global};
 use std::process::Abort;
 use std::test::Fail;
 
-/// Each event that may want memory, with its reply where it has some: but for the first four, while
-/// a pass marks, since a file is in flight all along. What goes at the end wants none: a socket that
-/// is in its own queue, a listener that was in the queue of a socket that it accepted, and what they
-/// hold.
+/// Each event that may want memory, with its reply where it has some. But for the first four a pass
+/// marks, since a file is in flight all along. What goes at the end wants none: a socket in its own
+/// queue, a listener in the queue of a socket that it accepted, and what they hold.
 static ROWS: [(Act, Answer); 40] = [
     (Act::Spawn(1000), Answer::Pid(1)),
     (Act::Open, Answer::Fd(0)),

@@ -8,7 +8,7 @@ use std::alloc::{AllocError, Global};
 use std::process::Abort;
 use std::test::Fail;
 
-/// A pair, and a message of 253 descriptors to number 1.
+/// Makes a pair, and sends 253 descriptors to number 1.
 static SENT: [(Act, Answer); 4] = [
     (Act::Spawn(0), Answer::Pid(1)),
     (Act::Limit(1_024), Answer::Ok),
@@ -16,7 +16,7 @@ static SENT: [(Act, Answer); 4] = [
     (Act::Send(0, b"x", &[0; 253]), Answer::Sent(1)),
 ];
 
-/// A socket is connected to a listener and accepted, where the numbers below 508 are taken.
+/// Connects a socket to a listener and accepts it, where the numbers below 508 are taken.
 static ACCEPTED: [(Act, Answer); 6] = [
     (Act::Socket, Answer::Fd(508)),
     (Act::Bind(508, b"hub"), Answer::Ok),
@@ -26,7 +26,7 @@ static ACCEPTED: [(Act, Answer); 6] = [
     (Act::Accept(508), Answer::Fd(510)),
 ];
 
-/// The answer where 253 descriptors are installed, from this number on.
+/// Returns the reply that installs 253 descriptors, from this number on.
 fn got_from(alloc: Global, first: u32) -> Result<Reply, AllocError> {
     let mut fds = Vec::new(alloc);
     for fd in first..first + 253 {
@@ -40,7 +40,7 @@ fn got_from(alloc: Global, first: u32) -> Result<Reply, AllocError> {
     })
 }
 
-/// All descriptors of the message are installed twice: by a peek, and by the receive behind it.
+/// Installs all descriptors of the message twice: by a peek, and by the receive behind it.
 fn installs_all(rt: &impl Abort, alloc: Global, engine: &mut Engine) -> Result<(), AllocError> {
     let (on, max_bytes, max_fds) = (Fd(1), 1, 253);
     let peek = Step::Peek {
@@ -63,7 +63,7 @@ fn installs_all(rt: &impl Abort, alloc: Global, engine: &mut Engine) -> Result<(
     Ok(())
 }
 
-/// The message is peeked at and received, and a connection is accepted then.
+/// Plays the receives, and the accept behind them.
 struct Installs;
 
 impl Trial for Installs {

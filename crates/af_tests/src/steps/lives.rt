@@ -1,4 +1,4 @@
-//! Numbers of files are not given twice, however many have come and gone.
+//! Inode numbers after many files have come and gone.
 use super::acts::{Act, Answer, Trial, answers, on_new_engine, play};
 use af_base::events::{Event, Reply, Step};
 use af_base::names::{Fd, Ino, Pid};
@@ -7,8 +7,8 @@ use std::alloc::{AllocError, Global};
 use std::process::Abort;
 use std::test::Fail;
 
-/// A process opens and closes a file 100,000 times, and opens one more. It has descriptor 0 each time,
-/// and inode number 100,001 at the end.
+/// Opens and closes a file 100,000 times, and opens one more: it has descriptor 0 each time, and
+/// inode number 100,001 at the end.
 struct Lives;
 
 impl Trial for Lives {
