@@ -29,8 +29,8 @@ static ACCEPTED: [(Act, Answer); 6] = [
 /// Returns the reply that installs 253 descriptors, from this number on.
 fn got_from(alloc: Global, first: u32) -> Result<Reply, AllocError> {
     let mut fds = Vec::new(alloc);
-    for fd in first..first + 253 {
-        fds.push(Fd(fd))?;
+    for more in 0..253 {
+        fds.push(Fd(first.saturating_add(more)))?;
     }
     Ok(Reply::Got {
         bytes: Items::of(b"x".to_vec(alloc)?),

@@ -1,4 +1,4 @@
-use Rattle.std.proofs.Common.{rules, ◌≡◌, ℕ, suc, ◌∷◌, [], subst, arith}
+use Rattle.std.proofs.Common.{rules, ◌≡◌, ℕ, zero, suc, ◌∷◌, [], subst, arith}
 use Rattle.std.specs.List.{Contains}
 use Rattle.af_base.specs.Places.{InTable}
 use Rattle.af_steps.specs.Found.{HasNumber}
