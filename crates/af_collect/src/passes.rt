@@ -21,8 +21,8 @@ impl Store {
         self.parts.is_running()
     }
 
-    /// Returns how many files the pass has visited, scanned and swept since it began: 0 after a begin,
-    /// and changed by no call but a slice.
+    /// Returns how many files the pass has visited, scanned and swept since it began. It is 0 after a
+    /// begin, and only a slice or a whole pass changes it.
     pub fn looked(&self) -> u64
         ensures { result ≡ self.now.progress.looked }
     {
