@@ -7,7 +7,7 @@ use Rattle.std.proofs.lemmas.List.{drop_more, take-append-drop}
 use Rattle.std.proofs.lemmas.List.Quantifiers.{position-Some}
 use Rattle.scm_lines.specs.Numbers.{all_digits, is_digit, number_of}
 use Rattle.scm_lines.specs.Attached.{attached_of, copies_of, item_at, item_of, items_of, joined}
-use Rattle.scm_lines.specs.Says.{AreItems, IsAttached, IsItem, IsNumber}
+use Rattle.scm_lines.specs.Spelling.{AreItems, IsAttached, IsItem, IsNumber}
 use Rattle.scm_lines.proofs.Choices.{at_most-few, chained, few, guarded, mapped, split_and}
 use Rattle.scm_lines.proofs.NumberLemmas.{number_digits, number_read, number_said}
 

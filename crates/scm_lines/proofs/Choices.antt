@@ -6,7 +6,7 @@ use Rattle.std.proofs.lemmas.Slice.Eq.{bytes_eq-Decides}
 use Rattle.std.proofs.lemmas.Grind.{common_steps}
 use Rattle.scm_lines.specs.Words.{at_end}
 use Rattle.scm_lines.specs.Payload.{at_most}
-use Rattle.scm_lines.specs.Lines.{◌>>=◌}
+use Rattle.scm_lines.specs.Words.{◌>>=◌}
 
 -- which way a test went
 pub chosen : {A : Type 0} (b : Bool) (x y z : A) → cond b x y ≡ z → ((b ≡ true) × (x ≡ z)) ⊎ ((b ≡ false) × (y ≡ z))

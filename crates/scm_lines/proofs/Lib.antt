@@ -6,8 +6,8 @@ pub mod Choices
 pub mod NumberLemmas
 pub mod PayloadSays
 pub mod AttachedSays
+pub mod WordsPrintable
+pub mod FormLemmas
 pub mod KeywordLemmas
-pub mod FormsSaid
-pub mod FormsRead
-pub mod Printable
+pub mod LineLemmas
 pub mod VersionsRead

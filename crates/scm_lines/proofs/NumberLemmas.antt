@@ -1,12 +1,12 @@
 -- A numeral is the decimal digits of its number.
-use Rattle.std.proofs.Common.{◌≡◌, ◌≢◌, ℕ, ◌^◌, ◌<◌, ◌≤◌, ◌==◌, ◌&&◌, List, [], ◌∷◌, true, false, length, Some, refl, sym, ap, ◌∙◌, arith, rules, subst, get_or, nat_lt, suc, zero}
+use Rattle.std.proofs.Common.{◌≡◌, ℕ, ◌^◌, ◌<◌, ◌≤◌, ◌==◌, ◌&&◌, List, [], ◌∷◌, true, false, length, Some, refl, sym, ap, ◌∙◌, arith, rules, subst, get_or, nat_lt, suc, zero}
 use Rattle.std.specs.Fmt.{decimal}
 use Rattle.std.proofs.lemmas.Fmt.{decimal_digit, decimal_nonempty, digits_decimal, digits_value-decimal, first_decimal, length-decimal-le, decimal-digits_value}
 use Rattle.std.proofs.lemmas.Str.Parse.{IsNumeralModel, numerals_by_fold}
 use Rattle.std.proofs.lemmas.Grind.{common_steps}
-use Rattle.scm_lines.specs.Numbers.{all_digits, is_numeral, leads_with_zero, number_in, number_of, value_on}
-use Rattle.scm_lines.specs.Says.{IsNumber}
-use Rattle.scm_lines.proofs.Choices.{guarded, mapped, split_and}
+use Rattle.scm_lines.specs.Numbers.{all_digits, is_numeral, leads_with_zero, number_of, value_on}
+use Rattle.scm_lines.specs.Spelling.{IsNumber}
+use Rattle.scm_lines.proofs.Choices.{guarded, split_and}
 
 own : IsNumeralModel (λ ds. all_digits ds ≡ true) (value_on 0)
 own = numerals_by_fold _ (search rules) value_on (search rules)
@@ -32,12 +32,6 @@ number_said word n e =
     let below : value_on 0 word < 2 ^ 32 = grind (arith, common_steps) in
     let text : decimal (value_on 0 word) ≡ word = decimal-digits_value own word digits some (lone_zero word some lead) (omega arith) in
     (subst (λ (k : ℕ). k < 2 ^ 32) same below, sym text ∙ ap decimal same)
-
-pub number_first : (words : List (List ℕ)) (n : ℕ) (rest : List (List ℕ)) → number_in words ≡ Some (n, rest) → (a : List ℕ) × ((words ≡ a ∷ rest) × IsNumber a n)
-number_first [] n rest e = cc
-number_first (a ∷ words) n rest e =
-    let (k, (found, same)) = mapped (λ (m : ℕ). (m, words)) (number_of a) (n, rest) e in
-    (a, (ap (λ (l : List (List ℕ)). a ∷ l) (ap (λ (p : ℕ × List (List ℕ)). p.1) same), number_said a n (found ∙ ap Some (ap (λ (p : ℕ × List (List ℕ)). p.0) same))))
 
 -- ---- a number that is said
 
@@ -70,9 +64,3 @@ number_read word n (small, text) =
 
 pub number_digits : (word : List ℕ) (n : ℕ) → IsNumber word n → all_digits word ≡ true
 number_digits word n (small, e) = subst (λ (w : List ℕ). all_digits w ≡ true) (sym e) (digits_decimal own n (omega arith))
-
--- a number is no keyword
-pub no_keyword : (word text : List ℕ) (n : ℕ) → IsNumber word n → all_digits text ≡ false → text ≢ word
-no_keyword word text n number letters same =
-    let digits : all_digits text ≡ true = subst (λ (w : List ℕ). all_digits w ≡ true) (sym same) (number_digits word n number) in
-    cc

@@ -4,7 +4,7 @@ use Rattle.std.proofs.lemmas.List.{length-replicate}
 use Rattle.std.proofs.lemmas.Grind.{common_steps}
 use Rattle.scm_lines.specs.Numbers.{number_of}
 use Rattle.scm_lines.specs.Payload.{byte_before, hex_pair, hex_value, is_plain, payload_of, plain_byte, unescape}
-use Rattle.scm_lines.specs.Says.{IsPayload, Spells, SpellsByte}
+use Rattle.scm_lines.specs.Spelling.{IsPayload, Spells, SpellsByte}
 use Rattle.scm_lines.proofs.Choices.{at_most-few, chained, chosen, few, guarded, mapped}
 use Rattle.scm_lines.proofs.NumberLemmas.{number_read, number_said}
 

@@ -4,8 +4,9 @@ pub mod Numbers
 pub mod Payload
 pub mod Attached
 pub mod Keywords
+pub mod Spelling
+pub mod Forms
 pub mod Lines
-pub mod Names
 pub mod Says
 pub mod Versions
 pub mod Fault

@@ -1,6 +1,6 @@
 -- Numbers in decimal digits. This project's profile.
 use Rattle.std.specs.Prelude.{ℕ, ◌+◌, ◌*◌, ◌-◌, ◌^◌, ◌==◌, ◌&&◌, nat_le, nat_lt, not, List, [], ◌∷◌, length, Bool, true, false, if◌then◌else◌, Option, Some, None}
-use Rattle.std.specs.Option.{option_map}
+use Rattle.scm_lines.specs.Words.{word_as}
 
 -- A digit from 0 to 9.
 abbrev pub is_digit : ℕ → Bool
@@ -32,5 +32,4 @@ number_of word = if is_numeral word && nat_lt (value_on 0 word) (2 ^ 32) then So
 
 -- The first word as a number, and the words after it.
 abbrev pub number_in : List (List ℕ) → Option (ℕ × List (List ℕ))
-number_in [] = None
-number_in (word ∷ words) = option_map (λ n. (n, words)) (number_of word)
+number_in words = word_as number_of words

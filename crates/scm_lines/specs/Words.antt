@@ -1,5 +1,6 @@
 -- Words, which spaces and tabs part. This project's profile.
-use Rattle.std.specs.Prelude.{◌≡◌, ℕ, ◌==◌, ◌||◌, List, [], ◌∷◌, Bool, true, false, if◌then◌else◌, Option, Some, None}
+use Rattle.std.specs.Prelude.{◌≡◌, ℕ, ◌==◌, ◌&&◌, ◌||◌, nat_le, List, [], ◌∷◌, Bool, true, false, if◌then◌else◌, Option, Some, None}
+use Rattle.std.specs.Option.{option_map}
 
 -- A space or a tab.
 abbrev pub is_blank : ℕ → Bool
@@ -46,3 +47,24 @@ no_words (word ∷ words) = false
 -- What a line stands for where no word is left over.
 abbrev pub at_end : {A : Type 0} → A → List (List ℕ) → Option A
 at_end said words = if no_words words then Some said else None
+
+-- What follows from a thing that was read, where it was.
+infixl 10 ◌>>=◌
+abbrev pub ◌>>=◌ : {A B : Type 0} → Option A → (A → Option B) → Option B
+None >>= next = None
+(Some x) >>= next = next x
+
+-- What the first word is read as, and the words after it.
+abbrev pub word_as : {A : Type 0} → (List ℕ → Option A) → List (List ℕ) → Option (A × List (List ℕ))
+word_as read [] = None
+word_as read (word ∷ words) = option_map (λ found. (found, words)) (read word)
+
+-- No byte but those from 0x20 to 0x7E and the tab.
+abbrev pub all_printable : List ℕ → Bool
+all_printable [] = true
+all_printable (b ∷ bytes) = ((nat_le 32 b && nat_le b 126) || (b == 9)) && all_printable bytes
+
+-- The first word begins with #.
+abbrev pub is_comment : List ℕ → Bool
+is_comment [] = false
+is_comment (b ∷ bytes) = if is_blank b then is_comment bytes else b == 35

@@ -55,6 +55,7 @@ fn push_copies(fds: &mut Vec<Fd>, fd: Fd, copies: usize) -> Result<(), AllocErro
 
 /// The descriptors of all items that are left. The list never holds more than a line may have.
 #[tactic(auto, using(crate::proofs::AttachedLemmas::items_before_more, crate::proofs::AttachedLemmas::items_before_over))]
+#[inline(always)]
 pub fn attached(alloc: Global, bytes: &[u8]) -> Result<Items<Fd>, LineFault>
     ensures { Reads (attached_of (words_of bytes.now)) result }
 {

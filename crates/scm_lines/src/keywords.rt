@@ -1,14 +1,13 @@
 //! The words that say which form a line has.
 ghost use Rattle.std.specs.Prelude.{◌≡◌};
-ghost use Rattle.scm_lines.specs.Keywords.{keyword_of, opening_of, verb_of, type_of};
+ghost use Rattle.scm_lines.specs.Keywords.{type_of};
+ghost use Rattle.scm_lines.specs.Forms.{keywords, line_row, named, step_row, verbs};
 
-use crate::numbers::number;
 use af_base::events::SockType;
-use af_base::names::Pid;
 
-/// What a line begins with.
+/// What a line begins with that is no process's.
 #[derive(Clone, Copy, Debug, PartialEq, Eq)]
-pub enum Opening {
+pub enum Keyword {
     /// `spawn`
     Spawn,
     /// `begin`
@@ -25,8 +24,6 @@ pub enum Opening {
     Check,
     /// `version`
     Version,
-    /// A process, by its number.
-    Process(Pid),
 }
 
 /// What a process does, by the word after its number.
@@ -67,36 +64,26 @@ pub enum Verb {
 }
 
 /// What a line's first word stands for, if it is a keyword.
-fn keyword_named(word: &[u8]) -> Option<Opening>
-    ensures { result ≡ keyword_of word.now }
+pub fn keyword_named(word: &[u8]) -> Option<Keyword>
+    ensures { result ≡ named line_row keywords word.now }
 {
     Some(match word {
-        b"spawn" => Opening::Spawn,
-        b"begin" => Opening::Begin,
-        b"slice" => Opening::Slice,
-        b"pass" => Opening::Pass,
-        b"table" => Opening::Table,
-        b"totals" => Opening::Totals,
-        b"check" => Opening::Check,
-        b"version" => Opening::Version,
+        b"spawn" => Keyword::Spawn,
+        b"begin" => Keyword::Begin,
+        b"slice" => Keyword::Slice,
+        b"pass" => Keyword::Pass,
+        b"table" => Keyword::Table,
+        b"totals" => Keyword::Totals,
+        b"check" => Keyword::Check,
+        b"version" => Keyword::Version,
         _ => return None,
     })
 }
 
-/// What the first word of a line stands for.
-pub fn opening_named(word: &[u8]) -> Option<Opening>
-    ensures { result ≡ opening_of word.now }
-{
-    // Most lines are a process's, and no keyword is a number, so that is asked first.
-    if let Some(pid) = number(word) {
-        return Some(Opening::Process(Pid(pid)));
-    }
-    keyword_named(word)
-}
-
 /// What the word after a process's number stands for. Those that scripts have most come first.
+#[tactic(auto, using(crate::proofs::KeywordLemmas::no_five, crate::proofs::KeywordLemmas::no_six, crate::proofs::KeywordLemmas::no_seven, crate::proofs::KeywordLemmas::no_eight))]
 pub fn verb_named(word: &[u8]) -> Option<Verb>
-    ensures { result ≡ verb_of word.now }
+    ensures { result ≡ named step_row verbs word.now }
 {
     Some(match word {
         b"send" => Verb::Send,

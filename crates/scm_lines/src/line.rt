@@ -1,14 +1,13 @@
 //! One line of a script.
 ghost use Rattle.std.specs.Prelude.{◌≡◌};
 ghost use Rattle.scm_lines.specs.Fault.{Reads};
-ghost use Rattle.scm_lines.specs.Lines.{all_printable, line_of};
+ghost use Rattle.scm_lines.specs.Lines.{line_of};
 ghost use Rattle.scm_lines.specs.Words.{begins_comment};
-ghost use Rattle.scm_lines.specs.Names.{name_printable};
 
 use crate::fault::LineFault;
 use crate::forms::form;
 use crate::words::first_word;
-use af_base::events::{Event, Step};
+use af_base::events::Event;
 use std::alloc::Global;
 
 /// The most bytes of a line, without its end.
@@ -39,30 +38,6 @@ pub enum Line {
     Report(Report),
 }
 
-/// Whether each byte is a printable ASCII character, a space or a tab.
-fn all_printable(bytes: &[u8]) -> bool
-    ensures { result ≡ all_printable bytes.now }
-{
-    // Nearly all names are, and a loop that has no early end takes many bytes at once.
-    let mut all = true;
-    for b in bytes {
-        all &= matches!(*b, b' '..=b'~' | b'\t');
-    }
-    all
-}
-
-/// Whether the bytes of the line's name are printable, if it has one.
-fn is_name_printable(line: &Line) -> bool
-    ensures { result ≡ name_printable line.now }
-{
-    match line {
-        Line::Event(Event::Proc(_, Step::Bind { name, .. } | Step::Connect { name, .. })) => {
-            all_printable(name.as_slice())
-        }
-        _ => true,
-    }
-}
-
 /// Whether a line with this first word is a comment.
 fn begins_comment(word: &[u8]) -> bool
     ensures { result ≡ begins_comment word.now }
@@ -76,7 +51,7 @@ fn begins_comment(word: &[u8]) -> bool
 /// of no form is [`LineFault::Unreadable`], and so is one of more than [`MAX_LINE`] bytes, even a
 /// comment. Only `send` takes memory, for its bytes and its descriptors, and `bind` and `connect`,
 /// for a name; where it is refused, the call answers [`LineFault::Memory`].
-#[tactic(auto, using(crate::proofs::Printable::line_by_words))]
+#[tactic(auto, using(crate::proofs::LineLemmas::line_by_words))]
 pub fn line_of(alloc: Global, bytes: &[u8]) -> Result<Line, LineFault>
     ensures { Reads (line_of bytes.now) result }
 {
@@ -89,11 +64,6 @@ pub fn line_of(alloc: Global, bytes: &[u8]) -> Result<Line, LineFault>
     if begins_comment(word) {
         return Ok(Line::Silence);
     }
-    // Only a name is any word: all others that are read are printable, and so are blanks.
-    let line = form(alloc, word, rest)?;
-    if is_name_printable(&line) {
-        Ok(line)
-    } else {
-        Err(LineFault::Unreadable)
-    }
+    // Each word that is read is printable, and so are blanks.
+    form(alloc, word, rest)
 }

@@ -31,6 +31,7 @@ pub fn number(word: &[u8]) -> Option<u32>
 }
 
 /// The first word as a number, and the bytes after it.
+#[inline(always)]
 pub fn number_in(bytes: &[u8]) -> Option<(u32, &[u8])>
     ensures { option_map (λ found. (found.0, words_of found.1.now)) result
         ≡ number_in (words_of bytes.now) }

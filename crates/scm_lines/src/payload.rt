@@ -32,6 +32,7 @@ fn hex_value(b: u8) -> Option<u8>
 }
 
 /// The first byte that a word stands for, and the characters after those that spell it.
+#[inline(always)]
 fn first_byte(word: &[u8]) -> Option<(u8, &[u8])>
     ensures some { IfSome result (λ found.
         unescape word.now ≡ byte_before (Some found.0) (unescape found.1.now)) }
@@ -51,6 +52,7 @@ fn first_byte(word: &[u8]) -> Option<(u8, &[u8])>
 
 /// The bytes that a word's characters stand for, in a vector that has room for as many as the word
 /// has characters.
+#[inline(always)]
 #[tactic(auto, using(crate::proofs::PayloadLemmas::bytes_before_more))]
 fn unescaped(alloc: Global, word: &[u8]) -> Result<Items<u8>, LineFault>
     ensures { Reads (unescape word.now) result }
@@ -77,6 +79,7 @@ fn letters(alloc: Global, digits: &[u8]) -> Result<Items<u8>, LineFault>
 }
 
 /// The bytes that a word stands for: `*` and how many letters x, or the bytes by their characters.
+#[inline(always)]
 pub fn payload(alloc: Global, word: &[u8]) -> Result<Items<u8>, LineFault>
     ensures { Reads (payload_of word.now) result }
 {

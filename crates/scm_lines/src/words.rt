@@ -1,6 +1,6 @@
 //! The words of a line, which spaces and tabs part.
 ghost use Rattle.std.specs.Prelude.{◌≡◌, ◌∷◌, ◌≤◌, ◌<◌, [], IfSome, IfNone, length, false};
-ghost use Rattle.scm_lines.specs.Words.{is_blank, words_of, ends_word, no_words, StartsWord};
+ghost use Rattle.scm_lines.specs.Words.{all_printable, is_blank, words_of, ends_word, no_words, StartsWord};
 
 /// A space or a tab.
 fn is_blank(b: u8) -> bool
@@ -57,4 +57,16 @@ pub fn is_end(bytes: &[u8]) -> bool
     ensures { result ≡ no_words (words_of bytes.now) }
 {
     first_word(bytes).is_none()
+}
+
+/// Whether each byte is a printable ASCII character, a space or a tab.
+pub fn all_printable(bytes: &[u8]) -> bool
+    ensures { result ≡ all_printable bytes.now }
+{
+    // Nearly all names are, and a loop that has no early end takes many bytes at once.
+    let mut all = true;
+    for b in bytes {
+        all &= matches!(*b, b' '..=b'~' | b'\t');
+    }
+    all
 }
