@@ -7,11 +7,9 @@ use Rattle.std.specs.Ordering.{nat_cmp}
 use Rattle.std.specs.FinMap as map
 use Rattle.af_base.specs.World.{IsLive, Process, World}
 use Rattle.af_base.specs.Counts.{one, refs, total_of}
-use Rattle.af_base.specs.Unheld.{IsSettled}
 use Rattle.af_base.specs.Changes.{add_process, add_user}
 use Rattle.af_base.specs.Steps.{spawned}
 use Rattle.af_base.specs.Whole.{IsWhole}
-use Rattle.af_base.proofs.Placed.{settled-counted, settled-held}
 use Rattle.af_base.proofs.Lookups.{insert-here, insert-other, none_some, same_or_not, some_same}
 use Rattle.af_base.proofs.Moved.{table-there, there-table}
 use Rattle.af_base.proofs.Sums.{total-insert}
@@ -54,13 +52,6 @@ whole-add_user w u k = by (list_any (nat_eq u) w.users) where
     embryos = k.embryos;
   }
 
--- One user more in the list.
-pub settled-add_user : (w : World) (u : ℕ) → IsSettled w → IsSettled (add_user w u)
-settled-add_user w u s = by (list_any (nat_eq u) w.users) where
-  by : (b : Bool) → IsSettled (if b then w else record w { users = w.users ++ u ∷ [] })
-  by true = s
-  by false = settled-counted (record w { users = w.users ++ u ∷ [] }) (λ f l. settled-held w f s l)
-
 -- A process more, whose table has live files.
 pub whole-add_process : (w : World) (q : Process) → IsWhole w → ((n f : ℕ) → map.get q.table n ≡ Some f → IsLive w f) → IsWhole (add_process w q)
 whole-add_process w q k live = record {
@@ -90,16 +81,6 @@ refs-add_process w q f none =
     let before : option_map_or (λ r. total_of (one f) r.table) (map.get w.processes w.next_pid) 0 ≡ 0 = ap (λ o. option_map_or (λ r. total_of (one f) r.table) o 0) none in
     omega (arith, before, total-insert (λ r. total_of (one f) r.table) w.processes w.next_pid q)
 
--- A process more.
-pub settled-add_process : (w : World) (q : Process) → IsSettled w → IsWhole w → IsSettled (add_process w q)
-settled-add_process w q s k = settled-counted (add_process w q) (λ f l.
-    let held = settled-held w f s l in
-    omega (arith, held, refs-add_process w q f (fresh_process w k)))
-
 -- A process started.
 pub whole-spawned : (w : World) (uid nofile : ℕ) (privileged : Bool) → IsWhole w → IsWhole (spawned w uid nofile privileged)
 whole-spawned w uid nofile privileged k = whole-add_user _ uid (whole-add_process w _ k (λ n f is. absurd (none_some f (sym (map.get-empty nat_cmp n) ∙ is))))
-
--- A process started.
-pub settled-spawned : (w : World) (uid nofile : ℕ) (privileged : Bool) → IsSettled w → IsWhole w → IsSettled (spawned w uid nofile privileged)
-settled-spawned w uid nofile privileged s k = settled-add_user _ uid (settled-add_process w _ s k)

@@ -3,8 +3,8 @@ use Rattle.std.proofs.Common.{◌≡◌, ℕ, ◌+◌, Bool, true, false, not, i
 use Rattle.std.specs.Prelude.{Option, Some, None, option_map}
 use Rattle.std.specs.FinMap as map
 use Rattle.af_base.specs.World.{AsSocket, File, Plain, World}
-use Rattle.af_base.specs.Places.{contents, queue_of}
-use Rattle.af_base.specs.Counts.{count_in, refs, total_of}
+use Rattle.af_base.specs.Places.{queue_of}
+use Rattle.af_base.specs.Counts.{total_of}
 use Rattle.af_base.specs.Unheld.{file_without, without}
 use Rattle.af_base.specs.Release.{messages_in}
 use Rattle.af_base.proofs.Sums.{total-remove}
@@ -41,19 +41,10 @@ total-without F same w f x is =
         | inr a ↦ (file_without (nat_eq f) z, without-stays (nat_eq f) w k z (told_apart f k (λ s. not_same k f a (sym s))) (sym (remove-other w.files f k a) ∙ e), same (nat_eq f) z)
       ]
 
--- Who has hung up holds what it held.
-same_contents : (gone : ℕ → Bool) (x : File) → contents (file_without gone x) ≡ contents x
-same_contents gone Plain = refl
-same_contents gone (AsSocket s) = refl
-
 -- Who has hung up has the queue that it had.
 pub same_queue : (gone : ℕ → Bool) (x : File) → queue_of (file_without gone x) ≡ queue_of x
 same_queue gone Plain = refl
 same_queue gone (AsSocket s) = refl
-
--- With a file go the places that it has, and no other.
-pub refs-without : (w : World) (f g : ℕ) (x : File) → map.get w.files f ≡ Some x → refs (without (nat_eq f) w) g + count_in g (contents x) ≡ refs w g
-refs-without w f g x is = omega (arith, total-without (λ y. count_in g (contents y)) (λ gone y. ap (count_in g) (same_contents gone y)) w f x is)
 
 -- With a file go the messages of its queue, and no other.
 pub messages-without : (w : World) (f : ℕ) (x : File) → map.get w.files f ≡ Some x → messages_in (without (nat_eq f) w) + length (queue_of x) ≡ messages_in w

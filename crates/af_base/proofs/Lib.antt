@@ -31,6 +31,8 @@ pub mod Ended
 pub mod Limited
 pub mod Replaced
 pub mod Sound
+pub mod Holding
+pub mod Changing
 pub mod Stepped
 pub mod Ordered
 pub mod Above

@@ -1,31 +1,27 @@
 -- A file that is new, with nothing in it and no name, and with a number that was free.
-use Rattle.std.proofs.Common.{◌≡◌, ℕ, ◌+◌, false, ◌⊎◌, inl, inr, List, [], length, refl, sym, ap, ◌∙◌, subst, cond, arith}
+use Rattle.std.proofs.Common.{◌≡◌, ℕ, ◌+◌, false, ◌⊎◌, inl, inr, List, [], length, refl, sym, ap, ◌∙◌, subst, arith}
 use Rattle.std.specs.Prelude.{Some, None, is_some}
 use Rattle.std.specs.Option.{option_map_or}
 use Rattle.std.specs.List.{Contains, sum_by}
 use Rattle.std.specs.FinMap as map
-use Rattle.std.proofs.lemmas.Bool.{eq-eqb, ltb-false}
+use Rattle.std.proofs.lemmas.Bool.{ltb-false}
 use Rattle.af_base.specs.declared.events.SockType.{SockType}
 use Rattle.af_base.specs.declared.events.State.TheVariants as state
 use Rattle.af_base.specs.declared.limits.TheConstants.{MAX_FILES, MAX_INO}
-use Rattle.af_base.specs.World.{AsSocket, File, IsLive, Plain, Process, Socket, World}
+use Rattle.af_base.specs.World.{AsSocket, File, IsLive, Plain, Socket, World}
 use Rattle.af_base.specs.Places.{Holds, backlog_of, contents, queue_of}
-use Rattle.af_base.specs.Counts.{count_in, one, refs}
-use Rattle.af_base.specs.Unheld.{IsSettled}
-use Rattle.af_base.specs.Changes.{add_file, install}
+use Rattle.af_base.specs.Counts.{count_in, refs}
+use Rattle.af_base.specs.Changes.{add_file}
 use Rattle.af_base.specs.Refusals.{is_full, is_listening, socket_of}
 use Rattle.af_base.specs.Steps.{connected_socket, idle_socket}
 use Rattle.af_base.specs.Whole.{IsWhole, IsWithin, name_at, state_at, state_of}
 use Rattle.af_base.proofs.Born.{fresh_file}
 use Rattle.af_base.proofs.Embryos.{waiting-add_file}
 use Rattle.af_base.proofs.Named.{name-there, name_of, names-kept}
-use Rattle.af_base.proofs.Placed.{settled-counted, settled-held}
 use Rattle.af_base.proofs.Lookups.{insert-here, insert-other, none_some, same_or_not, some_same, told_apart}
 use Rattle.af_base.proofs.Pairs.{refs-add_file}
-use Rattle.af_base.proofs.Places.{refs-install}
 use Rattle.af_base.proofs.Settling.{none_in}
 use Rattle.af_base.proofs.Sums.{total-insert}
-use Rattle.af_base.proofs.Whole.{whole-install}
 use Rattle.af_base.proofs.Within.{len-insert_most, neither, within-add_file}
 
 -- A file with nothing in it and no name.
@@ -118,19 +114,6 @@ module _ (w : World) (x : File) (blank : IsBlank x) where
   -- It has no place yet, and adds none.
   pub refs-blank : IsWhole w → (f : ℕ) → refs new f ≡ refs w f
   refs-blank k f = let none : count_in f (contents x) ≡ 0 = ap (count_in f) blank.empty in omega (arith, none, refs-add_file w x f (fresh_file w a k (omega arith)))
-
-  -- A file more that talks to nobody, with a number.
-  pub whole-opened : (p n : ℕ) → state_of x ≡ state.Idle → IsWhole w → IsWhole (install new p n a)
-  whole-opened p n idle k = whole-install new p n a (whole-blank idle k) (ap is_some blank-there)
-
-  -- A file more, with a number that was free.
-  pub settled-opened : (p n : ℕ) (q : Process) → IsSettled w → IsWhole w → map.get w.processes p ≡ Some q → map.get q.table n ≡ None → IsSettled (install new p n a)
-  settled-opened p n q s k at free = settled-counted (install new p n a) (λ f l.
-      let one_more = refs-install new p n a f q at free in
-      elim (which-blank f) [
-        | inl e ↦ let counted : one f a ≡ 1 = ap {B = ℕ} (λ c. cond c 1 0) (eq-eqb f a e) in omega (arith, one_more, counted)
-        | inr e ↦ let held = settled-held w f s (sym (ap is_some e) ∙ l) in omega (arith, one_more, held, refs-blank k f)
-      ])
 
 module _ (w : World) where
   -- A plain file more.

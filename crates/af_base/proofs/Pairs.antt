@@ -1,29 +1,23 @@
 -- Two sockets that are new, connected to each other.
-use Rattle.std.proofs.Common.{◌≡◌, ℕ, ◌+◌, false, ◌⊎◌, inl, inr, List, [], refl, sym, ap, ◌∙◌, subst, cond, nat_eq, arith}
+use Rattle.std.proofs.Common.{◌≡◌, ℕ, ◌+◌, false, ◌⊎◌, inl, inr, List, [], refl, sym, ap, ◌∙◌, subst, nat_eq, arith}
 use Rattle.std.specs.Prelude.{Option, Some, None, is_some, IsTrue}
 use Rattle.std.specs.Option.{option_map_or}
 use Rattle.std.specs.List.{Contains}
 use Rattle.std.specs.FinMap as map
-use Rattle.std.proofs.lemmas.Bool.{eq-eqb}
 use Rattle.af_base.specs.declared.events.SockType.{SockType}
 use Rattle.af_base.specs.declared.events.State.TheVariants as state
-use Rattle.af_base.specs.World.{AsSocket, File, IsLive, Map, Process, World}
+use Rattle.af_base.specs.World.{AsSocket, File, IsLive, Map, World}
 use Rattle.af_base.specs.Places.{Holds, contents}
-use Rattle.af_base.specs.Counts.{count_in, one, refs}
-use Rattle.af_base.specs.Unheld.{IsSettled}
-use Rattle.af_base.specs.Changes.{add_file, install}
+use Rattle.af_base.specs.Counts.{count_in, refs}
+use Rattle.af_base.specs.Changes.{add_file}
 use Rattle.af_base.specs.Steps.{connected_socket, with_pair}
 use Rattle.af_base.specs.Whole.{AreMutual, IsWhole, name_at, state_at, state_of}
-use Rattle.af_base.proofs.Born.{fresh_file}
-use Rattle.af_base.proofs.Placed.{settled-counted, settled-held}
 use Rattle.af_base.proofs.Lookups.{insert-here, insert-other, none_some, same_or_not, told_apart}
 use Rattle.af_base.proofs.Embryos.{waiting-add_file}
 use Rattle.af_base.proofs.Named.{name-there, names-kept}
-use Rattle.af_base.proofs.Moved.{there-install}
-use Rattle.af_base.proofs.Places.{refs-install}
 use Rattle.af_base.proofs.Settling.{none_in}
 use Rattle.af_base.proofs.Sums.{total-insert}
-use Rattle.af_base.proofs.Whole.{not_connected, peer_or, whole-install}
+use Rattle.af_base.proofs.Whole.{not_connected, peer_or}
 
 -- With a file more come the places that it has.
 pub refs-add_file : (w : World) (x : File) (f : ℕ) → map.get w.files w.next_ino ≡ None → refs (add_file w x) f ≡ refs w f + count_in f (contents x)
@@ -49,11 +43,11 @@ module _ (w : World) (kind : SockType) where
   new = with_pair w kind
 
   -- The second socket is there.
-  second_there : map.get new.files b ≡ Some (AsSocket (connected_socket kind a))
+  pub second_there : map.get new.files b ≡ Some (AsSocket (connected_socket kind a))
   second_there = insert-here first b (AsSocket (connected_socket kind a))
 
   -- The first socket is there.
-  first_there : map.get new.files a ≡ Some (AsSocket (connected_socket kind b))
+  pub first_there : map.get new.files a ≡ Some (AsSocket (connected_socket kind b))
   first_there = insert-other first b (AsSocket (connected_socket kind a)) a (told_apart a b (λ e. omega (arith, e))) ∙ insert-here w.files a (AsSocket (connected_socket kind b))
 
   -- The other files are there as before.
@@ -149,27 +143,3 @@ module _ (w : World) (kind : SockType) where
         let two_more = waiting-add_file (add_file w (AsSocket (connected_socket kind b))) (AsSocket (connected_socket kind a)) refl f in
         omega (arith, once, one_more, two_more);
   }
-
-  -- They have no place yet, and add none.
-  pub refs-pair : IsWhole w → (f : ℕ) → refs new f ≡ refs w f
-  refs-pair k f =
-      let none : map.get first b ≡ None = insert-other w.files a (AsSocket (connected_socket kind b)) b (told_apart b a (λ e. omega (arith, e))) ∙ fresh_file w b k (omega arith) in
-      let empty : count_in f [] ≡ 0 = refl in
-      omega (arith, empty, refs-add_file (add_file w (AsSocket (connected_socket kind b))) (AsSocket (connected_socket kind a)) f none, refs-add_file w (AsSocket (connected_socket kind b)) f (fresh_file w a k (omega arith)))
-
-  -- Two sockets more, each with a number that was free.
-  pub settled-pair : (p n m : ℕ) (q : Process) → IsSettled w → IsWhole w → map.get w.processes p ≡ Some q → map.get q.table n ≡ None → map.get q.table m ≡ None → ¬ (n ≡ m) → IsSettled (install (install new p n a) p m b)
-  settled-pair p n m q s k at free free_too apart = settled-counted (install (install new p n a) p m b) (λ f l.
-      let one_more = refs-install new p n a f q at free in
-      let two_more = refs-install (install new p n a) p m b f (record q { table = map.insert q.table n a }) (there-install new p n a q at) (insert-other q.table n a m (told_apart m n (λ e. apart (sym e))) ∙ free_too) in
-      elim (which f) [
-        | inl e ↦ let counted : one f a ≡ 1 = ap {B = ℕ} (λ c. cond c 1 0) (eq-eqb f a e) in omega (arith, one_more, two_more, counted)
-        | inr r ↦ elim r [
-          | inl e ↦ let counted : one f b ≡ 1 = ap {B = ℕ} (λ c. cond c 1 0) (eq-eqb f b e) in omega (arith, one_more, two_more, counted)
-          | inr e ↦ let held = settled-held w f s (sym (ap is_some e) ∙ l) in omega (arith, one_more, two_more, held, refs-pair k f)
-        ]
-      ])
-
-  -- Two sockets more, each with a number.
-  pub whole-paired : (p n m : ℕ) → IsWhole w → IsWhole (install (install new p n a) p m b)
-  whole-paired p n m k = whole-install (install new p n a) p m b (whole-install new p n a (whole-pair k) (ap is_some first_there)) (ap is_some second_there)

@@ -1,10 +1,12 @@
 -- Each step of a process, and each start of one, leaves the world sound.
-use Rattle.std.proofs.Common.{◌≡◌, ◌<◌, ◌≤◌, ℕ, zero, suc, ◌+◌, Bool, true, false, not, ◌&&◌, inl, inr, List, [], ◌∷◌, length, min, refl, sym, ap, ◌∙◌, subst, nat_eq, arith}
+use Rattle.std.proofs.Common.{◌≡◌, ◌<◌, ◌≤◌, ℕ, zero, suc, ◌+◌, Bool, true, false, not, ◌&&◌, inl, inr, List, [], ◌∷◌, ◌++◌, length, refl, sym, ap, ◌∙◌, subst, nat_eq, arith}
 use Rattle.std.specs.Prelude.{Option, Some, None, is_some, is_none, unwrap_or, filter_map, nat_le, slice_get, if◌then◌else◌, ⊤}
-use Rattle.std.specs.Option.{option_and_then, option_map_or}
+use Rattle.std.specs.Option.{option_and_then, option_map_or, option_or}
 use Rattle.std.specs.List.{Contains, cons_option}
+use Rattle.std.specs.Ordering.{nat_cmp}
 use Rattle.std.specs.FinMap as map
 use Rattle.std.proofs.lemmas.Bool.{false≢true, leb-false, leb-true, ltb-false}
+use Rattle.std.proofs.lemmas.List.Elements.{Contains-append_left, Contains-append_right}
 use Rattle.af_base.specs.declared.errno.Errno.{Errno}
 use Rattle.af_base.specs.declared.errno.Errno.TheVariants.{ESRCH}
 use Rattle.af_base.specs.declared.events.Reply.{Reply}
@@ -15,32 +17,28 @@ use Rattle.af_base.specs.declared.events.Step.{Step}
 use Rattle.af_base.specs.declared.events.Step.TheVariants as step
 use Rattle.af_base.specs.declared.limits.TheConstants.{MAX_BACKLOG, MAX_BYTES, MAX_INFLIGHT, MAX_MESSAGES, MAX_NOFILE, SCM_MAX_FD}
 use Rattle.af_base.specs.World.{AsSocket, File, IsLive, Plain, Process, Socket, World}
-use Rattle.af_base.specs.Places.{queue_at, queue_of, table_at}
+use Rattle.af_base.specs.Places.{InTable, carried, contents, queue_at, queue_of, table_at}
 use Rattle.af_base.specs.Counts.{total}
-use Rattle.af_base.specs.Changes.{dequeued, add_file, install, with_queue, with_socket}
+use Rattle.af_base.specs.Changes.{dequeued, add_file, install, with_queue}
 use Rattle.af_base.specs.Names.{named}
+use Rattle.af_base.specs.Reached.{ByTable, BySocket}
 use Rattle.af_base.specs.Refusals.{Row, first_fit, ino_named, ino_on, is_connected, is_hung_up, is_listening, is_short, no_process, no_socket, peer_of, process_at, refusal, room_of, socket_at, socket_named, socket_of, socket_on, spawn_refusal, spawn_row, step_row}
-use Rattle.af_base.specs.Steps.{Outcome, ProcessStep, SpawnStep, answer, effect, first_embryo, free_at, idle_socket, needs_no_memory, spawned}
-use Rattle.af_base.specs.Table.{free_numbers, lowest_free}
-use Rattle.af_base.specs.Take.{take_from}
-use Rattle.af_base.specs.Whole.{IsSound, IsWhole, IsWithin, state_at, state_of}
+use Rattle.af_base.specs.Steps.{Outcome, ProcessStep, SpawnStep, answer, effect, first_embryo, free_at, got_at, idle_socket, needs_no_memory, spawned, taken_on, with_pair}
+use Rattle.af_base.specs.Table.{free_numbers}
+use Rattle.af_base.specs.Take.{Taken}
+use Rattle.af_base.specs.Whole.{IsSound, IsWhole, state_at, state_of}
+use Rattle.af_base.proofs.Changing.{Changed, IsKnown, changed-accept, changed-embryo, changed-exit, changed-install, changed-installs, changed-limit, changed-listen, changed-name, changed-pair, changed-plain, changed-process, changed-push, changed-socket, changed-take, changed-uninstall, changed-user, unchanged}
 use Rattle.af_base.proofs.Elements.{Contains-first, Contains-none, Contains-rest}
 use Rattle.af_base.proofs.Free.{free-free_numbers, free-lowest_free}
-use Rattle.af_base.proofs.Lookups.{none_some, not_same, same_or_not, some_same, told_apart}
-use Rattle.af_base.proofs.Moved.{live-changed, there-table}
-use Rattle.af_base.proofs.Opened.{blank-idle, blank-plain, whole-opened, within-blank, within-plain}
-use Rattle.af_base.proofs.Connections.{live-embryo, whole-accepted, whole-bound, whole-embryo, whole-listening, within-accepted, within-bound, within-embryo, within-listening}
-use Rattle.af_base.proofs.Named.{named-none}
-use Rattle.af_base.proofs.Ended.{whole-remove_process, within-remove_process}
-use Rattle.af_base.proofs.Limited.{whole-limited, within-limited}
-use Rattle.af_base.proofs.Pairs.{whole-paired}
+use Rattle.af_base.proofs.Lookups.{insert-here, none_some, not_same, same_or_not, some_same, told_apart}
+use Rattle.af_base.proofs.Moved.{live-changed, there-holds, there-install, there-table}
+use Rattle.af_base.proofs.Pairs.{first_there, second_there}
 use Rattle.af_base.proofs.Same.{both}
 use Rattle.af_base.proofs.Sound.{sound-settles}
+use Rattle.af_base.proofs.Takes.{taken-before}
 use Rattle.af_base.proofs.Trees.{insert_same}
-use Rattle.af_base.proofs.Born.{whole-add_process, whole-spawned}
-use Rattle.af_base.proofs.Takes.{leaves-taken}
-use Rattle.af_base.proofs.Whole.{live-taken, not_connected, whole-install, whole-install_all, whole-push, whole-take, whole-uninstall}
-use Rattle.af_base.proofs.Within.{below-most, neither, socket_same, within-add_process, within-install, within-install_all, within-paired, within-push, within-spawned, within-take, within-uninstall}
+use Rattle.af_base.proofs.Whole.{not_connected}
+use Rattle.af_base.proofs.Within.{neither, socket_same}
 
 -- A test that does not fit, and what follows it.
 pub record Passed (test : Bool) (Rest : Type 0) : Type 0 where
@@ -79,12 +77,30 @@ socket-there w p n = by (table_at w p n) where
   by None e d = absurd (false≢true (sym e))
   by (Some f) e d = at (map.get w.files f) d
 
--- Who was connected and whose peer is not gone is connected to it.
-pub connected-to : (t : State) → not (is_connected t) ≡ false → is_hung_up t ≡ false → t ≡ state.Connected (peer_of t)
-connected-to state.Idle e d = absurd (false≢true (sym e))
-connected-to (state.Listening b) e d = absurd (false≢true (sym e))
-connected-to (state.Connected p) e d = refl
-connected-to state.HungUp e d = absurd (false≢true (sym d))
+-- The first of two rows with a test that fits decides.
+joined : (rows more : Row) → first_fit (rows ++ more) ≡ option_or (first_fit rows) (first_fit more)
+joined [] more = refl
+joined (r ∷ rs) more = by r.0 (joined rs more) where
+  by : (b : Bool) → first_fit (rs ++ more) ≡ option_or (first_fit rs) (first_fit more) → (if b then Some r.1 else first_fit (rs ++ more)) ≡ option_or (if b then Some r.1 else first_fit rs) (first_fit more)
+  by true go = refl
+  by false go = go
+
+-- A test of the first fits.
+pub goes-on : (rows more : Row) (e : Errno) → first_fit rows ≡ Some e → first_fit (rows ++ more) ≡ Some e
+goes-on rows more e is = joined rows more ∙ ap (λ o. option_or o (first_fit more)) is
+
+-- No test of the first fits: the second decides.
+pub passes-on : (rows more : Row) → first_fit rows ≡ None → first_fit (rows ++ more) ≡ first_fit more
+passes-on rows more is = joined rows more ∙ ap (λ o. option_or o (first_fit more)) is
+
+-- A socket that can talk to its peer is connected to it.
+pub connected-to : {More : Type 0} (s : Socket) → Passed (not (is_connected s.state)) (Passed (is_hung_up s.state) More) → s.state ≡ state.Connected (peer_of s.state)
+connected-to s tests = by s.state tests.here tests.rest.here where
+  by : (t : State) → not (is_connected t) ≡ false → is_hung_up t ≡ false → t ≡ state.Connected (peer_of t)
+  by state.Idle e d = absurd (false≢true (sym e))
+  by (state.Listening b) e d = absurd (false≢true (sym e))
+  by (state.Connected p) e d = refl
+  by state.HungUp e d = absurd (false≢true (sym d))
 
 -- Who was never connected and does not listen is idle.
 pub never-connected : (t : State) → is_connected t ≡ false → is_listening t ≡ false → t ≡ state.Idle
@@ -149,203 +165,188 @@ same-with_queue w s x at = ap (λ fs. record w { files = fs }) (ap (λ o. option
   queued Plain = Plain
   queued (AsSocket y) = AsSocket (record y { queue = x.queue })
 
--- What a step that nothing refuses leaves is whole, and within the limits.
-abbrev Fits : World → Type 0
-Fits w = IsWhole w × IsWithin w
+-- The first of a backlog that is not empty waits there.
+pub first-waits : (fs : List ℕ) → nat_eq (length fs) 0 ≡ false → Contains fs (unwrap_or (slice_get fs 0) 0)
+first-waits [] e = absurd (false≢true (sym e))
+first-waits (g ∷ gs) e = Contains-first g gs
 
--- Two sockets more fit.
-fits-pair : (w : World) (p : ℕ) (kind : SockType) → Fits w → map.get w.processes p ≡ Some (process_at w p) → NoneFits (step_row w p (step.Pair kind)) → Fits (effect w p (step.Pair kind))
-fits-pair w p kind k at row =
-    let free = free-free_numbers (process_at w p) in
-    let two = ltb-false (length (free_numbers (process_at w p))) 2 row.here in
-    (whole-paired w kind p (free_at w p 0) (free_at w p 1) k.0, within-paired w kind p (free_at w p 0) (free_at w p 1) (process_at w p) k.1 row.rest.here at (free.low 0 0 (omega (arith, two))) (free.low 1 0 (omega (arith, two))))
+-- A number that is open stands for what it gives.
+number-there : (w : World) (p n : ℕ) → is_none (table_at w p n) ≡ false → table_at w p n ≡ Some (ino_on w p n)
+number-there w p n = by (table_at w p n) where
+  by : (o : Option ℕ) → is_none o ≡ false → o ≡ Some (unwrap_or o 0)
+  by None e = absurd (false≢true (sym e))
+  by (Some f) e = refl
 
--- The lowest free number of a process that has one is below the largest limit.
-lowest-below : (w : World) (p : ℕ) → IsWithin w → map.get w.processes p ≡ Some (process_at w p) → is_short (process_at w p) 1 ≡ false → free_at w p 0 < MAX_NOFILE
-lowest-below w p k at some =
-    let one = ltb-false (length (free_numbers (process_at w p))) 1 some in
-    below-most w p (free_at w p 0) (process_at w p) k at ((free-free_numbers (process_at w p)).low 0 0 (omega (arith, one)))
+-- A step that nothing refuses, of a process that is there.
+module _ (w : World) (p : ℕ) (whole : IsWhole w) (at : map.get w.processes p ≡ Some (process_at w p)) where
+  abbrev q : Process
+  q = process_at w p
 
--- What a number stands for is live.
-live-on : (w : World) (p n : ℕ) → IsWhole w → is_none (table_at w p n) ≡ false → IsLive w (ino_on w p n)
-live-on w p n k = by (table_at w p n) refl where
-  by : (o : Option ℕ) → table_at w p n ≡ o → is_none o ≡ false → IsLive w (unwrap_or o 0)
-  by None e d = absurd (false≢true (sym d))
-  by (Some f) e d = k.tables_live f (p, n, e)
+  -- The lowest free number of a process that has one is below its limit.
+  lowest-low : is_short q 1 ≡ false → free_at w p 0 < q.limit
+  lowest-low some = let one = ltb-false (length (free_numbers q)) 1 some in (free-free_numbers q).low 0 0 (omega (arith, one))
 
--- A file opened fits.
-fits-open : (w : World) (p : ℕ) → Fits w → map.get w.processes p ≡ Some (process_at w p) → NoneFits (step_row w p step.Open) → Fits (effect w p step.Open)
-fits-open w p k at row = (
-  whole-opened w Plain blank-plain p (free_at w p 0) refl k.0,
-  within-install (add_file w Plain) p (free_at w p 0) w.next_ino (within-plain w k.1 row.rest.here) (lowest-below w p k.1 at row.here),
-)
+  -- What a socket that a number stands for holds is live, and known.
+  held-on : (n f : ℕ) → is_none (table_at w p n) ≡ false → map.get w.files (ino_on w p n) ≡ Some (AsSocket (socket_on w p n)) → Contains (contents (AsSocket (socket_on w p n))) f → IsLive w f × IsKnown w f
+  held-on n f there is h =
+      let holds = there-holds w (ino_on w p n) f (AsSocket (socket_on w p n)) is h in
+      (whole.queues_live (ino_on w p n) f holds, inl (BySocket (ino_on w p n) f (ByTable (ino_on w p n) (p, n, number-there w p n there)) holds))
 
--- A socket more fits.
-fits-socket : (w : World) (p : ℕ) (kind : SockType) → Fits w → map.get w.processes p ≡ Some (process_at w p) → NoneFits (step_row w p (step.Socket kind)) → Fits (effect w p (step.Socket kind))
-fits-socket w p kind k at row = (
-  whole-opened w (AsSocket (idle_socket kind)) (blank-idle kind) p (free_at w p 0) refl k.0,
-  within-install (add_file w (AsSocket (idle_socket kind))) p (free_at w p 0) w.next_ino (within-blank w (idle_socket kind) k.1 row.rest.here refl refl refl refl) (lowest-below w p k.1 at row.here),
-)
+  -- A file more, with a number.
+  opens : (x : File) → is_short q 1 ≡ false → Changed w (add_file w x) → Changed w (install (add_file w x) p (free_at w p 0) w.next_ino)
+  opens x some c = changed-install c p (free_at w p 0) w.next_ino q at (lowest-low some) (ap is_some (insert-here w.files w.next_ino x)) (inr (omega arith))
 
--- A socket that got a name fits.
-fits-bind : (w : World) (p n : ℕ) (name : List ℕ) → Fits w → NoneFits (step_row w p (step.Bind n name)) → Fits (effect w p (step.Bind n name))
-fits-bind w p n name k row =
-    let there = socket-there w p n row.here row.rest.here in
-    let fresh = row.rest.rest in
-    let parts = neither _ _ fresh.here in
-    let nobody = no_one (named w.files name) fresh.rest.here in
-    (whole-bound w (ino_on w p n) name (named-none w name nobody) k.0, within-bound w (ino_on w p n) name (socket_on w p n) k.1 there (holds parts.1))
+  -- A number more for what one stands for.
+  copies : (n m : ℕ) → is_none (table_at w p n) ≡ false → m < q.limit → Changed w (install w p m (ino_on w p n))
+  copies n m there low =
+      let t : InTable w (ino_on w p n) = (p, n, number-there w p n there) in
+      changed-install (unchanged w) p m (ino_on w p n) q at low (whole.tables_live (ino_on w p n) t) (inl (ByTable (ino_on w p n) t))
 
--- A socket that listens fits.
-fits-listen : (w : World) (p n b : ℕ) → Fits w → NoneFits (step_row w p (step.Listen n b)) → Fits (effect w p (step.Listen n b))
-fits-listen w p n b k row =
-    let s = socket_on w p n in
-    let there = socket-there w p n row.here row.rest.here in
-    let parts = neither _ _ row.rest.rest.here in
-    let quiet = neither _ _ parts.0 in
-    let unconnected = neither _ _ quiet.0 in
-    let idle = never-connected s.state unconnected.1 quiet.1 in
-    let low = both (nat_le 1 b) (nat_le b MAX_BACKLOG) (holds parts.1) in
-    (whole-listening w (ino_on w p n) b s there idle k.0, within-listening w (ino_on w p n) b s k.1 there idle (leb-true 1 b low.0) (leb-true b MAX_BACKLOG low.1))
+  -- A number in place of another.
+  replaces : (n m : ℕ) → NoneFits (step_row w p (step.Dup2 n m)) → Changed w (effect w p (step.Dup2 n m))
+  replaces n m row = by (nat_eq m n) row.rest.here where
+    by : (b : Bool) → (not b && nat_le q.limit m) ≡ false → Changed w (if b then w else install w p m (ino_on w p n))
+    by true e = unchanged w
+    by false e = copies n m row.here (leb-false q.limit m e)
 
--- A client and its embryo fit.
-fits-connect : (w : World) (p n : ℕ) (name : List ℕ) → Fits w → NoneFits (step_row w p (step.Connect n name)) → Fits (effect w p (step.Connect n name))
-fits-connect w p n name k row =
-    let s = socket_on w p n in
-    let listener = socket_named w name in
-    let there = socket-there w p n row.here row.rest.here in
-    let deaf = row.rest.rest in
-    let idle = never-connected s.state deaf.rest.here deaf.here in
-    let heard = deaf.rest.rest in
-    let listener_is = listener-there w name heard.here in
-    let room = heard.rest.rest in
-    let apart = told_apart (ino_named w name) (ino_on w p n) (λ same.
-    let one_socket : listener ≡ s = socket_same listener s (some_same _ _ (sym listener_is ∙ ap (map.get w.files) same ∙ there)) in
-    false≢true (sym deaf.here ∙ ap (λ x. is_listening x.state) (sym one_socket) ∙ holds heard.here)) in (
-      whole-embryo w (ino_on w p n) (ino_named w name) listener.kind s listener k.0 there idle listener_is apart,
-      within-embryo w (ino_on w p n) (ino_named w name) listener.kind s listener k.0 there idle listener_is apart k.1 room.rest.here (leb-false (room_of listener.state) (length listener.backlog) room.here),
-    )
+  -- Two sockets more, with their numbers.
+  pairs : (kind : SockType) → NoneFits (step_row w p (step.Pair kind)) → Changed w (effect w p (step.Pair kind))
+  pairs kind row =
+      let two = ltb-false (length (free_numbers q)) 2 row.here in
+      let free = free-free_numbers q in
+      let first = changed-install (changed-pair (unchanged w) kind row.rest.here) p (free_at w p 0) w.next_ino q at (free.low 0 0 (omega (arith, two))) (ap is_some (first_there w kind)) (inr (omega arith)) in
+      changed-install first p (free_at w p 1) (w.next_ino + 1) (record q { table = map.insert q.table (free_at w p 0) w.next_ino }) (there-install (with_pair w kind) p (free_at w p 0) w.next_ino q at) (free.low 1 0 (omega (arith, two))) (ap is_some (second_there w kind)) (inr (omega arith))
 
--- An embryo accepted fits.
-fits-accept : (w : World) (p n : ℕ) → Fits w → map.get w.processes p ≡ Some (process_at w p) → NoneFits (step_row w p (step.Accept n)) → Fits (effect w p (step.Accept n))
-fits-accept w p n k at row =
-    let s = socket_on w p n in
-    let f = ino_on w p n in
-    let there = socket-there w p n row.here row.rest.here in
-    let waits = row.rest.rest.rest in
-    let live = live-embryo w f (first_embryo w p n) s k.0 there (first-waits s.backlog waits.here) in (
-      whole-install (with_socket w f dequeued) p (free_at w p 0) (first_embryo w p n) (whole-accepted w f s there k.0) (live-changed w f dequeued (first_embryo w p n) ∙ live),
-      within-install (with_socket w f dequeued) p (free_at w p 0) (first_embryo w p n) (within-accepted w f s k.1 there) (lowest-below w p k.1 at waits.rest.here),
-    ) where
-      first-waits : (fs : List ℕ) → nat_eq (length fs) 0 ≡ false → Contains fs (unwrap_or (slice_get fs 0) 0)
-      first-waits [] e = absurd (false≢true (sym e))
-      first-waits (g ∷ gs) e = Contains-first g gs
+  -- A name.
+  names : (n : ℕ) (name : List ℕ) → NoneFits (step_row w p (step.Bind n name)) → Changed w (effect w p (step.Bind n name))
+  names n name row =
+      let fresh = row.rest.rest in
+      let parts = neither _ _ fresh.here in
+      changed-name (unchanged w) (ino_on w p n) name (socket_on w p n) (socket-there w p n row.here row.rest.here) (holds parts.1) (no_one (named w.files name) fresh.rest.here)
 
--- A number more for what one stands for fits.
-fits-dup : (w : World) (p n : ℕ) → Fits w → map.get w.processes p ≡ Some (process_at w p) → NoneFits (step_row w p (step.Dup n)) → Fits (effect w p (step.Dup n))
-fits-dup w p n k at row = (whole-install w p (free_at w p 0) (ino_on w p n) k.0 (live-on w p n k.0 row.here), within-install w p (free_at w p 0) (ino_on w p n) k.1 (lowest-below w p k.1 at row.rest.here))
+  -- A socket that listens.
+  listens : (n b : ℕ) → NoneFits (step_row w p (step.Listen n b)) → Changed w (effect w p (step.Listen n b))
+  listens n b row =
+      let parts = neither _ _ row.rest.rest.here in
+      let quiet = neither _ _ parts.0 in
+      let unconnected = neither _ _ quiet.0 in
+      let low = both (nat_le 1 b) (nat_le b MAX_BACKLOG) (holds parts.1) in
+      changed-listen (unchanged w) (ino_on w p n) b (socket_on w p n) (socket-there w p n row.here row.rest.here) (never-connected (socket_on w p n).state unconnected.1 quiet.1) (leb-true 1 b low.0) (leb-true b MAX_BACKLOG low.1)
 
--- A number in place of another fits.
-fits-dup2 : (w : World) (p n m : ℕ) → Fits w → map.get w.processes p ≡ Some (process_at w p) → NoneFits (step_row w p (step.Dup2 n m)) → Fits (effect w p (step.Dup2 n m))
-fits-dup2 w p n m k at row = by (nat_eq m n) row.rest.here where
-  by : (b : Bool) → (not b && nat_le (process_at w p).limit m) ≡ false → Fits (if b then w else install w p m (ino_on w p n))
-  by true e = k
-  by false e = (whole-install w p m (ino_on w p n) k.0 (live-on w p n k.0 row.here), within-install w p m (ino_on w p n) k.1 (below-most w p m (process_at w p) k.1 at (leb-false (process_at w p).limit m e)))
+  -- A client and its embryo.
+  connects : (n : ℕ) (name : List ℕ) → NoneFits (step_row w p (step.Connect n name)) → Changed w (effect w p (step.Connect n name))
+  connects n name row =
+      let s = socket_on w p n in
+      let listener = socket_named w name in
+      let there = socket-there w p n row.here row.rest.here in
+      let deaf = row.rest.rest in
+      let heard = deaf.rest.rest in
+      let listener_is = listener-there w name heard.here in
+      let room = heard.rest.rest in
+      let apart = told_apart (ino_named w name) (ino_on w p n) (λ same.
+      let one_socket : listener ≡ s = socket_same listener s (some_same _ _ (sym listener_is ∙ ap (map.get w.files) same ∙ there)) in
+      false≢true (sym deaf.here ∙ ap (λ x. is_listening x.state) (sym one_socket) ∙ holds heard.here)) in
+      changed-embryo (unchanged w) (ino_on w p n) (ino_named w name) listener.kind s listener there (never-connected s.state deaf.rest.here deaf.here) listener_is apart room.rest.here (leb-false (room_of listener.state) (length listener.backlog) room.here) (omega arith)
 
--- A child fits.
-fits-fork : (w : World) (p : ℕ) → Fits w → map.get w.processes p ≡ Some (process_at w p) → NoneFits (step_row w p step.Fork) → Fits (effect w p step.Fork)
-fits-fork w p k at row = (
-  whole-add_process w (process_at w p) k.0 (λ n f is. k.0.tables_live f (p, n, there-table w p n (process_at w p) at ∙ is)),
-  within-add_process w (process_at w p) k.1 row.here (k.1.processes p (process_at w p) at),
-)
+  -- An embryo accepted.
+  accepts : (n : ℕ) → NoneFits (step_row w p (step.Accept n)) → Changed w (effect w p (step.Accept n))
+  accepts n row =
+      let s = socket_on w p n in
+      let f = ino_on w p n in
+      let there = socket-there w p n row.here row.rest.here in
+      let waits = row.rest.rest.rest in
+      let first = held-on n (first_embryo w p n) row.here there (Contains-append_right (carried s.queue) s.backlog (first_embryo w p n) (first-waits s.backlog waits.here)) in
+      changed-install (changed-accept (unchanged w) f s there) p (free_at w p 0) (first_embryo w p n) q at (lowest-low waits.rest.here) (live-changed w f dequeued (first_embryo w p n) ∙ first.0) first.1
 
--- A message sent fits.
-fits-send : (w : World) (p n : ℕ) (bytes attach : List ℕ) → Fits w → NoneFits (step_row w p (step.Send n bytes attach)) → Fits (effect w p (step.Send n bytes attach))
-fits-send w p n bytes attach k given =
-    let socket = given.rest in
-    let numbers = socket.rest in
-    let short = numbers.rest in
-    let tabled = short.rest in
-    let connected = tabled.rest in
-    let alive = connected.rest in
-    let room = alive.rest.rest in
-    let queued = room.rest in
-    let f = ino_on w p n in
-    let s = socket_on w p n in
-    let to : state_at w f ≡ state.Connected (peer_of s.state) = ap (λ o. option_map_or state_of o state.Idle) (socket-there w p n given.here socket.here) ∙ connected-to s.state connected.here alive.here in
-    let peer = connected-socket w (peer_of s.state) f (k.0.peers f (peer_of s.state) to) in
-    let some = neither _ _ numbers.here in
-    let few = attached-most w p attach in
-    let low = ltb-false SCM_MAX_FD (length attach) some.1 in
-    let flying = ltb-false MAX_INFLIGHT (total w + length attach) room.here in
-    let waiting : length peer.0.queue < MAX_MESSAGES = subst (λ o. length (option_map_or queue_of o []) < MAX_MESSAGES) peer.1 (leb-false MAX_MESSAGES (length (queue_at w (peer_of s.state))) queued.here) in (
-      whole-push w (peer_of s.state) _ k.0 (λ g h. let at = attached-tabled w p attach g h in k.0.tables_live g (p, at.0, at.1)),
-      within-push w (peer_of s.state) _ peer.0 k.1 peer.1 (record { some = positive (length bytes) some.0; bytes = ltb-false MAX_BYTES (length bytes) short.here; attached = omega (arith, few, low) }) waiting (omega (arith, few, flying)),
-    ) where
-      positive : (k : ℕ) → nat_eq k 0 ≡ false → 1 ≤ k
-      positive zero e = absurd (false≢true (sym e))
-      positive (suc k) e = omega arith
+  -- A message sent.
+  sends : (n : ℕ) (bytes attach : List ℕ) → NoneFits (step_row w p (step.Send n bytes attach)) → Changed w (effect w p (step.Send n bytes attach))
+  sends n bytes attach given =
+      let numbers = given.rest.rest in
+      let connected = numbers.rest.rest.rest in
+      let room = connected.rest.rest.rest in
+      let f = ino_on w p n in
+      let s = socket_on w p n in
+      let to : state_at w f ≡ state.Connected (peer_of s.state) = ap (λ o. option_map_or state_of o state.Idle) (socket-there w p n given.here given.rest.here) ∙ connected-to s connected in
+      let peer = connected-socket w (peer_of s.state) f (whole.peers f (peer_of s.state) to) in
+      let some = neither _ _ numbers.here in
+      let few = attached-most w p attach in
+      let low = ltb-false SCM_MAX_FD (length attach) some.1 in
+      let flying = ltb-false MAX_INFLIGHT (total w + length attach) room.here in
+      let waiting : length peer.0.queue < MAX_MESSAGES = subst (λ o. length (option_map_or queue_of o []) < MAX_MESSAGES) peer.1 (leb-false MAX_MESSAGES (length (queue_at w (peer_of s.state))) room.rest.here) in
+      changed-push (unchanged w) (peer_of s.state) _ peer.0 peer.1 (λ g h. let t = attached-tabled w p attach g h in (whole.tables_live g (p, t.0, t.1), inl (ByTable g (p, t.0, t.1))))
+      (record { some = positive (length bytes) some.0; bytes = ltb-false MAX_BYTES (length bytes) numbers.rest.here; attached = omega (arith, few, low) }) waiting (omega (arith, few, flying)) where
+        positive : (k : ℕ) → nat_eq k 0 ≡ false → 1 ≤ k
+        positive zero e = absurd (false≢true (sym e))
+        positive (suc k) e = omega arith
 
--- What was received fits.
-fits-recv : (w : World) (p n max_bytes max_fds : ℕ) → Fits w → map.get w.processes p ≡ Some (process_at w p) → NoneFits (step_row w p (step.Recv n max_bytes max_fds)) → Fits (effect w p (step.Recv n max_bytes max_fds))
-fits-recv w p n max_bytes max_fds k at row =
-    let s = socket_on w p n in
-    let there = socket-there w p n row.here row.rest.here in
-    let taken = take_from s.kind s.queue max_bytes in
-    let left = leaves-taken s.kind s.queue max_bytes (k.1.sockets (ino_on w p n) s there).messages in
-    let free = free-lowest_free (min (length taken.attached) max_fds) (process_at w p) in
-    let ns = lowest_free (min (length taken.attached) max_fds) (process_at w p) in
-    (whole-take w (ino_on w p n) s taken.attached taken.rest p ns k.0 there left, within-take w (ino_on w p n) s taken.attached taken.rest p (process_at w p) ns k.1 there left at free)
+  module _ (n max_bytes max_fds : ℕ) (row : NoneFits (step_row w p (step.Recv n max_bytes max_fds))) where
+    abbrev taken : Taken
+    taken = taken_on w p n max_bytes
 
--- What was looked at fits, with the numbers that it was installed at.
-fits-peek : (w : World) (p n max_bytes max_fds : ℕ) → Fits w → map.get w.processes p ≡ Some (process_at w p) → NoneFits (step_row w p (step.Peek n max_bytes max_fds)) → Fits (effect w p (step.Peek n max_bytes max_fds))
-fits-peek w p n max_bytes max_fds k at row =
-    let s = socket_on w p n in
-    let there = socket-there w p n row.here row.rest.here in
-    let taken = take_from s.kind s.queue max_bytes in
-    let left = leaves-taken s.kind s.queue max_bytes (k.1.sockets (ino_on w p n) s there).messages in
-    let free = free-lowest_free (min (length taken.attached) max_fds) (process_at w p) in
-    let ns = lowest_free (min (length taken.attached) max_fds) (process_at w p) in
-    (whole-install_all w p ns taken.attached k.0 (live-taken w (ino_on w p n) s taken.attached taken.rest k.0 there left), within-install_all w p (process_at w p) ns taken.attached k.1 at free)
+    there : map.get w.files (ino_on w p n) ≡ Some (AsSocket (socket_on w p n))
+    there = socket-there w p n row.here row.rest.here
 
--- What a step that nothing refuses leaves is whole and within the limits, before it settles.
-pub fits-effect : (w : World) (p : ℕ) (s : Step) → IsWhole w → IsWithin w → refusal w p s ≡ None → IsWhole (effect w p s) × IsWithin (effect w p s)
-fits-effect w p s whole within none =
+    -- What is taken is live, and known.
+    taken-on : (f : ℕ) → Contains taken.attached f → IsLive w f × IsKnown w f
+    taken-on f h =
+        let s = socket_on w p n in
+        held-on n f row.here there (Contains-append_left (carried s.queue) s.backlog f (taken-before s.kind s.queue max_bytes f (Contains-append_left taken.attached (carried taken.rest) f h)))
+
+    -- What was received.
+    receives : Changed w (effect w p (step.Recv n max_bytes max_fds))
+    receives =
+        changed-installs w (with_queue w (ino_on w p n) taken.rest) p q (got_at w p n max_bytes max_fds) taken.attached (changed-take (unchanged w) (ino_on w p n) max_bytes (socket_on w p n) there) at (free-lowest_free _ q)
+        (λ f h. let k = taken-on f h in (live-changed w (ino_on w p n) (λ y. record y { queue = taken.rest }) f ∙ k.0, k.1))
+
+    -- What was looked at.
+    peeks : Changed w (effect w p (step.Peek n max_bytes max_fds))
+    peeks = changed-installs w w p q (got_at w p n max_bytes max_fds) taken.attached (unchanged w) at (free-lowest_free _ q) taken-on
+
+  -- What a step changes.
+  changes-row : (s : Step) → NoneFits (step_row w p s) → Changed w (effect w p s)
+  changes-row step.Open row = opens Plain row.here (changed-plain (unchanged w) row.rest.here)
+  changes-row (step.Dup n) row = copies n (free_at w p 0) row.here (lowest-low row.rest.here)
+  changes-row (step.Dup2 n m) row = replaces n m row
+  changes-row (step.Close n) row = changed-uninstall (unchanged w) p n
+  changes-row step.Fork row = changed-process (unchanged w) q row.here (λ k. k.processes p q at) (λ n f is. (p, n, there-table w p n q at ∙ is))
+  changes-row step.Exit row = changed-exit (unchanged w) p
+  changes-row (step.Pair kind) row = pairs kind row
+  changes-row (step.Socket kind) row = opens (AsSocket (idle_socket kind)) row.here (changed-socket (unchanged w) kind row.rest.here)
+  changes-row (step.Bind n name) row = names n name row
+  changes-row (step.Listen n b) row = listens n b row
+  changes-row (step.Connect n name) row = connects n name row
+  changes-row (step.Accept n) row = accepts n row
+  changes-row (step.Send n bytes attach) row = sends n bytes attach row
+  changes-row (step.Recv n max_bytes max_fds) row = receives n max_bytes max_fds row
+  changes-row (step.Peek n max_bytes max_fds) row = peeks n max_bytes max_fds row
+  changes-row (step.Limit n) row = changed-limit (unchanged w) p n (ltb-false MAX_NOFILE n row.here)
+
+-- What a step that nothing refuses changes, before the world settles.
+pub effect-changes : (w : World) (p : ℕ) (s : Step) → IsWhole w → refusal w p s ≡ None → Changed w (effect w p s)
+effect-changes w p s whole none =
     let row = none-fits ((not (map.contains_key w.processes p), ESRCH) ∷ step_row w p s) none in
-    by s (process-there w p row.here) row.rest where
-      by : (s : Step) → map.get w.processes p ≡ Some (process_at w p) → NoneFits (step_row w p s) → Fits (effect w p s)
-      by step.Open at e = fits-open w p (whole, within) at e
-      by (step.Dup n) at e = fits-dup w p n (whole, within) at e
-      by (step.Dup2 n m) at e = fits-dup2 w p n m (whole, within) at e
-      by (step.Close n) at e = (whole-uninstall w p n whole, within-uninstall w p n within)
-      by step.Fork at e = fits-fork w p (whole, within) at e
-      by step.Exit at e = (whole-remove_process w p whole, within-remove_process w p within)
-      by (step.Pair kind) at e = fits-pair w p kind (whole, within) at e
-      by (step.Socket kind) at e = fits-socket w p kind (whole, within) at e
-      by (step.Bind n name) at e = fits-bind w p n name (whole, within) e
-      by (step.Listen n b) at e = fits-listen w p n b (whole, within) e
-      by (step.Connect n name) at e = fits-connect w p n name (whole, within) e
-      by (step.Accept n) at e = fits-accept w p n (whole, within) at e
-      by (step.Send n bytes attach) at e = fits-send w p n bytes attach (whole, within) e
-      by (step.Recv n max_bytes max_fds) at e = fits-recv w p n max_bytes max_fds (whole, within) at e
-      by (step.Peek n max_bytes max_fds) at e = fits-peek w p n max_bytes max_fds (whole, within) at e
-      by (step.Limit n) at e = (whole-limited w p n whole, within-limited w p n within (ltb-false MAX_NOFILE n e.here))
+    changes-row w p whole (process-there w p row.here) s row.rest
+
+-- What a start that nothing refuses changes.
+pub spawn-changes : (w : World) (uid nofile : ℕ) (privileged : Bool) → spawn_refusal w nofile ≡ None → Changed w (spawned w uid nofile privileged)
+spawn-changes w uid nofile privileged none =
+    let row = none-fits (spawn_row w nofile) none in
+    changed-user
+    (changed-process (unchanged w) (record { user = uid; limit = nofile; privileged = privileged; table = map.empty }) row.rest.here (λ k. record { limit = ltb-false MAX_NOFILE nofile row.here; numbers = λ n l. absurd (false≢true (sym (ap is_some (map.get-empty nat_cmp n)) ∙ l)) }) (λ n f is. absurd (none_some f (sym (map.get-empty nat_cmp n) ∙ is)))) uid
 
 -- An outcome whose effect fits leaves the world sound.
-outcome-sound : (o : Option Errno) (frugal : Bool) (a : Reply) (w old : World) (r : Reply) (new : World) → IsSound old → (o ≡ None → Fits w) → Outcome o frugal a w old r new → IsSound new
-outcome-sound (Some e) frugal a w old r new k fits out = subst IsSound (sym out.1) k
-outcome-sound None true a w old r new k fits out = let fit = fits refl in sound-settles w new out.1 fit.0 fit.1
-outcome-sound None false a w old r new k fits out = let fit = fits refl in elim out [
+outcome-sound : (o : Option Errno) (frugal : Bool) (a : Reply) (w old : World) (r : Reply) (new : World) → IsSound old → (o ≡ None → Changed old w) → Outcome o frugal a w old r new → IsSound new
+outcome-sound (Some e) frugal a w old r new k leads out = subst IsSound (sym out.1) k
+outcome-sound None true a w old r new k leads out = let fit = (leads refl).fits (k.whole, k.within) in sound-settles w new out.1 fit.0 fit.1
+outcome-sound None false a w old r new k leads out = let fit = (leads refl).fits (k.whole, k.within) in elim out [
   | inl y ↦ sound-settles w new y.1 fit.0 fit.1
   | inr y ↦ subst IsSound (sym y.1) k
 ]
 
 -- A step of a process leaves the world sound.
 pub sound-step : (old : World) (p : ℕ) (s : Step) (r : Reply) (new : World) → IsSound old → ProcessStep old p s r new → IsSound new
-sound-step old p s r new k = outcome-sound (refusal old p s) (needs_no_memory s) (answer old p s) (effect old p s) old r new k (λ none. fits-effect old p s k.whole k.within none)
+sound-step old p s r new k = outcome-sound (refusal old p s) (needs_no_memory s) (answer old p s) (effect old p s) old r new k (effect-changes old p s k.whole)
 
 -- A start of a process leaves the world sound.
 pub sound-spawn : (old : World) (uid nofile : ℕ) (privileged : Bool) (r : Reply) (new : World) → IsSound old → SpawnStep old uid nofile privileged r new → IsSound new
-sound-spawn old uid nofile privileged r new k = outcome-sound (spawn_refusal old nofile) false _ (spawned old uid nofile privileged) old r new k (λ none.
-    let row = none-fits (spawn_row old nofile) none in
-    (whole-spawned old uid nofile privileged k.whole, within-spawned old uid nofile privileged k.within row.rest.here (ltb-false MAX_NOFILE nofile row.here)))
+sound-spawn old uid nofile privileged r new k = outcome-sound (spawn_refusal old nofile) false _ (spawned old uid nofile privileged) old r new k (spawn-changes old uid nofile privileged)

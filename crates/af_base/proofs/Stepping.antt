@@ -1,17 +1,16 @@
 -- A step that nothing refuses, and changes that move no place.
 use Rattle.std.proofs.Common.{◌≡◌, ℕ, Bool, true, false, inl, [], refl, sym, ap, ◌∙◌, subst, cond, Ordering, is_eq}
-use Rattle.std.specs.Prelude.{Option, Some, None, is_some, option_map}
+use Rattle.std.specs.Prelude.{Option, Some, None, option_map}
 use Rattle.std.specs.Option.{option_map_or}
-use Rattle.std.specs.List.{Contains}
 use Rattle.std.specs.Ordering.{nat_cmp, eq_by_cmp}
 use Rattle.std.specs.declared.cmp.Ordering.TheVariants.{Less, Equal, Greater}
 use Rattle.std.specs.Cmp.{nat_cmp_total}
 use Rattle.std.specs.FinMap as map
 use Rattle.af_base.specs.declared.errno.Errno.{Errno}
 use Rattle.af_base.specs.declared.events.Reply.{Reply}
-use Rattle.af_base.specs.World.{AsSocket, File, Map, Plain, Socket, World, is_live}
+use Rattle.af_base.specs.World.{AsSocket, File, Map, Plain, Socket, World}
 use Rattle.af_base.specs.Places.{contents, held_by}
-use Rattle.af_base.specs.Unheld.{Goes, Settles, Unheld}
+use Rattle.af_base.specs.Unheld.{Settles}
 use Rattle.af_base.specs.Steps.{Outcome}
 use Rattle.af_base.specs.Changes.{change_at, file_with, with_socket}
 use Rattle.std.proofs.lemmas.Bool.{false≢true}
@@ -50,12 +49,3 @@ module _ (w : World) (s : ℕ) (g : Socket → Socket) (same : (x : Socket) → 
     each true (Some Plain) = refl
     each true (Some (AsSocket x)) = same x
     each false (Some x) = refl
-
-  pub live-with_socket : (q : ℕ) → is_live (with_socket w s g) q ≡ is_live w q
-  live-with_socket q = ap is_some (get-change_at (file_with g) w.files s q) ∙ each (eq_by_cmp nat_cmp q s) (map.get w.files q) where
-    each : (b : Bool) (o : Option File) → is_some (option_map (λ x. cond b (file_with g x) x) o) ≡ is_some o
-    each b None = refl
-    each b (Some x) = refl
-
-  unheld_before : (f : ℕ) → Unheld (with_socket w s g) f → Unheld w f
-  unheld_before _ (Goes f l t hs) = Goes f (sym (live-with_socket f) ∙ l) t (λ q h. unheld_before q (hs q (subst (λ xs. Contains xs f) (sym (held-with_socket q)) h)))

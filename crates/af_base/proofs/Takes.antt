@@ -5,13 +5,14 @@ use Rattle.std.specs.Option.{option_map_or, unwrap_or}
 use Rattle.std.specs.List.{AllByRecursion, Contains, find, prefix_len, take_while}
 use Rattle.std.proofs.lemmas.Bool.{cases_Bool, leb-false, leb-true, lt-leb, ltb-false, ltb-true}
 use Rattle.std.proofs.lemmas.List.{length-append, length-drop}
+use Rattle.std.proofs.lemmas.List.Elements.{Contains-append_cases, Contains-append_left, Contains-append_right}
 use Rattle.af_base.specs.declared.events.SockType.{SockType}
 use Rattle.af_base.specs.declared.events.SockType.TheVariants.{Seqpacket, Stream}
 use Rattle.af_base.specs.World.{Message}
 use Rattle.af_base.specs.Places.{carried}
 use Rattle.af_base.specs.Take.{Taken, cut, has_files, joined, take_from, take_stream, take_to}
 use Rattle.af_base.specs.Whole.{IsMessageWithin}
-use Rattle.af_base.proofs.Elements.{Contains-first, Contains-later}
+use Rattle.af_base.proofs.Elements.{Contains-first, Contains-later, Contains-none}
 use Rattle.af_base.proofs.Lookups.{none_some}
 
 -- How many bytes stand before the first message with files.
@@ -203,3 +204,44 @@ leaves-taken Seqpacket (m ∷ q) n k = record { carried = refl; fewer = omega ar
 -- The first message taken.
 pub leaves-first : (q : List Message) (m : Message) (rest : List Message) → AreWithin q → q ≡ m ∷ rest → Leaves q m.attached rest
 leaves-first q m rest k e = subst (λ l. Leaves l m.attached rest) (sym e) (record { carried = refl; fewer = omega arith; within = λ x h. k x (subst (λ l. Contains l x) (sym e) (Contains-later m rest x h)) })
+
+-- files that travel with a message of a queue are in the queue
+found-carried : (q : List Message) (m : Message) (f : ℕ) → find has_files q ≡ Some m → Contains m.attached f → Contains (carried q) f
+found-carried [] m f e h = absurd (none_some m e)
+found-carried (x ∷ q) m f e h = elim (cases_Bool (has_files x)) [
+  | inl t ↦
+      let same : x ≡ m = ap (λ o. unwrap_or o x) (sym (find-here x q t) ∙ e) in
+      Contains-append_left x.attached (carried q) f (subst (λ y. Contains y.attached f) (sym same) h)
+  | inr t ↦ Contains-append_right x.attached (carried q) f (found-carried q m f (sym (find-later x q t) ∙ e) h)
+]
+
+-- what is left after a cut was there
+cut-carried : (c : ℕ) (q : List Message) (f : ℕ) → Contains (carried (cut c q)) f → Contains (carried q) f
+cut-carried c [] f h = h
+cut-carried c (m ∷ q) f h = by (cut-carried (c - length m.bytes) q f) (nat_le (length m.bytes) c) (nat_lt 0 c) h where
+  later : Contains (carried q) f → Contains (m.attached ++ carried q) f
+  later z = Contains-append_right m.attached (carried q) f z
+
+  by : (Contains (carried (cut (c - length m.bytes) q)) f → Contains (carried q) f) → (a b : Bool) → Contains (carried (cond a (cut (c - length m.bytes) q) (cond b (record m { bytes = drop c m.bytes; attached = [] } ∷ q) (m ∷ q)))) f → Contains (m.attached ++ carried q) f
+  by rest true b h = later (rest h)
+  by rest false true h = later h
+  by rest false false h = h
+
+-- what is taken and what is left were in the queue
+pub taken-before : (kind : SockType) (q : List Message) (n f : ℕ) → Contains ((take_from kind q n).attached ++ carried (take_from kind q n).rest) f → Contains (carried q) f
+taken-before Seqpacket [] n f h = h
+taken-before Seqpacket (m ∷ q) n f h = h
+taken-before Stream q n f h = by (find has_files q) refl h where
+  one : (m : Message) → find has_files q ≡ Some m → (b : Bool) → Contains (cond b m.attached []) f → Contains (carried q) f
+  one m e true z = found-carried q m f e z
+  one m e false z = absurd (Contains-none f z)
+
+  by : (o : Option Message) → find has_files q ≡ o → Contains ((up_to q n o).attached ++ carried (up_to q n o).rest) f → Contains (carried q) f
+  by None e h = elim (Contains-append_cases (up_to q n None).attached _ f h) [
+    | inl z ↦ absurd (Contains-none f (subst (λ xs. Contains xs f) (either_none _) z))
+    | inr z ↦ cut-carried _ q f z
+  ]
+  by (Some m) e h = elim (Contains-append_cases (up_to q n (Some m)).attached _ f h) [
+    | inl z ↦ one m e _ z
+    | inr z ↦ cut-carried _ q f z
+  ]

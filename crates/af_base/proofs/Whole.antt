@@ -2,7 +2,7 @@
 use Rattle.std.proofs.Common.{◌≡◌, ◌<◌, ℕ, Bool, true, false, not, ◌⊎◌, inl, inr, List, [], ◌∷◌, ◌++◌, refl, sym, ap, ◌∙◌, subst, cond, nat_eq, arith}
 use Rattle.std.specs.Prelude.{Option, Some, None, IsTrue, option_map}
 use Rattle.std.specs.Option.{option_map_or}
-use Rattle.std.specs.List.{Contains, zip}
+use Rattle.std.specs.List.{Contains}
 use Rattle.std.specs.FinMap as map
 use Rattle.std.proofs.lemmas.Bool.{eqb-true, false≢true}
 use Rattle.std.proofs.lemmas.List.Elements.{Contains-append_cases, Contains-append_left, Contains-append_right}
@@ -12,10 +12,9 @@ use Rattle.af_base.specs.World.{AsSocket, File, IsLive, Message, Plain, Process,
 use Rattle.af_base.specs.Places.{Holds, InTable, carried, contents, queue_of}
 use Rattle.af_base.specs.Counts.{refs}
 use Rattle.af_base.specs.Unheld.{Settles, Unheld, Goes, file_without, state_without, without}
-use Rattle.af_base.specs.Changes.{change_at, install, install_all, push_message, uninstall, with_queue, with_socket}
+use Rattle.af_base.specs.Changes.{change_at, install, push_message, uninstall, with_queue, with_socket}
 use Rattle.af_base.specs.Whole.{AreMutual, IsWhole, state_at, state_of}
 use Rattle.af_base.proofs.Settling.{from_without, get-without, live-without, stays}
-use Rattle.af_base.proofs.Elements.{Contains-first, Contains-later}
 use Rattle.af_base.proofs.Places.{carried-push}
 use Rattle.af_base.proofs.Held.{held_by_none}
 use Rattle.af_base.proofs.Lookups.{changed-live, some_same}
@@ -174,12 +173,6 @@ whole-uninstall w p n k = record {
   embryos = k.embryos;
 }
 
--- Numbers taken into use for live files.
-pub whole-install_all : (w : World) (p : ℕ) (ns fs : List ℕ) → IsWhole w → ((f : ℕ) → Contains fs f → IsLive w f) → IsWhole (install_all w p (zip ns fs))
-whole-install_all w p [] fs k live = k
-whole-install_all w p (n ∷ ns) [] k live = k
-whole-install_all w p (n ∷ ns) (f ∷ fs) k live = whole-install_all (install w p n f) p ns fs (whole-install w p n f k (live f (Contains-first f fs))) (λ g h. live g (Contains-later f fs g h))
-
 -- A message put into a queue, whose files are live.
 pub whole-push : (w : World) (s : ℕ) (m : Message) → IsWhole w → ((f : ℕ) → Contains m.attached f → IsLive w f) → IsWhole (push_message w s m)
 whole-push w s m k live = whole-changed w s (λ x. record x { queue = x.queue ++ m ∷ [] }) (λ x. refl) (λ x. refl) (λ x. refl) (λ x f is h. elim (Contains-append_cases (carried (x.queue ++ m ∷ [])) x.backlog f h) [
@@ -207,8 +200,3 @@ whole-left w s x fs rest k at left = whole-with_queue w s rest x k at (λ f h. s
 pub live-taken : (w : World) (s : ℕ) (x : Socket) (fs : List ℕ) (rest : List Message) → IsWhole w → map.get w.files s ≡ Some (AsSocket x) → Leaves x.queue fs rest → (f : ℕ) → Contains fs f → IsLive w f
 live-taken w s x fs rest k at left f h = k.queues_live s f (there-holds w s f (AsSocket x) at
     (Contains-append_left (carried x.queue) x.backlog f (subst (λ l. Contains l f) left.carried (Contains-append_left fs (carried rest) f h))))
-
--- And the first of them installed.
-pub whole-take : (w : World) (s : ℕ) (x : Socket) (fs : List ℕ) (rest : List Message) (p : ℕ) (ns : List ℕ) → IsWhole w → map.get w.files s ≡ Some (AsSocket x) → Leaves x.queue fs rest → IsWhole (install_all (with_queue w s rest) p (zip ns fs))
-whole-take w s x fs rest p ns k at left =
-    whole-install_all (with_queue w s rest) p ns fs (whole-left w s x fs rest k at left) (λ f h. live-changed w s (λ y. record y { queue = rest }) f ∙ live-taken w s x fs rest k at left f h)

@@ -1,8 +1,8 @@
 -- What is changed stays within the limits.
-use Rattle.std.proofs.Common.{◌≡◌, ◌<◌, ◌≤◌, ℕ, ◌+◌, ◌*◌, Bool, true, false, ◌||◌, inl, inr, List, [], ◌∷◌, ◌++◌, length, refl, sym, ap, ◌∙◌, subst, cond, nat_eq, arith, length-append}
+use Rattle.std.proofs.Common.{◌≡◌, ◌<◌, ◌≤◌, ℕ, ◌+◌, Bool, true, false, ◌||◌, inl, inr, List, [], ◌∷◌, ◌++◌, length, refl, sym, ap, ◌∙◌, subst, cond, nat_eq, arith, length-append}
 use Rattle.std.specs.Prelude.{Option, Some, None, is_some, if◌then◌else◌}
 use Rattle.std.specs.Option.{option_map_or}
-use Rattle.std.specs.List.{Contains, list_any, sum_by, zip}
+use Rattle.std.specs.List.{Contains, list_any, sum_by}
 use Rattle.std.specs.Ordering.{nat_cmp}
 use Rattle.std.specs.FinMap as map
 use Rattle.std.proofs.lemmas.Bool.{false≢true, leb-false, ltb-false}
@@ -16,19 +16,16 @@ use Rattle.af_base.specs.World.{AsSocket, File, Map, Message, Plain, Process, So
 use Rattle.af_base.specs.Places.{carried, queue_of}
 use Rattle.af_base.specs.Counts.{total, total_of}
 use Rattle.af_base.specs.Unheld.{Settles, file_without, state_without, without}
-use Rattle.af_base.specs.Changes.{add_file, add_process, add_user, change_at, file_with, install, install_all, push_message, uninstall, with_queue, with_socket}
+use Rattle.af_base.specs.Changes.{add_file, add_process, add_user, change_at, file_with, install, push_message, uninstall, with_queue, with_socket}
 use Rattle.af_base.specs.Refusals.{is_crowded, is_full, is_listening, room_of, socket_of}
-use Rattle.af_base.specs.Release.{messages_in}
 use Rattle.af_base.specs.Steps.{connected_socket, spawned, with_pair}
 use Rattle.af_base.specs.Whole.{IsMessageWithin, IsProcessWithin, IsSocketWithin, IsWithin}
 use Rattle.af_base.proofs.Dropped.{same_queue, without-was}
 use Rattle.af_base.proofs.Elements.{Contains-none}
-use Rattle.af_base.proofs.Free.{AreFree, first-low, rest-free}
 use Rattle.af_base.proofs.Lookups.{changed-was, insert-here, insert-other, none_some, remove-here, remove-other, same_or_not, some_same}
-use Rattle.af_base.proofs.Moved.{there-install}
 use Rattle.af_base.proofs.Sums.{total-change_at, total-insert}
 use Rattle.af_base.proofs.Takes.{Leaves}
-use Rattle.af_base.proofs.Totals.{total-below, total-count, total-most}
+use Rattle.af_base.proofs.Totals.{total-below, total-count}
 
 -- A value changed leaves as many as there were.
 pub len-change_at : {X : Type 0} (g : X → X) (m : Map X) (k : ℕ) → map.len (change_at g m k) ≡ map.len m
@@ -101,13 +98,6 @@ within-uninstall w p n k = record {
   remove_here : Process → Process
   remove_here q = record q { table = map.remove q.table n }
 
--- Free numbers taken into use.
-pub within-install_all : (w : World) (p : ℕ) (q : Process) (ns fs : List ℕ) → IsWithin w → map.get w.processes p ≡ Some q → AreFree q ns → IsWithin (install_all w p (zip ns fs))
-within-install_all w p q [] fs k at free = k
-within-install_all w p q (n ∷ ns) [] k at free = k
-within-install_all w p q (n ∷ ns) (f ∷ fs) k at free =
-    within-install_all (install w p n f) p (record q { table = map.insert q.table n f }) ns fs (within-install w p n f k (below-most w p n q k at (first-low q n ns free))) (there-install w p n f q at) (rest-free q n ns f free)
-
 -- A socket changed within its limits, and the queue places of all within theirs.
 pub within-changed : (w : World) (s : ℕ) (g : Socket → Socket) → IsWithin w → ((x : Socket) → map.get w.files s ≡ Some (AsSocket x) → IsSocketWithin (g x)) → total (with_socket w s g) ≤ MAX_INFLIGHT → IsWithin (with_socket w s g)
 within-changed w s g k fits few = record {
@@ -176,11 +166,6 @@ within-left w s x fs rest k at left = within-changed w s (λ y. record y { queue
       name = before.name;
       messages = left.within;
     }) (let most = k.flying in omega (arith, most, total-left w s x fs rest at left))
-
--- And the first of them installed at free numbers.
-pub within-take : (w : World) (s : ℕ) (x : Socket) (fs : List ℕ) (rest : List Message) (p : ℕ) (q : Process) (ns : List ℕ) → IsWithin w → map.get w.files s ≡ Some (AsSocket x) → Leaves x.queue fs rest
-    → map.get w.processes p ≡ Some q → AreFree q ns → IsWithin (install_all (with_queue w s rest) p (zip ns fs))
-within-take w s x fs rest p q ns k at left here free = within-install_all (with_queue w s rest) p q ns fs (within-left w s x fs rest k at left) here free
 
 -- One user more in the list.
 pub within-add_user : (w : World) (u : ℕ) → IsWithin w → IsWithin (add_user w u)
@@ -261,13 +246,6 @@ within-pair w kind k room =
     within-add_file (add_file w (AsSocket (connected_socket kind (w.next_ino + 1)))) (connected_socket kind w.next_ino)
     (within-add_file w (connected_socket kind (w.next_ino + 1)) k (omega (arith, few)) (omega (arith, low)) refl refl refl refl) (omega (arith, few, one_more)) (omega (arith, low)) refl refl refl refl
 
--- Two sockets more, each with a number that was free.
-pub within-paired : (w : World) (kind : SockType) (p n m : ℕ) (q : Process) → IsWithin w → is_full w 2 ≡ false → map.get w.processes p ≡ Some q → n < q.limit → m < q.limit
-    → IsWithin (install (install (with_pair w kind) p n w.next_ino) p m (w.next_ino + 1))
-within-paired w kind p n m q k room at low low_too =
-    within-install (install (with_pair w kind) p n w.next_ino) p m (w.next_ino + 1)
-    (within-install (with_pair w kind) p n w.next_ino (within-pair w kind k room) (below-most w p n q k at low)) (below-most w p m q k at low_too)
-
 -- Who has hung up has room for as many embryos: none.
 same_room : (gone : ℕ → Bool) (t : State) → room_of (state_without gone t) ≡ room_of t
 same_room gone state.Idle = refl
@@ -325,13 +303,3 @@ within-without w f = within-gone (nat_eq f) w
 -- A world within the limits, settled, is within them.
 pub within-settles : (old new : World) → Settles old new → IsWithin old → IsWithin new
 within-settles old new s k = subst IsWithin (sym s.2) (within-gone s.0 old k)
-
--- All queues together have no more messages than fit.
-pub messages-most : (w : World) → IsWithin w → messages_in w ≤ MAX_FILES * MAX_MESSAGES
-messages-most w k =
-    let most : messages_in w ≤ map.len w.files * MAX_MESSAGES = total-most (λ x. length (queue_of x)) MAX_MESSAGES w.files each in
-    let few = k.file_count in
-    omega (arith, most, few) where
-      each : (f : ℕ) (x : File) → map.get w.files f ≡ Some x → length (queue_of x) ≤ MAX_MESSAGES
-      each f Plain is = omega arith
-      each f (AsSocket s) is = (k.sockets f s is).queue

@@ -1,9 +1,8 @@
 -- The bare world: who holds what, and whom it is charged to, without all else.
-use Rattle.std.specs.Prelude.{[], None, false, map}
+use Rattle.std.specs.Prelude.{[], false, map}
 use Rattle.std.specs.FinMap as finmap
-use Rattle.af_base.specs.declared.events.SockType.TheVariants.{Seqpacket}
-use Rattle.af_base.specs.declared.events.State.TheVariants as state
 use Rattle.af_base.specs.World.{World, Process, File, Socket, Message, Plain, AsSocket}
+use Rattle.af_base.specs.Refusals.{no_socket}
 use Rattle.af_base.specs.Unheld.{map_entries}
 
 -- A message without its bytes (this project's profile).
@@ -12,7 +11,7 @@ bare_message m = record m { bytes = [] }
 
 -- A socket with its queue and backlog alone: every bare socket has the same type, no peer and no name (this project's profile).
 abbrev pub bare_socket : Socket → Socket
-bare_socket s = record { kind = Seqpacket; state = state.Idle; name = None; queue = map bare_message s.queue; backlog = s.backlog }
+bare_socket s = record no_socket { queue = map bare_message s.queue; backlog = s.backlog }
 
 -- A file that is bare: a plain one stays as it is (this project's profile).
 abbrev pub bare_file : File → File

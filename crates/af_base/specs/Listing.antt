@@ -1,16 +1,15 @@
 -- The bare world that plain lists of tables and files describe.
-use Rattle.std.specs.Prelude.{◌≡◌, ℕ, ◌<◌, ◌^◌, List, [], None, false, map, length}
+use Rattle.std.specs.Prelude.{◌≡◌, ℕ, ◌<◌, ◌^◌, List, [], false, map, length}
 use Rattle.std.specs.List.{All, sum_by}
 use Rattle.std.specs.List.Sorted.{IsNonDecreasing, IsStrictlyIncreasing}
 use Rattle.std.specs.Option.{option_map_or}
 use Rattle.std.specs.FinMap as finmap
-use Rattle.af_base.specs.declared.events.SockType.TheVariants.{Seqpacket}
-use Rattle.af_base.specs.declared.events.State.TheVariants as state
 use Rattle.af_base.specs.declared.listing.ListedFile.{ListedFile}
 use Rattle.af_base.specs.declared.listing.ListedMessage.{ListedMessage}
 use Rattle.af_base.specs.declared.listing.ListedSocket.{ListedSocket}
 use Rattle.af_base.specs.declared.listing.ListedTable.{ListedTable}
 use Rattle.af_base.specs.World.{World, Map, Process, File, Socket, Message, Plain, AsSocket}
+use Rattle.af_base.specs.Refusals.{no_socket}
 use Rattle.af_base.specs.Counts.{charged, count_in, inflight, refs, total}
 use Rattle.af_base.specs.Places.{contents}
 
@@ -24,7 +23,7 @@ message_of m = record { bytes = []; attached = m.attached.items; user = m.user }
 
 -- The socket that is listed: its queue and its backlog (this project's profile).
 abbrev pub socket_of : ListedSocket → Socket
-socket_of s = record { kind = Seqpacket; state = state.Idle; name = None; queue = map message_of s.queue.items; backlog = s.backlog.items }
+socket_of s = record no_socket { queue = map message_of s.queue.items; backlog = s.backlog.items }
 
 -- The file that is listed: plain, or a socket (this project's profile).
 abbrev pub file_of : ListedFile → File

@@ -197,8 +197,8 @@ on_parts look bytes attach =
     ∷ []
 
 -- A socket of this state must have somebody to talk to (sendmsg(2), ENOTCONN, EPIPE).
-abbrev pub on_peer : State → Row
-on_peer s = (not (is_connected s), ENOTCONN) ∷ (is_hung_up s, EPIPE) ∷ []
+abbrev pub on_peer : Socket → Row
+on_peer s = (not (is_connected s.state), ENOTCONN) ∷ (is_hung_up s.state, EPIPE) ∷ []
 
 -- So many files more must not be too much in flight, for a user with this charge and limit, where all users together have that total (unix(7), ETOOMANYREFS; that the new ones do not count for the user, and ENOBUFS, are this project's profile).
 abbrev pub on_charge : ℕ → ℕ → ℕ → Bool → ℕ → Row
@@ -254,7 +254,7 @@ step_row w p (step.Send n bytes attach) =
     let s = socket_on w p n in
     at_socket w p n
     ++ on_parts (table_at w p) bytes attach
-    ++ on_peer s.state
+    ++ on_peer s
     ++ on_charge (charged w q.user) (total w) q.limit q.privileged (length attach)
     ++ on_room (queue_at w (peer_of s.state))
 step_row w p (step.Recv n max_bytes max_fds) = recv_row w p n max_bytes

@@ -1,4 +1,6 @@
 //! What may happen, and what is answered.
+ghost use Rattle.std.specs.Prelude.{◌≡◌};
+
 use crate::errno::Errno;
 use crate::items::Items;
 use crate::names::{Fd, Ino, Pid, Uid};
@@ -140,4 +142,46 @@ pub enum Reply {
     },
     /// It was refused, and nothing changed.
     Refused(Errno),
+}
+
+// What the calls of an engine answer, each as the reply that tells it.
+
+impl From<Pid> for Reply {
+    ghost use Rattle.af_base.specs.declared.events.Reply.TheVariants as reply;
+
+    ghost from_gives = { λ pid r. r ≡ reply.Pid pid };
+
+    fn from(pid: Pid) -> Reply {
+        Reply::Pid(pid)
+    }
+}
+
+impl From<Fd> for Reply {
+    ghost use Rattle.af_base.specs.declared.events.Reply.TheVariants as reply;
+
+    ghost from_gives = { λ fd r. r ≡ reply.Fd fd };
+
+    fn from(fd: Fd) -> Reply {
+        Reply::Fd(fd)
+    }
+}
+
+impl From<(Fd, Fd)> for Reply {
+    ghost use Rattle.af_base.specs.declared.events.Reply.TheVariants as reply;
+
+    ghost from_gives = { λ fds r. r ≡ reply.Fds fds.0 fds.1 };
+
+    fn from(fds: (Fd, Fd)) -> Reply {
+        Reply::Fds(fds.0, fds.1)
+    }
+}
+
+impl From<()> for Reply {
+    ghost use Rattle.af_base.specs.declared.events.Reply.TheVariants as reply;
+
+    ghost from_gives = { λ _ r. r ≡ reply.Ok };
+
+    fn from(_: ()) -> Reply {
+        Reply::Ok
+    }
 }

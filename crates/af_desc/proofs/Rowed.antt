@@ -1,14 +1,14 @@
 -- Three maps of one row, as a row comes, changes in one part, and goes; and the messages of all.
 use Rattle.std.proofs.Common.{◌≡◌, ℕ, ◌⊎◌, inl, inr, false, List, [], ◌++◌, refl, sym, ap, ◌∙◌, subst, nat_eq}
 use Rattle.std.specs.Prelude.{Option, Some, None, IfSome, option_map}
-use Rattle.std.specs.Option.{option_and_then, option_map_or}
+use Rattle.std.specs.Option.{option_and_then}
 use Rattle.std.specs.FinMap as map
 use Rattle.std.specs.FinMap.{nat_cmp-IsAntisymmetric, same_map}
 use Rattle.std.specs.Ordering.{nat_cmp}
 use Rattle.std.specs.Cmp.{nat_cmp_total}
 use Rattle.slab.specs.Slab.{SameValues, Slab}
 use Rattle.af_base.specs.Changes.{change_socket_at, file_with}
-use Rattle.af_base.specs.Places.{carried, contents, held_in}
+use Rattle.af_base.specs.Places.{carried, contents}
 use Rattle.af_base.specs.Refusals.{socket_of}
 use Rattle.af_base.specs.World.{AsSocket, Map, Message, Socket}
 use Rattle.af_base.proofs.Lookups.{insert-here, insert-other, none_some, not_same, remove-here, remove-other, same_or_not, some_same}
@@ -166,12 +166,5 @@ pub ruleset messages = (chained_at, chains_changed, messages_changed, messages_s
 
 -- A file that has nothing to receive, and for which nobody waits, holds nothing.
 module _ (s : Slab Node) (x : Row) (silent : x.chain.len ≡ 0) where
-  pub bare_plain : x.endpoint ≡ None → contents (file_in s x) ≡ []
-  bare_plain none = ap (λ o. contents (file_of (option_map (refilled (messages_of s x.chain)) o))) none
-
   pub bare_socket : (e : Socket) → x.endpoint ≡ Some e → e.backlog ≡ [] → contents (file_in s x) ≡ []
   bare_socket e is nobody = ap (λ o. contents (file_of (option_map (refilled (messages_of s x.chain)) o))) is ∙ (λ i. carried (none_of s x.chain silent i) ++ nobody i)
-
--- What is held by a file is what its row holds.
-pub held_is : (s : Slab Node) (m : Map Row) (f : ℕ) (x : Row) → map.get m f ≡ Some x → held_in (files_of s m) f ≡ contents (file_in s x)
-held_is s m f x at = ap (λ o. option_map_or contents o []) (file_is m f x at s)

@@ -77,7 +77,7 @@ event_apart old new e r sound h apart begun spent runs f g = after (elim (event_
   | inr ran ↦ apart begun ran.0 ran.1 f g
 ]) where
   after : (f < old.world.next_ino) × (¬ (Reached old.world f)) → (f < new.world.next_ino) × (¬ (Reached new.world f))
-  after before = (omega (arith, before.0, event_next old new e r h), λ d. before.1 (numbered_leads old.world new.world (event_leads old new e r sound.whole h) f before.0 d))
+  after before = (omega (arith, before.0, event_next old new e r sound.whole h), λ d. before.1 (numbered_leads old.world new.world (event_leads old new e r sound.whole h) f before.0 d))
 
 -- and so does a run
 run_apart : (old new : Machine) (log : List Entry) → IsSound old.world → KeepsApart old → Run old log new → KeepsApart new

@@ -134,21 +134,5 @@ module _ (w : World) (s : ℕ) (m : Message) where
     by true (Some Plain) h = h
     by true (Some (AsSocket x)) h = more x (Contains-append_cases _ _ f h)
 
-  -- and what is held after was held, or is in the message
-  pub held_or_sent : (q f : ℕ) → Holds (push_message w s m) q f → Holds w q f ⊎ Contains m.attached f
-  held_or_sent q f h = by (eq_by_cmp nat_cmp q s) (map.get w.files q) (subst (λ xs. Contains xs f) (held-push q) h) where
-    split : (x : Socket) → Contains (carried (x.queue ++ m ∷ [])) f ⊎ Contains x.backlog f → Contains (carried x.queue ++ x.backlog) f ⊎ Contains m.attached f
-    split x (inr b) = inl (Contains-append_right (carried x.queue) _ f b)
-    split x (inl a) = elim (Contains-append_cases (carried x.queue) m.attached f (subst (λ xs. Contains xs f) (carried-push x.queue m) a)) [
-      | inl c ↦ inl (Contains-append_left (carried x.queue) x.backlog f c)
-      | inr c ↦ inr c
-    ]
-
-    by : (b : Bool) (o : Option File) → Contains (option_map_or contents (option_map (λ x. cond b (file_with pushed x) x) o) []) f → Contains (option_map_or contents o []) f ⊎ Contains m.attached f
-    by b None h = inl h
-    by false (Some x) h = inl h
-    by true (Some Plain) h = inl h
-    by true (Some (AsSocket x)) h = split x (Contains-append_cases _ _ f h)
-
 pub send_keeps_reached : SendKeepsReached
 send_keeps_reached w s m f = places_keep_reached w (push_message w s m) (λ h t. t, λ q h x. still_held w s m q h x) f

@@ -1,17 +1,15 @@
 -- A whole pass over the smallest cycle.
-use Rattle.std.proofs.Common.{◌≡◌, inl, ℕ, ◌+◌, Bool, true, false, not, ◌&&◌, [], ◌∷◌, ◌++◌, refl, sym, ap, ◌∙◌, subst, cond, arith}
+use Rattle.std.proofs.Common.{◌≡◌, inl, ℕ, Bool, true, false, not, ◌&&◌, [], ◌∷◌, ◌++◌, refl, sym, ap, ◌∙◌, subst, cond, arith}
 use Rattle.std.specs.Prelude.{Option, Some, None, is_none, is_some, option_map, unwrap_or, nat_eq, if◌then◌else◌}
 use Rattle.std.specs.Option.{option_and_then, option_map_or}
-use Rattle.std.specs.List.{AllByRecursion, Contains, count_by, sum_by}
+use Rattle.std.specs.List.{Contains, count_by, sum_by}
 use Rattle.std.specs.Ordering.{eq_by_cmp, nat_cmp}
 use Rattle.std.specs.Cmp.{nat_cmp_total}
 use Rattle.std.specs.FinMap as map
 use Rattle.std.specs.FinMap.{entries-insert, gets, nat_cmp-IsAntisymmetric, put}
 use Rattle.std.proofs.lemmas.Bool.{false≢true}
-use Rattle.af_base.specs.declared.errno.Errno.{Errno}
-use Rattle.af_base.specs.declared.errno.Errno.TheVariants.{EBADF, EINVAL, EMSGSIZE, ENOTCONN, ENOTSOCK, EPIPE, ESRCH}
+use Rattle.af_base.specs.declared.errno.Errno.TheVariants.{EBADF, EINVAL, EMSGSIZE, ENOTSOCK, EPIPE, ESRCH}
 use Rattle.af_base.specs.declared.events.Reply.TheVariants as reply
-use Rattle.af_base.specs.declared.events.SockType.TheVariants.{Seqpacket}
 use Rattle.af_base.specs.declared.events.State.TheVariants as state
 use Rattle.af_base.specs.declared.events.Step.{Step}
 use Rattle.af_base.specs.declared.events.Step.TheVariants as step
@@ -20,13 +18,14 @@ use Rattle.af_base.specs.Places.{Holds, InTable, contents, queue_at, queue_of, t
 use Rattle.af_base.specs.Counts.{charge, charged, total, total_of}
 use Rattle.af_base.specs.Unheld.{IsSettled, Settles, file_without, map_entries, without}
 use Rattle.af_base.specs.Reached.{ByTable, IsGarbageCount, is_socket}
-use Rattle.af_base.specs.Refusals.{Row, first_fit, ino_on, is_connected, is_hung_up, no_socket, on_charge, on_room, peer_of, process_at, refusal, socket_at, socket_of, socket_on}
+use Rattle.af_base.specs.Refusals.{Row, first_fit, ino_on, no_socket, on_charge, on_peer, on_room, peer_of, process_at, refusal, socket_at, socket_of, socket_on}
 use Rattle.af_base.specs.Steps.{Outcome, ProcessStep, answer, effect}
 use Rattle.af_base.specs.Pass.{Idle, Machine, PassesWhole, Purges, emptied, empty_file}
 use Rattle.af_base.proofs.Sums.{total-insert}
 use Rattle.af_base.proofs.Settling.{get-without, none_in, settled_by, settles_first, settles_none}
 use Rattle.af_laws.proofs.Chains.{same_number}
-use Rattle.af_laws.proofs.Cycle.{closed, cycle_runs, end_of, ends, entries_ends, entries_none, file_at, hi, machine, none, not_missing, number_at, one_counted, one_open, only_one, only_two, table_there, with_process}
+use Rattle.af_base.proofs.Stepped.{goes-on, passes-on}
+use Rattle.af_laws.proofs.Cycle.{closed, cycle_runs, end_of, ends, entries_ends, entries_none, file_at, hi, machine, none, none_fits, not_missing, number_at, one_counted, one_open, only_one, only_two, table_there, with_process}
 use Rattle.af_laws.specs.Rows.{CycleIsCollected, IsCollected}
 
 -- the first socket's queue emptied, and then the first socket gone
@@ -34,7 +33,7 @@ abbrev drained : World
 drained = with_process one_open (ends []) 3
 
 abbrev last : File
-last = AsSocket (record { kind = Seqpacket; state = state.HungUp; name = None; queue = []; backlog = [] })
+last = AsSocket (record no_socket { state = state.HungUp })
 
 abbrev alone : Map File
 alone = map.insert none 2 last
@@ -120,14 +119,15 @@ none_charged =
     omega (arith, nothing, before, total-insert F none 2 last)
 
 -- a send to it is refused
-fits_after : (row : Row) → AllByRecursion (λ r. r.0 ≡ false) row → (b : Bool) (e : Errno) (more : Row) → b ≡ true → first_fit (row ++ (b, e) ∷ more) ≡ Some e
-fits_after [] h b e more is = ap (λ c. cond c (Some e) (first_fit more)) is
-fits_after (r ∷ row) h b e more is = ap (λ c. cond c (Some r.1) (first_fit (row ++ (b, e) ∷ more))) h.0 ∙ fits_after row h.1 b e more is
-
 abbrev send_step : Step
 send_step = step.Send 1 (120 ∷ []) []
 
--- the tests that are not read
+-- the tests that pass, and those that are not read
+abbrev before : Row
+before =
+    (not (map.contains_key collected.processes 1), ESRCH) ∷ (is_none (table_at collected 1 1), EBADF) ∷ (is_none (socket_at collected (ino_on collected 1 1)), ENOTSOCK)
+    ∷ (false, EINVAL) ∷ (false, EMSGSIZE) ∷ (false, EBADF) ∷ []
+
 abbrev later : Row
 later =
     let q = process_at collected 1 in
@@ -135,17 +135,16 @@ later =
 
 hung_up : ProcessStep collected 1 send_step (reply.Refused EPIPE) collected
 hung_up = subst (λ o. Outcome o false (answer collected 1 send_step) (effect collected 1 send_step) collected (reply.Refused EPIPE) collected) (sym refused) (refl, refl) where
-  socket : socket_on collected 1 1 ≡ record { kind = Seqpacket; state = state.HungUp; name = None; queue = []; backlog = [] }
+  socket : socket_on collected 1 1 ≡ record no_socket { state = state.HungUp }
   socket = ap (λ o. unwrap_or (option_and_then (socket_at collected) o) no_socket) open_one ∙ ap (λ o. unwrap_or (option_and_then socket_of o) no_socket) (alone_at 2)
 
   is_socket_two : is_none (socket_at collected (ino_on collected 1 1)) ≡ false
   is_socket_two = ap (λ o. is_none (socket_at collected (unwrap_or o 0))) open_one ∙ ap (λ o. is_none (option_and_then socket_of o)) (alone_at 2)
 
   refused : refusal collected 1 send_step ≡ Some EPIPE
-  refused = fits_after
-      ((not (map.contains_key collected.processes 1), ESRCH) ∷ (is_none (table_at collected 1 1), EBADF) ∷ (is_none (socket_at collected (ino_on collected 1 1)), ENOTSOCK) ∷ (false, EINVAL) ∷ (false, EMSGSIZE) ∷ (false, EBADF) ∷ (not (is_connected (socket_on collected 1 1).state), ENOTCONN) ∷ [])
-      (not_missing one_open alone 3, (ap is_none open_one, (is_socket_two, (refl, (refl, (refl, (ap (λ s. not (is_connected s.state)) socket, tt)))))))
-      (is_hung_up (socket_on collected 1 1).state) EPIPE later (ap (λ s. is_hung_up s.state) socket)
+  refused =
+      passes-on before (on_peer (socket_on collected 1 1) ++ later) (none_fits before (not_missing one_open alone 3, (ap is_none open_one, (is_socket_two, (refl, (refl, (refl, tt)))))))
+      ∙ goes-on (on_peer (socket_on collected 1 1)) later EPIPE (ap (λ s. first_fit (on_peer s)) socket)
 
 facts : IsCollected collected
 facts = record {

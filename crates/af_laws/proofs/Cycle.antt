@@ -24,11 +24,12 @@ use Rattle.af_base.specs.Unheld.{Goes, IsSettled, Settles}
 use Rattle.af_base.specs.Reached.{BySocket, ByTable, Garbage, IsGarbageCount, Reached, is_socket}
 use Rattle.af_base.specs.Table.{free_numbers}
 use Rattle.af_base.specs.Changes.{change_at, file_with, install, push_message, uninstall}
-use Rattle.af_base.specs.Refusals.{Row, first_fit, ino_on, is_connected, is_hung_up, no_process, no_socket, peer_of, process_at, refusal, socket_at, socket_of, socket_on, spawn_row, step_row}
+use Rattle.af_base.specs.Refusals.{Row, first_fit, ino_on, no_process, no_socket, on_peer, peer_of, process_at, refusal, socket_at, socket_of, socket_on, spawn_row, step_row}
 use Rattle.af_base.specs.Steps.{Outcome, ProcessStep, SpawnStep, answer, effect, free_at, spawned}
 use Rattle.af_base.specs.Pass.{Idle, Machine}
 use Rattle.af_base.specs.Run.{Run, fresh}
 use Rattle.af_base.proofs.Sums.{total-insert}
+use Rattle.af_base.proofs.Stepped.{NoneFits, none-fits}
 use Rattle.af_base.proofs.Settling.{none_in, settled_by, settles_none}
 use Rattle.af_base.proofs.Lookups.{none_some}
 use Rattle.af_laws.proofs.Chains.{same_number}
@@ -97,7 +98,7 @@ module _ (t : Map ℕ) (files : Map File) (n : ℕ) where
 
 -- the two sockets; what waits, waits at the first
 abbrev pub end_of : ℕ → List Message → File
-end_of peer q = AsSocket (record { kind = Seqpacket; state = state.Connected peer; name = None; queue = q; backlog = [] })
+end_of peer q = AsSocket (record no_socket { state = state.Connected peer; queue = q })
 
 abbrev pub ends : List Message → Map File
 ends q = map.insert (map.insert none 1 (end_of 2 q)) 2 (end_of 1 [])
@@ -214,7 +215,7 @@ pairs = outcome_done _ false (answer started 1 (step.Pair Seqpacket)) (reply.Fds
       ∙ install_there (map.insert none 0 1) (ends []) 3 1 2
 
 -- one end is sent through the other, to itself
-socket_two : socket_on paired 1 1 ≡ record { kind = Seqpacket; state = state.Connected 1; name = None; queue = []; backlog = [] }
+socket_two : socket_on paired 1 1 ≡ record no_socket { state = state.Connected 1 }
 socket_two =
     let number : table_at paired 1 1 ≡ Some 2 = table_there both_open (ends []) 3 1 ∙ simp gets refl in
     ap (λ o. unwrap_or (option_and_then (socket_at paired) o) no_socket) number ∙ ap (λ o. unwrap_or (option_and_then socket_of o) no_socket) (file_at [] 2)
@@ -257,6 +258,9 @@ sends = outcome_done _ false (answer paired 1 send_step) (reply.Sent 2) (effect 
   two : socket_at paired (ino_on paired 1 1) ≡ socket_at paired 2
   two = ap (λ o. socket_at paired (unwrap_or o 0)) open_one
 
+  talks : NoneFits (on_peer (socket_on paired 1 1))
+  talks = none-fits (on_peer (socket_on paired 1 1)) (ap (λ s. first_fit (on_peer s)) socket_two)
+
   fits : refusal paired 1 send_step ≡ None
   fits = none_fits ((not (map.contains_key paired.processes 1), ESRCH) ∷ step_row paired 1 send_step) (
     not_missing both_open (ends []) 3,
@@ -271,9 +275,9 @@ sends = outcome_done _ false (answer paired 1 send_step) (reply.Sent 2) (effect 
             (
               ap (λ o. is_none o || false) open_zero,
               (
-                ap (λ s. not (is_connected s.state)) socket_two,
+                talks.here,
                 (
-                  ap (λ s. is_hung_up s.state) socket_two,
+                  talks.rest.here,
                   (
                     ap (λ q. nat_lt 0 1 && (not q.privileged && nat_lt q.limit (charged paired q.user))) user ∙ ap (λ n. nat_lt 0 1 && (not false && nat_lt 16 n)) (total_ends [] (λ x. sum_by (charge 1000) (queue_of x))),
                     (

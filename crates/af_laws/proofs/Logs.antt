@@ -112,22 +112,9 @@ either false bytes fds trunc ctrunc = refl
 -- an answer is none
 answers : (w : World) (p : ℕ) (s : ProcStep) → is_refused (answer w p s) ≡ false
 unfolding is_refused
-answers w p step.Open = refl
-answers w p (step.Dup n) = refl
-answers w p (step.Dup2 n m) = refl
-answers w p (step.Close n) = refl
-answers w p step.Fork = refl
-answers w p step.Exit = refl
-answers w p (step.Pair kind) = refl
-answers w p (step.Socket kind) = refl
-answers w p (step.Bind n name) = refl
-answers w p (step.Listen n b) = refl
-answers w p (step.Connect n name) = refl
-answers w p (step.Accept n) = refl
-answers w p (step.Send n bytes attach) = refl
 answers w p (step.Recv n max_bytes max_fds) = either _ _ _ _ _
 answers w p (step.Peek n max_bytes max_fds) = either _ _ _ _ _
-answers w p (step.Limit n) = refl
+answers w p s = refl
 
 module _ (answer : Reply) (given : is_refused answer ≡ false) (now old a b : World) (r : Reply) where
   apart : (e : Errno) → r ≡ answer → r ≡ reply.Refused e → ⊥

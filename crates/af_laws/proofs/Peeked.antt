@@ -13,7 +13,7 @@ use Rattle.af_base.specs.World.{Process, World}
 use Rattle.af_base.specs.Places.{queue_in, table_at}
 use Rattle.af_base.specs.Counts.{charged, inflight}
 use Rattle.af_base.specs.Changes.{install, install_all, set_limit}
-use Rattle.af_base.specs.Refusals.{no_socket, process_at, recv_row, refusal, socket_at, socket_of}
+use Rattle.af_base.specs.Refusals.{no_socket, process_at, recv_row, refusal, socket_of}
 use Rattle.af_base.specs.Steps.{Outcome, ProcessStep, effect, got_at, taken_on}
 use Rattle.af_base.specs.Take.{take_from}
 use Rattle.af_base.specs.Unheld.{IsSettled, Settles}

@@ -33,7 +33,7 @@ send_is_charged_to_its_sender w p n u bytes attach whole fits =
     let connected = tabled.rest in
     let f = ino_on w p n in
     let s = socket_on w p n in
-    let to : state_at w f ≡ state.Connected (peer_of s.state) = ap (λ o. option_map_or state_of o state.Idle) (socket-there w p n given.here given.rest.here) ∙ connected-to s.state connected.here connected.rest.here in
+    let to : state_at w f ≡ state.Connected (peer_of s.state) = ap (λ o. option_map_or state_of o state.Idle) (socket-there w p n given.here given.rest.here) ∙ connected-to s connected in
     let peer = connected-socket w (peer_of s.state) f (whole.peers f (peer_of s.state) to) in
     let sent : Message = record { bytes = bytes; attached = filter_map (table_at w p) attach; user = (process_at w p).user } in
     charged-push w (peer_of s.state) u sent peer.0 peer.1 ∙ ap (λ k. charged w u + cond (nat_eq u (process_at w p).user) k 0) (attached-all w p attach tabled.here)

@@ -1,5 +1,5 @@
 -- What a drive leaves, by what its workers did.
-use Rattle.std.proofs.Common.{◌≡◌, ◌<◌, ◌≤◌, ℕ, zero, suc, List, [], ◌∷◌, ◌++◌, length, inl, inr, refl, sym, ap, ◌∙◌, subst, arith, append-nil, slice_index_or, map, ◌+◌, Global, length-append}
+use Rattle.std.proofs.Common.{◌≡◌, ◌<◌, ◌≤◌, ℕ, zero, suc, List, [], ◌∷◌, length, inl, inr, refl, sym, ap, ◌∙◌, subst, arith, append-nil, slice_index_or, map, ◌+◌, Global, length-append}
 use Rattle.std.specs.Prelude.{Option, Some, None, IfSome, Vec, slice_get}
 use Rattle.std.proofs.lemmas.List.{get_or-map, length-map}
 use Rattle.af_base.specs.declared.events.Event.{Event}

@@ -1,8 +1,8 @@
 -- No reply is longer than its event allows.
-use Rattle.std.proofs.Common.{◌≡◌, ◌≤◌, ◌<◌, ◌+◌, ℕ, Bool, true, false, not, ◌&&◌, List, [], ◌∷◌, length, take, min, inl, inr, refl, sym, ap, ◌∙◌, subst, cond, arith, length-take}
-use Rattle.std.specs.Prelude.{Option, Some, None, MatchBool, ◌||◌, nat_eq, nat_lt, nat_le}
+use Rattle.std.proofs.Common.{◌≡◌, ◌≤◌, ◌+◌, ℕ, Bool, true, false, not, List, [], ◌∷◌, length, min, inl, inr, refl, sym, ◌∙◌, subst, cond, arith, length-take}
+use Rattle.std.specs.Prelude.{Option, Some, None, MatchBool, ◌||◌, nat_eq, nat_lt}
 use Rattle.std.specs.List.{find}
-use Rattle.std.proofs.lemmas.Bool.{cases_Bool, leb-true}
+use Rattle.std.proofs.lemmas.Bool.{cases_Bool}
 use Rattle.af_base.specs.declared.errno.Errno.{Errno}
 use Rattle.af_base.specs.declared.errno.Errno.TheVariants.{EINVAL, ESRCH}
 use Rattle.af_base.specs.declared.events.Event.{Event}
@@ -19,7 +19,7 @@ use Rattle.af_base.specs.Names.{is_between}
 use Rattle.af_base.specs.Pass.{Begins, GoesOn, Idle, Machine, Pass, PassesWhole, Running, Slices}
 use Rattle.af_base.specs.Refusals.{ino_on, process_at, recv_row, refusal, socket_on}
 use Rattle.af_base.specs.Run as run
-use Rattle.af_base.specs.Steps.{Outcome, ProcessStep, answer, effect, got_at, needs_no_memory, received, taken_on}
+use Rattle.af_base.specs.Steps.{Outcome, answer, effect, got_at, needs_no_memory, received, taken_on}
 use Rattle.af_base.specs.Table.{free_numbers}
 use Rattle.af_base.specs.Take.{has_files, joined, take_from}
 use Rattle.af_base.specs.Whole.{IsSound}
@@ -101,24 +101,11 @@ module _ (room : Room) where
 
   -- What a step of a process answers.
   fits-answer : (w : World) (p : ℕ) (s : Step) → IsSound w → most_bytes (event.Proc p s) ≤ room.bytes → most_fds (event.Proc p s) ≤ room.fds → refusal w p s ≡ None → HasRoomFor room (answer w p s)
-  fits-answer w p step.Open sound bytes fds none = tt
-  fits-answer w p (step.Dup n) sound bytes fds none = tt
-  fits-answer w p (step.Dup2 n m) sound bytes fds none = tt
-  fits-answer w p (step.Close n) sound bytes fds none = tt
-  fits-answer w p step.Fork sound bytes fds none = tt
-  fits-answer w p step.Exit sound bytes fds none = tt
-  fits-answer w p (step.Pair kind) sound bytes fds none = tt
-  fits-answer w p (step.Socket kind) sound bytes fds none = tt
-  fits-answer w p (step.Bind n name) sound bytes fds none = tt
-  fits-answer w p (step.Listen n b) sound bytes fds none = tt
-  fits-answer w p (step.Connect n name) sound bytes fds none = tt
-  fits-answer w p (step.Accept n) sound bytes fds none = tt
-  fits-answer w p (step.Send n xs attach) sound bytes fds none = tt
   fits-answer w p (step.Recv n max_bytes max_fds) sound bytes fds none =
       fits-recv w p n max_bytes max_fds sound bytes fds (none-fits ((not (map.contains_key w.processes p), ESRCH) ∷ recv_row w p n max_bytes) none).rest
   fits-answer w p (step.Peek n max_bytes max_fds) sound bytes fds none =
       fits-recv w p n max_bytes max_fds sound bytes fds (none-fits ((not (map.contains_key w.processes p), ESRCH) ∷ recv_row w p n max_bytes) none).rest
-  fits-answer w p (step.Limit n) sound bytes fds none = tt
+  fits-answer w p s sound bytes fds none = tt
 
   -- What the collector answers needs no room.
   fits-begin : (pass : Pass) (old : Machine) (r : Reply) (new : Machine) → Begins pass old r new → HasRoomFor room r

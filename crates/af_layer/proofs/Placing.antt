@@ -1,11 +1,11 @@
 -- Where the seat of each number stands.
-use Rattle.std.proofs.Common.{◌≡◌, ◌<◌, ◌≤◌, ◌+◌, ℕ, true, List, length, inl, inr, refl, sym, ap, ◌∙◌, subst, arith, slice_index, slice_set}
-use Rattle.std.proofs.lemmas.Bool.{cases_eq, cases_lt}
-use Rattle.std.proofs.lemmas.List.{get_or-replicate, get_or-set_other, get_or-set_same, length-set}
+use Rattle.std.proofs.Common.{◌≡◌, ◌<◌, ◌≤◌, ◌+◌, ℕ, true, List, length, inl, inr, sym, ap, ◌∙◌, subst, arith, slice_index, slice_set}
+use Rattle.std.proofs.lemmas.Bool.{cases_eq}
+use Rattle.std.proofs.lemmas.List.{get_or-set_other, get_or-set_same, length-set}
 use Rattle.af_base.specs.declared.limits.TheConstants.{MAX_SEATS}
 use Rattle.af_layer.specs.Calls.{is_seat}
 use Rattle.af_layer.specs.Seats.{Seated}
-use Rattle.af_layer.specs.Audit.{NoStranger, NoneMissing, list_at, number_at}
+use Rattle.af_layer.specs.Audit.{NoStranger, NoneMissing, number_at}
 use Rattle.af_layer.specs.Walk.{ArePlaces, ArePlacesOf}
 
 -- The number of a seat that is known is one of its layer's.
@@ -41,15 +41,3 @@ places-all n seats places all_there of = record {
   within = of.within;
   right = λ k low high. let at = all_there k low high in ap (number_at seats) (ap (slice_index places) (sym at.2) ∙ of.right at.0 at.1) ∙ at.2;
 }
-
--- Two seats with one number are one.
-pub one-place : (n i j : ℕ) (seats : List Seated) → NoStranger n seats → i < length seats → j < length seats → number_at seats i ≡ number_at seats j → i ≡ j
-one-place n i j seats known here there same = elim (cases_eq i j) [
-  | inl e ↦ e
-  | inr e ↦ absurd (apart e)
-] where
-  apart : (i ≡ j → ⊥) → ⊥
-  apart e = elim (cases_lt i j) [
-    | inl lt ↦ (known j there).1 i lt same
-    | inr ge ↦ (known i here).1 j (omega (arith, ge, e)) (sym same)
-  ]

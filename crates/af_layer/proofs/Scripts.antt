@@ -1,15 +1,11 @@
 -- How far a script was done, or a collector's turns.
-use Rattle.std.proofs.Common.{◌≡◌, ◌+◌, ℕ, List, [], ◌∷◌, ◌++◌, refl, sym, ap, ◌∙◌, append_assoc, append-nil, subst}
+use Rattle.std.proofs.Common.{◌≡◌, ◌+◌, ℕ, List, [], ◌∷◌, ◌++◌, sym, ap, ◌∙◌, append_assoc, subst}
 use Rattle.std.proofs.lemmas.List.{map-append}
 use Rattle.af_base.specs.declared.events.Event.{Event}
 use Rattle.af_base.specs.declared.events.Reply.{Reply}
 use Rattle.af_layer.specs.Log.{Pair}
-use Rattle.af_layer.specs.Drive.{FellShort, OneMore, Turned, WentOn, next_turn}
+use Rattle.af_layer.specs.Drive.{OneMore, Turned, next_turn}
 use Rattle.af_layer.specs.Workers.{Progress}
-
--- Nothing was done.
-pub progress-start : (old : List Pair) (script rest : List Event) → rest ≡ script → Progress old script rest old
-progress-start old script rest same = record { done = []; split = sym same; went = ([], sym (append-nil old), refl) }
 
 -- One event more.
 pub progress-step : (old new more : List Pair) (script from rest : List Event) (e : Event) (r : Reply) → Progress old script from new → from ≡ e ∷ rest → more ≡ new ++ (e, r) ∷ [] → Progress old script rest more
@@ -22,14 +18,6 @@ progress-step old new more script from rest e r p is grown = record {
     map-append (λ pair. pair.0) p.went.0 ((e, r) ∷ []) ∙ ap (λ l. l ++ e ∷ []) p.went.2,
   );
 }
-
--- Nothing is left.
-pub progress-end : (old new : List Pair) (script rest : List Event) → Progress old script rest new → rest ≡ [] → WentOn old script new
-progress-end old new script rest p none = (p.went.0, p.went.1, p.went.2 ∙ sym (p.split ∙ ap (λ l. p.done ++ l) none ∙ append-nil p.done))
-
--- It stopped before an event.
-pub progress-stop : (old new after : List Pair) (script from rest : List Event) (e : Event) → Progress old script from new → from ≡ e ∷ rest → after ≡ new → FellShort old script after
-progress-stop old new after script from rest e p is same = (p.done, e, rest, p.split ∙ ap (λ l. p.done ++ l) is, subst (WentOn old p.done) (sym same) p.went)
 
 -- One turn more of the collector.
 pub one_more_turn : (budget n : ℕ) (old list new : List Pair) (e : Event) (r : Reply) → Turned budget old n list → e ≡ next_turn budget list → new ≡ list ++ (e, r) ∷ [] → Turned budget old (n + 1) new

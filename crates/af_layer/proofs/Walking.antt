@@ -1,5 +1,5 @@
 -- One entry of a walk over a log, and its end.
-use Rattle.std.proofs.Common.{◌≡◌, true, not, ◌<◌, ◌≤◌, ◌+◌, ℕ, suc, List, [], ◌∷◌, length, drop, inl, inr, slice_index, slice_index_or, slice_set, get_or, drop-cons, refl, sym, ap, ◌∙◌, subst, arith, length-drop}
+use Rattle.std.proofs.Common.{◌≡◌, true, not, ◌<◌, ◌+◌, ℕ, suc, List, [], ◌∷◌, length, drop, inl, inr, slice_index, slice_index_or, slice_set, get_or, drop-cons, refl, sym, ap, ◌∙◌, subst, arith, length-drop}
 use Rattle.std.specs.Prelude.{Option, Some, None, nat_eq}
 use Rattle.std.specs.Option.{option_eq}
 use Rattle.std.proofs.lemmas.Bool.{cases_eq}
@@ -27,13 +27,6 @@ module _ (log : List Entry) (list : List Pair) (e : Entry) (i : ℕ) (turn : dro
 none_left : (log : List Entry) (k : ℕ) → of_seat k (drop (length log) log) ≡ []
 none_left [] k = refl
 none_left (e ∷ log) k = none_left log k
-
--- A cursor at the end of its list: the list is the whole part.
-pub tracks-whole : (log : List Entry) (list : List Pair) (k : ℕ) → Tracks log list k (length log) (Some (length list)) → list ≡ of_seat k log
-tracks-whole log list k t = t.1.1 (nothing list ∙ sym (none_left log k)) where
-  nothing : (l : List Pair) → drop (length l) l ≡ []
-  nothing [] = refl
-  nothing (p ∷ l) = nothing l
 
 -- No cursor there: it is another.
 pub tracks-wrong : (log : List Entry) (list : List Pair) (k : ℕ) (c : Option ℕ) → (c ≡ Some (length list) → ⊥) → Tracks log list k (length log) c → list ≡ of_seat k log → ⊥

@@ -1,5 +1,5 @@
 -- What an audit finds.
-use Rattle.std.specs.Prelude.{◌≡◌, ◌≢◌, ◌⊎◌, ◌↔◌, ◌<◌, ◌≤◌, ℕ, List, [], length, drop, slice_index, slice_index_or, true, false}
+use Rattle.std.specs.Prelude.{◌≡◌, ◌≢◌, ◌⊎◌, ◌<◌, ◌≤◌, ℕ, List, [], length, slice_index_or, true, false}
 use Rattle.af_layer.specs.declared.book.Entry.{Entry}
 use Rattle.af_layer.specs.declared.audit.CloseFault.{CloseFault}
 use Rattle.af_layer.specs.declared.audit.CloseFault.TheVariants as fault

@@ -1,5 +1,5 @@
 -- What a drive does to its seats.
-use Rattle.std.specs.Prelude.{◌≡◌, ◌<◌, ◌≤◌, ◌⊎◌, ◌+◌, ◌-◌, ◌++◌, ◌∷◌, ℕ, List, [], map, length, slice_get, Option, Some, None, Vec}
+use Rattle.std.specs.Prelude.{◌≡◌, ◌<◌, ◌⊎◌, ◌+◌, ◌-◌, ◌++◌, ◌∷◌, ℕ, List, [], map, length, slice_get, Option, Some, None, Vec}
 use Rattle.std.proofs.Common.{Global}
 use Rattle.af_base.specs.declared.events.Event.{Event}
 use Rattle.af_base.specs.declared.events.Event.TheVariants as event

@@ -336,10 +336,6 @@ module _ {w begun : World} where
     by Marking e p = false≢true (sym (p.marking.marks.only_reached f g) ∙ marked f (k.known f ∙ l) (p.running.since.below f g.0))
     by Sweeping e p = false≢true (sym (p.sweeping.only_reached f g) ∙ marked f (k.known f ∙ l) (p.running.since.below f g.0))
 
-  -- A pass is over: of the marks it is only kept which files they know.
-  pub kept_rested : (m n : Marked) (c d : Progress) → d.stage ≡ Resting → ((f : ℕ) → knows n f ≡ knows m f) → IsKept w begun m c → IsKept w begun n d
-  kept_rested m n c d e same k = record { known = known_marks w m n same k.known; stage = subst (λ s. IsStage s w begun n d) (sym e) tt }
-
   -- Where all are swept in a settled world, no garbage of the begin is live.
   pub kept_over : (m : Marked) (c : Progress) → c.stage ≡ Sweeping → IsSettled w → ((f : ℕ) → c.swept ≤ f → f < m.bound → is_live w f ≡ false) → IsKept w begun m c → (f : ℕ) → Garbage begun f → ¬ (IsLive w f)
   kept_over m c e settled none k =

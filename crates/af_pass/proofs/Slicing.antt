@@ -1,7 +1,6 @@
 -- A slice, as its answer says it.
-use Rattle.std.proofs.Common.{◌≡◌, ◌≤◌, ◌+◌, ◌*◌, ℕ, refl, subst, ◌∙◌, inl, inr}
+use Rattle.std.proofs.Common.{◌≡◌, ℕ, refl, inr}
 use Rattle.std.specs.Prelude.{IsTrue}
-use Rattle.std.specs.FinMap as map
 use Rattle.std.proofs.lemmas.Bool.{false≢true}
 use Rattle.af_base.specs.declared.events.Reply.TheVariants as reply
 use Rattle.af_base.specs.World.{IsLive, World}
@@ -17,17 +16,6 @@ running : (t : Stage) (begun : World) (spent : ℕ) → IsTrue (is_running t) �
 running Resting begun spent e = absurd (false≢true e)
 running Marking begun spent e = refl
 running Sweeping begun spent e = refl
-
--- A slice that leaves the pass running.
-pub slices_working : (begun begun' w v : World) (t : Stage) (k k' b pass : ℕ) → begun' ≡ begun → IsTrue (is_running t) → k' ≡ k + b → k' ≤ 3 * map.len begun'.files → ArePurged begun w v b
-    → Slices begun w k b pass reply.Working v (pass_of t begun' k')
-slices_working begun begun' w v t k k' b pass e y n most p = record {
-  emptied_files = p.files;
-  few = p.few;
-  of_garbage = p.of_garbage;
-  purged = p.purged;
-  answered = inl (refl, running t begun' k' y ∙ (λ i. Running (e i) (n i)), subst (λ x. x ≤ 3 * map.len begun.files) n (subst (λ x. k' ≤ 3 * map.len x.files) e most));
-}
 
 -- A slice that ends the pass, where none of the garbage of the begin is live.
 pub slices_done : (begun begun' w v : World) (k k' b pass n : ℕ) → ArePurged begun w v b → ((f : ℕ) → Garbage begun f → ¬ (IsLive v f)) → IsGarbageCount begun n

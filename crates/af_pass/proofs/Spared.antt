@@ -1,24 +1,20 @@
 -- What follows from what is kept: which files a pass spares, and how much it looks at.
-use Rattle.std.proofs.Common.{◌≡◌, ◌<◌, ◌≤◌, ℕ, ◌*◌, Bool, true, not, ◌&&◌, refl, sym, ap, ◌∙◌, arith, nat_eq, nat_lt}
+use Rattle.std.proofs.Common.{◌≡◌, ◌≤◌, ℕ, true, not, ◌&&◌, refl, ap, arith, nat_lt}
 use Rattle.std.specs.FinMap as map
-use Rattle.std.proofs.lemmas.Bool.{and_parts, and_right, false≢true, le-ltb}
+use Rattle.std.proofs.lemmas.Bool.{and_parts, false≢true}
 use Rattle.std.proofs.lemmas.List.Sums.{count_by-le-length}
 use Rattle.af_base.specs.declared.limits.TheConstants.{MAX_FILES}
 use Rattle.af_base.specs.World.{IsLive, World}
 use Rattle.af_base.specs.Places.{Holds, InTable}
 use Rattle.af_base.specs.Reached.{Garbage, is_socket}
-use Rattle.af_base.proofs.Lookups.{itself}
 use Rattle.af_mark.specs.Marked.{Marked, is_grey, is_marked}
 use Rattle.af_pass.specs.declared.Stage.{Stage}
 use Rattle.af_pass.specs.declared.Stage.TheVariants.{Marking, Resting, Sweeping}
 use Rattle.af_pass.specs.declared.Progress.{Progress}
-use Rattle.af_pass.specs.Since.{but, is_scanned, is_socket_at, live_count}
+use Rattle.af_pass.specs.Since.{is_socket_at}
 use Rattle.af_pass.specs.Keeping.{IsKept, IsRunning, IsStage, Spares, below, is_counted, is_marking, is_running, is_sweeping, pass_of}
 use Rattle.af_pass.proofs.Going.{never_garbage}
 use Rattle.af_pass.proofs.Keeping.{in_marking, in_sweeping, marking_only}
-use Rattle.af_pass.proofs.Marked.{grey_marked, marked_known}
-use Rattle.af_pass.proofs.Shading.{but_other}
-use Rattle.af_pass.proofs.Tallies.{live_more}
 
 -- Where marking goes on, a pass runs.
 pub marking_runs : (s : Stage) → is_marking s ≡ true → is_running s ≡ true
@@ -38,50 +34,7 @@ counts_sweeping w m c f e = by c.stage (and_parts (is_sweeping c.stage) (is_sock
   by Marking d = absurd (false≢true d)
   by Sweeping d = refl
 
--- A test that a live file of the begin passes counts one at least.
-live_some : (begun now : World) (test : ℕ → Bool) (x : ℕ) → IsLive begun x → IsLive now x → test x ≡ true → 1 ≤ live_count begun now test
-live_some begun now test x b l is =
-    let more = live_more begun now (but test x) test x b l (and_right (test x) (not (nat_eq x x)) (ap not (itself x))) is (λ f _ apart. but_other test x f apart) in
-    omega (arith, more)
-
 module _ {w begun : World} {m : Marked} {c : Progress} where
-  -- What is kept where a pass runs.
-  in_running : is_running c.stage ≡ true → IsKept w begun m c → IsRunning w begun m c
-  in_running t k = by c.stage t k.stage where
-    by : (s : Stage) → is_running s ≡ true → IsStage s w begun m c → IsRunning w begun m c
-    by Resting e p = absurd (false≢true e)
-    by Marking e p = p.running
-    by Sweeping e p = p.running
-
-  -- A pass looks three times at most for each file of its begin, and these are no more than there can be.
-  pub looked_most : is_running c.stage ≡ true → IsKept w begun m c → (c.looked ≤ 3 * map.len begun.files) × (map.len begun.files ≤ MAX_FILES)
-  looked_most t k = let r = in_running t k in let most = r.counted.at_most in (omega (arith, most), r.since.sound.within.file_count)
-
-  -- Where a live file is still to be visited, the pass can look once more.
-  pub looked_visit : (x : ℕ) → is_running c.stage ≡ true → IsLive w x → x < m.bound → c.visited ≤ x → IsKept w begun m c → c.looked < 3 * map.len begun.files
-  looked_visit x t l low from k =
-      let r = in_running t k in
-      let most = r.counted.at_most in
-      let some = live_some begun w (λ f. not (below c.visited f)) x (r.since.old x l low) l (ap not (le-ltb x c.visited from)) in
-      omega (arith, most, some)
-
-  -- Where a grey file is still to be scanned, the pass can look once more.
-  pub looked_scan : (x : ℕ) → is_running c.stage ≡ true → is_grey m x ≡ true → IsKept w begun m c → c.looked < 3 * map.len begun.files
-  looked_scan x t grey k =
-      let r = in_running t k in
-      let most = r.counted.at_most in
-      let marked = grey_marked m x grey in
-      let some = live_some begun w (λ f. not (is_scanned (is_marked m) (is_grey m) f)) x (r.marked x marked) (sym (k.known x) ∙ marked_known m x marked) (ap not (and_right (is_marked m x) (not (is_grey m x)) (ap not grey))) in
-      omega (arith, most, some)
-
-  -- Where a live file is still to be swept, the pass can look once more.
-  pub looked_sweep : (x : ℕ) → is_running c.stage ≡ true → IsLive w x → x < m.bound → c.swept ≤ x → IsKept w begun m c → c.looked < 3 * map.len begun.files
-  looked_sweep x t l low from k =
-      let r = in_running t k in
-      let most = r.counted.at_most in
-      let some = live_some begun w (λ f. not (below c.swept f)) x (r.since.old x l low) l (ap not (le-ltb x c.swept from)) in
-      omega (arith, most, some)
-
   -- No more sockets are counted than there can be files.
   pub reclaimed_most : c.stage ≡ Sweeping → IsKept w begun m c → c.reclaimed ≤ MAX_FILES
   reclaimed_most e k =
@@ -110,10 +63,6 @@ module _ {w begun : World} {m : Marked} {c : Progress} where
     by Resting p y = tt
     by Marking p y = λ g. y (p.running.since.stray.queues s f h g)
     by Sweeping p y = λ g. y (p.running.since.stray.queues s f h g)
-
-  -- A number that no file had yet is spared.
-  pub new_spared : (n f : ℕ) → IsKept w begun m c → w.next_ino ≤ f → Spares (pass_of c.stage begun n) f
-  new_spared n f k new = spares_in n f (λ r g. let low = r.low in let old = r.since.below f g.0 in omega (arith, new, low, old)) k
 
   -- What has no place while marking goes on is no garbage of the begin, and nor is what it holds.
   pub waiting_held : (x : ℕ) → is_marking c.stage ≡ true → IsLive w x → ¬ (InTable w x) → ((q : ℕ) → ¬ (Holds w q x)) → IsKept w begun m c → (¬ (Garbage begun x)) × ((f : ℕ) → Holds w x f → ¬ (Garbage begun f))

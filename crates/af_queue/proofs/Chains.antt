@@ -221,9 +221,6 @@ module _ (s t : Slab Node) (f l k n : ℕ) (p : IsPath s f l k (suc n)) (update 
   pub messages_popped : messages_from s k (suc n) ≡ p.0.message ∷ messages_from t p.0.next n
   messages_popped = first_there s k n p.0 p.1.0 ∙ ap (λ ms. p.0.message ∷ ms) (sym (messages_kept s t f l p.0.next n p.1.5 rest_stays))
 
-  pub popped_elsewhere : SameElsewhere s t f
-  popped_elsewhere q x at other = update.others q (λ e. other (ap (λ y. y.owner) (some_same x p.0 (sym at ∙ ap (slots.get s) e ∙ p.1.0)) ∙ p.1.1)) ∙ at
-
   -- The node that went was the first.
   pub popped_at : (node : Node) → slots.get s k ≡ Some node → IsPath t f l node.next (suc n - 1) × (messages_from s k (suc n) ≡ node.message ∷ messages_from t node.next (suc n - 1))
   popped_at node at =

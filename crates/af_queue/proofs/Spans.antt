@@ -1,13 +1,13 @@
 -- A stream's receive, message by message, is what is said of it as a whole.
 use Rattle.std.proofs.Common.{◌≡◌, ◌<◌, ◌≤◌, ℕ, ◌+◌, ◌-◌, ◌||◌, Bool, true, false, inl, inr, List, [], ◌∷◌, ◌++◌, length, take, drop, min, refl, sym, ap, ◌∙◌, cond, arith}
-use Rattle.std.specs.Prelude.{Option, Some, None, IfSome, nat_le, nat_lt}
+use Rattle.std.specs.Prelude.{Option, Some, None, nat_le, nat_lt}
 use Rattle.std.specs.Option.{option_map_or}
 use Rattle.std.specs.List.{AllByRecursion, find, slice_get}
 use Rattle.std.proofs.lemmas.Bool.{cases_Bool, le-leb, le-ltb, leb-false, leb-true, lt-leb, lt-ltb, ltb-false, ltb-true}
 use Rattle.std.proofs.lemmas.List.{length-append, length-take, take-append-le}
 use Rattle.af_base.specs.declared.events.SockType.TheVariants.{Seqpacket, Stream}
 use Rattle.af_base.specs.World.{Message}
-use Rattle.af_base.specs.Take.{cut, has_files, joined, take_seqpacket, take_stream}
+use Rattle.af_base.specs.Take.{cut, has_files, joined, take_stream}
 use Rattle.af_base.specs.Whole.{IsMessageWithin}
 use Rattle.af_base.proofs.Takes.{HaveBytes, before, before-here, before-later, cut_none, find-here, find-later, no_files, up_to}
 use Rattle.af_queue.specs.Received.{message_at, received, sender_at}
@@ -93,10 +93,6 @@ span-most n (m ∷ q) = by (span-most (n - length m.bytes) q) (has_files m || na
   by : span (n - length m.bytes) q ≤ length (joined q) → (b : Bool) → (has_files m || nat_le n (length m.bytes)) ≡ b → span n (m ∷ q) ≤ length (m.bytes ++ joined q)
   by rest true e = omega (arith, span-front m q n e, length-append m.bytes (joined q))
   by rest false e = omega (arith, rest, span-rest m q n e, length-append m.bytes (joined q))
-
--- And no more than is asked for.
-pub span-asked : (n : ℕ) (q : List Message) → span n q ≤ n
-span-asked n q = let is = span-is n q in omega (arith, is)
 
 -- Something is taken where something is.
 pub span-some : (n : ℕ) (m : Message) (q : List Message) → 0 < n → HaveBytes (m ∷ q) → 0 < span n (m ∷ q)
@@ -218,12 +214,3 @@ part-received q n k bytes files user some have is copied taken sent =
 -- How many files come.
 pub stream-files : (q : List Message) (n : ℕ) → 0 < n → HaveBytes q → length (files_in n q) ≡ length (take_stream q n).attached
 stream-files q n some have = sym (ap (λ t. length t.attached) (stream-is q n some have))
-
-pub packet-files : (q : List Message) (n : ℕ) → option_map_or (λ m. length m.attached) (slice_get q 0) 0 ≡ length (take_seqpacket q n).attached
-packet-files [] n = refl
-packet-files (m ∷ q) n = refl
-
--- A first message that is long enough has the byte.
-pub first-at : (q : List Message) (k : ℕ) → IfSome (slice_get q 0) (λ m. k ≤ length m.bytes) → slice_get q 0 ≡ message_at k q
-first-at [] k low = refl
-first-at (m ∷ q) k low = sym (at-front m q k low)

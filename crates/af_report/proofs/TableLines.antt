@@ -1,13 +1,9 @@
 -- Columns that are joined, and lines behind each other.
-use Rattle.std.proofs.Common.{◌≡◌, ℕ, List, [], ◌∷◌, ◌++◌, Some, length, refl, sym, ap, ◌∙◌, append_assoc, append-nil}
+use Rattle.std.proofs.Common.{◌≡◌, ℕ, List, [], ◌∷◌, ◌++◌, Some, refl, sym, ap, ◌∙◌, append_assoc, append-nil}
 use Rattle.std.specs.List.{flat_map}
 use Rattle.std.specs.FinMap as map
 use Rattle.af_base.specs.Whole.{name_at}
-use Rattle.af_base.specs.World.{AsSocket, File, Plain, Socket, World}
-use Rattle.af_base.specs.declared.events.SockType.{SockType}
-use Rattle.af_base.specs.declared.events.State.{State}
-use Rattle.af_steps.specs.Shown.{shown_of}
-use Rattle.af_steps.specs.declared.views.FileInfo.TheVariants as shown
+use Rattle.af_base.specs.World.{AsSocket, File, Plain, World}
 use Rattle.af_report.specs.Table.{columns, file_line, joined, name_of, name_text}
 
 -- ---- columns
@@ -41,17 +37,6 @@ line_made columns name front old mid named new is first second third =
     ∙ append_assoc old (joined (columns ++ name ∷ [])) (10 ∷ [])
 
 -- ---- what is shown of a file
-
--- What shows as a plain file is one.
-pub shows_plain : (x : File) → shown_of (Some x) ≡ Some shown.Plain → x ≡ Plain
-shows_plain Plain e = refl
-shows_plain (AsSocket s) e = cc
-
--- What shows as a socket is one, with what is shown.
-pub shows_socket : (x : File) (kind : SockType) (state : State) (messages embryos : ℕ) → shown_of (Some x) ≡ Some (shown.Socket kind state messages embryos)
-    → (s : Socket) × (x ≡ AsSocket s) × (s.kind ≡ kind) × (s.state ≡ state) × (length s.queue ≡ messages) × (length s.backlog ≡ embryos)
-shows_socket Plain kind state messages embryos e = cc
-shows_socket (AsSocket s) kind state messages embryos e = (s, refl, cc, cc, cc, cc)
 
 -- The name of a file that is live.
 pub name_shown : (w : World) (f : ℕ) (x : File) → map.get w.files f ≡ Some x → name_text (name_at w f) ≡ name_of x

@@ -19,9 +19,9 @@ use Rattle.af_base.proofs.Lookups.{none_some, told_apart}
 use Rattle.af_base.proofs.Moved.{live-changed, others-changed}
 use Rattle.af_base.proofs.Named.{named-some}
 use Rattle.af_base.proofs.Opened.{blank-connected, blank-there, still-blank}
-use Rattle.af_base.proofs.Stepped.{none-fits}
+use Rattle.af_base.proofs.Stepped.{none-fits, passes-on}
 use Rattle.af_steps.specs.Found.{HasSocket}
-use Rattle.af_steps.proofs.Found.{after-socket, file-is, passes-on, socket-is}
+use Rattle.af_steps.proofs.Found.{after-socket, file-is, socket-is}
 
 -- Who listens at a socket that listens has so much room.
 pub room-left : (l : Socket) (kind : SockType) → first_fit (on_listener l kind) ≡ None → length l.backlog < room_of l.state

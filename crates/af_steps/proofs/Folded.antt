@@ -1,6 +1,6 @@
 -- What a call comes to, an answer or an error, is a step of the machine.
-use Rattle.std.proofs.Common.{◌≡◌, ℕ, Bool, true, false, inr, refl, sym, ap, subst}
-use Rattle.std.specs.Prelude.{Option, Some, None, Result, Ok, Err, IfOk, IfErr}
+use Rattle.std.proofs.Common.{◌≡◌, ℕ, Bool, true, false, inr, refl, sym, ap, ◌∙◌, subst}
+use Rattle.std.specs.Prelude.{Option, Some, None, Result, Ok, Err, IfOk, IfErr, IsOkAnd, MatchResult}
 use Rattle.af_base.specs.declared.errno.Errno.{Errno}
 use Rattle.af_base.specs.declared.errno.Errno.TheVariants.{ENOMEM}
 use Rattle.af_base.specs.declared.events.Reply.{Reply}
@@ -36,6 +36,13 @@ module _ (old : Machine) (p : ℕ) (s : Step) (new : Machine) where
       subst (λ (m : Machine). ProcessStep w p s (reply.Refused e) m.world × SamePass old m) (sym d.1) (kept, (refl, refl))
 
   -- What a call comes to is a step with the reply that tells it.
-  pub answers-step : (t : Step) → t ≡ s → {T : Type 0} (o : Result T Errno) (tells : T → Reply) (r : Reply) → IfOk o (λ t. Does old p s (tells t) new) → IfErr o (λ e. Refuses old p s e new) → IfOk o (λ t. r ≡ tells t) → IfErr o (λ e. r ≡ reply.Refused e) → Answers old p t r new
-  answers-step t is (Ok a) tells r done refused ok err = subst (λ x. Answers old p x r new) (sym is) (subst (λ x. Answers old p s x new) (sym ok) (does-step (tells a) done))
-  answers-step t is (Err e) tells r done refused ok err = subst (λ x. Answers old p x r new) (sym is) (subst (λ x. Answers old p s x new) (sym err) (refuses-step e refused))
+  pub answers_step : (t : Step) → t ≡ s → {T : Type 0} (o : Result T Errno) (tells : T → Reply) (r : Reply) → IfOk o (λ t. Does old p s (tells t) new) → IfErr o (λ e. Refuses old p s e new) → IfOk o (λ t. r ≡ tells t) → IfErr o (λ e. r ≡ reply.Refused e) → Answers old p t r new
+  answers_step t is (Ok a) tells r done refused ok err = subst (λ x. Answers old p x r new) (sym is) (subst (λ x. Answers old p s x new) (sym ok) (does-step (tells a) done))
+  answers_step t is (Err e) tells r done refused ok err = subst (λ x. Answers old p x r new) (sym is) (subst (λ x. Answers old p s x new) (sym err) (refuses-step e refused))
+
+  -- The same, where what it answered was made a reply before.
+  pub answers_made : (t : Step) → t ≡ s → {T : Type 0} (o : Result T Errno) (made : Result Reply Errno) (tells : T → Reply) (r : Reply) → IfOk o (λ a. Does old p s (tells a) new) → IfErr o (λ e. Refuses old p s e new)
+      → MatchResult o (λ a. IsOkAnd made (λ x. x ≡ tells a)) (λ e. made ≡ Err e) → IfOk made (λ x. r ≡ x) → IfErr made (λ e. r ≡ reply.Refused e) → Answers old p t r new
+  answers_made t is (Ok a) (Ok x) tells r done refused was ok err = answers_step t is (Ok a) tells r done refused (ok ∙ was) err
+  answers_made t is (Ok a) (Err e) tells r done refused was ok err = absurd was
+  answers_made t is (Err e) made tells r done refused was ok err = answers_step t is (Err e) tells r done refused tt (subst (λ m. IfErr m (λ e. r ≡ reply.Refused e)) was err)

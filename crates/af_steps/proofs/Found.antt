@@ -1,8 +1,8 @@
 -- What of its row is left when an event has looked up what it needs.
-use Rattle.std.proofs.Common.{◌≡◌, ◌<◌, ◌≤◌, ℕ, Bool, true, false, [], ◌∷◌, ◌++◌, refl, sym, ap, ◌∙◌, subst, arith}
-use Rattle.std.specs.Prelude.{Option, Some, None, IsTrue, is_some, unwrap_or, if◌then◌else◌}
+use Rattle.std.proofs.Common.{◌≡◌, ◌<◌, ◌≤◌, ℕ, [], ◌++◌, sym, ap, ◌∙◌, subst, arith}
+use Rattle.std.specs.Prelude.{Option, Some, None, IsTrue, is_some, unwrap_or}
 use Rattle.std.specs.FinMap as map
-use Rattle.std.specs.Option.{option_and_then, option_map_or, option_or}
+use Rattle.std.specs.Option.{option_and_then, option_map_or}
 use Rattle.af_base.specs.declared.errno.Errno.{Errno}
 use Rattle.af_base.specs.Changes.{with_process}
 use Rattle.af_base.specs.Places.{InTable, queue_at, queue_of, table_at}
@@ -10,24 +10,9 @@ use Rattle.af_base.specs.Refusals.{Row, at_socket, first_fit, ino_on, no_process
 use Rattle.af_base.specs.World.{AsSocket, File, Plain, Process, Socket, World}
 use Rattle.af_base.proofs.Lookups.{none_some, some_same}
 use Rattle.af_base.proofs.Moved.{there-table}
+use Rattle.af_base.proofs.Stepped.{goes-on}
 use Rattle.af_hold.specs.Limits.{IsBelowLimit}
 use Rattle.af_steps.specs.Found.{HasNumber, HasProcess, HasSocket}
-
--- The first of two rows with a test that fits decides.
-joined : (rows more : Row) → first_fit (rows ++ more) ≡ option_or (first_fit rows) (first_fit more)
-joined [] more = refl
-joined (r ∷ rs) more = by r.0 (joined rs more) where
-  by : (b : Bool) → first_fit (rs ++ more) ≡ option_or (first_fit rs) (first_fit more) → (if b then Some r.1 else first_fit (rs ++ more)) ≡ option_or (if b then Some r.1 else first_fit rs) (first_fit more)
-  by true go = refl
-  by false go = go
-
--- A test of the first fits.
-pub goes-on : (rows more : Row) (e : Errno) → first_fit rows ≡ Some e → first_fit (rows ++ more) ≡ Some e
-goes-on rows more e is = joined rows more ∙ ap (λ o. option_or o (first_fit more)) is
-
--- No test of the first fits: the second decides.
-pub passes-on : (rows more : Row) → first_fit rows ≡ None → first_fit (rows ++ more) ≡ first_fit more
-passes-on rows more is = joined rows more ∙ ap (λ o. option_or o (first_fit more)) is
 
 -- No socket was found: that refuses each step that asks for one.
 pub no-socket : (w : World) (p n : ℕ) (rest : Row) (e : Errno) → first_fit (on_process (map.get w.processes p) ++ at_socket w p n) ≡ Some e → first_fit (on_process (map.get w.processes p) ++ (at_socket w p n ++ rest)) ≡ Some e

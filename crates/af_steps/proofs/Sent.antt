@@ -12,9 +12,9 @@ use Rattle.af_base.specs.Places.{InTable, queue_at, table_at}
 use Rattle.af_base.specs.Refusals.{Row, first_fit, on_charge, on_parts, on_peer, on_room, peer_of, refusal, socket_at}
 use Rattle.af_base.specs.Whole.{IsMessageWithin}
 use Rattle.af_base.specs.World.{Message, Process, Socket, World}
-use Rattle.af_base.proofs.Stepped.{attached-most, attached-tabled, none-fits}
+use Rattle.af_base.proofs.Stepped.{attached-most, attached-tabled, goes-on, none-fits, passes-on}
 use Rattle.af_steps.specs.Found.{HasSocket}
-use Rattle.af_steps.proofs.Found.{after-socket, goes-on, looks, passes-on, queue-is}
+use Rattle.af_steps.proofs.Found.{after-socket, looks, queue-is}
 
 module _ {w : World} {p n f : ℕ} {q : Process} {x : Socket} (has : HasSocket w p q n f x) (bytes attach : List ℕ) where
   -- The part of its bytes and numbers, by what was found.
@@ -30,26 +30,26 @@ module _ {w : World} {p n f : ℕ} {q : Process} {x : Socket} (has : HasSocket w
   room = on_room (queue_at w (peer_of x.state))
 
   -- All of them.
-  row : refusal w p (step.Send n bytes attach) ≡ first_fit (parts ++ (on_peer x.state ++ (charges ++ room)))
-  row = after-socket has (λ r look s. on_parts look bytes attach ++ (on_peer s.state ++ (on_charge (charged w r.user) (total w) r.limit r.privileged (length attach) ++ on_room (queue_at w (peer_of s.state)))))
+  row : refusal w p (step.Send n bytes attach) ≡ first_fit (parts ++ (on_peer x ++ (charges ++ room)))
+  row = after-socket has (λ r look s. on_parts look bytes attach ++ (on_peer s ++ (on_charge (charged w r.user) (total w) r.limit r.privileged (length attach) ++ on_room (queue_at w (peer_of s.state)))))
 
   -- Its bytes or its numbers are refused.
   pub refused-parts : (e : Errno) → first_fit parts ≡ Some e → refusal w p (step.Send n bytes attach) ≡ Some e
-  refused-parts e fits = row ∙ goes-on parts (on_peer x.state ++ (charges ++ room)) e fits
+  refused-parts e fits = row ∙ goes-on parts (on_peer x ++ (charges ++ room)) e fits
 
   module _ (given : first_fit parts ≡ None) where
     -- The parts that are left then.
-    after-parts : refusal w p (step.Send n bytes attach) ≡ first_fit (on_peer x.state ++ (charges ++ room))
-    after-parts = row ∙ passes-on parts (on_peer x.state ++ (charges ++ room)) given
+    after-parts : refusal w p (step.Send n bytes attach) ≡ first_fit (on_peer x ++ (charges ++ room))
+    after-parts = row ∙ passes-on parts (on_peer x ++ (charges ++ room)) given
 
     -- It can talk to nobody.
-    pub refused-peer : (e : Errno) → first_fit (on_peer x.state) ≡ Some e → refusal w p (step.Send n bytes attach) ≡ Some e
-    refused-peer e fits = after-parts ∙ goes-on (on_peer x.state) (charges ++ room) e fits
+    pub refused-peer : (e : Errno) → first_fit (on_peer x) ≡ Some e → refusal w p (step.Send n bytes attach) ≡ Some e
+    refused-peer e fits = after-parts ∙ goes-on (on_peer x) (charges ++ room) e fits
 
-    module _ (alive : first_fit (on_peer x.state) ≡ None) where
+    module _ (alive : first_fit (on_peer x) ≡ None) where
       -- And those that are left then.
       after-peer : refusal w p (step.Send n bytes attach) ≡ first_fit (charges ++ room)
-      after-peer = after-parts ∙ passes-on (on_peer x.state) (charges ++ room) alive
+      after-peer = after-parts ∙ passes-on (on_peer x) (charges ++ room) alive
 
       -- Too much is in flight.
       pub refused-charge : (e : Errno) → first_fit charges ≡ Some e → refusal w p (step.Send n bytes attach) ≡ Some e

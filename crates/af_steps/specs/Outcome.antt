@@ -1,5 +1,5 @@
 -- What a call of the engine comes to.
-use Rattle.std.specs.Prelude.{◌≡◌, ℕ, Bool, true, false, Option, Some, None, Result, Ok, Err}
+use Rattle.std.specs.Prelude.{◌≡◌, ℕ, Bool, true, false, Option, Some, None}
 use Rattle.af_base.specs.declared.errno.Errno.{Errno}
 use Rattle.af_base.specs.declared.errno.Errno.TheVariants.{ENOMEM}
 use Rattle.af_base.specs.declared.events.Reply.{Reply}
@@ -56,11 +56,6 @@ finished_reply f = reply.Done f.pass f.reclaimed
 abbrev pub progress_reply : Progress → Reply
 progress_reply progress.Working = reply.Working
 progress_reply (progress.Done f) = finished_reply f
-
--- The reply: the answer, or the error as a refusal (this project's profile).
-abbrev pub reply_of : Result Reply Errno → Reply
-reply_of (Ok r) = r
-reply_of (Err e) = reply.Refused e
 
 -- A step of process p leads from `old` to `new` with this reply, and the collector stands still (this project's profile).
 abbrev pub Answers : Machine → ℕ → Step → Reply → Machine → Type 0

@@ -1,15 +1,13 @@
 //! The engine: events in, replies out.
-ghost use Rattle.std.specs.Prelude.{◌≡◌, ◌<◌, IfOk, IfErr, OnOk, length};
+ghost use Rattle.std.specs.Prelude.{◌≡◌, ◌<◌, IfOk, IfErr, length};
 ghost use Rattle.std.specs.List.{zip};
 ghost use Rattle.af_base.specs.Run.{fresh, Run, Step};
-ghost use Rattle.af_steps.specs.Outcome.{Answers, finished_reply, got_reply, progress_reply, reply_of};
+ghost use Rattle.af_steps.specs.Outcome.{Answers};
 
-use crate::messages::Received;
-use crate::passes::{Finished, Progress};
 use af_base::errno::Errno;
 use af_base::events;
 use af_base::events::{Event, Reply};
-use af_base::names::{Fd, Pid};
+use af_base::names::Pid;
 use af_collect::Store;
 use std::alloc::{AllocError, Global};
 use std::marker::Model;
@@ -85,11 +83,11 @@ impl Engine {
                 uid,
                 nofile,
                 privileged,
-            } => pid_reply(self.spawn(*uid, *nofile, *privileged)),
+            } => reply_of(self.spawn(*uid, *nofile, *privileged)),
             Event::Proc(pid, step) => self.step_of(*pid, step),
             Event::Begin => reply_of(self.begin().map(Reply::Started)),
-            Event::Slice(budget) => reply_of(self.slice(*budget).map(progress_reply)),
-            Event::Pass => reply_of(self.pass().map(finished_reply)),
+            Event::Slice(budget) => reply_of(self.slice(*budget)),
+            Event::Pass => reply_of(self.pass()),
         }
     }
 
@@ -110,32 +108,33 @@ impl Engine {
         ensures { Answers self.old pid step.now result self.new }
     {
         match step {
-            events::Step::Open => fd_reply(self.open(pid)),
-            events::Step::Dup(from) => fd_reply(self.dup(pid, *from)),
-            events::Step::Dup2(from, to) => fd_reply(self.dup2(pid, *from, *to)),
-            events::Step::Close(fd) => done_reply(self.close(pid, *fd)),
-            events::Step::Fork => pid_reply(self.fork(pid)),
-            events::Step::Exit => done_reply(self.exit(pid)),
-            events::Step::Pair(kind) => fds_reply(self.pair(pid, *kind)),
-            events::Step::Socket(kind) => fd_reply(self.socket(pid, *kind)),
-            events::Step::Bind { on, name } => done_reply(self.bind(pid, *on, name)),
-            events::Step::Listen { on, backlog } => done_reply(self.listen(pid, *on, *backlog)),
-            events::Step::Connect { on, name } => done_reply(self.connect(pid, *on, name)),
-            events::Step::Accept(on) => fd_reply(self.accept(pid, *on)),
+            events::Step::Open => reply_of(self.open(pid)),
+            events::Step::Dup(from) => reply_of(self.dup(pid, *from)),
+            events::Step::Dup2(from, to) => reply_of(self.dup2(pid, *from, *to)),
+            events::Step::Close(fd) => reply_of(self.close(pid, *fd)),
+            events::Step::Fork => reply_of(self.fork(pid)),
+            events::Step::Exit => reply_of(self.exit(pid)),
+            events::Step::Pair(kind) => reply_of(self.pair(pid, *kind)),
+            events::Step::Socket(kind) => reply_of(self.socket(pid, *kind)),
+            events::Step::Bind { on, name } => reply_of(self.bind(pid, *on, name)),
+            events::Step::Listen { on, backlog } => reply_of(self.listen(pid, *on, *backlog)),
+            events::Step::Connect { on, name } => reply_of(self.connect(pid, *on, name)),
+            events::Step::Accept(on) => reply_of(self.accept(pid, *on)),
             events::Step::Send { on, bytes, attach } => {
-                sent_reply(self.send(pid, *on, bytes.as_slice(), attach.as_slice()))
+                let sent = self.send(pid, *on, bytes.as_slice(), attach.as_slice());
+                reply_of(sent.map(Reply::Sent))
             }
             events::Step::Recv {
                 on,
                 max_bytes,
                 max_fds,
-            } => received_reply(self.recv(pid, *on, *max_bytes, *max_fds)),
+            } => reply_of(self.recv(pid, *on, *max_bytes, *max_fds)),
             events::Step::Peek {
                 on,
                 max_bytes,
                 max_fds,
-            } => received_reply(self.peek(pid, *on, *max_bytes, *max_fds)),
-            events::Step::Limit(nofile) => done_reply(self.limit(pid, *nofile)),
+            } => reply_of(self.peek(pid, *on, *max_bytes, *max_fds)),
+            events::Step::Limit(nofile) => reply_of(self.limit(pid, *nofile)),
         }
     }
 
@@ -146,7 +145,8 @@ impl Engine {
     {
         match step {
             events::Step::Send { on, bytes, attach } => {
-                sent_reply(self.send_owned(pid, on, bytes, attach.as_slice()))
+                let sent = self.send_owned(pid, on, bytes, attach.as_slice());
+                reply_of(sent.map(Reply::Sent))
             }
             other => self.step_of(pid, &other),
         }
@@ -180,126 +180,14 @@ impl Engine {
     }
 }
 
-/// The reply: the answer, or the error as a refusal.
+/// The reply that tells what a call answered, or its error as a refusal.
 #[inline(always)]
-fn reply_of(outcome: Result<Reply, Errno>) -> Reply
-    ensures { result ≡ reply_of outcome }
+fn reply_of<T: Into<Reply>>(outcome: Result<T, Errno>) -> Reply
+    ensures ok { IfOk outcome (λ answer. T.converts answer result) }
+    ensures err { IfErr outcome (λ error. result ≡ Reply.Refused error) }
 {
     match outcome {
-        Ok(reply) => reply,
+        Ok(answer) => answer.into(),
         Err(error) => Reply::Refused(error),
-    }
-}
-
-/// A number, or the error as a refusal.
-#[inline(always)]
-fn fd_reply(outcome: Result<Fd, Errno>) -> Reply
-    ensures ok { IfOk outcome (λ fd. result ≡ Reply.Fd fd) }
-    ensures err { IfErr outcome (λ e. result ≡ Reply.Refused e) }
-{
-    match outcome {
-        Ok(fd) => Reply::Fd(fd),
-        Err(error) => Reply::Refused(error),
-    }
-}
-
-/// Two numbers, or the error as a refusal.
-#[inline(always)]
-fn fds_reply(outcome: Result<(Fd, Fd), Errno>) -> Reply
-    ensures ok { IfOk outcome (λ fds. result ≡ Reply.Fds fds.0 fds.1) }
-    ensures err { IfErr outcome (λ e. result ≡ Reply.Refused e) }
-{
-    match outcome {
-        Ok((lower, higher)) => Reply::Fds(lower, higher),
-        Err(error) => Reply::Refused(error),
-    }
-}
-
-/// A process, or the error as a refusal.
-#[inline(always)]
-fn pid_reply(outcome: Result<Pid, Errno>) -> Reply
-    ensures ok { IfOk outcome (λ pid. result ≡ Reply.Pid pid) }
-    ensures err { IfErr outcome (λ e. result ≡ Reply.Refused e) }
-{
-    match outcome {
-        Ok(pid) => Reply::Pid(pid),
-        Err(error) => Reply::Refused(error),
-    }
-}
-
-/// That it is done, or the error as a refusal.
-#[inline(always)]
-fn done_reply(outcome: Result<(), Errno>) -> Reply
-    ensures ok { OnOk outcome (result ≡ Reply.Ok) }
-    ensures err { IfErr outcome (λ e. result ≡ Reply.Refused e) }
-{
-    match outcome {
-        Ok(()) => Reply::Ok,
-        Err(error) => Reply::Refused(error),
-    }
-}
-
-/// How many bytes were sent, or the error as a refusal.
-#[inline(always)]
-fn sent_reply(outcome: Result<u32, Errno>) -> Reply
-    ensures ok { IfOk outcome (λ count. result ≡ Reply.Sent count) }
-    ensures err { IfErr outcome (λ e. result ≡ Reply.Refused e) }
-{
-    match outcome {
-        Ok(count) => Reply::Sent(count),
-        Err(error) => Reply::Refused(error),
-    }
-}
-
-/// What was received, or the error as a refusal.
-#[inline(always)]
-fn received_reply(outcome: Result<Received, Errno>) -> Reply
-    ensures ok { IfOk outcome (λ received. result ≡ got_reply received) }
-    ensures err { IfErr outcome (λ e. result ≡ Reply.Refused e) }
-{
-    match outcome {
-        Ok(received) => got_reply(received),
-        Err(error) => Reply::Refused(error),
-    }
-}
-
-/// The reply of a receive or a peek.
-#[inline(always)]
-fn got_reply(received: Received) -> Reply
-    ensures { result ≡ got_reply received }
-{
-    match received {
-        Received::Got {
-            bytes,
-            fds,
-            trunc,
-            ctrunc,
-        } => Reply::Got {
-            bytes,
-            fds,
-            trunc,
-            ctrunc,
-        },
-        Received::End => Reply::End,
-    }
-}
-
-/// The reply of a slice.
-fn progress_reply(progress: Progress) -> Reply
-    ensures { result ≡ progress_reply progress }
-{
-    match progress {
-        Progress::Working => Reply::Working,
-        Progress::Done(finished) => finished_reply(finished),
-    }
-}
-
-/// The reply of a pass that is over.
-fn finished_reply(finished: Finished) -> Reply
-    ensures { result ≡ finished_reply finished }
-{
-    Reply::Done {
-        pass: finished.pass,
-        reclaimed: finished.reclaimed,
     }
 }

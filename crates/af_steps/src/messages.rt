@@ -39,6 +39,28 @@ pub enum Received {
     End,
 }
 
+impl From<Received> for Reply {
+    ghost from_gives = { λ received r. r ≡ got_reply received };
+
+    #[inline(always)]
+    fn from(received: Received) -> Reply {
+        match received {
+            Received::Got {
+                bytes,
+                fds,
+                trunc,
+                ctrunc,
+            } => Reply::Got {
+                bytes,
+                fds,
+                trunc,
+                ctrunc,
+            },
+            Received::End => Reply::End,
+        }
+    }
+}
+
 /// A message without its bytes, and whose queue it goes to.
 #[derive(Drop)]
 struct Envelope {
@@ -221,9 +243,9 @@ fn any_free(process: &Process, fds: &[Fd]) -> bool
 
 /// Whom a socket sends to, or why it cannot.
 fn peer_of(socket: &Socket) -> Result<FileRef, Errno>
-    ensures ok { OnOk result (first_fit (on_peer socket.now.state) ≡ None) }
+    ensures ok { OnOk result (first_fit (on_peer socket.now) ≡ None) }
     ensures peer { IfOk result (λ peer. peer ≡ peer_of socket.now.state) }
-    ensures err { IfErr result (λ e. first_fit (on_peer socket.now.state) ≡ Some e) }
+    ensures err { IfErr result (λ e. first_fit (on_peer socket.now) ≡ Some e) }
 {
     if let Some(peer) = socket.peer() {
         return Ok(peer);
@@ -236,7 +258,7 @@ fn peer_of(socket: &Socket) -> Result<FileRef, Errno>
 
 /// Whether so many bytes can be received from the socket, or why not.
 #[inline(always)]
-fn check_receive(socket: &Socket, max_bytes: u32) -> Result<(), Errno>
+pub(crate) fn check_receive(socket: &Socket, max_bytes: u32) -> Result<(), Errno>
     ensures ok { OnOk result (first_fit (on_receive socket.now max_bytes) ≡ None) }
     ensures err { IfErr result (λ e. first_fit (on_receive socket.now max_bytes) ≡ Some e) }
 {

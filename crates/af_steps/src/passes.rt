@@ -26,6 +26,28 @@ pub enum Progress {
     Done(Finished),
 }
 
+impl From<Finished> for Reply {
+    ghost from_gives = { λ finished r. r ≡ finished_reply finished };
+
+    fn from(finished: Finished) -> Reply {
+        Reply::Done {
+            pass: finished.pass,
+            reclaimed: finished.reclaimed,
+        }
+    }
+}
+
+impl From<Progress> for Reply {
+    ghost from_gives = { λ progress r. r ≡ progress_reply progress };
+
+    fn from(progress: Progress) -> Reply {
+        match progress {
+            Progress::Working => Reply::Working,
+            Progress::Done(finished) => finished.into(),
+        }
+    }
+}
+
 impl Engine {
     /// A pass begins, over the files that are there. It costs the same however many there are.
     /// Answers its number. Refused with EBUSY while a pass runs.

@@ -3,6 +3,5 @@ pub mod Tables
 pub mod Left
 pub mod Parts
 pub mod Places
-pub mod Spawned
 pub mod Pids
 pub mod Numbers

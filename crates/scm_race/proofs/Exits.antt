@@ -1,7 +1,6 @@
 -- How a list goes on, one part after another, and the exits of children.
-use Rattle.std.proofs.Common.{◌≡◌, ◌<◌, ◌+◌, ◌++◌, ℕ, List, [], ◌∷◌, ap, append-nil, append_assoc, length, map, refl, sym, ◌∙◌, slice_index_or, take}
+use Rattle.std.proofs.Common.{◌≡◌, ◌<◌, ◌+◌, ◌++◌, ℕ, List, [], ◌∷◌, ap, append-nil, append_assoc, length, map, refl, ◌∙◌, slice_index_or, take}
 use Rattle.std.specs.Prelude.{Some, None, filter_map}
-use Rattle.std.proofs.lemmas.Grind.{flat_map-append}
 use Rattle.std.proofs.lemmas.List.{map-append, take_more}
 use Rattle.std.proofs.lemmas.List.Elements.{filter_map-append}
 use Rattle.af_base.specs.declared.events.Event.{Event}
@@ -10,12 +9,7 @@ use Rattle.af_base.specs.declared.events.Reply.{Reply}
 use Rattle.af_base.specs.declared.events.Reply.TheVariants as reply
 use Rattle.af_layer.specs.Drive.{WentOn, events_of}
 use Rattle.af_layer.specs.Log.{Pair}
-use Rattle.af_layer.specs.Seats.{Seated}
-use Rattle.scm_race.specs.Race.{EndsInPass, all_exits_of, child_of, exit_of, exits_of}
-
--- A list that stays goes on by nothing.
-pub went-none : (old new : List Pair) → new ≡ old → WentOn old [] new
-went-none old new same = ([], same ∙ sym (append-nil old), refl)
+use Rattle.scm_race.specs.Race.{EndsInPass, child_of, exit_of, exits_of}
 
 -- A list that has one pair more goes on by its event.
 pub went-one : (old new : List Pair) (e : Event) (r : Reply) → new ≡ old ++ (e, r) ∷ [] → WentOn old (e ∷ []) new
@@ -48,15 +42,6 @@ pub exits-one : (pairs : List Pair) (i child : ℕ) (p : Pair) → i < length pa
 exits-one pairs i child p lt here some =
     let one : exits_of (p ∷ []) ≡ exit_of child ∷ [] = rw some refl in
     exits-more pairs i p lt ∙ ap (λ x. exits_of (take i pairs) ++ exits_of (x ∷ [])) here ∙ ap (λ l. exits_of (take i pairs) ++ l) one
-
--- The exits of one seat more.
-pub all-exits-more : (seats : List Seated) (i : ℕ) (s : Seated) → i < length seats → slice_index_or seats i s ≡ s → all_exits_of (take (i + 1) seats) ≡ all_exits_of (take i seats) ++ exits_of s.list
-all-exits-more seats i s lt here =
-    let exits : Seated → List Event = λ x. exits_of x.list in
-    ap all_exits_of (take_more seats i s lt)
-    ∙ flat_map-append exits (take i seats) (slice_index_or seats i s ∷ [])
-    ∙ ap (λ x. all_exits_of (take i seats) ++ (exits x ++ [])) here
-    ∙ ap (λ l. all_exits_of (take i seats) ++ l) (append-nil (exits s))
 
 -- What goes on, and on, and then with a last pass, ends in a pass.
 pub ends : (old first second new : List Pair) (pass reclaimed : ℕ) (more others : List Pair) → first ≡ old ++ more → second ≡ first ++ others → new ≡ second ++ (event.Pass, reply.Done pass reclaimed) ∷ [] → EndsInPass old new

@@ -1,5 +1,5 @@
 -- The lines of bytes that are read piece by piece.
-use Rattle.std.proofs.Common.{◌≡◌, ◌≤◌, ℕ, ◌+◌, ◌-◌, ◌<◌, ◌==◌, List, [], ◌∷◌, ◌++◌, Bool, true, false, cond, length, take, drop, Some, None, refl, sym, ap, ◌∙◌, append_assoc, append-nil, arith, length-append, ◌⊎◌, inl, inr, get_or, take-append-drop, length-take, get_or-take}
+use Rattle.std.proofs.Common.{◌≡◌, ◌≤◌, ℕ, ◌+◌, ◌-◌, ◌<◌, ◌==◌, List, [], ◌∷◌, ◌++◌, Bool, true, false, cond, length, take, drop, Some, None, refl, sym, ap, ◌∙◌, append_assoc, append-nil, arith, length-append, ◌⊎◌, inl, inr, get_or, take-append-drop}
 use Rattle.std.specs.Prelude.{map, slice_get, slice_index}
 use Rattle.std.specs.List.{AllByRecursion, flat_map, slice_split, onto_first}
 use Rattle.std.specs.Str.Lines.{lines, lines_of_parts, strip_carriage_return}
@@ -185,12 +185,6 @@ not_true false never = refl
 -- where there is none, there is none
 pub NoFeed-all : (bytes : List ℕ) → IsFirstByte (is_byte 10) bytes None → NoFeed bytes
 NoFeed-all bytes nowhere = All-from_get_or (λ b. (b == 10) ≡ false) bytes 0 (λ k low. not_true (slice_index bytes k == 10) (nowhere k (omega arith) low))
-
--- before the first line feed there is none
-pub NoFeed-before : (bytes : List ℕ) (at : ℕ) → IsFirstByte (is_byte 10) bytes (Some at) → NoFeed (take at bytes)
-NoFeed-before bytes at (first, here) = All-from_get_or (λ b. (b == 10) ≡ false) (take at bytes) 0 (λ k low.
-    let under : k < at = omega (arith, low, length-take at bytes) in
-    rw (get_or-take at bytes k 0 under) (not_true (slice_index bytes k == 10) (first.before k (omega arith) under)))
 
 -- the bytes up to a line feed, it, and those after it
 pub around : (bytes : List ℕ) (at : ℕ) → IsFirstByte (is_byte 10) bytes (Some at) → bytes ≡ ended_by_feed (take at bytes) ++ drop (at + 1) bytes

@@ -105,22 +105,9 @@ received-short w p n max_bytes max_fds k row = by (nat_eq (length (socket_on w p
 
 -- What is answered where nothing refuses the step.
 answer-short : (w : World) (p : ℕ) (s : Step) → IsWithin w → refusal w p s ≡ None → IsShort (answer w p s)
-answer-short w p step.Open k fits = tt
-answer-short w p (step.Dup n) k fits = tt
-answer-short w p (step.Dup2 n m) k fits = tt
-answer-short w p (step.Close n) k fits = tt
-answer-short w p step.Fork k fits = tt
-answer-short w p step.Exit k fits = tt
-answer-short w p (step.Pair kind) k fits = tt
-answer-short w p (step.Socket kind) k fits = tt
-answer-short w p (step.Bind n name) k fits = tt
-answer-short w p (step.Listen n b) k fits = tt
-answer-short w p (step.Connect n name) k fits = tt
-answer-short w p (step.Accept n) k fits = tt
-answer-short w p (step.Send n bytes attach) k fits = tt
 answer-short w p (step.Recv n max_bytes max_fds) k fits = received-short w p n max_bytes max_fds k (none-fits ((not (map.contains_key w.processes p), ESRCH) ∷ recv_row w p n max_bytes) fits).rest
 answer-short w p (step.Peek n max_bytes max_fds) k fits = received-short w p n max_bytes max_fds k (none-fits ((not (map.contains_key w.processes p), ESRCH) ∷ recv_row w p n max_bytes) fits).rest
-answer-short w p (step.Limit n) k fits = tt
+answer-short w p s k fits = tt
 
 -- What an outcome answers.
 outcome-short : (now old new : World) (answer r : Reply) (o : Option Errno) (frugal : Bool) → (o ≡ None → IsShort answer) → Outcome o frugal answer now old r new → IsShort r

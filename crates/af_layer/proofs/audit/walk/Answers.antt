@@ -1,7 +1,7 @@
-use Rattle.std.proofs.Common.{rules, ◌≡◌, ◌<◌, ◌+◌, ap, length, slice_index, sym, ◌∙◌, subst}
+use Rattle.std.proofs.Common.{rules, ◌<◌, ◌+◌, ap, length, slice_index, sym, ◌∙◌, subst}
 use Rattle.std.specs.Prelude.{None, slice_index_or}
 use Rattle.std.proofs.lemmas.List.{get_or_default}
-use Rattle.af_layer.specs.Audit.{list_at, nobody}
+use Rattle.af_layer.specs.Audit.{nobody}
 use Rattle.af_layer.specs.Walk.{Tracks}
 use Rattle.af_layer.proofs.Walking.{entry-at, tracks-next}
 use Rattle.af_layer.proofs.audit.walk.Goals as goal

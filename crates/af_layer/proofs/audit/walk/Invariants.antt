@@ -1,4 +1,3 @@
-use Rattle.std.proofs.Common.{◌≡◌, length}
 use Rattle.af_layer.specs.Walk.{AllTrack}
 use Rattle.af_layer.proofs.audit.walk.Given as goal
 

@@ -11,7 +11,8 @@ use Rattle.af_collect.specs.Shown.{Shown}
 use Rattle.af_pass.specs.Keeping.{Spares}
 use Rattle.af_steps.proofs.Connected.{accept-fits, first-waits}
 use Rattle.af_steps.specs.Found.{HasSocket}
-use Rattle.af_steps.proofs.Found.{below-limit, held, in-same, ino-is, is-free, is-there, room-below, after-socket, goes-on, no-socket, passes-on}
+use Rattle.af_base.proofs.Stepped.{goes-on, passes-on}
+use Rattle.af_steps.proofs.Found.{below-limit, held, in-same, ino-is, is-free, is-there, room-below, after-socket, no-socket}
 use Rattle.af_steps.proofs.Numbers.{IsLowest, is-free_at, least-low, not-open, not-short, none-free}
 use Rattle.af_steps.proofs.Outcomes.{does, starves, turned-down, missing}
 use Rattle.af_steps.proofs.engine.Engine.accept.Goals.{After-room_for}

@@ -8,7 +8,8 @@ use Rattle.af_base.specs.World.{Socket}
 use Rattle.af_collect.specs.Shown.{Shown}
 use Rattle.af_steps.proofs.Connected.{embryo-live, embryo-new, listener-is, listener-stays, room-left, some-by, two-sockets}
 use Rattle.af_base.specs.declared.events.Step.TheVariants as step
-use Rattle.af_steps.proofs.Found.{after-socket, goes-on, no-socket, passes-on}
+use Rattle.af_base.proofs.Stepped.{goes-on, passes-on}
+use Rattle.af_steps.proofs.Found.{after-socket, no-socket}
 use Rattle.af_steps.proofs.Outcomes.{turned-down}
 use Rattle.af_steps.proofs.engine.Engine.connect.Goals as goal
 

@@ -25,7 +25,7 @@ returns-in_err-process-clause-refused c =
     let x = socket_on w p c.args.on in
     let attach = c.args.attach.now in
     let e = c.in_err-process.field-0.0 in
-    let rest = on_parts (table_at w p) c.args.bytes.now attach ++ (on_peer x.state ++ (on_charge (charged w q.user) (total w) q.limit q.privileged (length attach) ++ on_room (queue_at w (peer_of x.state)))) in
+    let rest = on_parts (table_at w p) c.args.bytes.now attach ++ (on_peer x ++ (on_charge (charged w q.user) (total w) q.limit q.privileged (length attach) ++ on_room (queue_at w (peer_of x.state)))) in
     turned-down c.self.view_is p (step.Send c.args.on c.args.bytes.now attach) c.from_residual.result e c.from_residual.ensures.1 (no-socket w p c.args.on rest e c.in_err-process.ensures.refused)
 
 -- What was looked up.

@@ -9,7 +9,8 @@ use Rattle.af_base.proofs.Moved.{there-install}
 use Rattle.af_collect.specs.Shown.{Shown, room_at}
 use Rattle.af_pass.specs.Keeping.{Spares}
 use Rattle.af_steps.specs.Found.{HasProcess}
-use Rattle.af_steps.proofs.Found.{below-limit, in-same, is-free, is-there, room-below, after-process, goes-on}
+use Rattle.af_base.proofs.Stepped.{goes-on}
+use Rattle.af_steps.proofs.Found.{below-limit, in-same, is-free, is-there, room-below, after-process}
 use Rattle.af_steps.proofs.Made.{added-live, first-live}
 use Rattle.af_steps.proofs.engine.Engine.pair.Goals.{After-room_for}
 use Rattle.std.specs.Prelude.{Some, IfNone}

@@ -3,7 +3,8 @@ use Rattle.af_base.specs.Steps.{idle_socket}
 use Rattle.af_base.specs.World.{AsSocket, World}
 use Rattle.af_collect.specs.Shown.{Shown, room_at}
 use Rattle.af_steps.specs.Found.{HasProcess}
-use Rattle.af_steps.proofs.Found.{below-limit, in-same, is-free, is-there, room-below, after-process, goes-on}
+use Rattle.af_base.proofs.Stepped.{goes-on}
+use Rattle.af_steps.proofs.Found.{below-limit, in-same, is-free, is-there, room-below, after-process}
 use Rattle.af_steps.proofs.Made.{added-live}
 use Rattle.af_steps.proofs.Numbers.{IsLowest, least-low, not-open, none-free}
 use Rattle.std.specs.Prelude.{Some}

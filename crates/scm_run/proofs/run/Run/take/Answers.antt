@@ -2,7 +2,7 @@ use Rattle.std.proofs.Common.{rules, ◌≡◌, ◌++◌, ◌+◌, Err, None, So
 use Rattle.memchr.specs.Find.{IsFirstByte, is_byte}
 use Rattle.scm_run.specs.Progress.{FaultIn, Halts, Ran}
 use Rattle.scm_run.specs.Script.{ended_by_feed}
-use Rattle.scm_run.proofs.LinesLemmas.{NoFeed-all, NoFeed-before, around}
+use Rattle.scm_run.proofs.LinesLemmas.{NoFeed-all, around}
 use Rattle.scm_run.proofs.RunLemmas.{halts_longer, keep_stops}
 use Rattle.scm_run.proofs.run.Run.take.Goals as goal
 
