@@ -44,3 +44,4 @@ pub mod Rising
 pub mod Making
 pub mod Gathered
 pub mod Just
+pub mod Readied

@@ -13,6 +13,7 @@ pub mod Steps
 pub mod Pass
 pub mod Run
 pub mod Whole
+pub mod Ready
 pub mod Release
 pub mod Bare
 pub mod Listing

@@ -11,3 +11,4 @@ pub mod items;
 pub mod limits;
 pub mod listing;
 pub mod names;
+pub mod ready;

@@ -21,3 +21,4 @@ pub mod TakeRows
 pub mod Cycle
 pub mod Collected
 pub mod Peeked
+pub mod Polled

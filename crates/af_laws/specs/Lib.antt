@@ -9,3 +9,4 @@ pub mod Rows
 pub mod Stepping
 pub mod Connecting
 pub mod Peeking
+pub mod Polling

@@ -6,6 +6,7 @@ pub mod connecting;
 pub mod numbering;
 pub mod peeking;
 pub mod places;
+pub mod polling;
 pub mod purging;
 pub mod reaching;
 pub mod rows;

@@ -8,6 +8,7 @@ mod engine;
 mod lookups;
 mod messages;
 mod passes;
+mod ready;
 mod sockets;
 mod tables;
 mod views;

@@ -178,7 +178,7 @@ fn check_listener(socket: &Socket, kind: SockType) -> Result<(), Errno>
 }
 
 /// Whether somebody waits at the socket to be accepted, or why not.
-fn check_accept(socket: &Socket) -> Result<(), Errno>
+pub(crate) fn check_accept(socket: &Socket) -> Result<(), Errno>
     ensures ok { OnOk result (first_fit (on_accept socket.now) ≡ None) }
     ensures err { IfErr result (λ e. first_fit (on_accept socket.now) ≡ Some e) }
 {

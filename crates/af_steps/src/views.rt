@@ -1,9 +1,10 @@
 //! What can be seen of an engine. No view takes memory, but for the plain lists.
-ghost use Rattle.std.specs.Prelude.{◌≡◌, ◌<◌, ℕ, Some, false, IfOk, IfSome, IfNone, length, option_copied, slice_get};
+ghost use Rattle.std.specs.Prelude.{◌≡◌, ◌<◌, ◌≤◌, ℕ, None, Some, false, IfOk, IfSome, IfNone, length, option_copied, slice_get};
 ghost use Rattle.std.specs.FinMap as map;
 ghost use Rattle.af_base.specs.World.{is_live, IsLive};
 ghost use Rattle.af_base.specs.Bare.{bare};
 ghost use Rattle.af_base.specs.Counts.{refs, inflight, charged, total};
+ghost use Rattle.af_base.specs.Places.{table_at};
 ghost use Rattle.af_base.specs.Whole.{name_at};
 ghost use Rattle.af_steps.specs.Shown.{shown_of};
 
@@ -11,7 +12,7 @@ use crate::engine::Engine;
 use af_base::events::{SockType, State};
 use af_base::items::Items;
 use af_base::listing::Listing;
-use af_base::names::{FileRef, Ino, Pid, Uid};
+use af_base::names::{Fd, FileRef, Ino, Pid, Uid};
 use std::alloc::AllocError;
 
 /// What a file is.
@@ -102,6 +103,41 @@ impl Engine {
         ensures none { IfNone result ((q : ℕ) → ino < q → is_live self.now.world q ≡ false) }
     {
         self.store.holdings().files().next_after(ino, near)
+    }
+
+    /// Returns the file that a descriptor of a process refers to; nothing where the descriptor is not
+    /// open, or there is no such process. No search.
+    pub fn ino_at(&self, pid: Pid, fd: Fd) -> Option<Ino>
+        ensures { result ≡ table_at self.now.world pid fd }
+    {
+        let file = self.file_on(pid, fd)?;
+        Some(file.ino())
+    }
+
+    /// The same, with where the file stands: for `refs_at`, `inflight_at`, `file_at`, `name_at` and
+    /// `ready_at`, which then need no search.
+    pub fn file_on(&self, pid: Pid, fd: Fd) -> Option<FileRef>
+        ensures { result ≡ table_at self.now.world pid fd }
+    {
+        self.store.holdings().procs().lookup(pid, fd)
+    }
+
+    /// Returns the lowest open descriptor of a process from this number on, and its file. A walk over
+    /// a table asks again from the next number.
+    pub fn next_open(&self, pid: Pid, from: Fd) -> Option<(Fd, FileRef)>
+        ensures open { IfSome result (λ e. table_at self.now.world pid e.0 ≡ Some e.1) }
+        ensures reached { IfSome result (λ e. from ≤ e.0) }
+        ensures least { IfSome result (λ e. (n : ℕ) → from ≤ n → n < e.0 → table_at self.now.world pid n ≡ None) }
+        ensures none { IfNone result ((n : ℕ) → from ≤ n → table_at self.now.world pid n ≡ None) }
+    {
+        self.store.holdings().procs().next_open(pid, from)
+    }
+
+    /// The inode number that the next file gets.
+    pub fn next_ino(&self) -> Ino
+        ensures { result ≡ self.now.world.next_ino }
+    {
+        self.store.holdings().files().next_ino()
     }
 
     /// The pid that the next process gets.

@@ -15,6 +15,7 @@ pub use Rattle.af_base.specs.Pass
 pub use Rattle.af_base.specs.Run
 pub use Rattle.af_base.specs.Whole
 pub use Rattle.af_base.specs.Listing
+pub use Rattle.af_base.specs.Ready
 pub use Rattle.af_steps.specs.Shown
 pub use Rattle.af_steps.specs.Outcome
 pub use Rattle.af_report.specs.Check

@@ -1,0 +1,19 @@
+//! Laws of what files are ready for.
+ghost use Rattle.af_laws.specs.Polling.{ReadyIsWhatStepsFind, StepLeavesReady, PurgeLeavesReady};
+
+/// What a socket is ready for is what steps of each process find that has it at a number.
+pub fn ready_is_what_steps_find()
+    ensures { ReadyIsWhatStepsFind }
+{}
+
+/// A step changes what a file is ready for only where it touches the file or its peer, or where the
+/// peer is freed.
+pub fn step_leaves_ready()
+    ensures { StepLeavesReady }
+{}
+
+/// A slice or a pass changes it only where it empties the file or its peer, or where the peer is
+/// freed.
+pub fn purge_leaves_ready()
+    ensures { PurgeLeavesReady }
+{}
