@@ -2,10 +2,19 @@
 # Whether the library for C and Rust programs is what its header and its examples say.
 # usage: tests/embedding.sh out/libscmgc.a
 #
-# The header is held against the sources; the examples are built, run, and compared with their stored
-# output; bad numbers and want of memory are tried. What needs a tool that is not there is left out,
-# with a line that says so. The first that fails ends the script; else its last line is 'N passed, 0 failed'.
+# The header and the bindings are compared with the sources, and these with the library's exports;
+# the examples are built, run, and compared with their stored output; bad numbers and want of memory
+# are tried. What needs a tool that is not there is left out, with a line that says so. The first that
+# fails ends the script; else its last line is 'N passed, 0 failed'.
 set -eu
+if [ $# -ne 1 ]; then
+    echo "usage: tests/embedding.sh out/libscmgc.a (make embed builds the library, and calls this)" >&2
+    exit 2
+fi
+if [ ! -f "$1" ]; then
+    echo "tests/embedding.sh: $1 is not built: run make lib, or make embed for both" >&2
+    exit 2
+fi
 library=$(cd "$(dirname "$1")" && pwd)/$(basename "$1")
 cd "$(dirname "$0")/.."
 room=$(mktemp -d)
@@ -38,7 +47,7 @@ holds() {
 }
 
 if has python3 && has nm; then
-    python3 tests/header_holds.py include/scmgc.h crates "$library" examples/rust/src/ffi.rs
+    tools/bindings --check --archive "$library"
     passes "the header holds"
 else
     echo "embedding: no python3 or nm, so the header was not compared with the library"

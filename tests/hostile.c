@@ -22,6 +22,7 @@ struct places {
     struct scm_pair pair;
     struct scm_received received;
     struct scm_finished finished;
+    struct scm_ready ready;
     struct scm_file file;
     struct scm_checked checked;
     uint64_t number;
@@ -106,6 +107,9 @@ static void by_strangers(uint32_t pid) {
     REFUSED(scm_limit(&engine, pid, 8), SCM_ESRCH);
     REFUSED(scm_limit(&engine, pid, LAST), SCM_ESRCH);
     REFUSED(scm_exit(&engine, pid), SCM_ESRCH);
+    REFUSED(scm_next_fd(&engine, pid, 0, &places.number), SCM_EBADF);
+    REFUSED(scm_poll(&engine, pid, 0, &places.ready), SCM_ESRCH);
+    REFUSED(scm_poll(&engine, pid, LAST, &places.ready), SCM_ESRCH);
     REFUSED(scm_pair(&engine, pid, SCM_STREAM, &places.pair), SCM_ESRCH);
     REFUSED(scm_socket(&engine, pid, SCM_STREAM), SCM_ESRCH);
     REFUSED(scm_bind(&engine, pid, 0, text("name"), 4), SCM_ESRCH);
@@ -222,6 +226,11 @@ static void without_an_engine(void) {
     REFUSED(scm_next_after(&engine, 0, &places.number), SCM_ENOENGINE);
     REFUSED(scm_next_pid(&engine), SCM_ENOENGINE);
     REFUSED(scm_file(&engine, 1, &places.file), SCM_ENOENGINE);
+    REFUSED(scm_ino(&engine, 1, 0, &places.number), SCM_ENOENGINE);
+    REFUSED(scm_next_fd(&engine, 1, 0, &places.number), SCM_ENOENGINE);
+    REFUSED(scm_poll(&engine, 1, 0, &places.ready), SCM_ENOENGINE);
+    REFUSED(scm_name(&engine, 1, places.bytes, sizeof places.bytes), SCM_ENOENGINE);
+    REFUSED(scm_graph(&engine, places.bytes, sizeof places.bytes), SCM_ENOENGINE);
     REFUSED(scm_check(&engine, &places.checked), SCM_ENOENGINE);
 }
 
@@ -245,6 +254,74 @@ static int strangers(void) {
     MUST(scm_charged(&engine, LAST, &count) == 0 && count == 0);
     MUST(scm_next_after(&engine, UINT64_MAX, &count) == 0 && count == 0);
     MUST(scm_file(&engine, UINT64_MAX, &file) == 0 && file.kind == SCM_NO_FILE);
+    MUST(scm_ino(&engine, STRANGER, 0, &count) == 0 && count == 0);
+    MUST(scm_ino(&engine, 1, LAST, &count) == 0 && count == 0);
+    REFUSED(scm_next_fd(&engine, 1, LAST, &places.number), SCM_EBADF);
+    REFUSED(scm_poll(&engine, 1, LAST, &places.ready), SCM_EBADF);
+    return 0;
+}
+
+/* A walk over the table of process 1 finds just the descriptors that refer to a file, and each can be
+ * polled. */
+static int tables(void) {
+    uint32_t from = 0;
+    for (uint32_t fd = 0; fd < SCM_MAX_NOFILE; fd++) {
+        uint64_t ino = 9, next = 9;
+        struct scm_ready ready;
+        MUST(scm_ino(&engine, 1, fd, &ino) == 0);
+        if (ino == 0) {
+            REFUSED(scm_poll(&engine, 1, fd, &places.ready), SCM_EBADF);
+            continue;
+        }
+        MUST(scm_next_fd(&engine, 1, from, &next) == fd && next == ino);
+        MUST(scm_poll(&engine, 1, fd, &ready) == 0);
+        from = fd + 1;
+    }
+    REFUSED(scm_next_fd(&engine, 1, from, &places.number), SCM_EBADF);
+    return 0;
+}
+
+/* What the ends of a pair are ready for: empty, with a message, and after the other end is closed; and a
+ * listener before a connection, with one, and after the accept. */
+static int polled(void) {
+    struct scm_ready ready;
+    struct scm_pair pair;
+    MUST(scm_engine_new(&engine) == 0 && scm_spawn(&engine, 7, 16, false) == 1);
+    MUST(scm_open(&engine, 1) == 0 && scm_poll(&engine, 1, 0, &ready) == 0);
+    MUST(ready.readable && ready.writable && !ready.hung_up);
+    MUST(scm_pair(&engine, 1, SCM_STREAM, &pair) == 0);
+    MUST(scm_poll(&engine, 1, pair.first, &ready) == 0 && !ready.readable && ready.writable && !ready.hung_up);
+    for (int i = 0; i < SCM_MAX_MESSAGES; i++) {
+        MUST(scm_send(&engine, 1, pair.second, text("a"), 1, many, 0) == 1);
+    }
+    MUST(scm_poll(&engine, 1, pair.first, &ready) == 0 && ready.readable && ready.writable);
+    MUST(scm_poll(&engine, 1, pair.second, &ready) == 0 && !ready.readable && !ready.writable);
+    MUST(scm_close(&engine, 1, pair.second) == 0);
+    MUST(scm_poll(&engine, 1, pair.first, &ready) == 0 && ready.readable && !ready.writable && ready.hung_up);
+    int64_t listener = scm_socket(&engine, 1, SCM_STREAM), client = scm_socket(&engine, 1, SCM_STREAM);
+    MUST(scm_poll(&engine, 1, (uint32_t)client, &ready) == 0 && !ready.readable && !ready.writable && !ready.hung_up);
+    MUST(scm_bind(&engine, 1, (uint32_t)listener, text("here"), 4) == 0 && scm_listen(&engine, 1, (uint32_t)listener, 1) == 0);
+    MUST(scm_poll(&engine, 1, (uint32_t)listener, &ready) == 0 && !ready.readable && !ready.writable);
+    MUST(scm_connect(&engine, 1, (uint32_t)client, text("here"), 4) == 0);
+    MUST(scm_poll(&engine, 1, (uint32_t)listener, &ready) == 0 && ready.readable && !ready.writable);
+    MUST(scm_poll(&engine, 1, (uint32_t)client, &ready) == 0 && !ready.readable && ready.writable);
+    MUST(scm_accept(&engine, 1, (uint32_t)listener) >= 0);
+    MUST(scm_poll(&engine, 1, (uint32_t)listener, &ready) == 0 && !ready.readable);
+    return 0;
+}
+
+/* A name and a picture are written as far as there is room, and the answer is the whole length. */
+static int texts(void) {
+    uint64_t ino = 0;
+    uint8_t name[8], small[4] = {0};
+    MUST(scm_ino(&engine, 1, 4, &ino) == 0 && scm_name(&engine, ino, name, sizeof name) == 5 && memcmp(name, "taken", 5) == 0);
+    MUST(scm_name(&engine, ino, small, 2) == 5 && memcmp(small, "ta\0\0", 4) == 0);
+    MUST(scm_name(&engine, UINT64_MAX, name, sizeof name) == 0 && memcmp(name, "taken", 5) == 0);
+    MUST(scm_ino(&engine, 1, 3, &ino) == 0 && scm_name(&engine, ino, name, sizeof name) == 0);
+    int64_t length = scm_graph(&engine, big, 0);
+    MUST(length > 0 && big[0] == 'a' && scm_graph(&engine, big, sizeof big) == length);
+    MUST(memcmp(big, "digraph world {", 15) == 0 && big[length - 2] == '}' && big[length] == 'a');
+    memset(big, 'a', sizeof big);
     return 0;
 }
 
@@ -291,7 +368,7 @@ int main(void) {
     if (passes() != 0 || limited() != 0 || strangers() != 0)
         return 1;
     MUST(scm_check(&engine, &checked) == 0 && checked.live == 5 && checked.garbage == 0);
-    if (cut() != 0)
+    if (tables() != 0 || texts() != 0 || cut() != 0)
         return 1;
 
     scm_engine_free(&engine);
@@ -300,6 +377,8 @@ int main(void) {
     MUST(scm_engine_new(&engine) == 0);
     MUST(scm_engine_new(&engine) == 0);
     MUST(scm_next_pid(&engine) == 1);
+    if (polled() != 0)
+        return 1;
     scm_engine_free(&engine);
     return failures == 0 ? 0 : 1;
 }

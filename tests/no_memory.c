@@ -82,8 +82,10 @@ static void life(void) {
     struct scm_received got = {0, false, false};
     struct scm_finished finished = {0, 0};
     struct scm_checked checked = {0, 0};
+    struct scm_ready ready;
     uint8_t bytes[8];
     uint32_t fds[8];
+    uint64_t ino;
 
     DONE(scm_spawn(&engine, 7, 64, false), 1);
     DONE(scm_pair(&engine, 1, SCM_STREAM, &pair), 0);
@@ -111,6 +113,13 @@ static void life(void) {
     fds[0] = 7;
     DONE(scm_send(&engine, 1, 7, text("me"), 2, fds, 1), 2);
     DONE(scm_check(&engine, &checked), 0);
+    /* The picture is longer than the place, and has the same length each time. */
+    int64_t length = scm_graph(&engine, bytes, 0);
+    if (length == -SCM_ENOMEM)
+        refusals++, length = scm_graph(&engine, bytes, 0);
+    DONE(scm_graph(&engine, bytes, sizeof bytes), length);
+    FREE(length > 500 && memcmp(bytes, "digraph ", 8) == 0, true);
+    FREE(scm_poll(&engine, 1, 6, &ready) == 0 && scm_next_fd(&engine, 1, 0, &ino) == 0 && scm_ino(&engine, 1, 0, &ino) == 0, true);
     FREE(scm_exit(&engine, 2), 0);
     FREE(scm_close(&engine, 1, 40), 0);
     FREE(scm_exit(&engine, 1), 0);

@@ -9,7 +9,7 @@ use std::fmt;
 /// An error's name, with the number that this project gives it.
 #[derive(Clone, Copy, Debug, PartialEq, Eq)]
 pub enum Errno {
-    /// The number is not open, or the new number of a dup2(2) is not below the limit.
+    /// The descriptor is not open, or the new one of a dup2(2) is not below the limit.
     EBADF = 1,
     /// The file is no socket.
     ENOTSOCK,

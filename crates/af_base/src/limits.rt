@@ -12,13 +12,13 @@ pub const MAX_FILES: usize = 65_536;
 /// Messages in a queue.
 pub const MAX_MESSAGES: usize = 64;
 
-/// Bytes of a message.
+/// Bytes of a message, and of a receive's buffer.
 pub const MAX_BYTES: usize = 65_536;
 
 /// Descriptors of a message, as Linux has it (unix(7), SCM_RIGHTS).
 pub const SCM_MAX_FD: usize = 253;
 
-/// Embryos in a backlog.
+/// Embryos in a backlog: connections that wait at a listener.
 pub const MAX_BACKLOG: u32 = 128;
 
 /// Descriptors in flight, of all users together.
@@ -36,7 +36,7 @@ pub const MAX_INO: u64 = 1_099_511_627_775;
 /// The largest pass number; later passes have it too.
 pub const MAX_PASS: u64 = 1_000_000_000_000;
 
-/// The largest budget of a slice; none is 0.
+/// The largest budget of a slice, in files. The smallest is 1.
 pub const MAX_BUDGET: u32 = 65_536;
 
 /// Entries of a log.

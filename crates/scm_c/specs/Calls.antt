@@ -38,6 +38,11 @@ abbrev pub Tells : {X : Type 0} → Option Machine → (Machine → X → Type 0
 Tells (Some m) holds x result y = (result ≡ pos 0) × holds m y
 Tells None holds x result y = (result ≡ no_engine) × (y ≡ x)
 
+-- The call answers a number and writes `y`, of which this holds; or there is no engine, and it writes nothing.
+abbrev pub Asks : {X : Type 0} → Option Machine → (Machine → ℤ → X → Type 0) → X → ℤ → X → Type 0
+Asks (Some m) holds x result y = holds m result y
+Asks None holds x result y = (result ≡ no_engine) × (y ≡ x)
+
 -- The call answers this number of the engine; or there is no engine.
 abbrev pub TellsNumber : Option Machine → (Machine → ℤ) → ℤ → Type 0
 TellsNumber (Some m) f result = result ≡ f m

@@ -2,3 +2,5 @@ pub mod Held
 pub mod Codes
 pub mod Calls
 pub mod Written
+pub mod Tables
+pub mod Texts

@@ -5,7 +5,7 @@ ghost use Rattle.scm_c.specs.Codes.{code_of, error_code};
 use af_base::errno::Errno;
 use af_base::events::Reply;
 
-/// What a call on a handle without an engine answers.
+/// The handle has no engine: none was made, or it was freed.
 pub(crate) const NO_ENGINE: i64 = -100;
 
 /// What a refused call answers.

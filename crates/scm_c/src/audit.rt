@@ -10,21 +10,23 @@ use af_base::errno::Errno;
 use af_report::count;
 use std::alloc::Global;
 
-/// What a check answers where a kept number is no recount. No engine comes to it.
+/// A kept number is not its recount: proved never to be answered.
 const DIFFERS: i64 = -101;
 
-/// What a check counted.
+/// The counts of a check.
 #[repr(C)]
 #[derive(Clone, Copy)]
 pub struct Counted {
     /// How many files are live.
     pub live: u64,
-    /// How many of them no chain of places reaches from any table.
+    /// How many of them no chain of queues and backlogs reaches from any table.
     pub garbage: u64,
 }
 
-/// Counts all places anew, compares each number that the engine keeps with that count, and writes how
-/// many files are live and how many of them are garbage.
+/// Counts all places anew, compares each number that the engine keeps with that count, and writes
+/// how many files are live and how many of them are garbage. Answers 0.
+///
+/// Errors: SCM_ENOMEM.
 #[unsafe(no_mangle)]
 pub extern "C" fn scm_check(alloc: Global, engine: &mut Handle, out: &mut Counted) -> i64
     ensures same { engine.new.shown ≡ engine.old.shown }

@@ -10,7 +10,10 @@ use af_base::names::Pid;
 use af_steps::Engine;
 use std::alloc::Global;
 
-/// Makes an engine, in place of the one that was there, which is freed.
+/// Makes an engine to which nothing has happened. An engine that was in the handle is freed, also
+/// where the new one is refused. Answers 0.
+///
+/// Errors: SCM_ENOMEM; the handle has no engine then.
 #[unsafe(no_mangle)]
 pub extern "C" fn scm_engine_new(alloc: Global, engine: &mut Handle) -> i64
     ensures { Makes result engine.new.shown }
@@ -32,7 +35,7 @@ pub extern "C" fn scm_engine_new(alloc: Global, engine: &mut Handle) -> i64
     }
 }
 
-/// Frees the engine, if there is one.
+/// Frees the engine, if there is one. The handle has no engine then.
 #[unsafe(no_mangle)]
 pub extern "C" fn scm_engine_free(alloc: Global, engine: &mut Handle)
     ensures { engine.new.shown ≡ None }

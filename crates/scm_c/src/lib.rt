@@ -2,7 +2,7 @@
 //!
 //! C holds a word, which is null or stands for an engine (`Handle`), and gives its address to each
 //! call. A call does one event, or tells something of the engine; it answers 0 or more, or a negative
-//! error. `include/scmgc.h` declares what is here.
+//! error. `tools/bindings` writes `include/scmgc.h` from what is here, doc comments included.
 #![tactic(auto)]
 
 mod answers;
@@ -14,4 +14,6 @@ mod messages;
 mod passes;
 mod processes;
 mod sockets;
+mod tables;
+mod texts;
 mod views;

@@ -15,20 +15,24 @@ use std::alloc::Global;
 /// As many numbers as a message may have, and one more: with that many it is refused.
 const MOST: usize = SCM_MAX_FD + 1;
 
-/// What a receive or a peek tells besides bytes and numbers.
+/// The outcome of a receive or a peek, beside its bytes and descriptors.
 #[repr(C)]
 #[derive(Clone, Copy)]
 pub struct Received {
-    /// How many numbers it got.
+    /// How many descriptors were installed.
     pub fds: usize,
-    /// Bytes of the message did not fit (MSG_TRUNC).
+    /// Whether bytes of the packet did not fit (recvmsg(2), MSG_TRUNC).
     pub trunc: bool,
-    /// Descriptors of the message were not installed (MSG_CTRUNC).
+    /// Whether descriptors did not fit and were not installed (recvmsg(2), MSG_CTRUNC).
     pub ctrunc: bool,
 }
 
-/// A process sends bytes, and with them what these numbers stand for (sendmsg(2)). Answers how many
-/// bytes were sent. The bytes are copied once, and no memory is asked for before all else is tested.
+/// Sends 1 to 65536 bytes, and with them the files of at most 253 descriptors (sendmsg(2) with
+/// SCM_RIGHTS; unix(7), cmsg(3)). The bytes are copied once. Memory is requested after all other
+/// tests. Answers how many bytes were sent, which is all of them.
+///
+/// Errors: SCM_ESRCH, SCM_EBADF, SCM_ENOTSOCK, SCM_EINVAL, SCM_EMSGSIZE, SCM_EBADF for one of
+/// `fds`, SCM_ENOTCONN, SCM_EPIPE, SCM_ETOOMANYREFS, SCM_ENOBUFS, SCM_EAGAIN, SCM_ENOMEM.
 #[unsafe(no_mangle)]
 pub extern "C" fn scm_send(
     alloc: Global,
@@ -36,15 +40,15 @@ pub extern "C" fn scm_send(
     pid: u32,
     fd: u32,
     bytes: &[u8],
-    attach: &[u32],
+    fds: &[u32],
 ) -> i64
-    ensures { Calls engine.old.shown (Event.Proc pid (Step.Send fd bytes.now attach.now)) result engine.new.shown }
+    ensures { Calls engine.old.shown (Event.Proc pid (Step.Send fd bytes.now fds.now)) result engine.new.shown }
 {
     let Some(mut inside) = engine.take(alloc) else {
         return NO_ENGINE;
     };
     let mut first = ArrayVec::new();
-    push_first(attach, &mut first);
+    push_first(fds, &mut first);
     let outcome = inside.send(Pid(pid), Fd(fd), bytes, first.as_slice());
     *engine = Handle::of(inside);
     match outcome {
@@ -63,8 +67,15 @@ fn push_first(fds: &[u32], first: &mut ArrayVec<Fd, MOST>)
     }
 }
 
-/// A process receives at most as many bytes and descriptors as there are places for (recvmsg(2)).
-/// Answers how many bytes; 0 says that nothing is left and the peer is gone.
+/// Receives at most `len` bytes, 1 to 65536, and at most `nfds` descriptors (recvmsg(2) with
+/// SCM_RIGHTS). Writes the bytes and the new descriptors, and to `out` how many descriptors there
+/// are and what did not fit. Answers how many bytes it wrote, or 0 where nothing is left and the
+/// peer is gone.
+///
+/// A packet's bytes beyond `len` are dropped; a stream's wait for the next receive. Descriptors
+/// beyond `nfds` or beyond the free ones are closed.
+///
+/// Errors: SCM_ESRCH, SCM_EBADF, SCM_ENOTSOCK, SCM_EINVAL, SCM_ENOTCONN, SCM_EAGAIN, SCM_ENOMEM.
 #[unsafe(no_mangle)]
 pub extern "C" fn scm_recv(
     alloc: Global,
@@ -85,8 +96,12 @@ pub extern "C" fn scm_recv(
     receive(alloc, engine, &Event::Proc(Pid(pid), step), bytes, fds, out)
 }
 
-/// A process sees what a receive would take, which stays where it is (recvmsg(2), MSG_PEEK). Answers
-/// how many bytes; 0 says that nothing is left and the peer is gone.
+/// Writes and answers what scm_recv would, but takes nothing from the queue (recvmsg(2), MSG_PEEK).
+///
+/// The descriptors are installed and also stay in the queue, where they are still charged. A second
+/// peek installs them again. Bytes and descriptors that do not fit stay in the queue too.
+///
+/// Errors: SCM_ESRCH, SCM_EBADF, SCM_ENOTSOCK, SCM_EINVAL, SCM_ENOTCONN, SCM_EAGAIN, SCM_ENOMEM.
 #[unsafe(no_mangle)]
 pub extern "C" fn scm_peek(
     alloc: Global,
@@ -163,7 +178,7 @@ fn write_received(reply: &Reply, bytes: &mut [u8], fds: &mut [u32], out: &mut Re
 }
 
 /// Writes these bytes over the beginning of the place, as many as fit.
-fn write_bytes(from: &[u8], to: &mut [u8])
+pub(crate) fn write_bytes(from: &[u8], to: &mut [u8])
     ensures { to.new ≡ over from.now to.old }
 {
     let count = from.len().min(to.len());

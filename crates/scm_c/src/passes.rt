@@ -9,18 +9,20 @@ use crate::handle::Handle;
 use af_base::events::{Event, Reply};
 use std::alloc::Global;
 
-/// A pass that is over.
+/// A pass of the collector that is over.
 #[repr(C)]
 #[derive(Clone, Copy)]
 pub struct Finished {
-    /// Its number.
+    /// The number of the pass, from 1 on.
     pub pass: u64,
-    /// How many sockets were garbage.
+    /// How many sockets were garbage when it began.
     pub reclaimed: u64,
 }
 
-/// A pass of the collector begins, and its number is written. It costs the same with few files and
-/// with many.
+/// Begins a pass of the collector, and writes its number. It costs the same with few files and with
+/// many. Answers 0.
+///
+/// Errors: SCM_EBUSY.
 #[unsafe(no_mangle)]
 pub extern "C" fn scm_begin(alloc: Global, engine: &mut Handle, pass: &mut u64) -> i64
     ensures { CallsInto engine.old.shown Event.Begin begun_written pass.old result pass.new engine.new.shown }
@@ -34,8 +36,10 @@ pub extern "C" fn scm_begin(alloc: Global, engine: &mut Handle, pass: &mut u64) 
     code(&reply)
 }
 
-/// The pass goes on, by at most so many files looked at. Answers 1 while it goes on, and 0 when it is
-/// over: then its number is written, and how many sockets it reclaimed.
+/// Continues the pass by at most `budget` files, 1 to 65536. Answers 1 while the pass runs. Answers
+/// 0 when it is over, and writes what scm_pass writes.
+///
+/// Errors: SCM_EIDLE, SCM_EINVAL.
 #[unsafe(no_mangle)]
 pub extern "C" fn scm_slice(
     alloc: Global,
@@ -48,7 +52,10 @@ pub extern "C" fn scm_slice(
     collect(alloc, engine, &Event::Slice(budget), out)
 }
 
-/// A whole pass of the collector: its number is written, and how many sockets it reclaimed.
+/// Does a whole pass at once: reclaims what no process can reach. Writes the number of the pass,
+/// and how many sockets were garbage. Answers 0.
+///
+/// Errors: SCM_EBUSY.
 #[unsafe(no_mangle)]
 pub extern "C" fn scm_pass(alloc: Global, engine: &mut Handle, out: &mut Finished) -> i64
     ensures { CallsInto engine.old.shown Event.Pass finished_written out.old result out.new engine.new.shown }

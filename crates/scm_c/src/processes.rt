@@ -8,8 +8,11 @@ use af_base::events::{Event, Step};
 use af_base::names::{Fd, Pid, Uid};
 use std::alloc::Global;
 
-/// A process of this user starts, with a limit on its descriptors (RLIMIT_NOFILE), as after fork(2)
-/// and setuid(2). Answers its pid.
+/// Starts a process of this user, as after fork(2) and setuid(2), with an empty table and a limit
+/// on its descriptors (RLIMIT_NOFILE, getrlimit(2)). A privileged process is not held to its user's
+/// share of descriptors in flight (unix(7), CAP_SYS_RESOURCE). Answers its pid.
+///
+/// Errors: SCM_ERANGE, SCM_EAGAIN, SCM_ENOMEM.
 #[unsafe(no_mangle)]
 pub extern "C" fn scm_spawn(
     alloc: Global,
@@ -28,7 +31,9 @@ pub extern "C" fn scm_spawn(
     call(alloc, engine, &event)
 }
 
-/// A process opens a plain file (open(2)). Answers its number.
+/// Opens a plain file (open(2)). Answers its descriptor, the lowest that is free.
+///
+/// Errors: SCM_ESRCH, SCM_EMFILE, SCM_ENFILE, SCM_ENOMEM.
 #[unsafe(no_mangle)]
 pub extern "C" fn scm_open(alloc: Global, engine: &mut Handle, pid: u32) -> i64
     ensures { Calls engine.old.shown (Event.Proc pid Step.Open) result engine.new.shown }
@@ -44,7 +49,9 @@ pub extern "C" fn scm_open(alloc: Global, engine: &mut Handle, pid: u32) -> i64
     }
 }
 
-/// A process has a description at its lowest free number too (dup(2)). Answers that number.
+/// Duplicates a descriptor (dup(2)). Answers the new descriptor, the lowest that is free.
+///
+/// Errors: SCM_ESRCH, SCM_EBADF, SCM_EMFILE, SCM_ENOMEM.
 #[unsafe(no_mangle)]
 pub extern "C" fn scm_dup(alloc: Global, engine: &mut Handle, pid: u32, fd: u32) -> i64
     ensures { Calls engine.old.shown (Event.Proc pid (Step.Dup fd)) result engine.new.shown }
@@ -52,8 +59,10 @@ pub extern "C" fn scm_dup(alloc: Global, engine: &mut Handle, pid: u32, fd: u32)
     call_of(alloc, engine, pid, Step::Dup(Fd(fd)))
 }
 
-/// A process has a description at another number too, in place of what that stood for (dup2(2)).
-/// Answers the other number.
+/// Duplicates a descriptor at a given number, in place of what that number had (dup2(2)). Answers
+/// that number.
+///
+/// Errors: SCM_ESRCH, SCM_EBADF, SCM_ENOMEM.
 #[unsafe(no_mangle)]
 pub extern "C" fn scm_dup2(alloc: Global, engine: &mut Handle, pid: u32, from: u32, to: u32) -> i64
     ensures { Calls engine.old.shown (Event.Proc pid (Step.Dup2 from to)) result engine.new.shown }
@@ -61,7 +70,9 @@ pub extern "C" fn scm_dup2(alloc: Global, engine: &mut Handle, pid: u32, from: u
     call_of(alloc, engine, pid, Step::Dup2(Fd(from), Fd(to)))
 }
 
-/// A process closes a number (close(2)).
+/// Closes a descriptor (close(2)). Answers 0.
+///
+/// Errors: SCM_ESRCH, SCM_EBADF.
 #[unsafe(no_mangle)]
 pub extern "C" fn scm_close(alloc: Global, engine: &mut Handle, pid: u32, fd: u32) -> i64
     ensures { Calls engine.old.shown (Event.Proc pid (Step.Close fd)) result engine.new.shown }
@@ -77,7 +88,9 @@ pub extern "C" fn scm_close(alloc: Global, engine: &mut Handle, pid: u32, fd: u3
     }
 }
 
-/// A process makes a child with a copy of its table (fork(2)). Answers the child's pid.
+/// Makes a child of the process, with a copy of its table (fork(2)). Answers the child's pid.
+///
+/// Errors: SCM_ESRCH, SCM_EAGAIN, SCM_ENOMEM.
 #[unsafe(no_mangle)]
 pub extern "C" fn scm_fork(alloc: Global, engine: &mut Handle, pid: u32) -> i64
     ensures { Calls engine.old.shown (Event.Proc pid Step.Fork) result engine.new.shown }
@@ -85,8 +98,11 @@ pub extern "C" fn scm_fork(alloc: Global, engine: &mut Handle, pid: u32) -> i64
     call_of(alloc, engine, pid, Step::Fork)
 }
 
-/// A process has another limit on its descriptors from now on (setrlimit(2), RLIMIT_NOFILE). What is
-/// open stays open.
+/// Changes the limit on the process's descriptors, to a lower or a higher one (setrlimit(2),
+/// RLIMIT_NOFILE). There is no hard limit. Open descriptors stay open, also at or above the limit.
+/// Answers 0.
+///
+/// Errors: SCM_ESRCH, SCM_ERANGE.
 #[unsafe(no_mangle)]
 pub extern "C" fn scm_limit(alloc: Global, engine: &mut Handle, pid: u32, nofile: u32) -> i64
     ensures { Calls engine.old.shown (Event.Proc pid (Step.Limit nofile)) result engine.new.shown }
@@ -94,7 +110,9 @@ pub extern "C" fn scm_limit(alloc: Global, engine: &mut Handle, pid: u32, nofile
     call_of(alloc, engine, pid, Step::Limit(nofile))
 }
 
-/// A process ends, and all its numbers are closed (_exit(2)).
+/// Ends the process and closes its descriptors (_exit(2)). Answers 0.
+///
+/// Errors: SCM_ESRCH.
 #[unsafe(no_mangle)]
 pub extern "C" fn scm_exit(alloc: Global, engine: &mut Handle, pid: u32) -> i64
     ensures { Calls engine.old.shown (Event.Proc pid Step.Exit) result engine.new.shown }

@@ -13,16 +13,21 @@ use af_base::items::Items;
 use af_base::names::{Fd, Pid};
 use std::alloc::{AllocError, Global};
 
-/// The numbers of two sockets that are connected to each other.
+/// The descriptors of two connected sockets.
 #[repr(C)]
 #[derive(Clone, Copy)]
 pub struct Pair {
+    /// The lower descriptor.
     pub first: u32,
+    /// The higher descriptor.
     pub second: u32,
 }
 
-/// A process makes two sockets that are connected to each other (socketpair(2)), and their numbers
-/// are written. A type that is none is refused by EINVAL.
+/// Makes two connected sockets of type SCM_STREAM or SCM_SEQPACKET (socketpair(2)), and writes
+/// their descriptors. Answers 0.
+///
+/// Errors: SCM_EINVAL for another type, before all else; SCM_ESRCH, SCM_EMFILE, SCM_ENFILE,
+/// SCM_ENOMEM.
 #[unsafe(no_mangle)]
 pub extern "C" fn scm_pair(
     alloc: Global,
@@ -69,7 +74,10 @@ fn type_named(kind: u32) -> Option<SockType>
     }
 }
 
-/// A process makes a socket (socket(2)). Answers its number. A type that is none is refused by EINVAL.
+/// Makes a socket of type SCM_STREAM or SCM_SEQPACKET (socket(2)). Answers its descriptor.
+///
+/// Errors: SCM_EINVAL for another type, before all else; SCM_ESRCH, SCM_EMFILE, SCM_ENFILE,
+/// SCM_ENOMEM.
 #[unsafe(no_mangle)]
 pub extern "C" fn scm_socket(alloc: Global, engine: &mut Handle, pid: u32, kind: u32) -> i64
     ensures made { IfSome (type_named kind) (λ k. Calls engine.old.shown (Event.Proc pid (Step.Socket k)) result engine.new.shown) }
@@ -81,8 +89,11 @@ pub extern "C" fn scm_socket(alloc: Global, engine: &mut Handle, pid: u32, kind:
     }
 }
 
-/// A process gives a socket an abstract name (bind(2); unix(7)). The name is copied first: where
-/// memory for that is refused, the answer is ENOMEM.
+/// Gives a socket an abstract name (bind(2), unix(7)): 1 to 107 letters, digits, '-', '.' and '_'.
+/// The name is copied first. Answers 0.
+///
+/// Errors: SCM_ESRCH, SCM_EBADF, SCM_ENOTSOCK, SCM_EINVAL, SCM_EADDRINUSE; SCM_ENOMEM, which here
+/// may come before these.
 #[unsafe(no_mangle)]
 pub extern "C" fn scm_bind(
     alloc: Global,
@@ -99,7 +110,9 @@ pub extern "C" fn scm_bind(
     }
 }
 
-/// A process lets a socket wait for connections, so many at most (listen(2)).
+/// Lets a socket with a name wait for connections, with room for 1 to 128 (listen(2)). Answers 0.
+///
+/// Errors: SCM_ESRCH, SCM_EBADF, SCM_ENOTSOCK, SCM_EINVAL, SCM_ENOMEM.
 #[unsafe(no_mangle)]
 pub extern "C" fn scm_listen(
     alloc: Global,
@@ -117,8 +130,11 @@ pub extern "C" fn scm_listen(
     call_of(alloc, engine, pid, step)
 }
 
-/// A process connects a socket to the listener of this name (connect(2)). The name is copied first:
-/// where memory for that is refused, the answer is ENOMEM.
+/// Connects a socket to the listener of this name, without waiting (connect(2)). The socket is
+/// connected at once, and the other end waits to be accepted. The name is copied first. Answers 0.
+///
+/// Errors: SCM_ESRCH, SCM_EBADF, SCM_ENOTSOCK, SCM_EINVAL, SCM_EISCONN, SCM_ECONNREFUSED,
+/// SCM_EPROTOTYPE, SCM_EAGAIN, SCM_ENFILE; SCM_ENOMEM, which here may come before these.
 #[unsafe(no_mangle)]
 pub extern "C" fn scm_connect(
     alloc: Global,
@@ -142,8 +158,10 @@ fn items(alloc: Global, bytes: &[u8]) -> Result<Items<u8>, AllocError>
     Ok(Items::of(bytes.to_vec(alloc)?))
 }
 
-/// A process accepts the connection that waits longest at a listener (accept(2)). Answers the new
-/// socket's number.
+/// Accepts the connection that waits longest at a listener (accept(2)). Answers the new socket's
+/// descriptor.
+///
+/// Errors: SCM_ESRCH, SCM_EBADF, SCM_ENOTSOCK, SCM_EINVAL, SCM_EAGAIN, SCM_EMFILE, SCM_ENOMEM.
 #[unsafe(no_mangle)]
 pub extern "C" fn scm_accept(alloc: Global, engine: &mut Handle, pid: u32, fd: u32) -> i64
     ensures { Calls engine.old.shown (Event.Proc pid (Step.Accept fd)) result engine.new.shown }

@@ -13,7 +13,8 @@ use af_base::names::{Ino, Uid};
 use af_steps::FileInfo;
 use std::alloc::Global;
 
-/// Writes how many places hold the file: its reference count. A stranger's is 0.
+/// Writes how many places in tables, queues and backlogs hold the file: its reference count. Writes
+/// 0 for an unknown file. Answers 0.
 #[unsafe(no_mangle)]
 pub extern "C" fn scm_refs(alloc: Global, engine: &mut Handle, ino: u64, count: &mut u64) -> i64
     ensures same { engine.new.shown ≡ engine.old.shown }
@@ -27,7 +28,8 @@ pub extern "C" fn scm_refs(alloc: Global, engine: &mut Handle, ino: u64, count: 
     0
 }
 
-/// Writes how often the file is in flight (unix(7), SCM_RIGHTS), repeats included. A stranger's is 0.
+/// Writes how often the file is in flight, repeats included (unix(7), SCM_RIGHTS). Writes 0 for an
+/// unknown file. Answers 0.
 #[unsafe(no_mangle)]
 pub extern "C" fn scm_inflight(alloc: Global, engine: &mut Handle, ino: u64, count: &mut u64) -> i64
     ensures same { engine.new.shown ≡ engine.old.shown }
@@ -41,8 +43,8 @@ pub extern "C" fn scm_inflight(alloc: Global, engine: &mut Handle, ino: u64, cou
     0
 }
 
-/// Writes how many descriptors in flight are charged to the user (unix(7), ETOOMANYREFS). A
-/// stranger's are 0.
+/// Writes how many descriptors in flight are charged to the user (unix(7), ETOOMANYREFS). Writes 0
+/// for an unknown user. Answers 0.
 #[unsafe(no_mangle)]
 pub extern "C" fn scm_charged(alloc: Global, engine: &mut Handle, uid: u32, count: &mut u64) -> i64
     ensures same { engine.new.shown ≡ engine.old.shown }
@@ -56,7 +58,7 @@ pub extern "C" fn scm_charged(alloc: Global, engine: &mut Handle, uid: u32, coun
     0
 }
 
-/// Writes how many descriptors are in flight.
+/// Writes how many descriptors are in flight. Answers 0.
 #[unsafe(no_mangle)]
 pub extern "C" fn scm_total(alloc: Global, engine: &mut Handle, count: &mut u64) -> i64
     ensures same { engine.new.shown ≡ engine.old.shown }
@@ -70,7 +72,7 @@ pub extern "C" fn scm_total(alloc: Global, engine: &mut Handle, count: &mut u64)
     0
 }
 
-/// Writes how many files are live.
+/// Writes how many files are live. Answers 0.
 #[unsafe(no_mangle)]
 pub extern "C" fn scm_live(alloc: Global, engine: &mut Handle, count: &mut u64) -> i64
     ensures same { engine.new.shown ≡ engine.old.shown }
@@ -84,7 +86,8 @@ pub extern "C" fn scm_live(alloc: Global, engine: &mut Handle, count: &mut u64) 
     0
 }
 
-/// Writes the least live file above that number, or 0 where none is above it.
+/// Writes the least live file above `ino`, or 0 where there is none. A walk from 0 on comes to
+/// every live file. Answers 0.
 #[unsafe(no_mangle)]
 pub extern "C" fn scm_next_after(
     alloc: Global,
@@ -120,23 +123,23 @@ pub extern "C" fn scm_next_pid(alloc: Global, engine: &mut Handle) -> i64
     next
 }
 
-/// What a file is.
+/// A file. All fields but the kind are 0 where it is no socket.
 #[repr(C)]
 #[derive(Clone, Copy)]
 pub struct File {
-    /// 0: no live file; 1: a stream socket; 2: a seqpacket socket; 3: a plain file.
+    /// The kind of the file (enum scm_kind).
     pub kind: u32,
-    /// Of a socket, 0: never connected; 1: it listens; 2: connected; 3: its peer is gone.
+    /// The state of the socket (enum scm_state).
     pub state: u32,
-    /// The peer of a connected socket, and else 0.
+    /// The inode number of the peer of a connected socket, else 0.
     pub peer: u64,
-    /// How many messages a socket has to receive.
+    /// How many messages the socket has to receive.
     pub messages: u64,
-    /// How many connections wait to be accepted at a listener.
+    /// How many connections wait to be accepted at the listener.
     pub embryos: u64,
 }
 
-/// Writes what the file is; of a stranger, that there is none.
+/// Writes what the file is. Writes SCM_NO_FILE as the kind of an unknown file. Answers 0.
 #[unsafe(no_mangle)]
 pub extern "C" fn scm_file(alloc: Global, engine: &mut Handle, ino: u64, out: &mut File) -> i64
     ensures same { engine.new.shown ≡ engine.old.shown }

@@ -1,3 +1,4 @@
+// Written by tools/bindings from ffi.rs.in and the sources of scm_c and af_base.
 //! The calls of `scmgc.h` as they are.
 use std::ffi::c_void;
 
@@ -27,6 +28,14 @@ pub struct Received {
 pub struct Finished {
     pub pass: u64,
     pub reclaimed: u64,
+}
+
+#[repr(C)]
+#[derive(Default)]
+pub struct Ready {
+    pub readable: bool,
+    pub writable: bool,
+    pub hung_up: bool,
 }
 
 #[repr(C)]
@@ -107,6 +116,9 @@ extern "C" {
     pub fn scm_begin(engine: *mut Handle, pass: *mut u64) -> i64;
     pub fn scm_slice(engine: *mut Handle, budget: u32, out: *mut Finished) -> i64;
     pub fn scm_pass(engine: *mut Handle, out: *mut Finished) -> i64;
+    pub fn scm_ino(engine: *mut Handle, pid: u32, fd: u32, ino: *mut u64) -> i64;
+    pub fn scm_next_fd(engine: *mut Handle, pid: u32, from: u32, ino: *mut u64) -> i64;
+    pub fn scm_poll(engine: *mut Handle, pid: u32, fd: u32, out: *mut Ready) -> i64;
     pub fn scm_refs(engine: *mut Handle, ino: u64, count: *mut u64) -> i64;
     pub fn scm_inflight(engine: *mut Handle, ino: u64, count: *mut u64) -> i64;
     pub fn scm_charged(engine: *mut Handle, uid: u32, count: *mut u64) -> i64;
@@ -115,5 +127,7 @@ extern "C" {
     pub fn scm_next_after(engine: *mut Handle, ino: u64, next: *mut u64) -> i64;
     pub fn scm_next_pid(engine: *mut Handle) -> i64;
     pub fn scm_file(engine: *mut Handle, ino: u64, out: *mut File) -> i64;
+    pub fn scm_name(engine: *mut Handle, ino: u64, name: *mut u8, len: usize) -> i64;
+    pub fn scm_graph(engine: *mut Handle, text: *mut u8, len: usize) -> i64;
     pub fn scm_check(engine: *mut Handle, out: *mut Checked) -> i64;
 }

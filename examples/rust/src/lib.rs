@@ -65,6 +65,14 @@ pub struct Finished {
     pub reclaimed: u64,
 }
 
+/// What a descriptor is ready for (poll(2)).
+#[derive(Clone, Copy, Debug, PartialEq, Eq)]
+pub struct Ready {
+    pub readable: bool,
+    pub writable: bool,
+    pub hung_up: bool,
+}
+
 /// What a check counted.
 #[derive(Clone, Copy, Debug, PartialEq, Eq)]
 pub struct Checked {
@@ -259,6 +267,53 @@ impl Engine {
     pub fn next_after(&mut self, ino: Ino) -> Option<Ino> {
         let next = self.told(|handle, next| unsafe { ffi::scm_next_after(handle, ino.0, next) });
         (next > 0).then_some(Ino(next))
+    }
+
+    /// The file that a descriptor refers to; nothing where it is not open.
+    pub fn ino_at(&mut self, of: Pid, on: Fd) -> Option<Ino> {
+        let ino = self.told(|handle, ino| unsafe { ffi::scm_ino(handle, of.0, on.0, ino) });
+        (ino > 0).then_some(Ino(ino))
+    }
+
+    /// The lowest open descriptor from this one on, and its file.
+    pub fn next_open(&mut self, of: Pid, from: Fd) -> Option<(Fd, Ino)> {
+        let mut ino = 0;
+        let answer = unsafe { ffi::scm_next_fd(&mut self.handle, of.0, from.0, &mut ino) };
+        Errno::checked(answer).ok().map(|next| (fd(next), Ino(ino)))
+    }
+
+    /// poll(2): what a descriptor is ready for.
+    pub fn poll(&mut self, of: Pid, on: Fd) -> Result<Ready, Errno> {
+        let mut out = ffi::Ready::default();
+        Errno::checked(unsafe { ffi::scm_poll(&mut self.handle, of.0, on.0, &mut out) })?;
+        Ok(Ready {
+            readable: out.readable,
+            writable: out.writable,
+            hung_up: out.hung_up,
+        })
+    }
+
+    /// The abstract name of a socket; nothing where it has none.
+    pub fn name(&mut self, ino: Ino) -> Option<Vec<u8>> {
+        let mut name = [0; 107];
+        let answer =
+            unsafe { ffi::scm_name(&mut self.handle, ino.0, name.as_mut_ptr(), name.len()) };
+        let length = Errno::checked(answer).ok().filter(|length| *length > 0)?;
+        Some(name[..length as usize].to_vec())
+    }
+
+    /// A picture of who refers to whom, in the language of Graphviz.
+    pub fn graph(&mut self) -> Result<Vec<u8>, Errno> {
+        let mut draw = |text: &mut Vec<u8>| {
+            Errno::checked(unsafe {
+                ffi::scm_graph(&mut self.handle, text.as_mut_ptr(), text.len())
+            })
+        };
+        let mut text = Vec::new();
+        let length = draw(&mut text)?;
+        text.resize(length as usize, 0);
+        draw(&mut text)?;
+        Ok(text)
     }
 
     /// The pid that the next process gets.

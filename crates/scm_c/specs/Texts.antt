@@ -1,0 +1,18 @@
+-- What the calls that give a name or a picture answer and write.
+use Rattle.std.specs.Prelude.{◌≡◌, ◌⊎◌, ℕ, ℤ, pos, List, [], length, unwrap_or}
+use Rattle.af_base.specs.declared.errno.Errno.TheVariants.{ENOMEM}
+use Rattle.af_base.specs.World.{World}
+use Rattle.af_base.specs.Whole.{name_at}
+use Rattle.af_graph.specs.Graph.{IsGraph}
+use Rattle.scm_c.specs.Codes.{error_code}
+use Rattle.scm_c.specs.Written.{over}
+
+-- The answer is how long the name of the file f is, and as much of it as fits is written; a file without one has an empty name (unix(7)).
+abbrev pub IsNameWritten : World → ℕ → List ℕ → ℤ → List ℕ → Type 0
+IsNameWritten w f old r new = let name = unwrap_or (name_at w f) [] in (r ≡ pos (length name)) × (new ≡ over name old)
+
+-- The answer is how long a picture of the world is, and as much of it as fits is written; or it is want of memory, and what was there stays.
+abbrev pub IsPictureWritten : World → List ℕ → ℤ → List ℕ → Type 0
+IsPictureWritten w old r new =
+    ((text : List ℕ) × IsGraph w text × (r ≡ pos (length text)) × (new ≡ over text old))
+    ⊎ ((r ≡ error_code ENOMEM) × (new ≡ old))

@@ -1,0 +1,110 @@
+//! Which file a descriptor refers to, and what it is ready for. None of these changes the engine, or
+//! takes memory.
+ghost use Rattle.std.specs.Prelude.{◌≡◌, unwrap_or};
+ghost use Rattle.af_base.specs.Places.{table_at};
+ghost use Rattle.scm_c.specs.Calls.{Asks, Tells};
+ghost use Rattle.scm_c.specs.Tables.{IsNextOpen, IsPolled};
+
+use crate::answers::{NO_ENGINE, refusal};
+use crate::handle::Handle;
+use af_base::errno::Errno;
+use af_base::names::{Fd, Pid};
+use std::alloc::Global;
+
+/// Writes the inode number of the file that a descriptor refers to, or 0 where the descriptor is not
+/// open or there is no such process. Answers 0.
+#[unsafe(no_mangle)]
+pub extern "C" fn scm_ino(
+    alloc: Global,
+    engine: &mut Handle,
+    pid: u32,
+    fd: u32,
+    ino: &mut u64,
+) -> i64
+    ensures same { engine.new.shown ≡ engine.old.shown }
+    ensures value { Tells engine.old.shown (λ m n. n ≡ unwrap_or (table_at m.world pid fd) 0) ino.old result ino.new }
+{
+    let Some(inside) = engine.take(alloc) else {
+        return NO_ENGINE;
+    };
+    *ino = match inside.ino_at(Pid(pid), Fd(fd)) {
+        Some(file) => file.0,
+        None => 0,
+    };
+    *engine = Handle::of(inside);
+    0
+}
+
+/// Answers the lowest open descriptor of a process that is not below `from`, and writes the inode
+/// number of its file. A walk over a table asks again from the next number.
+///
+/// Errors: SCM_EBADF; no descriptor is open from there on, or there is no such process.
+#[unsafe(no_mangle)]
+pub extern "C" fn scm_next_fd(
+    alloc: Global,
+    engine: &mut Handle,
+    pid: u32,
+    from: u32,
+    ino: &mut u64,
+) -> i64
+    ensures same { engine.new.shown ≡ engine.old.shown }
+    ensures value { Asks engine.old.shown (λ m r n. IsNextOpen m.world pid from ino.old r n) ino.old result ino.new }
+{
+    let Some(inside) = engine.take(alloc) else {
+        return NO_ENGINE;
+    };
+    let next = inside.next_open(Pid(pid), Fd(from));
+    *engine = Handle::of(inside);
+    match next {
+        Some((fd, file)) => {
+            *ino = file.ino().0;
+            i64::from(fd.0)
+        }
+        None => refusal(Errno::EBADF),
+    }
+}
+
+/// What a descriptor is ready for.
+#[repr(C)]
+#[derive(Clone, Copy)]
+pub struct Ready {
+    /// Whether a receive of a byte, or an accept, has something to give, or the end to tell (POLLIN).
+    pub readable: bool,
+    /// Whether a send of a byte without descriptors has room (POLLOUT).
+    pub writable: bool,
+    /// Whether the peer is gone (POLLHUP).
+    pub hung_up: bool,
+}
+
+/// Writes what a descriptor is ready for (poll(2)). A plain file is always readable and writable.
+/// Answers 0.
+///
+/// Errors: SCM_ESRCH, SCM_EBADF.
+#[unsafe(no_mangle)]
+pub extern "C" fn scm_poll(
+    alloc: Global,
+    engine: &mut Handle,
+    pid: u32,
+    fd: u32,
+    out: &mut Ready,
+) -> i64
+    ensures same { engine.new.shown ≡ engine.old.shown }
+    ensures value { Asks engine.old.shown (λ m r y. IsPolled m.world pid fd out.old r y) out.old result out.new }
+{
+    let Some(inside) = engine.take(alloc) else {
+        return NO_ENGINE;
+    };
+    let polled = inside.poll(Pid(pid), Fd(fd));
+    *engine = Handle::of(inside);
+    match polled {
+        Ok(ready) => {
+            *out = Ready {
+                readable: ready.readable,
+                writable: ready.writable,
+                hung_up: ready.hung_up,
+            };
+            0
+        }
+        Err(error) => refusal(error),
+    }
+}
