@@ -24,6 +24,7 @@ MAX_BUDGET = 65_536
 NAME = re.compile(r"[A-Za-z0-9._-]{1,107}")
 # Each byte as a script and a reply have it.
 SPELLED = [chr(it) if re.match(rb"[A-Za-z0-9_.-]", bytes([it])) else f"%{it:02X}" for it in range(256)]
+REPORTS = "table", "totals", "check"
 HEADER = "   inode    refs     fly kind      state     msgs wait     peer name\n"
 Value = Union[int, str, bytes]
 
@@ -92,7 +93,8 @@ class Embryo(NamedTuple):
 
 
 class Engine:
-    """A machine that does one event after another. Each `do_` does the event of that name."""
+    """A machine that does one event after another. Each `do_` does the event of that name, and the text of a report is
+    made by the call of its name."""
 
     def __init__(self):
         self.processes: List[Process] = []
@@ -458,8 +460,8 @@ class Engine:
         return f"check ok live {len(self.files)} garbage {len(self.garbage())}\n"
 
     def reports(self) -> str:
-        """The text of all three, one behind the other."""
-        return self.table() + self.totals() + self.check()
+        """The text of all reports, one behind the other."""
+        return "".join(getattr(self, it)() for it in REPORTS)
 
 
 def connect(one: File, other: File):

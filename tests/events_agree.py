@@ -1,0 +1,331 @@
+#!/usr/bin/env python3
+"""events_agree.py: whether all that names the events of the machine names the same ones, with the same refusals.
+
+The list is the table of events in docs/SCRIPTS.md. It has a row for each line that makes an event, with what refuses it
+in order. Compared with it are
+
+- the rows of the definition (crates/af_base/specs), which decides, and those of docs/DEFINITIONS.md;
+- the doc comments of the calls (crates/af_steps/src), the comments of include/scmgc.h, and the table of CALLING.md;
+- the forms, keywords and versions of the script language (crates/scm_lines), and the help text (crates/scm_command);
+- the events that tools/plain_engine.py serves, and those that tools/walks draws, with the errors that these meet.
+
+It prints a line for each difference, and then '1 passed, 0 failed' where there is none, and else '0 passed, 1 failed'.
+The status is 0 or 1. Nothing has to be built.
+"""
+import inspect
+import os
+import re
+import sys
+from importlib.machinery import SourceFileLoader
+from importlib.util import module_from_spec, spec_from_loader
+from itertools import groupby
+from typing import Callable, Dict, Iterable, Iterator, List, NamedTuple, Tuple
+
+sys.dont_write_bytecode = True
+ROOT = os.path.dirname(os.path.dirname(os.path.realpath(__file__)))
+sys.path.insert(0, f"{ROOT}/tools")
+import plain_engine  # noqa: E402
+
+LIST = "docs/SCRIPTS.md"
+# The calls of the engine that do an event of another name.
+TWINS = {"send_owned": "send"}
+# What C tests before all else: there a type is a number, and one that is none makes no event.
+FIRST_IN_C = {"pair": ["EINVAL"], "socket": ["EINVAL"]}
+# The calls from C that have an error and are no events.
+NO_EVENTS_OF_C = {"engine_new", "check", "next_fd", "poll", "graph"}
+# The relations of the definition that say how the collector's events are refused.
+COLLECTOR = {"begin": "Begins", "slice": "GoesOn", "pass": "PassesWhole"}
+# The words of a form, as the definition and as the list write them.
+WORDS = {
+    "number": "N",
+    "sockets": "TYPE",
+    "name": "NAME",
+    "payload": "BYTES",
+    "items": "ITEM ..",
+    "privilege": "[priv]",
+    "two": "2",
+}
+# A refusal in the list, and what it means in its row.
+REFUSAL = r"`(E[A-Z]+)`(?: \([^()]*\))?"
+Refusals = Dict[str, List[str]]
+# What is compared: its name, the call that reads it, and what that should give.
+Comparison = Tuple[str, Callable[[], dict], dict]
+
+
+class Unreadable(Exception):
+    """A source does not have the form in which its events are looked for."""
+
+
+class Row(NamedTuple):
+    """A row of the list."""
+
+    # The words of the line, as 'P dup N'.
+    line: str
+    refusals: List[str]
+    replies: List[str]
+    # Whether scripts of version 1 do not have it.
+    is_later: bool
+
+
+def text_of(path: str) -> str:
+    with open(f"{ROOT}/{path}", encoding="utf-8") as file:
+        return file.read()
+
+
+def table(path: str, head: str) -> List[List[str]]:
+    """The cells of each row of the table that has this head."""
+    rows = text_of(path).partition(f"\n| {head} |\n")[2].partition("\n\n")[0].splitlines()[1:]
+    if not rows:
+        raise Unreadable(f"{path}: no table has the head: {head}")
+    return [[it.strip() for it in row[1:-1].split("|")] for row in rows]
+
+
+def verb_of(line: str) -> str:
+    """The word of a line that says what happens. A process may come before it."""
+    return line.split()[line.startswith("P ")]
+
+
+def errors_in(text: str) -> List[str]:
+    return re.findall(r"\bE[A-Z]{2,}\b", text)
+
+
+def merged(errors: List[str]) -> List[str]:
+    """The errors, of which those of two tests in turn are one where they are the same."""
+    return [it for it, _ in groupby(errors)]
+
+
+def alike(names: Iterable[str]) -> Dict[str, str]:
+    """Names of which only the presence is compared."""
+    return {it: "is there" for it in names}
+
+
+# The list.
+
+
+def events() -> Dict[str, Row]:
+    """The rows of the list, by verb."""
+    found: Dict[str, Row] = {}
+    for line, does, refused in table(LIST, "Line | What it does, and its reply | Refused by, in this order"):
+        verb = verb_of(line.strip("`"))
+        if verb in found or not re.fullmatch(rf"{REFUSAL}(?:, {REFUSAL})*", refused):
+            raise Unreadable(f"{LIST}: {verb} has two rows, or no list of refusals: {refused}")
+        replies = re.findall(r"`([^`]+)`", does.partition(" Reply: ")[2])
+        found[verb] = Row(line.strip("`"), re.findall(REFUSAL, refused), replies, does.startswith("*Version 2.*"))
+    return found
+
+
+def first_cells(head: str) -> List[str]:
+    """What is quoted in the first column of a table beside the list."""
+    return [row[0].strip("`") for row in table(LIST, head) if row[0].startswith("`")]
+
+
+# What refuses each event, by the texts and the definition.
+
+
+def defined() -> Refusals:
+    """What the definition has. Its rows leave out ESRCH, which a step of a process is tested for first, and ENOMEM."""
+    refusals, steps, passes = (text_of(f"crates/af_base/specs/{it}.antt") for it in ("Refusals", "Steps", "Pass"))
+    # The right side of each part of a row by the part's name, and of each clause of `step_row` by its step's.
+    clauses = re.findall(r"^(\w+)(?: [^=\n]*\bstep\.(\w+))?[^=\n]* =(.*(?:\n +.*)*)", refusals, re.M)
+    bodies = {step or name: body for name, step, body in clauses}
+
+    def row(name: str) -> List[str]:
+        parts = re.findall(r"\b(on_\w+|at_socket|recv_row)\b", bodies[name])
+        return merged(re.findall(r", (E[A-Z]+)\)", bodies[name]) + [error for part in parts for error in row(part)])
+
+    frugal = re.findall(r"^needs_no_memory \(?step\.(\w+).* = true$", steps, re.M)
+    found = {"spawn": [*row("spawn_row"), "ENOMEM"]}
+    for step in re.findall(r"^step_row \w+ \w+ \(?step\.(\w+)", refusals, re.M):
+        found[step.lower()] = row("on_process") + row(step) + ["ENOMEM"] * (step not in frugal)
+    for verb, relation in COLLECTOR.items():
+        said = "".join(re.findall(rf"^{relation} .*(?:\n +.*)*", passes, re.M))
+        found[verb] = re.findall(r"reply\.Refused (E[A-Z]+)", said)
+    return found
+
+
+def explained() -> Refusals:
+    """What docs/DEFINITIONS.md has. Its rows name parts, and leave out ESRCH and ENOMEM."""
+    page, head = "docs/DEFINITIONS.md", "Refused by, in this order"
+    parts = {part.strip("`").split()[0]: refused for part, refused in table(page, f"Part | {head}")}
+
+    def row(refused: str) -> List[str]:
+        named = re.findall(r"`(on_\w+|at_socket)", refused)
+        return merged(re.findall(r"\b(E[A-Z]+):", refused) + [error for part in named for error in row(parts[part])])
+
+    rows = table(page, f"Event | {head} | Changes | Answers")
+    return {event.strip("`").split()[0].lower(): row(refused) for event, refused, *_ in rows}
+
+
+def called() -> Refusals:
+    """What the doc comments of the engine's calls have."""
+    found: Refusals = {}
+    for name in ("tables", "sockets", "messages", "passes"):
+        text = text_of(f"crates/af_steps/src/{name}.rt")
+        for doc, call in re.findall(r"((?:    ///.*\n)+)(?:    (?:#\[|// ).*\n)*    pub fn (\w+)\(", text):
+            said = re.sub(r"\s+/// ?", " ", doc)
+            same = re.search(r"The refusals are those of `(\w+)`", said)
+            found[call] = found[same[1]] if same else errors_in(said.partition("Refused")[2])
+    return found
+
+
+def declared() -> Refusals:
+    """What the comments of the calls from C have."""
+    comments = re.findall(r"/\*((?:[^*]|\*(?!/))*)\*/\s*int64_t scm_(\w+)\(", text_of("include/scmgc.h"))
+    found = {call: re.findall(r"\bSCM_(E[A-Z]+)\b", comment) for comment, call in comments}
+    return {call: errors for call, errors in found.items() if errors and call not in NO_EVENTS_OF_C}
+
+
+def documented() -> Refusals:
+    """What CALLING.md has. That ESRCH is the first refusal of a process's call is said once, above its table."""
+    page, found = "crates/jaywardrobe/CALLING.md", {}
+    is_said = "Every call of a process is refused with ESRCH where there is no such process." in text_of(page)
+    for call, _, refused in table(page, "Call | On `Ok` | Refused, in this order"):
+        name, words = re.findall(r"`(\w+)\((.*?)\)", call)[0]
+        same = re.fullmatch(r"as `(\w+)`", refused)
+        first = ["ESRCH"] if is_said and words.startswith("pid") else []
+        found[name] = found[same[1]] if same else first + errors_in(refused)
+    return found
+
+
+# What makes an event of a line, and what tries each.
+
+
+def forms() -> Dict[str, str]:
+    """The lines of the table of forms, by verb."""
+    text, found = text_of("crates/scm_lines/specs/Forms.antt"), {}
+    for maker, verb, form in re.findall(r'^(step|line)_row \w+\.\w+ = \(codes "(\w+)", (.*)\)$', text, re.M):
+        kinds = re.findall(r"\w+(?= ◂)|\b(?:items|privilege)(?= λ)", form)
+        found[verb] = " ".join(["P"] * (maker == "step") + [verb] + [WORDS.get(it, it) for it in kinds])
+    return found
+
+
+def keywords() -> Dict[str, str]:
+    """What each word stands for where a line is read: behind a process a verb, and else a keyword."""
+    text = text_of("crates/scm_lines/src/keywords.rt")
+    return {word: name for word, name in re.findall(r'b"(\w+)" => ((?:Verb|Keyword)::\w+)', text)}
+
+
+def later_steps() -> Dict[str, str]:
+    """The verbs of the steps that only scripts of version 2 have."""
+    text = text_of("crates/scm_lines/specs/Versions.antt")
+    return alike(it.lower() for it in re.findall(r"^is_later \(?step\.(\w+).* = true$", text, re.M))
+
+
+def help_text() -> str:
+    found = re.search(r'OF_SCRIPTS: &str =\s*"([^"]*)"', text_of("crates/scm_command/src/task.rt"))
+    if not found:
+        raise Unreadable("there is no OF_SCRIPTS")
+    return found[1]
+
+
+def helped() -> Dict[str, str]:
+    """The lines of version 2 that the help text explains."""
+    return alike(re.findall(r"^  (P? ?\S.*?)  ", help_text(), re.M))
+
+
+def misnamed(lines: Dict[str, str]) -> Dict[str, str]:
+    """The verbs of the examples in the help text that begin none of these lines."""
+    verbs = map(verb_of, re.findall(r"'([^']+)'", help_text()))
+    return {it: "an example" for it in verbs if it not in lines}
+
+
+def served() -> Dict[str, bool]:
+    """The events that the plain engine does, and whether a process does them."""
+    calls = inspect.getmembers(plain_engine.Engine, inspect.isfunction)
+    return {name[3:]: "process" in inspect.signature(it).parameters for name, it in calls if name.startswith("do_")}
+
+
+def walks():
+    """tools/walks as a module."""
+    loader = SourceFileLoader("walks", f"{ROOT}/tools/walks")
+    module = module_from_spec(spec_from_loader(loader.name, loader))
+    loader.exec_module(module)
+    return module
+
+
+def drawn(refusals: Refusals) -> Refusals:
+    """What refuses the events that walks draw. The errors of a short walk are a part of an event's, in order: then all
+    of the event's are given, and else those of the walk."""
+    found = {}
+    for verb, kind in walks().KINDS.items():
+        errors, rest = kind.errors.split(), iter(refusals.get(verb, []))
+        is_part = verb in refusals and all(it in rest for it in errors)
+        found[verb] = refusals[verb] if is_part else errors
+    return found
+
+
+def met() -> Dict[str, str]:
+    """The events that the walks of a mix have to meet, by each error of theirs."""
+    return alike(it for mix in walks().MIXES.values() for it in mix.meets)
+
+
+# The comparisons.
+
+
+def comparisons(rows: Dict[str, Row]) -> List[Comparison]:
+    refusals = {verb: row.refusals for verb, row in rows.items()}
+    by_rows = {verb: [it for it in errors if it not in ("ESRCH", "ENOMEM")] for verb, errors in refusals.items()}
+    by_calls = {**refusals, **{twin: refusals.get(verb) for twin, verb in TWINS.items()}}
+    from_c = {verb: FIRST_IN_C.get(verb, []) + errors for verb, errors in refusals.items()}
+    others = {verb_of(it): it for it in first_cells("Line | What it does")}
+    lines = {**{verb: row.line for verb, row in rows.items()}, **others}
+    of_process = {verb: row.line.startswith("P ") for verb, row in rows.items()}
+    named = {verb: f"{'Verb' if of_process.get(verb) else 'Keyword'}::{verb.capitalize()}" for verb in lines}
+    later = {verb: row.line for verb, row in rows.items() if row.is_later}
+    reports = alike(verb for verb in others if verb != "version")
+    replies = alike(it for row in rows.values() for it in row.replies)
+    return [
+        ("crates/af_base/specs", defined, refusals),
+        ("docs/DEFINITIONS.md", explained, by_rows),
+        ("crates/af_steps/src", called, by_calls),
+        ("crates/jaywardrobe/CALLING.md", documented, by_calls),
+        ("include/scmgc.h", declared, from_c),
+        ("crates/scm_lines/specs/Forms.antt", forms, lines),
+        ("crates/scm_lines/src/keywords.rt", keywords, named),
+        ("crates/scm_lines/specs/Versions.antt", later_steps, alike(later)),
+        ("crates/scm_command, version 2", helped, alike(later.values())),
+        ("crates/scm_command, examples", lambda: misnamed(lines), {}),
+        (f"{LIST}, the replies", lambda: alike(first_cells("Reply | What it says")), replies),
+        (f"{LIST}, the texts of reports", lambda: alike(first_cells("Line | Text")), reports),
+        ("tools/plain_engine.py, reports", lambda: alike(plain_engine.REPORTS), reports),
+        ("tools/plain_engine.py, of a process", served, of_process),
+        ("tools/walks", lambda: drawn(refusals), refusals),
+        ("tools/walks, what mixes meet", met, alike(rows)),
+    ]
+
+
+def shown(value) -> str:
+    return "nothing" if value is None else " ".join(value) or "no refusal" if isinstance(value, list) else str(value)
+
+
+def different(source: str, told: dict, wanted: dict) -> Iterator[str]:
+    """A line for each name that the two do not have alike."""
+    for name in [*wanted, *(it for it in told if it not in wanted)]:
+        if told.get(name) != wanted.get(name):
+            yield f"{source}: {name}: {shown(told.get(name))}; by {LIST}: {shown(wanted.get(name))}"
+
+
+def differences() -> Iterator[str]:
+    """A line for each difference, and one for each source that cannot be read."""
+    try:
+        compared = comparisons(events())
+    except Unreadable as error:
+        yield str(error)
+        return
+    for source, told, wanted in compared:
+        try:
+            yield from different(source, told(), wanted)
+        except (Unreadable, LookupError, OSError, ValueError) as error:
+            yield f"{source}: cannot be read: {error!r}"
+
+
+def main() -> int:
+    lines = list(differences())
+    for line in lines:
+        print(line)
+    print("0 passed, 1 failed" if lines else "1 passed, 0 failed")
+    return 1 if lines else 0
+
+
+if __name__ == "__main__":
+    sys.exit(main())
