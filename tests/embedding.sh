@@ -4,8 +4,9 @@
 #
 # The header and the bindings are compared with the sources, and these with the library's exports;
 # the examples are built, run, and compared with their stored output; bad numbers and want of memory
-# are tried. What needs a tool that is not there is left out, with a line that says so. The first that
-# fails ends the script; else its last line is 'N passed, 0 failed'.
+# are tried; seeded walks go through the calls, beside the plain engine. What needs a tool that is not
+# there is left out, with a line that says so. The first that fails ends the script; else its last line
+# is 'N passed, 0 failed'.
 set -eu
 if [ $# -ne 1 ]; then
     echo "usage: tests/embedding.sh out/libscmgc.a (make embed builds the library, and calls this)" >&2
@@ -71,6 +72,14 @@ if has "$cc"; then
     fi
 else
     echo "embedding: no C compiler, so the C programs were not built"
+fi
+
+if has "$cc" && has python3; then
+    $cc -shared -o "$room/libscmgc.so" -Wl,--whole-archive "$library" -Wl,--no-whole-archive
+    python3 tests/walks_from_c.py "$room/libscmgc.so"
+    passes "the walks through C passed"
+else
+    echo "embedding: no C compiler or no python3, so no walk was played through C"
 fi
 
 if has cargo; then

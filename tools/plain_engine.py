@@ -439,6 +439,14 @@ class Engine:
         reached = self.reached()
         return [it for it in self.files if it.ino not in reached]
 
+    def ready(self, file: File) -> Tuple[bool, bool, bool]:
+        """What poll(2) tells of a file: whether it is readable and writable, and whether its peer is gone."""
+        if file.kind == "plain":
+            return True, True, False
+        is_hung_up = file.state == "hungup"
+        is_readable = is_hung_up or bool(self.queued(file.ino)) or bool(self.waiting(file.ino))
+        return is_readable, bool(file.peer) and len(self.queued(file.peer)) < MAX_MESSAGES, is_hung_up
+
     def table(self) -> str:
         """The text of the report `table`."""
         counts = self.places(), self.in_flight(), (it.at for it in self.messages), (it.at for it in self.embryos)

@@ -1,0 +1,265 @@
+#!/usr/bin/env python3
+"""walks_from_c.py LIBRARY.so: plays the walks of tools/walks through the calls of the C library.
+
+Beside it runs the plain engine in Python (tools/plain_engine.py). Each answer is compared, and after each event, of each
+process: which descriptors are open, which file each refers to, and what it is ready for; and the name of each socket.
+Some 100,000 seeded events are played, begins and slices of passes among them.
+
+It prints the first differences. The status is 0 where there is none, and else 1. The library is built from
+out/libscmgc.a, as tests/embedding.sh does.
+"""
+import ctypes
+import os
+import re
+import sys
+from concurrent.futures import ProcessPoolExecutor
+from importlib.machinery import SourceFileLoader
+from importlib.util import module_from_spec, spec_from_loader
+from itertools import islice
+from typing import Dict, Iterator, List, Tuple
+
+sys.dont_write_bytecode = True
+ROOT = os.path.dirname(os.path.dirname(os.path.realpath(__file__)))
+sys.path.insert(0, f"{ROOT}/tools")
+from plain_engine import Event, spelled  # noqa: E402
+
+LOADER = SourceFileLoader("walks", f"{ROOT}/tools/walks")
+walks = module_from_spec(spec_from_loader("walks", LOADER))
+LOADER.exec_module(walks)
+
+with open(f"{ROOT}/include/scmgc.h", encoding="utf-8") as header:
+    ERRORS = {int(number): name for name, number in re.findall(r"SCM_(E\w+) = (\d+)", header.read())}
+TYPES = {"stream": 1, "seqpacket": 2}
+# What a call answers where it is done, by its name.
+OPENS = {"open", "dup", "dup2", "socket", "accept"}
+STARTS = {"spawn", "fork"}
+# How many walks of each mix, and how many differences are shown.
+WALKS = {"lively": 14, "cramped": 14, "curious": 14, "slices": 160}
+MOST = 5
+
+
+class Pair(ctypes.Structure):
+    _fields_ = [("first", ctypes.c_uint32), ("second", ctypes.c_uint32)]
+
+
+class Received(ctypes.Structure):
+    _fields_ = [("fds", ctypes.c_size_t), ("trunc", ctypes.c_bool), ("ctrunc", ctypes.c_bool)]
+
+
+class Finished(ctypes.Structure):
+    _fields_ = [("passed", ctypes.c_uint64), ("reclaimed", ctypes.c_uint64)]
+
+
+class Ready(ctypes.Structure):
+    _fields_ = [(it, ctypes.c_bool) for it in ("readable", "writable", "hung_up")]
+
+
+class File(ctypes.Structure):
+    _fields_ = [("kind", ctypes.c_uint32), ("state", ctypes.c_uint32)] + [
+        (it, ctypes.c_uint64) for it in ("peer", "messages", "embryos")
+    ]
+
+
+class Refused(Exception):
+    """A call is refused, by the error of this name."""
+
+
+class Difference(Exception):
+    """The library and the plain engine differ."""
+
+
+class Library:
+    """An engine behind the calls of C. Each `do_` does the event of that name, and returns the line of its reply."""
+
+    def __init__(self, path: str):
+        self.calls, self.handle = ctypes.CDLL(path), ctypes.c_void_p()
+        self.call("engine_new")
+
+    def call(self, name: str, *inputs) -> int:
+        """Calls scm_NAME with the handle before these inputs."""
+        function = self.calls[f"scm_{name}"]
+        function.restype = ctypes.c_int64
+        answer = function(ctypes.byref(self.handle), *inputs)
+        if answer < 0:
+            raise Refused(ERRORS[-answer])
+        return answer
+
+    def free(self):
+        self.calls.scm_engine_free(ctypes.byref(self.handle))
+
+    def step(self, event: Event) -> str:
+        who = [] if event.pid is None else [ctypes.c_uint32(event.pid)]
+        do = getattr(self, f"do_{event.verb}", None)
+        try:
+            if do:
+                return do(*who, *event.values)
+            answer = self.call(event.verb, *who, *map(ctypes.c_uint32, event.values))
+        except Refused as error:
+            return str(error)
+        return f"fd {answer}" if event.verb in OPENS else f"pid {answer}" if event.verb in STARTS else "ok"
+
+    def do_spawn(self, user: int, limit: int, *privilege: str) -> str:
+        inputs = ctypes.c_uint32(user), ctypes.c_uint32(limit), ctypes.c_bool(bool(privilege))
+        return f"pid {self.call('spawn', *inputs)}"
+
+    def do_pair(self, pid, kind: str) -> str:
+        out = Pair()
+        self.call("pair", pid, ctypes.c_uint32(TYPES[kind]), ctypes.byref(out))
+        return f"fds {out.first} {out.second}"
+
+    def do_socket(self, pid, kind: str) -> str:
+        return f"fd {self.call('socket', pid, ctypes.c_uint32(TYPES[kind]))}"
+
+    def do_bind(self, pid, on: int, name: str) -> str:
+        return self.by_name("bind", pid, on, name)
+
+    def do_connect(self, pid, on: int, name: str) -> str:
+        return self.by_name("connect", pid, on, name)
+
+    def by_name(self, verb: str, pid, on: int, name: str) -> str:
+        self.call(verb, pid, ctypes.c_uint32(on), name.encode(), ctypes.c_size_t(len(name)))
+        return "ok"
+
+    def do_send(self, pid, on: int, data: bytes, *fds: int) -> str:
+        numbers = (ctypes.c_uint32 * max(len(fds), 1))(*fds)
+        sizes = ctypes.c_size_t(len(data)), ctypes.c_size_t(len(fds))
+        return f"sent {self.call('send', pid, ctypes.c_uint32(on), data, sizes[0], numbers, sizes[1])}"
+
+    def do_recv(self, pid, on: int, most_bytes: int, most_fds: int) -> str:
+        return self.received("recv", pid, on, most_bytes, most_fds)
+
+    def do_peek(self, pid, on: int, most_bytes: int, most_fds: int) -> str:
+        return self.received("peek", pid, on, most_bytes, most_fds)
+
+    def received(self, verb: str, pid, on: int, most_bytes: int, most_fds: int) -> str:
+        data, fds, out = ctypes.create_string_buffer(most_bytes + 1), (ctypes.c_uint32 * (most_fds + 1))(), Received()
+        sizes = ctypes.c_size_t(most_bytes), ctypes.c_size_t(most_fds)
+        count = self.call(verb, pid, ctypes.c_uint32(on), data, sizes[0], fds, sizes[1], ctypes.byref(out))
+        if count == 0:
+            return "end"
+        numbers = ["fds", *map(str, fds[: out.fds])] if out.fds else []
+        return " ".join(["got", spelled(data.raw[:count]), *numbers] + ["trunc"] * out.trunc + ["ctrunc"] * out.ctrunc)
+
+    def do_begin(self) -> str:
+        number = ctypes.c_uint64()
+        self.call("begin", ctypes.byref(number))
+        return f"started {number.value}"
+
+    def do_slice(self, budget: int) -> str:
+        return self.collected("slice", ctypes.c_uint32(budget))
+
+    def do_pass(self) -> str:
+        return self.collected("pass")
+
+    def collected(self, verb: str, *inputs) -> str:
+        out = Finished()
+        goes_on = self.call(verb, *inputs, ctypes.byref(out))
+        return "working" if goes_on else f"pass {out.passed} reclaimed {out.reclaimed}"
+
+    # What can be seen.
+
+    def table(self, pid: int) -> Iterator[Tuple[int, int]]:
+        """The open descriptors of a process by rising number, each with its file."""
+        fd, ino = 0, ctypes.c_uint64()
+        while True:
+            try:
+                fd = self.call("next_fd", ctypes.c_uint32(pid), ctypes.c_uint32(fd), ctypes.byref(ino))
+            except Refused:
+                return
+            yield fd, ino.value
+            fd += 1
+
+    def ino(self, pid: int, fd: int) -> int:
+        ino = ctypes.c_uint64()
+        self.call("ino", ctypes.c_uint32(pid), ctypes.c_uint32(fd), ctypes.byref(ino))
+        return ino.value
+
+    def ready(self, pid: int, fd: int) -> Tuple[bool, bool, bool]:
+        out = Ready()
+        self.call("poll", ctypes.c_uint32(pid), ctypes.c_uint32(fd), ctypes.byref(out))
+        return out.readable, out.writable, out.hung_up
+
+    def name(self, ino: int) -> str:
+        name = ctypes.create_string_buffer(128)
+        length = self.call("name", ctypes.c_uint64(ino), name, ctypes.c_size_t(128))
+        return name.raw[:length].decode()
+
+    def rows(self) -> List[str]:
+        """What waits at each live file, as rows of a table: their sixth and seventh word."""
+        found, ino, file = [], ctypes.c_uint64(), File()
+        while True:
+            self.call("next_after", ino, ctypes.byref(ino))
+            if not ino.value:
+                return found
+            self.call("file", ino, ctypes.byref(file))
+            found.append(f"{ino.value} 0 0 kind state {file.messages} {file.embryos} 0 -")
+
+
+def tables(engine) -> Dict[int, List[Tuple[int, int]]]:
+    """The table of each process of the plain engine."""
+    found: Dict[int, List[Tuple[int, int]]] = {it.pid: [] for it in engine.processes}
+    for (pid, fd), ino in sorted(engine.numbers.items()):
+        found[pid].append((fd, ino))
+    return found
+
+
+def compare_views(library: Library, engine):
+    """All that a program can ask of descriptors is what the plain engine has."""
+    files = {it.ino: it for it in engine.files}
+    for pid, table in tables(engine).items():
+        if list(library.table(pid)) != table:
+            raise Difference(f"table of {pid}: {list(library.table(pid))}, and not {table}")
+        for fd, ino in table:
+            told, wanted = library.ready(pid, fd), engine.ready(files[ino])
+            if told != wanted:
+                raise Difference(f"descriptor {fd} of {pid} is ready for {told}, and not {wanted}")
+            if library.ino(pid, fd) != ino or library.name(ino) != files[ino].name:
+                raise Difference(f"descriptor {fd} of {pid}: another file or name than {ino} {files[ino].name}")
+
+
+def events_of(name: str, seed: str) -> Iterator[Event]:
+    """The events of a walk. Those of a mix without slices are drawn by the plain engine's replies."""
+    mix = walks.MIXES[name]
+    if name == walks.SLICES:
+        yield from islice(walks.sliced_events(mix, seed), walks.SLICED)
+        return
+    source, engine = walks.Source(mix, seed), walks.Engine()
+    for _ in range(walks.EVENTS // 4):
+        event = source.event()
+        yield event
+        source.note(event, engine.step(event))
+
+
+def played(task: Tuple[str, str, int]) -> Tuple[int, str]:
+    """Plays a walk: how many events it has, and the first difference."""
+    path, name, number = task
+    library, plain, count = Library(path), walks.Sliced(), 0
+    for event in events_of(name, f"{name} from C {number}"):
+        count += 1
+        told = library.step(event)
+        wanted = plain.slice(event, told, library.rows()) if event.verb == "slice" else plain.other(event)
+        try:
+            if told != wanted:
+                raise Difference(f"{told[:80]!r}, and not {wanted[:80]!r}")
+            compare_views(library, plain.engine)
+        except Difference as it:
+            return count, f"{name}, seed {number}, event {count}: {event.line()[:80]}: {it}"
+    library.free()
+    return count, ""
+
+
+def main() -> int:
+    if len(sys.argv) != 2:
+        print(__doc__, file=sys.stderr)
+        return 2
+    tasks = [(os.path.realpath(sys.argv[1]), name, it) for name, count in WALKS.items() for it in range(1, count + 1)]
+    with ProcessPoolExecutor(len(os.sched_getaffinity(0))) as pool:
+        outcomes = list(pool.map(played, tasks))
+    faults = [it for _, it in outcomes if it]
+    print(*faults[:MOST], sep="\n", end="\n" if faults else "")
+    print(f"walks from C: {sum(count for count, _ in outcomes):,} events, {len(faults)} walks differ")
+    return 1 if faults else 0
+
+
+if __name__ == "__main__":
+    sys.exit(main())
