@@ -115,10 +115,10 @@ sound-begins (Running begun spent) old new r k h = subst (λ m. IsSound m.world)
 
 -- A slice of a pass that runs is refused, and nothing changed; or it is made.
 pub slice-by : (begun : World) (spent b : ℕ) (old new : Machine) (r : Reply) → GoesOn (Running begun spent) old b r new
-    → ((r ≡ reply.Refused EINVAL) × (new ≡ old)) ⊎ (Slices begun old.world spent b old.last_pass r new.world new.pass × (new.last_pass ≡ old.last_pass))
+    → ((r ≡ reply.Refused EINVAL) × (new ≡ old)) ⊎ (Slices begun old.world spent b old.last_pass r new.world new.pass × (new.last_pass ≡ old.last_pass) × (new.since ≡ old.since))
 slice-by begun spent b old new r h = by (nat_eq b 0 || nat_lt MAX_BUDGET b) h where
-  by : (c : Bool) → MatchBool c ((r ≡ reply.Refused EINVAL) × (new ≡ old)) (Slices begun old.world spent b old.last_pass r new.world new.pass × (new.last_pass ≡ old.last_pass))
-      → ((r ≡ reply.Refused EINVAL) × (new ≡ old)) ⊎ (Slices begun old.world spent b old.last_pass r new.world new.pass × (new.last_pass ≡ old.last_pass))
+  by : (c : Bool) → MatchBool c ((r ≡ reply.Refused EINVAL) × (new ≡ old)) (Slices begun old.world spent b old.last_pass r new.world new.pass × (new.last_pass ≡ old.last_pass) × (new.since ≡ old.since))
+      → ((r ≡ reply.Refused EINVAL) × (new ≡ old)) ⊎ (Slices begun old.world spent b old.last_pass r new.world new.pass × (new.last_pass ≡ old.last_pass) × (new.since ≡ old.since))
   by true x = inl x
   by false x = inr x
 

@@ -1,7 +1,7 @@
 -- What a file is ready for comes of its face and of its peer's, and a step changes few faces.
 use Rattle.std.proofs.Common.{◌≡◌, ◌<◌, ℕ, ◌+◌, Bool, true, false, not, inl, inr, List, [], ◌∷◌, ◌++◌, refl, sym, ap, ◌∙◌, subst, cond, nat_eq, arith}
 use Rattle.std.specs.Prelude.{Option, Some, None, option_map, is_none, is_some, length, nat_le, if◌then◌else◌}
-use Rattle.std.specs.Option.{option_map_or}
+use Rattle.std.specs.Option.{option_and_then, option_map_or}
 use Rattle.std.specs.List.{Contains, zip}
 use Rattle.std.specs.Ordering.{nat_cmp, eq_by_cmp}
 use Rattle.std.specs.FinMap as map
@@ -14,11 +14,12 @@ use Rattle.af_base.specs.declared.events.Step.{Step}
 use Rattle.af_base.specs.declared.events.Step.TheVariants as step
 use Rattle.af_base.specs.declared.limits.TheConstants.{MAX_MESSAGES}
 use Rattle.af_base.specs.declared.ready.Ready.{Ready}
-use Rattle.af_base.specs.World.{AsSocket, File, IsLive, Plain, Socket, World}
+use Rattle.af_base.specs.Told.{AreChanged, TellsChanged, is_socket_in}
+use Rattle.af_base.specs.World.{AsSocket, File, IsLive, Plain, Since, Socket, World}
 use Rattle.af_base.specs.Places.{queue_in, queue_of}
 use Rattle.af_base.specs.Changes.{add_file, bound, connected, dequeued, file_with, install, install_all, listening, pushed, queued, with_queue, with_socket}
 use Rattle.af_base.specs.Pass.{Purges, emptied, empty_file}
-use Rattle.af_base.specs.Refusals.{first_fit, ino_named, ino_on, is_hung_up, no_socket, on_peer, peer_of, socket_on}
+use Rattle.af_base.specs.Refusals.{first_fit, ino_named, ino_on, is_hung_up, no_socket, on_peer, peer_of, socket_on, socket_of}
 use Rattle.af_base.specs.Steps.{Outcome, ProcessStep, connected_socket, effect, got_at, idle_socket, taken_on}
 use Rattle.af_base.specs.Unheld.{Settles, file_without, state_without}
 use Rattle.af_base.specs.Whole.{IsWhole, state_at, state_of}
@@ -172,6 +173,20 @@ connected-live w q f = by (map.get w.files q) where
   by : (o : Option File) → option_map_or state_of o state.Idle ≡ state.Connected f → is_some o ≡ true
   by None e = not_connected state.Idle f refl e
   by (Some x) e = refl
+
+-- And a socket.
+connected-socket : (w : World) (q f : ℕ) → state_at w q ≡ state.Connected f → is_socket_in w.files q ≡ true
+connected-socket w q f = by (map.get w.files q) where
+  by : (o : Option File) → option_map_or state_of o state.Idle ≡ state.Connected f → is_some (option_and_then socket_of o) ≡ true
+  by None e = absurd (not_connected state.Idle f refl e)
+  by (Some Plain) e = absurd (not_connected state.Idle f refl e)
+  by (Some (AsSocket s)) e = refl
+
+-- What tells whose face changed tells whose readiness did.
+pub tells-changed : (w : World) (since : Since) (told : List ℕ) → IsWhole w → (since.changed ≡ true → AreChanged w.files since told) → TellsChanged w since told
+tells-changed w since told whole h asked f socket none peers =
+    let same = h asked in
+    sym (same-ready (record w { files = since.files }) w f (sym (same f socket none)) (λ q e. sym (same q (connected-socket w q f (whole.peers f q e)) (peers q e))))
 
 -- Where the faces of all that were left alone stay, they are ready for what they were.
 module _ (old new : World) (whole : IsWhole old) (these : List ℕ)

@@ -14,6 +14,7 @@ pub mod Pass
 pub mod Run
 pub mod Whole
 pub mod Ready
+pub mod Told
 pub mod Release
 pub mod Bare
 pub mod Listing

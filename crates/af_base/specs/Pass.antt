@@ -6,7 +6,7 @@ use Rattle.af_base.specs.declared.errno.Errno.TheVariants.{EBUSY, EIDLE, EINVAL}
 use Rattle.af_base.specs.declared.events.Reply.{Reply}
 use Rattle.af_base.specs.declared.events.Reply.TheVariants as reply
 use Rattle.af_base.specs.declared.limits.TheConstants.{MAX_BUDGET, MAX_PASS}
-use Rattle.af_base.specs.World.{World, File, Plain, AsSocket, IsLive}
+use Rattle.af_base.specs.World.{World, File, Plain, AsSocket, IsLive, Since}
 use Rattle.af_base.specs.Unheld.{Settles, map_entries}
 use Rattle.af_base.specs.Reached.{Garbage, IsGarbageCount}
 
@@ -15,11 +15,12 @@ pub data Pass : Type 0 where
   Idle : Pass
   Running : (begun : World) → (spent : ℕ) → Pass
 
--- The machine: the world, the pass, and the number of the last pass, 0 at first.
+-- The machine: the world, the pass, the number of the last pass, 0 at first, and what is told.
 pub record Machine : Type 0 where
   pub world : World
   pub pass : Pass
   pub last_pass : ℕ
+  pub since : Since
 
 -- A file with nothing in its queue and its backlog.
 abbrev pub empty_file : File → File
@@ -40,7 +41,7 @@ next_pass n = min (n + 1) MAX_PASS
 
 -- What stands still in a step of a process.
 abbrev pub SamePass : Machine → Machine → Type 0
-SamePass old new = (new.pass ≡ old.pass) × (new.last_pass ≡ old.last_pass)
+SamePass old new = (new.pass ≡ old.pass) × (new.last_pass ≡ old.last_pass) × (new.since ≡ old.since)
 
 -- A pass begins: the world stays, and is remembered. While one runs no other can begin (this project's profile).
 abbrev pub Begins : Pass → Machine → Reply → Machine → Type 0
@@ -62,7 +63,7 @@ GoesOn Idle old b r new = (r ≡ reply.Refused EIDLE) × (new ≡ old)
 GoesOn (Running begun spent) old b r new =
     MatchBool (nat_eq b 0 || nat_lt MAX_BUDGET b)
     ((r ≡ reply.Refused EINVAL) × (new ≡ old))
-    (Slices begun old.world spent b old.last_pass r new.world new.pass × (new.last_pass ≡ old.last_pass))
+    (Slices begun old.world spent b old.last_pass r new.world new.pass × (new.last_pass ≡ old.last_pass) × (new.since ≡ old.since))
 
 -- A whole pass over a world: exactly its garbage is purged, and the sockets among it are counted (this project's profile).
 pub record Passes (old : World) (pass : ℕ) (r : Reply) (new : World) : Type 0 where
@@ -75,5 +76,5 @@ pub record Passes (old : World) (pass : ℕ) (r : Reply) (new : World) : Type 0 
 
 -- A whole pass is asked for: while one runs it is refused, and nothing changed (this project's profile).
 abbrev pub PassesWhole : Pass → Machine → Reply → Machine → Type 0
-PassesWhole Idle old r new = Passes old.world (next_pass old.last_pass) r new.world × (new.pass ≡ Idle) × (new.last_pass ≡ next_pass old.last_pass)
+PassesWhole Idle old r new = Passes old.world (next_pass old.last_pass) r new.world × (new.pass ≡ Idle) × (new.last_pass ≡ next_pass old.last_pass) × (new.since ≡ old.since)
 PassesWhole (Running begun spent) old r new = (r ≡ reply.Refused EBUSY) × (new ≡ old)

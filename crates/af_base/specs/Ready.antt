@@ -26,9 +26,13 @@ abbrev pub ready_of : Map File → File → Ready
 ready_of files Plain = record { readable = true; writable = true; hung_up = false }
 ready_of files (AsSocket s) = record { readable = reads s; writable = writes s (queue_in files (peer_of s.state)); hung_up = is_hung_up s.state }
 
--- What the file f is ready for; nothing of a stranger (poll(2)).
+-- What the file f of these is ready for; nothing of a stranger (poll(2)).
+abbrev pub ready_in : Map File → ℕ → Option Ready
+ready_in files f = option_map (ready_of files) (map.get files f)
+
+-- What the file f is ready for.
 abbrev pub ready : World → ℕ → Option Ready
-ready w f = option_map (ready_of w.files) (map.get w.files f)
+ready w f = ready_in w.files f
 
 -- What steps of process p find at its number n: a receive of one byte and no descriptor is not refused, or an accept is not before a number is wanted for it; a send of one byte is not refused; the peer is gone.
 abbrev pub found : World → ℕ → ℕ → Ready

@@ -3,7 +3,7 @@ use Rattle.std.specs.Prelude.{◌≡◌, List, [], ◌∷◌}
 use Rattle.af_base.specs.declared.events.Event.{Event}
 use Rattle.af_base.specs.declared.events.Event.TheVariants as event
 use Rattle.af_base.specs.declared.events.Reply.{Reply}
-use Rattle.af_base.specs.World.{empty_world}
+use Rattle.af_base.specs.World.{empty_world, untold}
 use Rattle.af_base.specs.Steps.{ProcessStep, SpawnStep}
 use Rattle.af_base.specs.Pass.{Machine, Idle, SamePass, Begins, GoesOn, PassesWhole}
 
@@ -26,4 +26,4 @@ Run old (e ∷ es) new = (mid : Machine) × Step old e.0 e.1 mid × Run mid es n
 
 -- The machine before anything has happened.
 abbrev pub fresh : Machine
-fresh = record { world = empty_world; pass = Idle; last_pass = 0 }
+fresh = record { world = empty_world; pass = Idle; last_pass = 0; since = untold }

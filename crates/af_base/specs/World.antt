@@ -1,6 +1,6 @@
 -- The world: which processes run, which files are open, and what waits in the queues.
 -- Files, processes, users and descriptors go by their numbers.
-use Rattle.std.specs.Prelude.{ℕ, Bool, List, [], Option, IsTrue}
+use Rattle.std.specs.Prelude.{ℕ, Bool, List, [], Option, IsTrue, false}
 use Rattle.std.specs.Ordering.{nat_cmp}
 use Rattle.std.specs.FinMap as map
 use Rattle.std.specs.FinMap.{FinMap}
@@ -44,6 +44,17 @@ pub record World : Type 0 where
   pub next_ino : ℕ
   pub next_pid : ℕ
   pub users : List ℕ
+
+-- Whether freed files and changed readiness are told; the files when the lists were emptied last, and the number that the next one got (this project's profile).
+pub record Since : Type 0 where
+  pub changed : Bool
+  pub released : Bool
+  pub files : Map File
+  pub next : ℕ
+
+-- Nothing is told (this project's profile).
+abbrev pub untold : Since
+untold = record { changed = false; released = false; files = map.empty; next = 1 }
 
 -- No process, no file, no user; numbers begin at 1 (this project's profile).
 abbrev pub empty_world : World

@@ -13,7 +13,7 @@ use Rattle.af_base.specs.declared.events.Reply.TheVariants as reply
 use Rattle.af_base.specs.declared.events.State.TheVariants as state
 use Rattle.af_base.specs.declared.events.Step.{Step}
 use Rattle.af_base.specs.declared.events.Step.TheVariants as step
-use Rattle.af_base.specs.World.{AsSocket, File, IsLive, Map, World}
+use Rattle.af_base.specs.World.{AsSocket, File, IsLive, Map, World, untold}
 use Rattle.af_base.specs.Places.{Holds, InTable, contents, queue_at, queue_of, table_at}
 use Rattle.af_base.specs.Counts.{charge, charged, total, total_of}
 use Rattle.af_base.specs.Unheld.{IsSettled, Settles, file_without, map_entries, without}
@@ -156,10 +156,10 @@ facts = record {
 }
 
 abbrev after : Machine
-after = record { world = collected; pass = Idle; last_pass = 1 }
+after = record { world = collected; pass = Idle; last_pass = 1; since = untold }
 
 passes : PassesWhole Idle (machine closed) (reply.Done 1 1) after
-passes = (record { test = nat_eq 1; is_garbage = only_one; purged = purged; count = 1; counted = one_counted; answered = refl }, refl, refl)
+passes = (record { test = nat_eq 1; is_garbage = only_one; purged = purged; count = 1; counted = one_counted; answered = refl }, refl, refl, refl)
 
 pub cycle_is_collected : CycleIsCollected
 cycle_is_collected = (machine closed, after, cycle_runs, passes, facts)

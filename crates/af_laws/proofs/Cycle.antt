@@ -17,7 +17,7 @@ use Rattle.af_base.specs.declared.events.State.TheVariants as state
 use Rattle.af_base.specs.declared.events.Step.{Step}
 use Rattle.af_base.specs.declared.events.Step.TheVariants as step
 use Rattle.af_base.specs.declared.limits.TheConstants.{MAX_FILES, MAX_INFLIGHT, MAX_INO, MAX_MESSAGES, MAX_PID, MAX_PROCESSES}
-use Rattle.af_base.specs.World.{AsSocket, File, Map, Message, Process, World, empty_world}
+use Rattle.af_base.specs.World.{AsSocket, File, Map, Message, Process, World, empty_world, untold}
 use Rattle.af_base.specs.Places.{Holds, InQueue, InTable, carried, contents, queue_at, queue_of, table_at}
 use Rattle.af_base.specs.Counts.{charge, charged, count_in, tabled, total_of}
 use Rattle.af_base.specs.Unheld.{Goes, IsSettled, Settles}
@@ -380,10 +380,10 @@ facts = record {
 }
 
 abbrev pub machine : World → Machine
-machine w = record { world = w; pass = Idle; last_pass = 0 }
+machine w = record { world = w; pass = Idle; last_pass = 0; since = untold }
 
 pub cycle_runs : Run fresh cycle_events (machine closed)
-cycle_runs = (machine started, (spawns, (refl, refl)), (machine paired, (pairs, (refl, refl)), (machine sent, (sends, (refl, refl)), (machine closed, (closes, (refl, refl)), refl))))
+cycle_runs = (machine started, (spawns, (refl, refl, refl)), (machine paired, (pairs, (refl, refl, refl)), (machine sent, (sends, (refl, refl, refl)), (machine closed, (closes, (refl, refl, refl)), refl))))
 
 pub smallest_cycle : SmallestCycle
 smallest_cycle = (machine closed, cycle_runs, facts)

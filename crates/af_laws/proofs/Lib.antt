@@ -22,3 +22,4 @@ pub mod Cycle
 pub mod Collected
 pub mod Peeked
 pub mod Polled
+pub mod Told

@@ -44,8 +44,8 @@ pass_some Idle old whole =
     let s = settles_to_some (emptied g.0 old.world) in
     let count = count_by (λ e. is_socket e.1 && g.0 e.0) (map.entries old.world.files) in (
       reply.Done (next_pass old.last_pass) count,
-      record { world = s.0; pass = Idle; last_pass = next_pass old.last_pass },
-      (record { test = g.0; is_garbage = g.1; purged = s.1; count = count; counted = (g.0, g.1, refl); answered = refl }, refl, refl),
+      record { world = s.0; pass = Idle; last_pass = next_pass old.last_pass; since = old.since },
+      (record { test = g.0; is_garbage = g.1; purged = s.1; count = count; counted = (g.0, g.1, refl); answered = refl }, refl, refl, refl),
     )
 pass_some (Running begun spent) old whole = (reply.Refused EBUSY, old, (refl, refl))
 
@@ -71,9 +71,9 @@ slice_some (Running begun spent) old b has = by (nat_eq b 0 || nat_lt MAX_BUDGET
   ]
 
   by : (c : Bool) → (nat_eq b 0 || nat_lt MAX_BUDGET b) ≡ c
-      → (r : Reply) × (new : Machine) × MatchBool c ((r ≡ reply.Refused EINVAL) × (new ≡ old)) (Slices begun old.world spent b old.last_pass r new.world new.pass × (new.last_pass ≡ old.last_pass))
+      → (r : Reply) × (new : Machine) × MatchBool c ((r ≡ reply.Refused EINVAL) × (new ≡ old)) (Slices begun old.world spent b old.last_pass r new.world new.pass × (new.last_pass ≡ old.last_pass) × (new.since ≡ old.since))
   by true e = (reply.Refused EINVAL, old, (refl, refl))
-  by false e = (reply.Working, after, (record { emptied_files = []; few = omega arith; of_garbage = All-nil (Garbage begun); purged = s.1; answered = inl (refl, refl, within e) }, refl))
+  by false e = (reply.Working, after, (record { emptied_files = []; few = omega arith; of_garbage = All-nil (Garbage begun); purged = s.1; answered = inl (refl, refl, within e) }, refl, refl))
 
 abbrev with_world : Machine → World → Machine
 with_world m w = record m { world = w }
@@ -81,10 +81,10 @@ with_world m w = record m { world = w }
 pub events_have_replies : EventsHaveReplies
 events_have_replies old (event.Spawn uid nofile privileged) sound answered =
     let o = outcome_some (spawn_refusal old.world nofile) false (reply.Pid old.world.next_pid) (spawned old.world uid nofile privileged) old.world in
-    (o.0, with_world old o.1, (o.2, (refl, refl)))
+    (o.0, with_world old o.1, (o.2, (refl, refl, refl)))
 events_have_replies old (event.Proc p s) sound answered =
     let o = outcome_some (refusal old.world p s) (needs_no_memory s) (answer old.world p s) (effect old.world p s) old.world in
-    (o.0, with_world old o.1, (o.2, (refl, refl)))
+    (o.0, with_world old o.1, (o.2, (refl, refl, refl)))
 events_have_replies old event.Begin sound answered = begin_some old.pass old
 events_have_replies old (event.Slice b) sound answered = slice_some old.pass old b answered
 events_have_replies old event.Pass sound answered = pass_some old.pass old sound.whole
@@ -129,8 +129,8 @@ module _ (answer : Reply) (given : is_refused answer ≡ false) (now old a b : W
   outcome_one None false (inr x) (inl y) = absurd (apart ENOMEM y.0 x.0)
   outcome_one None false (inr x) (inr y) = x.1 ∙ sym y.1
 
-same_machine : (a b : Machine) → a.world ≡ b.world → a.pass ≡ b.pass → a.last_pass ≡ b.last_pass → a ≡ b
-same_machine a b x y z = λ i. record { world = x i; pass = y i; last_pass = z i }
+same_machine : (a b : Machine) → a.world ≡ b.world → a.pass ≡ b.pass → a.last_pass ≡ b.last_pass → a.since ≡ b.since → a ≡ b
+same_machine a b x y z s = λ i. record { world = x i; pass = y i; last_pass = z i; since = s i }
 
 -- the garbage of a world determines what a whole pass leaves
 passes_one : (w a b : World) (n : ℕ) (r s : Reply) → Passes w n r a → Passes w n s b → a ≡ b
@@ -140,7 +140,7 @@ passes_one w a b n r s x y =
 
 pass_one : (p : Pass) (old a b : Machine) (r : Reply) → PassesWhole p old r a → PassesWhole p old r b → a ≡ b
 unfolding is_refused
-pass_one Idle old a b r x y = same_machine a b (passes_one old.world a.world b.world _ r r x.0 y.0) (x.1 ∙ sym y.1) (x.2 ∙ sym y.2)
+pass_one Idle old a b r x y = same_machine a b (passes_one old.world a.world b.world _ r r x.0 y.0) (x.1 ∙ sym y.1) (x.2 ∙ sym y.2) (x.3 ∙ sym y.3)
 pass_one (Running begun spent) old a b r x y = x.1 ∙ sym y.1
 
 -- a begin, with its reply, leads to one machine
@@ -151,9 +151,9 @@ begin_one (Running begun spent) old a b r x y = x.1 ∙ sym y.1
 pub replies_determine : RepliesDetermine
 unfolding is_refused
 replies_determine old a b (event.Spawn uid nofile privileged) r none x y =
-    same_machine a b (outcome_one (reply.Pid old.world.next_pid) refl (spawned old.world uid nofile privileged) old.world a.world b.world r (spawn_refusal old.world nofile) false x.0 y.0) (x.1.0 ∙ sym y.1.0) (x.1.1 ∙ sym y.1.1)
+    same_machine a b (outcome_one (reply.Pid old.world.next_pid) refl (spawned old.world uid nofile privileged) old.world a.world b.world r (spawn_refusal old.world nofile) false x.0 y.0) (x.1.0 ∙ sym y.1.0) (x.1.1 ∙ sym y.1.1) (x.1.2 ∙ sym y.1.2)
 replies_determine old a b (event.Proc p s) r none x y =
-    same_machine a b (outcome_one (answer old.world p s) (answers old.world p s) (effect old.world p s) old.world a.world b.world r (refusal old.world p s) (needs_no_memory s) x.0 y.0) (x.1.0 ∙ sym y.1.0) (x.1.1 ∙ sym y.1.1)
+    same_machine a b (outcome_one (answer old.world p s) (answers old.world p s) (effect old.world p s) old.world a.world b.world r (refusal old.world p s) (needs_no_memory s) x.0 y.0) (x.1.0 ∙ sym y.1.0) (x.1.1 ∙ sym y.1.1) (x.1.2 ∙ sym y.1.2)
 replies_determine old a b event.Begin r none x y = begin_one old.pass old a b r x y
 replies_determine old a b (event.Slice n) r none x y = absurd none
 replies_determine old a b event.Pass r none x y = pass_one old.pass old a b r x y
@@ -207,9 +207,9 @@ slice_refused (Running begun spent) old new b error h = elim (slice-by begun spe
 pub refused_changes_nothing : RefusedChangesNothing
 unfolding is_refused
 refused_changes_nothing old new (event.Spawn uid nofile privileged) error h =
-    same_machine new old (outcome_refused (reply.Pid old.world.next_pid) refl (spawned old.world uid nofile privileged) old.world new.world error (spawn_refusal old.world nofile) false h.0) h.1.0 h.1.1
+    same_machine new old (outcome_refused (reply.Pid old.world.next_pid) refl (spawned old.world uid nofile privileged) old.world new.world error (spawn_refusal old.world nofile) false h.0) h.1.0 h.1.1 h.1.2
 refused_changes_nothing old new (event.Proc p s) error h =
-    same_machine new old (outcome_refused (answer old.world p s) (answers old.world p s) (effect old.world p s) old.world new.world error (refusal old.world p s) (needs_no_memory s) h.0) h.1.0 h.1.1
+    same_machine new old (outcome_refused (answer old.world p s) (answers old.world p s) (effect old.world p s) old.world new.world error (refusal old.world p s) (needs_no_memory s) h.0) h.1.0 h.1.1 h.1.2
 refused_changes_nothing old new event.Begin error h = begin_refused old.pass old new error h
 refused_changes_nothing old new (event.Slice b) error h = slice_refused old.pass old new b error h
 refused_changes_nothing old new event.Pass error h = pass_refused old.pass old new error h

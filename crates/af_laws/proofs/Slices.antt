@@ -70,6 +70,7 @@ record IsPartly (old m : Machine) : Type 0 where
   spent : ℕ
   runs : m.pass ≡ Running old.world spent
   numbered : m.last_pass ≡ next_pass old.last_pass
+  since : m.since ≡ old.since
   test : ℕ → Bool
   of_garbage : (f : ℕ) → test f ≡ true → Garbage old.world f
   purged : Purges test old.world m.world
@@ -84,6 +85,7 @@ partly_begun old settled = record {
   spent = 0;
   runs = refl;
   numbered = refl;
+  since = refl;
   test = λ f. false;
   of_garbage = λ f e. absurd (false≢true e);
   purged = purges_dead (λ f. false) old.world settled (λ f e. absurd (false≢true e));
@@ -122,7 +124,7 @@ module _ (old m new : Machine) (b : ℕ) (partly : IsPartly old m) where
   partly_on r h = elim (slice-by old.world partly.spent b m new r (subst (λ p. GoesOn p m b r new) partly.runs h)) [
     | inl refused ↦ inl (subst (IsPartly old) (sym refused.1) partly)
     | inr made ↦ elim made.0.answered [
-      | inl works ↦ inl (record { spent = partly.spent + b; runs = works.1; numbered = made.1 ∙ partly.numbered; test = both r made.0; of_garbage = both_garbage r made.0; purged = both_purged r made.0 })
+      | inl works ↦ inl (record { spent = partly.spent + b; runs = works.1; numbered = made.1 ∙ partly.numbered; since = made.2 ∙ partly.since; test = both r made.0; of_garbage = both_garbage r made.0; purged = both_purged r made.0 })
       | inr done ↦ inr done.3
     ]
   ]
@@ -144,6 +146,7 @@ module _ (old m new : Machine) (b : ℕ) (partly : IsPartly old m) where
         },
         done.3,
         made.1 ∙ partly.numbered,
+        made.2 ∙ partly.since,
       )
     ]
   ]
@@ -237,7 +240,7 @@ sliced_by : (p : Pass) (old new : Machine) (pass count : ℕ) → IsSound old.wo
     → (mid : Machine) × Begins p old (reply.Started pass) mid × Run mid ((event.Slice MAX_BUDGET, reply.Done pass count) ∷ []) new
 sliced_by Idle old new pass count sound h =
     let number = same_number_done pass (next_pass old.last_pass) count h.0.count h.0.answered in
-    (begun old, (ap reply.Started number, refl), (new, (slice_of_all old new pass count sound h, h.2), refl))
+    (begun old, (ap reply.Started number, refl), (new, (slice_of_all old new pass count sound h, h.2, h.3), refl))
 sliced_by (Running w spent) old new pass count sound h = absurd (done_refused pass count EBUSY h.0)
 
 pub pass_is_one_slice : PassIsOneSlice

@@ -10,3 +10,4 @@ pub mod Stepping
 pub mod Connecting
 pub mod Peeking
 pub mod Polling
+pub mod Telling

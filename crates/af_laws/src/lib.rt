@@ -14,3 +14,4 @@ pub mod running;
 pub mod settling;
 pub mod stepping;
 pub mod taking;
+pub mod telling;
