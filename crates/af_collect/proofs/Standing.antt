@@ -57,7 +57,7 @@ module _ {T E : Type 0} (r : Result T E) (p : Parts) (h : Inside) (new : Filed) 
 
 -- What a store shows of these holdings, where the pass is that of these parts.
 abbrev pub shown : Parts → Stored → Shown
-shown p t = record { world = t.world; rows = t.rows; message_room = t.message_room; pass = pass_of p.progress.stage p.begun.value.world p.progress.looked; marks = t.marks; progress = p.progress }
+shown p t = record { world = t.world; rows = t.rows; message_room = t.message_room; pass = pass_of p.progress.stage p.begun.value.world p.progress.looked; marks = t.marks; progress = p.progress; since = t.since }
 
 -- Where the world alone is changed, a caller sees it change so.
 pub seen-changed : (p : Parts) (h : Inside) (o : Shown) (f : World → World) → the_view h ≡ p.places → shown p p.places ≡ o → shown p (record (the_view h) { world = f (the_view h).world }) ≡ record o { world = f o.world }

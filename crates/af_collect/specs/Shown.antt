@@ -5,7 +5,7 @@ use Rattle.af_base.specs.declared.events.Reply.{Reply}
 use Rattle.af_base.specs.declared.events.Reply.TheVariants as reply
 use Rattle.af_base.specs.Pass.{Pass}
 use Rattle.af_base.specs.Places.{queue_at}
-use Rattle.af_base.specs.World.{IsLive, Map, World}
+use Rattle.af_base.specs.World.{IsLive, Map, Since, World}
 use Rattle.af_table.specs.Procs.{row_in}
 use Rattle.af_hold.specs.Stored.{Stored}
 use Rattle.af_mark.specs.Marked.{Marked, is_marked}
@@ -13,7 +13,7 @@ use Rattle.af_pass.specs.Keeping.{IsKept, is_marking}
 use Rattle.af_pass.specs.declared.Progress.{Progress}
 use Rattle.af_collect.specs.declared.parts.Parts.{Parts}
 
--- The world, below which number each table has room, whether there is room for a message more, the pass that runs, which files it has marked, and how far it is (this project's profile).
+-- The world, below which number each table has room, whether there is room for a message more, the pass that runs, which files it has marked, how far it is, and what is told (this project's profile).
 pub record Shown : Type 0 where
   pub world : World
   pub rows : Map ℕ
@@ -21,6 +21,7 @@ pub record Shown : Type 0 where
   pub pass : Pass
   pub marks : Marked
   pub progress : Progress
+  pub since : Since
 
 -- Below which number process p has room: below none, where there is no such process (this project's profile).
 abbrev pub room_at : Shown → ℕ → ℕ

@@ -1,7 +1,7 @@
 //! All that is there: the processes, the files, and the counts that are kept of them, always in step.
 ghost use Rattle.std.specs.Prelude.{◌≡◌};
 ghost use Rattle.std.specs.FinMap as map;
-ghost use Rattle.af_base.specs.World.{empty_world};
+ghost use Rattle.af_base.specs.World.{empty_world, untold};
 ghost use Rattle.af_base.specs.Refusals.{is_crowded};
 
 use af_base::limits::{MAX_PID, MAX_PROCESSES};
@@ -42,7 +42,7 @@ impl Model for Holdings {
 
     ghost coded = { Prim.hlevel (codes, map.code) };
 
-    ghost view = { λ a. record { world = world_of a.procs a.files a.ledger; rows = a.procs.rows; message_room = a.files.message_room; marks = a.files.marks } };
+    ghost view = { λ a. record { world = world_of a.procs a.files a.ledger; rows = a.procs.rows; message_room = a.files.message_room; marks = a.files.marks; since = a.files.since } };
 
     ghost invariant = { λ a. AreExact a.procs a.files a.ledger };
 }
@@ -52,6 +52,7 @@ impl Holdings {
     pub(crate) fn new(alloc: Global) -> Holdings
         ensures world { result.world ≡ empty_world }
         ensures marks { result.marks.colors ≡ map.empty }
+        ensures since { result.since ≡ untold }
     {
         Holdings {
             alloc,

@@ -52,6 +52,7 @@ impl Parts {
         ensures settles { Settles self.old.places.world self.new.places.world }
         ensures sound { IsSound self.new.places.world }
         ensures rows { self.new.places.rows ≡ self.old.places.rows }
+        ensures since { self.new.places.since ≡ self.old.places.since }
         ensures begun { self.new.begun ≡ self.old.begun }
         ensures progress { self.new.progress ≡ record self.old.progress { reclaimed = self.new.progress.reclaimed } }
     {

@@ -45,6 +45,7 @@ impl Store {
         requires sound { IsSound self.old.world }
         ensures world { self.new.world ≡ self.old.world }
         ensures rows { self.new.rows ≡ self.old.rows }
+        ensures since { self.new.since ≡ self.old.since }
         ensures pass { self.new.pass ≡ Running self.old.world 0 }
         ensures unmarked { (f : ℕ) → is_marked self.new.marks f ≡ false }
         ensures looked { self.new.progress.looked ≡ 0 }
@@ -59,6 +60,7 @@ impl Store {
         requires sound { IsSound self.old.world }
         ensures does { (begun : World) (spent pass : ℕ) → self.old.pass ≡ Running begun spent → Slices begun self.old.world spent budget pass (slice_reply pass result) self.new.world self.new.pass }
         ensures sound { IsSound self.new.world }
+        ensures since { self.new.since ≡ self.old.since }
         ensures looked { self.new.progress.looked ≤ self.old.progress.looked + budget }
         ensures rises { self.old.progress.looked ≤ self.new.progress.looked }
     {
@@ -76,6 +78,7 @@ impl Store {
         requires sound { IsSound self.old.world }
         ensures collects { Collects self.old.world result self.new.world }
         ensures sound { IsSound self.new.world }
+        ensures since { self.new.since ≡ self.old.since }
         ensures pass { self.new.pass ≡ Idle }
     {
         self.parts.begin();
@@ -92,6 +95,7 @@ impl Store {
         ensures settles { Settles self.old.world self.new.world }
         ensures sound { IsSound self.new.world }
         ensures rows { self.new.rows ≡ self.old.rows }
+        ensures since { self.new.since ≡ self.old.since }
         ensures pass { self.new.pass ≡ self.old.pass }
         ensures progress { self.new.progress ≡ record self.old.progress { reclaimed = self.new.progress.reclaimed } }
     {

@@ -29,6 +29,7 @@ impl Holdings {
         ensures files { result.now.files ≡ self.now.world.files }
         ensures next { result.now.next ≡ self.now.world.next_ino }
         ensures marks { result.now.marks ≡ self.now.marks }
+        ensures since { result.now.since ≡ self.now.since }
     {
         &self.files
     }

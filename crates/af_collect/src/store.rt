@@ -1,11 +1,12 @@
 //! All that is there, and beside it the pass that runs.
 ghost use Rattle.std.specs.Prelude.{◌≡◌, ◌<◌, ◌≤◌, ◌+◌, ℕ, false, None, Some, IsTrue, IsOk, IfOk, OnOk, OnErr, true};
 ghost use Rattle.std.specs.FinMap as map;
-ghost use Rattle.af_base.specs.World.{Plain, empty_world};
+ghost use Rattle.af_base.specs.World.{Plain, empty_world, untold};
 ghost use Rattle.af_base.specs.Changes.{add_file, add_process, remove_process, set_limit};
 ghost use Rattle.af_base.specs.Pass.{Idle};
 ghost use Rattle.af_base.specs.Refusals.{is_full, is_crowded, process_at};
 ghost use Rattle.af_base.specs.Steps.{spawned, with_pair};
+ghost use Rattle.af_base.specs.Told.{AreChanged, TellsReleased};
 ghost use Rattle.af_pass.specs.Keeping.{Spares};
 ghost use Rattle.af_collect.specs.Shown.{room_at};
 
@@ -13,7 +14,7 @@ use crate::holdings::Holdings;
 use crate::parts::Parts;
 use af_base::events::SockType;
 use af_base::limits::MAX_NOFILE;
-use af_base::names::{FileRef, Pid, Uid};
+use af_base::names::{FileRef, Ino, Pid, Uid};
 use af_hold::{drop_numbers, hold_numbers};
 use af_pass::{Progress, Stage};
 use std::alloc::{AllocError, Global};
@@ -43,7 +44,7 @@ impl Model for Store {
 
     ghost coded = { Prim.hlevel (codes, map.code) };
 
-    ghost view = { λ s. record { world = s.parts.places.world; rows = s.parts.places.rows; message_room = s.parts.places.message_room; pass = pass_of s.parts.progress.stage s.parts.begun.value.world s.parts.progress.looked; marks = s.parts.places.marks; progress = s.parts.progress } };
+    ghost view = { λ s. record { world = s.parts.places.world; rows = s.parts.places.rows; message_room = s.parts.places.message_room; pass = pass_of s.parts.progress.stage s.parts.begun.value.world s.parts.progress.looked; marks = s.parts.places.marks; progress = s.parts.progress; since = s.parts.places.since } };
 
     ghost invariant = { λ s. AreKept s.parts };
 }
@@ -52,6 +53,7 @@ impl Store {
     /// Nothing at all. It takes no memory.
     pub fn new(alloc: Global) -> Store
         ensures world { result.world ≡ empty_world }
+        ensures since { result.since ≡ untold }
         ensures pass { result.pass ≡ Idle }
     {
         let places = Holdings::new(alloc);
@@ -78,6 +80,7 @@ impl Store {
         requires room { is_crowded self.old.world ≡ false }
         ensures ok { OnOk result (self.new.world ≡ spawned self.old.world uid limit privileged) }
         ensures pass { self.new.pass ≡ self.old.pass }
+        ensures since { self.new.since ≡ self.old.since }
         ensures progress { self.new.progress ≡ self.old.progress }
         ensures marks { self.new.marks ≡ self.old.marks }
         ensures pid { IfOk result (λ pid. pid ≡ self.old.world.next_pid) }
@@ -105,6 +108,7 @@ impl Store {
     pub fn room_for(&mut self, pid: Pid, count: usize) -> Result<(), AllocError>
         ensures world { self.new.world ≡ self.old.world }
         ensures pass { self.new.pass ≡ self.old.pass }
+        ensures since { self.new.since ≡ self.old.since }
         ensures progress { self.new.progress ≡ self.old.progress }
         ensures marks { self.new.marks ≡ self.old.marks }
         ensures row { OnOk result (0 < count → (process_at self.old.world pid).limit ≤ room_at self.new pid) }
@@ -124,6 +128,50 @@ impl Store {
     {
         let places = &mut self.parts.places;
         places.files.room_for_message()
+    }
+
+    /// Tells from now on which files are freed. Both lists are empty then. On an error nothing has
+    /// changed.
+    pub fn tell_released(&mut self) -> Result<(), AllocError>
+        ensures ok { OnOk result (self.new ≡ record self.old { since = record { changed = self.old.since.changed; released = true; files = self.old.world.files; next = self.old.world.next_ino } }) }
+        ensures err { OnErr result (self.new ≡ self.old) }
+    {
+        let places = &mut self.parts.places;
+        places.files.tell_released()
+    }
+
+    /// Tells from now on whose readiness may have changed. Both lists are empty then. On an error
+    /// nothing has changed.
+    pub fn tell_changed(&mut self) -> Result<(), AllocError>
+        ensures ok { OnOk result (self.new ≡ record self.old { since = record { changed = true; released = self.old.since.released; files = self.old.world.files; next = self.old.world.next_ino } }) }
+        ensures err { OnErr result (self.new ≡ self.old) }
+    {
+        let places = &mut self.parts.places;
+        places.files.tell_changed()
+    }
+
+    /// Returns the numbers of the files that were freed since the lists were emptied last, each once,
+    /// where that is told.
+    pub fn released(&self) -> &[Ino]
+        ensures { TellsReleased self.now.world self.now.since result.now }
+    {
+        self.parts.places.files().released()
+    }
+
+    /// Returns the sockets whose readiness may have changed since the lists were emptied last, each
+    /// once, where that is told.
+    pub fn changed(&self) -> &[FileRef]
+        ensures { self.now.since.changed ≡ true → AreChanged self.now.world.files self.now.since result.now }
+    {
+        self.parts.places.files().changed()
+    }
+
+    /// Empties both lists. It takes no memory.
+    pub fn clear_told(&mut self)
+        ensures { self.new ≡ record self.old { since = record self.old.since { files = self.old.world.files; next = self.old.world.next_ino } } }
+    {
+        let places = &mut self.parts.places;
+        places.files.clear_told();
     }
 
     /// A plain file more, which waits for its first place: without one, `release` takes it away. On
@@ -159,6 +207,7 @@ impl Store {
         requires room { is_crowded self.old.world ≡ false }
         ensures ok { OnOk result (self.new.world ≡ add_process self.old.world (process_at self.old.world pid)) }
         ensures pass { self.new.pass ≡ self.old.pass }
+        ensures since { self.new.since ≡ self.old.since }
         ensures progress { self.new.progress ≡ self.old.progress }
         ensures marks { self.new.marks ≡ self.old.marks }
         ensures pid { IfOk result (λ child. child ≡ self.old.world.next_pid) }
@@ -174,6 +223,7 @@ impl Store {
     pub fn remove_process(&mut self, pid: Pid)
         ensures world { self.new.world ≡ remove_process self.old.world pid }
         ensures pass { self.new.pass ≡ self.old.pass }
+        ensures since { self.new.since ≡ self.old.since }
         ensures progress { self.new.progress ≡ self.old.progress }
     {
         self.parts.shade_table(pid);

@@ -50,6 +50,7 @@ impl Parts {
         ensures running { is_running self.new.progress.stage ≡ true }
         ensures sound { IsSound self.new.places.world }
         ensures rows { self.new.places.rows ≡ self.old.places.rows }
+        ensures since { self.new.places.since ≡ self.old.places.since }
         ensures begun { self.new.begun ≡ self.old.begun }
         ensures purged { ArePurged self.old.begun.value.world self.old.places.world self.new.places.world budget }
         ensures looked { self.new.progress.looked ≤ self.old.progress.looked + budget }
@@ -85,6 +86,7 @@ impl Parts {
         ensures running { is_running self.new.progress.stage ≡ true }
         ensures sound { IsSound self.new.places.world }
         ensures rows { self.new.places.rows ≡ self.old.places.rows }
+        ensures since { self.new.places.since ≡ self.old.places.since }
         ensures begun { self.new.begun ≡ self.old.begun }
         ensures few { result ≤ left }
         ensures purged { ArePurged self.old.begun.value.world self.old.places.world self.new.places.world result }
@@ -142,6 +144,7 @@ impl Parts {
         ensures kept { AreKept self.new }
         ensures sound { IsSound self.new.places.world }
         ensures rows { self.new.places.rows ≡ self.old.places.rows }
+        ensures since { self.new.places.since ≡ self.old.places.since }
         ensures begun { self.new.begun ≡ self.old.begun }
         ensures stage { self.new.progress.stage ≡ stage.Sweeping }
         ensures few { result ≤ 1 }
@@ -234,6 +237,7 @@ impl Parts {
         ensures kept { AreKept self.new }
         ensures sound { IsSound self.new.places.world }
         ensures rows { self.new.places.rows ≡ self.old.places.rows }
+        ensures since { self.new.places.since ≡ self.old.places.since }
         ensures begun { self.new.begun ≡ self.old.begun }
         ensures stage { self.new.progress.stage ≡ stage.Sweeping }
         ensures looked { self.new.progress.looked ≡ self.old.progress.looked + 1 }

@@ -13,6 +13,7 @@ impl Store {
         ensures world { result.now.world ≡ self.now.world }
         ensures rows { result.now.rows ≡ self.now.rows }
         ensures marks { result.now.marks ≡ self.now.marks }
+        ensures since { result.now.since ≡ self.now.since }
     {
         &self.parts.places
     }

@@ -29,8 +29,8 @@ use Rattle.af_desc.proofs.Whites.{white-entered}
 module _ {embryos bound white : ℕ} (old new : Rowed) (ws : List ℕ) (room : ℕ) (names : Named) (next epoch : ℕ) (grey : List ℕ) (most : ℕ) (h : AreFiled old ws room names next epoch grey most embryos bound white) where
   -- More room changes nothing.
   pub filed-reserved : (vs : List ℕ) (space : ℕ) (gs : List ℕ) (wide : ℕ) → new ≡ record old { room = new.room } → vs ≡ ws → room ≤ space → gs ≡ grey → most ≤ wide → AreFiled new vs space names next epoch gs wide embryos bound white
-  filed-reserved vs space gs wide is waiting more greys wider = let low = h.above in let fits = h.fits in record {
-    above = omega (arith, low, ap (λ r. r.last) is);
+  filed-reserved vs space gs wide is waiting more greys wider = let low = h.last in let fits = h.fits in record {
+    last = omega (arith, low, ap (λ r. r.last) is);
     begins = ap (λ r. map.contains_key r.files 0) is ∙ h.begins;
     named = subst (AreNamed names) (sym (ap (λ r. r.files) is)) h.named;
     waits = subst (AreWaiting new.counts) (sym waiting) (subst (λ m. AreWaiting m ws) (sym (ap (λ r. r.counts) is)) h.waits);
@@ -43,7 +43,7 @@ module _ {embryos bound white : ℕ} (old new : Rowed) (ws : List ℕ) (room : �
   -- Other marks of the same files, in another pass.
   pub filed-renewed : (m : Map Mark) (e b : ℕ) (gs : List ℕ) (wide : ℕ) → new ≡ record old { marks = m } → AreListed m e gs wide → (n : ℕ) → AreWhite m e b next n → AreFiled new ws room names next e gs wide embryos b n
   filed-renewed m e b gs wide is listed n whites =
-      subst (λ r. AreFiled r ws room names next e gs wide embryos b n) (sym is) (record { above = h.above; begins = h.begins; named = h.named; waits = h.waits; fits = h.fits; listed = listed; backlogged = h.backlogged; whites = whites })
+      subst (λ r. AreFiled r ws room names next e gs wide embryos b n) (sym is) (record { last = h.last; begins = h.begins; named = h.named; waits = h.waits; fits = h.fits; listed = listed; backlogged = h.backlogged; whites = whites })
 
   -- Other marks of the same files, the list of those that are grey then, and how many are still to be marked.
   pub filed-marked : (m : Map Mark) (gs : List ℕ) (wide : ℕ) → new ≡ record old { marks = m } → AreListed m epoch gs wide → (n : ℕ) → AreWhite m epoch bound next n → AreFiled new ws room names next epoch gs wide embryos bound n
@@ -51,14 +51,14 @@ module _ {embryos bound white : ℕ} (old new : Rowed) (ws : List ℕ) (room : �
 
   -- Other files of the same numbers, with the names that are theirs.
   pub filed-named : (fs : Map File) (left : Named) → new ≡ record old { files = fs } → map.contains_key fs 0 ≡ false → AreNamed left fs → AreFiled new ws room left next epoch grey most embryos bound white
-  filed-named fs left is begins named = subst (λ r. AreFiled r ws room left next epoch grey most embryos bound white) (sym is) (record { above = h.above; begins = begins; named = named; waits = h.waits; fits = h.fits; listed = h.listed; backlogged = h.backlogged; whites = h.whites })
+  filed-named fs left is begins named = subst (λ r. AreFiled r ws room left next epoch grey most embryos bound white) (sym is) (record { last = h.last; begins = begins; named = named; waits = h.waits; fits = h.fits; listed = h.listed; backlogged = h.backlogged; whites = h.whites })
 
   -- A socket changes, but for its name, and there is room for a message more or less.
   pub socket_changed : {b : Bool} (f : ℕ) (g : Socket → Socket) → ((s : Socket) → (g s).name ≡ s.name) → new ≡ record old { files = change_socket_at g old.files f; message_room = b } → AreFiled new ws room names next epoch grey most embryos bound white
   socket_changed f g same is =
       let begins = changed-live (file_with g) old.files f 0 ∙ h.begins in
       subst (λ r. AreFiled r ws room names next epoch grey most embryos bound white) (sym is)
-      (record { above = h.above; begins = begins; named = named-changed names old.files f g same h.named; waits = h.waits; fits = h.fits; listed = h.listed; backlogged = h.backlogged; whites = h.whites })
+      (record { last = h.last; begins = begins; named = named-changed names old.files f g same h.named; waits = h.waits; fits = h.fits; listed = h.listed; backlogged = h.backlogged; whites = h.whites })
 
   -- Or nothing does, where memory is refused.
   pub socket_either : {A B : Type 0} (b : Bool) (r : Result A B) (f : ℕ) (g : Socket → Socket) → ((s : Socket) → (g s).name ≡ s.name) → OnOk r (new ≡ record old { files = change_socket_at g old.files f; message_room = b }) → OnErr r (new ≡ old) → AreFiled new ws room names next epoch grey most embryos bound white
@@ -70,13 +70,13 @@ module _ {embryos bound white : ℕ} (old new : Rowed) (ws : List ℕ) (room : �
   filed-counted m vs space is waits many more n counted =
       let fits = h.fits in
       let few : map.len m ≤ space = omega (arith, fits, many, more, ap (λ r. map.len r.counts) is) in
-      subst (λ r. AreFiled r vs space names next epoch grey most n bound white) (sym is) (record { above = h.above; begins = h.begins; named = h.named; waits = waits; fits = few; listed = h.listed; backlogged = counted; whites = h.whites })
+      subst (λ r. AreFiled r vs space names next epoch grey most n bound white) (sym is) (record { last = h.last; begins = h.begins; named = h.named; waits = waits; fits = few; listed = h.listed; backlogged = counted; whites = h.whites })
 
   -- A file more, without a name, which waits.
   pub filed-entered : (x : File) (vs : List ℕ) (space : ℕ) → new ≡ with_row next x new.room old → map.contains_key old.files next ≡ false → name_of x ≡ None → AreWaiting new.counts vs → map.len new.counts ≤ space
       → map.contains_key old.marks next ≡ false → map.len new.marks ≤ most → AreFiled new vs space names (next + 1) epoch grey most embryos bound white
-  filed-entered x vs space is stranger nameless waits fits unmarked few = let low = h.above in record {
-    above = omega (arith, ap (λ r. r.last) is);
+  filed-entered x vs space is stranger nameless waits fits unmarked few = let low = h.last in record {
+    last = omega (arith, ap (λ r. r.last) is);
     begins = ap (λ r. map.contains_key r.files 0) is ∙ begun-made old.files next x (omega (arith, low)) h.begins;
     named = subst (AreNamed names) (sym (ap (λ r. r.files) is)) (named-new names old.files h.named next x stranger nameless);
     waits = waits;
@@ -90,8 +90,8 @@ module _ {embryos bound white : ℕ} (old new : Rowed) (ws : List ℕ) (room : �
   pub filed-removed : (k : ℕ) (left : Named) (vs : List ℕ) (space : ℕ) → new ≡ without_row k new.room old → AreNamed left (map.remove old.files k) → ((f : ℕ) → count_in f vs ≡ count_in f ws - one f k) → room ≤ space
       → option_map_or is_grey_color (map.get (colors_in epoch old.marks) k) false ≡ false → (n : ℕ) → white_count (record { colors = map.remove (colors_in epoch old.marks) k; bound = bound }) ≤ n
       → AreFiled new vs space left next epoch grey most embryos bound n
-  filed-removed k left vs space is named off more spared n few = let low = h.above in let fits = h.fits in record {
-    above = omega (arith, low, ap (λ r. r.last) is);
+  filed-removed k left vs space is named off more spared n few = let low = h.last in let fits = h.fits in record {
+    last = omega (arith, low, ap (λ r. r.last) is);
     begins = ap (λ r. map.contains_key r.files 0) is ∙ begun-removed old.files k h.begins;
     named = subst (AreNamed left) (sym (ap (λ r. r.files) is)) named;
     waits = just-gone (λ c. nat_eq (places_in c) 0) old.counts new.counts ws k h.waits vs (ap (λ r. r.counts) is) off;
@@ -104,7 +104,7 @@ module _ {embryos bound white : ℕ} (old new : Rowed) (ws : List ℕ) (room : �
 -- What is seen of rows in a pass, with this bound and this next number.
 module _ (epoch bound : ℕ) where
   abbrev pub seen : Rowed → ℕ → Filed
-  seen r next = record { files = r.files; counts = r.counts; marks = record { colors = colors_in epoch r.marks; bound = bound }; next = next; message_room = r.message_room }
+  seen r next = record { files = r.files; counts = r.counts; marks = record { colors = colors_in epoch r.marks; bound = bound }; since = r.since; next = next; message_room = r.message_room }
 
   -- Of a file more.
   pub seen-entered : (r : Rowed) (next room : ℕ) (x : File) → seen (with_row next x room r) (next + 1) ≡ entered x (seen r next)

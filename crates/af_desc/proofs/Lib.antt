@@ -3,6 +3,8 @@ pub mod Embryos
 pub mod Naming
 pub mod Filing
 pub mod Rowed
+pub mod Noting
+pub mod Telling
 pub mod Visiting
 pub mod Washing
 pub mod Whites

@@ -18,6 +18,7 @@ use Rattle.af_queue.specs.Chains.{messages_of, IsChain, SameElsewhere}
 use Rattle.af_queue.specs.declared.chain.Node.{Node}
 use Rattle.af_queue.proofs.Chains.{none_chain, none_of, other_queue, same_queue}
 use Rattle.af_desc.specs.Filed.{socket_in}
+use Rattle.af_desc.specs.Lined.{noted_of}
 use Rattle.af_desc.specs.Rowed.{counts_of, file_in, file_of, files_of, marks_of, refilled, AreChained}
 use Rattle.af_desc.specs.declared.row.Row.{Row}
 use Rattle.af_desc.proofs.Naming.{unchanged}
@@ -35,6 +36,10 @@ module _ (m : Map Row) (f : ℕ) (x : Row) (at : map.get m f ≡ Some x) where
   -- In another part: the mark stays.
   pub marks_kept : (y : Row) → y.mark ≡ x.mark → marks_of (map.insert m f y) ≡ marks_of m
   marks_kept y same = part_kept (λ r. r.mark) m f x y at same
+
+  -- In another part: whether it is noted stays.
+  pub noted_kept : (y : Row) → y.noted ≡ x.noted → noted_of (map.insert m f y) ≡ noted_of m
+  noted_kept y same = part_kept (λ r. r.noted) m f x y at same
 
   module _ (s : Slab Node) where
     -- The file is what its row says, with its messages.
@@ -159,10 +164,10 @@ module _ (s : Slab Node) (m : Map Row) (f : ℕ) (g : Socket → Socket) where
   none_changed none = unchanged g (files_of s m) f (stranger_is_none s m f none)
 
 -- Sockets that change.
-pub ruleset rows = (row_changed, none_changed, chains_stay, counts_kept, marks_kept)
+pub ruleset rows = (row_changed, none_changed, chains_stay, counts_kept, marks_kept, noted_kept)
 
 -- Messages that come and go.
-pub ruleset messages = (chained_at, chains_changed, messages_changed, messages_stay, none_changed, counts_kept, marks_kept)
+pub ruleset messages = (chained_at, chains_changed, messages_changed, messages_stay, none_changed, counts_kept, marks_kept, noted_kept)
 
 -- A file that has nothing to receive, and for which nobody waits, holds nothing.
 module _ (s : Slab Node) (x : Row) (silent : x.chain.len ≡ 0) where

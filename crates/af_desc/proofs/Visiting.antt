@@ -3,7 +3,7 @@ use Rattle.std.proofs.Common.{◌≡◌, ◌≤◌, ◌<◌, ◌-◌, ℕ, ◌&&
 use Rattle.std.specs.Prelude.{Option, None, Some, option_map, is_some, if◌then◌else◌}
 use Rattle.std.specs.FinMap as map
 use Rattle.std.specs.Option.{option_map_or}
-use Rattle.std.proofs.lemmas.Bool.{and_parts, le-ltb, lt-ltb}
+use Rattle.std.proofs.lemmas.Bool.{and_parts, lt-ltb}
 use Rattle.std.proofs.Math.Bool.{and-false}
 use Rattle.af_ledger.specs.Kept.{count_in_map}
 use Rattle.af_mark.specs.Grey.{color_in, colors_in}
@@ -33,7 +33,7 @@ module _ (epoch bound : ℕ) (r : Rowed) (f : ℕ) where
     by (Some x) = refl
 
   -- A file that is not due stays as it is.
-  pub visited-not : is_due epoch r f ≡ false → visited false tabled f now ≡ now
+  pub visited-not : is_due epoch r.counts r.marks f ≡ false → visited false tabled f now ≡ now
   visited-not spared = by (nat_lt 0 tabled) refl where
     by : (b : Bool) → nat_lt 0 tabled ≡ b → cond b (cond (nat_lt f bound && is_white now f) (record now { colors = map.insert now.colors f Grey }) now) now ≡ now
     by true e =
@@ -41,7 +41,7 @@ module _ (epoch bound : ℕ) (r : Rowed) (f : ℕ) where
         ap (λ b. cond (nat_lt f bound && b) (record now { colors = map.insert now.colors f Grey }) now) white ∙ ap (λ b. cond b (record now { colors = map.insert now.colors f Grey }) now) (and-false (nat_lt f bound))
     by false e = refl
 
-  module _ (due : is_due epoch r f ≡ true) where
+  module _ (due : is_due epoch r.counts r.marks f ≡ true) where
     parts : (nat_lt 0 tabled ≡ true) × (option_map_or (λ x. not (is_mark (color_in epoch x))) (map.get r.marks f) false ≡ true)
     parts = and_parts (nat_lt 0 tabled) (option_map_or (λ x. not (is_mark (color_in epoch x))) (map.get r.marks f) false) due
 
@@ -59,7 +59,7 @@ module _ (epoch bound : ℕ) (r : Rowed) (f : ℕ) where
         ap {B = Filed} (λ (m : Marked). record (seen epoch bound r next) { marks = m })
         (ap {B = Marked} (λ cs. record { colors = cs; bound = bound }) (color_after epoch r.marks _ f (marking epoch at bare) (if bare then Black else Grey) refl (color_now epoch (marking epoch at bare) refl)) ∙ sym (visited-due low bare))
 
-  module _ {names : Named} {waiting grey : List ℕ} {room next most embryos white : ℕ} (h : AreFiled r waiting room names next epoch grey most embryos bound white) (due : is_due epoch r f ≡ true) (low : f < bound)
+  module _ {names : Named} {waiting grey : List ℕ} {room next most embryos white : ℕ} (h : AreFiled r waiting room names next epoch grey most embryos bound white) (due : is_due epoch r.counts r.marks f ≡ true) (low : f < bound)
       (new : Rowed) (at : ℕ) (bare : Bool) (is : new ≡ record r { marks = map.insert r.marks f (marking epoch at bare) }) (len : map.len new.marks ≡ map.len r.marks) where
     many : map.len (map.insert r.marks f (marking epoch at bare)) ≡ map.len r.marks
     many = sym (ap (λ (r : Rowed). map.len r.marks) is) ∙ len

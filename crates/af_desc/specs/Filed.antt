@@ -5,7 +5,7 @@ use Rattle.af_base.specs.declared.events.SockType.{SockType}
 use Rattle.std.specs.FinMap as map
 use Rattle.af_base.specs.declared.events.State.{State}
 use Rattle.af_base.specs.declared.events.State.TheVariants as state
-use Rattle.af_base.specs.World.{Map, File, Socket, AsSocket}
+use Rattle.af_base.specs.World.{AsSocket, File, Map, Since, Socket}
 use Rattle.af_base.specs.Changes.{change_socket_at}
 use Rattle.af_base.specs.Counts.{total_of}
 use Rattle.af_base.specs.Refusals.{is_full_of, no_socket, socket_of}
@@ -24,11 +24,12 @@ use Rattle.af_mark.specs.Marked.{Marked, born, forgotten, white_count}
 use Rattle.af_queue.specs.Received.{Received, received}
 use Rattle.af_desc.specs.Rowed.{Rowed}
 
--- The world's files, how many places hold each, what a pass knows of each, the number that the next one gets, and whether there is room for a message more (this project's own).
+-- The world's files, how many places hold each, what a pass knows of each, what there was when the lists were emptied last, the number that the next one gets, and whether there is room for a message more (this project's own).
 pub record Filed : Type 0 where
   pub files : Map File
   pub counts : Map Count
   pub marks : Marked
+  pub since : Since
   pub next : ℕ
   pub message_room : Bool
 
@@ -126,7 +127,7 @@ AreWhite marks epoch bound next n = (bound ≤ next) × (white_count (record { c
 
 -- The rows fit all else: numbers begin at 1 and rise, the names are those of the files, the lists have just the files that wait and those that are grey, with room for all, and the embryos, and the files that a pass has still to mark, are counted (this project's own).
 pub record AreFiled (rows : Rowed) (waiting : List ℕ) (room : ℕ) (names : Named) (next epoch : ℕ) (grey : List ℕ) (most embryos bound white : ℕ) : Type 0 where
-  pub above : rows.last < next
+  pub last : rows.last + 1 ≡ next
   pub begins : map.contains_key rows.files 0 ≡ false
   pub named : AreNamed names rows.files
   pub waits : AreWaiting rows.counts waiting

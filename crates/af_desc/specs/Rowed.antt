@@ -3,7 +3,7 @@ use Rattle.std.specs.Prelude.{◌≡◌, ◌&&◌, ℕ, Bool, List, Option, Some
 use Rattle.std.specs.Option.{option_map_or}
 use Rattle.std.specs.FinMap as map
 use Rattle.slab.specs.Slab.{Slab}
-use Rattle.af_base.specs.World.{AsSocket, File, Map, Message, Plain, Socket}
+use Rattle.af_base.specs.World.{AsSocket, File, Map, Message, Plain, Since, Socket}
 use Rattle.af_ledger.specs.Counted.{uncounted}
 use Rattle.af_ledger.specs.declared.count.Count.{Count}
 use Rattle.af_ledger.specs.Kept.{count_in_map}
@@ -16,11 +16,12 @@ use Rattle.af_queue.specs.Chains.{messages_of, IsChain}
 use Rattle.af_queue.specs.declared.chain.Node.{Node}
 use Rattle.af_desc.specs.declared.row.Row.{Row}
 
--- The files, how many places hold each, the mark of each, the last number that there was, for how many more there is room, and whether there is room for a message more (this project's own).
+-- The files, how many places hold each, the mark of each, what there was when the lists were emptied last, the last number that there was, for how many more there is room, and whether there is room for a message more (this project's own).
 pub record Rowed : Type 0 where
   pub files : Map File
   pub counts : Map Count
   pub marks : Map Mark
+  pub since : Since
   pub last : ℕ
   pub room : ℕ
   pub message_room : Bool
@@ -62,8 +63,8 @@ pub record AreChained (s : Slab Node) (m : Map Row) : Type 0 where
   pub each : (f : ℕ) (x : Row) → map.get m f ≡ Some x → IsChain s x.chain f
 
 -- Whether a pass has still to mark the file, and a table holds it (this project's own).
-abbrev pub is_due : ℕ → Rowed → ℕ → Bool
-is_due epoch r f = nat_lt 0 (count_in_map r.counts f).tabled && option_map_or (λ x. not (is_mark (color_in epoch x))) (map.get r.marks f) false
+abbrev pub is_due : ℕ → Map Count → Map Mark → ℕ → Bool
+is_due epoch counts marks f = nat_lt 0 (count_in_map counts f).tabled && option_map_or (λ x. not (is_mark (color_in epoch x))) (map.get marks f) false
 
 -- The mark of a file that is marked in this pass, and to be scanned unless it is black (this project's own).
 abbrev pub marking : ℕ → ℕ → Bool → Mark

@@ -8,9 +8,11 @@ ghost use Rattle.af_base.specs.Changes.{bound, connected, dequeued, listening, p
 ghost use Rattle.af_base.specs.Refusals.{room_of};
 ghost use Rattle.af_base.specs.Steps.{connected_socket, idle_socket};
 ghost use Rattle.af_base.specs.Whole.{IsMessageWithin};
+ghost use Rattle.af_base.specs.World.{untold};
 ghost use Rattle.af_ledger.specs.Kept.{AreWaiting};
 ghost use Rattle.af_mark.specs.Marked.{is_grey};
 ghost use Rattle.af_desc.specs.Rowed.{file_of, with_row};
+ghost use Rattle.af_base.specs.Told.{AreChanged, AreReleased};
 ghost use Rattle.af_desc.specs.Filed.{changed, changed_queue, entered, hung_up, is_full, is_live, name_of, paired, popped, received_from, received_of, socket_in, state_in, without};
 
 use crate::rows::Rows;
@@ -59,7 +61,7 @@ impl Model for Files {
 
     ghost coded = { Prim.hlevel (codes, map.code) };
 
-    ghost view = { λ a. record { files = a.rows.files; counts = a.rows.counts; marks = record { colors = colors_in a.epoch a.rows.marks; bound = a.bound }; next = a.next; message_room = a.rows.message_room } };
+    ghost view = { λ a. record { files = a.rows.files; counts = a.rows.counts; marks = record { colors = colors_in a.epoch a.rows.marks; bound = a.bound }; since = a.rows.since; next = a.next; message_room = a.rows.message_room } };
 
     ghost invariant = { λ a. AreFiled a.rows a.waiting.items (vec_capacity a.waiting) a.names a.next a.epoch a.grey.items (vec_capacity a.grey) a.embryos a.bound a.white };
 }
@@ -71,6 +73,7 @@ impl Files {
         ensures files { result.files ≡ map.empty }
         ensures counts { result.counts ≡ map.empty }
         ensures marks { result.marks ≡ record { colors = map.empty; bound = 0 } }
+        ensures since { result.since ≡ untold }
         ensures next { result.next ≡ 1 }
     {
         Files {
@@ -370,12 +373,56 @@ impl Files {
     }
 
     /// The first embryo of that listener waits no more, if one does. It takes no memory.
+    #[inline(always)]
     pub fn dequeue(&mut self, file: &FileRef) -> Option<FileRef>
         ensures some { IfSome result (λ f. backlog_in self.old.files file.now ≡ f ∷ drop 1 (backlog_in self.old.files file.now)) }
         ensures none { IfNone result (backlog_in self.old.files file.now ≡ []) }
         ensures rest { self.new ≡ changed dequeued file.now self.old }
     {
         self.rows.dequeue(file)
+    }
+}
+
+impl Files {
+    /// Tells from now on which files are freed. Both lists are empty then. On an error nothing has
+    /// changed.
+    pub fn tell_released(&mut self) -> Result<(), AllocError>
+        ensures ok { OnOk result (self.new ≡ record self.old { since = record { changed = self.old.since.changed; released = true; files = self.old.files; next = self.old.next } }) }
+        ensures err { OnErr result (self.new ≡ self.old) }
+    {
+        self.rows.tell_released()
+    }
+
+    /// Tells from now on whose readiness may have changed. Both lists are empty then. On an error
+    /// nothing has changed.
+    pub fn tell_changed(&mut self) -> Result<(), AllocError>
+        ensures ok { OnOk result (self.new ≡ record self.old { since = record { changed = true; released = self.old.since.released; files = self.old.files; next = self.old.next } }) }
+        ensures err { OnErr result (self.new ≡ self.old) }
+    {
+        self.rows.tell_changed()
+    }
+
+    /// Returns the numbers of the files that were freed since the lists were emptied last, each once,
+    /// where that is told.
+    pub fn released(&self) -> &[Ino]
+        ensures { self.now.since.released ≡ true → AreReleased self.now.files self.now.next self.now.since result.now }
+    {
+        self.rows.released()
+    }
+
+    /// Returns the sockets whose readiness may have changed since the lists were emptied last, each
+    /// once, where that is told.
+    pub fn changed(&self) -> &[FileRef]
+        ensures { self.now.since.changed ≡ true → AreChanged self.now.files self.now.since result.now }
+    {
+        self.rows.changed()
+    }
+
+    /// Empties both lists. It takes no memory.
+    pub fn clear_told(&mut self)
+        ensures { self.new ≡ record self.old { since = record self.old.since { files = self.old.files; next = self.old.next } } }
+    {
+        self.rows.clear_told();
     }
 }
 
@@ -416,7 +463,7 @@ fn widen(list: &mut Vec<FileRef>, files: usize) -> Result<(), AllocError>
     list.reserve(files - list.len())
 }
 
-/// A file more, above all others that there were, which waits for its first place. There is room for
+/// A file more, under the number after the last, which waits for its first place. There is room for
 /// it. It takes no memory.
 #[inline(always)]
 fn enter(
@@ -426,7 +473,7 @@ fn enter(
     endpoint: Option<Endpoint>,
 ) -> FileRef
     requires room { 0 < rows.old.room }
-    requires above { rows.old.last < ino }
+    requires next { ino ≡ rows.old.last + 1 }
     requires fits { map.len rows.old.counts < vec_capacity waiting.old }
     requires waiting { AreWaiting rows.old.counts waiting.old.items }
     ensures file { result ≡ ino }

@@ -4,6 +4,7 @@
 
 mod counts;
 mod files;
+mod lines;
 mod marks;
 mod row;
 mod rows;

@@ -17,7 +17,8 @@ use af_queue::{Chain, Msg, Node, Taken, pool};
 use slab::Slab;
 use std::alloc::{AllocError, Global};
 
-/// What is kept of one file: what it is, what it has to receive, how many places hold it, and its mark.
+/// What is kept of one file: what it is, what it has to receive, how many places hold it, its mark, and
+/// whether it is noted.
 #[derive(Drop)]
 pub struct Row {
     /// The socket that it is, but for its queue; nothing is known of a plain file.
@@ -28,6 +29,10 @@ pub struct Row {
     pub count: Count,
     /// What a pass of the collector knows of it.
     pub mark: Mark,
+    /// Whether it is in the list of those whose readiness may have changed.
+    pub noted: bool,
+    /// Where in that list it stands: a hint.
+    pub place: u32,
 }
 
 impl Row {

@@ -1,99 +1,125 @@
-//! One row for each file.
-ghost use Rattle.std.specs.Prelude.{◌≡◌, ℕ, ◌+◌, ◌≤◌, ◌<◌, ◌∷◌, [], false, None, IsTrue, IsOk, IfSome, IfNone, IfErr, IfOk, OnOk, OnErr, drop, is_none, is_some, length, nat_eq, option_copied, true};
+//! The rows of all files, and beside them the lists of what is told.
+ghost use Rattle.std.specs.Prelude.{◌≡◌, ℕ, ◌+◌, ◌≤◌, ◌<◌, ◌∷◌, [], true, false, None, IsTrue, IsOk, IfSome, IfNone, IfErr, IfOk, OnOk, OnErr, drop, is_none, is_some, length, nat_eq, option_copied, vec_capacity, cond};
 ghost use Rattle.std.specs.FinMap as map;
 ghost use Rattle.af_base.specs.Changes.{bound, change_socket_at, connected, dequeued, listening, pushed, queued};
+ghost use Rattle.af_base.specs.Counts.{count_in};
 ghost use Rattle.af_base.specs.Places.{backlog_in, held_in, queue_in};
 ghost use Rattle.af_base.specs.Refusals.{room_of};
 ghost use Rattle.af_base.specs.Whole.{IsMessageWithin};
+ghost use Rattle.af_base.specs.World.{untold};
 ghost use Rattle.af_ledger.specs.Counted.{fewer, more, places_in, IsCountable, IsCounted};
 ghost use Rattle.af_ledger.specs.Kept.{count_in_map};
 ghost use Rattle.af_desc.specs.Filed.{hung_up, popped, received_from, received_of, socket_in};
 ghost use Rattle.af_desc.specs.Rowed.{file_of, is_due, marking, with_row, without_row};
+ghost use Rattle.af_base.specs.Told.{AreChanged, AreReleased};
+ghost use Rattle.af_desc.specs.Told.{AreListed, Notes};
 
-use crate::row::Row;
+use crate::lines::Lines;
 use crate::socket::{Endpoint, Socket};
+use af_base::file_list::unlist;
 use af_base::items::Items;
 use af_base::limits::MAX_MESSAGES;
 use af_base::names::{FileRef, Ino};
 use af_ledger::{Count, Place};
-use af_mark::{Color, Mark};
-use af_order::Keyed;
-use af_queue::{Chain, Msg, Node, Queue, Taken, pool};
-use slab::Slab;
+use af_mark::{Mark, noted};
+use af_queue::{Msg, Taken};
 use std::alloc::{AllocError, Global};
 use std::marker::Model;
+use std::snapshot::Snapshot;
 
-/// A row for each file: what it is, what it has to receive, how many places hold it, and its mark. They
-/// come and go together, and stand in one table, and all messages in another; a contract sees them as
-/// three maps.
+/// The rows of all files; and, where a program asks for it, the list of the files that were freed and
+/// that of the sockets whose readiness may have changed, since both were emptied last. A contract sees
+/// the files as they were then, and not the lists.
 #[derive(Drop)]
 pub struct Rows {
-    rows: Keyed<Row>,
-    /// The messages of all queues.
-    nodes: Slab<Node>,
+    lines: Lines,
+    /// Whether readiness is told.
+    tells_changed: bool,
+    /// The files that are noted.
+    changed: Vec<FileRef>,
+    /// Whether freed files are told.
+    tells_released: bool,
+    /// The numbers of those that were freed.
+    released: Vec<Ino>,
+    /// The rows when the lists were emptied last: for contracts alone.
+    since: Snapshot<Lines>,
 }
 
 impl Model for Rows {
     ghost use Rattle.std.specs.FinMap as map;
     ghost use Rattle.std.specs.Coded.{codes};
-    ghost use Rattle.af_queue.specs.Chains.{has_room};
-    ghost use Rattle.af_desc.specs.Rowed.{Rowed, counts_of, files_of, marks_of, AreChained};
+    ghost use Rattle.std.specs.Prelude.{◌+◌, length, vec_capacity};
+    ghost use Rattle.af_desc.specs.Told.{AreTold, room_in, since_of};
+    ghost use Rattle.af_desc.specs.Rowed.{Rowed};
 
     ghost Value = { Rowed };
 
     ghost coded = { Prim.hlevel (codes, map.code) };
 
-    ghost view = { λ a. record { files = files_of a.nodes a.rows.values; counts = counts_of a.rows.values; marks = marks_of a.rows.values; last = a.rows.last; room = a.rows.room; message_room = has_room a.nodes } };
+    ghost view = { λ a. record { files = a.lines.files; counts = a.lines.counts; marks = a.lines.marks; since = since_of a.tells_changed a.tells_released a.since.value; last = a.lines.last; room = room_in (since_of a.tells_changed a.tells_released a.since.value) a.lines.room (vec_capacity a.changed) (map.len a.lines.noted) (vec_capacity a.released) (length a.released.items + map.len a.lines.counts); message_room = a.lines.message_room } };
 
-    ghost invariant = { λ a. AreChained a.nodes a.rows.values };
+    ghost invariant = { λ a. AreTold a.lines a.changed.items (vec_capacity a.changed) a.released.items (vec_capacity a.released) (since_of a.tells_changed a.tells_released a.since.value) };
 }
 
 impl Rows {
     /// No row. It takes no memory.
-    #[tactic(auto, using(crate::proofs::Rowed::chains, af_order::proofs::Parts::parts))]
     pub fn new(alloc: Global) -> Rows
         ensures files { result.files ≡ map.empty }
         ensures counts { result.counts ≡ map.empty }
         ensures marks { result.marks ≡ map.empty }
+        ensures since { result.since ≡ untold }
         ensures last { result.last ≡ 0 }
     {
+        let lines = Lines::new(alloc);
+        let since = Snapshot::of(&lines);
         Rows {
-            rows: Keyed::new(alloc),
-            nodes: Slab::new(alloc),
+            lines,
+            tells_changed: false,
+            changed: Vec::new(alloc),
+            tells_released: false,
+            released: Vec::new(alloc),
+            since,
         }
     }
 
     /// How many rows there are.
     #[inline(always)]
-    #[tactic(auto, using(crate::proofs::Rowed::chains, af_order::proofs::Parts::parts))]
     pub fn len(&self) -> usize
         ensures files { result ≡ map.len self.now.files }
         ensures counts { result ≡ map.len self.now.counts }
         ensures marks { result ≡ map.len self.now.marks }
     {
-        self.rows.len()
+        self.lines.len()
     }
 
     /// Room for so many rows more: then `push` needs no memory for them, and no other call ever does.
     /// Nothing else changes, also on an error.
     #[inline(always)]
-    #[tactic(auto, using(crate::proofs::Rowed::chains))]
     pub fn reserve(&mut self, rows: usize) -> Result<(), AllocError>
         ensures same { self.new ≡ record self.old { room = self.new.room } }
         ensures ok { OnOk result (rows ≤ self.new.room) }
         ensures room { self.old.room ≤ self.new.room }
         ensures succeeds { rows ≤ self.old.room → IsOk result }
     {
-        self.rows.reserve(rows)
+        self.lines.reserve(rows)?;
+        if self.tells_changed {
+            let all = self.lines.len().saturating_add(rows);
+            widen(&mut self.changed, all)?;
+        }
+        if self.tells_released {
+            let all = self.lines.len().saturating_add(rows);
+            let all = all.saturating_add(self.released.len());
+            widen(&mut self.released, all)?;
+        }
+        Ok(())
     }
 
-    /// A file more, under a number above all others that there were, which has nothing to receive, no
+    /// A file more, under the number after the last, which has nothing to receive, no
     /// place holds yet, and no pass has marked. There is room for it.
     #[inline(always)]
-    #[tactic(auto, using(crate::proofs::Rowed::chains, af_order::proofs::Parts::parts))]
     pub fn push(&mut self, ino: Ino, endpoint: Option<Endpoint>) -> FileRef
         requires room { 0 < self.old.room }
-        requires above { self.old.last < ino }
+        requires next { ino ≡ self.old.last + 1 }
         ensures file { result ≡ ino }
         ensures pushed { self.new ≡ with_row ino (file_of endpoint) self.new.room self.old }
         ensures new { map.contains_key self.old.files ino ≡ false }
@@ -101,32 +127,23 @@ impl Rows {
         ensures unmarked { map.contains_key self.old.marks ino ≡ false }
         ensures room { self.old.room ≤ self.new.room + 1 }
     {
-        if let Some(endpoint) = &endpoint {
-            endpoint.is_silent();
-        }
-        let row = Row {
-            endpoint,
-            chain: Chain::empty(),
-            count: Count::none(),
-            mark: Mark::none(),
-        };
-        self.rows.push(ino, row)
+        let file = self.lines.push(ino, endpoint);
+        note(self.tells_changed, &mut self.lines, &mut self.changed, &file);
+        file
     }
 
     /// A file that has nothing to receive goes, and the socket that it was is handed on; a plain file
     /// and a stranger were none. It takes no memory.
     #[inline(always)]
-    #[tactic(auto, using(crate::proofs::Rowed::chains, af_order::proofs::Parts::parts))]
     pub fn remove(&mut self, file: &FileRef) -> Option<Endpoint>
         requires silent { queue_in self.old.files file.now ≡ [] }
         ensures value { result ≡ socket_in self.old.files file.now }
         ensures removed { self.new ≡ without_row file.now self.new.room self.old }
         ensures room { self.old.room ≤ self.new.room }
     {
-        let row = self.rows.remove(file)?;
-        let endpoint = row.endpoint?;
-        endpoint.is_silent();
-        Some(endpoint)
+        tell_released(self.tells_released, &self.lines, &mut self.released, file);
+        strike(&mut self.lines, &mut self.changed, file);
+        self.lines.remove(file)
     }
 
     /// The socket that a file is; a plain file and a stranger are none.
@@ -134,133 +151,87 @@ impl Rows {
     pub fn socket(&self, file: &FileRef) -> Option<Socket<'_>>
         ensures { result ≡ socket_in self.now.files file.now }
     {
-        let row = self.rows.get(file)?;
-        let endpoint = row.endpoint.as_ref()?;
-        Some(Socket::of(endpoint, Queue::of(&self.nodes, &row.chain)))
+        self.lines.socket(file)
     }
 
     /// How many places hold a file; nothing of a stranger.
     #[inline(always)]
-    #[tactic(auto, using(crate::proofs::Rowed::chains, af_order::proofs::Parts::parts))]
     pub fn count(&self, file: &FileRef) -> Option<&Count>
         ensures { option_copied result ≡ map.get self.now.counts file.now }
     {
-        let row = self.rows.get(file)?;
-        Some(&row.count)
+        self.lines.count(file)
     }
 
     /// A new socket is told where its peer stands: a hint.
     #[inline(always)]
-    #[tactic(auto, using(crate::proofs::Rowed::rows, af_order::proofs::Parts::parts))]
     pub fn point(&mut self, file: &FileRef, peer: &FileRef)
         ensures { self.new ≡ self.old }
     {
-        let Some(row) = self.rows.get_mut(file) else {
-            return;
-        };
-        let Some(endpoint) = &mut row.endpoint else {
-            return;
-        };
-        endpoint.point(peer);
+        self.lines.point(file, peer);
     }
 
     /// The peer of that socket is gone from now on.
     #[inline(always)]
-    #[tactic(auto, using(crate::proofs::Rowed::rows, af_order::proofs::Parts::parts))]
     pub fn hang_up(&mut self, file: &FileRef)
         ensures { self.new ≡ record self.old { files = change_socket_at hung_up self.old.files file.now } }
     {
-        let Some(row) = self.rows.get_mut(file) else {
-            return;
-        };
-        let Some(endpoint) = &mut row.endpoint else {
-            return;
-        };
-        endpoint.hang_up();
+        note(self.tells_changed, &mut self.lines, &mut self.changed, file);
+        self.lines.hang_up(file);
     }
 
     /// That socket is connected to this peer from now on.
     #[inline(always)]
-    #[tactic(auto, using(crate::proofs::Rowed::rows, af_order::proofs::Parts::parts))]
     pub fn connect(&mut self, file: &FileRef, peer: &FileRef)
         ensures { self.new ≡ record self.old { files = change_socket_at (connected peer.now) self.old.files file.now } }
     {
-        let Some(row) = self.rows.get_mut(file) else {
-            return;
-        };
-        let Some(endpoint) = &mut row.endpoint else {
-            return;
-        };
-        endpoint.connect(peer);
+        note(self.tells_changed, &mut self.lines, &mut self.changed, file);
+        self.lines.connect(file, peer);
     }
 
     /// That socket, which has no name, has this one from now on. On an error nothing has changed.
     #[inline(always)]
-    #[tactic(auto, using(crate::proofs::Rowed::rows, af_order::proofs::Parts::parts))]
     pub fn bind(&mut self, file: &FileRef, alloc: Global, name: Items<u8>) -> Result<(), AllocError>
         requires { IfSome (socket_in self.old.files file.now) (λ s. s.name ≡ None) }
         ensures ok { OnOk result (self.new ≡ record self.old { files = change_socket_at (bound name) self.old.files file.now }) }
         ensures err { OnErr result (self.new ≡ self.old) }
     {
-        let Some(row) = self.rows.get_mut(file) else {
-            return Ok(());
-        };
-        let Some(endpoint) = &mut row.endpoint else {
-            return Ok(());
-        };
-        endpoint.bind(alloc, name)
+        self.lines.bind(file, alloc, name)
     }
 
     /// That socket, which has a name and no embryos, waits for connections from now on, so many at
     /// most. On an error nothing has changed.
     #[inline(always)]
-    #[tactic(auto, using(crate::proofs::Rowed::rows, af_order::proofs::Parts::parts))]
     pub fn listen(&mut self, file: &FileRef, alloc: Global, most: u32) -> Result<(), AllocError>
         requires named { IfSome (socket_in self.old.files file.now) (λ s. is_none s.name ≡ false) }
         requires nobody { IfSome (socket_in self.old.files file.now) (λ s. s.backlog ≡ []) }
         ensures ok { OnOk result (self.new ≡ record self.old { files = change_socket_at (listening most) self.old.files file.now }) }
         ensures err { OnErr result (self.new ≡ self.old) }
     {
-        let Some(row) = self.rows.get_mut(file) else {
-            return Ok(());
-        };
-        let Some(endpoint) = &mut row.endpoint else {
-            return Ok(());
-        };
-        endpoint.listen(alloc, most)
+        self.lines.listen(file, alloc, most)?;
+        note(self.tells_changed, &mut self.lines, &mut self.changed, file);
+        Ok(())
     }
 
     /// An embryo more waits at that listener, last, for which its backlog has room.
     #[inline(always)]
-    #[tactic(auto, using(crate::proofs::Rowed::rows, af_order::proofs::Parts::parts))]
     pub fn enqueue(&mut self, file: &FileRef, embryo: FileRef)
         requires { IfSome (socket_in self.old.files file.now) (λ s. length s.backlog < room_of s.state) }
         ensures { self.new ≡ record self.old { files = change_socket_at (queued embryo) self.old.files file.now } }
     {
-        let Some(row) = self.rows.get_mut(file) else {
-            return;
-        };
-        let Some(endpoint) = &mut row.endpoint else {
-            return;
-        };
-        endpoint.enqueue(embryo);
+        note(self.tells_changed, &mut self.lines, &mut self.changed, file);
+        self.lines.enqueue(file, embryo);
     }
 
     /// The first embryo of that listener waits no more, if one does.
     #[inline(always)]
-    #[tactic(auto, using(crate::proofs::Rowed::rows, af_order::proofs::Parts::parts))]
     pub fn dequeue(&mut self, file: &FileRef) -> Option<FileRef>
         ensures some { IfSome result (λ f. backlog_in self.old.files file.now ≡ f ∷ drop 1 (backlog_in self.old.files file.now)) }
         ensures none { IfNone result (backlog_in self.old.files file.now ≡ []) }
         ensures rest { self.new ≡ record self.old { files = change_socket_at dequeued self.old.files file.now } }
     {
-        let Some(row) = self.rows.get_mut(file) else {
-            return None;
-        };
-        let Some(endpoint) = &mut row.endpoint else {
-            return None;
-        };
-        endpoint.dequeue()
+        let embryo = self.lines.dequeue(file)?;
+        note(self.tells_changed, &mut self.lines, &mut self.changed, file);
+        Some(embryo)
     }
 
     /// Makes room for one message more, so that the next `push_message` cannot fail.
@@ -269,55 +240,50 @@ impl Rows {
         ensures succeeds { self.old.message_room ≡ true → IsOk result }
         ensures rest { self.new ≡ record self.old { message_room = self.new.message_room } }
     {
-        pool::room(&mut self.nodes)
+        self.lines.room_for_message()
     }
 
     /// Appends a message to the queue of that socket, which is not full. A plain file or a stranger has
     /// none, and the message is dropped. It cannot fail, since there is room.
     #[inline(always)]
-    #[tactic(auto, using(crate::proofs::Rowed::messages, af_order::proofs::Parts::parts))]
     pub fn push_message(&mut self, file: &FileRef, message: Msg)
         requires few { length (queue_in self.old.files file.now) < MAX_MESSAGES }
         requires within { IsMessageWithin message }
         requires room { self.old.message_room ≡ true }
         ensures { self.new ≡ record self.old { files = change_socket_at (pushed message) self.old.files file.now; message_room = self.new.message_room } }
     {
-        if let Some(row) = self.rows.get_mut(file) {
-            row.push(&mut self.nodes, file.ino(), message);
-        }
+        note(self.tells_changed, &mut self.lines, &mut self.changed, file);
+        self.lines.push_message(file, message);
     }
 
     /// The first message out of the queue of that socket, if there is one. It takes no memory.
     #[inline(always)]
-    #[tactic(auto, using(crate::proofs::Rowed::messages, af_order::proofs::Parts::parts))]
     pub fn pop_message(&mut self, file: &FileRef) -> Option<Msg>
         ensures some { IfSome result (λ m. queue_in self.old.files file.now ≡ m ∷ drop 1 (queue_in self.old.files file.now)) }
         ensures none { IfNone result (queue_in self.old.files file.now ≡ []) }
         ensures rest { self.new ≡ record self.old { files = change_socket_at popped self.old.files file.now; message_room = self.new.message_room } }
     {
-        let row = self.rows.get_mut(file)?;
-        row.pop(&mut self.nodes, file.ino())
+        let message = self.lines.pop_message(file)?;
+        note(self.tells_changed, &mut self.lines, &mut self.changed, file);
+        Some(message)
     }
 
     /// What a receive of at most so many bytes takes out of the queue of that socket (recvmsg(2)):
     /// nothing, where it is a plain file or a stranger. On an error nothing has changed.
     #[inline(always)]
-    #[tactic(auto, using(crate::proofs::Rowed::messages, af_order::proofs::Parts::parts))]
     pub fn take(&mut self, file: &FileRef, alloc: Global, max: usize) -> Result<Taken, AllocError>
         requires { 0 < max }
         ensures taken { IfOk result (λ t. t ≡ received_of (socket_in self.old.files file.now) max) }
         ensures rest { OnOk result (self.new ≡ record self.old { files = change_socket_at (received_from max) self.old.files file.now; message_room = self.new.message_room }) }
         ensures err { OnErr result (self.new ≡ self.old) }
     {
-        let Some(row) = self.rows.get_mut(file) else {
-            return Ok(Taken::nothing(alloc));
-        };
-        row.take(&mut self.nodes, file.ino(), alloc, max)
+        let taken = self.lines.take(file, alloc, max)?;
+        note(self.tells_changed, &mut self.lines, &mut self.changed, file);
+        Ok(taken)
     }
 
     /// One place more of a file, which is there. Whether it had none. It takes no memory.
     #[inline(always)]
-    #[tactic(auto, using(crate::proofs::Rowed::chains, af_order::proofs::Parts::parts, af_order::proofs::Values::lent, af_ledger::proofs::Waiting::counted))]
     pub fn add_place(&mut self, place: &Place, file: &FileRef) -> bool
         requires known { IsTrue (map.contains_key self.old.counts file.now) }
         requires countable { IsCountable place.now (count_in_map self.old.counts file.now) }
@@ -325,103 +291,232 @@ impl Rows {
         ensures len { map.len self.new.counts ≡ map.len self.old.counts }
         ensures first { result ≡ nat_eq (places_in (count_in_map self.old.counts file.now)) 0 }
     {
-        let row = self.rows.get_mut(file).unwrap();
-        let first = row.count.is_none();
-        row.count.add(place);
-        first
+        self.lines.add_place(place, file)
     }
 
     /// One place less of a file, which has one. Whether it was the last. It takes no memory.
     #[inline(always)]
-    #[tactic(auto, using(crate::proofs::Rowed::chains, af_order::proofs::Parts::parts, af_order::proofs::Values::lent, af_ledger::proofs::Waiting::counted))]
     pub fn sub_place(&mut self, place: &Place, file: &FileRef) -> bool
         requires { IsCounted place.now (count_in_map self.old.counts file.now) }
         ensures counts { self.new ≡ record self.old { counts = map.insert self.old.counts file.now (fewer place.now (count_in_map self.old.counts file.now)) } }
         ensures len { map.len self.new.counts ≡ map.len self.old.counts }
         ensures last { result ≡ nat_eq (places_in (count_in_map self.old.counts file.now)) 1 }
     {
-        let row = self.rows.get_mut(file).unwrap();
-        row.count.sub(place);
-        row.count.is_none()
+        self.lines.sub_place(place, file)
     }
 
     /// The mark of a file; nothing of a stranger.
     #[inline(always)]
-    #[tactic(auto, using(crate::proofs::Rowed::chains, af_order::proofs::Parts::parts))]
     pub fn mark(&self, file: &FileRef) -> Option<Mark>
         ensures { result ≡ map.get self.now.marks file.now }
     {
-        let row = self.rows.get(file)?;
-        Some(row.mark)
+        self.lines.mark(file)
     }
 
     /// A file, which is there, gets this mark. It takes no memory.
     #[inline(always)]
-    #[tactic(auto, using(crate::proofs::Rowed::chains, af_order::proofs::Parts::parts, af_order::proofs::Values::lent))]
     pub fn set_mark(&mut self, file: &FileRef, mark: Mark)
         requires { IsTrue (map.contains_key self.old.marks file.now) }
         ensures set { self.new ≡ record self.old { marks = map.insert self.old.marks file.now mark } }
         ensures len { map.len self.new.marks ≡ map.len self.old.marks }
     {
-        let row = self.rows.get_mut(file).unwrap();
-        row.mark = mark;
+        self.lines.set_mark(file, mark);
     }
 
     /// Marks a file that a table holds, if it is not marked in this pass. It is grey, with this place
     /// in the list, or black at once, if it holds nothing and may be scanned. Returns whether it is
     /// black, and nothing where it was not marked now.
     #[inline(always)]
-    #[tactic(auto, using(crate::proofs::Rowed::chains, af_order::proofs::Parts::parts, af_order::proofs::Values::lent))]
     pub fn visit(&mut self, file: &FileRef, epoch: u64, at: u32, may_scan: bool) -> Option<bool>
-        ensures due { is_some result ≡ is_due epoch self.old file.now }
+        ensures due { is_some result ≡ is_due epoch self.old.counts self.old.marks file.now }
         ensures marked { IfSome result (λ black. self.new ≡ record self.old { marks = map.insert self.old.marks file.now (marking epoch at black) }) }
         ensures len { map.len self.new.marks ≡ map.len self.old.marks }
         ensures bare { IfSome result (λ black. black ≡ true → held_in self.old.files file.now ≡ []) }
         ensures asked { IfSome result (λ black. black ≡ true → may_scan ≡ true) }
         ensures none { IfNone result (self.new ≡ self.old) }
     {
-        let Some(row) = self.rows.get_mut(file) else {
-            return None;
-        };
-        if row.count.tabled == 0 || !matches!(row.mark.color_in(epoch), Color::White) {
-            return None;
-        }
-        let black = may_scan && row.is_bare(&self.nodes);
-        let color = if black { Color::Black } else { Color::Grey };
-        row.mark = Mark { epoch, color, at };
-        Some(black)
+        self.lines.visit(file, epoch, at, may_scan)
     }
 
     /// Nothing at run time: it says that what is kept of a file comes and goes together.
-    #[tactic(auto, using(crate::proofs::Rowed::chains, af_order::proofs::Parts::parts))]
     pub fn are_one(&self)
         ensures { (f : ℕ) → map.contains_key self.now.marks f ≡ map.contains_key self.now.files f }
     {
-        // The view says it: it is enough to look at a field.
-        let _rows = &self.rows;
+        self.lines.are_one();
     }
 
     /// Where the row of a number stands; nothing of a stranger. A search: who has a `FileRef` needs
     /// none.
-    #[tactic(auto, using(crate::proofs::Rowed::chains, af_order::proofs::Parts::parts))]
     pub fn find(&self, ino: Ino) -> Option<FileRef>
         ensures there { IfSome result (λ f. (f ≡ ino) × IsTrue (map.contains_key self.now.files ino)) }
         ensures none { IfNone result (map.contains_key self.now.files ino ≡ false) }
         ensures uncounted { IfNone result (map.contains_key self.now.counts ino ≡ false) }
     {
-        self.rows.find(ino)
+        self.lines.find(ino)
     }
 
     /// The least number above this one that has a row, if there is one, and where it stands in the
     /// order; this one need not have one. No search behind what was answered last.
     #[inline(always)]
-    #[tactic(auto, using(crate::proofs::Rowed::chains, af_order::proofs::Parts::parts))]
     pub fn next_after(&self, ino: Ino, at: usize) -> Option<(FileRef, usize)>
         ensures above { IfSome result (λ n. ino < n.0) }
         ensures there { IfSome result (λ n. IsTrue (map.contains_key self.now.files n.0)) }
         ensures least { IfSome result (λ n. (q : ℕ) → ino < q → q < n.0 → map.contains_key self.now.files q ≡ false) }
         ensures none { IfNone result ((q : ℕ) → ino < q → map.contains_key self.now.files q ≡ false) }
     {
-        self.rows.next_after(ino, at)
+        self.lines.next_after(ino, at)
+    }
+
+    /// Tells from now on which files are freed. Both lists are empty then. On an error nothing has
+    /// changed, but for room.
+    pub fn tell_released(&mut self) -> Result<(), AllocError>
+        ensures ok { OnOk result (self.new ≡ record self.old { since = record { changed = self.old.since.changed; released = true; files = self.old.files; next = self.old.last + 1 }; room = self.new.room }) }
+        ensures err { OnErr result (self.new ≡ record self.old { room = self.new.room }) }
+    {
+        widen(&mut self.released, self.lines.len())?;
+        self.lines.are_one();
+        unnote(&mut self.lines, &mut self.changed);
+        self.released.clear();
+        self.since = Snapshot::of(&self.lines);
+        self.tells_released = true;
+        Ok(())
+    }
+
+    /// Tells from now on whose readiness may have changed. Both lists are empty then. On an error
+    /// nothing has changed, but for room.
+    pub fn tell_changed(&mut self) -> Result<(), AllocError>
+        ensures ok { OnOk result (self.new ≡ record self.old { since = record { changed = true; released = self.old.since.released; files = self.old.files; next = self.old.last + 1 }; room = self.new.room }) }
+        ensures err { OnErr result (self.new ≡ record self.old { room = self.new.room }) }
+    {
+        widen(&mut self.changed, self.lines.len())?;
+        self.lines.are_one();
+        unnote(&mut self.lines, &mut self.changed);
+        self.released.clear();
+        self.since = Snapshot::of(&self.lines);
+        self.tells_changed = true;
+        Ok(())
+    }
+
+    /// Returns the numbers of the files that were freed since the lists were emptied last, each once,
+    /// where that is told.
+    pub fn released(&self) -> &[Ino]
+        ensures { self.now.since.released ≡ true → AreReleased self.now.files (self.now.last + 1) self.now.since result.now }
+    {
+        self.lines.are_one();
+        self.released.as_slice()
+    }
+
+    /// Returns the sockets whose readiness may have changed since the lists were emptied last, each
+    /// once, where that is told.
+    pub fn changed(&self) -> &[FileRef]
+        ensures { self.now.since.changed ≡ true → AreChanged self.now.files self.now.since result.now }
+    {
+        self.lines.are_one();
+        self.changed.as_slice()
+    }
+
+    /// Empties both lists. It takes no memory.
+    pub fn clear_told(&mut self)
+        ensures { self.new ≡ record self.old { since = record self.old.since { files = self.old.files; next = self.old.last + 1 }; room = self.new.room } }
+    {
+        self.lines.are_one();
+        unnote(&mut self.lines, &mut self.changed);
+        self.released.clear();
+        self.since = Snapshot::of(&self.lines);
+    }
+}
+
+/// Makes room for so many in a list. Nothing else changes, also on an error.
+#[inline(always)]
+fn widen<T>(list: &mut Vec<T>, files: usize) -> Result<(), AllocError>
+    ensures items { list.new.items ≡ list.old.items }
+    ensures ok { OnOk result (files ≤ vec_capacity list.new) }
+    ensures capacity { vec_capacity list.old ≤ vec_capacity list.new }
+    ensures ready { files ≤ vec_capacity list.old → IsOk result }
+{
+    if files <= list.capacity() {
+        return Ok(());
+    }
+    list.reserve(files - list.len())
+}
+
+/// Notes a socket, where readiness is told: it is in the list from now on, which has room for it. It
+/// takes no memory.
+#[inline(always)]
+fn note(asked: bool, lines: &mut Lines, changed: &mut Vec<FileRef>, file: &FileRef)
+    requires fits { asked ≡ true → map.len lines.old.noted ≤ vec_capacity changed.old }
+    requires listed { AreListed lines.old.noted changed.old.items }
+    ensures notes { Notes asked lines.old lines.new file.now }
+    ensures listed { AreListed lines.new.noted changed.new.items }
+    ensures capacity { vec_capacity changed.new ≡ vec_capacity changed.old }
+{
+    if !asked {
+        return;
+    }
+    let Some(false) = lines.noted(file) else {
+        return;
+    };
+    if lines.socket(file).is_none() {
+        return;
+    }
+    lines.set_noted(file, true);
+    lines.put_place(file, noted(changed.len()));
+    changed.push_reserved(file.again());
+}
+
+/// Lists a file that goes, if it is there and freed files are told. The list has room for it. It takes
+/// no memory.
+#[inline(always)]
+fn tell_released(asked: bool, lines: &Lines, released: &mut Vec<Ino>, file: &FileRef)
+    requires fits { asked ≡ true → length released.old.items + map.len lines.now.counts ≤ vec_capacity released.old }
+    ensures goes { asked ≡ true → (f : ℕ) → count_in f released.new.items + cond (map.contains_key (map.remove lines.now.counts file.now) f) 1 0 ≡ count_in f released.old.items + cond (map.contains_key lines.now.counts f) 1 0 }
+    ensures len { asked ≡ true → length released.new.items + map.len (map.remove lines.now.counts file.now) ≡ length released.old.items + map.len lines.now.counts }
+    ensures still { asked ≡ false → released.new.items ≡ released.old.items }
+    ensures capacity { vec_capacity released.new ≡ vec_capacity released.old }
+{
+    if asked && lines.count(file).is_some() {
+        released.push_reserved(file.ino());
+    }
+}
+
+/// Strikes a file that goes off the list of those that are noted.
+#[inline(always)]
+fn strike(lines: &mut Lines, changed: &mut Vec<FileRef>, file: &FileRef)
+    requires listed { AreListed lines.old.noted changed.old.items }
+    ensures listed { AreListed (map.remove lines.old.noted file.now) changed.new.items }
+    ensures lines { lines.new ≡ lines.old }
+    ensures capacity { vec_capacity changed.new ≡ vec_capacity changed.old }
+{
+    if changed.is_empty() {
+        return;
+    }
+    if !lines.is_noted(file) {
+        return;
+    }
+    let at = unlist(changed, file.ino(), lines.place(file));
+    place_moved(lines, changed.as_slice(), at);
+}
+
+/// Keeps where in the list the file stands that took that place: a hint.
+fn place_moved(lines: &mut Lines, changed: &[FileRef], at: Option<usize>)
+    ensures { lines.new ≡ lines.old }
+{
+    if let Some(at) = at
+        && let Some(moved) = changed.get(at)
+    {
+        lines.put_place(moved, noted(at));
+    }
+}
+
+/// Strikes all notes, and empties the list.
+fn unnote(lines: &mut Lines, changed: &mut Vec<FileRef>)
+    requires listed { AreListed lines.old.noted changed.old.items }
+    ensures rest { lines.new ≡ record lines.old { noted = lines.new.noted } }
+    ensures listed { AreListed lines.new.noted changed.new.items }
+    ensures len { map.len lines.new.noted ≡ map.len lines.old.noted }
+    ensures capacity { vec_capacity changed.new ≡ vec_capacity changed.old }
+{
+    while let Some(file) = changed.pop() {
+        lines.set_noted(&file, false);
     }
 }

@@ -1,7 +1,7 @@
 -- What holdings show.
 use Rattle.std.specs.Prelude.{ℕ, Bool, List, [], ◌∷◌}
 use Rattle.std.specs.Map.{keys_of}
-use Rattle.af_base.specs.World.{World, Map, Process}
+use Rattle.af_base.specs.World.{World, Map, Process, Since}
 use Rattle.af_desc.specs.Filed.{Filed}
 use Rattle.af_ledger.specs.Kept.{Charged, kept_of}
 use Rattle.af_mark.specs.Marked.{Marked}
@@ -9,12 +9,13 @@ use Rattle.af_base.specs.Changes.{change_at, installed}
 use Rattle.af_table.specs.Procs.{Procs}
 use Rattle.af_hold.specs.Agreement.{IsExact}
 
--- The world, below which number each table has room, whether there is room for a message more, and what a pass has marked (this project's profile).
+-- The world, below which number each table has room, whether there is room for a message more, what a pass has marked, and what is told (this project's profile).
 pub record Stored : Type 0 where
   pub world : World
   pub rows : Map ℕ
   pub message_room : Bool
   pub marks : Marked
+  pub since : Since
 
 -- The world that processes, files and users make up (this project's profile).
 abbrev pub world_of : Procs → Filed → Charged → World

@@ -24,6 +24,7 @@ use Rattle.af_base.specs.Table.{free_numbers}
 use Rattle.af_base.specs.Take.{has_files, joined, take_from}
 use Rattle.af_base.specs.Whole.{IsSound}
 use Rattle.af_base.specs.World.{Message, World}
+use Rattle.af_base.proofs.Purged.{slice-by}
 use Rattle.af_base.proofs.Elements.{Contains-first, Contains-later}
 use Rattle.af_base.proofs.Lookups.{none_some}
 use Rattle.af_base.proofs.Stepped.{NoneFits, none-fits, socket-there}
@@ -115,13 +116,13 @@ module _ (room : Room) where
   -- Nor does a slice's answer.
   fits-slice : (pass : Pass) (old : Machine) (b : ℕ) (r : Reply) (new : Machine) → GoesOn pass old b r new → HasRoomFor room r
   fits-slice Idle old b r new s = subst (HasRoomFor room) (sym s.0) tt
-  fits-slice (Running begun spent) old b r new s = by (nat_eq b 0 || nat_lt MAX_BUDGET b) s where
-    by : (test : Bool) → MatchBool test ((r ≡ reply.Refused EINVAL) × (new ≡ old)) (Slices begun old.world spent b old.last_pass r new.world new.pass × (new.last_pass ≡ old.last_pass)) → HasRoomFor room r
-    by true t = subst (HasRoomFor room) (sym t.0) tt
-    by false t = elim t.0.answered [
+  fits-slice (Running begun spent) old b r new s = elim (slice-by begun spent b old new r s) [
+    | inl t ↦ subst (HasRoomFor room) (sym t.0) tt
+    | inr t ↦ elim t.0.answered [
       | inl y ↦ subst (HasRoomFor room) (sym y.0) tt
       | inr y ↦ subst (HasRoomFor room) (sym y.2) tt
     ]
+  ]
 
   -- Nor does a whole pass's.
   fits-pass : (pass : Pass) (old : Machine) (r : Reply) (new : Machine) → PassesWhole pass old r new → HasRoomFor room r

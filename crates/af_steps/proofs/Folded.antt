@@ -33,7 +33,7 @@ module _ (old : Machine) (p : ℕ) (s : Step) (new : Machine) where
   refuses-step e d =
       let w = old.world in
       let kept = stays (refusal w p s) (needs_no_memory s) (answer w p s) (effect w p s) w e d.0 in
-      subst (λ (m : Machine). ProcessStep w p s (reply.Refused e) m.world × SamePass old m) (sym d.1) (kept, (refl, refl))
+      subst (λ (m : Machine). ProcessStep w p s (reply.Refused e) m.world × SamePass old m) (sym d.1) (kept, (refl, refl, refl))
 
   -- What a call comes to is a step with the reply that tells it.
   pub answers_step : (t : Step) → t ≡ s → {T : Type 0} (o : Result T Errno) (tells : T → Reply) (r : Reply) → IfOk o (λ t. Does old p s (tells t) new) → IfErr o (λ e. Refuses old p s e new) → IfOk o (λ t. r ≡ tells t) → IfErr o (λ e. r ≡ reply.Refused e) → Answers old p t r new

@@ -23,14 +23,14 @@ module _ {inside old : Machine} (shown : inside ≡ old) (p : ℕ) (s : Step) wh
   w = inside.world
 
   -- No test fits: it did the step, and its store has the changed world, settled.
-  pub does : (new : Shown) (r : Reply) (placed : World) → refusal w p s ≡ None → answer w p s ≡ r → effect w p s ≡ placed → Settles placed new.world → new.pass ≡ inside.pass
-      → Does old p s r (record { world = new.world; pass = new.pass; last_pass = inside.last_pass })
-  does new r placed fits answers leads settles pass =
-      subst (λ (m : Machine). Does m p s r (record { world = new.world; pass = new.pass; last_pass = inside.last_pass })) shown (fits, sym answers, subst (λ v. Settles v new.world) (sym leads) settles, (pass, refl))
+  pub does : (new : Shown) (r : Reply) (placed : World) → refusal w p s ≡ None → answer w p s ≡ r → effect w p s ≡ placed → Settles placed new.world → new.pass ≡ inside.pass → new.since ≡ inside.since
+      → Does old p s r (record { world = new.world; pass = new.pass; last_pass = inside.last_pass; since = new.since })
+  does new r placed fits answers leads settles pass since =
+      subst (λ (m : Machine). Does m p s r (record { world = new.world; pass = new.pass; last_pass = inside.last_pass; since = new.since })) shown (fits, sym answers, subst (λ v. Settles v new.world) (sym leads) settles, (pass, refl, since))
 
   -- No test fits, and the step changes nothing.
   pub does-nothing : (r : Reply) → refusal w p s ≡ None → answer w p s ≡ r → effect w p s ≡ w → IsSound w → Does old p s r old
-  does-nothing r fits answers leads sound = subst (λ (m : Machine). Does m p s r m) shown (fits, sym answers, subst (λ v. Settles v w) (sym leads) (settles_none w sound.settled), (refl, refl))
+  does-nothing r fits answers leads sound = subst (λ (m : Machine). Does m p s r m) shown (fits, sym answers, subst (λ v. Settles v w) (sym leads) (settles_none w sound.settled), (refl, refl, refl))
 
   module _ {X : Type 0} (new : Machine) (answered : Result X Errno) (same : new ≡ old) where
     -- The error that it answers is the one that can come.

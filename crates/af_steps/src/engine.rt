@@ -44,7 +44,7 @@ impl Model for Engine {
 
     ghost coded = { Prim.hlevel (codes, map.code) };
 
-    ghost view = { λ e. record { world = e.store.world; pass = e.store.pass; last_pass = e.last_pass } };
+    ghost view = { λ e. record { world = e.store.world; pass = e.store.pass; last_pass = e.last_pass; since = e.store.since } };
 
     ghost invariant = { λ e. IsSound e.store.world × (e.last_pass ≤ MAX_PASS) };
 }

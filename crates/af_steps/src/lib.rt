@@ -11,6 +11,7 @@ mod passes;
 mod ready;
 mod sockets;
 mod tables;
+mod told;
 mod views;
 
 pub use engine::{Engine, RunStopped};

@@ -8,4 +8,5 @@ mod growths;
 mod installs;
 mod lives;
 mod runs;
+mod told;
 mod views;

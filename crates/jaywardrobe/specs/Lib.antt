@@ -16,8 +16,10 @@ pub use Rattle.af_base.specs.Run
 pub use Rattle.af_base.specs.Whole
 pub use Rattle.af_base.specs.Listing
 pub use Rattle.af_base.specs.Ready
+pub use Rattle.af_base.specs.Told
 pub use Rattle.af_steps.specs.Shown
 pub use Rattle.af_steps.specs.Outcome
+pub use Rattle.af_owned.specs.Owning
 pub use Rattle.af_report.specs.Check
 pub use Rattle.af_report.specs.Totals
 pub use Rattle.af_graph.specs.Graph

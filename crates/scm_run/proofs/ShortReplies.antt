@@ -28,6 +28,7 @@ use Rattle.af_base.specs.declared.events.SockType.TheVariants.{Seqpacket, Stream
 use Rattle.af_base.specs.declared.events.Step.{Step}
 use Rattle.af_base.specs.declared.events.Step.TheVariants as step
 use Rattle.af_base.specs.declared.limits.TheConstants.{MAX_BUDGET, MAX_BYTES, SCM_MAX_FD}
+use Rattle.af_base.proofs.Purged.{slice-by}
 use Rattle.af_base.proofs.Elements.{Contains-first, Contains-later, Contains-none}
 use Rattle.af_base.proofs.Lookups.{none_some, some_same}
 use Rattle.af_base.proofs.Stepped.{NoneFits, none-fits}
@@ -131,10 +132,10 @@ goes-short begun old new spent b pass r after h = by h.answered where
 -- What a slice answers.
 slice-short : (p : Pass) (old new : Machine) (b : ℕ) (r : Reply) → GoesOn p old b r new → IsShort r
 slice-short Idle old new b r h = subst IsShort (sym h.0) tt
-slice-short (Running begun spent) old new b r h = by (nat_eq b 0 || nat_lt MAX_BUDGET b) h where
-  by : (out : Bool) → MatchBool out ((r ≡ reply.Refused EINVAL) × (new ≡ old)) (Slices begun old.world spent b old.last_pass r new.world new.pass × (new.last_pass ≡ old.last_pass)) → IsShort r
-  by true k = subst IsShort (sym k.0) tt
-  by false k = goes-short begun old.world new.world spent b old.last_pass r new.pass k.0
+slice-short (Running begun spent) old new b r h = elim (slice-by begun spent b old new r h) [
+  | inl k ↦ subst IsShort (sym k.0) tt
+  | inr k ↦ goes-short begun old.world new.world spent b old.last_pass r new.pass k.0
+]
 
 -- What a whole pass answers.
 pass-short : (p : Pass) (old new : Machine) (r : Reply) → PassesWhole p old r new → IsShort r

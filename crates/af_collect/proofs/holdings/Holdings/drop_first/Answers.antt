@@ -55,5 +55,6 @@ invariant_of-self-2 c =
 pub returns-clause-world : goal.returns-clause-world
 returns-clause-world c =
     let marks = ap (λ v. v.marks) c.drop_all.ensures.rest ∙ ap (λ v. v.marks) c.pop.ensures.rest in
-    (λ i. record { world = shed c i; rows = c.self.inside.procs.rows; message_room = c.drop_all.new.files.message_room; marks = marks i })
+    let since = ap (λ v. v.since) c.drop_all.ensures.rest ∙ ap (λ v. v.since) c.pop.ensures.rest in
+    (λ i. record { world = shed c i; rows = c.self.inside.procs.rows; message_room = c.drop_all.new.files.message_room; marks = marks i; since = since i })
     ∙ ap {A = Stored} {B = Stored} (λ s. record s { world = with_queue s.world c.args.file.now (drop 1 (queue_at s.world c.args.file.now)); message_room = c.drop_all.new.files.message_room }) c.self.view_is

@@ -12,6 +12,7 @@ loop-preserved c =
       emptied = ap (λ (s : Stored). emptied (nat_eq c.args.file.now) s.world) c.drop_place.ensures.world ∙ emptied-lost w c.args.file.now ∙ c.loop.invariant.emptied;
       rows = ap (λ (s : Stored). s.rows) c.drop_place.ensures.world ∙ c.loop.invariant.rows;
       marks = ap (λ (s : Stored). s.marks) c.drop_place.ensures.world ∙ c.loop.invariant.marks;
+      since = ap (λ (s : Stored). s.since) c.drop_place.ensures.world ∙ c.loop.invariant.since;
     }
 
 pub loop-smaller : goal.loop-smaller
@@ -25,4 +26,5 @@ returns c =
     let world = ap (λ (s : Stored). s.world) c.drop_place.ensures.world ∙ none-lost w f none ∙ sym (emptied-bare w f (none-silent w f none) (none-held w f none)) ∙ c.loop.invariant.emptied in
     let rows = ap (λ (s : Stored). s.rows) c.drop_place.ensures.world ∙ c.loop.invariant.rows in
     let marks = ap (λ (s : Stored). s.marks) c.drop_place.ensures.world ∙ c.loop.invariant.marks in
-    λ i. record { world = world i; rows = rows i; message_room = c.drop_place.new.self.message_room; marks = marks i }
+    let since = ap (λ (s : Stored). s.since) c.drop_place.ensures.world ∙ c.loop.invariant.since in
+    λ i. record { world = world i; rows = rows i; message_room = c.drop_place.new.self.message_room; marks = marks i; since = since i }

@@ -9,6 +9,7 @@ invariant-loop l = record {
   emptied : emptied (nat_eq l.file) l.self.world ≡ emptied (nat_eq l.file) l.initial.self.world;
   rows : l.self.rows ≡ l.initial.self.rows;
   marks : l.self.marks ≡ l.initial.self.marks;
+  since : l.self.since ≡ l.initial.self.since;
 }
 
 abbrev pub decreases-loop : goal.decreases-loop

@@ -14,7 +14,7 @@ pub returns-clause-marks : goal.returns-clause-marks
 returns-clause-marks c =
     let a = c.self.inside in
     let f = c.args.file.now in
-    let see : Filed → Stored = λ fs. record { world = world_of a.procs fs a.ledger; rows = a.procs.rows; message_room = fs.message_room; marks = fs.marks } in
+    let see : Filed → Stored = λ fs. record { world = world_of a.procs fs a.ledger; rows = a.procs.rows; message_room = fs.message_room; marks = fs.marks; since = fs.since } in
     subst (λ (s : Stored). see c.visit.new.self ≡ record s { marks = visited c.visit.result (tabled s.world f) f s.marks }) c.self.view_is
     (ap see c.visit.ensures.marks ∙ ap {A = ℕ} {B = Stored} (λ n. record (the_view a) { marks = visited c.visit.result n f a.files.marks }) (c.self.invariant.agrees.tabled f))
 

@@ -77,6 +77,7 @@ loop-file-preserved-then-not-drop_place c =
       kept = d.kept;
       settles = λ end s. i.settles end (settles-without w f c.in-Some.ensures.live c.in-Some.ensures.unheld end (subst (λ x. Settles x end) gone s));
       rows = ap (λ (s : Stored). s.rows) d.places ∙ ap (λ (s : Stored). s.rows) c.drop_place.ensures.world ∙ ap (λ (o : Parts). o.places.rows) frame ∙ i.rows;
+      since = ap (λ (s : Stored). s.since) d.places ∙ ap (λ (s : Stored). s.since) c.drop_place.ensures.world ∙ ap (λ (o : Parts). o.places.since) frame ∙ i.since;
       begun = d.begun ∙ ap (λ (o : Parts). o.begun) frame ∙ i.begun;
       progress = d.progress ∙ ap (λ (o : Progress). record o { reclaimed = c.take_away.new.self.progress.reclaimed }) (ap (λ (o : Parts). o.progress) frame ∙ i.progress);
     }
@@ -97,6 +98,7 @@ loop-file-preserved c =
           (kept_lost f c.is_whole.ensures.whole c.in-Some.ensures.live c.in-Some.ensures.unheld q.places.marks c.shade_first.ensures.marked i.kept (subst AreKept frame c.shade_first.ensures.kept));
       settles = λ end s. i.settles end (settles-lost p.places.world h.world f popped c.in-Some.ensures.live c.in-Some.ensures.unheld some end s);
       rows = ap (λ (s : Stored). s.rows) c.drop_place.ensures.world ∙ ap (λ (o : Parts). o.places.rows) frame ∙ i.rows;
+      since = ap (λ (s : Stored). s.since) c.drop_place.ensures.world ∙ ap (λ (o : Parts). o.places.since) frame ∙ i.since;
       begun = ap (λ (o : Parts). o.begun) frame ∙ i.begun;
       progress = ap (λ (o : Parts). o.progress) frame ∙ i.progress ∙ ap (λ r. record c.args.self.now.progress { reclaimed = r }) (sym (ap (λ (o : Parts). o.progress.reclaimed) frame));
     }

@@ -11,6 +11,7 @@ invariant-loop-file l = record {
   kept : AreKept l.self;
   settles : (end : World) → Settles l.self.places.world end → Settles l.fn.self.places.world end;
   rows : l.self.places.rows ≡ l.fn.self.places.rows;
+  since : l.self.places.since ≡ l.fn.self.places.since;
   begun : l.self.begun ≡ l.fn.self.begun;
   progress : l.self.progress ≡ record l.fn.self.progress { reclaimed = l.self.progress.reclaimed };
 }

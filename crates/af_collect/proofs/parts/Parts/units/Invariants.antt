@@ -12,6 +12,7 @@ invariant-loop-left l = record {
   running : is_running l.self.progress.stage ≡ true;
   sound : IsSound l.self.places.world;
   rows : l.self.places.rows ≡ l.fn.self.places.rows;
+  since : l.self.places.since ≡ l.fn.self.places.since;
   begun : l.self.begun ≡ l.fn.self.begun;
   few : l.left ≤ l.fn.budget;
   purged : ArePurged l.fn.self.begun.value.world l.fn.self.places.world l.self.places.world (l.fn.budget - l.left);

@@ -23,6 +23,7 @@ loop-init c =
       running = ap is_running e.stage;
       sound = subst IsSound (sym same) c.requires.sound;
       begun = ap (λ (s : Stored). s.world) e.begun ∙ was;
+      since = ap (λ (s : Stored). s.since) e.places ∙ ap (λ (s : Shown). s.since) c.self.view_is;
       purged = (0, subst (λ v. ArePurged w w v 0) (sym same) (purged_none w 0 c.requires.sound.settled));
     }
 
@@ -39,6 +40,7 @@ loop-preserved c =
       running = u.running;
       sound = u.sound;
       begun = ap (λ s. s.value.world) u.begun ∙ i.begun;
+      since = u.since ∙ i.since;
       purged = (i.purged.0 + MAX_BUDGET, purged_join w b d i.purged.0 MAX_BUDGET i.purged.1 (subst (λ v. ArePurged v b d MAX_BUDGET) i.begun u.purged));
     }
 

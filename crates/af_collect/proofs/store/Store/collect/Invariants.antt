@@ -13,6 +13,7 @@ invariant-loop l = record {
   running : is_running l.self-inside.parts.progress.stage ≡ true;
   sound : IsSound l.self-inside.parts.places.world;
   begun : l.self-inside.parts.begun.value.world ≡ l.fn.self.world;
+  since : l.self-inside.parts.places.since ≡ l.fn.self.since;
   purged : (n : ℕ) × ArePurged l.fn.self.world l.fn.self.world l.self-inside.parts.places.world n;
 }
 

@@ -72,5 +72,5 @@ pub returns-clause-world : goal.returns-clause-world
 returns-clause-world c =
     let p = c.self.inside.parts in
     let h = c.places.inside in
-    (λ i. shown p (record { world = seen c i; rows = c.table_in_all.ensures.rows i; message_room = ap (λ v. v.message_room) c.table_in_all.ensures.rest i; marks = ap (λ v. v.marks) c.table_in_all.ensures.rest i }))
+    (λ i. shown p (record { world = seen c i; rows = c.table_in_all.ensures.rows i; message_room = ap (λ v. v.message_room) c.table_in_all.ensures.rest i; marks = ap (λ v. v.marks) c.table_in_all.ensures.rest i; since = ap (λ v. v.since) c.table_in_all.ensures.rest i }))
     ∙ seen-changed p h _ (λ v. install_all v c.args.pid (zip c.args.fds.now (taken_at v c.args.socket.now c.args.max).attached)) c.places.view_is c.self.view_is

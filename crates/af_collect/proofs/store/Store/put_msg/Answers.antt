@@ -67,6 +67,7 @@ returns c =
     let h = c.places.inside in
     let room = c.push.new.self.message_room in
     let marks = ap (λ v. v.marks) c.push.ensures ∙ ap (λ v. v.marks) c.hold_all.ensures.rest in
-    (λ i. shown p (record (the_view h) { world = put c i; message_room = room; marks = marks i }))
+    let since = ap (λ v. v.since) c.push.ensures ∙ ap (λ v. v.since) c.hold_all.ensures.rest in
+    (λ i. shown p (record (the_view h) { world = put c i; message_room = room; marks = marks i; since = since i }))
     ∙ ap {A = Stored} {B = Shown} (λ t. shown p (record t { world = push_message t.world c.args.socket.now c.args.message; message_room = room })) c.places.view_is
     ∙ ap {A = Shown} {B = Shown} (λ t. record t { world = push_message t.world c.args.socket.now c.args.message; message_room = room }) c.self.view_is

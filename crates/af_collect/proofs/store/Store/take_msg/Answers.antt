@@ -118,5 +118,6 @@ pub returns-clause-world : goal.returns-clause-world
 returns-clause-world c =
     let p = c.self.inside.parts in
     let h = c.places.inside in
-    (λ i. shown p (record { world = received c i; rows = c.table_in_all.ensures.rows i; message_room = c.shade_taken.new.files.message_room; marks = c.shade_taken.new.files.marks }))
+    let since = ap (λ v. v.since) c.shade_taken.ensures ∙ ap (λ v. v.since) c.drop_all.ensures.rest ∙ ap (λ v. v.since) c.table_in_all.ensures.rest ∙ ap (λ v. v.since) c.in_ok-taken.ensures.ok in
+    (λ i. shown p (record { world = received c i; rows = c.table_in_all.ensures.rows i; message_room = c.shade_taken.new.files.message_room; marks = c.shade_taken.new.files.marks; since = since i }))
     ∙ seen-moved p h _ (λ v. let t = taken_at v c.args.socket.now c.args.max in install_all (with_queue v c.args.socket.now t.rest) c.args.pid (zip c.args.fds.now t.attached)) c.shade_taken.new.files.marks c.shade_taken.new.files.message_room c.places.view_is c.self.view_is

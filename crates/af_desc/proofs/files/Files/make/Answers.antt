@@ -10,12 +10,12 @@ pub enter-file-requires : goal.enter-file-requires
 enter-file-requires c =
     let more = c.reserve.ensures in
     let reserved = filed-reserved c.self.inside.rows c.reserve.new.rows _ _ _ _ _ _ _ c.self.invariant _ (vec_capacity c.reserve.new.waiting) _ (vec_capacity c.reserve.new.grey) more.rows more.waiting more.capacity more.grey more.greys in
-    let low = reserved.above in
+    let low = reserved.last in
     let room = c.in_ok-reserve.ensures.room in
     let fits = c.in_ok-reserve.ensures.fits in
     record {
       room = omega (arith, room);
-      above = omega (arith, low);
+      next = omega (arith, low);
       fits = omega (arith, fits, ap (λ r. map.len r.counts) more.rows);
       waiting = reserved.waits;
     }

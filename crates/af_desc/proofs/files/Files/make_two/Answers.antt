@@ -12,12 +12,12 @@ pub enter-first-requires : goal.enter-first-requires
 enter-first-requires c =
     let more = c.reserve.ensures in
     let reserved = filed-reserved c.self.inside.rows c.reserve.new.rows _ _ _ _ _ _ _ c.self.invariant _ (vec_capacity c.reserve.new.waiting) _ (vec_capacity c.reserve.new.grey) more.rows more.waiting more.capacity more.grey more.greys in
-    let low = reserved.above in
+    let low = reserved.last in
     let room = c.in_ok-reserve.ensures.room in
     let fits = c.in_ok-reserve.ensures.fits in
     record {
       room = omega (arith, room);
-      above = omega (arith, low);
+      next = omega (arith, low);
       fits = omega (arith, fits, ap (λ r. map.len r.counts) more.rows);
       waiting = reserved.waits;
     }
@@ -28,7 +28,7 @@ enter-second-requires c =
     let fits = c.in_ok-reserve.ensures.fits in
     record {
       room = omega (arith, room, c.enter-first.ensures.room);
-      above = omega (arith, ap (λ r. r.last) c.enter-first.ensures.entered);
+      next = omega (arith, ap (λ r. r.last) c.enter-first.ensures.entered);
       fits = omega (arith, fits, ap (λ r. map.len r.counts) c.reserve.ensures.rows, c.enter-first.ensures.len, c.enter-first.ensures.capacity);
       waiting = c.enter-first.ensures.waiting;
     }
@@ -54,8 +54,8 @@ invariant_of-self-2 c =
     let two = filed-entered first.new.rows second.new.rows _ _ _ _ _ _ _ one (AsSocket c.connected-endpoint-2.result) second.new.waiting.items (vec_capacity second.new.waiting) second.ensures.entered second.ensures.new (ap (λ s. s.name) c.connected-endpoint-2.ensures) second.ensures.waiting
     (omega (arith, fits, same, first.ensures.len, first.ensures.capacity, second.ensures.len, second.ensures.capacity)) second.ensures.unmarked (omega (arith, marks, many, first.ensures.more, second.ensures.more)) in
     let all = filed-named second.new.rows c.point.new.self _ _ _ _ _ _ _ two second.new.rows.files a.names c.point.ensures two.begins two.named in
-    let low = all.above in
-    record { above = omega (arith, low); begins = all.begins; named = all.named; waits = all.waits; fits = all.fits; listed = all.listed; backlogged = all.backlogged; whites = (let bound = all.whites.0 in omega (arith, bound), all.whites.1) }
+    let low = all.last in
+    record { last = omega (arith, low); begins = all.begins; named = all.named; waits = all.waits; fits = all.fits; listed = all.listed; backlogged = all.backlogged; whites = (let bound = all.whites.0 in omega (arith, bound), all.whites.1) }
 
 pub returns-clause-ok : goal.returns-clause-ok
 returns-clause-ok c =

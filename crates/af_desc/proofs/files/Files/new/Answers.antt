@@ -1,4 +1,4 @@
-use Rattle.std.proofs.Common.{◌<◌, ◌∙◌, ap, subst, sym, nat_eq, arith}
+use Rattle.std.proofs.Common.{◌+◌, ◌∙◌, ap, nat_eq, arith}
 use Rattle.std.specs.FinMap as map
 use Rattle.std.specs.Prelude.{is_some}
 use Rattle.std.specs.Ordering.{nat_cmp}
@@ -22,7 +22,7 @@ invariant_of-result c =
     let m = c.new.result.marks in
     let markless = c.new.ensures.marks in
     record {
-      above = subst (λ n. n < 1) (sym c.new.ensures.last) (omega arith);
+      last = ap (λ n. n + 1) c.new.ensures.last;
       begins = ap (λ m. map.contains_key m 0) none ∙ ap is_some (map.get-empty nat_cmp 0);
       named = named-none-yet c.new-4.result c.new.result.files c.new-4.ensures none;
       waits = just-empty (λ n. nat_eq (places_in n) 0) c.new.result.counts _ uncounted c.new-2.ensures.items;

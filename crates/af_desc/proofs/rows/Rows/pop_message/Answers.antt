@@ -1,13 +1,13 @@
-use Rattle.std.proofs.Common.{sym, ap, ◌∙◌}
-use Rattle.std.specs.Option.{option_copied_mut}
-use Rattle.af_desc.proofs.Rowed.{chained_at, chains_changed}
+use Rattle.std.specs.Prelude.{vec_capacity}
+use Rattle.af_desc.specs.Filed.{popped}
+use Rattle.af_desc.proofs.Telling.{told-silent, told-after}
 use Rattle.af_desc.proofs.rows.Rows.pop_message.Goals as goal
 
-pub pop-requires : goal.pop-requires
-pop-requires c =
-    let a = c.self.inside in
-    let at = sym c.get_mut.ensures.value ∙ ap option_copied_mut c.in_ok-row.was in
-    record { chain = chained_at a.nodes a.rows.values c.args.file.now c.ino.result c.in_ok-row.row.now c.ino.ensures at c.self.invariant }
+pub invariant_of-self : goal.invariant_of-self
+invariant_of-self c = told-silent c.self.inside.lines c.pop_message.new.self _ _ _ _ _ c.args.file.now _ c.self.invariant c.in_err-message.ensures.none c.pop_message.ensures.rest
 
 pub invariant_of-self-2 : goal.invariant_of-self-2
-invariant_of-self-2 c = chains_changed c.self.inside.nodes c.pop.new.nodes c.self.inside.rows.values c.args.file.now c.ino.result c.pop.new.self c.ino.ensures c.self.invariant c.pop.ensures.chain c.pop.ensures.others
+invariant_of-self-2 c =
+    let a = c.self.inside in
+    let n = c.note.ensures in
+    told-after a.lines c.pop_message.new.self c.note.new.lines a.changed.items _ (vec_capacity a.changed) _ a.released.items (vec_capacity a.released) _ c.args.file.now popped _ c.self.invariant c.pop_message.ensures.rest n.notes n.listed n.capacity

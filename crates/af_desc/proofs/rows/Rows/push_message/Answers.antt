@@ -1,13 +1,10 @@
-use Rattle.std.proofs.Common.{sym, ap, ◌∙◌}
-use Rattle.std.specs.Option.{option_copied_mut}
-use Rattle.af_desc.proofs.Rowed.{chained_at, chains_changed}
+use Rattle.std.specs.Prelude.{vec_capacity}
+use Rattle.af_base.specs.Changes.{pushed}
+use Rattle.af_desc.proofs.Telling.{told-changed}
 use Rattle.af_desc.proofs.rows.Rows.push_message.Goals as goal
 
-pub push-requires-clause-chain : goal.push-requires-clause-chain
-push-requires-clause-chain c =
-    let a = c.self.inside in
-    let at = sym c.get_mut.ensures.value ∙ ap option_copied_mut c.in-Some.is in
-    chained_at a.nodes a.rows.values c.args.file.now c.ino.result c.in-Some.row.now c.ino.ensures at c.self.invariant
-
 pub invariant_of-self : goal.invariant_of-self
-invariant_of-self c = chains_changed c.self.inside.nodes c.push.new.nodes c.self.inside.rows.values c.args.file.now c.ino.result c.push.new.self c.ino.ensures c.self.invariant c.push.ensures.chain c.push.ensures.others
+invariant_of-self c =
+    let a = c.self.inside in
+    let n = c.note.ensures in
+    told-changed a.lines c.note.new.lines a.changed.items _ (vec_capacity a.changed) _ a.released.items (vec_capacity a.released) _ c.args.file.now c.self.invariant n.notes n.listed n.capacity _ c.push_message.new.self (pushed c.args.message) c.push_message.ensures

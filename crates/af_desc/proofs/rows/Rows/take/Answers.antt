@@ -1,13 +1,13 @@
-use Rattle.std.proofs.Common.{sym, ap, ◌∙◌}
-use Rattle.std.specs.Option.{option_copied_mut}
-use Rattle.af_desc.proofs.Rowed.{chained_at, chains_changed}
+use Rattle.std.specs.Prelude.{vec_capacity}
+use Rattle.af_desc.specs.Filed.{received_from}
+use Rattle.af_desc.proofs.Telling.{told-after, told-still}
 use Rattle.af_desc.proofs.rows.Rows.take.Goals as goal
 
-pub take-requires-clause-chain : goal.take-requires-clause-chain
-take-requires-clause-chain c =
-    let a = c.self.inside in
-    let at = sym c.get_mut.ensures.value ∙ ap option_copied_mut c.in-Some.is in
-    chained_at a.nodes a.rows.values c.args.file.now c.ino.result c.in-Some.row.now c.ino.ensures at c.self.invariant
+pub invariant_of-self : goal.invariant_of-self
+invariant_of-self c = told-still c.self.inside.lines c.take.new.self _ _ _ _ _ c.self.invariant c.in_err-taken.ensures.err
 
 pub invariant_of-self-2 : goal.invariant_of-self-2
-invariant_of-self-2 c = chains_changed c.self.inside.nodes c.take.new.nodes c.self.inside.rows.values c.args.file.now c.ino.result c.take.new.self c.ino.ensures c.self.invariant c.take.ensures.chain c.take.ensures.others
+invariant_of-self-2 c =
+    let a = c.self.inside in
+    let n = c.note.ensures in
+    told-after a.lines c.take.new.self c.note.new.lines a.changed.items _ (vec_capacity a.changed) _ a.released.items (vec_capacity a.released) _ c.args.file.now (received_from c.args.max) _ c.self.invariant c.in_ok-taken.ensures.rest n.notes n.listed n.capacity

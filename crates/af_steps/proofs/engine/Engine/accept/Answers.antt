@@ -56,8 +56,8 @@ least c = record { read = search rules }
 pub returns-in_err-room_for-clause-refused : goal.returns-in_err-room_for-clause-refused
 returns-in_err-room_for-clause-refused c =
     let at = (goal.at.returns-in_err-room_for-clause-refused c).After-room_for in
-    starves c.self.view_is c.args.pid (step.Accept c.args.on) (record { world = c.room_for.new.self.world; pass = c.room_for.new.self.pass; last_pass = c.self.inside.last_pass }) c.from_residual-in_err-room_for.result
-    ((λ i. record { world = c.room_for.ensures.world i; pass = c.room_for.ensures.pass i; last_pass = c.self.inside.last_pass }) ∙ c.self.view_is) (search rules) (accept-fits (has at) (search rules) (not-short (least at))) refl
+    starves c.self.view_is c.args.pid (step.Accept c.args.on) (record { world = c.room_for.new.self.world; pass = c.room_for.new.self.pass; last_pass = c.self.inside.last_pass; since = c.room_for.new.self.since }) c.from_residual-in_err-room_for.result
+    ((λ i. record { world = c.room_for.ensures.world i; pass = c.room_for.ensures.pass i; last_pass = c.self.inside.last_pass; since = c.room_for.ensures.since i }) ∙ c.self.view_is) (search rules) (accept-fits (has at) (search rules) (not-short (least at))) refl
 
 pub take_embryo-requires : goal.take_embryo-requires
 take_embryo-requires c =
@@ -87,4 +87,4 @@ returns-clause-done c =
     let number = is-free_at (least at) found.number.process in
     let leads = (λ i. install (with_socket (sym c.room_for.ensures.world i) (ino-is found.number i) dequeued) c.args.pid (number i) e) ∙ sym (ap (λ (s : Shown). s.world) took) in
     does c.self.view_is c.args.pid (step.Accept c.args.on) c.release.new.self (reply.Fd c.in_ok-fd.fd) c.take_embryo.new.self.world (accept-fits found (search rules) (not-short (least at))) (ap reply.Fd number) leads c.release.ensures.settles
-    (c.release.ensures.pass ∙ ap (λ (s : Shown). s.pass) took ∙ c.room_for.ensures.pass)
+    (c.release.ensures.pass ∙ ap (λ (s : Shown). s.pass) took ∙ c.room_for.ensures.pass) (c.release.ensures.since ∙ ap (λ (s : Shown). s.since) took ∙ c.room_for.ensures.since)

@@ -65,4 +65,5 @@ returns-clause-done c =
     ap (λ (s : Shown). s.world) c.table_in.ensures ∙ ap (λ (s : Shown). install s.world p to f) c.vacate.ensures ∙ ap (λ v. install (uninstall v p to) p to f) c.room_for.ensures.world ∙ install-uninstalled found.process to f in
     let leads = ap (λ b. if b then w else install w p to (ino_on w p c.args.from)) other ∙ ap (install w p to) (ino-is found) ∙ sym placed in
     let pass = c.release.ensures.pass ∙ ap (λ (s : Shown). s.pass) c.table_in.ensures ∙ ap (λ (s : Shown). s.pass) c.vacate.ensures ∙ c.room_for.ensures.pass in
-    does c.self.view_is p (step.Dup2 c.args.from to) c.release.new.self (reply.Fd to) c.table_in.new.self.world fits refl leads c.release.ensures.settles pass
+    let since = c.release.ensures.since ∙ ap (λ (s : Shown). s.since) c.table_in.ensures ∙ ap (λ (s : Shown). s.since) c.vacate.ensures ∙ c.room_for.ensures.since in
+    does c.self.view_is p (step.Dup2 c.args.from to) c.release.new.self (reply.Fd to) c.table_in.new.self.world fits refl leads c.release.ensures.settles pass since

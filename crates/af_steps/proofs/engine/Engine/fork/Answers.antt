@@ -14,4 +14,4 @@ returns-clause-done c =
     let has : HasProcess w c.args.pid c.in_ok-ok_or.field-0.now.process = record { there = search rules } in
     let room : is_crowded w ≡ false = search rules in
     let fits = after-process has (λ q look. on_processes w) ∙ ap (λ b. first_fit ((b, EAGAIN) ∷ [])) room in
-    does c.self.view_is c.args.pid step.Fork c.release.new.self (reply.Pid c.in_ok-child.child) c.copy_for_fork.new.self.world fits (ap reply.Pid (sym c.in_ok-child.ensures.pid)) (sym c.in_ok-child.ensures.ok) c.release.ensures.settles (c.release.ensures.pass ∙ c.copy_for_fork.ensures.pass)
+    does c.self.view_is c.args.pid step.Fork c.release.new.self (reply.Pid c.in_ok-child.child) c.copy_for_fork.new.self.world fits (ap reply.Pid (sym c.in_ok-child.ensures.pid)) (sym c.in_ok-child.ensures.ok) c.release.ensures.settles (c.release.ensures.pass ∙ c.copy_for_fork.ensures.pass) (c.release.ensures.since ∙ c.copy_for_fork.ensures.since)

@@ -1,7 +1,7 @@
 use Rattle.std.proofs.Common.{ap}
 use Rattle.slab.specs.Slab as slots
 use Rattle.af_desc.proofs.Rowed.{chains_roomed}
-use Rattle.af_desc.proofs.rows.Rows.room_for_message.Goals as goal
+use Rattle.af_desc.proofs.lines.Lines.room_for_message.Goals as goal
 
 -- No message moves.
 pub invariant_of-self : goal.invariant_of-self

@@ -1,0 +1,10 @@
+use Rattle.std.specs.Prelude.{vec_capacity}
+use Rattle.af_base.specs.Changes.{queued}
+use Rattle.af_desc.proofs.Telling.{told-changed}
+use Rattle.af_desc.proofs.rows.Rows.enqueue.Goals as goal
+
+pub invariant_of-self : goal.invariant_of-self
+invariant_of-self c =
+    let a = c.self.inside in
+    let n = c.note.ensures in
+    told-changed a.lines c.note.new.lines a.changed.items _ (vec_capacity a.changed) _ a.released.items (vec_capacity a.released) _ c.args.file.now c.self.invariant n.notes n.listed n.capacity _ c.enqueue.new.self (queued c.args.embryo) c.enqueue.ensures

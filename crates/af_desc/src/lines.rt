@@ -1,0 +1,489 @@
+//! One row for each file.
+ghost use Rattle.std.specs.Prelude.{◌≡◌, ℕ, ◌+◌, ◌≤◌, ◌<◌, ◌∷◌, [], false, None, IsTrue, IsOk, IfSome, IfNone, IfErr, IfOk, OnOk, OnErr, drop, is_none, is_some, length, nat_eq, option_copied, true};
+ghost use Rattle.std.specs.FinMap as map;
+ghost use Rattle.std.specs.Option.{option_map_or};
+ghost use Rattle.af_base.specs.Changes.{bound, change_socket_at, connected, dequeued, listening, pushed, queued};
+ghost use Rattle.af_base.specs.Places.{backlog_in, held_in, queue_in};
+ghost use Rattle.af_base.specs.Refusals.{room_of};
+ghost use Rattle.af_base.specs.Whole.{IsMessageWithin};
+ghost use Rattle.af_ledger.specs.Counted.{fewer, more, places_in, IsCountable, IsCounted};
+ghost use Rattle.af_ledger.specs.Kept.{count_in_map};
+ghost use Rattle.af_desc.specs.Filed.{hung_up, popped, received_from, received_of, socket_in};
+ghost use Rattle.af_desc.specs.Lined.{with_line, without_line};
+ghost use Rattle.af_desc.specs.Rowed.{file_of, is_due, marking};
+
+use crate::row::Row;
+use crate::socket::{Endpoint, Socket};
+use af_base::items::Items;
+use af_base::limits::MAX_MESSAGES;
+use af_base::names::{FileRef, Ino};
+use af_ledger::{Count, Place};
+use af_mark::{Color, Mark};
+use af_order::Keyed;
+use af_queue::{Chain, Msg, Node, Queue, Taken, pool};
+use slab::Slab;
+use std::alloc::{AllocError, Global};
+use std::marker::Model;
+
+/// A row for each file: what it is, what it has to receive, how many places hold it, its mark, and
+/// whether it is noted. They come and go together, and stand in one table, and all messages in
+/// another; a contract sees them as four maps.
+#[derive(Drop)]
+pub struct Lines {
+    rows: Keyed<Row>,
+    /// The messages of all queues.
+    nodes: Slab<Node>,
+}
+
+impl Model for Lines {
+    ghost use Rattle.std.specs.FinMap as map;
+    ghost use Rattle.std.specs.Coded.{codes};
+    ghost use Rattle.af_queue.specs.Chains.{has_room};
+    ghost use Rattle.af_desc.specs.Lined.{Lined, noted_of};
+    ghost use Rattle.af_desc.specs.Rowed.{counts_of, files_of, marks_of, AreChained};
+
+    ghost Value = { Lined };
+
+    ghost coded = { Prim.hlevel (codes, map.code) };
+
+    ghost view = { λ a. record { files = files_of a.nodes a.rows.values; counts = counts_of a.rows.values; marks = marks_of a.rows.values; noted = noted_of a.rows.values; last = a.rows.last; room = a.rows.room; message_room = has_room a.nodes } };
+
+    ghost invariant = { λ a. AreChained a.nodes a.rows.values };
+}
+
+impl Lines {
+    /// No row. It takes no memory.
+    #[tactic(auto, using(crate::proofs::Rowed::chains, af_order::proofs::Parts::parts))]
+    pub fn new(alloc: Global) -> Lines
+        ensures files { result.files ≡ map.empty }
+        ensures counts { result.counts ≡ map.empty }
+        ensures marks { result.marks ≡ map.empty }
+        ensures noted { result.noted ≡ map.empty }
+        ensures last { result.last ≡ 0 }
+    {
+        Lines {
+            rows: Keyed::new(alloc),
+            nodes: Slab::new(alloc),
+        }
+    }
+
+    /// How many rows there are.
+    #[inline(always)]
+    #[tactic(auto, using(crate::proofs::Rowed::chains, af_order::proofs::Parts::parts))]
+    pub fn len(&self) -> usize
+        ensures files { result ≡ map.len self.now.files }
+        ensures counts { result ≡ map.len self.now.counts }
+        ensures marks { result ≡ map.len self.now.marks }
+        ensures noted { result ≡ map.len self.now.noted }
+    {
+        self.rows.len()
+    }
+
+    /// Room for so many rows more: then `push` needs no memory for them, and no other call ever does.
+    /// Nothing else changes, also on an error.
+    #[inline(always)]
+    #[tactic(auto, using(crate::proofs::Rowed::chains))]
+    pub fn reserve(&mut self, rows: usize) -> Result<(), AllocError>
+        ensures same { self.new ≡ record self.old { room = self.new.room } }
+        ensures ok { OnOk result (rows ≤ self.new.room) }
+        ensures room { self.old.room ≤ self.new.room }
+        ensures succeeds { rows ≤ self.old.room → IsOk result }
+    {
+        self.rows.reserve(rows)
+    }
+
+    /// A file more, under a number above all others that there were, which has nothing to receive, no
+    /// place holds yet, and no pass has marked. There is room for it.
+    #[inline(always)]
+    #[tactic(auto, using(crate::proofs::Rowed::chains, af_order::proofs::Parts::parts))]
+    pub fn push(&mut self, ino: Ino, endpoint: Option<Endpoint>) -> FileRef
+        requires room { 0 < self.old.room }
+        requires above { self.old.last < ino }
+        ensures file { result ≡ ino }
+        ensures pushed { self.new ≡ with_line ino (file_of endpoint) self.new.room self.old }
+        ensures new { map.contains_key self.old.files ino ≡ false }
+        ensures uncounted { map.contains_key self.old.counts ino ≡ false }
+        ensures unmarked { map.contains_key self.old.marks ino ≡ false }
+        ensures unnoted { map.contains_key self.old.noted ino ≡ false }
+        ensures room { self.old.room ≤ self.new.room + 1 }
+    {
+        if let Some(endpoint) = &endpoint {
+            endpoint.is_silent();
+        }
+        let row = Row {
+            endpoint,
+            chain: Chain::empty(),
+            count: Count::none(),
+            mark: Mark::none(),
+            noted: false,
+            place: 0,
+        };
+        self.rows.push(ino, row)
+    }
+
+    /// A file that has nothing to receive goes, and the socket that it was is handed on; a plain file
+    /// and a stranger were none. It takes no memory.
+    #[inline(always)]
+    #[tactic(auto, using(crate::proofs::Rowed::chains, af_order::proofs::Parts::parts))]
+    pub fn remove(&mut self, file: &FileRef) -> Option<Endpoint>
+        requires silent { queue_in self.old.files file.now ≡ [] }
+        ensures value { result ≡ socket_in self.old.files file.now }
+        ensures removed { self.new ≡ without_line file.now self.new.room self.old }
+        ensures room { self.old.room ≤ self.new.room }
+    {
+        let row = self.rows.remove(file)?;
+        let endpoint = row.endpoint?;
+        endpoint.is_silent();
+        Some(endpoint)
+    }
+
+    /// The socket that a file is; a plain file and a stranger are none.
+    #[inline(always)]
+    pub fn socket(&self, file: &FileRef) -> Option<Socket<'_>>
+        ensures { result ≡ socket_in self.now.files file.now }
+    {
+        let row = self.rows.get(file)?;
+        let endpoint = row.endpoint.as_ref()?;
+        Some(Socket::of(endpoint, Queue::of(&self.nodes, &row.chain)))
+    }
+
+    /// How many places hold a file; nothing of a stranger.
+    #[inline(always)]
+    #[tactic(auto, using(crate::proofs::Rowed::chains, af_order::proofs::Parts::parts))]
+    pub fn count(&self, file: &FileRef) -> Option<&Count>
+        ensures { option_copied result ≡ map.get self.now.counts file.now }
+    {
+        let row = self.rows.get(file)?;
+        Some(&row.count)
+    }
+
+    /// A new socket is told where its peer stands: a hint.
+    #[inline(always)]
+    #[tactic(auto, using(crate::proofs::Rowed::rows, af_order::proofs::Parts::parts))]
+    pub fn point(&mut self, file: &FileRef, peer: &FileRef)
+        ensures { self.new ≡ self.old }
+    {
+        let Some(row) = self.rows.get_mut(file) else {
+            return;
+        };
+        let Some(endpoint) = &mut row.endpoint else {
+            return;
+        };
+        endpoint.point(peer);
+    }
+
+    /// The peer of that socket is gone from now on.
+    #[inline(always)]
+    #[tactic(auto, using(crate::proofs::Rowed::rows, af_order::proofs::Parts::parts))]
+    pub fn hang_up(&mut self, file: &FileRef)
+        ensures { self.new ≡ record self.old { files = change_socket_at hung_up self.old.files file.now } }
+    {
+        let Some(row) = self.rows.get_mut(file) else {
+            return;
+        };
+        let Some(endpoint) = &mut row.endpoint else {
+            return;
+        };
+        endpoint.hang_up();
+    }
+
+    /// That socket is connected to this peer from now on.
+    #[inline(always)]
+    #[tactic(auto, using(crate::proofs::Rowed::rows, af_order::proofs::Parts::parts))]
+    pub fn connect(&mut self, file: &FileRef, peer: &FileRef)
+        ensures { self.new ≡ record self.old { files = change_socket_at (connected peer.now) self.old.files file.now } }
+    {
+        let Some(row) = self.rows.get_mut(file) else {
+            return;
+        };
+        let Some(endpoint) = &mut row.endpoint else {
+            return;
+        };
+        endpoint.connect(peer);
+    }
+
+    /// That socket, which has no name, has this one from now on. On an error nothing has changed.
+    #[inline(always)]
+    #[tactic(auto, using(crate::proofs::Rowed::rows, af_order::proofs::Parts::parts))]
+    pub fn bind(&mut self, file: &FileRef, alloc: Global, name: Items<u8>) -> Result<(), AllocError>
+        requires { IfSome (socket_in self.old.files file.now) (λ s. s.name ≡ None) }
+        ensures ok { OnOk result (self.new ≡ record self.old { files = change_socket_at (bound name) self.old.files file.now }) }
+        ensures err { OnErr result (self.new ≡ self.old) }
+    {
+        let Some(row) = self.rows.get_mut(file) else {
+            return Ok(());
+        };
+        let Some(endpoint) = &mut row.endpoint else {
+            return Ok(());
+        };
+        endpoint.bind(alloc, name)
+    }
+
+    /// That socket, which has a name and no embryos, waits for connections from now on, so many at
+    /// most. On an error nothing has changed.
+    #[inline(always)]
+    #[tactic(auto, using(crate::proofs::Rowed::rows, af_order::proofs::Parts::parts))]
+    pub fn listen(&mut self, file: &FileRef, alloc: Global, most: u32) -> Result<(), AllocError>
+        requires named { IfSome (socket_in self.old.files file.now) (λ s. is_none s.name ≡ false) }
+        requires nobody { IfSome (socket_in self.old.files file.now) (λ s. s.backlog ≡ []) }
+        ensures ok { OnOk result (self.new ≡ record self.old { files = change_socket_at (listening most) self.old.files file.now }) }
+        ensures err { OnErr result (self.new ≡ self.old) }
+    {
+        let Some(row) = self.rows.get_mut(file) else {
+            return Ok(());
+        };
+        let Some(endpoint) = &mut row.endpoint else {
+            return Ok(());
+        };
+        endpoint.listen(alloc, most)
+    }
+
+    /// An embryo more waits at that listener, last, for which its backlog has room.
+    #[inline(always)]
+    #[tactic(auto, using(crate::proofs::Rowed::rows, af_order::proofs::Parts::parts))]
+    pub fn enqueue(&mut self, file: &FileRef, embryo: FileRef)
+        requires { IfSome (socket_in self.old.files file.now) (λ s. length s.backlog < room_of s.state) }
+        ensures { self.new ≡ record self.old { files = change_socket_at (queued embryo) self.old.files file.now } }
+    {
+        let Some(row) = self.rows.get_mut(file) else {
+            return;
+        };
+        let Some(endpoint) = &mut row.endpoint else {
+            return;
+        };
+        endpoint.enqueue(embryo);
+    }
+
+    /// The first embryo of that listener waits no more, if one does.
+    #[inline(always)]
+    #[tactic(auto, using(crate::proofs::Rowed::rows, af_order::proofs::Parts::parts))]
+    pub fn dequeue(&mut self, file: &FileRef) -> Option<FileRef>
+        ensures some { IfSome result (λ f. backlog_in self.old.files file.now ≡ f ∷ drop 1 (backlog_in self.old.files file.now)) }
+        ensures none { IfNone result (backlog_in self.old.files file.now ≡ []) }
+        ensures rest { self.new ≡ record self.old { files = change_socket_at dequeued self.old.files file.now } }
+    {
+        let Some(row) = self.rows.get_mut(file) else {
+            return None;
+        };
+        let Some(endpoint) = &mut row.endpoint else {
+            return None;
+        };
+        endpoint.dequeue()
+    }
+
+    /// Makes room for one message more, so that the next `push_message` cannot fail.
+    pub fn room_for_message(&mut self) -> Result<(), AllocError>
+        ensures ok { OnOk result (self.new.message_room ≡ true) }
+        ensures succeeds { self.old.message_room ≡ true → IsOk result }
+        ensures rest { self.new ≡ record self.old { message_room = self.new.message_room } }
+    {
+        pool::room(&mut self.nodes)
+    }
+
+    /// Appends a message to the queue of that socket, which is not full. A plain file or a stranger has
+    /// none, and the message is dropped. It cannot fail, since there is room.
+    #[inline(always)]
+    #[tactic(auto, using(crate::proofs::Rowed::messages, af_order::proofs::Parts::parts))]
+    pub fn push_message(&mut self, file: &FileRef, message: Msg)
+        requires few { length (queue_in self.old.files file.now) < MAX_MESSAGES }
+        requires within { IsMessageWithin message }
+        requires room { self.old.message_room ≡ true }
+        ensures { self.new ≡ record self.old { files = change_socket_at (pushed message) self.old.files file.now; message_room = self.new.message_room } }
+    {
+        if let Some(row) = self.rows.get_mut(file) {
+            row.push(&mut self.nodes, file.ino(), message);
+        }
+    }
+
+    /// The first message out of the queue of that socket, if there is one. It takes no memory.
+    #[inline(always)]
+    #[tactic(auto, using(crate::proofs::Rowed::messages, af_order::proofs::Parts::parts))]
+    pub fn pop_message(&mut self, file: &FileRef) -> Option<Msg>
+        ensures some { IfSome result (λ m. queue_in self.old.files file.now ≡ m ∷ drop 1 (queue_in self.old.files file.now)) }
+        ensures none { IfNone result (queue_in self.old.files file.now ≡ []) }
+        ensures rest { self.new ≡ record self.old { files = change_socket_at popped self.old.files file.now; message_room = self.new.message_room } }
+    {
+        let row = self.rows.get_mut(file)?;
+        row.pop(&mut self.nodes, file.ino())
+    }
+
+    /// What a receive of at most so many bytes takes out of the queue of that socket (recvmsg(2)):
+    /// nothing, where it is a plain file or a stranger. On an error nothing has changed.
+    #[inline(always)]
+    #[tactic(auto, using(crate::proofs::Rowed::messages, af_order::proofs::Parts::parts))]
+    pub fn take(&mut self, file: &FileRef, alloc: Global, max: usize) -> Result<Taken, AllocError>
+        requires { 0 < max }
+        ensures taken { IfOk result (λ t. t ≡ received_of (socket_in self.old.files file.now) max) }
+        ensures rest { OnOk result (self.new ≡ record self.old { files = change_socket_at (received_from max) self.old.files file.now; message_room = self.new.message_room }) }
+        ensures err { OnErr result (self.new ≡ self.old) }
+    {
+        let Some(row) = self.rows.get_mut(file) else {
+            return Ok(Taken::nothing(alloc));
+        };
+        row.take(&mut self.nodes, file.ino(), alloc, max)
+    }
+
+    /// One place more of a file, which is there. Whether it had none. It takes no memory.
+    #[inline(always)]
+    #[tactic(auto, using(crate::proofs::Rowed::chains, af_order::proofs::Parts::parts, af_order::proofs::Values::lent, af_ledger::proofs::Waiting::counted))]
+    pub fn add_place(&mut self, place: &Place, file: &FileRef) -> bool
+        requires known { IsTrue (map.contains_key self.old.counts file.now) }
+        requires countable { IsCountable place.now (count_in_map self.old.counts file.now) }
+        ensures counts { self.new ≡ record self.old { counts = map.insert self.old.counts file.now (more place.now (count_in_map self.old.counts file.now)) } }
+        ensures len { map.len self.new.counts ≡ map.len self.old.counts }
+        ensures first { result ≡ nat_eq (places_in (count_in_map self.old.counts file.now)) 0 }
+    {
+        let row = self.rows.get_mut(file).unwrap();
+        let first = row.count.is_none();
+        row.count.add(place);
+        first
+    }
+
+    /// One place less of a file, which has one. Whether it was the last. It takes no memory.
+    #[inline(always)]
+    #[tactic(auto, using(crate::proofs::Rowed::chains, af_order::proofs::Parts::parts, af_order::proofs::Values::lent, af_ledger::proofs::Waiting::counted))]
+    pub fn sub_place(&mut self, place: &Place, file: &FileRef) -> bool
+        requires { IsCounted place.now (count_in_map self.old.counts file.now) }
+        ensures counts { self.new ≡ record self.old { counts = map.insert self.old.counts file.now (fewer place.now (count_in_map self.old.counts file.now)) } }
+        ensures len { map.len self.new.counts ≡ map.len self.old.counts }
+        ensures last { result ≡ nat_eq (places_in (count_in_map self.old.counts file.now)) 1 }
+    {
+        let row = self.rows.get_mut(file).unwrap();
+        row.count.sub(place);
+        row.count.is_none()
+    }
+
+    /// The mark of a file; nothing of a stranger.
+    #[inline(always)]
+    #[tactic(auto, using(crate::proofs::Rowed::chains, af_order::proofs::Parts::parts))]
+    pub fn mark(&self, file: &FileRef) -> Option<Mark>
+        ensures { result ≡ map.get self.now.marks file.now }
+    {
+        let row = self.rows.get(file)?;
+        Some(row.mark)
+    }
+
+    /// A file, which is there, gets this mark. It takes no memory.
+    #[inline(always)]
+    #[tactic(auto, using(crate::proofs::Rowed::chains, af_order::proofs::Parts::parts, af_order::proofs::Values::lent))]
+    pub fn set_mark(&mut self, file: &FileRef, mark: Mark)
+        requires { IsTrue (map.contains_key self.old.marks file.now) }
+        ensures set { self.new ≡ record self.old { marks = map.insert self.old.marks file.now mark } }
+        ensures len { map.len self.new.marks ≡ map.len self.old.marks }
+    {
+        let row = self.rows.get_mut(file).unwrap();
+        row.mark = mark;
+    }
+
+    /// Marks a file that a table holds, if it is not marked in this pass. It is grey, with this place
+    /// in the list, or black at once, if it holds nothing and may be scanned. Returns whether it is
+    /// black, and nothing where it was not marked now.
+    #[inline(always)]
+    #[tactic(auto, using(crate::proofs::Rowed::chains, af_order::proofs::Parts::parts, af_order::proofs::Values::lent))]
+    pub fn visit(&mut self, file: &FileRef, epoch: u64, at: u32, may_scan: bool) -> Option<bool>
+        ensures due { is_some result ≡ is_due epoch self.old.counts self.old.marks file.now }
+        ensures marked { IfSome result (λ black. self.new ≡ record self.old { marks = map.insert self.old.marks file.now (marking epoch at black) }) }
+        ensures len { map.len self.new.marks ≡ map.len self.old.marks }
+        ensures bare { IfSome result (λ black. black ≡ true → held_in self.old.files file.now ≡ []) }
+        ensures asked { IfSome result (λ black. black ≡ true → may_scan ≡ true) }
+        ensures none { IfNone result (self.new ≡ self.old) }
+    {
+        let Some(row) = self.rows.get_mut(file) else {
+            return None;
+        };
+        if row.count.tabled == 0 || !matches!(row.mark.color_in(epoch), Color::White) {
+            return None;
+        }
+        let black = may_scan && row.is_bare(&self.nodes);
+        let color = if black { Color::Black } else { Color::Grey };
+        row.mark = Mark { epoch, color, at };
+        Some(black)
+    }
+
+    /// Returns whether a file is noted; nothing of a stranger.
+    #[inline(always)]
+    #[tactic(auto, using(crate::proofs::Rowed::chains, af_order::proofs::Parts::parts))]
+    pub fn noted(&self, file: &FileRef) -> Option<bool>
+        ensures { result ≡ map.get self.now.noted file.now }
+    {
+        let row = self.rows.get(file)?;
+        Some(row.noted)
+    }
+
+    /// Returns whether a file is noted; a stranger is not.
+    #[inline(always)]
+    pub fn is_noted(&self, file: &FileRef) -> bool
+        ensures { result ≡ option_map_or (λ b. b) (map.get self.now.noted file.now) false }
+    {
+        matches!(self.noted(file), Some(true))
+    }
+
+    /// Returns where a file stands in the list of those that are noted: a hint.
+    #[inline(always)]
+    pub fn place(&self, file: &FileRef) -> usize {
+        match self.rows.get(file) {
+            Some(row) => row.place as usize,
+            None => 0,
+        }
+    }
+
+    /// Keeps where a file stands in that list from now on: a hint. Nothing that a contract sees
+    /// changes.
+    #[inline(always)]
+    #[tactic(auto, using(crate::proofs::Rowed::rows, af_order::proofs::Parts::parts))]
+    pub fn put_place(&mut self, file: &FileRef, place: u32)
+        ensures { self.new ≡ self.old }
+    {
+        let Some(row) = self.rows.get_mut(file) else {
+            return;
+        };
+        row.place = place;
+    }
+
+    /// Notes a file, which is there, or strikes its note. It takes no memory.
+    #[inline(always)]
+    #[tactic(auto, using(crate::proofs::Rowed::chains, af_order::proofs::Parts::parts, af_order::proofs::Values::lent))]
+    pub fn set_noted(&mut self, file: &FileRef, noted: bool)
+        requires { IsTrue (map.contains_key self.old.noted file.now) }
+        ensures set { self.new ≡ record self.old { noted = map.insert self.old.noted file.now noted } }
+        ensures len { map.len self.new.noted ≡ map.len self.old.noted }
+    {
+        let row = self.rows.get_mut(file).unwrap();
+        row.noted = noted;
+    }
+
+    /// Nothing at run time: it says that what is kept of a file comes and goes together.
+    #[tactic(auto, using(crate::proofs::Rowed::chains, af_order::proofs::Parts::parts))]
+    pub fn are_one(&self)
+        ensures marks { (f : ℕ) → map.contains_key self.now.marks f ≡ map.contains_key self.now.files f }
+        ensures counts { (f : ℕ) → map.contains_key self.now.counts f ≡ map.contains_key self.now.files f }
+        ensures noted { (f : ℕ) → map.contains_key self.now.noted f ≡ map.contains_key self.now.files f }
+    {
+        // The view says it: it is enough to look at a field.
+        let _rows = &self.rows;
+    }
+
+    /// Where the row of a number stands; nothing of a stranger. A search: who has a `FileRef` needs
+    /// none.
+    #[tactic(auto, using(crate::proofs::Rowed::chains, af_order::proofs::Parts::parts))]
+    pub fn find(&self, ino: Ino) -> Option<FileRef>
+        ensures there { IfSome result (λ f. (f ≡ ino) × IsTrue (map.contains_key self.now.files ino)) }
+        ensures none { IfNone result (map.contains_key self.now.files ino ≡ false) }
+        ensures uncounted { IfNone result (map.contains_key self.now.counts ino ≡ false) }
+    {
+        self.rows.find(ino)
+    }
+
+    /// The least number above this one that has a row, if there is one, and where it stands in the
+    /// order; this one need not have one. No search behind what was answered last.
+    #[inline(always)]
+    #[tactic(auto, using(crate::proofs::Rowed::chains, af_order::proofs::Parts::parts))]
+    pub fn next_after(&self, ino: Ino, at: usize) -> Option<(FileRef, usize)>
+        ensures above { IfSome result (λ n. ino < n.0) }
+        ensures there { IfSome result (λ n. IsTrue (map.contains_key self.now.files n.0)) }
+        ensures least { IfSome result (λ n. (q : ℕ) → ino < q → q < n.0 → map.contains_key self.now.files q ≡ false) }
+        ensures none { IfNone result ((q : ℕ) → ino < q → map.contains_key self.now.files q ≡ false) }
+    {
+        self.rows.next_after(ino, at)
+    }
+}

@@ -1,0 +1,53 @@
+//! Which files were freed, and whose readiness may have changed.
+ghost use Rattle.std.specs.Prelude.{◌≡◌, true, OnErr, OnOk};
+ghost use Rattle.af_base.specs.Told.{TellsChanged, TellsReleased};
+
+use crate::engine::Engine;
+use af_base::names::{FileRef, Ino};
+use std::alloc::AllocError;
+
+impl Engine {
+    /// Tells from now on which files are freed, by `released`. Both lists are empty then. From now on
+    /// an event that makes a file needs room for its number in the list too, and no other call does.
+    /// On an error nothing has changed.
+    pub fn tell_released(&mut self) -> Result<(), AllocError>
+        ensures ok { OnOk result (self.new ≡ record self.old { since = record { changed = self.old.since.changed; released = true; files = self.old.world.files; next = self.old.world.next_ino } }) }
+        ensures err { OnErr result (self.new ≡ self.old) }
+    {
+        self.store.tell_released()
+    }
+
+    /// Tells from now on whose readiness may have changed, by `changed`. Both lists are empty then.
+    /// From now on an event that makes a file needs room for it in the list too, and no other call
+    /// does. On an error nothing has changed.
+    pub fn tell_changed(&mut self) -> Result<(), AllocError>
+        ensures ok { OnOk result (self.new ≡ record self.old { since = record { changed = true; released = self.old.since.released; files = self.old.world.files; next = self.old.world.next_ino } }) }
+        ensures err { OnErr result (self.new ≡ self.old) }
+    {
+        self.store.tell_changed()
+    }
+
+    /// Returns the inode numbers of the files that were freed since the lists were emptied last, each
+    /// once, where that is told: what a program keeps for such a file can go. No search.
+    pub fn released(&self) -> &[Ino]
+        ensures { TellsReleased self.now.world self.now.since result.now }
+    {
+        self.store.released()
+    }
+
+    /// Returns the sockets whose readiness may have changed since the lists were emptied last, each
+    /// once, where that is told. A socket that is not among them, and whose peer is not, answers
+    /// `poll` as it did then. A plain file is never among them: it is always ready. No search.
+    pub fn changed(&self) -> &[FileRef]
+        ensures { TellsChanged self.now.world self.now.since result.now }
+    {
+        self.store.changed()
+    }
+
+    /// Empties both lists. It needs no memory.
+    pub fn clear_told(&mut self)
+        ensures { self.new ≡ record self.old { since = record self.old.since { files = self.old.world.files; next = self.old.world.next_ino } } }
+    {
+        self.store.clear_told();
+    }
+}
