@@ -370,6 +370,34 @@ int64_t scm_graph(scm_engine *engine, uint8_t *text, size_t len);
  * Errors: SCM_ENOMEM. */
 int64_t scm_check(scm_engine *engine, struct scm_checked *out);
 
+/* ---- Freed files, and sockets whose readiness may have changed ---- */
+
+/* Asks for the list of freed files, which scm_released writes, and empties both lists. A call that
+ * makes a file reserves room in the list from now on, so a call that frees files needs no memory.
+ * Answers 0.
+ * Errors: SCM_ENOMEM. */
+int64_t scm_tell_released(scm_engine *engine);
+
+/* Asks for the list of sockets whose readiness may have changed (poll(2)), which scm_changed
+ * writes, and empties both lists. A call that makes a file reserves room in the list from now on,
+ * so no other call needs memory for it. Answers 0.
+ * Errors: SCM_ENOMEM. */
+int64_t scm_tell_changed(scm_engine *engine);
+
+/* Writes the inode numbers of the files that were freed since the lists were emptied last, each
+ * once, as many as there is room for. Answers the length of the list, which is 0 before
+ * scm_tell_released. It needs no memory. */
+int64_t scm_released(scm_engine *engine, uint64_t *inos, size_t ninos);
+
+/* Writes the inode numbers of the live sockets whose readiness may have changed since the lists
+ * were emptied last, each once, as many as there is room for. Answers the length of the list, which
+ * is 0 before scm_tell_changed. It needs no memory.
+ * For a socket that is not in the list, and whose peer is not, scm_poll writes what it did then. */
+int64_t scm_changed(scm_engine *engine, uint64_t *inos, size_t ninos);
+
+/* Empties both lists. It needs no memory. Answers 0. */
+int64_t scm_clear_told(scm_engine *engine);
+
 #ifdef __cplusplus
 }
 #endif

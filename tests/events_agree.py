@@ -32,7 +32,7 @@ TWINS = {"send_owned": "send"}
 # What C tests before all else: there a type is a number, and one that is none makes no event.
 FIRST_IN_C = {"pair": ["EINVAL"], "socket": ["EINVAL"]}
 # The calls from C that have an error and are no events.
-NO_EVENTS_OF_C = {"engine_new", "check", "next_fd", "poll", "graph"}
+NO_EVENTS_OF_C = {"engine_new", "check", "next_fd", "poll", "graph", "tell_released", "tell_changed"}
 # The relations of the definition that say how the collector's events are refused.
 COLLECTOR = {"begin": "Begins", "slice": "GoesOn", "pass": "PassesWhole"}
 # The words of a form, as the definition and as the list write them.

@@ -28,6 +28,7 @@ struct places {
     uint64_t number;
     uint8_t bytes[8];
     uint32_t fds[4];
+    uint64_t inos[4];
 };
 
 static scm_engine engine = SCM_ENGINE_INIT;
@@ -232,6 +233,13 @@ static void without_an_engine(void) {
     REFUSED(scm_name(&engine, 1, places.bytes, sizeof places.bytes), SCM_ENOENGINE);
     REFUSED(scm_graph(&engine, places.bytes, sizeof places.bytes), SCM_ENOENGINE);
     REFUSED(scm_check(&engine, &places.checked), SCM_ENOENGINE);
+    REFUSED(scm_tell_released(&engine), SCM_ENOENGINE);
+    REFUSED(scm_tell_changed(&engine), SCM_ENOENGINE);
+    REFUSED(scm_released(&engine, places.inos, 4), SCM_ENOENGINE);
+    REFUSED(scm_released(&engine, places.inos, 0), SCM_ENOENGINE);
+    REFUSED(scm_changed(&engine, places.inos, 4), SCM_ENOENGINE);
+    REFUSED(scm_changed(&engine, places.inos, 0), SCM_ENOENGINE);
+    REFUSED(scm_clear_told(&engine), SCM_ENOENGINE);
 }
 
 /* Under a limit of 0 what is open stays open, and no other number can be had. */
@@ -325,6 +333,94 @@ static int texts(void) {
     return 0;
 }
 
+/* A call that writes a list. */
+typedef int64_t lister(scm_engine *engine, uint64_t *inos, size_t ninos);
+
+/* Returns whether the list has these two numbers, in either order. The call writes nothing without
+ * room, the first number with room for one, and both with room for four. It answers 2 each time. */
+static bool has_two(lister *list, uint64_t a, uint64_t b) {
+    uint64_t inos[4] = {91, 92, 93, 94};
+    if (list(&engine, inos, 0) != 2 || inos[0] != 91)
+        return false;
+    if (list(&engine, inos, 1) != 2 || inos[1] != 92)
+        return false;
+    uint64_t first = inos[0];
+    return list(&engine, inos, 4) == 2 && inos[0] == first && inos[2] == 93 && inos[3] == 94
+        && ((inos[0] == a && inos[1] == b) || (inos[0] == b && inos[1] == a));
+}
+
+/* Returns whether the list is empty. The call answers 0 then, and writes nothing. */
+static bool is_empty(lister *list) {
+    uint64_t inos[2] = {91, 92};
+    return list(&engine, inos, 2) == 0 && inos[0] == 91 && inos[1] == 92;
+}
+
+/* Both lists are empty before a program asks for them. Then they have each freed file and each
+ * socket whose readiness may have changed, until they are emptied. A refused call adds nothing. */
+static int told(void) {
+    struct scm_pair pair;
+    uint64_t first, second;
+    MUST(scm_engine_new(&engine) == 0 && scm_spawn(&engine, 7, 8, false) == 1);
+    MUST(scm_pair(&engine, 1, SCM_SEQPACKET, &pair) == 0);
+    MUST(scm_open(&engine, 1) == 2 && scm_open(&engine, 1) == 3);
+    MUST(scm_ino(&engine, 1, pair.first, &first) == 0);
+    MUST(scm_ino(&engine, 1, pair.second, &second) == 0);
+    MUST(scm_clear_told(&engine) == 0 && scm_close(&engine, 1, 3) == 0);
+    MUST(is_empty(scm_released) && is_empty(scm_changed));
+
+    MUST(scm_tell_released(&engine) == 0);
+    MUST(scm_send(&engine, 1, pair.first, text("a"), 1, many, 0) == 1);
+    MUST(scm_open(&engine, 1) == 3 && is_empty(scm_released) && is_empty(scm_changed));
+    uint64_t plain[2];
+    MUST(scm_ino(&engine, 1, 2, &plain[0]) == 0 && scm_ino(&engine, 1, 3, &plain[1]) == 0);
+    MUST(scm_close(&engine, 1, 2) == 0 && scm_close(&engine, 1, 3) == 0);
+    REFUSED(scm_close(&engine, 1, 3), SCM_EBADF);
+    MUST(has_two(scm_released, plain[0], plain[1]) && is_empty(scm_changed));
+
+    MUST(scm_tell_changed(&engine) == 0 && is_empty(scm_released) && is_empty(scm_changed));
+    REFUSED(receive(1, pair.first, 8), SCM_EAGAIN);
+    MUST(scm_open(&engine, 1) == 2 && is_empty(scm_changed));
+    MUST(scm_send(&engine, 1, pair.first, text("a"), 1, many, 0) == 1);
+    MUST(scm_send(&engine, 1, pair.second, text("b"), 1, many, 0) == 1);
+    MUST(scm_send(&engine, 1, pair.second, text("c"), 1, many, 0) == 1);
+    MUST(has_two(scm_changed, first, second) && is_empty(scm_released));
+
+    MUST(scm_clear_told(&engine) == 0 && is_empty(scm_released) && is_empty(scm_changed));
+    MUST(scm_exit(&engine, 1) == 0 && is_empty(scm_changed));
+    MUST(scm_released(&engine, plain, 2) == 3);
+    MUST(scm_clear_told(&engine) == 0 && is_empty(scm_released));
+    return 0;
+}
+
+/* A slice that empties a garbage socket, which another one still holds, changes its readiness. The
+ * first socket's queue holds that socket; the second one's queue holds both. */
+static int emptied(void) {
+    struct scm_pair first, second;
+    struct scm_finished finished;
+    struct scm_file file;
+    uint64_t ino, changed[4];
+    bool was_emptied = false;
+    MUST(scm_engine_new(&engine) == 0 && scm_spawn(&engine, 7, 8, false) == 1);
+    MUST(scm_pair(&engine, 1, SCM_SEQPACKET, &first) == 0);
+    MUST(scm_pair(&engine, 1, SCM_SEQPACKET, &second) == 0);
+    MUST(scm_ino(&engine, 1, first.first, &ino) == 0);
+    const uint32_t both[2] = {first.first, second.first};
+    MUST(scm_send(&engine, 1, first.second, text("a"), 1, both, 1) == 1);
+    MUST(scm_send(&engine, 1, second.second, text("a"), 1, both, 2) == 1);
+    MUST(scm_close(&engine, 1, first.first) == 0 && scm_close(&engine, 1, second.first) == 0);
+
+    MUST(scm_tell_changed(&engine) == 0 && scm_begin(&engine, &finished.pass) == 0);
+    while (scm_slice(&engine, 1, &finished) == 1) {
+        MUST(scm_file(&engine, ino, &file) == 0);
+        if (file.kind != SCM_NO_FILE && file.messages == 0) {
+            was_emptied = true;
+            MUST(scm_changed(&engine, changed, 4) == 1 && changed[0] == ino);
+        }
+    }
+    MUST(was_emptied && finished.reclaimed == 2);
+    return 0;
+}
+
 /* A peek and a receive into less room than the message needs write no more than there is room for. The
  * peek leaves the message whole; what does not fit into the receive is gone. */
 static int cut(void) {
@@ -377,7 +473,7 @@ int main(void) {
     MUST(scm_engine_new(&engine) == 0);
     MUST(scm_engine_new(&engine) == 0);
     MUST(scm_next_pid(&engine) == 1);
-    if (polled() != 0)
+    if (polled() != 0 || told() != 0 || emptied() != 0)
         return 1;
     scm_engine_free(&engine);
     return failures == 0 ? 0 : 1;

@@ -85,9 +85,16 @@ static void life(void) {
     struct scm_ready ready;
     uint8_t bytes[8];
     uint32_t fds[8];
-    uint64_t ino;
+    uint64_t ino, inos[16];
 
     DONE(scm_spawn(&engine, 7, 64, false), 1);
+    DONE(scm_open(&engine, 1), 0);
+    DONE(scm_tell_released(&engine), 0);
+    DONE(scm_tell_changed(&engine), 0);
+    FREE(scm_close(&engine, 1, 0), 0);
+    FREE(scm_released(&engine, inos, 16) == 1 && inos[0] == 1, true);
+    FREE(scm_changed(&engine, inos, 16), 0);
+    FREE(scm_clear_told(&engine), 0);
     DONE(scm_pair(&engine, 1, SCM_STREAM, &pair), 0);
     DONE(scm_open(&engine, 1), 2);
     DONE(scm_dup(&engine, 1, 2), 3);
@@ -126,6 +133,10 @@ static void life(void) {
     FREE(scm_pass(&engine, &finished), 0);
     FREE(scm_live(&engine, &checked.live), 0);
     FREE(checked.live == 0, true);
+    FREE(scm_released(&engine, inos, 16), 6);
+    FREE(scm_changed(&engine, inos, 16), 0);
+    FREE(scm_clear_told(&engine), 0);
+    FREE(scm_released(&engine, inos, 16), 0);
 }
 
 int main(void) {

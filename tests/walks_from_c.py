@@ -1,22 +1,28 @@
 #!/usr/bin/env python3
 """walks_from_c.py LIBRARY.so: plays the walks of tools/walks through the calls of the C library.
 
-Beside it runs the plain engine in Python (tools/plain_engine.py). Each answer is compared, and after each event, of each
-process: which descriptors are open, which file each refers to, and what it is ready for; and the name of each socket.
-Some 100,000 seeded events are played, begins and slices of passes among them.
+Beside it runs the plain engine in Python (tools/plain_engine.py). Each answer is compared, and after each event, of
+each process: which descriptors are open, which file each refers to, and what it is ready for; and the name of each
+socket. Some 100,000 seeded events are played, begins and slices of passes among them.
 
-It prints the first differences. The status is 0 where there is none, and else 1. The library is built from
-out/libscmgc.a, as tests/embedding.sh does.
+After every other event, drawn by the seed, the two lists are compared. `scm_released` has each file that the plain
+engine freed since the lists were emptied last, once, and no other. A socket that was live then and is live now, is not
+in `scm_changed`, and whose peer is not, is ready for what it was then. The lists are emptied at random moments.
+
+It prints the first differences. The status is 0 where there is none and both lists had something, and else 1. The
+library is built from out/libscmgc.a, as tests/embedding.sh does.
 """
 import ctypes
 import os
+import random
 import re
 import sys
 from concurrent.futures import ProcessPoolExecutor
+from functools import reduce
 from importlib.machinery import SourceFileLoader
 from importlib.util import module_from_spec, spec_from_loader
 from itertools import islice
-from typing import Dict, Iterator, List, Tuple
+from typing import Dict, Iterator, List, NamedTuple, Set, Tuple
 
 sys.dont_write_bytecode = True
 ROOT = os.path.dirname(os.path.dirname(os.path.realpath(__file__)))
@@ -36,6 +42,12 @@ STARTS = {"spawn", "fork"}
 # How many walks of each mix, and how many differences are shown.
 WALKS = {"lively": 14, "cramped": 14, "curious": 14, "slices": 160}
 MOST = 5
+# Within how many events the lists are asked for; of how many events one is followed by a look at the lists, and of how
+# many looks one by a call that empties them.
+ASKED_WITHIN, LOOK_EVERY, EMPTY_EVERY = 20, 2, 6
+# The calls that empty both lists, and what is in the places of a list that no call may write.
+EMPTIES = ["clear_told", "clear_told", "tell_released", "tell_changed"]
+UNWRITTEN = 2**64 - 1
 
 
 class Pair(ctypes.Structure):
@@ -184,6 +196,22 @@ class Library:
         length = self.call("name", ctypes.c_uint64(ino), name, ctypes.c_size_t(128))
         return name.raw[:length].decode()
 
+    def told(self, name: str) -> List[int]:
+        """The list `released` or `changed`. It is asked for with no room, with too little, and with more than it needs;
+        the answer is the same, and no number is written beyond the room."""
+        count, nothing = self.list_within(name, 0, 1)
+        half, few = self.list_within(name, count // 2, count + 1)
+        most, whole = self.list_within(name, count + 1, count + 1)
+        cut = [*whole[: count // 2], *[UNWRITTEN] * (count + 1 - count // 2)]
+        if not count == half == most or nothing != [UNWRITTEN] or few != cut or whole[count] != UNWRITTEN:
+            raise Difference(f"scm_{name} answers {count}, {half}, {most}, and writes {nothing}, {few}, {whole}")
+        return whole[:count]
+
+    def list_within(self, name: str, room: int, places: int) -> Tuple[int, List[int]]:
+        """What a call that fills an array answers where it has this room in so many places, and what stands there."""
+        inos = (ctypes.c_uint64 * places)(*[UNWRITTEN] * places)
+        return self.call(name, inos, ctypes.c_size_t(room)), list(inos)
+
     def rows(self) -> List[str]:
         """What waits at each live file, as rows of a table: their sixth and seventh word."""
         found, ino, file = [], ctypes.c_uint64(), File()
@@ -217,6 +245,76 @@ def compare_views(library: Library, engine):
                 raise Difference(f"descriptor {fd} of {pid}: another file or name than {ino} {files[ino].name}")
 
 
+class Looks(NamedTuple):
+    """How often the lists were looked at, how many files and sockets they had, and how many sockets they did not have,
+    of which each was compared with what it was ready for."""
+
+    looks: int = 0
+    released: int = 0
+    changed: int = 0
+    compared: int = 0
+
+    def with_more(self, other: "Looks") -> "Looks":
+        return Looks(*map(sum, zip(self, other)))
+
+
+class Told:
+    """What the library tells of freed files and of readiness, beside what the plain engine had when the lists were
+    emptied last. `compare_views` comes before: what scm_poll says of each descriptor is what the plain engine says."""
+
+    def __init__(self, library: Library, seed: str):
+        self.library, self.draw = library, random.Random(seed)
+        self.left = self.draw.randrange(ASKED_WITHIN)
+        self.is_told, self.looks = False, Looks()
+        self.live: Set[int] = set()
+        self.next_ino = 1
+        # What each socket was ready for.
+        self.ready: Dict[int, Tuple[bool, bool, bool]] = {}
+
+    def empty(self, engine, *calls: str):
+        """Empties the lists by these calls."""
+        for name in calls:
+            if self.library.call(name) != 0:
+                raise Difference(f"scm_{name} does not answer 0")
+        if self.library.told("released") or self.library.told("changed"):
+            raise Difference(f"a list is not empty after {calls[-1]}")
+        self.live, self.next_ino = {it.ino for it in engine.files}, engine.next_ino
+        self.ready = {it.ino: engine.ready(it) for it in engine.files if it.kind != "plain"}
+
+    def after_event(self, engine):
+        """Looks at the lists after some events, and empties them after some looks."""
+        if not self.is_told:
+            if self.library.told("released") or self.library.told("changed"):
+                raise Difference("something is told, and nobody asked")
+            self.left -= 1
+            if self.left < 0:
+                self.is_told = True
+                self.empty(engine, *self.draw.sample(["tell_released", "tell_changed"], 2))
+        elif self.draw.randrange(LOOK_EVERY) == 0:
+            self.look(engine)
+            if self.draw.randrange(EMPTY_EVERY) == 0:
+                self.empty(engine, self.draw.choice(EMPTIES))
+
+    def look(self, engine):
+        """Compares both lists with what the plain engine has now and had then."""
+        files = {it.ino: it for it in engine.files}
+        gone = sorted(self.live.union(range(self.next_ino, engine.next_ino)).difference(files))
+        released, changed = self.library.told("released"), self.library.told("changed")
+        if sorted(released) != gone:
+            raise Difference(f"freed files: {sorted(released)}, and not {gone}")
+        sockets, told = {it for it in files if files[it].kind != "plain"}, set(changed)
+        if len(told) < len(changed) or not told <= sockets:
+            raise Difference(f"the sockets {sorted(sockets)} are live, and told of is {changed}")
+        compared = [it for it in sockets - told if it in self.ready and files[it].peer not in told]
+        for ino in compared:
+            now = engine.ready(files[ino])
+            if now != self.ready[ino]:
+                raise Difference(f"socket {ino} is ready for {now} after {self.ready[ino]}, and is not told: {changed}")
+        if sockets - told - set(self.ready):
+            raise Difference(f"new sockets of {sorted(sockets)} are not told: {changed}")
+        self.looks = self.looks.with_more(Looks(1, len(released), len(changed), len(compared)))
+
+
 def events_of(name: str, seed: str) -> Iterator[Event]:
     """The events of a walk. Those of a mix without slices are drawn by the plain engine's replies."""
     mix = walks.MIXES[name]
@@ -230,10 +328,11 @@ def events_of(name: str, seed: str) -> Iterator[Event]:
         source.note(event, engine.step(event))
 
 
-def played(task: Tuple[str, str, int]) -> Tuple[int, str]:
-    """Plays a walk: how many events it has, and the first difference."""
+def played(task: Tuple[str, str, int]) -> Tuple[int, str, Looks]:
+    """Plays a walk: how many events it has, the first difference, and the looks at the lists."""
     path, name, number = task
     library, plain, count = Library(path), walks.Sliced(), 0
+    lists = Told(library, f"{name} told {number}")
     for event in events_of(name, f"{name} from C {number}"):
         count += 1
         told = library.step(event)
@@ -242,10 +341,11 @@ def played(task: Tuple[str, str, int]) -> Tuple[int, str]:
             if told != wanted:
                 raise Difference(f"{told[:80]!r}, and not {wanted[:80]!r}")
             compare_views(library, plain.engine)
+            lists.after_event(plain.engine)
         except Difference as it:
-            return count, f"{name}, seed {number}, event {count}: {event.line()[:80]}: {it}"
+            return count, f"{name}, seed {number}, event {count}: {event.line()[:80]}: {it}", lists.looks
     library.free()
-    return count, ""
+    return count, "", lists.looks
 
 
 def main() -> int:
@@ -255,10 +355,13 @@ def main() -> int:
     tasks = [(os.path.realpath(sys.argv[1]), name, it) for name, count in WALKS.items() for it in range(1, count + 1)]
     with ProcessPoolExecutor(len(os.sched_getaffinity(0))) as pool:
         outcomes = list(pool.map(played, tasks))
-    faults = [it for _, it in outcomes if it]
+    faults = [it for _, it, _ in outcomes if it]
+    looks = reduce(Looks.with_more, (it for _, _, it in outcomes))
     print(*faults[:MOST], sep="\n", end="\n" if faults else "")
-    print(f"walks from C: {sum(count for count, _ in outcomes):,} events, {len(faults)} walks differ")
-    return 1 if faults else 0
+    print(f"walks from C: {sum(count for count, _, _ in outcomes):,} events, {len(faults)} walks differ")
+    print(f"    {looks.looks:,} looks at the lists: {looks.released:,} freed files, {looks.changed:,} changed sockets,")
+    print(f"    {looks.compared:,} comparisons of a socket that is not listed")
+    return 1 if faults or 0 in looks else 0
 
 
 if __name__ == "__main__":

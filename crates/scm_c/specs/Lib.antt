@@ -4,3 +4,4 @@ pub mod Calls
 pub mod Written
 pub mod Tables
 pub mod Texts
+pub mod Told

@@ -16,4 +16,5 @@ mod processes;
 mod sockets;
 mod tables;
 mod texts;
+mod told;
 mod views;

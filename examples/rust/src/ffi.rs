@@ -67,6 +67,9 @@ pub type Receive = unsafe extern "C" fn(
     *mut Received,
 ) -> i64;
 
+/// The type of `scm_released` and of `scm_changed`.
+pub type List = unsafe extern "C" fn(*mut Handle, *mut u64, usize) -> i64;
+
 extern "C" {
     pub fn scm_engine_new(engine: *mut Handle) -> i64;
     pub fn scm_engine_free(engine: *mut Handle);
@@ -130,4 +133,9 @@ extern "C" {
     pub fn scm_name(engine: *mut Handle, ino: u64, name: *mut u8, len: usize) -> i64;
     pub fn scm_graph(engine: *mut Handle, text: *mut u8, len: usize) -> i64;
     pub fn scm_check(engine: *mut Handle, out: *mut Checked) -> i64;
+    pub fn scm_tell_released(engine: *mut Handle) -> i64;
+    pub fn scm_tell_changed(engine: *mut Handle) -> i64;
+    pub fn scm_released(engine: *mut Handle, inos: *mut u64, ninos: usize) -> i64;
+    pub fn scm_changed(engine: *mut Handle, inos: *mut u64, ninos: usize) -> i64;
+    pub fn scm_clear_told(engine: *mut Handle) -> i64;
 }

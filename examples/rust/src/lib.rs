@@ -18,7 +18,7 @@ pub struct Pid(pub u32);
 pub struct Fd(pub u32);
 
 /// The inode number of a file.
-#[derive(Clone, Copy, Debug, PartialEq, Eq)]
+#[derive(Clone, Copy, Debug, PartialEq, Eq, Hash)]
 pub struct Ino(pub u64);
 
 /// The type of a socket.
@@ -316,6 +316,33 @@ impl Engine {
         Ok(text)
     }
 
+    /// Asks for the list of freed files, `released`, and empties both lists.
+    pub fn tell_released(&mut self) -> Result<(), Errno> {
+        Errno::checked(unsafe { ffi::scm_tell_released(&mut self.handle) }).map(drop)
+    }
+
+    /// Asks for the list of sockets whose readiness may have changed, `changed`, and empties both
+    /// lists.
+    pub fn tell_changed(&mut self) -> Result<(), Errno> {
+        Errno::checked(unsafe { ffi::scm_tell_changed(&mut self.handle) }).map(drop)
+    }
+
+    /// Returns the files that were freed since the lists were emptied last, each once.
+    pub fn released(&mut self) -> Vec<Ino> {
+        self.list(ffi::scm_released)
+    }
+
+    /// Returns the live sockets whose readiness may have changed since the lists were emptied last,
+    /// each once. For a socket that is not listed, and whose peer is not, `poll` answers as then.
+    pub fn changed(&mut self) -> Vec<Ino> {
+        self.list(ffi::scm_changed)
+    }
+
+    /// Empties both lists.
+    pub fn clear_told(&mut self) {
+        unsafe { ffi::scm_clear_told(&mut self.handle) };
+    }
+
     /// The pid that the next process gets.
     pub fn next_pid(&mut self) -> Pid {
         Errno::checked(unsafe { ffi::scm_next_pid(&mut self.handle) }).map_or(Pid(0), pid)
@@ -385,6 +412,16 @@ impl Engine {
             trunc: out.trunc,
             ctrunc: out.ctrunc,
         }))
+    }
+
+    /// Returns the list that this call writes.
+    fn list(&mut self, call: ffi::List) -> Vec<Ino> {
+        let mut fill =
+            |inos: &mut [u64]| unsafe { call(&mut self.handle, inos.as_mut_ptr(), inos.len()) };
+        let count = Errno::checked(fill(&mut [])).map_or(0, |count| count as usize);
+        let mut inos = vec![0; count];
+        fill(&mut inos);
+        inos.into_iter().map(Ino).collect()
     }
 
     /// A number that a view writes. An `Engine` always has an engine, so no view is refused.

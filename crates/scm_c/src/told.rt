@@ -1,0 +1,124 @@
+//! The lists of the files that were freed, and of the sockets whose readiness may have changed.
+ghost use Rattle.std.specs.Prelude.{◌≡◌};
+ghost use Rattle.scm_c.specs.Calls.{Asks};
+ghost use Rattle.scm_c.specs.Told.{Alters, MayAlter, IsChangedWritten, IsReleasedWritten, cleared, tells_changed, tells_released};
+ghost use Rattle.scm_c.specs.Written.{over};
+
+use crate::answers::{NO_ENGINE, refusal};
+use crate::handle::Handle;
+use af_base::errno::Errno;
+use af_base::names::{FileRef, Ino};
+use std::alloc::Global;
+
+/// Asks for the list of freed files, which scm_released writes, and empties both lists. A call that
+/// makes a file reserves room in the list from now on, so a call that frees files needs no memory.
+/// Answers 0.
+///
+/// Errors: SCM_ENOMEM.
+#[unsafe(no_mangle)]
+pub extern "C" fn scm_tell_released(alloc: Global, engine: &mut Handle) -> i64
+    ensures { MayAlter engine.old.shown tells_released result engine.new.shown }
+{
+    let Some(mut inside) = engine.take(alloc) else {
+        return NO_ENGINE;
+    };
+    let told = inside.tell_released();
+    *engine = Handle::of(inside);
+    match told {
+        Ok(()) => 0,
+        Err(_) => refusal(Errno::ENOMEM),
+    }
+}
+
+/// Asks for the list of sockets whose readiness may have changed (poll(2)), which scm_changed
+/// writes, and empties both lists. A call that makes a file reserves room in the list from now on,
+/// so no other call needs memory for it. Answers 0.
+///
+/// Errors: SCM_ENOMEM.
+#[unsafe(no_mangle)]
+pub extern "C" fn scm_tell_changed(alloc: Global, engine: &mut Handle) -> i64
+    ensures { MayAlter engine.old.shown tells_changed result engine.new.shown }
+{
+    let Some(mut inside) = engine.take(alloc) else {
+        return NO_ENGINE;
+    };
+    let told = inside.tell_changed();
+    *engine = Handle::of(inside);
+    match told {
+        Ok(()) => 0,
+        Err(_) => refusal(Errno::ENOMEM),
+    }
+}
+
+/// Writes the inode numbers of the files that were freed since the lists were emptied last, each
+/// once, as many as there is room for. Answers the length of the list, which is 0 before
+/// scm_tell_released. It needs no memory.
+#[unsafe(no_mangle)]
+pub extern "C" fn scm_released(alloc: Global, engine: &mut Handle, inos: &mut [u64]) -> i64
+    ensures same { engine.new.shown ≡ engine.old.shown }
+    ensures value { Asks engine.old.shown (λ m r y. IsReleasedWritten m.world m.since inos.old r y) inos.old result inos.new }
+{
+    let Some(inside) = engine.take(alloc) else {
+        return NO_ENGINE;
+    };
+    let told = inside.released();
+    write_inos(told, inos);
+    let count = told.len() as i64;
+    *engine = Handle::of(inside);
+    count
+}
+
+/// Writes the inode numbers of the live sockets whose readiness may have changed since the lists
+/// were emptied last, each once, as many as there is room for. Answers the length of the list, which
+/// is 0 before scm_tell_changed. It needs no memory.
+///
+/// For a socket that is not in the list, and whose peer is not, scm_poll writes what it did then.
+#[unsafe(no_mangle)]
+pub extern "C" fn scm_changed(alloc: Global, engine: &mut Handle, inos: &mut [u64]) -> i64
+    ensures same { engine.new.shown ≡ engine.old.shown }
+    ensures value { Asks engine.old.shown (λ m r y. IsChangedWritten m.world m.since inos.old r y) inos.old result inos.new }
+{
+    let Some(inside) = engine.take(alloc) else {
+        return NO_ENGINE;
+    };
+    let told = inside.changed();
+    write_files(told, inos);
+    let count = told.len() as i64;
+    *engine = Handle::of(inside);
+    count
+}
+
+/// Empties both lists. It needs no memory. Answers 0.
+#[unsafe(no_mangle)]
+pub extern "C" fn scm_clear_told(alloc: Global, engine: &mut Handle) -> i64
+    ensures { Alters engine.old.shown cleared result engine.new.shown }
+{
+    let Some(mut inside) = engine.take(alloc) else {
+        return NO_ENGINE;
+    };
+    inside.clear_told();
+    *engine = Handle::of(inside);
+    0
+}
+
+/// Writes these inode numbers over the beginning of the place, as many as fit.
+fn write_inos(from: &[Ino], to: &mut [u64])
+    ensures { to.new ≡ over from.now to.old }
+{
+    let count = from.len().min(to.len());
+    for i in 0..count {
+        let ino = &from[i];
+        to[i] = ino.0;
+    }
+}
+
+/// Writes the inode numbers of these files over the beginning of the place, as many as fit.
+fn write_files(from: &[FileRef], to: &mut [u64])
+    ensures { to.new ≡ over from.now to.old }
+{
+    let count = from.len().min(to.len());
+    for i in 0..count {
+        let file = &from[i];
+        to[i] = file.ino().0;
+    }
+}
