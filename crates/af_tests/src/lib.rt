@@ -10,6 +10,8 @@ mod marks;
 #[cfg(test)]
 mod order;
 #[cfg(test)]
+mod owned;
+#[cfg(test)]
 mod plain;
 #[cfg(test)]
 mod steps;

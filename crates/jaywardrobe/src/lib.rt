@@ -30,6 +30,7 @@ pub use af_base::limits;
 pub use af_base::listing::{
     ListedFile, ListedMessage, ListedNumber, ListedSocket, ListedTable, Listing,
 };
-pub use af_base::names::{Fd, Ino, Pid, Uid};
+pub use af_base::names::{Fd, FileRef, Ino, Pid, Uid};
 pub use af_base::ready::Ready;
+pub use af_owned::Owned;
 pub use af_steps::{Engine, FileInfo, Finished, Progress, Received, RunStopped};

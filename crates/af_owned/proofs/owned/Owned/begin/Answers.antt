@@ -1,0 +1,7 @@
+use Rattle.af_owned.proofs.Keeping.{owned-begin}
+use Rattle.af_owned.proofs.owned.Owned.begin.Goals as goal
+
+pub invariant_of-self : goal.invariant_of-self
+invariant_of-self g c =
+    let a = c.self.inside in
+    owned-begin a.engine c.begin.new.self a.values.values a.values.last c.self.invariant c.begin.result c.begin.ensures.done c.begin.ensures.refused

@@ -1,0 +1,10 @@
+use Rattle.std.proofs.Common.{refl}
+use Rattle.af_base.specs.declared.events.Reply.TheVariants as reply
+use Rattle.af_base.specs.declared.events.Step.TheVariants as step
+use Rattle.af_owned.proofs.Keeping.{owned-call}
+use Rattle.af_owned.proofs.owned.Owned.dup2.Goals as goal
+
+pub invariant_of-self : goal.invariant_of-self
+invariant_of-self g c =
+    let a = c.self.inside in
+    owned-call a.engine c.dup2.new.self a.values.values a.values.last c.self.invariant c.args.pid (step.Dup2 c.args.from c.args.to) refl c.dup2.result reply.Fd c.dup2.ensures.done c.dup2.ensures.refused

@@ -1,0 +1,7 @@
+use Rattle.af_owned.proofs.Keeping.{owned-pass}
+use Rattle.af_owned.proofs.owned.Owned.pass.Goals as goal
+
+pub invariant_of-self : goal.invariant_of-self
+invariant_of-self g c =
+    let a = c.self.inside in
+    owned-pass a.engine c.pass.new.self a.values.values a.values.last c.self.invariant c.pass.result c.pass.ensures.done c.pass.ensures.refused

@@ -1,0 +1,7 @@
+use Rattle.af_owned.proofs.Keeping.{owned-slice}
+use Rattle.af_owned.proofs.owned.Owned.slice.Goals as goal
+
+pub invariant_of-self : goal.invariant_of-self
+invariant_of-self g c =
+    let a = c.self.inside in
+    owned-slice a.engine c.slice.new.self a.values.values a.values.last c.self.invariant c.args.budget c.slice.result c.slice.ensures.done c.slice.ensures.refused

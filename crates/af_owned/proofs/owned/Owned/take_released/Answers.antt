@@ -1,0 +1,18 @@
+use Rattle.std.proofs.Common.{◌≡◌, ◌∙◌, ap, false, subst, sym}
+use Rattle.std.specs.FinMap as map
+use Rattle.af_base.specs.World.{is_live}
+use Rattle.af_order.specs.Numbers.{Numbered}
+use Rattle.af_owned.specs.Owning.{AreOwned, Owning}
+use Rattle.af_owned.proofs.Keeping.{owned-taken}
+use Rattle.af_owned.proofs.owned.Owned.take_released.Goals as goal
+
+-- The value of a freed file is handed back.
+pub invariant_of-self-2 : goal.invariant_of-self-2
+invariant_of-self-2 g c =
+    let a = c.self.inside in
+    let k = c.in-Some.file in
+    let n = c.remove.new.self in
+    let at : n.values ≡ map.remove a.values.values k = ap (λ (s : Numbered g.row.T.Denot). s.values) c.remove.ensures.removed in
+    let last = ap (λ (s : Numbered g.row.T.Denot). s.last) c.remove.ensures.removed in
+    let gone : is_live a.engine.world k ≡ false = ap (λ (o : Owning g.row.T.Denot). is_live o.machine.world k) c.self.view_is ∙ c.in-Some.ensures.some.1 in
+    subst (λ l. AreOwned a.engine n.values l) (sym last) (subst (λ vs. AreOwned a.engine vs a.values.last) (sym at) (owned-taken a.engine a.values.values a.values.last k c.self.invariant gone))

@@ -1,0 +1,2 @@
+-- What plain files carry.
+pub mod Owning

@@ -1,0 +1,166 @@
+//! The engine, and what its plain files carry.
+ghost use Rattle.std.specs.Prelude.{◌≡◌, ◌<◌, ◌⊎◌, ℕ, false, IfErr, IfNone, IfOk, IfSome, IsTrue, OnErr, OnOk, Some, option_copied};
+ghost use Rattle.std.specs.Option.{option_and_then};
+ghost use Rattle.std.specs.FinMap as map;
+ghost use Rattle.af_base.specs.Counts.{count_in};
+ghost use Rattle.af_base.specs.Places.{table_at};
+ghost use Rattle.af_base.specs.Run.{fresh};
+ghost use Rattle.af_base.specs.Whole.{IsSound};
+ghost use Rattle.af_base.specs.World.{IsLive, is_live};
+ghost use Rattle.af_steps.specs.Outcome.{Does, step_error};
+ghost use Rattle.af_owned.specs.Owning.{AreCarried, HandsBack};
+
+use af_base::errno::Errno;
+use af_base::events::{Reply, Step};
+use af_base::names::{Fd, FileRef, Ino, Pid};
+use af_order::Keyed;
+use af_steps::Engine;
+use std::alloc::{AllocError, Global};
+use std::marker::Model;
+
+/// An engine, and a value behind each plain file. Dropping it drops the values that were not
+/// handed back.
+#[derive(Drop)]
+pub struct Owned<T> {
+    pub(crate) engine: Engine,
+    values: Keyed<T>,
+    /// Where the search for a freed file with a value goes on. It is a hint.
+    next: usize,
+}
+
+impl<T> Model for Owned<T> {
+    ghost use Rattle.std.specs.Coded.{codes};
+    ghost use Rattle.std.specs.FinMap as map;
+    ghost use Rattle.af_owned.specs.Owning.{AreOwned, Owning};
+
+    ghost Value = { Owning T };
+
+    ghost coded = { Prim.hlevel (codes, map.code, T.code) };
+
+    ghost view = { λ a. record { machine = a.engine; values = a.values.values } };
+
+    ghost invariant = { λ a. AreOwned a.engine a.values.values a.values.last };
+}
+
+impl<T> Owned<T> {
+    /// Creates an engine to which nothing has happened, and that has no value.
+    pub fn new(alloc: Global) -> Result<Owned<T>, AllocError>
+        ensures world { IfOk result (λ o. o.machine.world ≡ fresh.world) }
+        ensures values { IfOk result (λ o. o.values ≡ map.empty) }
+    {
+        let mut engine = Engine::new(alloc)?;
+        engine.tell_released()?;
+        Ok(Owned {
+            engine,
+            values: Keyed::new(alloc),
+            next: 0,
+        })
+    }
+
+    /// Returns the engine, for its views.
+    #[inline(always)]
+    pub fn engine(&self) -> &Engine
+        ensures { result.now ≡ self.now.machine }
+    {
+        &self.engine
+    }
+
+    /// Does nothing at run time. It says that the world is sound, that each live plain file
+    /// carries a value, and that no live socket does.
+    pub fn is_sound(&self)
+        ensures sound { IsSound self.now.machine.world }
+        ensures carried { AreCarried self.now.machine.world self.now.values }
+    {
+        self.engine.is_sound();
+    }
+
+    /// Opens a plain file, which carries this value (open(2)). Returns its descriptor, the lowest
+    /// free one of the process. A refusal hands the value back, and changes nothing. Refused, in
+    /// this order: ESRCH, EMFILE, ENFILE, ENOMEM. ENOMEM comes first where room for the value is
+    /// refused.
+    pub fn open(&mut self, pid: Pid, value: T) -> Result<Fd, (Errno, T)>
+        ensures done { IfOk result (λ fd. Does self.old.machine pid Step.Open (Reply.Fd fd) self.new.machine) }
+        ensures carries { OnOk result (self.new.values ≡ map.insert self.old.values self.old.machine.world.next_ino value) }
+        ensures fresh { OnOk result (map.contains_key self.old.values self.old.machine.world.next_ino ≡ false) }
+        ensures refused { IfErr result (λ e. (e.0 ≡ Errno.ENOMEM) ⊎ (step_error self.old.machine.world pid Step.Open ≡ Some e.0)) }
+        ensures back { IfErr result (λ e. e.1 ≡ value) }
+        ensures err { OnErr result (self.new ≡ self.old) }
+    {
+        if self.values.reserve(1).is_err() {
+            return Err((Errno::ENOMEM, value));
+        }
+        let ino = self.engine.next_ino();
+        let fd = match self.engine.open(pid) {
+            Ok(fd) => fd,
+            Err(error) => return Err((error, value)),
+        };
+        self.values.push(ino, value);
+        Ok(fd)
+    }
+
+    /// Returns what the file carries that a descriptor refers to; nothing where the descriptor is
+    /// not open or refers to a socket, or there is no such process. No search.
+    pub fn get(&self, pid: Pid, fd: Fd) -> Option<&T>
+        ensures { option_copied result ≡ option_and_then (map.get self.now.values) (table_at self.now.machine.world pid fd) }
+    {
+        let file = self.engine.file_on(pid, fd)?;
+        self.values.get(&file)
+    }
+
+    /// Hands back the value of a file that was freed; nothing where each was handed back. It
+    /// needs no memory. Call it after an event until it returns nothing: then the list of freed
+    /// files is empty too. The values come in no order that is promised.
+    pub fn take_released(&mut self) -> Option<T>
+        ensures some { IfSome result (λ value. HandsBack self.old value self.new) }
+        ensures none { IfNone result ((f : ℕ) → IsTrue (map.contains_key self.new.values f) → IsLive self.new.machine.world f) }
+        ensures values { IfNone result (self.new.values ≡ self.old.values) }
+        ensures rest { self.new.machine ≡ record self.old.machine { since = self.new.machine.since } }
+    {
+        let Some((at, file)) = self.next_released() else {
+            self.engine.clear_told();
+            self.next = 0;
+            return None;
+        };
+        self.next = at;
+        self.values.remove(&file)
+    }
+
+    /// Returns a freed file that carries a value, and where it stands in the list of freed files.
+    fn next_released(&self) -> Option<(usize, FileRef)>
+        ensures some { IfSome result (λ found. IsTrue (map.contains_key self.now.values found.1) × (is_live self.now.machine.world found.1 ≡ false)) }
+        ensures none { IfNone result ((f : ℕ) → IsTrue (map.contains_key self.now.values f) → IsLive self.now.machine.world f) }
+    {
+        first_from(&self.values, self.engine.released(), self.next)
+    }
+}
+
+/// Returns a file among these that carries a value, and where it stands: the first from that
+/// place on, or else the first of all.
+fn first_from<T>(values: &Keyed<T>, files: &[Ino], place: usize) -> Option<(usize, FileRef)>
+    ensures some { IfSome result (λ found. IsTrue (map.contains_key values.now.values found.1)) }
+    ensures listed { IfSome result (λ found. 0 < count_in found.1 files.now) }
+    ensures none { IfNone result ((f : ℕ) → IsTrue (map.contains_key values.now.values f) → count_in f files.now ≡ 0) }
+{
+    let from = place.min(files.len());
+    let (before, after) = files.split_at(from);
+    if let Some((at, file)) = first_with(values, after) {
+        return Some((from.saturating_add(at), file));
+    }
+    first_with(values, before)
+}
+
+/// Returns the first of these files that carries a value, and where it stands.
+fn first_with<T>(values: &Keyed<T>, files: &[Ino]) -> Option<(usize, FileRef)>
+    ensures some { IfSome result (λ found. IsTrue (map.contains_key values.now.values found.1)) }
+    ensures listed { IfSome result (λ found. 0 < count_in found.1 files.now) }
+    ensures none { IfNone result ((f : ℕ) → IsTrue (map.contains_key values.now.values f) → count_in f files.now ≡ 0) }
+{
+    let mut at = 0usize;
+    for ino in files {
+        if let Some(file) = values.find(*ino) {
+            return Some((at, file));
+        }
+        at = at.saturating_add(1);
+    }
+    None
+}

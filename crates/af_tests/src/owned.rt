@@ -1,0 +1,90 @@
+//! What plain files carry, behind each event: which value is handed back, and when.
+use af_base::errno::Errno;
+use af_base::events::SockType;
+use af_base::names::{Fd, Pid, Uid};
+use af_owned::Owned;
+use af_steps::Progress;
+use std::process::Abort;
+use std::test::Fail;
+
+/// Takes all values that are to be handed back: how many, and their sum.
+fn taken(owned: &mut Owned<u64>) -> (u64, u64) {
+    let mut count = 0u64;
+    let mut sum = 0u64;
+    for _ in 0..100_000 {
+        let Some(value) = owned.take_released() else {
+            break;
+        };
+        count = count.saturating_add(1);
+        sum = sum.saturating_add(value);
+    }
+    (count, sum)
+}
+
+/// Opens a file that carries the value.
+fn opened(owned: &mut Owned<u64>, pid: Pid, value: u64) -> Result<Fd, Errno> {
+    owned.open(pid, value).map_err(|refused| refused.0)
+}
+
+/// Files go through a socket, into a cycle, and with their process.
+fn play(rt: &impl Abort, owned: &mut Owned<u64>) -> Result<(), Errno> {
+    let pid = owned.spawn(Uid(1_000), 64, false)?;
+    let file = opened(owned, pid, 100)?;
+    assert!(rt; owned.get(pid, file) == Some(&100));
+    assert!(rt; owned.get(pid, Fd(9)).is_none());
+    let (here, there) = owned.pair(pid, SockType::Seqpacket)?;
+    assert!(rt; owned.get(pid, here).is_none(), "a socket carries nothing");
+    let other = owned.dup(pid, file)?;
+    owned.close(pid, other)?;
+    assert!(rt; taken(owned) == (0, 0), "a descriptor is left");
+    owned.send(pid, here, b"take", &[file])?;
+    owned.close(pid, file)?;
+    assert!(rt; taken(owned) == (0, 0), "it is in flight");
+    owned.close(pid, there)?;
+    assert!(rt; taken(owned) == (1, 100), "the queue was its last place");
+    assert!(rt; taken(owned) == (0, 0), "a value is handed back once");
+    owned.close(pid, here)?;
+    assert!(rt; taken(owned) == (0, 0), "a socket carries nothing");
+    // Two files in the queue of a socket that is in its own queue.
+    let (one, two) = owned.pair(pid, SockType::Stream)?;
+    let low = opened(owned, pid, 10)?;
+    let high = opened(owned, pid, 20)?;
+    owned.send(pid, one, b"x", &[two, low, high])?;
+    for fd in [one, two, low, high] {
+        owned.close(pid, fd)?;
+    }
+    assert!(rt; taken(owned) == (0, 0), "only the collector finds it");
+    owned.begin()?;
+    for _ in 0..100 {
+        if let Progress::Done(finished) = owned.slice(1)? {
+            assert!(rt; finished.reclaimed == 1);
+            break;
+        }
+    }
+    assert!(rt; taken(owned) == (2, 30));
+    // A refused open hands its value back, and so does no refused event another.
+    owned.limit(pid, 0)?;
+    assert!(rt; owned.open(pid, 7) == Err((Errno::EMFILE, 7)));
+    assert!(rt; owned.close(pid, Fd(0)) == Err(Errno::EBADF));
+    assert!(rt; taken(owned) == (0, 0));
+    owned.limit(pid, 64)?;
+    for value in 0..60 {
+        opened(owned, pid, value)?;
+    }
+    let child = owned.fork(pid)?;
+    owned.exit(pid)?;
+    assert!(rt; taken(owned) == (0, 0), "the child has all files");
+    assert!(rt; owned.get(child, Fd(3)) == Some(&3));
+    owned.dup2(child, Fd(3), Fd(4))?;
+    assert!(rt; taken(owned) == (1, 4));
+    owned.exit(child)?;
+    assert!(rt; taken(owned) == (59, 1_766));
+    Ok(())
+}
+
+#[test]
+fn values_come_back_once(rt: HostRuntime) -> Result<(), Fail> {
+    let mut owned = Owned::new(rt.alloc())?;
+    assert!(rt; play(&rt, &mut owned) == Ok(()));
+    Ok(())
+}
