@@ -3,22 +3,31 @@
 //! other. For a user-space kernel, a sandbox that brokers descriptors, or a test bed.
 //!
 //! ```text
-//! /// A process hands a file of its own to its child: the number that it has there.
-//! fn hand_down(engine: &mut Engine, parent: Pid) -> Result<Received, Errno> {
-//!     let (here, there) = engine.pair(parent, SockType::Seqpacket)?;
-//!     let child = engine.fork(parent)?;
-//!     let file = engine.open(parent)?;
-//!     engine.send(parent, here, b"take this", &[file])?;
-//!     engine.close(parent, file)?;
-//!     engine.recv(child, there, 1_024, 1)
+//! /// Loses a file in a cycle, collects it, and closes what is behind it.
+//! fn lose(files: &mut Owned<HostFile>, pid: Pid, host_file: HostFile) -> Result<(), Errno> {
+//!     let (here, there) = files.pair(pid, SockType::Seqpacket)?;
+//!     let file = files.open(pid, host_file).map_err(|(errno, _)| errno)?;
+//!     // The receiving socket is sent into its own queue, with the file.
+//!     files.send(pid, here, b"take this", &[file, there])?;
+//!     files.exit(pid)?;
+//!     files.begin()?;
+//!     while let Progress::Working = files.slice(64)? {}
+//!     while let Some(host_file) = files.take_released() {
+//!         host_file.close();
+//!     }
+//!     Ok(())
 //! }
 //! ```
 //!
+//! [`Owned`] keeps a value behind each plain file, and hands it back once the file is freed. It has
+//! the calls of [`Engine`].
+//!
 //! Each call of [`Engine`] is one event of a small plain machine, which has tables, queues and no
-//! count. It is answered as the machine says, or it is refused by the first test that fits, and then
-//! nothing has changed. Counts and totals are recounts of the machine's places, and a pass of the
-//! collector takes away exactly what no chain of queues and backlogs reached from a table when it
-//! began. All of that is proved. CALLING.md has each call in a line.
+//! count. It is answered as the machine says, or refused by the first test that fits, and then
+//! nothing has changed. Counts and totals are recounts of the machine's places. A pass of the
+//! collector frees exactly the files that no chain of queues and backlogs reached from a table when
+//! it began, and otherwise only unreferenced files. All of that is proved. CALLING.md has each call
+//! in a line.
 #![tactic(auto)]
 
 pub mod report;
