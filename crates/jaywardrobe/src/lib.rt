@@ -19,8 +19,8 @@
 //! }
 //! ```
 //!
-//! [`Owned`] keeps a value behind each plain file, and hands it back once the file is freed. It has
-//! the calls of [`Engine`].
+//! [`Owned`] keeps a value behind each plain file, here a `HostFile` of the program, and hands it
+//! back once the file is freed. Like [`Engine`] it has a call for each event.
 //!
 //! Each call of [`Engine`] is one event of a small plain machine, which has tables, queues and no
 //! count. It is answered as the machine says, or refused by the first test that fits, and then
