@@ -2,12 +2,13 @@
 ghost use Rattle.std.specs.Prelude.{◌≡◌, ◌<◌, IfOk, IfErr, length};
 ghost use Rattle.std.specs.List.{zip};
 ghost use Rattle.af_base.specs.Run.{fresh, Run, Step};
+ghost use Rattle.af_base.specs.declared.events.Step.TheVariants.{Peek, Recv};
 ghost use Rattle.af_steps.specs.Outcome.{Answers};
 
 use af_base::errno::Errno;
 use af_base::events;
 use af_base::events::{Event, Reply};
-use af_base::names::Pid;
+use af_base::names::{Fd, Pid};
 use af_collect::Store;
 use std::alloc::{AllocError, Global};
 use std::marker::Model;
@@ -128,14 +129,30 @@ impl Engine {
                 on,
                 max_bytes,
                 max_fds,
-            } => reply_of(self.recv(pid, *on, *max_bytes, *max_fds)),
+            } => self.recv_reply(pid, *on, *max_bytes, *max_fds),
             events::Step::Peek {
                 on,
                 max_bytes,
                 max_fds,
-            } => reply_of(self.peek(pid, *on, *max_bytes, *max_fds)),
+            } => self.peek_reply(pid, *on, *max_bytes, *max_fds),
             events::Step::Limit(nofile) => reply_of(self.limit(pid, *nofile)),
         }
+    }
+
+    /// A receive. It is apart, so that no other step clears room on the stack for what it gives.
+    #[inline(always)]
+    fn recv_reply(&mut self, pid: Pid, on: Fd, max_bytes: u32, max_fds: u32) -> Reply
+        ensures { Answers self.old pid (Recv on max_bytes max_fds) result self.new }
+    {
+        reply_of(self.recv(pid, on, max_bytes, max_fds))
+    }
+
+    /// A peek, apart for the same reason.
+    #[inline(always)]
+    fn peek_reply(&mut self, pid: Pid, on: Fd, max_bytes: u32, max_fds: u32) -> Reply
+        ensures { Answers self.old pid (Peek on max_bytes max_fds) result self.new }
+    {
+        reply_of(self.peek(pid, on, max_bytes, max_fds))
     }
 
     /// The same of a step that is given away.

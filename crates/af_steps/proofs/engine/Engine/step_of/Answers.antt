@@ -1,7 +1,6 @@
 use Rattle.std.proofs.Common.{◌≡◌, ◌∙◌, sym}
 use Rattle.af_base.specs.declared.events.Reply.TheVariants as reply
 use Rattle.af_base.specs.declared.events.Step.TheVariants as step
-use Rattle.af_steps.specs.Outcome.{got_reply}
 use Rattle.af_steps.proofs.Folded.{answers_made, answers_step}
 use Rattle.af_steps.proofs.engine.Engine.step_of.Goals as goal
 
@@ -48,9 +47,3 @@ pub returns-in-Send : goal.returns-in-Send
 returns-in-Send c =
     let read : c.args.step.now ≡ step.Send c.in-Send.on c.as_slice.result.now c.as_slice-in-Send.result.now = c.in-Send.is ∙ sym (λ i. step.Send c.in-Send.on (c.as_slice.ensures i) (c.as_slice-in-Send.ensures i)) in
     answers_made _ _ _ _ _ read c.send-sent.result c.map.result reply.Sent _ c.send-sent.ensures.done c.send-sent.ensures.refused c.map.ensures.cases c.reply_of-in-Send.ensures.ok c.reply_of-in-Send.ensures.err
-
-pub returns-in-Recv : goal.returns-in-Recv
-returns-in-Recv c = answers_step _ _ _ _ _ c.in-Recv.is c.recv.result got_reply _ c.recv.ensures.done c.recv.ensures.refused c.reply_of-in-Recv.ensures.ok c.reply_of-in-Recv.ensures.err
-
-pub returns-in-Peek : goal.returns-in-Peek
-returns-in-Peek c = answers_step _ _ _ _ _ c.in-Peek.is c.peek.result got_reply _ c.peek.ensures.done c.peek.ensures.refused c.reply_of-in-Peek.ensures.ok c.reply_of-in-Peek.ensures.err
