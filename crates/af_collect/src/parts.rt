@@ -1,11 +1,12 @@
 //! The holdings, and how far a pass is: what each change of one owes to the other.
-ghost use Rattle.std.specs.Prelude.{◌≡◌, ℕ, Some, [], true, nat_eq, slice_get};
+ghost use Rattle.std.specs.Prelude.{◌≡◌, ◌<◌, ℕ, Some, [], true, nat_eq, slice_get};
 ghost use Rattle.af_base.specs.World.{IsLive};
 ghost use Rattle.af_base.specs.Counts.{refs};
 ghost use Rattle.af_base.specs.Places.{backlog_at, held_by, queue_at, table_at};
 ghost use Rattle.af_base.specs.Reached.{Garbage};
 ghost use Rattle.af_base.specs.Unheld.{Settles, without};
 ghost use Rattle.af_base.specs.Whole.{IsSound};
+ghost use Rattle.af_hold.specs.Losing.{places_at, without_place};
 ghost use Rattle.af_pass.specs.Keeping.{counted, first_held, is_counted, is_marking, is_running, shaded_all};
 ghost use Rattle.af_mark.specs.Marked.{forgotten};
 ghost use Rattle.af_collect.specs.Shown.{AreKept, MarksAll, with_marks};
@@ -57,13 +58,32 @@ impl Parts {
         ensures progress { self.new.progress ≡ record self.old.progress { reclaimed = self.new.progress.reclaimed } }
     {
         while let Some(file) = self.places.next_waiting() {
-            // What a file holds is live: that is what a whole world says of places.
-            self.places.is_whole();
-            self.shade_first(&file);
-            if !self.places.drop_place(&file) {
+            // Most files hold nothing, and one look tells.
+            if self.places.is_bare(&file) {
                 self.take_away(&file);
+            } else {
+                self.drop_place(&file);
             }
         }
+    }
+
+    /// Drops the first place of a file that nothing holds. Where marking goes on, what stood there is
+    /// marked first.
+    #[inline(always)]
+    fn drop_place(&mut self, file: &FileRef)
+        requires kept { AreKept self.old }
+        requires live { IsLive self.old.places.world file.now }
+        requires unheld { refs self.old.places.world file.now ≡ 0 }
+        requires some { 0 < places_at self.old.places.world file.now }
+        ensures kept { AreKept self.new }
+        ensures places { self.new.places ≡ record self.old.places { world = without_place self.old.places.world file.now; marks = self.new.places.marks; message_room = self.new.places.message_room } }
+        ensures begun { self.new.begun ≡ self.old.begun }
+        ensures progress { self.new.progress ≡ self.old.progress }
+    {
+        // What a file holds is live: that is what a whole world says of places.
+        self.places.is_whole();
+        self.shade_first(file);
+        self.places.drop_place(file);
     }
 
     /// Marks what a number is about to lose, where marking goes on.

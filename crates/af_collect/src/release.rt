@@ -1,5 +1,5 @@
 //! What nothing holds: it is emptied and taken away, one file and one place at a time, without memory.
-ghost use Rattle.std.specs.Prelude.{◌≡◌, ◌<◌, [], IfSome, IfNone, IsTrue, drop, false, length, nat_eq};
+ghost use Rattle.std.specs.Prelude.{◌≡◌, ◌<◌, [], IfSome, IfNone, IsTrue, drop, false, length, nat_eq, true};
 ghost use Rattle.af_base.specs.World.{IsLive, World};
 ghost use Rattle.af_base.specs.Counts.{refs};
 ghost use Rattle.af_base.specs.Changes.{dequeued, with_queue, with_socket};
@@ -65,6 +65,18 @@ impl Holdings {
             return true;
         }
         self.drop_embryo(file)
+    }
+
+    /// Returns whether a file holds nothing: no message, and no embryo.
+    #[inline(always)]
+    pub(crate) fn is_bare(&self, file: &FileRef) -> bool
+        ensures some { result ≡ false → 0 < places_at self.now.world file.now }
+        ensures none { result ≡ true → places_at self.now.world file.now ≡ 0 }
+    {
+        match self.files().socket(file) {
+            Some(socket) => socket.queue().len() == 0 && socket.embryos() == 0,
+            None => true,
+        }
     }
 
     /// All places that a file holds are dropped. It takes no memory.
