@@ -214,7 +214,11 @@ impl Process {
             let Some(fd) = self.next_free(from) else {
                 return Ok(fds);
             };
-            fds.push(fd)?;
+            // Room for all at once, but none where no number is free.
+            if fds.is_empty() {
+                fds.reserve_exact(count)?;
+            }
+            fds.push_reserved(fd);
             from = fd.0 + 1;
         }
         Ok(fds)
