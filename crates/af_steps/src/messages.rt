@@ -282,7 +282,7 @@ fn files_at(alloc: Global, process: &Process, fds: &[Fd]) -> Result<Attached, Al
         let Some(file) = process.lookup(*fd) else {
             continue;
         };
-        files.push(file)?;
+        files.push_reserved(file);
     }
     Ok(files)
 }

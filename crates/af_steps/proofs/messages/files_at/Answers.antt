@@ -24,8 +24,9 @@ loop-fd-preserved c =
     let g = map.get c.args.process.now.process.table in
     let found : g c.fd-item.result ≡ Some c.in-Some.file = search rules in
     record {
-      files = looked-more g c.args.fds.now c.loop-fd.fd-index c.fd-item.result c.loop-fd-test.true c.fd-item.is c.loop-fd.files.items c.push.new.self.items c.in-Some.file found c.loop-fd.invariant.files c.in_ok-push.ensures.ok;
-      few = (let long = ap length c.in_ok-push.ensures.ok ∙ length-append c.loop-fd.files.items _ in let before = c.loop-fd.invariant.few in omega (arith, long, before));
+      files = looked-more g c.args.fds.now c.loop-fd.fd-index c.fd-item.result c.loop-fd-test.true c.fd-item.is c.loop-fd.files.items c.push_reserved.new.self.items c.in-Some.file found c.loop-fd.invariant.files c.push_reserved.ensures.items;
+      few = (let long = ap length c.push_reserved.ensures.items ∙ length-append c.loop-fd.files.items _ in let before = c.loop-fd.invariant.few in omega (arith, long, before));
+      room = (let same = c.push_reserved.ensures.capacity in let before = c.loop-fd.invariant.room in omega (arith, same, before));
     }
 
 pub loop-fd-preserved-in_default : goal.loop-fd-preserved-in_default
@@ -35,4 +36,5 @@ loop-fd-preserved-in_default c =
     record {
       files = looked-free g c.args.fds.now c.loop-fd.fd-index c.fd-item.result c.loop-fd-test.true c.fd-item.is c.loop-fd.files.items free c.loop-fd.invariant.files;
       few = (let before = c.loop-fd.invariant.few in omega (arith, before));
+      room = c.loop-fd.invariant.room;
     }
