@@ -56,6 +56,16 @@ holds_in_rust() {
     passes "the Rust program $1 passed"
 }
 
+# Runs the tests of the wrapper for Rust.
+wrapper_passes() {
+    if ! SCMGC_LIB=$(dirname "$library") CARGO_TARGET_DIR=$room/cargo cargo test --quiet --offline \
+        --locked --manifest-path examples/rust/Cargo.toml > "$room/rust.out" 2>&1; then
+        cat "$room/rust.out" >&2
+        exit 1
+    fi
+    passes "the tests of the Rust wrapper passed"
+}
+
 # Compares the sample of a page, in this language, with a program: it has the lines, in this order.
 shows() {
     sed -n "/^\`\`\`$2\$/,/^\`\`\`\$/p" "$1" | sed '/^```/d; s/^ *//; /^$/d' > "$room/sample"
@@ -112,6 +122,7 @@ fi
 if has cargo; then
     holds_in_rust scmgc examples/sandbox.out
     holds_in_rust owned examples/owned.out
+    wrapper_passes
 else
     echo "embedding: no cargo, so the Rust programs were not built"
 fi

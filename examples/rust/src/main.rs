@@ -5,7 +5,7 @@ const ROUNDS: usize = 3;
 const CYCLES: usize = 4;
 const BUDGET: u32 = 3;
 
-fn show(when: &str, engine: &mut Engine) {
+fn show(when: &str, engine: &Engine) {
     let (live, total) = (engine.live(), engine.total());
     println!("{when:<24} live {live}, in flight {total}");
 }
@@ -89,32 +89,32 @@ fn main() -> Result<(), Errno> {
     let out = connected(&mut engine, client, b"files")?;
     let input = engine.accept(server, waits)?;
     engine.limit(client, 16)?;
-    show("connected", &mut engine);
+    show("connected", &engine);
 
     for _ in 0..ROUNDS {
         request(&mut engine, client, out, "keep this")?;
     }
-    show("three requests sent", &mut engine);
+    show("three requests sent", &engine);
     for _ in 0..ROUNDS {
         serve(&mut engine, server, input)?;
     }
-    show("three requests served", &mut engine);
+    show("three requests served", &engine);
 
     for _ in 0..CYCLES {
         leak_a_cycle(&mut engine, client)?;
     }
-    show("four cycles leaked", &mut engine);
+    show("four cycles leaked", &engine);
     let checked = engine.check()?;
     println!(
         "check: {} live, {} of them garbage",
         checked.live, checked.garbage
     );
     collect(&mut engine, (client, out), (server, input))?;
-    show("collected", &mut engine);
+    show("collected", &engine);
 
     engine.exit(client)?;
     serve(&mut engine, server, input)?;
     engine.exit(server)?;
-    show("all processes gone", &mut engine);
+    show("all processes gone", &engine);
     Ok(())
 }
