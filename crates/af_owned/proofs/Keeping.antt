@@ -15,8 +15,10 @@ use Rattle.af_base.specs.Pass.{Begins, GoesOn, Idle, Machine, Pass, PassesWhole,
 use Rattle.af_base.specs.Run.{fresh}
 use Rattle.af_base.specs.Told.{TellsReleased, was_given}
 use Rattle.af_base.specs.World.{File, IsLive, Map, Plain, Since, World, is_live}
-use Rattle.af_base.proofs.Lookups.{insert-here, insert-other, none_some, remove-here, remove-other, same_or_not, some_same}
+use Rattle.af_base.proofs.Lookups.{insert-here, insert-other, none_some, remove-here, remove-other, same_or_not, some_same, there}
 use Rattle.af_base.proofs.Purged.{slice-by}
+use Rattle.af_base.proofs.Sums.{total-remove}
+use Rattle.af_base.proofs.Totals.{total-count}
 use Rattle.af_steps.specs.Outcome.{Does, Refuses, RefusesStart, Starts, finished_reply, progress_reply}
 use Rattle.af_steps.specs.declared.passes.Finished.{Finished}
 use Rattle.af_steps.specs.declared.passes.Progress.{Progress}
@@ -188,6 +190,13 @@ owned-taken m values last k h gone = record {
     | inl same ↦ absurd (false≢true (sym (ap (map.contains_key (map.remove values k)) same ∙ ap is_some (remove-here values k)) ∙ there))
     | inr apart ↦ sym (ap is_some (remove-other values k g apart)) ∙ there
   ]
+
+-- There is one value less then.
+pub taken-fewer : {T : Type 0} (values : Map T) (k : ℕ) → IsTrue (map.contains_key values k) → map.len (map.remove values k) < map.len values
+taken-fewer values k is =
+    let at = there (map.get values k) is in
+    let less = total-remove (λ x. 1) values k at.0 at.1 in
+    omega (arith, less, total-count values, total-count (map.remove values k))
 
 -- The list is emptied, where who carries a value is live.
 pub owned-cleared : {T : Type 0} (m n : Machine) (values : Map T) (last : ℕ) → AreOwned m values last → n ≡ record m { since = record m.since { files = m.world.files; next = m.world.next_ino } }

@@ -1,13 +1,13 @@
 //! The engine, and what its plain files carry.
-ghost use Rattle.std.specs.Prelude.{◌≡◌, ◌<◌, ◌⊎◌, ℕ, false, IfErr, IfNone, IfOk, IfSome, IsTrue, OnErr, OnOk, Some, option_copied};
-ghost use Rattle.std.specs.Option.{option_and_then};
+ghost use Rattle.std.specs.Prelude.{◌≡◌, ◌<◌, ℕ, false, IfErr, IfNone, IfOk, IfSome, IsTrue, OnErr, OnOk, option_copied};
+ghost use Rattle.std.specs.Option.{OnSome, option_and_then};
 ghost use Rattle.std.specs.FinMap as map;
 ghost use Rattle.af_base.specs.Counts.{count_in};
 ghost use Rattle.af_base.specs.Places.{table_at};
 ghost use Rattle.af_base.specs.Run.{fresh};
 ghost use Rattle.af_base.specs.Whole.{IsSound};
 ghost use Rattle.af_base.specs.World.{IsLive, is_live};
-ghost use Rattle.af_steps.specs.Outcome.{Does, step_error};
+ghost use Rattle.af_steps.specs.Outcome.{Does, Refuses};
 ghost use Rattle.af_owned.specs.Owning.{AreCarried, HandsBack};
 
 use af_base::errno::Errno;
@@ -76,16 +76,18 @@ impl<T> Owned<T> {
 
     /// Opens a plain file, which carries this value (open(2)). Returns its descriptor, the lowest
     /// free one of the process. A refusal hands the value back, and changes nothing. Refused, in
-    /// this order: ESRCH, EMFILE, ENFILE, ENOMEM. ENOMEM comes first where room for the value is
-    /// refused.
+    /// this order: ESRCH, EMFILE, ENFILE, ENOMEM.
     pub fn open(&mut self, pid: Pid, value: T) -> Result<Fd, (Errno, T)>
         ensures done { IfOk result (λ fd. Does self.old.machine pid Step.Open (Reply.Fd fd) self.new.machine) }
         ensures carries { OnOk result (self.new.values ≡ map.insert self.old.values self.old.machine.world.next_ino value) }
         ensures fresh { OnOk result (map.contains_key self.old.values self.old.machine.world.next_ino ≡ false) }
-        ensures refused { IfErr result (λ e. (e.0 ≡ Errno.ENOMEM) ⊎ (step_error self.old.machine.world pid Step.Open ≡ Some e.0)) }
+        ensures refused { IfErr result (λ e. Refuses self.old.machine pid Step.Open e.0 self.new.machine) }
         ensures back { IfErr result (λ e. e.1 ≡ value) }
         ensures err { OnErr result (self.new ≡ self.old) }
     {
+        if let Err(error) = self.engine.check_open(pid) {
+            return Err((error, value));
+        }
         if self.values.reserve(1).is_err() {
             return Err((Errno::ENOMEM, value));
         }
@@ -112,6 +114,7 @@ impl<T> Owned<T> {
     /// files is empty too. The values come in no order that is promised.
     pub fn take_released(&mut self) -> Option<T>
         ensures some { IfSome result (λ value. HandsBack self.old value self.new) }
+        ensures fewer { OnSome result (map.len self.new.values < map.len self.old.values) }
         ensures none { IfNone result ((f : ℕ) → IsTrue (map.contains_key self.new.values f) → IsLive self.new.machine.world f) }
         ensures values { IfNone result (self.new.values ≡ self.old.values) }
         ensures rest { self.new.machine ≡ record self.old.machine { since = self.new.machine.since } }

@@ -1,14 +1,33 @@
 //! What an event looks up before its own tests.
-ghost use Rattle.std.specs.Prelude.{◌≡◌, ◌++◌, Some, IfErr, IfOk};
+ghost use Rattle.std.specs.Prelude.{◌≡◌, ◌++◌, None, Some, false, IfErr, IfOk, OnOk, slice_get};
 ghost use Rattle.std.specs.FinMap as map;
-ghost use Rattle.af_base.specs.Refusals.{at_socket, first_fit, on_process, socket_at};
-ghost use Rattle.af_steps.specs.Found.{HasSocket};
+ghost use Rattle.af_base.specs.Refusals.{at_socket, first_fit, is_full, on_process, process_at, refusal, socket_at};
+ghost use Rattle.af_base.specs.Table.{free_numbers};
+ghost use Rattle.af_steps.specs.Found.{HasProcess, HasSocket};
 
 use af_base::errno::Errno;
+use af_base::events::Step;
 use af_base::names::{Fd, FileRef, Pid};
 use af_collect::Store;
 use af_desc::Socket;
 use af_table::Process;
+
+/// The lowest free number of the process, which a file more is to have; or why there is none.
+#[inline(always)]
+pub fn place_for_file(store: &Store, pid: Pid) -> Result<Fd, Errno>
+    ensures there { OnOk result (HasProcess store.now.world pid (process_at store.now.world pid)) }
+    ensures lowest { IfOk result (λ fd. slice_get (free_numbers (process_at store.now.world pid)) 0 ≡ Some fd) }
+    ensures room { OnOk result (is_full store.now.world 1 ≡ false) }
+    ensures fits { OnOk result (refusal store.now.world pid Step.Open ≡ None) }
+    ensures refused { IfErr result (λ e. refusal store.now.world pid Step.Open ≡ Some e) }
+{
+    let process = store.holdings().procs().find(pid).ok_or(Errno::ESRCH)?;
+    let fd = process.lowest().ok_or(Errno::EMFILE)?;
+    if store.holdings().files().is_full(1) {
+        return Err(Errno::ENFILE);
+    }
+    Ok(fd)
+}
 
 /// The process, what its number stands for, and the socket that this is; or why there is none.
 #[inline(always)]

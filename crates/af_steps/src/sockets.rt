@@ -6,7 +6,7 @@ ghost use Rattle.af_base.specs.Refusals.{first_fit, on_accept, on_bind, on_clien
 ghost use Rattle.af_steps.specs.Outcome.{Does, Refuses};
 
 use crate::engine::Engine;
-use crate::lookups::{socket_at, socket_on};
+use crate::lookups::{place_for_file, socket_at, socket_on};
 use af_base::errno::Errno;
 use af_base::events::{Reply, SockType, State, Step};
 use af_base::items::Items;
@@ -40,11 +40,7 @@ impl Engine {
         ensures done { IfOk result (λ fd. Does self.old pid (Step.Socket kind) (Reply.Fd fd) self.new) }
         ensures refused { IfErr result (λ e. Refuses self.old pid (Step.Socket kind) e self.new) }
     {
-        let process = self.store.holdings().procs().find(pid).ok_or(Errno::ESRCH)?;
-        let fd = process.lowest().ok_or(Errno::EMFILE)?;
-        if self.store.holdings().files().is_full(1) {
-            return Err(Errno::ENFILE);
-        }
+        let fd = place_for_file(&self.store, pid)?;
         self.store.room_for(pid, 1)?;
         let file = self.store.make_sock(kind)?;
         self.store.table_in(pid, fd, file);

@@ -5,6 +5,7 @@ ghost use Rattle.af_base.specs.Places.{table_at};
 ghost use Rattle.af_steps.specs.Outcome.{Does, Refuses, RefusesStart, Starts};
 
 use crate::engine::Engine;
+use crate::lookups::place_for_file;
 use af_base::errno::Errno;
 use af_base::events::{Reply, Step};
 use af_base::limits::MAX_NOFILE;
@@ -36,11 +37,7 @@ impl Engine {
         ensures done { IfOk result (λ fd. Does self.old pid Step.Open (Reply.Fd fd) self.new) }
         ensures refused { IfErr result (λ e. Refuses self.old pid Step.Open e self.new) }
     {
-        let process = self.store.holdings().procs().find(pid).ok_or(Errno::ESRCH)?;
-        let fd = process.lowest().ok_or(Errno::EMFILE)?;
-        if self.store.holdings().files().is_full(1) {
-            return Err(Errno::ENFILE);
-        }
+        let fd = place_for_file(&self.store, pid)?;
         self.store.room_for(pid, 1)?;
         let file = self.store.make_plain()?;
         self.store.table_in(pid, fd, file);

@@ -1,15 +1,18 @@
 //! What can be seen of an engine. No view takes memory, but for the plain lists.
-ghost use Rattle.std.specs.Prelude.{◌≡◌, ◌<◌, ◌≤◌, ℕ, None, Some, false, IfOk, IfSome, IfNone, length, option_copied, slice_get};
+ghost use Rattle.std.specs.Prelude.{◌≡◌, ◌<◌, ◌≤◌, ℕ, None, Some, false, IfErr, IfOk, IfSome, IfNone, OnOk, length, option_copied, slice_get};
 ghost use Rattle.std.specs.FinMap as map;
 ghost use Rattle.af_base.specs.World.{is_live, IsLive};
 ghost use Rattle.af_base.specs.Bare.{bare};
 ghost use Rattle.af_base.specs.Counts.{refs, inflight, charged, total};
 ghost use Rattle.af_base.specs.Places.{table_at};
+ghost use Rattle.af_base.specs.Refusals.{refusal};
 ghost use Rattle.af_base.specs.Whole.{name_at};
 ghost use Rattle.af_steps.specs.Shown.{shown_of};
 
 use crate::engine::Engine;
-use af_base::events::{SockType, State};
+use crate::lookups::place_for_file;
+use af_base::errno::Errno;
+use af_base::events::{SockType, State, Step};
 use af_base::items::Items;
 use af_base::listing::Listing;
 use af_base::names::{Fd, FileRef, Ino, Pid, Uid};
@@ -120,6 +123,16 @@ impl Engine {
         ensures { result ≡ table_at self.now.world pid fd }
     {
         self.store.holdings().procs().lookup(pid, fd)
+    }
+
+    /// Tests whether `open` may succeed: if so, it is refused for want of memory alone. Refused, in
+    /// this order: ESRCH, EMFILE, ENFILE. It needs no memory.
+    pub fn check_open(&self, pid: Pid) -> Result<(), Errno>
+        ensures ok { OnOk result (refusal self.now.world pid Step.Open ≡ None) }
+        ensures refused { IfErr result (λ e. refusal self.now.world pid Step.Open ≡ Some e) }
+    {
+        place_for_file(&self.store, pid)?;
+        Ok(())
     }
 
     /// Returns the lowest open descriptor of a process from this number on, and its file. A walk over
