@@ -3,6 +3,7 @@ use Rattle.std.proofs.Common.{◌≡◌, ◌⊎◌, inl, inr, ℕ, zero, suc, �
 use Rattle.std.specs.Prelude.{Option, Some, None, filter_map, is_none, is_some, min, nat_lt, option_map, unwrap_or, if◌then◌else◌}
 use Rattle.std.specs.List.{list_any, zip}
 use Rattle.std.specs.FinMap as map
+use Rattle.std.specs.Option.{option_and_then}
 use Rattle.std.proofs.lemmas.Bool.{false≢true}
 use Rattle.jaywardrobe.specs.Types.{Reply, SockType, Step}
 use Rattle.jaywardrobe.specs.Types.errno
@@ -10,6 +11,7 @@ use Rattle.jaywardrobe.specs.Types.kind
 use Rattle.jaywardrobe.specs.Types.reply
 use Rattle.jaywardrobe.specs.Types.step
 use Rattle.jaywardrobe.specs.Outcome.{Does}
+use Rattle.jaywardrobe.specs.Owning.{Owning}
 use Rattle.jaywardrobe.specs.Pass.{Machine}
 use Rattle.jaywardrobe.specs.Places.{queue_of, table_at}
 use Rattle.jaywardrobe.specs.World.{AsSocket, File, Message, Plain, Process, Socket, World}
@@ -22,7 +24,7 @@ use Rattle.jaywardrobe.proofs.Lookups.{insert-here, none_some, same_or_not, some
 use Rattle.jaywardrobe.proofs.Moved.{others-changed, there-changed, there-install, there-table}
 use Rattle.jaywardrobe.proofs.Settling.{get-without}
 use Rattle.jaywardrobe.proofs.Stepped.{NoneFits, Passed, none-fits, process-there, socket-there}
-use Rattle.use_broker.specs.Delivery.{Delivers, IsIdle, Takes}
+use Rattle.use_broker.specs.Delivery.{Delivers, IsIdle, Takes, value_at}
 
 -- Settling leaves all tables as they are.
 same_tables : (w v : World) (p n : ℕ) → Settles w v → table_at v p n ≡ table_at w p n
@@ -138,3 +140,9 @@ module _ (old mid new : Machine) (p on n q at got : ℕ) (bytes : List ℕ) (r :
         let here = received_here v q got file.0 (process_at v q) process (ino_on v q at) (taken_on v q at 1).rest (got_at v q at 1 1) (taken_on v q at 1).attached numbers files in
         (file.0, file.1, same_tables (effect v q (step.Recv at 1 1)) new.world q got took.3.2 ∙ here)
   ]
+
+-- What a file carries travels with it.
+pub carried : {T : Type 0} (old new : Owning T) (p n q m : ℕ) → Delivers old.machine.world p n new.machine.world q m → new.values ≡ old.values → value_at new q m ≡ value_at old p n
+carried old new p n q m d same =
+    let file : table_at new.machine.world q m ≡ table_at old.machine.world p n = d.2 ∙ sym d.1 in
+    λ i. option_and_then (map.get (same i)) (file i)

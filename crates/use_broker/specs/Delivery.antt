@@ -1,8 +1,11 @@
 -- What a delivery comes to.
-use Rattle.std.specs.Prelude.{◌≡◌, ℕ, Bool, false, List, [], ◌∷◌, Some, is_none}
+use Rattle.std.specs.Prelude.{◌≡◌, ℕ, Bool, false, List, [], ◌∷◌, Option, Some, is_none}
+use Rattle.std.specs.FinMap as map
+use Rattle.std.specs.Option.{option_and_then}
 use Rattle.jaywardrobe.specs.Types.reply
 use Rattle.jaywardrobe.specs.Types.step
 use Rattle.jaywardrobe.specs.Outcome.{Does}
+use Rattle.jaywardrobe.specs.Owning.{Owning}
 use Rattle.jaywardrobe.specs.Pass.{Machine}
 use Rattle.jaywardrobe.specs.Places.{table_at}
 use Rattle.jaywardrobe.specs.Refusals.{ino_on, socket_at, socket_on}
@@ -11,6 +14,10 @@ use Rattle.jaywardrobe.specs.World.{World}
 -- A number of process q stands for the file that a number of process p stood for (unix(7), SCM_RIGHTS: an open file description travels).
 abbrev pub Delivers : World → ℕ → ℕ → World → ℕ → ℕ → Type 0
 Delivers old p n new q m = (f : ℕ) × (table_at old p n ≡ Some f) × (table_at new q m ≡ Some f)
+
+-- What the file carries that a number of process p stands for.
+abbrev pub value_at : {T : Type 0} → Owning T → ℕ → ℕ → Option T
+value_at o p n = option_and_then (map.get o.values) (table_at o.machine.world p n)
 
 -- Process p has a socket at n, in whose queue nothing waits.
 pub record IsIdle (w : World) (p n : ℕ) : Type 0 where

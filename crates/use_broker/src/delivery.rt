@@ -1,8 +1,9 @@
 //! A descriptor that goes through a connection.
 ghost use Rattle.std.specs.Prelude.{◌≡◌, IfErr, IfOk, OnOk};
-ghost use Rattle.use_broker.specs.Delivery.{Delivers, IsIdle, Takes};
+ghost use Rattle.use_broker.specs.Delivery.{Delivers, IsIdle, Takes, value_at};
 
-use jaywardrobe::{Engine, Errno, Fd, Pid, Received};
+use crate::host::HostFile;
+use jaywardrobe::{Errno, Fd, Owned, Pid, Received};
 use std::fmt;
 
 /// What travels with a descriptor: a message has a byte at least (unix(7)).
@@ -37,13 +38,21 @@ impl fmt::Display for Undelivered {
 }
 
 /// Sends a descriptor from one end of a connection, and receives it at the other. The number that
-/// is answered is the receiver's, and stands for the file that the sender's number stood for. The
-/// error is `Busy` only where something else waits at the receiver's end.
-pub fn deliver(engine: &mut Engine, from: &End, fd: Fd, to: &End) -> Result<Fd, Undelivered>
+/// is answered is the receiver's, and stands for the file that the sender's number stood for, with
+/// the same host file behind it. The error is `Busy` only where something else waits at the
+/// receiver's end.
+pub fn deliver(
+    engine: &mut Owned<HostFile>,
+    from: &End,
+    fd: Fd,
+    to: &End,
+) -> Result<Fd, Undelivered>
     ensures delivered { IfOk result (λ got.
-        Delivers engine.old.world from.now.pid fd engine.new.world to.now.pid got) }
+        Delivers engine.old.machine.world from.now.pid fd engine.new.machine.world to.now.pid got) }
+    ensures carried { IfOk result (λ got.
+        value_at engine.new to.now.pid got ≡ value_at engine.old from.now.pid fd) }
     ensures busy { IfErr result (λ error.
-        error ≡ Undelivered.Busy → ¬ (IsIdle engine.old.world to.now.pid to.now.fd)) }
+        error ≡ Undelivered.Busy → ¬ (IsIdle engine.old.machine.world to.now.pid to.now.fd)) }
 {
     check_idle(engine, to)?;
     match engine.send(from.pid, from.fd, PAYLOAD, &[fd]) {
@@ -54,11 +63,11 @@ pub fn deliver(engine: &mut Engine, from: &End, fd: Fd, to: &End) -> Result<Fd, 
 
 /// Tests that nothing waits to be received at this end of a connection. Where the other end is
 /// closed the error is EPIPE.
-fn check_idle(engine: &mut Engine, end: &End) -> Result<(), Undelivered>
-    ensures idle { OnOk result (IsIdle engine.old.world end.now.pid end.now.fd) }
+fn check_idle(engine: &mut Owned<HostFile>, end: &End) -> Result<(), Undelivered>
+    ensures idle { OnOk result (IsIdle engine.old.machine.world end.now.pid end.now.fd) }
     ensures same { OnOk result (engine.new ≡ engine.old) }
     ensures busy { IfErr result (λ error.
-        error ≡ Undelivered.Busy → ¬ (IsIdle engine.old.world end.now.pid end.now.fd)) }
+        error ≡ Undelivered.Busy → ¬ (IsIdle engine.old.machine.world end.now.pid end.now.fd)) }
 {
     match engine.peek(end.pid, end.fd, 1, 0) {
         Ok(Received::Got { .. }) => Err(Undelivered::Busy),
@@ -69,8 +78,10 @@ fn check_idle(engine: &mut Engine, end: &End) -> Result<(), Undelivered>
 }
 
 /// Receives one descriptor, and answers its number.
-fn receive(engine: &mut Engine, end: &End) -> Result<Fd, Undelivered>
-    ensures taken { IfOk result (λ got. Takes engine.old end.now.pid end.now.fd got engine.new) }
+fn receive(engine: &mut Owned<HostFile>, end: &End) -> Result<Fd, Undelivered>
+    ensures taken { IfOk result (λ got.
+        Takes engine.old.machine end.now.pid end.now.fd got engine.new.machine) }
+    ensures values { engine.new.values ≡ engine.old.values }
     ensures not_busy { IfErr result (λ error. ¬ (error ≡ Undelivered.Busy)) }
 {
     match engine.recv(end.pid, end.fd, 1, 1) {

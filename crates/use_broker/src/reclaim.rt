@@ -1,14 +1,15 @@
 //! The collector's share of the broker's work.
 ghost use Rattle.use_broker.specs.Reclaim.{Collects};
 
-use jaywardrobe::{Engine, Finished, Progress};
+use crate::host::HostFile;
+use jaywardrobe::{Finished, Owned, Progress};
 
 /// How many files a slice looks at.
 const BUDGET: u32 = 4;
 
 /// The pass that runs goes on by a slice, or else the next one begins. Answers a pass that is over.
-pub fn reclaim(engine: &mut Engine) -> Option<Finished>
-    ensures { Collects engine.old.pass engine.old result engine.new }
+pub fn reclaim(engine: &mut Owned<HostFile>) -> Option<Finished>
+    ensures { Collects engine.old.machine.pass engine.old.machine result engine.new.machine }
 {
     match engine.slice(BUDGET) {
         Ok(Progress::Done(finished)) => Some(finished),
