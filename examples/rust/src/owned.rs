@@ -1,7 +1,7 @@
 //! An engine in which each plain file carries a value: a host's descriptor, a buffer, an object.
 #![forbid(unsafe_code)]
 use crate::{Engine, Errno, Fd, Finished, Ino, Pid, Received, SockType};
-use std::collections::HashMap;
+use std::collections::{HashMap, HashSet};
 
 /// An engine, and a value behind each plain file.
 ///
@@ -13,6 +13,8 @@ pub struct Owned<T> {
     values: HashMap<Ino, T>,
     /// Freed files whose values may not have been handed back yet.
     released: Vec<Ino>,
+    /// Sockets whose readiness may have changed.
+    changed: HashSet<Ino>,
 }
 
 impl<T> Owned<T> {
@@ -24,7 +26,15 @@ impl<T> Owned<T> {
             engine,
             values: HashMap::new(),
             released: Vec::new(),
+            changed: HashSet::new(),
         })
+    }
+
+    /// Creates the same, for [`take_changed`](Owned::take_changed).
+    pub fn with_readiness() -> Result<Owned<T>, Errno> {
+        let mut owned = Owned::new()?;
+        owned.engine.tell_changed()?;
+        Ok(owned)
     }
 
     /// Returns the engine, for its views.
@@ -38,10 +48,9 @@ impl<T> Owned<T> {
             Ok(fd) => fd,
             Err(error) => return Err((error, value)),
         };
-        let ino = self.engine.ino_at(by, fd);
+        let ino = self.engine.ino_at(by, fd).expect("it was just opened");
         // An inode number is given once, so no value is replaced.
-        self.values
-            .insert(ino.expect("the descriptor is open"), value);
+        self.values.insert(ino, value);
         Ok(fd)
     }
 
@@ -61,14 +70,31 @@ impl<T> Owned<T> {
     pub fn take_released(&mut self) -> Option<T> {
         loop {
             if self.released.is_empty() {
-                self.released = self.engine.released();
-                self.engine.clear_told();
+                self.read_lists();
             }
             // A socket carries nothing.
             if let Some(value) = self.values.remove(&self.released.pop()?) {
                 return Some(value);
             }
         }
+    }
+
+    /// Returns the live sockets whose readiness may have changed since it was called last, each
+    /// once; nothing unless `with_readiness` made the engine. For a socket that is not listed, and
+    /// whose peer is not, `poll` answers as then.
+    pub fn take_changed(&mut self) -> Vec<Ino> {
+        self.read_lists();
+        let changed = std::mem::take(&mut self.changed).into_iter();
+        changed
+            .filter(|ino| self.engine.file(*ino).is_some())
+            .collect()
+    }
+
+    /// Moves what the engine's lists have into those here: it empties both at once.
+    fn read_lists(&mut self) {
+        self.released.extend(self.engine.released());
+        self.changed.extend(self.engine.changed());
+        self.engine.clear_told();
     }
 }
 

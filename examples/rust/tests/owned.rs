@@ -87,3 +87,29 @@ fn a_value_can_be_changed_behind_its_file() -> Result<(), Errno> {
     assert!(owned.get(pid, socket).is_none());
     Ok(())
 }
+
+#[test]
+fn readiness_is_told_whatever_was_taken_before() -> Result<(), Errno> {
+    let mut owned: Owned<Rc<str>> = Owned::with_readiness()?;
+    let pid = owned.spawn(1000, 8, false)?;
+    let (here, there) = owned.pair(pid, SockType::Stream)?;
+    assert_eq!(owned.take_changed().len(), 2);
+    assert!(owned.take_changed().is_empty());
+    let file = opened(&mut owned, pid, "sent")?;
+    owned.send(pid, here, b"x", &[file])?;
+    assert!(freed(&mut owned).is_empty());
+    assert_eq!(
+        owned.take_changed(),
+        [owned.engine().ino_at(pid, there).unwrap()]
+    );
+    owned.send(pid, here, b"x", &[])?;
+    owned.close(pid, file)?;
+    owned.close(pid, there)?;
+    assert_eq!(freed(&mut owned), ["sent".into()]);
+    // The other socket changed too, but it is gone.
+    assert_eq!(
+        owned.take_changed(),
+        [owned.engine().ino_at(pid, here).unwrap()]
+    );
+    Ok(())
+}
