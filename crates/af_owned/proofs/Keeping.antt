@@ -227,13 +227,13 @@ unlisted-live m values last told h tells f there none = by (is_live m.world f) (
   by false true given e = absurd (omega (arith, e, none))
   by false false given e = absurd (false≢true given)
 
--- An engine to which nothing has happened, and that tells which files are freed.
-abbrev pub asking : Machine
-asking = record fresh { since = record { changed = false; released = true; files = map.empty; next = 1 } }
+-- An engine to which nothing has happened, and that tells which files are freed, and maybe whose readiness changed.
+abbrev pub asking : Bool → Machine
+asking readiness = record fresh { since = record { changed = readiness; released = true; files = map.empty; next = 1 } }
 
 -- It has no value.
-pub owned-new : {T : Type 0} → AreOwned {T = T} asking map.empty 0
-owned-new = record {
+pub owned-new : {T : Type 0} (readiness : Bool) → AreOwned {T = T} (asking readiness) map.empty 0
+owned-new readiness = record {
   asked = refl;
   later = omega arith;
   below = omega arith;

@@ -1,10 +1,11 @@
 //! The engine, and what its plain files carry.
-ghost use Rattle.std.specs.Prelude.{◌≡◌, ◌<◌, ℕ, false, IfErr, IfNone, IfOk, IfSome, IsTrue, OnErr, OnOk, option_copied};
+ghost use Rattle.std.specs.Prelude.{◌≡◌, ◌<◌, ℕ, false, true, IfErr, IfNone, IfOk, IfSome, IsTrue, OnErr, OnOk, option_copied};
 ghost use Rattle.std.specs.Option.{OnSome, option_and_then};
 ghost use Rattle.std.specs.FinMap as map;
 ghost use Rattle.af_base.specs.Counts.{count_in};
 ghost use Rattle.af_base.specs.Places.{table_at};
 ghost use Rattle.af_base.specs.Run.{fresh};
+ghost use Rattle.af_base.specs.Told.{TellsChanged};
 ghost use Rattle.af_base.specs.Whole.{IsSound};
 ghost use Rattle.af_base.specs.World.{IsLive, is_live};
 ghost use Rattle.af_steps.specs.Outcome.{Does, Refuses};
@@ -50,6 +51,23 @@ impl<T> Owned<T> {
     {
         let mut engine = Engine::new(alloc)?;
         engine.tell_released()?;
+        Ok(Owned {
+            engine,
+            values: Keyed::new(alloc),
+            next: 0,
+        })
+    }
+
+    /// Creates the same, which also tells from now on whose readiness may have changed, by
+    /// `changed`. An event that makes a file then needs room for it in that list too.
+    pub fn with_readiness(alloc: Global) -> Result<Owned<T>, AllocError>
+        ensures world { IfOk result (λ o. o.machine.world ≡ fresh.world) }
+        ensures told { IfOk result (λ o. o.machine.since.changed ≡ true) }
+        ensures values { IfOk result (λ o. o.values ≡ map.empty) }
+    {
+        let mut engine = Engine::new(alloc)?;
+        engine.tell_released()?;
+        engine.tell_changed()?;
         Ok(Owned {
             engine,
             values: Keyed::new(alloc),
@@ -109,14 +127,25 @@ impl<T> Owned<T> {
         self.values.get(&file)
     }
 
+    /// Returns the sockets whose readiness may have changed since `take_released` last returned
+    /// nothing, each once, where that is told. A socket that is not among them, and whose peer is
+    /// not, answers `poll` as it did then. No search.
+    pub fn changed(&self) -> &[FileRef]
+        ensures { TellsChanged self.now.machine.world self.now.machine.since result.now }
+    {
+        self.engine.changed()
+    }
+
     /// Hands back the value of a file that was freed; nothing where each was handed back. It
-    /// needs no memory. Call it after an event until it returns nothing: then the list of freed
-    /// files is empty too. The values come in no order that is promised.
+    /// needs no memory. Call it after an event until it returns nothing: then the lists of freed
+    /// files and of changed readiness are empty too, so read `changed` before. The values come in
+    /// no order that is promised.
     pub fn take_released(&mut self) -> Option<T>
         ensures some { IfSome result (λ value. HandsBack self.old value self.new) }
         ensures fewer { OnSome result (map.len self.new.values < map.len self.old.values) }
         ensures none { IfNone result ((f : ℕ) → IsTrue (map.contains_key self.new.values f) → IsLive self.new.machine.world f) }
         ensures values { IfNone result (self.new.values ≡ self.old.values) }
+        ensures cleared { IfNone result (self.new.machine.since ≡ record self.old.machine.since { files = self.old.machine.world.files; next = self.old.machine.world.next_ino }) }
         ensures rest { self.new.machine ≡ record self.old.machine { since = self.new.machine.since } }
     {
         let Some((at, file)) = self.next_released() else {
