@@ -172,6 +172,22 @@ next-free m values last h = elim (cases_Bool (map.contains_key values m.world.ne
   | inr none ↦ none
 ]
 
+-- Another value is written behind a file that carries one.
+pub owned-written : {T : Type 0} (m : Machine) (values : Map T) (last k : ℕ) (w : T) → AreOwned m values last → map.contains_key values k ≡ true → AreOwned m (map.insert values k w) last
+owned-written m values last k w h is = record {
+  asked = h.asked;
+  later = h.later;
+  below = h.below;
+  numbered = λ g there. h.numbered g (sym (same g) ∙ there);
+  given = λ g there. h.given g (sym (same g) ∙ there);
+  carried = λ g b kind. same g ∙ h.carried g b kind;
+} where
+  same : (g : ℕ) → map.contains_key (map.insert values k w) g ≡ map.contains_key values g
+  same g = elim (same_or_not g k) [
+    | inl here ↦ ap (map.contains_key (map.insert values k w)) here ∙ ap is_some (insert-here values k w) ∙ sym (ap (map.contains_key values) here ∙ is)
+    | inr apart ↦ ap is_some (insert-other values k w g apart)
+  ]
+
 -- A value is handed back, of a file that is gone.
 pub owned-taken : {T : Type 0} (m : Machine) (values : Map T) (last k : ℕ) → AreOwned m values last → is_live m.world k ≡ false → AreOwned m (map.remove values k) last
 owned-taken m values last k h gone = record {

@@ -1,2 +1,3 @@
 -- What plain files carry.
+pub mod Lending
 pub mod Owning

@@ -1,6 +1,7 @@
 //! The engine, and what its plain files carry.
 ghost use Rattle.std.specs.Prelude.{◌≡◌, ◌<◌, ℕ, false, true, IfErr, IfNone, IfOk, IfSome, IsTrue, OnErr, OnOk, option_copied};
-ghost use Rattle.std.specs.Option.{OnSome, option_and_then};
+ghost use Rattle.std.specs.Borrow.{sem};
+ghost use Rattle.std.specs.Option.{OnSome, option_and_then, option_copied_mut};
 ghost use Rattle.std.specs.FinMap as map;
 ghost use Rattle.af_base.specs.Counts.{count_in};
 ghost use Rattle.af_base.specs.Places.{table_at};
@@ -44,6 +45,8 @@ impl<T> Model for Owned<T> {
 }
 
 impl<T> Owned<T> {
+    ghost use Rattle.af_owned.specs.Lending.{lends_value_at};
+
     /// Creates an engine to which nothing has happened, and that has no value.
     pub fn new(alloc: Global) -> Result<Owned<T>, AllocError>
         ensures world { IfOk result (λ o. o.machine.world ≡ fresh.world) }
@@ -125,6 +128,17 @@ impl<T> Owned<T> {
     {
         let file = self.engine.file_on(pid, fd)?;
         self.values.get(&file)
+    }
+
+    /// Returns the same value, to write to.
+    pub fn get_mut(&mut self, pid: Pid, fd: Fd) -> Option<&mut T>
+        ensures* writes_back { sem 𝓛 (lends_value_at T.row self.entry pid fd result) }
+        ensures value { option_copied_mut result ≡ option_and_then (map.get self.old.values) (table_at self.old.machine.world pid fd) }
+    {
+        let file = self.engine.file_on(pid, fd)?;
+        // A socket carries nothing, and nothing is written for it.
+        let value = self.values.get_mut(&file)?;
+        Some(value)
     }
 
     /// Returns the sockets whose readiness may have changed since `take_released` last returned
