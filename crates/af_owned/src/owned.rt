@@ -106,6 +106,7 @@ impl<T> Owned<T> {
         ensures back { IfErr result (λ e. e.1 ≡ value) }
         ensures err { OnErr result (self.new ≡ self.old) }
     {
+        // Room is asked for last, as in the engine, so that ENOMEM hides no other refusal.
         if let Err(error) = self.engine.check_open(pid) {
             return Err((error, value));
         }

@@ -29,8 +29,12 @@ fn opened(owned: &mut Owned<u64>, pid: Pid, value: u64) -> Result<Fd, Errno> {
 /// Files go through a socket, into a cycle, and with their process.
 fn play(rt: &impl Abort, owned: &mut Owned<u64>) -> Result<(), Errno> {
     let pid = owned.spawn(Uid(1_000), 64, false)?;
-    let file = opened(owned, pid, 100)?;
+    let file = opened(owned, pid, 99)?;
+    if let Some(value) = owned.get_mut(pid, file) {
+        *value = 100;
+    }
     assert!(rt; owned.get(pid, file) == Some(&100));
+    assert!(rt; owned.get_mut(pid, Fd(9)).is_none());
     assert!(rt; owned.get(pid, Fd(9)).is_none());
     let (here, there) = owned.pair(pid, SockType::Seqpacket)?;
     assert!(rt; owned.get(pid, here).is_none(), "a socket carries nothing");
@@ -86,5 +90,40 @@ fn play(rt: &impl Abort, owned: &mut Owned<u64>) -> Result<(), Errno> {
 fn values_come_back_once(rt: HostRuntime) -> Result<(), Fail> {
     let mut owned = Owned::new(rt.alloc())?;
     assert!(rt; play(&rt, &mut owned) == Ok(()));
+    Ok(())
+}
+
+/// Whether the socket of that descriptor alone may be ready for something else.
+fn is_told(owned: &Owned<u64>, pid: Pid, fd: Fd) -> bool {
+    match (owned.changed(), owned.engine().ino_at(pid, fd)) {
+        ([file], Some(ino)) => file.ino() == ino,
+        _ => false,
+    }
+}
+
+/// A message comes, and its receiver goes.
+fn play_readiness(rt: &impl Abort, owned: &mut Owned<u64>) -> Result<(), Errno> {
+    let pid = owned.spawn(Uid(1_000), 64, false)?;
+    let (here, there) = owned.pair(pid, SockType::Seqpacket)?;
+    assert!(rt; owned.changed().len() == 2);
+    assert!(rt; taken(owned) == (0, 0) && owned.changed().is_empty());
+    let file = opened(owned, pid, 5)?;
+    owned.send(pid, here, b"x", &[file])?;
+    assert!(rt; is_told(owned, pid, there), "it is readable");
+    owned.close(pid, file)?;
+    owned.close(pid, there)?;
+    assert!(rt; owned.take_released() == Some(5));
+    assert!(rt;
+        is_told(owned, pid, here),
+        "its peer is gone, and not all values were taken"
+    );
+    assert!(rt; taken(owned) == (0, 0) && owned.changed().is_empty());
+    Ok(())
+}
+
+#[test]
+fn readiness_is_told_until_all_values_are_taken(rt: HostRuntime) -> Result<(), Fail> {
+    let mut owned = Owned::with_readiness(rt.alloc())?;
+    assert!(rt; play_readiness(&rt, &mut owned) == Ok(()));
     Ok(())
 }
