@@ -142,11 +142,11 @@ module _ (old mid : Lined) (fs gs : List ℕ) (space most : ℕ) (since : Since)
     listed = noted-first.listed;
     fits = noted-first.fits;
     same = λ a q s e.
-      let was = sym (socket-stays mid.files f q g) ∙ s in
-      elim (same_or_not q f) [
-      | inl here ↦ absurd (n.noted a (ap (is_socket_in old.files) (sym here) ∙ sym (ap (λ l. is_socket_in l.files q) n.rest) ∙ was) (ap (map.get mid.noted) (sym here) ∙ e))
-      | inr apart ↦ face-apart mid.files f q g apart ∙ noted-first.same a q was e
-    ];
+        let was = sym (socket-stays mid.files f q g) ∙ s in
+        elim (same_or_not q f) [
+          | inl here ↦ absurd (n.noted a (ap (is_socket_in old.files) (sym here) ∙ sym (ap (λ l. is_socket_in l.files q) n.rest) ∙ was) (ap (map.get mid.noted) (sym here) ∙ e))
+          | inr apart ↦ face-apart mid.files f q g apart ∙ noted-first.same a q was e
+        ];
   })
 
 -- A file changes, and is noted then.
@@ -156,13 +156,13 @@ noted-after old mid new fs gs space most since f g b h is n listed more = record
   listed = listed;
   fits = λ a. let few = h.fits a in omega (arith, few, more, n.len, ap (λ l. map.len l.noted) is);
   same = λ a q s e.
-    let socket = sym (ap (λ l. is_socket_in l.files q) n.rest) ∙ s in
-    elim (same_or_not q f) [
-    | inl here ↦ absurd (n.noted a (ap (is_socket_in mid.files) (sym here) ∙ socket) (ap (map.get new.noted) (sym here) ∙ e))
-    | inr apart ↦
-        ap (λ l. face_in l.files q) (n.rest ∙ ap {B = Lined} (λ l. record l { noted = new.noted }) is) ∙ face-apart old.files f q g apart
-        ∙ h.same a q (sym (socket-stays old.files f q g) ∙ sym (ap (λ l. is_socket_in l.files q) is) ∙ socket) (sym (ap (λ l. map.get l.noted q) is) ∙ n.others q e)
-  ];
+      let socket = sym (ap (λ l. is_socket_in l.files q) n.rest) ∙ s in
+      elim (same_or_not q f) [
+        | inl here ↦ absurd (n.noted a (ap (is_socket_in mid.files) (sym here) ∙ socket) (ap (map.get new.noted) (sym here) ∙ e))
+        | inr apart ↦
+            ap (λ l. face_in l.files q) (n.rest ∙ ap {B = Lined} (λ l. record l { noted = new.noted }) is) ∙ face-apart old.files f q g apart
+            ∙ h.same a q (sym (socket-stays old.files f q g) ∙ sym (ap (λ l. is_socket_in l.files q) is) ∙ socket) (sym (ap (λ l. map.get l.noted q) is) ∙ n.others q e)
+      ];
 }
 
 -- Nobody is noted where there is no row.

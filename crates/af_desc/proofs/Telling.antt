@@ -78,8 +78,8 @@ module _ (old mid : Lined) (gone : List ℕ) (wide : ℕ) (since : Since) (ino r
   accounted-pushed fits = record {
     later = let low = h.later in omega (arith, low, next, last);
     below = λ f high.
-      comes f ∙ ap is_some (insert-other old.counts ino uncounted f (told_apart f ino (λ e. omega (arith, high, e, last))))
-      ∙ h.below f (omega (arith, high, next, last));
+        comes f ∙ ap is_some (insert-other old.counts ino uncounted f (told_apart f ino (λ e. omega (arith, high, e, last))))
+        ∙ h.below f (omega (arith, high, next, last));
     each = λ a f. elim (same_or_not f ino) [
       | inl here ↦ own f here a
       | inr apart ↦
@@ -97,14 +97,14 @@ module _ (old new : Lined) (gone : List ℕ) (wide : ℕ) (since : Since) (h : A
   accounted-gone is goes len wider = record {
     later = let low = h.later in omega (arith, low, ap (λ l. l.last) is);
     below = λ q high.
-      ap (λ l. map.contains_key l.counts q) is
-      ∙ elim (same_or_not q f) [
-        | inl here ↦ ap is_some (ap (map.get (map.remove old.counts f)) here ∙ remove-here old.counts f)
-        | inr apart ↦ ap is_some (remove-other old.counts f q apart) ∙ h.below q (omega (arith, high, ap (λ l. l.last) is))
-      ];
+        ap (λ l. map.contains_key l.counts q) is
+        ∙ elim (same_or_not q f) [
+          | inl here ↦ ap is_some (ap (map.get (map.remove old.counts f)) here ∙ remove-here old.counts f)
+          | inr apart ↦ ap is_some (remove-other old.counts f q apart) ∙ h.below q (omega (arith, high, ap (λ l. l.last) is))
+        ];
     each = λ a q.
-      ap (λ l. count_in q gs + bit (map.contains_key l.counts q)) is ∙ goes a q ∙ h.each a q
-      ∙ ap {B = ℕ} (λ n. bit (was_given since (n + 1) q)) (sym (ap (λ l. l.last) is));
+        ap (λ l. count_in q gs + bit (map.contains_key l.counts q)) is ∙ goes a q ∙ h.each a q
+        ∙ ap {B = ℕ} (λ n. bit (was_given since (n + 1) q)) (sym (ap (λ l. l.last) is));
     fits = λ a. let few = h.fits a in let same = len a in omega (arith, few, same, wider, ap (λ l. map.len l.counts) is);
   }
 
@@ -115,13 +115,13 @@ accounted-anew lines gone wide since none next files same below fits = record {
   later = omega (arith, next);
   below = below;
   each = λ a f.
-    let all : bit (map.contains_key lines.counts f) ≡ bit (was_given since (lines.last + 1) f) = elim (cases_Bool (nat_lt f since.next)) [
-      | inl e ↦ ap bit (same f ∙ ap (λ m. map.contains_key m f) (sym files)) ∙ sym (ap {B = ℕ} (λ b. bit (cond b (map.contains_key since.files f) (nat_lt f (lines.last + 1)))) e)
-      | inr e ↦
-          let high = ltb-false f since.next e in
-          ap bit (below f (omega (arith, high, next)) ∙ sym (le-ltb f (lines.last + 1) (omega (arith, high, next)))) ∙ sym (ap {B = ℕ} (λ b. bit (cond b (map.contains_key since.files f) (nat_lt f (lines.last + 1)))) e)
-    ] in
-    omega (arith, all, ap (count_in f) none);
+      let all : bit (map.contains_key lines.counts f) ≡ bit (was_given since (lines.last + 1) f) = elim (cases_Bool (nat_lt f since.next)) [
+        | inl e ↦ ap bit (same f ∙ ap (λ m. map.contains_key m f) (sym files)) ∙ sym (ap {B = ℕ} (λ b. bit (cond b (map.contains_key since.files f) (nat_lt f (lines.last + 1)))) e)
+        | inr e ↦
+            let high = ltb-false f since.next e in
+            ap bit (below f (omega (arith, high, next)) ∙ sym (le-ltb f (lines.last + 1) (omega (arith, high, next)))) ∙ sym (ap {B = ℕ} (λ b. bit (cond b (map.contains_key since.files f) (nat_lt f (lines.last + 1)))) e)
+      ] in
+      omega (arith, all, ap (count_in f) none);
   fits = λ a. let few = fits a in omega (arith, few, ap length none);
 }
 
@@ -211,8 +211,8 @@ pub told-nobody : (old new : Lined) (fs : List ℕ) (space : ℕ) (gone : List �
     → new ≡ record old { files = change_socket_at dequeued old.files f } → AreTold new fs space gone wide since
 told-nobody old new fs space gone wide since f h none is = record {
   noted = noted-faces old new fs space since h.noted (ap (λ l. l.noted) is) (λ q. ap (λ l. face_in l.files q) is ∙ face-still old.files f q dequeued (λ s at.
-    let empty : s.backlog ≡ [] = sym (ap (λ o. option_map_or backlog_of o []) at) ∙ none in
-    ap (λ xs. face_of (AsSocket (record s { backlog = drop 1 xs }))) empty ∙ sym (ap (λ xs. face_of (AsSocket (record s { backlog = xs }))) empty)));
+      let empty : s.backlog ≡ [] = sym (ap (λ o. option_map_or backlog_of o []) at) ∙ none in
+      ap (λ xs. face_of (AsSocket (record s { backlog = drop 1 xs }))) empty ∙ sym (ap (λ xs. face_of (AsSocket (record s { backlog = xs }))) empty)));
   accounted = accounted-same old new gone wide since h.accounted wide (ap (λ l. l.last) is) (ap (λ l. l.counts) is) (omega arith);
 }
 
@@ -221,8 +221,8 @@ pub told-silent : (old new : Lined) (fs : List ℕ) (space : ℕ) (gone : List �
     → new ≡ record old { files = change_socket_at popped old.files f; message_room = b } → AreTold new fs space gone wide since
 told-silent old new fs space gone wide since f b h none is = record {
   noted = noted-faces old new fs space since h.noted (ap (λ l. l.noted) is) (λ q. ap (λ l. face_in l.files q) is ∙ face-still old.files f q popped (λ s at.
-    let empty : s.queue ≡ [] = sym (ap (λ o. option_map_or queue_of o []) at) ∙ none in
-    ap (λ xs. face_of (AsSocket (record s { queue = drop 1 xs }))) empty ∙ sym (ap (λ xs. face_of (AsSocket (record s { queue = xs }))) empty)));
+      let empty : s.queue ≡ [] = sym (ap (λ o. option_map_or queue_of o []) at) ∙ none in
+      ap (λ xs. face_of (AsSocket (record s { queue = drop 1 xs }))) empty ∙ sym (ap (λ xs. face_of (AsSocket (record s { queue = xs }))) empty)));
   accounted = accounted-same old new gone wide since h.accounted wide (ap (λ l. l.last) is) (ap (λ l. l.counts) is) (omega arith);
 }
 

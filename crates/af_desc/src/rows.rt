@@ -128,7 +128,12 @@ impl Rows {
         ensures room { self.old.room ≤ self.new.room + 1 }
     {
         let file = self.lines.push(ino, endpoint);
-        note(self.tells_changed, &mut self.lines, &mut self.changed, &file);
+        note(
+            self.tells_changed,
+            &mut self.lines,
+            &mut self.changed,
+            &file,
+        );
         file
     }
 

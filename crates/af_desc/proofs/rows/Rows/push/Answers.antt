@@ -35,7 +35,7 @@ invariant_of-self c =
     let accounted = accounted-pushed a.lines c.push-file.new.self a.released.items (vec_capacity a.released) _ c.args.ino _ (file_of c.args.endpoint) c.self.invariant.accounted p.pushed next (λ asked. let low = room-freed s _ _ _ _ _ _ seen c.requires.room asked in omega (arith, low, counted, ap (λ l. map.len l.counts) p.pushed)) in
     record {
       noted = noted-pushed a.lines c.push-file.new.self a.changed.items (vec_capacity a.changed) _ c.args.ino _ (file_of c.args.endpoint) c.self.invariant.noted p.pushed c.note.new.lines _ _ c.push-file.result p.file n.notes n.listed
-        (λ asked. let low = room-noted s _ _ _ _ _ _ seen c.requires.room asked in omega (arith, low, more, ap (λ l. map.len l.noted) p.pushed)) (omega (arith, n.capacity));
+          (λ asked. let low = room-noted s _ _ _ _ _ _ seen c.requires.room asked in omega (arith, low, more, ap (λ l. map.len l.noted) p.pushed)) (omega (arith, n.capacity));
       accounted = accounted-same c.push-file.new.self c.note.new.lines a.released.items (vec_capacity a.released) _ accounted (vec_capacity a.released) (ap (λ l. l.last) n.notes.rest) (ap (λ l. l.counts) n.notes.rest) (omega arith);
     }
 
