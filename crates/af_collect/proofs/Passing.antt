@@ -1,11 +1,20 @@
--- The pass that a caller sees.
-use Rattle.std.proofs.Common.{◌≡◌, ℕ, ap}
+-- The pass that a caller sees, and what it counts.
+use Rattle.std.proofs.Common.{◌≡◌, ◌+◌, ◌&&◌, ℕ, Bool, true, false, not, refl, ap, ◌∙◌, nat_lt}
+use Rattle.std.specs.Prelude.{Option, Some, None, is_some, if◌then◌else◌}
+use Rattle.std.specs.FinMap as map
+use Rattle.std.specs.Option.{option_and_then, option_map_or}
+use Rattle.std.proofs.Math.Bool.{and_comm}
 use Rattle.std.proofs.lemmas.Bool.{false≢true}
-use Rattle.af_base.specs.World.{World}
+use Rattle.af_base.specs.World.{AsSocket, File, Plain, World}
 use Rattle.af_base.specs.Pass.{Idle, Pass, Running}
+use Rattle.af_base.specs.Reached.{is_socket}
+use Rattle.af_base.specs.Refusals.{socket_of}
+use Rattle.af_desc.specs.Filed.{is_unmarked_socket}
+use Rattle.af_mark.specs.Marked.{Marked, is_marked, knows}
 use Rattle.af_pass.specs.declared.Stage.{Stage}
 use Rattle.af_pass.specs.declared.Stage.TheVariants.{Marking, Resting, Sweeping}
-use Rattle.af_pass.specs.Keeping.{pass_of, runs}
+use Rattle.af_pass.specs.declared.Progress.{Progress}
+use Rattle.af_pass.specs.Keeping.{counted, is_sweeping, pass_of, runs}
 
 -- The world at the begin of a pass that runs.
 begun_of : World → Pass → World
@@ -18,3 +27,14 @@ unfolding begun_of
 seen_begun Resting b begun n spent is = absurd (false≢true (ap runs is))
 seen_begun Marking b begun n spent is = ap (begun_of b) is
 seen_begun Sweeping b begun n spent is = ap (begun_of b) is
+
+-- A file that goes is counted where it is a socket that the pass had still to mark, and sweeping goes on.
+pub counted_gone : (w : World) (m : Marked) (c : Progress) (f : ℕ) (unmarked : Bool) → knows m f ≡ true → unmarked ≡ is_unmarked_socket w.files m f → record c { reclaimed = c.reclaimed + (if unmarked && is_sweeping c.stage then 1 else 0) } ≡ counted w m f c
+counted_gone w m c f unmarked known is = ap (λ b. record c { reclaimed = c.reclaimed + (if b then 1 else 0) }) (and_comm unmarked (is_sweeping c.stage) ∙ ap (λ b. is_sweeping c.stage && b) (is ∙ same)) where
+  by : (o : Option File) → is_some (option_and_then socket_of o) ≡ option_map_or is_socket o false
+  by None = refl
+  by (Some Plain) = refl
+  by (Some (AsSocket s)) = refl
+
+  same : is_unmarked_socket w.files m f ≡ (option_map_or is_socket (map.get w.files f) false && (nat_lt f m.bound && not (is_marked m f)))
+  same = λ i. by (map.get w.files f) i && (nat_lt f m.bound && (known i && not (is_marked m f)))

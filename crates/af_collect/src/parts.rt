@@ -1,5 +1,6 @@
 //! The holdings, and how far a pass is: what each change of one owes to the other.
-ghost use Rattle.std.specs.Prelude.{◌≡◌, ◌<◌, ℕ, Some, [], true, nat_eq, slice_get};
+ghost use Rattle.std.specs.Prelude.{◌≡◌, ◌&&◌, ◌+◌, ◌<◌, ◌≤◌, ℕ, Some, [], if◌then◌else◌, true, nat_eq, slice_get};
+ghost use Rattle.af_base.specs.declared.limits.TheConstants.{MAX_FILES};
 ghost use Rattle.af_base.specs.World.{IsLive};
 ghost use Rattle.af_base.specs.Counts.{refs};
 ghost use Rattle.af_base.specs.Places.{backlog_at, held_by, queue_at, table_at};
@@ -7,12 +8,12 @@ ghost use Rattle.af_base.specs.Reached.{Garbage};
 ghost use Rattle.af_base.specs.Unheld.{Settles, without};
 ghost use Rattle.af_base.specs.Whole.{IsSound};
 ghost use Rattle.af_hold.specs.Losing.{places_at, without_place};
-ghost use Rattle.af_pass.specs.Keeping.{counted, first_held, is_counted, is_marking, is_running, shaded_all};
+ghost use Rattle.af_pass.specs.Keeping.{first_held, is_marking, is_running, is_sweeping, shaded_all};
 ghost use Rattle.af_mark.specs.Marked.{forgotten};
 ghost use Rattle.af_collect.specs.Shown.{AreKept, MarksAll, with_marks};
 
 use crate::holdings::Holdings;
-use crate::shading::{is_socket, shade_embryo, shade_first};
+use crate::shading::{shade_embryo, shade_first};
 use af_base::names::{Fd, FileRef, Pid};
 use af_pass::{Progress, Stage};
 use std::snapshot::Snapshot;
@@ -166,28 +167,19 @@ impl Parts {
         ensures begun { self.new.begun ≡ self.old.begun }
         ensures progress { self.new.progress ≡ record self.old.progress { reclaimed = self.new.progress.reclaimed } }
     {
-        self.tally(file);
-        self.places.take_away(file);
+        let unmarked = self.places.take_away(file);
+        self.tally(unmarked);
     }
 
-    /// Counts a file as reclaimed, where it is to be.
-    fn tally(&mut self, file: &FileRef)
-        requires kept { AreKept self.old }
-        ensures { self.new ≡ record self.old { progress = counted self.old.places.world self.old.places.marks file.now self.old.progress } }
+    /// Counts a socket that is gone as reclaimed, where sweeping goes on and the pass had still to mark
+    /// it.
+    #[inline(always)]
+    fn tally(&mut self, unmarked: bool)
+        requires { is_sweeping self.old.progress.stage ≡ true → self.old.progress.reclaimed ≤ MAX_FILES }
+        ensures { self.new ≡ record self.old { progress = record self.old.progress { reclaimed = self.old.progress.reclaimed + (if unmarked && is_sweeping self.old.progress.stage then 1 else 0) } } }
     {
-        if self.is_counted(file) {
+        if unmarked && matches!(self.progress.stage, Stage::Sweeping) {
             self.progress.reclaimed += 1;
         }
-    }
-
-    /// Whether the file counts as reclaimed when it goes: while sweeping goes on, and it is an unmarked
-    /// socket that was there when the pass began.
-    fn is_counted(&self, file: &FileRef) -> bool
-        ensures { result ≡ is_counted self.now.places.world self.now.places.marks self.now.progress file.now }
-    {
-        matches!(self.progress.stage, Stage::Sweeping)
-            && is_socket(&self.places, file)
-            && file.ino() < self.places.files().bound()
-            && !self.places.files().is_marked(file)
     }
 }

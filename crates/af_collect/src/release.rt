@@ -95,25 +95,31 @@ impl Holdings {
         self.files.next_waiting()
     }
 
-    /// A file that no place holds, and that holds nothing itself, goes, and its peer hangs up.
-    pub(crate) fn take_away(&mut self, file: &FileRef)
+    /// A file that no place holds, and that holds nothing itself, goes, and its peer hangs up. Whether it
+    /// was a socket that the pass had still to mark.
+    pub(crate) fn take_away(&mut self, file: &FileRef) -> bool
         requires live { IsLive self.old.world file.now }
         requires unheld { refs self.old.world file.now ≡ 0 }
         requires bare { held_by self.old.world file.now ≡ [] }
         requires silent { queue_at self.old.world file.now ≡ [] }
-        ensures { self.new ≡ record self.old { world = without (nat_eq file.now) self.old.world; marks = forgotten file.now self.old.marks } }
+        ensures gone { self.new ≡ record self.old { world = without (nat_eq file.now) self.old.world; marks = forgotten file.now self.old.marks } }
+        ensures unmarked { result ≡ desc.is_unmarked_socket self.old.world.files self.old.marks file.now }
     {
-        remove(&mut self.files, file);
+        remove(&mut self.files, file)
     }
 }
 
-/// A file, which has nothing to receive, goes, and its peer hangs up.
-fn remove(files: &mut Files, file: &FileRef)
+/// A file, which has nothing to receive, goes, and its peer hangs up. Whether it was a socket that the
+/// pass had still to mark.
+fn remove(files: &mut Files, file: &FileRef) -> bool
     requires silent { queue_in files.old.files file.now ≡ [] }
     ensures gone { (w : World) → w.files ≡ files.old.files → AreMutual w → record w { files = files.new.files } ≡ without (nat_eq file.now) w }
     ensures rest { files.new ≡ record (desc.without file.now files.old) { files = files.new.files } }
+    ensures unmarked { result ≡ desc.is_unmarked_socket files.old.files files.old.marks file.now }
 {
-    if let Some(peer) = files.remove(file) {
+    let (peer, unmarked) = files.remove(file);
+    if let Some(peer) = peer {
         files.hang_up(&peer);
     }
+    unmarked
 }

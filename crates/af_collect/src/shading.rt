@@ -5,7 +5,6 @@ ghost use Rattle.std.specs.Option.{option_map_or};
 ghost use Rattle.af_base.specs.Places.{backlog_at, carried, held_by, queue_at};
 ghost use Rattle.af_base.specs.Refusals.{socket_at};
 ghost use Rattle.af_pass.specs.Keeping.{first_held, shaded_all, shaded_in};
-ghost use Rattle.af_pass.specs.Since.{is_socket_at};
 ghost use Rattle.af_collect.specs.Shown.{first_attached};
 
 use crate::holdings::Holdings;
@@ -188,13 +187,6 @@ fn embryo_at(places: &Holdings, file: &FileRef, at: usize) -> Option<FileRef>
 {
     let embryo = socket(places, file)?.backlog()?.files().get(at)?;
     Some(embryo.again())
-}
-
-/// Whether the file is a socket.
-pub fn is_socket(places: &Holdings, file: &FileRef) -> bool
-    ensures { result ≡ is_socket_at places.now.world file.now }
-{
-    socket(places, file).is_some()
 }
 
 /// The socket; a plain file and a stranger are none.

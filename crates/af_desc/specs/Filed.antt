@@ -1,5 +1,5 @@
 -- Files under numbers that are never used again.
-use Rattle.std.specs.Prelude.{◌≡◌, ◌↔◌, ◌<◌, ◌≤◌, ℕ, ◌+◌, ◌-◌, ◌^◌, Bool, List, Option, Some, drop, false, nat_lt, unwrap_or, if◌then◌else◌}
+use Rattle.std.specs.Prelude.{◌≡◌, ◌↔◌, ◌&&◌, ◌<◌, ◌≤◌, ℕ, ◌+◌, ◌-◌, ◌^◌, Bool, List, Option, Some, drop, false, is_some, nat_lt, unwrap_or, if◌then◌else◌}
 use Rattle.std.specs.Option.{option_and_then, option_map_or}
 use Rattle.af_base.specs.declared.events.SockType.{SockType}
 use Rattle.std.specs.FinMap as map
@@ -20,7 +20,7 @@ use Rattle.af_ledger.specs.declared.place.Place.TheVariants.{Backlog, Queue, Tab
 use Rattle.af_listen.specs.Named.{Named}
 use Rattle.af_mark.specs.Grey.{AreListed, colors_in}
 use Rattle.af_mark.specs.declared.mark.Mark.{Mark}
-use Rattle.af_mark.specs.Marked.{Marked, born, forgotten, white_count}
+use Rattle.af_mark.specs.Marked.{Marked, born, forgotten, is_unmarked, white_count}
 use Rattle.af_queue.specs.Received.{Received, received}
 use Rattle.af_desc.specs.Rowed.{Rowed}
 
@@ -80,6 +80,10 @@ popped s = record s { queue = drop 1 s.queue }
 -- The socket of this number among these files.
 abbrev pub socket_in : Map File → ℕ → Option Socket
 socket_in files f = option_and_then socket_of (map.get files f)
+
+-- Whether the file f of these is a socket that a pass has still to mark (this project's own).
+abbrev pub is_unmarked_socket : Map File → Marked → ℕ → Bool
+is_unmarked_socket files m f = is_some (socket_in files f) && is_unmarked m f
 
 -- Whom the file f of these can talk to: a plain file and a stranger nobody.
 abbrev pub state_in : Map File → ℕ → State

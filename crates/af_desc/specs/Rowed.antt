@@ -62,9 +62,13 @@ marks_of m = part (λ r. r.mark) m
 pub record AreChained (s : Slab Node) (m : Map Row) : Type 0 where
   pub each : (f : ℕ) (x : Row) → map.get m f ≡ Some x → IsChain s x.chain f
 
+-- Whether the file has a mark, and is not marked in this pass (this project's own).
+abbrev pub is_white_in : ℕ → Map Mark → ℕ → Bool
+is_white_in epoch marks f = option_map_or (λ x. not (is_mark (color_in epoch x))) (map.get marks f) false
+
 -- Whether a pass has still to mark the file, and a table holds it (this project's own).
 abbrev pub is_due : ℕ → Map Count → Map Mark → ℕ → Bool
-is_due epoch counts marks f = nat_lt 0 (count_in_map counts f).tabled && option_map_or (λ x. not (is_mark (color_in epoch x))) (map.get marks f) false
+is_due epoch counts marks f = nat_lt 0 (count_in_map counts f).tabled && is_white_in epoch marks f
 
 -- The mark of a file that is marked in this pass, and to be scanned unless it is black (this project's own).
 abbrev pub marking : ℕ → ℕ → Bool → Mark

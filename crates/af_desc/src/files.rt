@@ -10,10 +10,10 @@ ghost use Rattle.af_base.specs.Steps.{connected_socket, idle_socket};
 ghost use Rattle.af_base.specs.Whole.{IsMessageWithin};
 ghost use Rattle.af_base.specs.World.{untold};
 ghost use Rattle.af_ledger.specs.Kept.{AreWaiting};
-ghost use Rattle.af_mark.specs.Marked.{is_grey};
+ghost use Rattle.af_mark.specs.Marked.{is_grey, is_unmarked};
 ghost use Rattle.af_desc.specs.Rowed.{file_of, with_row};
 ghost use Rattle.af_base.specs.Told.{AreChanged, AreReleased};
-ghost use Rattle.af_desc.specs.Filed.{changed, changed_queue, entered, hung_up, is_full, is_live, name_of, paired, popped, received_from, received_of, socket_in, state_in, without};
+ghost use Rattle.af_desc.specs.Filed.{AreNamed, changed, changed_queue, entered, hung_up, is_full, is_live, is_unmarked_socket, name_of, paired, popped, received_from, received_of, socket_in, state_in, without};
 
 use crate::rows::Rows;
 use crate::socket::{Endpoint, Socket};
@@ -213,37 +213,42 @@ impl Files {
     }
 
     /// The file, which has nothing to receive, goes; of a stranger nothing. Its number is never given
-    /// again, and its name is free. Answers to whom it was connected. It takes no memory.
+    /// again, and its name is free. Answers to whom it was connected, and whether it was a socket that
+    /// the pass had still to mark. It takes no memory.
     #[inline(always)]
     #[tactic(auto, using(af_mark::proofs::Listed::gone))]
-    pub fn remove(&mut self, file: &FileRef) -> Option<FileRef>
+    pub fn remove(&mut self, file: &FileRef) -> (Option<FileRef>, bool)
         requires silent { queue_in self.old.files file.now ≡ [] }
-        ensures peer { IfSome result (λ p. state_in self.old.files file.now ≡ State.Connected p) }
-        ensures alone { IfNone result ((p : ℕ) → ¬ (state_in self.old.files file.now ≡ State.Connected p)) }
+        ensures peer { IfSome result.0 (λ p. state_in self.old.files file.now ≡ State.Connected p) }
+        ensures alone { IfNone result.0 ((p : ℕ) → ¬ (state_in self.old.files file.now ≡ State.Connected p)) }
+        ensures unmarked { result.1 ≡ is_unmarked_socket self.old.files self.old.marks file.now }
         ensures gone { self.new ≡ without file.now self.old }
     {
         self.scanned(file);
-        self.take_out(file)?.peer()
+        let (endpoint, unmarked) = self.take_out(file);
+        match endpoint {
+            Some(endpoint) => (endpoint.peer(), unmarked),
+            None => (None, false),
+        }
     }
 
-    /// A file that is not grey goes, and the socket that it was is handed on.
+    /// A file that is not grey goes, and the socket that it was is handed on. Whether the pass had still
+    /// to mark it.
     #[inline(always)]
     #[tactic(auto, using(crate::proofs::Begun::begun))]
-    fn take_out(&mut self, file: &FileRef) -> Option<Endpoint>
+    fn take_out(&mut self, file: &FileRef) -> (Option<Endpoint>, bool)
         requires white { is_grey self.old.marks file.now ≡ false }
         requires silent { queue_in self.old.files file.now ≡ [] }
-        ensures value { result ≡ socket_in self.old.files file.now }
+        ensures socket { result.0 ≡ socket_in self.old.files file.now }
+        ensures unmarked { result.1 ≡ is_unmarked self.old.marks file.now }
         ensures gone { self.new ≡ without file.now self.old }
     {
-        let white = self.white_without(file);
-        let gone = self.rows.remove(file);
-        self.white = white;
+        let (endpoint, white) = self.rows.remove(file, self.epoch);
+        let unmarked = (file.ino().0 < self.bound) & white;
+        self.white -= usize::from(unmarked);
         unlist(&mut self.waiting, file.ino(), 0);
-        let endpoint = gone?;
-        if let Some(name) = endpoint.name() {
-            self.names.unbind(name);
-        }
-        Some(endpoint)
+        free_name(&mut self.names, &endpoint);
+        (endpoint, unmarked)
     }
 
     /// The peer of that socket is gone from now on. A plain file or a stranger stays as it is. It
@@ -461,6 +466,19 @@ fn widen(list: &mut Vec<FileRef>, files: usize) -> Result<(), AllocError>
         return Ok(());
     }
     list.reserve(files - list.len())
+}
+
+/// Frees the name of a socket that is gone, if it had one.
+#[inline(always)]
+fn free_name(names: &mut Names, gone: &Option<Endpoint>)
+    ensures { (files : world.Map world.File) (f : ℕ) → AreNamed names.old files → gone.now ≡ socket_in files f → AreNamed names.new (map.remove files f) }
+{
+    let Some(endpoint) = gone else {
+        return;
+    };
+    if let Some(name) = endpoint.name() {
+        names.unbind(name);
+    }
 }
 
 /// A file more, under the number after the last, which waits for its first place. There is room for

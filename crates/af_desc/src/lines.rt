@@ -10,7 +10,7 @@ ghost use Rattle.af_ledger.specs.Counted.{fewer, more, places_in, IsCountable, I
 ghost use Rattle.af_ledger.specs.Kept.{count_in_map};
 ghost use Rattle.af_desc.specs.Filed.{hung_up, popped, received_from, received_of, socket_in};
 ghost use Rattle.af_desc.specs.Lined.{with_line, without_line};
-ghost use Rattle.af_desc.specs.Rowed.{file_of, is_due, marking};
+ghost use Rattle.af_desc.specs.Rowed.{file_of, is_due, is_white_in, marking};
 
 use crate::row::Row;
 use crate::socket::{Endpoint, Socket};
@@ -122,19 +122,25 @@ impl Lines {
     }
 
     /// A file that has nothing to receive goes, and the socket that it was is handed on; a plain file
-    /// and a stranger were none. It takes no memory.
+    /// and a stranger were none. Whether it was there, and is not marked in this pass. It takes no
+    /// memory.
     #[inline(always)]
     #[tactic(auto, using(crate::proofs::Rowed::chains, af_order::proofs::Parts::parts))]
-    pub fn remove(&mut self, file: &FileRef) -> Option<Endpoint>
+    pub fn remove(&mut self, file: &FileRef, epoch: u64) -> (Option<Endpoint>, bool)
         requires silent { queue_in self.old.files file.now ≡ [] }
-        ensures value { result ≡ socket_in self.old.files file.now }
+        ensures socket { result.0 ≡ socket_in self.old.files file.now }
+        ensures white { result.1 ≡ is_white_in epoch self.old.marks file.now }
         ensures removed { self.new ≡ without_line file.now self.new.room self.old }
         ensures room { self.old.room ≤ self.new.room }
     {
-        let row = self.rows.remove(file)?;
-        let endpoint = row.endpoint?;
-        endpoint.is_silent();
-        Some(endpoint)
+        let Some(row) = self.rows.remove(file) else {
+            return (None, false);
+        };
+        if let Some(endpoint) = &row.endpoint {
+            endpoint.is_silent();
+        }
+        let white = matches!(row.mark.color_in(epoch), Color::White);
+        (row.endpoint, white)
     }
 
     /// The socket that a file is; a plain file and a stranger are none.

@@ -1,13 +1,13 @@
 //! Which files a pass of the collector has marked, and which of these it has still to scan. No call
 //! takes memory.
-ghost use Rattle.std.specs.Prelude.{◌≡◌, ◌<◌, ◌≤◌, ℕ, ◌-◌, Some, IsTrue, IfSome, IfNone, Bool, [], cond, false, nat_eq, option_map, true, vec_capacity};
+ghost use Rattle.std.specs.Prelude.{◌≡◌, ◌<◌, ℕ, ◌-◌, Some, IsTrue, IfSome, IfNone, Bool, [], cond, false, nat_eq, option_map, true, vec_capacity};
 ghost use Rattle.std.specs.FinMap as map;
 ghost use Rattle.af_base.specs.Counts.{count_in};
 ghost use Rattle.af_base.specs.Changes.{change_at};
 ghost use Rattle.af_base.specs.Places.{held_in};
 ghost use Rattle.af_ledger.specs.Kept.{count_in_map};
 ghost use Rattle.af_mark.specs.Grey.{AreUpTo, colors_in, placed};
-ghost use Rattle.af_mark.specs.Marked.{blackened, forgotten, is_grey, is_marked, is_white, knows, shaded, visited, white_count};
+ghost use Rattle.af_mark.specs.Marked.{blackened, is_grey, is_marked, is_white, knows, shaded, visited};
 ghost use Rattle.af_mark.specs.declared.color.Color.TheVariants.{Black, Grey, White};
 
 use crate::files::Files;
@@ -49,18 +49,6 @@ impl Files {
         ensures { result ≡ true → (f : ℕ) → knows self.now.marks f ≡ true → f < self.now.marks.bound → is_marked self.now.marks f ≡ true }
     {
         self.white == 0
-    }
-
-    /// Returns how many files the pass has still to mark once this one is gone.
-    #[inline(always)]
-    pub(crate) fn white_without(&self, file: &FileRef) -> usize
-        ensures { white_count (forgotten file.now self.now.marks) ≤ result }
-    {
-        // Where all are marked there is nothing to look up.
-        if self.white > 0 && file.ino().0 < self.bound && self.is_white(file) {
-            return self.white - 1;
-        }
-        self.white
     }
 
     /// The bound of the pass: files from this number on were born since it began.

@@ -10,7 +10,7 @@ ghost use Rattle.af_base.specs.World.{untold};
 ghost use Rattle.af_ledger.specs.Counted.{fewer, more, places_in, IsCountable, IsCounted};
 ghost use Rattle.af_ledger.specs.Kept.{count_in_map};
 ghost use Rattle.af_desc.specs.Filed.{hung_up, popped, received_from, received_of, socket_in};
-ghost use Rattle.af_desc.specs.Rowed.{file_of, is_due, marking, with_row, without_row};
+ghost use Rattle.af_desc.specs.Rowed.{file_of, is_due, is_white_in, marking, with_row, without_row};
 ghost use Rattle.af_base.specs.Told.{AreChanged, AreReleased};
 ghost use Rattle.af_desc.specs.Told.{AreListed, Notes};
 
@@ -138,17 +138,19 @@ impl Rows {
     }
 
     /// A file that has nothing to receive goes, and the socket that it was is handed on; a plain file
-    /// and a stranger were none. It takes no memory.
+    /// and a stranger were none. Whether it was there, and is not marked in this pass. It takes no
+    /// memory.
     #[inline(always)]
-    pub fn remove(&mut self, file: &FileRef) -> Option<Endpoint>
+    pub fn remove(&mut self, file: &FileRef, epoch: u64) -> (Option<Endpoint>, bool)
         requires silent { queue_in self.old.files file.now ≡ [] }
-        ensures value { result ≡ socket_in self.old.files file.now }
+        ensures socket { result.0 ≡ socket_in self.old.files file.now }
+        ensures white { result.1 ≡ is_white_in epoch self.old.marks file.now }
         ensures removed { self.new ≡ without_row file.now self.new.room self.old }
         ensures room { self.old.room ≤ self.new.room }
     {
         tell_released(self.tells_released, &self.lines, &mut self.released, file);
         strike(&mut self.lines, &mut self.changed, file);
-        self.lines.remove(file)
+        self.lines.remove(file, epoch)
     }
 
     /// The socket that a file is; a plain file and a stranger are none.

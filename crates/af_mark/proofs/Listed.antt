@@ -1,6 +1,6 @@
 -- That marks and list stay right, whatever comes, goes or changes.
 use Rattle.std.proofs.Common.{◌≡◌, ◌≤◌, ◌<◌, ◌-◌, ℕ, Bool, true, false, cond, List, [], ◌∷◌, ◌++◌, length, refl, ap, ◌∙◌, subst, sym, arith}
-use Rattle.std.specs.Prelude.{Option, Some, None, IsSome, ◌&&◌, if◌then◌else◌, is_some, not}
+use Rattle.std.specs.Prelude.{Option, Some, None, IsSome, ◌&&◌, if◌then◌else◌, is_some, nat_lt, not}
 use Rattle.std.specs.Cmp.{nat_cmp_total}
 use Rattle.std.specs.FinMap as map
 use Rattle.std.specs.FinMap.{get-insert, get-remove, nat_cmp-IsAntisymmetric, same_map}
@@ -14,7 +14,7 @@ use Rattle.af_base.specs.World.{Map}
 use Rattle.af_order.proofs.Parts.{part_many}
 use Rattle.af_order.proofs.Values.{gone_few}
 use Rattle.af_mark.specs.Grey.{AreGrey, AreListed, AreUpTo, color_in, colors_in, unmarked}
-use Rattle.af_mark.specs.Marked.{Marked, blackened, forgotten, is_grey, is_grey_color, is_mark, is_white}
+use Rattle.af_mark.specs.Marked.{Marked, blackened, forgotten, is_grey, is_grey_color, is_mark, is_unmarked, is_white}
 use Rattle.af_mark.specs.declared.color.Color.{Color}
 use Rattle.af_mark.specs.declared.color.Color.TheVariants.{Black, Grey, White}
 use Rattle.af_mark.specs.declared.mark.Mark.{Mark}
@@ -117,4 +117,20 @@ black-forgotten f m = by (is_grey m f) where
         at q false = refl
   by false = refl
 
-pub ruleset gone = (black-spared, black-forgotten)
+-- Who is grey is known and marked, so not white.
+grey-unmarked : (o : Option Color) → option_map_or is_grey_color o false ≡ true → (is_some o && not (option_map_or is_mark o false)) ≡ false
+grey-unmarked None e = absurd (false≢true e)
+grey-unmarked (Some White) e = absurd (false≢true e)
+grey-unmarked (Some Grey) e = refl
+grey-unmarked (Some Black) e = absurd (false≢true e)
+
+-- Who is scanned is unmarked as before.
+pub black-unmarked : (f : ℕ) (m : Marked) → is_unmarked (blackened f m) f ≡ is_unmarked m f
+black-unmarked f m = by (is_grey m f) refl where
+  by : (b : Bool) → is_grey m f ≡ b → is_unmarked (if b then record m { colors = map.insert m.colors f Black } else m) f ≡ is_unmarked m f
+  by true e =
+      let after = ap (λ o. is_some o && not (option_map_or is_mark o false)) (insert-here m.colors f Black) in
+      ap {B = Bool} (λ b. nat_lt f m.bound && b) (after ∙ sym (grey-unmarked (map.get m.colors f) e))
+  by false e = refl
+
+pub ruleset gone = (black-spared, black-forgotten, black-unmarked)

@@ -40,6 +40,10 @@ is_grey m f = option_map_or is_grey_color (map.get m.colors f) false
 abbrev pub is_white : Marked → ℕ → Bool
 is_white m f = knows m f && not (is_marked m f)
 
+-- Whether a pass has still to mark f: it was born before, and is not marked (this project's own).
+abbrev pub is_unmarked : Marked → ℕ → Bool
+is_unmarked m f = nat_lt f m.bound && is_white m f
+
 -- f was born: it is known, and not marked (this project's own).
 abbrev pub born : ℕ → Marked → Marked
 born f m = record m { colors = map.insert m.colors f White }

@@ -1,7 +1,7 @@
 -- What follows from what is kept: which files a pass spares, and how much it looks at.
-use Rattle.std.proofs.Common.{◌≡◌, ◌≤◌, ℕ, true, not, ◌&&◌, refl, ap, arith, nat_lt}
+use Rattle.std.proofs.Common.{◌≡◌, ◌≤◌, ℕ, true, ◌&&◌, refl, ap, arith}
 use Rattle.std.specs.FinMap as map
-use Rattle.std.proofs.lemmas.Bool.{and_parts, false≢true}
+use Rattle.std.proofs.lemmas.Bool.{false≢true}
 use Rattle.std.proofs.lemmas.List.Sums.{count_by-le-length}
 use Rattle.af_base.specs.declared.limits.TheConstants.{MAX_FILES}
 use Rattle.af_base.specs.World.{IsLive, World}
@@ -11,8 +11,7 @@ use Rattle.af_mark.specs.Marked.{Marked, is_grey, is_marked}
 use Rattle.af_pass.specs.declared.Stage.{Stage}
 use Rattle.af_pass.specs.declared.Stage.TheVariants.{Marking, Resting, Sweeping}
 use Rattle.af_pass.specs.declared.Progress.{Progress}
-use Rattle.af_pass.specs.Since.{is_socket_at}
-use Rattle.af_pass.specs.Keeping.{IsKept, IsRunning, IsStage, Spares, below, is_counted, is_marking, is_running, is_sweeping, pass_of}
+use Rattle.af_pass.specs.Keeping.{IsKept, IsRunning, IsStage, Spares, below, is_marking, is_running, is_sweeping, pass_of}
 use Rattle.af_pass.proofs.Going.{never_garbage}
 use Rattle.af_pass.proofs.Keeping.{in_marking, in_sweeping, marking_only}
 
@@ -26,13 +25,11 @@ spared_running Resting begun n f e spared = absurd (false≢true e)
 spared_running Marking begun n f e spared = spared
 spared_running Sweeping begun n f e spared = spared
 
--- A file is counted as it goes only while sweeping goes on.
-pub counts_sweeping : (w : World) (m : Marked) (c : Progress) (f : ℕ) → is_counted w m c f ≡ true → c.stage ≡ Sweeping
-counts_sweeping w m c f e = by c.stage (and_parts (is_sweeping c.stage) (is_socket_at w f && (nat_lt f m.bound && not (is_marked m f))) e).0 where
-  by : (s : Stage) → is_sweeping s ≡ true → s ≡ Sweeping
-  by Resting d = absurd (false≢true d)
-  by Marking d = absurd (false≢true d)
-  by Sweeping d = refl
+-- Sweeping goes on in one stage only.
+pub sweeping_only : (s : Stage) → is_sweeping s ≡ true → s ≡ Sweeping
+sweeping_only Resting e = absurd (false≢true e)
+sweeping_only Marking e = absurd (false≢true e)
+sweeping_only Sweeping e = refl
 
 module _ {w begun : World} {m : Marked} {c : Progress} where
   -- No more sockets are counted than there can be files.
