@@ -1,6 +1,7 @@
 -- Lemmas.
 pub mod Drives
 pub mod Fits
+pub mod Joined
 pub mod Logs
 pub mod Opening
 pub mod Placing

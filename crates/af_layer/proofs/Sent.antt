@@ -28,22 +28,35 @@ use Rattle.af_layer.specs.contracts.layer.Layer as Layer
 -- Nor does the snapshot in the rows.
 rows_inside : IsSend RowsInside.the_row
 rows_inside =
-    declared_send RowsInside.the_type
-    (search (sendable, crosses, lines.the_send) depth 20,
-    (search sendable, (search (sendable, crosses, file.the_send) depth 20,
-    (search sendable, (search (sendable, crosses, ino.the_send) depth 20, (search (sendable, crosses) depth 20, tt))))))
+    declared_send RowsInside.the_type (
+      search (sendable, crosses, lines.the_send) depth 20,
+      (
+        search sendable,
+        (
+          search (sendable, crosses, file.the_send) depth 20,
+          (search sendable, (search (sendable, crosses, ino.the_send) depth 20, (search (sendable, crosses) depth 20, tt))),
+        ),
+      ),
+    )
 
 rows_send : IsSend Rows.the_row
 rows_send = search (sendable, rows_inside) depth 10
 
 files_inside : IsSend FilesInside.the_row
 files_inside =
-    declared_send FilesInside.the_type
-    (search (sendable, crosses) depth 20,
-    (rows_send,
-    (search (sendable, crosses, file.the_send) depth 20,
-    (search (sendable, crosses, file.the_send) depth 20,
-    (search sendable, (search sendable, (search sendable, (search (sendable, crosses, names.the_send) depth 20, (search sendable, (search sendable, tt))))))))))
+    declared_send FilesInside.the_type (
+      search (sendable, crosses) depth 20,
+      (
+        rows_send,
+        (
+          search (sendable, crosses, file.the_send) depth 20,
+          (
+            search (sendable, crosses, file.the_send) depth 20,
+            (search sendable, (search sendable, (search sendable, (search (sendable, crosses, names.the_send) depth 20, (search sendable, (search sendable, tt)))))),
+          ),
+        ),
+      ),
+    )
 
 files_send : IsSend Files.the_row
 files_send = search (sendable, files_inside) depth 10
@@ -70,7 +83,7 @@ engine_send : IsSend Engine.the_row
 engine_send = search (sendable, engine_inside) depth 10
 
 book_inside : IsSend BookInside.the_row
-book_inside = declared_send BookInside.the_type (search (sendable, crosses) depth 20, (search sendable, (engine_send, (search (sendable, crosses, entry.the_send) depth 20, tt))))
+book_inside = declared_send BookInside.the_type (search (sendable, crosses) depth 20, (search sendable, (search (sendable, crosses) depth 20, (engine_send, (search (sendable, crosses, entry.the_send) depth 20, tt)))))
 
 book_send : IsSend Book.the_row
 book_send = search (sendable, book_inside) depth 10

@@ -26,3 +26,4 @@ pub record Calls (old : Logged) (seat : ℕ) (e : Event) (r : Reply) (new : Logg
   pub log : new.log ≡ old.log ++ record { seat = seat; event = e; reply = r } ∷ []
   pub step : Step old.machine e r new.machine
   pub seats : new.seats ≡ old.seats
+  pub start : new.start ≡ old.start

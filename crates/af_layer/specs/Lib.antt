@@ -5,5 +5,6 @@ pub mod Drive
 pub mod Log
 pub mod Room
 pub mod Seats
+pub mod Taken
 pub mod Walk
 pub mod Workers

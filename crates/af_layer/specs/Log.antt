@@ -21,15 +21,20 @@ abbrev pub of_seat : ℕ → List Entry → List Pair
 of_seat k [] = []
 of_seat k (e ∷ log) = if nat_eq e.seat k then pair_of e ∷ of_seat k log else of_seat k log
 
--- A log is legal: each entry is of a seat from 1 to the number of seats, and the events with their replies are a run from the fresh machine to this one (this project's own).
-pub record IsLegal (seats : ℕ) (machine : Machine) (log : List Entry) : Type 0 where
+-- A log is legal from the first machine to the second: each entry is of a seat from 1 to the number of seats, and the events with their replies are a run from one to the other (this project's own).
+pub record IsLegalFrom (start : Machine) (seats : ℕ) (machine : Machine) (log : List Entry) : Type 0 where
   pub some_seat : 1 ≤ seats
   pub few_seats : seats ≤ MAX_SEATS
   pub of_seats : All (λ e. (1 ≤ e.seat) × (e.seat ≤ seats)) log
-  pub run : Run fresh (map pair_of log) machine
+  pub run : Run start (map pair_of log) machine
 
--- What a book shows: how many seats there are, the machine, and the log of all that it did.
+-- A log is legal: it is so from the fresh machine on.
+abbrev pub IsLegal : ℕ → Machine → List Entry → Type 0
+IsLegal = IsLegalFrom fresh
+
+-- What a book shows: how many seats there are, the machine from which its log runs, the machine now, and the log of all that it did between them.
 pub record Logged : Type 0 where
   pub seats : ℕ
+  pub start : Machine
   pub machine : Machine
   pub log : List Entry

@@ -3,7 +3,7 @@ ghost use Rattle.std.specs.Prelude.{◌≡◌, ◌<◌, ◌≤◌, [], IfOk, OnE
 ghost use Rattle.af_base.specs.Pass.{Machine};
 ghost use Rattle.af_base.specs.Run.{fresh};
 ghost use Rattle.af_layer.specs.Calls.{Answers, Calls, refusal};
-ghost use Rattle.af_layer.specs.Log.{IsLegal};
+ghost use Rattle.af_layer.specs.Log.{IsLegalFrom};
 ghost use Rattle.af_layer.specs.Room.{most_bytes, most_fds};
 
 use crate::room::ReplyRoom;
@@ -12,6 +12,8 @@ use af_base::limits::{MAX_LOG, MAX_SEATS};
 use af_steps::Engine;
 use std::alloc::{AllocError, Global};
 use std::marker::Model;
+use std::mem;
+use std::snapshot::Snapshot;
 use thiserror::Error;
 
 /// One event that was done, from which seat, and what was answered.
@@ -32,7 +34,7 @@ pub enum CallError {
     /// There is no seat of that number.
     #[error("no such seat")]
     NoSeat,
-    /// The log has 1,048,576 entries, as many as it may have.
+    /// The log has 1,048,576 entries, as many as it may have until it is taken.
     #[error("the log is full")]
     LogFull,
     /// Memory for the entry, or for the copies that are kept, was refused.
@@ -40,14 +42,16 @@ pub enum CallError {
     NoRoom,
 }
 
-/// An engine, and the log of all that it did.
+/// An engine, and the log of all that it did since the log was taken last.
 ///
 /// The log is legal: each entry is of one of the seats, and the events with their replies lead from
-/// the fresh machine to the one that the engine shows.
+/// the machine at the last [`Book::take_log`], or the fresh one, to the one that the engine shows.
 #[derive(Drop)]
 pub struct Book {
     alloc: Global,
     seats: u32,
+    /// The engine when the log was taken last: for contracts alone.
+    start: Snapshot<Engine>,
     engine: Engine,
     log: Vec<Entry>,
 }
@@ -55,15 +59,15 @@ pub struct Book {
 impl Model for Book {
     ghost use Rattle.std.specs.FinMap as map;
     ghost use Rattle.std.specs.Coded.{codes};
-    ghost use Rattle.af_layer.specs.Log.{IsLegal, Logged};
+    ghost use Rattle.af_layer.specs.Log.{IsLegalFrom, Logged};
 
     ghost Value = { Logged };
 
     ghost coded = { Prim.hlevel (codes, map.code) };
 
-    ghost view = { λ b. record { seats = b.seats; machine = b.engine; log = b.log.items } };
+    ghost view = { λ b. record { seats = b.seats; start = b.start.value; machine = b.engine; log = b.log.items } };
 
-    ghost invariant = { λ b. IsLegal b.seats b.engine b.log.items };
+    ghost invariant = { λ b. IsLegalFrom b.start.value b.seats b.engine b.log.items };
 }
 
 impl Book {
@@ -71,12 +75,16 @@ impl Book {
     /// memory was refused.
     pub fn new(alloc: Global, seats: u32) -> Result<Book, AllocError>
         requires { (1 ≤ seats) × (seats ≤ MAX_SEATS) }
-        ensures { IfOk result (λ book. book ≡ record { seats = seats; machine = fresh; log = [] }) }
+        ensures { IfOk result (λ book.
+            book ≡ record { seats = seats; start = fresh; machine = fresh; log = [] }) }
     {
+        let engine = Engine::new(alloc)?;
+        let start = Snapshot::of(&engine);
         Ok(Book {
             alloc,
             seats,
-            engine: Engine::new(alloc)?,
+            start,
+            engine,
             log: Vec::new(alloc),
         })
     }
@@ -89,12 +97,28 @@ impl Book {
         self.seats
     }
 
-    /// Returns all that was done, in order: a run from the fresh machine to the engine as it is.
+    /// Returns all that was done since the log was taken last, in order: a run from the machine then
+    /// to the engine as it is. Where it was never taken, that is the fresh machine.
     pub fn log(&self) -> &[Entry]
         ensures value { result.now ≡ self.now.log }
-        ensures legal { IsLegal self.now.seats self.now.machine self.now.log }
+        ensures legal { IsLegalFrom self.now.start self.now.seats self.now.machine self.now.log }
     {
         self.log.as_slice()
+    }
+
+    /// Takes the log: hands over all entries, and goes on with an empty log, which runs from the
+    /// engine as it is. It takes no memory.
+    ///
+    /// Logs that were taken one after the other are one run: [`taken_logs_are_one`].
+    ///
+    /// [`taken_logs_are_one`]: crate::taken_logs_are_one
+    pub fn take_log(&mut self) -> Vec<Entry>
+        ensures log { result.items ≡ self.old.log }
+        ensures legal { IsLegalFrom self.old.start self.old.seats self.old.machine result.items }
+        ensures book { self.new ≡ record self.old { start = self.old.machine; log = [] } }
+    {
+        self.start = Snapshot::of(&self.engine);
+        mem::replace(&mut self.log, Vec::new(self.alloc))
     }
 
     /// Lends the engine as it stands.
@@ -140,8 +164,9 @@ fn room_for(
         (most_bytes event.now ≤ room.bytes) × (most_fds event.now ≤ room.fds)) }
     ensures entry { OnOk result (vec_len log.new < vec_capacity log.new) }
     ensures seat { OnOk result ((1 ≤ seat) × (seat ≤ seats)) }
-    ensures refused { (machine : Machine) → Answers (refusal (record {
+    ensures refused { (start machine : Machine) → Answers (refusal (record {
       seats = seats;
+      start = start;
       machine = machine;
       log = log.old.items;
     }) seat) result }

@@ -3,6 +3,7 @@ ghost use Rattle.std.specs.Prelude.{◌≡◌, ◌+◌, ◌<◌, ℕ, [], Err, I
 ghost use Rattle.af_base.specs.declared.events.Reply.{Reply as Answer};
 ghost use Rattle.af_layer.specs.Audit.{HasFault, IsWhole};
 ghost use Rattle.af_layer.specs.Calls.{is_seat};
+ghost use Rattle.af_layer.specs.Log.{IsLegal};
 ghost use Rattle.af_layer.specs.Seats.{Seated, grown};
 
 use crate::audit::{CloseFault, audit};
@@ -11,13 +12,48 @@ use crate::seat::Seat;
 use af_base::events::Event;
 use af_base::limits::MAX_SEATS;
 use std::alloc::Global;
+use std::marker::Model;
 use std::sync::{Mutex, Wait};
 use thiserror::Error;
 
 /// A book that threads share: one lock, and under it one call at a time.
 #[derive(Drop)]
 pub struct Layer {
-    book: Mutex<Book>,
+    book: Mutex<UntakenBook>,
+}
+
+/// A book whose log was never taken: it has all that was ever done.
+///
+/// What lies under a lock is known by its type alone, so the type says it.
+#[derive(Drop)]
+struct UntakenBook {
+    book: Book,
+}
+
+impl Model for UntakenBook {
+    ghost use Rattle.std.specs.FinMap as map;
+    ghost use Rattle.std.specs.Coded.{codes};
+    ghost use Rattle.std.specs.Prelude.{◌≡◌};
+    ghost use Rattle.af_base.specs.Run.{fresh};
+    ghost use Rattle.af_layer.specs.Log.{Logged};
+
+    ghost Value = { Logged };
+
+    ghost coded = { Prim.hlevel (codes, map.code) };
+
+    ghost view = { λ b. b.book };
+
+    ghost invariant = { λ b. b.book.start ≡ fresh };
+}
+
+impl UntakenBook {
+    /// Does one event from this seat.
+    fn call_from(&mut self, seat: &mut Seat, event: Event) -> Result<(), CallError>
+        ensures done { OnOk result ((reply : Answer) × (seat.new ≡ grown seat.old event reply)) }
+        ensures same { OnErr result (seat.new ≡ seat.old) }
+    {
+        seat.call_in(&mut self.book, event)
+    }
 }
 
 /// Why no layer was opened.
@@ -73,7 +109,7 @@ impl Layer {
         for before in 0..seats {
             list.push_reserved(Seat::new(alloc, before + 1));
         }
-        let book = Mutex::new(book);
+        let book = Mutex::new(UntakenBook { book });
         Ok((Layer { book }, list))
     }
 
@@ -85,19 +121,25 @@ impl Layer {
         ensures done { OnOk result ((reply : Answer) × (seat.new ≡ grown seat.old event reply)) }
         ensures same { OnErr result (seat.new ≡ seat.old) }
     {
-        seat.call_in(&mut self.book.lock(rt), event)
+        self.book.lock(rt).call_from(seat, event)
     }
 
-    /// Ends the layer with an audit: each number has one seat, and its list is its part of the log.
+    /// Ends the layer with an audit: each number has one seat, and its list is its part of the log,
+    /// which is one run from the fresh machine to the engine.
     ///
     /// It waits for nobody and takes no memory. Its cost is linear in the log and in the lists.
     pub fn close(self, seats: Vec<Seat>) -> Result<Closed, CloseError>
         ensures whole { IfOk result (λ closed. IsWhole closed.book seats.items) }
+        ensures legal { IfOk result (λ closed.
+            IsLegal closed.book.seats closed.book.machine closed.book.log) }
         ensures fault { IfErr result (λ e. HasFault e.book seats.items e.fault) }
         ensures seats { IfErr result (λ e. e.seats.items ≡ seats.items) }
+        ensures untaken { IfErr result (λ e. IsLegal e.book.seats e.book.machine e.book.log) }
     {
         let Layer { book } = self;
-        let book = book.into_inner();
+        let UntakenBook { book } = book.into_inner();
+        // The invariant of the book, which says where its log begins and ends.
+        book.log();
         match audit(&book, seats.as_slice()) {
             None => Ok(Closed { book }),
             Some(fault) => Err(CloseError { fault, book, seats }),

@@ -12,6 +12,7 @@ mod driving;
 mod layer;
 mod room;
 mod seat;
+mod taken;
 mod workers;
 
 pub use audit::CloseFault;
@@ -19,4 +20,5 @@ pub use book::{Book, CallError, Entry};
 pub use driving::{DriveError, DriveFault, drive};
 pub use layer::{CloseError, Closed, Layer, OpenError};
 pub use seat::Seat;
+pub use taken::{taken_logs_are_one, taken_parts_are_one};
 pub use workers::{Gate, OpenGate, Turns};

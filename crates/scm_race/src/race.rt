@@ -62,8 +62,6 @@ impl Race {
         let (layer, seats) = Layer::open(alloc, self.workers + 2)?;
         let seats = self.play(rt, alloc, &layer, seats)?;
         let closed = layer.close(seats)?;
-        // The invariant of the book, which the contract of `play` asks for.
-        closed.book.log();
         Ok(Outcome {
             workers: self.workers,
             closed,

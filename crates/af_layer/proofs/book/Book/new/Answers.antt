@@ -1,5 +1,5 @@
 use Rattle.std.proofs.Common.{rules, List, map, subst, sym}
-use Rattle.af_base.specs.Run.{Run, fresh}
+use Rattle.af_base.specs.Run.{Run}
 use Rattle.af_layer.specs.declared.book.Entry.{Entry}
 use Rattle.af_layer.specs.Log.{pair_of}
 use Rattle.af_layer.proofs.book.Book.new.Goals as goal
@@ -9,5 +9,5 @@ invariant_of-result c = record {
   some_seat = search rules;
   few_seats = search rules;
   of_seats = search rules;
-  run = subst (λ (log : List Entry). Run fresh (map pair_of log) c.in_ok-new.field-0) (sym c.new-2.ensures.items) c.in_ok-new.ensures;
+  run = subst (λ (log : List Entry). Run c.of-start.result.value (map pair_of log) c.in_ok-engine.engine) (sym c.new-2.ensures.items) (sym c.of-start.ensures);
 }

@@ -2,7 +2,7 @@ use Rattle.scm_race.proofs.Ended.{all-steps}
 use Rattle.scm_race.proofs.race.Race.run.Goals as goal
 
 pub returns-clause-raced : goal.returns-clause-raced
-returns-clause-raced g c = c.in_ok-seats.ensures c.in_ok-closed.closed.book c.log.ensures.legal c.in_ok-closed.ensures.whole
+returns-clause-raced g c = c.in_ok-seats.ensures c.in_ok-closed.closed.book c.in_ok-closed.ensures.legal c.in_ok-closed.ensures.whole
 
 pub returns-clause-steps : goal.returns-clause-steps
 returns-clause-steps g c =

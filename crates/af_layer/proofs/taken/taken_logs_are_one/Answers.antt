@@ -1,0 +1,5 @@
+use Rattle.af_layer.proofs.Joined.{taken_logs_are_one}
+use Rattle.af_layer.proofs.taken.taken_logs_are_one.Goals as goal
+
+pub returns : goal.returns
+returns c = taken_logs_are_one
