@@ -5,6 +5,7 @@ pub mod Joined
 pub mod Logs
 pub mod Opening
 pub mod Placing
+pub mod Replies
 pub mod Scripts
 pub mod Sent
 pub mod Steps

@@ -1,4 +1,4 @@
--- A book may go to another thread, and any thread may share the lock round it. The snapshots in the parts of a store and in the rows of files own nothing; for the rest there are generated facts.
+-- An engine and a book may go to another thread, and any thread may share the lock round one. The snapshots in the parts of a store and in the rows of files own nothing; for the rest there are generated facts.
 use denote.Param.Send.{IsSend, IsSync, sendable}
 use denote.Param.SendFields.{declared_send}
 use Rattle.std.proofs.Crossing.{crosses}
@@ -24,6 +24,7 @@ use Rattle.af_layer.proofs.book.Entry.TheSendSync as entry
 use Rattle.af_layer.specs.contracts.book.Book as Book
 use Rattle.af_layer.specs.contracts.book.Book.TheInside as BookInside
 use Rattle.af_layer.specs.contracts.layer.Layer as Layer
+use Rattle.af_layer.specs.contracts.shared.Shared as Shared
 
 -- Nor does the snapshot in the rows.
 rows_inside : IsSend RowsInside.the_row
@@ -90,3 +91,6 @@ book_send = search (sendable, book_inside) depth 10
 
 pub layer_sync : IsSync Layer.the_row
 layer_sync = search (sendable, crosses, book_send) depth 20
+
+pub shared_sync : IsSync Shared.the_row
+shared_sync = search (sendable, crosses, engine_send) depth 20

@@ -66,3 +66,9 @@ abbrev pub HasFault : Logged → List Seated → CloseFault → Type 0
 HasFault b seats (fault.Stranger k) = IsStranger b.seats seats k
 HasFault b seats (fault.Missing k) = NoStranger b.seats seats × IsMissing b.seats seats k
 HasFault b seats (fault.Audit k) = NoStranger b.seats seats × NoneMissing b.seats seats × (1 ≤ k) × (k ≤ b.seats) × IsWrong b.log seats k
+
+-- The seats are there in their order, with their numbers and with empty lists.
+pub record AreEmptied (old new : List Seated) : Type 0 where
+  pub count : length new ≡ length old
+  pub numbers : (i : ℕ) → i < length old → number_at new i ≡ number_at old i
+  pub lists : (i : ℕ) → i < length old → list_at new i ≡ []

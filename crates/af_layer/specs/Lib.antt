@@ -5,6 +5,7 @@ pub mod Drive
 pub mod Log
 pub mod Room
 pub mod Seats
+pub mod Shared
 pub mod Taken
 pub mod Walk
 pub mod Workers

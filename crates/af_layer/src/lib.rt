@@ -4,14 +4,17 @@
 //! the layer: a call waits for the lock, does one event, and puts it with its reply into the log
 //! ([`Book`]) and into the seat's own list. [`Layer::close`] compares all lists with the log.
 //! [`drive`] runs scripts, and a collector beside them, each from a seat and in a thread of its own.
+//! A [`Shared`] is an engine behind the same lock, without log and seats.
 #![tactic(auto)]
 
 mod audit;
 mod book;
+mod checkpoint;
 mod driving;
 mod layer;
 mod room;
 mod seat;
+mod shared;
 mod taken;
 mod workers;
 
@@ -20,5 +23,6 @@ pub use book::{Book, CallError, Entry};
 pub use driving::{DriveError, DriveFault, drive};
 pub use layer::{CloseError, Closed, Layer, OpenError};
 pub use seat::Seat;
+pub use shared::Shared;
 pub use taken::{taken_logs_are_one, taken_parts_are_one};
 pub use workers::{Gate, OpenGate, Turns};

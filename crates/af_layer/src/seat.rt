@@ -49,6 +49,13 @@ impl Seat {
         self.list.as_slice()
     }
 
+    /// Forgets what was asked from here. The room for it stays.
+    pub(crate) fn empty_list(&mut self)
+        ensures { self.new ≡ record self.old { list = [] } }
+    {
+        self.list.clear();
+    }
+
     /// Does one event on a book, under this seat's number, and keeps it with its reply.
     ///
     /// Room for the pair is had first, and where it is refused the error is `NoRoom`; else the

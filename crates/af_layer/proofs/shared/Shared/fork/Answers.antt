@@ -1,0 +1,10 @@
+use Rattle.std.specs.Sync.Mutex.{mutex_guard_value}
+use Rattle.af_base.specs.declared.events.Reply.TheVariants as reply
+use Rattle.af_base.specs.declared.events.Step.TheVariants as step
+use Rattle.af_layer.proofs.Replies.{tells_step}
+use Rattle.af_layer.proofs.shared.Shared.fork.Goals as goal
+
+pub returns : goal.returns
+returns g c =
+    tells_step (mutex_guard_value c.lock-engine.result) c.deref_mut.result.now c.fork.new.self c.lock-engine.ensures c.deref_mut.ensures.value
+    c.args.pid step.Fork c.fork.result reply.Pid c.fork.ensures.done c.fork.ensures.refused
