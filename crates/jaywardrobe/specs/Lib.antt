@@ -19,6 +19,7 @@ pub use Rattle.af_base.specs.Ready
 pub use Rattle.af_base.specs.Told
 pub use Rattle.af_steps.specs.Shown
 pub use Rattle.af_steps.specs.Outcome
+pub use Rattle.af_layer.specs.Shared
 pub use Rattle.af_owned.specs.Lending
 pub use Rattle.af_owned.specs.Owning
 pub use Rattle.af_report.specs.Check

@@ -41,5 +41,6 @@ pub use af_base::listing::{
 };
 pub use af_base::names::{Fd, FileRef, Ino, Pid, Uid};
 pub use af_base::ready::Ready;
+pub use af_layer::Shared;
 pub use af_owned::Owned;
 pub use af_steps::{Engine, FileInfo, Finished, Progress, Received, RunStopped};
