@@ -12,6 +12,7 @@
 # make archive   put that library together once more, over what make lib proved
 # make embed     compare its header with it, and run the programs in C and Rust that use it
 # make bench-c   nanoseconds for each call from C, over two of the workloads
+# make unixbox   build the supervisor that runs programs on the library: out/unixbox
 # make install   put the program, the library and its header below PREFIX
 # make clean     remove all that was built, and the work that checks keep
 
@@ -94,6 +95,11 @@ bench-c: lib
 	$(CC) -O2 -Iinclude examples/c/bench.c $(LIBRARY) -o out/bench_c
 	out/bench_c
 
+unixbox:
+	$(need) $(firstword $(CC))
+	@test -f $(LIBRARY) || { echo 'make unixbox: $(LIBRARY) is not built: run make lib' >&2; exit 2; }
+	$(CC) -std=c11 -O2 -Iinclude examples/unixbox/*.c $(LIBRARY) -o out/unixbox -lpthread
+
 install: build lib
 	install -D $(PROGRAM) $(DESTDIR)$(PREFIX)/bin/scmgc
 	install -D -m 644 $(LIBRARY) $(DESTDIR)$(PREFIX)/lib/libscmgc.a
@@ -105,4 +111,4 @@ clean:
 	rm -rf out crates/*/out
 
 .DEFAULT_GOAL := help
-.PHONY: help try build run check bindings test walks stress bench lib archive embed bench-c install clean
+.PHONY: help try build run check bindings test walks stress bench lib archive embed bench-c unixbox install clean

@@ -1,0 +1,160 @@
+/* Files of the layer, and the sockets of the host that stand for them in tables of programs.
+ *
+ * Placeholders are connected as the layer's sockets are, so the host knows whose peer is gone. A
+ * message of the layer is a byte between two placeholders. Their buffers are so large that one is
+ * writable exactly if the layer's queue is not full. */
+#include "unixbox.h"
+#include <linux/sockios.h>
+
+struct file **files;
+uint64_t file_room;
+
+static struct file *file_at(uint64_t ino) {
+    return ino < file_room ? files[ino] : NULL;
+}
+
+struct file *file_of(const struct process *process, uint64_t fd) {
+    uint64_t ino = 0;
+    if (fd < SCM_MAX_NOFILE)
+        scm_ino(&engine, process->pid, (uint32_t)fd, &ino);
+    return file_at(ino);
+}
+
+/* Returns the socket that the first argument of a call names, or NULL. */
+struct file *socket_of(const struct call *call) {
+    struct file *file = file_of(call->process, (uint32_t)call->notif.data.args[0]);
+    return file != NULL && file->kind != SCM_PLAIN ? file : NULL;
+}
+
+struct file *peer_of(const struct file *file) {
+    struct scm_file state;
+    scm_file(&engine, file->ino, &state);
+    return file_at(state.peer);
+}
+
+struct file *add_file(uint64_t ino, uint32_t kind) {
+    if (ino >= file_room) {
+        uint64_t room = 2 * ino + 1024;
+        files = realloc(files, room * sizeof *files);
+        if (files == NULL)
+            abort();
+        memset(files + file_room, 0, (room - file_room) * sizeof *files);
+        file_room = room;
+    }
+    struct file *file = files[ino] = calloc(1, sizeof *file);
+    if (file == NULL)
+        abort();
+    *file = (struct file){.ino = ino, .kind = kind, .host = -1, .path = -1};
+    counts.sockets[0] += kind != SCM_PLAIN;
+    return file;
+}
+
+/* ---- Placeholders ---- */
+
+static int host_type(const struct file *file) {
+    int connected = file->kind == SCM_STREAM ? SOCK_STREAM : SOCK_SEQPACKET;
+    return (file->is_datagram ? SOCK_DGRAM : connected) | SOCK_CLOEXEC;
+}
+
+/* A socket of the host is writable while at most a quarter of its buffer is taken. The kernel
+ * doubles the number that it is given. */
+static void size_buffer(int host) {
+    static int token; /* What a byte takes of a buffer. */
+    int ends[2];
+    if (token == 0 && socketpair(AF_UNIX, SOCK_STREAM | SOCK_CLOEXEC, 0, ends) == 0) {
+        send(ends[0], "", 1, MSG_DONTWAIT);
+        ioctl(ends[0], SIOCOUTQ, &token);
+        close(ends[0]);
+        close(ends[1]);
+    }
+    int bytes = 2 * SCM_MAX_MESSAGES * token - 1;
+    setsockopt(host, SOL_SOCKET, SO_SNDBUF, &bytes, sizeof bytes);
+}
+
+void place_socket(struct file *file, int flags) {
+    file->host = socket(AF_UNIX, host_type(file) | flags, 0);
+    size_buffer(file->host);
+}
+
+void place_pair(struct file *first, struct file *second, int flags) {
+    int ends[2] = {-1, -1};
+    socketpair(AF_UNIX, host_type(first) | flags, 0, ends);
+    size_buffer(first->host = ends[0]);
+    size_buffer(second->host = ends[1]);
+}
+
+void place_connection(struct file *client, const struct file *listener) {
+    struct sockaddr_un name;
+    socklen_t length = sizeof name;
+    getsockname(listener->host, (struct sockaddr *)&name, &length);
+    connect(client->host, (struct sockaddr *)&name, length);
+}
+
+/* Takes the connection that waits longest, or -1. They wait in the order of the layer. */
+static int accept_host(int listener, int flags) {
+    struct pollfd ask = {listener, POLLIN, 0};
+    return poll(&ask, 1, 0) == 1 ? accept4(listener, NULL, NULL, SOCK_CLOEXEC | flags) : -1;
+}
+
+void place_accepted(struct file *file, const struct file *listener, int flags) {
+    size_buffer(file->host = accept_host(listener->host, flags));
+}
+
+/* Makes the bytes in the placeholder as many as the socket has messages. */
+void refresh(struct file *file) {
+    struct scm_file state;
+    char token;
+    scm_file(&engine, file->ino, &state);
+    const struct file *peer = file_at(state.peer);
+    while (file->tokens < state.messages && peer != NULL &&
+           send(peer->host, "", 1, MSG_DONTWAIT | MSG_NOSIGNAL) == 1)
+        file->tokens++;
+    while (file->tokens > state.messages && recv(file->host, &token, 1, MSG_DONTWAIT) == 1)
+        file->tokens--;
+}
+
+/* Closes a placeholder. Bytes that are left in it would be an error at its peer (ECONNRESET). */
+static void close_placeholder(int host) {
+    char tokens[SCM_MAX_MESSAGES];
+    while (recv(host, tokens, sizeof tokens, MSG_DONTWAIT) > 0)
+        continue;
+    close(host);
+}
+
+static void free_file(struct file *file) {
+    note_leak(file);
+    if (file->kind != SCM_PLAIN) {
+        counts.sockets[file->is_datagram]--;
+        for (int waits; file->listens && (waits = accept_host(file->host, 0)) >= 0;)
+            close_placeholder(waits);
+        close_placeholder(file->host);
+    } else if (file->host >= 0) {
+        close(file->host);
+    }
+    if (file->path >= 0)
+        close(file->path);
+    files[file->ino] = NULL;
+    free(file);
+}
+
+/* Frees what the last step freed, and refreshes and wakes what it changed. */
+void settle(void) {
+    static uint64_t inos[SCM_MAX_FILES];
+    int64_t freed = scm_released(&engine, inos, SCM_MAX_FILES);
+    for (int64_t i = 0; i < freed; i++)
+        if (file_at(inos[i]) != NULL)
+            free_file(files[inos[i]]);
+    int64_t changed = scm_changed(&engine, inos, SCM_MAX_FILES);
+    for (int64_t i = 0; i < changed; i++) {
+        struct file *file = file_at(inos[i]), *peer = file != NULL ? peer_of(file) : NULL;
+        if (file != NULL)
+            refresh(file);
+        wake(inos[i]);
+        if (peer != NULL)
+            wake(peer->ino);
+    }
+    if (freed + changed > 0) {
+        scm_clear_told(&engine);
+        inspect();
+    }
+}

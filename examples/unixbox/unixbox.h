@@ -1,0 +1,191 @@
+/* unixbox: runs an unmodified Linux program, and all that it forks, with its AF_UNIX sockets on the
+ * layer of libscmgc.a.
+ *
+ * A seccomp filter hands the calls that concern descriptors to this supervisor
+ * (seccomp_unotify(2)). It asks the layer, and answers in place of the kernel. Where a call opens a
+ * socket, it installs a placeholder: a socket of the host that is ready for what the layer's socket
+ * is ready for. So poll(2), select(2) and epoll(7) work without the supervisor. The kernel chooses
+ * the number of a placeholder, and the layer its own: the two are compared at each call. */
+#ifndef UNIXBOX_H
+#define UNIXBOX_H
+
+#define _GNU_SOURCE
+#include <ctype.h>
+#include <dirent.h>
+#include <errno.h>
+#include <fcntl.h>
+#include <inttypes.h>
+#include <limits.h>
+#include <linux/seccomp.h>
+#include <poll.h>
+#include <scmgc.h>
+#include <signal.h>
+#include <stddef.h>
+#include <stdio.h>
+#include <stdlib.h>
+#include <string.h>
+#include <sys/ioctl.h>
+#include <sys/resource.h>
+#include <sys/socket.h>
+#include <sys/stat.h>
+#include <sys/syscall.h>
+#include <sys/uio.h>
+#include <sys/un.h>
+#include <unistd.h>
+
+/* What a handler answers beside a value or a negative errno: the kernel does the call itself; the
+ * call is served again after a change. */
+enum { KERNEL_DOES_IT = -100001, CALL_WAITS = -100002 };
+
+enum collector { COLLECT_NEVER, COLLECT_SLICES, COLLECT_PASSES };
+
+struct options {
+    enum collector collector;
+    uint32_t budget;   /* Of a slice, in files. */
+    bool verifies;     /* Recounts all tables after each step. */
+    bool checks;       /* Calls scm_check after each step. */
+    bool datagrams;    /* Serves pairs of datagram sockets as seqpackets. */
+    bool out_of_band;  /* Serves MSG_OOB as if it were not set. */
+    bool protocols;    /* Serves /proc/net/protocols. */
+    const char *graph; /* Where the picture goes. */
+};
+
+struct counts {
+    uint64_t calls, steps, passes, reclaimed;
+    uint64_t other_numbers; /* Descriptors for which kernel and layer chose other numbers. */
+    uint64_t wrong_counts, failed_checks, lost_messages;
+    uint64_t sockets[2];    /* Live sockets, and those of them that stand for datagrams. */
+};
+
+/* What /proc/PID/status says of a thread and its process. */
+struct status {
+    char name[16];
+    pid_t tgid;
+    struct ucred user; /* Its pid is the tgid. */
+    mode_t umask;
+    bool is_signalled; /* A signal waits that is neither blocked nor ignored. */
+};
+
+struct process {
+    pid_t tgid;            /* The host's number. 0 until the first call: it is not known before. */
+    uint32_t pid;          /* The layer's number. */
+    pid_t parent, forker;  /* The process and the thread that forked it. */
+    int pidfd;
+    DIR *table;            /* /proc/TGID/fd */
+    bool is_alive, has_threads;
+    bool has_changed;      /* An exec(2) or a setuid(2) may have made the rest out of date. */
+    struct status status;
+    /* A close(2) that the layer has done, and the kernel does once its thread goes on. */
+    pid_t closer;
+    uint32_t closing;
+    char closing_link[64];
+    struct process *next;
+};
+
+struct address {
+    struct sockaddr_un name;
+    socklen_t length; /* 0 where there is none. */
+};
+
+/* What the supervisor keeps for a file of the layer. */
+struct file {
+    uint64_t ino;
+    uint32_t kind;   /* enum scm_kind */
+    bool is_datagram, is_embryo, listens;
+    int host;        /* The placeholder, or a copy of a plain file that was sent. -1: none. */
+    int path;        /* Keeps the inode of a pathname from being used again. -1: none. */
+    int shut;        /* What shutdown(2) ended: 1 for receives, 2 for sends. */
+    uint64_t tokens; /* Bytes in the placeholder: as many as the socket has messages. */
+    struct address own, peer;
+    struct ucred owner, peer_owner; /* For SO_PEERCRED at the other end, and at this one. */
+    struct ucred last;              /* Who sent to this socket last. */
+    struct sender *sender;          /* Who sent this file last, or NULL. */
+};
+
+/* A call of a program. */
+struct call {
+    struct seccomp_notif notif;
+    struct process *process;
+    size_t done;        /* How many bytes it has sent or received so far. */
+    uint64_t waits_for; /* The socket whose change it waits for. 0: any. */
+    bool is_woken, raises_sigpipe;
+    struct call *next;
+};
+
+typedef long handler(struct call *call);
+
+extern scm_engine engine;
+extern struct options options;
+extern struct counts counts;
+extern struct file **files; /* By inode number; NULL where there is none. */
+extern uint64_t file_room;
+extern struct process *processes;
+extern int notifications, watches; /* The filter's listener, and an epoll(7) of all pidfds. */
+
+/* layer.c */
+int64_t record(int64_t answer, const char *reply, const char *line, ...)
+    __attribute__((format(printf, 3, 4)));
+bool open_script(const char *path);
+const char *kind_name(uint32_t kind);
+const char *fds_text(const uint32_t *fds, size_t count);
+const char *received_text(int64_t answer, const uint32_t *fds, const struct scm_received *out);
+long host_error(int64_t answer);
+void want_collection(void);
+bool collect(void);
+void inspect(void);
+void note_sender(struct file *file, struct process *process);
+void note_leak(const struct file *file);
+void conclude(void);
+
+/* filter.c */
+int install_filter(void);
+void start_receiver(int out);
+bool is_waiting(const struct call *call);
+void run_call(const struct seccomp_notif *notif);
+long wait_for(struct call *call, const struct file *file, int flags, uint64_t ino);
+void wake(uint64_t ino);
+void rerun_woken_calls(void);
+void interrupt_calls(void);
+bool has_parked_calls(void);
+void forget_calls(const struct process *process);
+bool read_memory(const struct call *call, void *to, uint64_t from, size_t length);
+bool write_memory(const struct call *call, uint64_t to, const void *from, size_t length);
+
+/* processes.c */
+bool read_status(pid_t tid, struct status *out);
+struct process *add_process(uint32_t pid, pid_t parent, pid_t forker);
+void bind_process(struct process *process, pid_t tgid);
+struct process *process_of(pid_t tid);
+void exit_process(struct process *process);
+void forget_process(struct process *process);
+void bind_children(pid_t caller);
+bool has_unbound_children(void);
+
+/* placeholders.c */
+struct file *file_of(const struct process *process, uint64_t fd);
+struct file *socket_of(const struct call *call);
+struct file *peer_of(const struct file *file);
+struct file *add_file(uint64_t ino, uint32_t kind);
+void place_socket(struct file *file, int flags);
+void place_pair(struct file *first, struct file *second, int flags);
+void place_connection(struct file *client, const struct file *listener);
+void place_accepted(struct file *file, const struct file *listener, int flags);
+void refresh(struct file *file);
+void settle(void);
+
+/* sockets.c */
+void write_address(const struct call *call, uint64_t at, uint64_t length_at,
+                   const struct address *address);
+
+/* descriptors.c */
+void finish_close(struct process *process, pid_t caller);
+void sync_table(struct process *process);
+long install(struct call *call, uint32_t fd, bool closes_on_exec);
+
+/* Handlers of system calls. */
+handler serve_socket, serve_socketpair, serve_bind, serve_listen, serve_connect, serve_accept,
+    serve_shutdown, serve_name, serve_get_option, serve_set_option, serve_send, serve_recv,
+    serve_unread, serve_transfer, serve_close, serve_dup, serve_dup2, serve_dupfd, serve_open,
+    serve_fork, serve_change, serve_exit, serve_limit;
+
+#endif
