@@ -1,31 +1,27 @@
 /* Descriptors: tables of programs, kept the same in the kernel and in the layer. */
 #include "unixbox.h"
-#include <sys/mman.h>
 
 enum { MOST_CHECKS = 200, MICROSECONDS = 50 };
 
-static int64_t close_fd(const struct process *process, uint32_t fd) {
-    want_collection();
-    return record(scm_close(&engine, process->pid, fd), "ok", "%u close %u", process->pid, fd);
+static void close_fd(const struct process *process, uint32_t fd) {
+    record(process->pid, scm_close(&engine, process->pid, fd), "ok", "close %u", fd);
+    is_collection_due = true;
 }
 
-static int64_t duplicate_at(const struct process *process, uint32_t from, uint32_t to) {
-    want_collection();
-    return record(scm_dup2(&engine, process->pid, from, to), "fd %lld", "%u dup2 %u %u",
-                  process->pid, from, to);
+static long duplicate_at(const struct process *process, uint32_t from, uint32_t to) {
+    is_collection_due = true;
+    return record(process->pid, scm_dup2(&engine, process->pid, from, to), "fd %lld", "dup2 %u %u",
+                  from, to);
 }
 
-/* Opens a plain file at this number, which is free. */
-static void open_at(const struct process *process, uint32_t fd) {
+/* Opens a plain file, at the lowest number. Returns that number. */
+static long open_plain(const struct process *process) {
+    long fd = record(process->pid, scm_open(&engine, process->pid), "fd %lld", "open");
     uint64_t ino = 0;
-    int64_t lowest = record(scm_open(&engine, process->pid), "fd %lld", "%u open", process->pid);
-    if (lowest >= 0 && lowest != fd) {
-        duplicate_at(process, (uint32_t)lowest, fd);
-        close_fd(process, (uint32_t)lowest);
-    }
-    scm_ino(&engine, process->pid, fd, &ino);
-    if (ino != 0)
+    scm_ino(&engine, process->pid, (uint32_t)fd, &ino);
+    if (fd >= 0)
         add_file(ino, SCM_PLAIN);
+    return fd;
 }
 
 /* ---- The two tables ---- */
@@ -49,14 +45,6 @@ void finish_close(struct process *process, pid_t caller) {
     process->closer = 0;
 }
 
-static int64_t open_count(const struct process *process) {
-    int64_t count = 0;
-    uint64_t ino;
-    for (int64_t fd = 0; (fd = scm_next_fd(&engine, process->pid, (uint32_t)fd, &ino)) >= 0; fd++)
-        count++;
-    return count;
-}
-
 /* Makes the layer's table have the numbers of the kernel's: opens what the program has opened by
  * itself, and closes what an exec(2) has closed. All else that closes is served here, so two tables
  * with as many descriptors are the same. */
@@ -64,10 +52,12 @@ void sync_table(struct process *process) {
     bool is_open[SCM_MAX_NOFILE] = {false};
     struct stat directory; /* Kernels before 6.2 say 0 for its size. */
     uint64_t ino;
+    off_t count = 0;
+    for (int64_t fd = 0; (fd = scm_next_fd(&engine, process->pid, (uint32_t)fd, &ino)) >= 0; fd++)
+        count++;
     if (process->has_changed)
         read_status(process->tgid, &process->status);
-    else if (fstat(dirfd(process->table), &directory) == 0 &&
-             directory.st_size == open_count(process))
+    else if (fstat(dirfd(process->table), &directory) == 0 && directory.st_size == count)
         return;
     process->has_changed = false;
     rewinddir(process->table);
@@ -77,58 +67,48 @@ void sync_table(struct process *process) {
     for (int64_t fd = 0; (fd = scm_next_fd(&engine, process->pid, (uint32_t)fd, &ino)) >= 0; fd++)
         if (!is_open[fd])
             close_fd(process, (uint32_t)fd);
-    for (uint32_t fd = 0; fd < SCM_MAX_NOFILE; fd++)
-        if (is_open[fd] && file_of(process, fd) == NULL)
-            open_at(process, fd);
+    for (uint32_t fd = 0; fd < SCM_MAX_NOFILE; fd++) {
+        long lowest = is_open[fd] && file_of(process, fd) == NULL ? open_plain(process) : fd;
+        if (lowest >= 0 && lowest != fd) {
+            duplicate_at(process, (uint32_t)lowest, fd);
+            close_fd(process, (uint32_t)lowest);
+        }
+    }
 }
 
-/* Gives the caller a copy of a descriptor of ours, at `to` or, below 0, at the lowest number. */
-static long give(const struct call *call, int from, int to, bool closes_on_exec) {
+/* Puts a descriptor that the layer has opened into the caller's table: at its number, or at the
+ * one that the kernel chooses, which should be the same. A plain file is copied from `from`.
+ * Returns the number, or a negative errno. */
+static long put(struct call *call, uint32_t fd, int from, bool is_fixed, bool closes_on_exec) {
+    const struct file *file = file_of(call->process, fd);
+    bool is_ours = file != NULL && file->host >= 0;
+    int host = is_ours ? file->host : (int)syscall(SYS_pidfd_getfd, call->process->pidfd, from, 0);
     struct seccomp_notif_addfd descriptor = {
-        .id = call->notif.id,
-        .srcfd = (uint32_t)from,
-        .newfd = to >= 0 ? (uint32_t)to : 0,
-        .flags = to >= 0 ? SECCOMP_ADDFD_FLAG_SETFD : 0,
-        .newfd_flags = closes_on_exec ? O_CLOEXEC : 0,
-    };
-    int number = ioctl(notifications, SECCOMP_IOCTL_NOTIF_ADDFD, &descriptor);
-    return number < 0 ? -errno : number;
-}
-
-/* Moves a descriptor of the layer to the number that the kernel chose. Other numbers are no fault
- * beside threads: one may open something after the look at the table. */
-static long agree(const struct call *call, uint32_t fd, long number) {
-    if (number == fd)
+        .id = call->id, .srcfd = (uint32_t)host, .newfd = is_fixed ? fd : 0,
+        .flags = is_fixed ? SECCOMP_ADDFD_FLAG_SETFD : 0,
+        .newfd_flags = closes_on_exec ? O_CLOEXEC : 0};
+    int number = ioctl(notifications, SECCOMP_IOCTL_NOTIF_ADDFD, &descriptor), error = errno;
+    if (!is_ours)
+        close(host);
+    if (number == (int)fd)
         return number;
-    if (number != -ENOENT && !call->process->has_threads) {
+    if (number < 0 && error == EBADF && from >= 0)
+        return KERNEL_DOES_IT; /* What O_PATH opened cannot be given. */
+    /* Beside threads other numbers are no fault: one may open something after the last look. */
+    if (!is_fixed && !call->process->has_threads && (number >= 0 || error != ENOENT)) {
         counts.other_numbers++;
-        fprintf(stderr, "unixbox: process %d: the layer chose descriptor %u, the kernel %ld\n",
+        fprintf(stderr, "unixbox: process %d: the layer chose descriptor %u, the kernel %d\n",
                 call->process->tgid, fd, number);
     }
     if (number >= 0)
         duplicate_at(call->process, fd, (uint32_t)number);
     close_fd(call->process, fd);
-    return number;
+    return number >= 0 ? number : -error;
 }
 
-/* Installs a file at the number that the layer chose. Returns the number, or a negative errno. */
+/* Installs a placeholder at the number that the layer chose. */
 long install(struct call *call, uint32_t fd, bool closes_on_exec) {
-    const struct file *file = file_of(call->process, fd);
-    int host = file != NULL ? file->host : -1;
-    return agree(call, fd, give(call, host, -1, closes_on_exec));
-}
-
-/* Copies what is at `from` to `to`. The supervisor does it at once: if it were left to the kernel,
- * another thread could look at the table before it is done. */
-static long copy(const struct call *call, uint32_t from, int to, bool closes_on_exec) {
-    const struct file *file = file_of(call->process, from);
-    bool is_ours = file != NULL && file->host >= 0;
-    int host = is_ours ? file->host
-                       : (int)syscall(SYS_pidfd_getfd, call->process->pidfd, from, 0);
-    long number = give(call, host, to, closes_on_exec);
-    if (!is_ours && host >= 0)
-        close(host);
-    return number == -EBADF ? KERNEL_DOES_IT : number; /* What O_PATH opened cannot be given. */
+    return put(call, fd, -1, false, closes_on_exec);
 }
 
 /* ---- Handlers ---- */
@@ -136,64 +116,50 @@ static long copy(const struct call *call, uint32_t from, int to, bool closes_on_
 /* A close can only be left to the kernel. */
 long serve_close(struct call *call) {
     struct process *process = call->process;
-    uint32_t fd = (uint32_t)call->notif.data.args[0];
-    if (file_of(process, fd) != NULL)
-        close_fd(process, fd);
+    if (file_of(process, call->fd) != NULL)
+        close_fd(process, call->fd);
     if (process->has_threads) {
-        process->closer = (pid_t)call->notif.pid;
-        process->closing = fd;
-        read_link(process, fd, process->closing_link, sizeof process->closing_link);
+        process->closer = call->tid;
+        process->closing = call->fd;
+        read_link(process, call->fd, process->closing_link, sizeof process->closing_link);
     }
     return KERNEL_DOES_IT;
 }
 
+/* The supervisor copies descriptors at once: if that were left to the kernel, another thread could
+ * look at the table before it is done. */
 long serve_dup(struct call *call) {
-    struct process *process = call->process;
-    uint32_t fd = (uint32_t)call->notif.data.args[0];
-    sync_table(process);
-    int64_t lowest =
-        record(scm_dup(&engine, process->pid, fd), "fd %lld", "%u dup %u", process->pid, fd);
-    if (lowest < 0)
-        return host_error(lowest);
-    long number = copy(call, fd, -1, false);
-    return number == KERNEL_DOES_IT ? number : agree(call, (uint32_t)lowest, number);
+    sync_table(call->process);
+    long fd = record(call->pid, scm_dup(&engine, call->pid, call->fd), "fd %lld", "dup %u", call->fd);
+    return fd < 0 ? fd : put(call, (uint32_t)fd, (int)call->fd, false, false);
 }
 
-/* Copies a descriptor to this number, in the layer and in the kernel. */
-static long copy_to(struct call *call, uint32_t from, uint32_t to, bool closes_on_exec) {
-    int64_t answer = duplicate_at(call->process, from, to);
-    if (answer < 0)
-        return host_error(answer);
-    long number = copy(call, from, (int)to, closes_on_exec);
-    if (number < 0 && number != KERNEL_DOES_IT)
-        close_fd(call->process, to);
-    return number;
+static long copy_to(struct call *call, uint32_t to, bool closes_on_exec) {
+    long fd = duplicate_at(call->process, call->fd, to);
+    return fd < 0 ? fd : put(call, to, (int)call->fd, true, closes_on_exec);
 }
 
 /* dup2(2) and dup3(2). */
 long serve_dup2(struct call *call) {
-    const __u64 *args = call->notif.data.args;
-    uint32_t from = (uint32_t)args[0], to = (uint32_t)args[1];
     sync_table(call->process);
-    if (from == to || file_of(call->process, from) == NULL)
+    if (call->fd == (uint32_t)call->args[1] || file_of(call->process, call->fd) == NULL)
         return KERNEL_DOES_IT;
-    return copy_to(call, from, to, call->notif.data.nr == SYS_dup3 && (args[2] & O_CLOEXEC));
+    bool closes_on_exec = call->number == SYS_dup3 && (call->args[2] & O_CLOEXEC);
+    return copy_to(call, (uint32_t)call->args[1], closes_on_exec);
 }
 
 /* fcntl(2) with F_DUPFD: the lowest free number from the argument on. */
 long serve_dupfd(struct call *call) {
-    const __u64 *args = call->notif.data.args;
-    uint32_t from = (uint32_t)args[0];
     long number = -EBADF;
     sync_table(call->process);
-    for (uint64_t to = args[2]; to < SCM_MAX_NOFILE; to++) {
+    for (uint64_t to = call->args[2]; to < SCM_MAX_NOFILE; to++) {
         if (file_of(call->process, to) != NULL)
             continue;
-        number = copy_to(call, from, (uint32_t)to, args[1] == F_DUPFD_CLOEXEC);
+        number = copy_to(call, (uint32_t)to, call->args[1] == F_DUPFD_CLOEXEC);
         if (number != -EBUSY) /* A thread that waits in accept(2) has reserved the number. */
             break;
     }
-    /* From its limit on the process has no numbers; the kernel says which error that is. */
+    /* A process has no number from its limit on; the kernel says which error that is. */
     return number == -EBADF ? KERNEL_DOES_IT : number;
 }
 
@@ -201,14 +167,18 @@ long serve_dupfd(struct call *call) {
 long serve_open(struct call *call) {
     static const char served[] = "/proc/net/protocols";
     char path[sizeof served];
-    if (!read_memory(call, path, call->notif.data.args[1], sizeof path) ||
-        memcmp(path, served, sizeof path) != 0)
+    if (!read_memory(call, path, call->args[1], sizeof path) || memcmp(path, served, sizeof path) != 0)
         return KERNEL_DOES_IT;
-    int text = memfd_create("protocols", MFD_CLOEXEC);
-    dprintf(text, "protocol     size sockets\nUNIX-STREAM  1024 %7" PRIu64 "\nUNIX %7" PRIu64 "\n",
-            counts.sockets[false], counts.sockets[true]);
+    sync_table(call->process);
+    long fd = open_plain(call->process);
+    if (fd < 0)
+        return fd;
+    int text = file_of(call->process, (uint64_t)fd)->host = memfd_create("protocols", MFD_CLOEXEC);
+    int counts_of[2] = {0, 0};
+    for (uint64_t ino = 0; ino < file_room; ino++)
+        if (files[ino] != NULL && files[ino]->kind != SCM_PLAIN)
+            counts_of[files[ino]->is_datagram]++;
+    dprintf(text, "UNIX-STREAM 0 %d\nUNIX 0 %d\n", counts_of[false], counts_of[true]);
     lseek(text, 0, SEEK_SET);
-    long number = give(call, text, -1, call->notif.data.args[2] & O_CLOEXEC);
-    close(text);
-    return number;
+    return put(call, (uint32_t)fd, -1, false, call->args[2] & O_CLOEXEC);
 }

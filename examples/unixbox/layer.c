@@ -16,7 +16,8 @@ scm_engine engine = SCM_ENGINE_INIT;
 struct counts counts;
 static FILE *script, *replies;
 static struct sender nobody = {.name = "-"}, *senders = &nobody;
-static bool is_wanted, is_running, is_collecting;
+bool is_collection_due;
+static bool is_running, is_collecting;
 
 /* ---- The record ---- */
 
@@ -31,23 +32,35 @@ bool open_script(const char *path) {
     return script != NULL && replies != NULL;
 }
 
-/* Counts a step, and writes its line and its reply, which may have the answer in it. Returns the
- * answer of the layer. */
-int64_t record(int64_t answer, const char *reply, const char *line, ...) {
+/* Counts a step of a process (0: of none), and writes its line and its reply, which may have the
+ * answer in it. Returns the answer, or a negative errno. */
+long record(uint32_t pid, int64_t answer, const char *reply, const char *line, ...) {
+    static const int errors[] = {
+        [SCM_EBADF] = EBADF, [SCM_ENOTSOCK] = ENOTSOCK, [SCM_EINVAL] = EINVAL,
+        [SCM_EMFILE] = EMFILE, [SCM_ENFILE] = ENFILE, [SCM_EAGAIN] = EAGAIN,
+        [SCM_EMSGSIZE] = EMSGSIZE, [SCM_ETOOMANYREFS] = ETOOMANYREFS, [SCM_ENOBUFS] = ENOBUFS,
+        [SCM_ENOTCONN] = ENOTCONN, [SCM_EPIPE] = EPIPE, [SCM_EISCONN] = EISCONN,
+        [SCM_EADDRINUSE] = EADDRINUSE, [SCM_ECONNREFUSED] = ECONNREFUSED,
+        [SCM_EPROTOTYPE] = EPROTOTYPE, [SCM_ESRCH] = ESRCH, [SCM_ENOMEM] = ENOMEM,
+    };
     counts.steps++;
-    if (script == NULL)
+    if (script != NULL) {
+        va_list arguments;
+        va_start(arguments, line);
+        if (pid > 0)
+            fprintf(script, "%u ", pid);
+        vfprintf(script, line, arguments);
+        fputc('\n', script);
+        va_end(arguments);
+        if (answer < 0)
+            fputs(scm_strerror(answer), replies);
+        else
+            fprintf(replies, reply, (long long)answer);
+        fputc('\n', replies);
+    }
+    if (answer >= 0)
         return answer;
-    va_list arguments;
-    va_start(arguments, line);
-    vfprintf(script, line, arguments);
-    va_end(arguments);
-    fputc('\n', script);
-    if (answer < 0)
-        fputs(scm_strerror(answer), replies);
-    else
-        fprintf(replies, reply, (long long)answer);
-    fputc('\n', replies);
-    return answer;
+    return -answer <= SCM_ENOMEM ? -errors[-answer] : -EIO;
 }
 
 const char *kind_name(uint32_t kind) {
@@ -77,55 +90,24 @@ const char *received_text(int64_t answer, const uint32_t *fds, const struct scm_
     return text;
 }
 
-/* Returns the negative errno of a refusal. */
-long host_error(int64_t answer) {
-    static const int errors[] = {
-        [SCM_EBADF] = EBADF, [SCM_ENOTSOCK] = ENOTSOCK, [SCM_EINVAL] = EINVAL,
-        [SCM_EMFILE] = EMFILE, [SCM_ENFILE] = ENFILE, [SCM_EAGAIN] = EAGAIN,
-        [SCM_EMSGSIZE] = EMSGSIZE, [SCM_ETOOMANYREFS] = ETOOMANYREFS, [SCM_ENOBUFS] = ENOBUFS,
-        [SCM_ENOTCONN] = ENOTCONN, [SCM_EPIPE] = EPIPE, [SCM_EISCONN] = EISCONN,
-        [SCM_EADDRINUSE] = EADDRINUSE, [SCM_ECONNREFUSED] = ECONNREFUSED,
-        [SCM_EPROTOTYPE] = EPROTOTYPE, [SCM_ESRCH] = ESRCH, [SCM_ENOMEM] = ENOMEM,
-    };
-    return -answer <= SCM_ENOMEM ? -errors[-answer] : -EIO;
-}
-
 /* ---- The collector ---- */
 
-/* Asks for a pass: something was closed. */
-void want_collection(void) {
-    is_wanted = true;
-}
-
-static void settle_pass(int64_t answer, const struct scm_finished *over) {
+/* Does a slice, or a whole pass. What this frees, only a cycle kept. */
+static void do_pass(bool in_slices) {
+    struct scm_finished over = {0, 0};
+    char text[64];
+    int64_t answer = in_slices ? scm_slice(&engine, options.budget, &over) : scm_pass(&engine, &over);
+    snprintf(text, sizeof text, "pass %" PRIu64 " reclaimed %" PRIu64, over.pass, over.reclaimed);
+    if (in_slices)
+        record(0, answer, answer == 1 ? "working" : text, "slice %u", options.budget);
+    else
+        record(0, answer, text, "pass");
+    is_running = answer == 1;
+    counts.passes += answer == 0;
+    counts.reclaimed += over.reclaimed;
     is_collecting = true;
     settle();
     is_collecting = false;
-    is_running = answer == 1;
-    if (answer == 0) {
-        counts.passes++;
-        counts.reclaimed += over->reclaimed;
-    }
-}
-
-static const char *pass_text(int64_t answer, const struct scm_finished *over) {
-    static char text[64];
-    snprintf(text, sizeof text, "pass %" PRIu64 " reclaimed %" PRIu64, over->pass, over->reclaimed);
-    return answer == 1 ? "working" : text;
-}
-
-static void do_pass(void) {
-    struct scm_finished over = {0, 0};
-    int64_t answer = scm_pass(&engine, &over);
-    record(answer, pass_text(answer, &over), "pass");
-    settle_pass(answer, &over);
-}
-
-static void do_slice(void) {
-    struct scm_finished over = {0, 0};
-    int64_t answer = scm_slice(&engine, options.budget, &over);
-    record(answer, pass_text(answer, &over), "slice %u", options.budget);
-    settle_pass(answer, &over);
 }
 
 /* Does one slice or one pass, if one is due. Returns whether more is to do. */
@@ -133,18 +115,16 @@ bool collect(void) {
     uint64_t in_flight = 0, pass;
     if (!is_running) {
         scm_total(&engine, &in_flight);
-        bool is_due = is_wanted && in_flight > 0;
-        is_wanted = false;
-        if (!is_due || options.collector == COLLECT_NEVER)
+        bool is_due = is_collection_due && in_flight > 0 && options.collector != COLLECT_NEVER;
+        is_collection_due = false;
+        if (!is_due)
             return false;
-        if (options.collector == COLLECT_PASSES) {
-            do_pass();
-            return false;
-        }
-        record(scm_begin(&engine, &pass), "started %lld", "begin");
+        if (options.collector == COLLECT_SLICES)
+            record(0, scm_begin(&engine, &pass) < 0 ? -SCM_EBUSY : (int64_t)pass, "started %lld",
+                   "begin");
     }
-    do_slice();
-    return is_running;
+    do_pass(options.collector == COLLECT_SLICES);
+    return is_running || is_collection_due;
 }
 
 /* ---- Recounts ---- */
@@ -182,13 +162,13 @@ void inspect(void) {
     int64_t answer = scm_check(&engine, &checked);
     snprintf(text, sizeof text, "check ok live %" PRIu64 " garbage %" PRIu64, checked.live,
              checked.garbage);
-    counts.failed_checks += record(answer, text, "check") < 0;
+    counts.failed_checks += record(0, answer, text, "check") < 0;
 }
 
 /* ---- What is found ---- */
 
 /* Notes who sent a file. */
-void note_sender(struct file *file, struct process *process) {
+void note_sender(struct file *file, const struct process *process) {
     struct sender *it = senders;
     while (it != NULL &&
            (it->tgid != process->tgid || strcmp(it->name, process->status.name) != 0))
@@ -228,8 +208,8 @@ void conclude(void) {
     if (options.graph != NULL)
         draw(options.graph);
     while (is_running)
-        do_slice();
-    do_pass();
+        do_pass(true);
+    do_pass(false);
     inspect();
     scm_live(&engine, &live);
     fprintf(stderr, "unixbox: %" PRIu64 " calls, %" PRIu64 " steps of the layer; %" PRIu64

@@ -2,8 +2,6 @@
 #include "unixbox.h"
 #include <getopt.h>
 #include <sys/epoll.h>
-#include <sys/mman.h>
-#include <sys/prctl.h>
 #include <sys/wait.h>
 #include <time.h>
 
@@ -29,52 +27,33 @@ static void fail(const char *what) {
     exit(125);
 }
 
-static void refuse(void) {
-    fputs(usage, stderr);
-    exit(125);
-}
-
-/* Reads the options. Returns the place of the program. */
+/* Reads the options. Returns the place of the program, or 0. */
 static int read_options(int argc, char **argv) {
     static const struct option names[] = {
         {"gc", required_argument, NULL, 'g'}, {"budget", required_argument, NULL, 'b'},
-        {"verify", no_argument, NULL, 'v'}, {"check", no_argument, NULL, 'c'},
         {"script", required_argument, NULL, 's'}, {"graph", required_argument, NULL, 'p'},
-        {"dgram", no_argument, NULL, 'd'}, {"oob", no_argument, NULL, 'o'},
-        {"procnet", no_argument, NULL, 'n'}, {NULL, 0, NULL, 0},
+        {"verify", no_argument, &options.verifies, 1}, {"check", no_argument, &options.checks, 1},
+        {"dgram", no_argument, &options.datagrams, 1}, {"oob", no_argument, &options.out_of_band, 1},
+        {"procnet", no_argument, &options.protocols, 1}, {NULL, 0, NULL, 0},
     };
     static const char *const collectors[] = {"none", "slice", "pass"};
     for (int option; (option = getopt_long(argc, argv, "+", names, NULL)) != -1;) {
         int collector = 0;
-        switch (option) {
-        case 'g':
-            while (collector < 3 && strcmp(optarg, collectors[collector]) != 0)
-                collector++;
-            if (collector == 3)
-                refuse();
-            options.collector = (enum collector)collector;
-            break;
-        case 'b':
+        while (option == 'g' && collector < 3 && strcmp(optarg, collectors[collector]) != 0)
+            collector++;
+        if (option == 'g')
+            options.collector = collector;
+        if (option == 'b')
             options.budget = (uint32_t)strtoul(optarg, NULL, 10);
-            if (options.budget < 1 || options.budget > SCM_MAX_BUDGET)
-                refuse();
-            break;
-        case 's':
-            if (!open_script(optarg))
-                fail(optarg);
-            break;
-        case 'v': options.verifies = true; break;
-        case 'c': options.checks = true; break;
-        case 'p': options.graph = optarg; break;
-        case 'd': options.datagrams = true; break;
-        case 'o': options.out_of_band = true; break;
-        case 'n': options.protocols = true; break;
-        default: refuse();
-        }
+        if (option == 'p')
+            options.graph = optarg;
+        if (option == 's' && !open_script(optarg))
+            fail(optarg);
+        if (option == '?' || collector == 3)
+            return 0;
     }
-    if (optind == argc)
-        refuse();
-    return optind;
+    bool fits = options.budget >= 1 && options.budget <= SCM_MAX_BUDGET && optind < argc;
+    return fits ? optind : 0;
 }
 
 /* Starts the program, with the filter, in a process that waits for a signal to continue. */
@@ -82,22 +61,18 @@ static pid_t start_program(char **arguments) {
     int *listener = mmap(NULL, sizeof *listener, PROT_READ | PROT_WRITE,
                          MAP_SHARED | MAP_ANONYMOUS, -1, 0);
     struct rlimit limit = {SCM_MAX_NOFILE, SCM_MAX_NOFILE};
-    int status;
-    if (listener == MAP_FAILED)
-        fail("mmap");
-    pid_t pid = fork();
+    pid_t pid = listener != MAP_FAILED ? fork() : -1;
     if (pid == 0) {
         prctl(PR_SET_PDEATHSIG, SIGKILL);
         setrlimit(RLIMIT_NOFILE, &limit);
         *listener = install_filter();
-        if (*listener < 0)
-            *listener = -errno;
+        *listener = *listener < 0 ? -errno : *listener;
         raise(SIGSTOP);
         execvp(arguments[0], arguments);
         perror(arguments[0]);
         _exit(127);
     }
-    if (pid < 0 || waitpid(pid, &status, WUNTRACED) < 0)
+    if (pid < 0 || waitpid(pid, &(int){0}, WUNTRACED) < 0)
         fail("fork");
     int pidfd = (int)syscall(SYS_pidfd_open, pid, 0);
     if (*listener >= 0)
@@ -109,13 +84,15 @@ static pid_t start_program(char **arguments) {
         fail("seccomp notification is refused");
     }
     close(pidfd);
-    munmap(listener, sizeof *listener);
     return pid;
 }
 
-/* Makes the supervisor's own surroundings: it outlives signals from a terminal. */
-static void prepare(void) {
+/* Makes the engine, and the supervisor's own surroundings: it outlives signals of a terminal.
+ * Returns the end of the pipe by which the receiver hands over notifications. */
+static int prepare(void) {
+    struct epoll_event event = {.events = EPOLLIN, .data.ptr = NULL};
     struct rlimit limit;
+    int ends[2];
     getrlimit(RLIMIT_NOFILE, &limit);
     limit.rlim_cur = limit.rlim_max;
     setrlimit(RLIMIT_NOFILE, &limit);
@@ -125,17 +102,10 @@ static void prepare(void) {
     umask(0);
     prctl(PR_SET_CHILD_SUBREAPER, 1);
     watches = epoll_create1(EPOLL_CLOEXEC);
-    if (watches < 0 || scm_engine_new(&engine) < 0 || scm_tell_released(&engine) < 0 ||
-        scm_tell_changed(&engine) < 0)
-        fail("no memory");
-}
-
-/* Opens the pipe by which the receiver hands over notifications. Returns its reading end. */
-static int open_pipe(void) {
-    struct epoll_event event = {.events = EPOLLIN, .data.ptr = NULL};
-    int ends[2];
-    if (pipe2(ends, O_CLOEXEC) < 0 || epoll_ctl(watches, EPOLL_CTL_ADD, ends[0], &event) < 0)
-        fail("pipe");
+    if (scm_engine_new(&engine) < 0 || scm_tell_released(&engine) < 0 ||
+        scm_tell_changed(&engine) < 0 || pipe2(ends, O_CLOEXEC) < 0 ||
+        epoll_ctl(watches, EPOLL_CTL_ADD, ends[0], &event) < 0)
+        fail("the start");
     start_receiver(ends[1]);
     return ends[0];
 }
@@ -166,19 +136,17 @@ static void serve_all(int pipe_end, pid_t program, int *status) {
     struct epoll_event events[MOST_EVENTS];
     struct seccomp_notif notif;
     for (bool is_over = false, is_busy = false; !is_over;) {
+        int count = epoll_wait(watches, events, MOST_EVENTS, is_busy ? 0 : TICK);
         bool has_call = false;
-        int wait = is_busy ? 0 : has_parked_calls() || has_unbound_children() ? TICK : -1;
-        int count = epoll_wait(watches, events, MOST_EVENTS, wait);
         for (int i = 0; i < count; i++) {
-            if (events[i].data.ptr != NULL)
-                forget_process(events[i].data.ptr);
-            else
+            if (events[i].data.ptr == NULL)
                 has_call = true;
+            else
+                forget_process(events[i].data.ptr);
         }
-        if (count > (has_call ? 1 : 0)) {
+        if (count > has_call)
             reap(program, status, WNOHANG);
-            settle();
-        }
+        settle();
         if (has_call && read(pipe_end, &notif, sizeof notif) == sizeof notif)
             run_call(&notif);
         else
@@ -192,12 +160,15 @@ static void serve_all(int pipe_end, pid_t program, int *status) {
 
 int main(int argc, char **argv) {
     int at = read_options(argc, argv), status = 0;
+    if (at == 0) {
+        fputs(usage, stderr);
+        return 125;
+    }
     pid_t program = start_program(argv + at);
-    prepare();
-    int pipe_end = open_pipe();
+    int pipe_end = prepare();
     bool is_root = geteuid() == 0;
-    int64_t pid = record(scm_spawn(&engine, geteuid(), SCM_MAX_NOFILE, is_root), "pid %lld",
-                         "spawn %u %u%s", geteuid(), SCM_MAX_NOFILE, is_root ? " priv" : "");
+    long pid = record(0, scm_spawn(&engine, geteuid(), SCM_MAX_NOFILE, is_root), "pid %lld",
+                      "spawn %u %u%s", geteuid(), SCM_MAX_NOFILE, is_root ? " priv" : "");
     bind_process(add_process((uint32_t)pid, getpid(), getpid()), program);
     kill(program, SIGCONT);
     serve_all(pipe_end, program, &status);

@@ -9,7 +9,7 @@
 struct file **files;
 uint64_t file_room;
 
-static struct file *file_at(uint64_t ino) {
+struct file *file_at(uint64_t ino) {
     return ino < file_room ? files[ino] : NULL;
 }
 
@@ -18,12 +18,6 @@ struct file *file_of(const struct process *process, uint64_t fd) {
     if (fd < SCM_MAX_NOFILE)
         scm_ino(&engine, process->pid, (uint32_t)fd, &ino);
     return file_at(ino);
-}
-
-/* Returns the socket that the first argument of a call names, or NULL. */
-struct file *socket_of(const struct call *call) {
-    struct file *file = file_of(call->process, (uint32_t)call->notif.data.args[0]);
-    return file != NULL && file->kind != SCM_PLAIN ? file : NULL;
 }
 
 struct file *peer_of(const struct file *file) {
@@ -45,20 +39,12 @@ struct file *add_file(uint64_t ino, uint32_t kind) {
     if (file == NULL)
         abort();
     *file = (struct file){.ino = ino, .kind = kind, .host = -1, .path = -1};
-    counts.sockets[0] += kind != SCM_PLAIN;
     return file;
 }
 
-/* ---- Placeholders ---- */
-
-static int host_type(const struct file *file) {
-    int connected = file->kind == SCM_STREAM ? SOCK_STREAM : SOCK_SEQPACKET;
-    return (file->is_datagram ? SOCK_DGRAM : connected) | SOCK_CLOEXEC;
-}
-
-/* A socket of the host is writable while at most a quarter of its buffer is taken. The kernel
- * doubles the number that it is given. */
-static void size_buffer(int host) {
+/* Gives a placeholder its buffer. A socket of the host is writable while at most a quarter of its
+ * buffer is taken. The kernel doubles the number that it is given. */
+void size_buffer(int host) {
     static int token; /* What a byte takes of a buffer. */
     int ends[2];
     if (token == 0 && socketpair(AF_UNIX, SOCK_STREAM | SOCK_CLOEXEC, 0, ends) == 0) {
@@ -71,33 +57,10 @@ static void size_buffer(int host) {
     setsockopt(host, SOL_SOCKET, SO_SNDBUF, &bytes, sizeof bytes);
 }
 
-void place_socket(struct file *file, int flags) {
-    file->host = socket(AF_UNIX, host_type(file) | flags, 0);
-    size_buffer(file->host);
-}
-
-void place_pair(struct file *first, struct file *second, int flags) {
-    int ends[2] = {-1, -1};
-    socketpair(AF_UNIX, host_type(first) | flags, 0, ends);
-    size_buffer(first->host = ends[0]);
-    size_buffer(second->host = ends[1]);
-}
-
-void place_connection(struct file *client, const struct file *listener) {
-    struct sockaddr_un name;
-    socklen_t length = sizeof name;
-    getsockname(listener->host, (struct sockaddr *)&name, &length);
-    connect(client->host, (struct sockaddr *)&name, length);
-}
-
 /* Takes the connection that waits longest, or -1. They wait in the order of the layer. */
-static int accept_host(int listener, int flags) {
+int accept_host(int listener, int flags) {
     struct pollfd ask = {listener, POLLIN, 0};
     return poll(&ask, 1, 0) == 1 ? accept4(listener, NULL, NULL, SOCK_CLOEXEC | flags) : -1;
-}
-
-void place_accepted(struct file *file, const struct file *listener, int flags) {
-    size_buffer(file->host = accept_host(listener->host, flags));
 }
 
 /* Makes the bytes in the placeholder as many as the socket has messages. */
@@ -113,7 +76,7 @@ void refresh(struct file *file) {
         file->tokens--;
 }
 
-/* Closes a placeholder. Bytes that are left in it would be an error at its peer (ECONNRESET). */
+/* Closes a placeholder. Bytes that are left in it would be an error of its peer (ECONNRESET). */
 static void close_placeholder(int host) {
     char tokens[SCM_MAX_MESSAGES];
     while (recv(host, tokens, sizeof tokens, MSG_DONTWAIT) > 0)
@@ -123,16 +86,13 @@ static void close_placeholder(int host) {
 
 static void free_file(struct file *file) {
     note_leak(file);
-    if (file->kind != SCM_PLAIN) {
-        counts.sockets[file->is_datagram]--;
-        for (int waits; file->listens && (waits = accept_host(file->host, 0)) >= 0;)
-            close_placeholder(waits);
+    for (int waits; file->listens && (waits = accept_host(file->host, 0)) >= 0;)
+        close_placeholder(waits);
+    if (file->kind != SCM_PLAIN)
         close_placeholder(file->host);
-    } else if (file->host >= 0) {
+    else
         close(file->host);
-    }
-    if (file->path >= 0)
-        close(file->path);
+    close(file->path);
     files[file->ino] = NULL;
     free(file);
 }
@@ -146,12 +106,11 @@ void settle(void) {
             free_file(files[inos[i]]);
     int64_t changed = scm_changed(&engine, inos, SCM_MAX_FILES);
     for (int64_t i = 0; i < changed; i++) {
-        struct file *file = file_at(inos[i]), *peer = file != NULL ? peer_of(file) : NULL;
-        if (file != NULL)
-            refresh(file);
-        wake(inos[i]);
-        if (peer != NULL)
-            wake(peer->ino);
+        if (file_at(inos[i]) == NULL)
+            continue;
+        refresh(files[inos[i]]);
+        wake(files[inos[i]]);
+        wake(peer_of(files[inos[i]]));
     }
     if (freed + changed > 0) {
         scm_clear_told(&engine);

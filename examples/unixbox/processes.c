@@ -25,20 +25,20 @@ static uint64_t number_in(const char *text, const char *label, int base) {
 
 /* Reads what a thread and its process are. Returns false where it is over. */
 bool read_status(pid_t tid, struct status *out) {
-    char path[64], text[4096];
-    const char *at;
+    char path[64], text[4096], state = 'X';
     snprintf(path, sizeof path, "/proc/%d/status", tid);
-    if (!read_text(path, text, sizeof text) || strstr(text, "\nState:\tZ") != NULL ||
-        strstr(text, "\nState:\tX") != NULL)
+    read_text(path, text, sizeof text);
+    const char *uids = strstr(text, "\nUid:"), *start = strstr(text, "\nState:");
+    if (start == NULL || uids == NULL || sscanf(start, " State: %c", &state) < 1 ||
+        state == 'X' || state == 'Z')
         return false;
     sscanf(text, "Name:\t%15[^\n]", out->name);
-    out->tgid = out->user.pid = (pid_t)number_in(text, "\nTgid:", 10);
-    if ((at = strstr(text, "\nUid:")) != NULL) /* The second number is the effective one. */
-        sscanf(at, " Uid: %*u %u %*u %*u Gid: %*u %u", &out->user.uid, &out->user.gid);
+    sscanf(uids, " Uid: %*u %u %*u %*u Gid: %*u %u", &out->user.uid, &out->user.gid);
+    out->user.pid = (pid_t)number_in(text, "\nTgid:", 10);
     out->umask = (mode_t)number_in(text, "\nUmask:", 8);
     uint64_t waits = number_in(text, "\nSigPnd:", 16) | number_in(text, "\nShdPnd:", 16);
-    out->is_signalled =
-        (waits & ~number_in(text, "\nSigBlk:", 16) & ~number_in(text, "\nSigIgn:", 16)) != 0;
+    uint64_t kept = number_in(text, "\nSigBlk:", 16) | number_in(text, "\nSigIgn:", 16);
+    out->is_signalled = (waits & ~kept) != 0;
     return true;
 }
 
@@ -69,16 +69,15 @@ void bind_process(struct process *process, pid_t tgid) {
     process->tgid = tgid;
     process->table = opendir(path);
     process->pidfd = (int)syscall(SYS_pidfd_open, tgid, 0);
-    if (process->table == NULL || process->pidfd < 0 ||
-        epoll_ctl(watches, EPOLL_CTL_ADD, process->pidfd, &event) < 0)
+    if (process->table == NULL || epoll_ctl(watches, EPOLL_CTL_ADD, process->pidfd, &event) < 0)
         forget_process(process);
 }
 
-void exit_process(struct process *process) {
+static void exit_process(struct process *process) {
     if (process->is_alive)
-        record(scm_exit(&engine, process->pid), "ok", "%u exit", process->pid);
+        record(process->pid, scm_exit(&engine, process->pid), "ok", "exit");
     process->is_alive = false;
-    want_collection();
+    is_collection_due = true;
 }
 
 void forget_process(struct process *process) {
@@ -88,8 +87,7 @@ void forget_process(struct process *process) {
         at = &(*at)->next;
     *at = process->next;
     forget_calls(process);
-    if (process->pidfd >= 0)
-        close(process->pidfd);
+    close(process->pidfd);
     if (process->table != NULL)
         closedir(process->table);
     free(process);
@@ -100,13 +98,7 @@ struct process *process_of(pid_t tid) {
     struct status status;
     bind_children(tid);
     struct process *process = process_by(tid);
-    if (process == NULL && read_status(tid, &status))
-        process = process_by(status.tgid);
-    return process;
-}
-
-bool has_unbound_children(void) {
-    return process_by(0) != NULL;
+    return process == NULL && read_status(tid, &status) ? process_by(status.user.pid) : process;
 }
 
 /* Returns a child of this thread that no process is bound to, or 0. */
@@ -114,10 +106,10 @@ static pid_t unbound_child(pid_t parent, pid_t tid) {
     char path[64], text[4096], *at = text;
     snprintf(path, sizeof path, "/proc/%d/task/%d/children", parent, tid);
     read_text(path, text, sizeof text);
-    for (pid_t pid; (pid = (pid_t)strtol(at, &at, 10)) > 0;)
-        if (process_by(pid) == NULL)
-            return pid;
-    return 0;
+    pid_t pid = (pid_t)strtol(at, &at, 10);
+    while (pid > 0 && process_by(pid) != NULL)
+        pid = (pid_t)strtol(at, &at, 10);
+    return pid;
 }
 
 /* Binds children that have made no call yet. A child whose parent is over is the supervisor's. One
@@ -131,9 +123,8 @@ void bind_children(pid_t caller) {
         bool has_parent = process_by(it->parent) != NULL;
         pid_t pid = unbound_child(it->parent, it->forker);
         if (pid == 0)
-            pid = unbound_child(it->parent, it->parent);
-        if (pid == 0 && !has_parent)
-            pid = unbound_child(getpid(), getpid());
+            pid = has_parent ? unbound_child(it->parent, it->parent)
+                             : unbound_child(getpid(), getpid());
         if (pid > 0)
             bind_process(it, pid);
         else if (it->forker == caller || !has_parent)
@@ -145,24 +136,19 @@ void bind_children(pid_t caller) {
 
 /* The layer forks at once; the host's number is bound when the child is there. */
 long serve_fork(struct call *call) {
-    struct process *parent = call->process;
-    pid_t caller = (pid_t)call->notif.pid;
-    uint64_t flags = call->notif.data.nr == SYS_clone ? call->notif.data.args[0] : 0;
-    if (call->notif.data.nr == SYS_clone3)
-        read_memory(call, &flags, call->notif.data.args[0], sizeof flags);
+    uint64_t flags = call->number == SYS_clone ? call->args[0] : 0;
+    if (call->number == SYS_clone3)
+        read_memory(call, &flags, call->args[0], sizeof flags);
     flags &= CLONE_THREAD | CLONE_FILES | CLONE_PARENT;
-    if (flags == (CLONE_THREAD | CLONE_FILES)) {
-        parent->has_threads = true;
-        return KERNEL_DOES_IT;
-    }
-    if (flags != 0)
-        return -EINVAL; /* In the layer the threads of a process, and no others, share a table. */
-    bind_children(caller);
-    sync_table(parent);
-    int64_t pid = record(scm_fork(&engine, parent->pid), "pid %lld", "%u fork", parent->pid);
+    if (flags == (CLONE_THREAD | CLONE_FILES))
+        call->process->has_threads = true;
+    if (flags != 0) /* In the layer the threads of a process, and no others, share a table. */
+        return call->process->has_threads ? KERNEL_DOES_IT : -EINVAL;
+    sync_table(call->process);
+    long pid = record(call->pid, scm_fork(&engine, call->pid), "pid %lld", "fork");
     if (pid < 0)
-        return host_error(pid);
-    add_process((uint32_t)pid, parent->tgid, caller);
+        return pid;
+    add_process((uint32_t)pid, call->process->tgid, call->tid);
     return KERNEL_DOES_IT;
 }
 
@@ -172,7 +158,7 @@ long serve_change(struct call *call) {
     return KERNEL_DOES_IT;
 }
 
-/* Calls of other threads may still come after this one. */
+/* exit_group(2). Calls of other threads may still come after it. */
 long serve_exit(struct call *call) {
     exit_process(call->process);
     return KERNEL_DOES_IT;
@@ -180,18 +166,17 @@ long serve_exit(struct call *call) {
 
 /* setrlimit(2) and prlimit(2) of RLIMIT_NOFILE. */
 long serve_limit(struct call *call) {
-    const __u64 *args = call->notif.data.args;
-    bool has_target = call->notif.data.nr == SYS_prlimit64;
-    struct process *process = has_target && args[0] != 0 ? process_by((pid_t)args[0]) : call->process;
-    struct rlimit limit;
-    if (process == NULL || !read_memory(call, &limit, args[has_target ? 2 : 1], sizeof limit) ||
-        limit.rlim_cur > limit.rlim_max)
+    bool has_target = call->number == SYS_prlimit64;
+    struct process *process =
+        has_target && call->args[0] != 0 ? process_by((pid_t)call->args[0]) : call->process;
+    struct rlimit limit = {0, 0};
+    uint64_t at = call->args[has_target ? 2 : 1];
+    if (process == NULL || at == 0 || !read_memory(call, &limit, at, sizeof limit))
         return KERNEL_DOES_IT;
     if (limit.rlim_cur > SCM_MAX_NOFILE)
         return -EPERM;
-    sync_table(process); /* Descriptors above a lower limit are opened before it. */
-    uint32_t number = (uint32_t)limit.rlim_cur;
-    int64_t answer = record(scm_limit(&engine, process->pid, number), "ok", "%u limit %u",
-                            process->pid, number);
-    return answer < 0 ? host_error(answer) : KERNEL_DOES_IT;
+    uint32_t most = (uint32_t)limit.rlim_cur;
+    sync_table(process); /* The layer opens nothing above a lower limit. */
+    long result = record(process->pid, scm_limit(&engine, process->pid, most), "ok", "limit %u", most);
+    return result < 0 ? result : KERNEL_DOES_IT;
 }

@@ -8,8 +8,8 @@ enum { KEY_ROOM = SCM_MAX_NAME + 1, PATH_START = offsetof(struct sockaddr_un, su
 
 /* Returns the kind of the sockets that a call asks for, or a negative errno. */
 static int kind_of(const struct call *call) {
-    int type = (int)call->notif.data.args[1] & 0xf, protocol = (int)call->notif.data.args[2];
-    bool is_pair = call->notif.data.nr == SYS_socketpair;
+    int type = (int)call->args[1] & 0xf, protocol = (int)call->args[2];
+    bool is_pair = call->number == SYS_socketpair;
     if (protocol != 0 && protocol != PF_UNIX)
         return -EPROTONOSUPPORT;
     if (type == SOCK_STREAM)
@@ -19,74 +19,66 @@ static int kind_of(const struct call *call) {
     return type == SOCK_DGRAM || type == SOCK_RAW ? -EPROTONOSUPPORT : -ESOCKTNOSUPPORT;
 }
 
-/* Adds the socket at a descriptor that the layer has just opened. */
-static struct file *add_socket(struct call *call, uint32_t fd, int kind) {
+/* Keeps a placeholder for a socket that the layer has just opened, and installs it. */
+static long add_socket(struct call *call, uint32_t fd, int kind, int host) {
     uint64_t ino = 0;
-    scm_ino(&engine, call->process->pid, fd, &ino);
+    scm_ino(&engine, call->pid, fd, &ino);
     struct file *file = add_file(ino, (uint32_t)kind);
+    file->is_datagram = ((int)call->args[1] & 0xf) == SOCK_DGRAM;
     file->owner = file->peer_owner = call->process->status.user;
-    if (call->notif.data.nr == SYS_socket)
+    if (call->number == SYS_socket)
         file->peer_owner = (struct ucred){0, (uid_t)-1, (gid_t)-1};
-    file->is_datagram = ((int)call->notif.data.args[1] & 0xf) == SOCK_DGRAM;
-    if (file->is_datagram) {
-        counts.sockets[false]--;
-        counts.sockets[true]++;
-    }
-    return file;
+    size_buffer(file->host = host);
+    return install(call, fd, (int)call->args[1] & SOCK_CLOEXEC);
 }
 
 long serve_socket(struct call *call) {
-    int kind = kind_of(call), flags = (int)call->notif.data.args[1];
-    uint32_t pid = call->process->pid;
+    int kind = kind_of(call);
     if (kind < 0)
         return kind;
     sync_table(call->process);
-    int64_t fd = record(scm_socket(&engine, pid, (uint32_t)kind), "fd %lld", "%u socket %s", pid,
-                        kind_name((uint32_t)kind));
+    long fd = record(call->pid, scm_socket(&engine, call->pid, (uint32_t)kind), "fd %lld",
+                     "socket %s", kind_name(kind));
     if (fd < 0)
-        return host_error(fd);
-    place_socket(add_socket(call, (uint32_t)fd, kind), flags & SOCK_NONBLOCK);
-    return install(call, (uint32_t)fd, flags & SOCK_CLOEXEC);
+        return fd;
+    int host = socket(AF_UNIX, (int)call->args[1] | SOCK_CLOEXEC, 0);
+    return add_socket(call, (uint32_t)fd, kind, host);
 }
 
 long serve_socketpair(struct call *call) {
-    int kind = kind_of(call), flags = (int)call->notif.data.args[1];
-    uint32_t pid = call->process->pid;
+    int kind = kind_of(call), hosts[2] = {-1, -1};
     struct scm_pair pair = {0, 0};
     char reply[32];
     if (kind < 0)
         return kind;
     sync_table(call->process);
-    int64_t answer = scm_pair(&engine, pid, (uint32_t)kind, &pair);
+    int64_t answer = scm_pair(&engine, call->pid, (uint32_t)kind, &pair);
     snprintf(reply, sizeof reply, "fds %u %u", pair.first, pair.second);
-    record(answer, reply, "%u pair %s", pid, kind_name((uint32_t)kind));
-    if (answer < 0)
-        return host_error(answer);
-    struct file *first = add_socket(call, pair.first, kind);
-    place_pair(first, add_socket(call, pair.second, kind), flags & SOCK_NONBLOCK);
-    long one = install(call, pair.first, flags & SOCK_CLOEXEC);
-    long two = install(call, pair.second, flags & SOCK_CLOEXEC);
-    if (one < 0 || two < 0)
-        return one < 0 ? one : two;
-    int numbers[2] = {(int)one, (int)two};
-    return write_memory(call, call->notif.data.args[3], numbers, sizeof numbers) ? 0 : -EFAULT;
+    long result = record(call->pid, answer, reply, "pair %s", kind_name(kind));
+    if (result < 0)
+        return result;
+    socketpair(AF_UNIX, (int)call->args[1] | SOCK_CLOEXEC, 0, hosts);
+    long first = add_socket(call, pair.first, kind, hosts[0]);
+    long second = add_socket(call, pair.second, kind, hosts[1]);
+    if (first < 0 || second < 0)
+        return first < 0 ? first : second;
+    int fds[2] = {(int)first, (int)second};
+    return write_memory(call, call->args[3], fds, sizeof fds) ? 0 : -EFAULT;
 }
 
 /* ---- Names ---- */
 
+/* Reads the name of a bind(2) or a connect(2). */
 static long read_address(const struct call *call, struct address *out) {
-    socklen_t length = (socklen_t)call->notif.data.args[2];
-    memset(out, 0, sizeof *out);
+    socklen_t length = (socklen_t)call->args[2];
+    *out = (struct address){.length = length};
     if (length < PATH_START || length > sizeof out->name)
         return -EINVAL;
-    if (!read_memory(call, &out->name, call->notif.data.args[1], length))
+    if (!read_memory(call, &out->name, call->args[1], length))
         return -EFAULT;
-    if (out->name.sun_family != AF_UNIX)
-        return -EINVAL;
-    out->length = length;
     if (length > PATH_START && out->name.sun_path[0] != '\0')
         out->length = PATH_START + (socklen_t)strnlen(out->name.sun_path, length - PATH_START) + 1;
-    return 0;
+    return out->name.sun_family == AF_UNIX ? 0 : -EINVAL;
 }
 
 void write_address(const struct call *call, uint64_t at, uint64_t length_at,
@@ -95,37 +87,36 @@ void write_address(const struct call *call, uint64_t at, uint64_t length_at,
     socklen_t room;
     if (at == 0 || !read_memory(call, &room, length_at, sizeof room))
         return;
-    if (address->length == 0)
-        address = &none;
+    address = address->length > 0 ? address : &none;
     write_memory(call, at, &address->name, room < address->length ? room : address->length);
     write_memory(call, length_at, &address->length, sizeof address->length);
 }
 
-/* Writes the layer's name for an abstract name. In Linux each type of sockets has names of its own,
- * of any bytes. */
+/* Writes the layer's name for an abstract name. In Linux the sockets of each type have names of
+ * their own, of any bytes. */
 static void abstract_key(const struct address *address, uint32_t kind, char *key) {
     const char *bytes = address->name.sun_path + 1;
     int length = (int)(address->length - PATH_START - 1);
+    char letter = kind == SCM_STREAM ? 's' : 'q';
     uint64_t hash = 14695981039346656037u; /* FNV-1a */
     bool fits = length > 0 && length < KEY_ROOM - 2;
     for (int i = 0; i < length; i++) {
         hash = (hash ^ (uint8_t)bytes[i]) * 1099511628211u;
-        fits = fits && bytes[i] != '\0' &&
-               (isalnum((unsigned char)bytes[i]) || strchr("-._", bytes[i]) != NULL);
+        fits = fits && (isalnum((uint8_t)bytes[i]) || (bytes[i] && strchr("-._", bytes[i])));
     }
     if (fits)
-        snprintf(key, KEY_ROOM, "%c-%.*s", kind_name(kind)[1], length, bytes);
+        snprintf(key, KEY_ROOM, "%c-%.*s", letter, length, bytes);
     else
-        snprintf(key, KEY_ROOM, "%c.%016" PRIx64, kind_name(kind)[1], hash);
+        snprintf(key, KEY_ROOM, "%c.%016" PRIx64, letter, hash);
 }
 
 /* Writes the layer's name for the socket at a pathname: its device and its inode. */
 static long path_key(const char *path, char *key) {
-    struct stat stat_of;
-    if (stat(path, &stat_of) < 0)
+    struct stat file;
+    if (stat(path, &file) < 0)
         return -errno;
-    snprintf(key, KEY_ROOM, "f.%lx.%lx", stat_of.st_dev, stat_of.st_ino);
-    return S_ISSOCK(stat_of.st_mode) ? 0 : -ECONNREFUSED;
+    snprintf(key, KEY_ROOM, "f.%lx.%lx", file.st_dev, file.st_ino);
+    return S_ISSOCK(file.st_mode) ? 0 : -ECONNREFUSED;
 }
 
 /* Writes the pathname by which the supervisor reaches that of the caller. */
@@ -135,22 +126,21 @@ static void caller_path(const struct call *call, const struct address *address, 
     if (strncmp(name, "/proc/self/", 11) == 0)
         snprintf(path, PATH_MAX, "/proc/%d/%.*s", call->process->tgid, length - 11, name + 11);
     else
-        snprintf(path, PATH_MAX, "/proc/%d/%s/%.*s", call->notif.pid,
-                 name[0] == '/' ? "root" : "cwd", length, name);
+        snprintf(path, PATH_MAX, "/proc/%d/%s/%.*s", call->tid, name[0] == '/' ? "root" : "cwd",
+                 length, name);
 }
 
-static int64_t bind_key(const struct call *call, const char *key) {
-    uint32_t pid = call->process->pid, fd = (uint32_t)call->notif.data.args[0];
-    return record(scm_bind(&engine, pid, fd, (const uint8_t *)key, strlen(key)), "ok",
-                  "%u bind %u %s", pid, fd, key);
+static long bind_key(const struct call *call, const char *key) {
+    int64_t answer = scm_bind(&engine, call->pid, call->fd, (const uint8_t *)key, strlen(key));
+    return record(call->pid, answer, "ok", "bind %u %s", call->fd, key);
 }
 
-/* Makes the socket file of a pathname as its caller would, and binds to it. */
-static long bind_path(struct call *call, struct file *file, const struct address *address) {
+/* Makes the socket file of a pathname as the caller would, and binds to it. */
+static long bind_path(const struct call *call, const struct address *address) {
     char path[PATH_MAX], key[KEY_ROOM];
     struct status status = call->process->status;
     caller_path(call, address, path);
-    read_status((pid_t)call->notif.pid, &status);
+    read_status(call->tid, &status);
     setfsgid(status.user.gid);
     setfsuid(status.user.uid);
     int error = mknod(path, S_IFSOCK | (0777 & ~status.umask), 0) < 0 ? errno : 0;
@@ -159,79 +149,72 @@ static long bind_path(struct call *call, struct file *file, const struct address
     if (error != 0)
         return error == EEXIST ? -EADDRINUSE : -error;
     path_key(path, key);
-    int64_t answer = bind_key(call, key);
-    if (answer < 0) {
+    long result = bind_key(call, key);
+    if (result < 0)
         unlink(path);
-        return host_error(answer);
-    }
-    file->path = open(path, O_PATH | O_NOFOLLOW | O_CLOEXEC);
-    return 0;
+    else
+        call->file->path = open(path, O_PATH | O_NOFOLLOW | O_CLOEXEC);
+    return result;
 }
 
 long serve_bind(struct call *call) {
     static unsigned next;
-    struct file *file = socket_of(call);
     struct address address;
     char key[KEY_ROOM];
-    int64_t answer;
-    if (file == NULL)
-        return KERNEL_DOES_IT;
-    long refusal = read_address(call, &address);
-    if (refusal == 0 && file->own.length > 0)
-        refusal = address.length == PATH_START ? 0 : -EINVAL;
-    if (refusal < 0 || file->own.length > 0)
-        return refusal;
-    if (address.length > PATH_START && address.name.sun_path[0] != '\0') {
-        refusal = bind_path(call, file, &address);
+    long result = read_address(call, &address);
+    bool is_any = address.length == PATH_START; /* The kernel would choose a name. */
+    if (result < 0 || call->file->own.length > 0)
+        return result < 0 || is_any ? result : -EINVAL;
+    if (!is_any && address.name.sun_path[0] != '\0') {
+        result = bind_path(call, &address);
     } else {
-        bool is_any = address.length == PATH_START; /* The kernel would choose a name. */
         do {
             if (is_any)
-                address.length = PATH_START + 1 + (socklen_t)snprintf(address.name.sun_path + 1, 6,
-                                                                      "%05x", next++ & 0xfffff);
-            abstract_key(&address, file->kind, key);
-            answer = bind_key(call, key);
-        } while (is_any && answer == -SCM_EADDRINUSE);
-        refusal = answer < 0 ? host_error(answer) : 0;
+                address.length = PATH_START + 1 + (socklen_t)snprintf(
+                    address.name.sun_path + 1, 6, "%05x", next++ & 0xfffff);
+            abstract_key(&address, call->file->kind, key);
+            result = bind_key(call, key);
+        } while (is_any && result == -EADDRINUSE);
     }
-    if (refusal == 0)
-        file->own = address;
-    return refusal;
+    if (result == 0)
+        call->file->own = address;
+    return result;
 }
 
 /* getsockname(2) and getpeername(2). */
 long serve_name(struct call *call) {
-    const __u64 *args = call->notif.data.args;
-    const struct file *file = socket_of(call);
-    bool is_own = call->notif.data.nr == SYS_getsockname;
+    bool is_own = call->number == SYS_getsockname;
     struct scm_file state;
-    if (file == NULL)
-        return KERNEL_DOES_IT;
-    scm_file(&engine, file->ino, &state);
+    scm_file(&engine, call->file->ino, &state);
     if (!is_own && (state.state == SCM_IDLE || state.state == SCM_LISTENING))
         return -ENOTCONN;
-    write_address(call, args[1], args[2], is_own ? &file->own : &file->peer);
+    write_address(call, call->args[1], call->args[2], is_own ? &call->file->own : &call->file->peer);
     return 0;
+}
+
+long serve_peercred(struct call *call) {
+    const struct ucred *owner = call->file->listens ? &call->file->owner : &call->file->peer_owner;
+    socklen_t room;
+    if (!read_memory(call, &room, call->args[4], sizeof room))
+        return -EFAULT;
+    room = room < sizeof *owner ? room : sizeof *owner;
+    write_memory(call, call->args[3], owner, room);
+    return write_memory(call, call->args[4], &room, sizeof room) ? 0 : -EFAULT;
 }
 
 /* ---- Connections ---- */
 
 long serve_listen(struct call *call) {
-    struct file *file = socket_of(call);
-    uint32_t pid = call->process->pid, fd = (uint32_t)call->notif.data.args[0];
-    int backlog = (int)call->notif.data.args[1];
     struct sockaddr any = {.sa_family = AF_UNIX};
-    if (file == NULL)
-        return KERNEL_DOES_IT;
-    if (file->is_datagram)
-        return -EOPNOTSUPP;
+    struct file *file = call->file;
+    uint32_t waiting = (uint32_t)call->args[1];
     if (file->listens)
         return 0;
-    uint32_t most = backlog < 0 || backlog >= SCM_MAX_BACKLOG ? SCM_MAX_BACKLOG : backlog + 1;
-    int64_t answer = record(scm_listen(&engine, pid, fd, most), "ok", "%u listen %u %u", pid, fd,
-                            most);
-    if (answer < 0)
-        return host_error(answer);
+    waiting = waiting < SCM_MAX_BACKLOG ? waiting + 1 : SCM_MAX_BACKLOG;
+    long result = record(call->pid, scm_listen(&engine, call->pid, call->fd, waiting), "ok",
+                         "listen %u %u", call->fd, waiting);
+    if (result < 0)
+        return result;
     file->listens = true;
     file->owner = call->process->status.user;
     bind(file->host, &any, sizeof any.sa_family);
@@ -239,117 +222,76 @@ long serve_listen(struct call *call) {
     return 0;
 }
 
-/* Returns the listener that the last step gave an embryo: the one that it changed. */
-static struct file *changed_listener(void) {
+/* Connects a client's placeholder to that of the listener, which is the one that the last step
+ * changed, and adds the embryo. */
+static void add_embryo(const struct call *call) {
+    struct file *client = call->file, *listener = client;
+    struct scm_file state;
+    struct sockaddr_un name;
+    socklen_t length = sizeof name;
     uint64_t inos[4];
     int64_t count = scm_changed(&engine, inos, 4);
     for (int64_t i = 0; i < count && i < 4; i++)
-        if (files[inos[i]] != NULL && files[inos[i]]->listens)
-            return files[inos[i]];
-    return NULL;
-}
-
-long serve_connect(struct call *call) {
-    struct file *client = socket_of(call);
-    uint32_t pid = call->process->pid, fd = (uint32_t)call->notif.data.args[0];
-    struct address address;
-    struct scm_file state;
-    char key[KEY_ROOM], path[PATH_MAX];
-    if (client == NULL || client->is_datagram)
-        return KERNEL_DOES_IT;
-    long refusal = read_address(call, &address);
-    if (refusal == 0 && address.length == PATH_START)
-        refusal = -EINVAL;
-    if (refusal == 0 && address.name.sun_path[0] != '\0') {
-        caller_path(call, &address, path);
-        refusal = path_key(path, key);
-    } else if (refusal == 0) {
-        abstract_key(&address, client->kind, key);
-    }
-    if (refusal < 0)
-        return refusal;
-    int64_t answer = record(scm_connect(&engine, pid, fd, (const uint8_t *)key, strlen(key)), "ok",
-                            "%u connect %u %s", pid, fd, key);
-    if (answer < 0)
-        return answer == -SCM_EAGAIN ? wait_for(call, client, 0, 0) : host_error(answer);
-    struct file *listener = changed_listener();
+        if (file_at(inos[i]) != NULL && files[inos[i]]->listens)
+            listener = files[inos[i]];
+    getsockname(listener->host, (struct sockaddr *)&name, &length);
+    connect(client->host, (struct sockaddr *)&name, length);
     scm_file(&engine, client->ino, &state);
     struct file *embryo = add_file(state.peer, client->kind);
     embryo->is_embryo = true;
     embryo->own = client->peer = listener->own;
     embryo->peer = client->own;
+    embryo->owner = client->peer_owner = listener->owner;
     embryo->peer_owner = call->process->status.user;
-    client->peer_owner = listener->owner;
-    place_connection(client, listener);
-    return 0;
+}
+
+long serve_connect(struct call *call) {
+    struct address address;
+    char key[KEY_ROOM], path[PATH_MAX];
+    long result = read_address(call, &address);
+    if (result == 0 && address.length == PATH_START)
+        return -EINVAL;
+    if (result == 0 && address.name.sun_path[0] == '\0') {
+        abstract_key(&address, call->file->kind, key);
+    } else if (result == 0) {
+        caller_path(call, &address, path);
+        result = path_key(path, key);
+    }
+    if (result < 0)
+        return result;
+    int64_t answer = scm_connect(&engine, call->pid, call->fd, (const uint8_t *)key, strlen(key));
+    result = record(call->pid, answer, "ok", "connect %u %s", call->fd, key);
+    if (result == 0)
+        add_embryo(call);
+    return result == -EAGAIN ? wait_for(call, 0, 0) : result;
 }
 
 /* accept(2) and accept4(2). */
 long serve_accept(struct call *call) {
-    const __u64 *args = call->notif.data.args;
-    const struct file *listener = socket_of(call);
-    uint32_t pid = call->process->pid;
-    int flags = call->notif.data.nr == SYS_accept4 ? (int)args[3] : 0;
-    if (listener == NULL)
-        return KERNEL_DOES_IT;
-    if (listener->is_datagram)
-        return -EOPNOTSUPP;
-    if (listener->shut & 1)
+    int flags = call->number == SYS_accept4 ? (int)call->args[3] : 0;
+    if (call->file->shut & 1)
         return -EINVAL;
     sync_table(call->process);
-    int64_t fd = record(scm_accept(&engine, pid, (uint32_t)args[0]), "fd %lld", "%u accept %u", pid,
-                        (uint32_t)args[0]);
+    long fd = record(call->pid, scm_accept(&engine, call->pid, call->fd), "fd %lld", "accept %u",
+                     call->fd);
     if (fd < 0)
-        return fd == -SCM_EAGAIN ? wait_for(call, listener, 0, listener->ino) : host_error(fd);
+        return fd == -EAGAIN ? wait_for(call, 0, call->file->ino) : fd;
     struct file *file = file_of(call->process, (uint64_t)fd);
     file->is_embryo = false;
-    place_accepted(file, listener, flags & SOCK_NONBLOCK);
+    size_buffer(file->host = accept_host(call->file->host, flags & SOCK_NONBLOCK));
     long number = install(call, (uint32_t)fd, flags & SOCK_CLOEXEC);
     if (number >= 0)
-        write_address(call, args[1], args[2], &file->peer);
+        write_address(call, call->args[1], call->args[2], &file->peer);
     return number;
 }
 
 /* The layer has no shutdown(2): sends and receives look at what is kept here. */
 long serve_shutdown(struct call *call) {
-    struct file *file = socket_of(call);
-    uint64_t how = call->notif.data.args[1];
-    if (file == NULL)
-        return KERNEL_DOES_IT;
-    if (how > SHUT_RDWR)
+    if (call->args[1] > SHUT_RDWR)
         return -EINVAL;
-    file->shut |= (int)how + 1;
-    shutdown(file->host, (int)how);
-    wake(file->ino);
-    if (peer_of(file) != NULL)
-        wake(peer_of(file)->ino);
+    call->file->shut |= (int)call->args[1] + 1;
+    shutdown(call->file->host, (int)call->args[1]);
+    wake(call->file);
+    wake(peer_of(call->file));
     return 0;
-}
-
-/* ---- Options ---- */
-
-/* getsockopt(2) of SO_PEERCRED. What else tells of the peer is not served. */
-long serve_get_option(struct call *call) {
-    const __u64 *args = call->notif.data.args;
-    const struct file *file = socket_of(call);
-    socklen_t room;
-    if (file == NULL || args[1] != SOL_SOCKET)
-        return KERNEL_DOES_IT;
-    if (args[2] != SO_PEERCRED)
-        return -ENOPROTOOPT;
-    struct ucred owner = file->listens ? file->owner : file->peer_owner;
-    if (!read_memory(call, &room, args[4], sizeof room))
-        return -EFAULT;
-    room = room < sizeof owner ? room : sizeof owner;
-    bool is_done = write_memory(call, args[3], &owner, room) &&
-                   write_memory(call, args[4], &room, sizeof room);
-    return is_done ? 0 : -EFAULT;
-}
-
-/* setsockopt(2): the buffer of a placeholder keeps its size, and other options are not served. */
-long serve_set_option(struct call *call) {
-    const __u64 *args = call->notif.data.args;
-    if (socket_of(call) == NULL || args[1] != SOL_SOCKET)
-        return KERNEL_DOES_IT;
-    return args[2] == SO_SNDBUF || args[2] == SO_SNDBUFFORCE ? 0 : -ENOPROTOOPT;
 }
