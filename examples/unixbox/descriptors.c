@@ -10,21 +10,21 @@ static void close_fd(const struct process *process, uint32_t fd) {
 
 static long duplicate_at(const struct process *process, uint32_t from, uint32_t to) {
     is_collection_due = true;
-    return record(process->pid, scm_dup2(&engine, process->pid, from, to), "fd %lld", "dup2 %u %u",
+    return record(process->pid, scm_dup2(&engine, process->pid, from, to), "fd %ld", "dup2 %u %u",
                   from, to);
 }
 
-/* Opens a plain file, at the lowest number. Returns that number. */
-static long open_plain(const struct process *process) {
-    long fd = record(process->pid, scm_open(&engine, process->pid), "fd %lld", "open");
+/* Opens a plain file at a number that is free. */
+static void open_at(const struct process *process, uint32_t fd) {
+    long lowest = record(process->pid, scm_open(&engine, process->pid), "fd %ld", "open");
     uint64_t ino = 0;
-    scm_ino(&engine, process->pid, (uint32_t)fd, &ino);
-    if (fd >= 0)
-        add_file(ino, SCM_PLAIN);
-    return fd;
+    if (lowest < 0) return;
+    scm_ino(&engine, process->pid, (uint32_t)lowest, &ino);
+    add_file(ino, SCM_PLAIN);
+    if (lowest == fd) return;
+    duplicate_at(process, (uint32_t)lowest, fd);
+    close_fd(process, (uint32_t)lowest);
 }
-
-/* ---- The two tables ---- */
 
 static void read_link(const struct process *process, uint32_t fd, char *link, size_t room) {
     char name[16];
@@ -38,8 +38,7 @@ void finish_close(struct process *process, pid_t caller) {
     char link[sizeof process->closing_link];
     for (int i = 0; process->closer != 0 && process->closer != caller && i < MOST_CHECKS; i++) {
         read_link(process, process->closing, link, sizeof link);
-        if (link[0] == '\0' || strcmp(link, process->closing_link) != 0)
-            break;
+        if (link[0] == '\0' || strcmp(link, process->closing_link) != 0) break;
         usleep(MICROSECONDS);
     }
     process->closer = 0;
@@ -65,21 +64,15 @@ void sync_table(struct process *process) {
         if (isdigit((unsigned char)it->d_name[0]) && atoi(it->d_name) < SCM_MAX_NOFILE)
             is_open[atoi(it->d_name)] = true;
     for (int64_t fd = 0; (fd = scm_next_fd(&engine, process->pid, (uint32_t)fd, &ino)) >= 0; fd++)
-        if (!is_open[fd])
-            close_fd(process, (uint32_t)fd);
-    for (uint32_t fd = 0; fd < SCM_MAX_NOFILE; fd++) {
-        long lowest = is_open[fd] && file_of(process, fd) == NULL ? open_plain(process) : fd;
-        if (lowest >= 0 && lowest != fd) {
-            duplicate_at(process, (uint32_t)lowest, fd);
-            close_fd(process, (uint32_t)lowest);
-        }
-    }
+        if (!is_open[fd]) close_fd(process, (uint32_t)fd);
+    for (uint32_t fd = 0; fd < SCM_MAX_NOFILE; fd++)
+        if (is_open[fd] && file_of(process, fd) == NULL) open_at(process, fd);
 }
 
 /* Puts a descriptor that the layer has opened into the caller's table: at its number, or at the
  * one that the kernel chooses, which should be the same. A plain file is copied from `from`.
  * Returns the number, or a negative errno. */
-static long put(struct call *call, uint32_t fd, int from, bool is_fixed, bool closes_on_exec) {
+long install(struct call *call, uint32_t fd, int from, bool is_fixed, bool closes_on_exec) {
     const struct file *file = file_of(call->process, fd);
     bool is_ours = file != NULL && file->host >= 0;
     int host = is_ours ? file->host : (int)syscall(SYS_pidfd_getfd, call->process->pidfd, from, 0);
@@ -88,41 +81,26 @@ static long put(struct call *call, uint32_t fd, int from, bool is_fixed, bool cl
         .flags = is_fixed ? SECCOMP_ADDFD_FLAG_SETFD : 0,
         .newfd_flags = closes_on_exec ? O_CLOEXEC : 0};
     int number = ioctl(notifications, SECCOMP_IOCTL_NOTIF_ADDFD, &descriptor), error = errno;
-    if (!is_ours)
-        close(host);
-    if (number == (int)fd)
-        return number;
+    if (!is_ours) close(host);
+    if (number == (int)fd) return number;
     if (number < 0 && error == EBADF && from >= 0)
         return KERNEL_DOES_IT; /* What O_PATH opened cannot be given. */
     /* Beside threads other numbers are no fault: one may open something after the last look. */
-    if (!is_fixed && !call->process->has_threads && (number >= 0 || error != ENOENT)) {
-        counts.other_numbers++;
-        fprintf(stderr, "unixbox: process %d: the layer chose descriptor %u, the kernel %d\n",
-                call->process->tgid, fd, number);
-    }
-    if (number >= 0)
-        duplicate_at(call->process, fd, (uint32_t)number);
+    bool is_fault = !is_fixed && !call->process->has_threads && (number >= 0 || error != ENOENT);
+    counts.other_numbers += is_fault;
+    if (number >= 0) duplicate_at(call->process, fd, (uint32_t)number);
     close_fd(call->process, fd);
     return number >= 0 ? number : -error;
 }
 
-/* Installs a placeholder at the number that the layer chose. */
-long install(struct call *call, uint32_t fd, bool closes_on_exec) {
-    return put(call, fd, -1, false, closes_on_exec);
-}
-
-/* ---- Handlers ---- */
-
 /* A close can only be left to the kernel. */
 long serve_close(struct call *call) {
     struct process *process = call->process;
-    if (file_of(process, call->fd) != NULL)
-        close_fd(process, call->fd);
-    if (process->has_threads) {
-        process->closer = call->tid;
-        process->closing = call->fd;
-        read_link(process, call->fd, process->closing_link, sizeof process->closing_link);
-    }
+    if (file_of(process, call->fd) != NULL) close_fd(process, call->fd);
+    if (!process->has_threads) return KERNEL_DOES_IT;
+    process->closer = call->tid;
+    process->closing = call->fd;
+    read_link(process, call->fd, process->closing_link, sizeof process->closing_link);
     return KERNEL_DOES_IT;
 }
 
@@ -130,55 +108,32 @@ long serve_close(struct call *call) {
  * look at the table before it is done. */
 long serve_dup(struct call *call) {
     sync_table(call->process);
-    long fd = record(call->pid, scm_dup(&engine, call->pid, call->fd), "fd %lld", "dup %u", call->fd);
-    return fd < 0 ? fd : put(call, (uint32_t)fd, (int)call->fd, false, false);
-}
-
-static long copy_to(struct call *call, uint32_t to, bool closes_on_exec) {
-    long fd = duplicate_at(call->process, call->fd, to);
-    return fd < 0 ? fd : put(call, to, (int)call->fd, true, closes_on_exec);
+    int64_t answer = scm_dup(&engine, call->pid, call->fd);
+    long fd = record(call->pid, answer, "fd %ld", "dup %u", call->fd);
+    return fd < 0 ? fd : install(call, (uint32_t)fd, (int)call->fd, false, false);
 }
 
 /* dup2(2) and dup3(2). */
 long serve_dup2(struct call *call) {
-    sync_table(call->process);
-    if (call->fd == (uint32_t)call->args[1] || file_of(call->process, call->fd) == NULL)
-        return KERNEL_DOES_IT;
     bool closes_on_exec = call->number == SYS_dup3 && (call->args[2] & O_CLOEXEC);
-    return copy_to(call, (uint32_t)call->args[1], closes_on_exec);
+    uint32_t to = (uint32_t)call->args[1];
+    sync_table(call->process);
+    if (call->fd == to || file_of(call->process, call->fd) == NULL) return KERNEL_DOES_IT;
+    long fd = duplicate_at(call->process, call->fd, to);
+    return fd < 0 ? fd : install(call, to, (int)call->fd, true, closes_on_exec);
 }
 
 /* fcntl(2) with F_DUPFD: the lowest free number from the argument on. */
-long serve_dupfd(struct call *call) {
-    long number = -EBADF;
+long serve_fcntl(struct call *call) {
+    bool closes_on_exec = call->args[1] == F_DUPFD_CLOEXEC;
+    if (call->args[1] != F_DUPFD && !closes_on_exec) return KERNEL_DOES_IT;
     sync_table(call->process);
     for (uint64_t to = call->args[2]; to < SCM_MAX_NOFILE; to++) {
-        if (file_of(call->process, to) != NULL)
-            continue;
-        number = copy_to(call, (uint32_t)to, call->args[1] == F_DUPFD_CLOEXEC);
-        if (number != -EBUSY) /* A thread that waits in accept(2) has reserved the number. */
-            break;
+        if (file_of(call->process, to) != NULL) continue;
+        long number = duplicate_at(call->process, call->fd, (uint32_t)to);
+        if (number < 0) break;
+        number = install(call, (uint32_t)to, (int)call->fd, true, closes_on_exec);
+        if (number != -EBUSY) return number; /* A thread in accept(2) has reserved that one. */
     }
-    /* A process has no number from its limit on; the kernel says which error that is. */
-    return number == -EBADF ? KERNEL_DOES_IT : number;
-}
-
-/* openat(2) of /proc/net/protocols, with the numbers of sockets that the layer has. */
-long serve_open(struct call *call) {
-    static const char served[] = "/proc/net/protocols";
-    char path[sizeof served];
-    if (!read_memory(call, path, call->args[1], sizeof path) || memcmp(path, served, sizeof path) != 0)
-        return KERNEL_DOES_IT;
-    sync_table(call->process);
-    long fd = open_plain(call->process);
-    if (fd < 0)
-        return fd;
-    int text = file_of(call->process, (uint64_t)fd)->host = memfd_create("protocols", MFD_CLOEXEC);
-    int counts_of[2] = {0, 0};
-    for (uint64_t ino = 0; ino < file_room; ino++)
-        if (files[ino] != NULL && files[ino]->kind != SCM_PLAIN)
-            counts_of[files[ino]->is_datagram]++;
-    dprintf(text, "UNIX-STREAM 0 %d\nUNIX 0 %d\n", counts_of[false], counts_of[true]);
-    lseek(text, 0, SEEK_SET);
-    return put(call, (uint32_t)fd, -1, false, call->args[2] & O_CLOEXEC);
+    return KERNEL_DOES_IT; /* It has no such descriptor, or no number: the kernel says which. */
 }

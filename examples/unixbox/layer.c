@@ -2,24 +2,20 @@
 #include "unixbox.h"
 #include <stdarg.h>
 
-enum { MOST_TEXT = SCM_MAX_BYTES + 16 * SCM_MAX_FD };
+enum { MOST_PICTURE = 1 << 24 };
 
-/* Who sent descriptors, and how many of these files leaked. */
-struct sender {
-    pid_t tgid;
-    char name[16];
-    uint64_t sockets, plain_files;
-    struct sender *next;
-};
+/* How many sockets and plain files of a sender only a cycle kept. */
+static struct leak {
+    struct status sender;
+    uint64_t count[2];
+    struct leak *next;
+} *leaks;
 
 scm_engine engine = SCM_ENGINE_INIT;
 struct counts counts;
-static FILE *script, *replies;
-static struct sender nobody = {.name = "-"}, *senders = &nobody;
 bool is_collection_due;
 static bool is_running, is_collecting;
-
-/* ---- The record ---- */
+static FILE *script, *replies;
 
 /* Opens the script, and the file of its replies. */
 bool open_script(const char *path) {
@@ -27,77 +23,56 @@ bool open_script(const char *path) {
     snprintf(name, sizeof name, "%s.replies", path);
     script = fopen(path, "we");
     replies = fopen(name, "we");
-    if (script != NULL)
-        fprintf(script, "version 2\n");
-    return script != NULL && replies != NULL;
+    return script != NULL && replies != NULL && fprintf(script, "version 2\n") > 0;
 }
 
 /* Counts a step of a process (0: of none), and writes its line and its reply, which may have the
  * answer in it. Returns the answer, or a negative errno. */
 long record(uint32_t pid, int64_t answer, const char *reply, const char *line, ...) {
-    static const int errors[] = {
-        [SCM_EBADF] = EBADF, [SCM_ENOTSOCK] = ENOTSOCK, [SCM_EINVAL] = EINVAL,
-        [SCM_EMFILE] = EMFILE, [SCM_ENFILE] = ENFILE, [SCM_EAGAIN] = EAGAIN,
-        [SCM_EMSGSIZE] = EMSGSIZE, [SCM_ETOOMANYREFS] = ETOOMANYREFS, [SCM_ENOBUFS] = ENOBUFS,
-        [SCM_ENOTCONN] = ENOTCONN, [SCM_EPIPE] = EPIPE, [SCM_EISCONN] = EISCONN,
-        [SCM_EADDRINUSE] = EADDRINUSE, [SCM_ECONNREFUSED] = ECONNREFUSED,
-        [SCM_EPROTOTYPE] = EPROTOTYPE, [SCM_ESRCH] = ESRCH, [SCM_ENOMEM] = ENOMEM,
-    };
+    static const int errors[] = { /* In the order of enum scm_error. */
+        0, EBADF, ENOTSOCK, EINVAL, EMFILE, ENFILE, EAGAIN, EMSGSIZE, ETOOMANYREFS, ENOBUFS,
+        ENOTCONN, EPIPE, EISCONN, EADDRINUSE, ECONNREFUSED, EPROTOTYPE, ESRCH, ENOMEM};
     counts.steps++;
     if (script != NULL) {
         va_list arguments;
         va_start(arguments, line);
-        if (pid > 0)
-            fprintf(script, "%u ", pid);
+        if (pid > 0) fprintf(script, "%u ", pid);
         vfprintf(script, line, arguments);
-        fputc('\n', script);
         va_end(arguments);
-        if (answer < 0)
-            fputs(scm_strerror(answer), replies);
-        else
-            fprintf(replies, reply, (long long)answer);
+        fprintf(replies, answer < 0 ? scm_strerror(answer) : reply, answer);
+        fputc('\n', script);
         fputc('\n', replies);
     }
-    if (answer >= 0)
-        return answer;
-    return -answer <= SCM_ENOMEM ? -errors[-answer] : -EIO;
-}
-
-const char *kind_name(uint32_t kind) {
-    return kind == SCM_STREAM ? "stream" : "seqpacket";
+    return answer >= 0 ? answer : -answer <= SCM_ENOMEM ? -errors[-answer] : -EIO;
 }
 
 /* Returns descriptors as a line of the script has them. */
 const char *fds_text(const uint32_t *fds, size_t count) {
-    static char text[16 * SCM_MAX_FD];
-    size_t length = 0;
+    static char text[8 * SCM_MAX_FD];
+    int length = 0;
     text[0] = '\0';
     for (size_t i = 0; script != NULL && i < count; i++)
-        length += (size_t)snprintf(text + length, sizeof text - length, " %u", fds[i]);
+        length += sprintf(text + length, " %u", fds[i]);
     return text;
 }
 
 /* Returns the reply to a receive. The script sends bytes `x` in place of the program's. */
-const char *received_text(int64_t answer, const uint32_t *fds, const struct scm_received *out) {
-    static char text[MOST_TEXT];
-    if (script == NULL || answer <= 0)
-        return "end";
-    memset(text, 'x', MOST_TEXT);
+const char *received_text(int64_t answer, const uint32_t *fds, const struct scm_received *got) {
+    static char text[SCM_MAX_BYTES + 16 * SCM_MAX_FD];
+    if (script == NULL || answer <= 0) return "end";
+    memset(text, 'x', sizeof text);
     memcpy(text, "got ", 4);
-    snprintf(text + 4 + answer, sizeof text - 4 - (size_t)answer, "%s%s%s%s",
-             out->fds > 0 ? " fds" : "", fds_text(fds, out->fds), out->trunc ? " trunc" : "",
-             out->ctrunc ? " ctrunc" : "");
+    sprintf(text + 4 + answer, "%s%s%s%s", got->fds > 0 ? " fds" : "", fds_text(fds, got->fds),
+            got->trunc ? " trunc" : "", got->ctrunc ? " ctrunc" : "");
     return text;
 }
-
-/* ---- The collector ---- */
 
 /* Does a slice, or a whole pass. What this frees, only a cycle kept. */
 static void do_pass(bool in_slices) {
     struct scm_finished over = {0, 0};
     char text[64];
     int64_t answer = in_slices ? scm_slice(&engine, options.budget, &over) : scm_pass(&engine, &over);
-    snprintf(text, sizeof text, "pass %" PRIu64 " reclaimed %" PRIu64, over.pass, over.reclaimed);
+    snprintf(text, sizeof text, "pass %lu reclaimed %lu", over.pass, over.reclaimed);
     if (in_slices)
         record(0, answer, answer == 1 ? "working" : text, "slice %u", options.budget);
     else
@@ -112,41 +87,33 @@ static void do_pass(bool in_slices) {
 
 /* Does one slice or one pass, if one is due. Returns whether more is to do. */
 bool collect(void) {
-    uint64_t in_flight = 0, pass;
+    uint64_t in_flight = 0, pass = 0;
+    char text[32];
+    scm_total(&engine, &in_flight);
     if (!is_running) {
-        scm_total(&engine, &in_flight);
         bool is_due = is_collection_due && in_flight > 0 && options.collector != COLLECT_NEVER;
         is_collection_due = false;
-        if (!is_due)
-            return false;
-        if (options.collector == COLLECT_SLICES)
-            record(0, scm_begin(&engine, &pass) < 0 ? -SCM_EBUSY : (int64_t)pass, "started %lld",
-                   "begin");
+        if (!is_due) return false;
+        int64_t answer = options.collector == COLLECT_SLICES ? scm_begin(&engine, &pass) : 0;
+        snprintf(text, sizeof text, "started %lu", pass);
+        if (pass > 0) record(0, answer, text, "begin");
     }
     do_pass(options.collector == COLLECT_SLICES);
     return is_running || is_collection_due;
 }
 
-/* ---- Recounts ---- */
-
 /* Compares the counts of each file with the tables of all processes. */
 static void verify_counts(void) {
-    uint32_t *places = calloc(file_room, sizeof *places);
+    uint32_t *places = allocate(file_room * sizeof *places);
     uint64_t ino, refs, inflight;
     for (struct process *it = processes; it != NULL; it = it->next)
         for (int64_t fd = 0; (fd = scm_next_fd(&engine, it->pid, (uint32_t)fd, &ino)) >= 0; fd++)
-            if (places != NULL && ino < file_room)
-                places[ino]++;
-    for (ino = 0; places != NULL && ino < file_room; ino++) {
-        if (files[ino] == NULL)
-            continue;
+            places[ino]++;
+    for (ino = 0; ino < file_room; ino++) {
         scm_refs(&engine, ino, &refs);
         scm_inflight(&engine, ino, &inflight);
-        if (refs != places[ino] + inflight + files[ino]->is_embryo) {
-            counts.wrong_counts++;
-            fprintf(stderr, "unixbox: file %" PRIu64 ": %" PRIu64 " references, %" PRIu64
-                    " in flight, %u in tables\n", ino, refs, inflight, places[ino]);
-        }
+        bool waits = files[ino] != NULL && files[ino]->is_embryo;
+        counts.wrong_counts += refs != places[ino] + inflight + waits;
     }
     free(places);
 }
@@ -155,82 +122,50 @@ static void verify_counts(void) {
 void inspect(void) {
     struct scm_checked checked = {0, 0};
     char text[64];
-    if (options.verifies)
-        verify_counts();
-    if (!options.checks)
-        return;
+    if (options.verifies) verify_counts();
+    if (!options.checks) return;
     int64_t answer = scm_check(&engine, &checked);
-    snprintf(text, sizeof text, "check ok live %" PRIu64 " garbage %" PRIu64, checked.live,
-             checked.garbage);
+    snprintf(text, sizeof text, "check ok live %lu garbage %lu", checked.live, checked.garbage);
     counts.failed_checks += record(0, answer, text, "check") < 0;
 }
 
-/* ---- What is found ---- */
-
-/* Notes who sent a file. */
-void note_sender(struct file *file, const struct process *process) {
-    struct sender *it = senders;
-    while (it != NULL &&
-           (it->tgid != process->tgid || strcmp(it->name, process->status.name) != 0))
-        it = it->next;
-    if (it == NULL && (it = calloc(1, sizeof *it)) != NULL) {
-        it->tgid = process->tgid;
-        memcpy(it->name, process->status.name, sizeof it->name);
-        it->next = senders;
-        senders = it;
-    }
-    file->sender = it;
-}
-
-/* Notes a file that is freed: where a pass frees it, only a cycle kept it. */
+/* Counts a file that is freed, by who sent it last: where a pass frees it, only a cycle kept it. */
 void note_leak(const struct file *file) {
-    struct sender *sender = file->sender != NULL ? file->sender : &nobody;
-    if (is_collecting && file->kind == SCM_PLAIN)
-        sender->plain_files++;
-    else if (is_collecting)
-        sender->sockets++;
-}
-
-static void draw(const char *path) {
-    int64_t length = scm_graph(&engine, (uint8_t *)"", 0);
-    uint8_t *text = length > 0 ? malloc((size_t)length) : NULL;
-    FILE *file = fopen(path, "w");
-    if (text != NULL && file != NULL)
-        fwrite(text, 1, (size_t)scm_graph(&engine, text, (size_t)length), file);
-    if (file != NULL)
-        fclose(file);
-    free(text);
+    struct leak *it = leaks;
+    if (!is_collecting) return;
+    while (it != NULL && (it->sender.user.pid != file->sender.user.pid ||
+                          strcmp(it->sender.name, file->sender.name) != 0))
+        it = it->next;
+    if (it == NULL) {
+        it = allocate(sizeof *it);
+        *it = (struct leak){.sender = file->sender, .next = leaks};
+        leaks = it;
+    }
+    it->count[file->kind == SCM_PLAIN]++;
 }
 
 /* Writes the picture, does the last pass, and says what was found. */
 void conclude(void) {
+    static uint8_t picture[MOST_PICTURE];
     uint64_t live = 0;
-    if (options.graph != NULL)
-        draw(options.graph);
-    while (is_running)
-        do_pass(true);
+    size_t length = (size_t)scm_graph(&engine, picture, sizeof picture);
+    FILE *file = options.graph != NULL ? fopen(options.graph, "w") : NULL;
+    if (file != NULL) fwrite(picture, 1, length < MOST_PICTURE ? length : MOST_PICTURE, file);
+    if (options.graph != NULL && (file == NULL || fclose(file) != 0)) perror(options.graph);
+    while (is_running) do_pass(true);
     do_pass(false);
-    inspect();
     scm_live(&engine, &live);
-    fprintf(stderr, "unixbox: %" PRIu64 " calls, %" PRIu64 " steps of the layer; %" PRIu64
-            " passes reclaimed %" PRIu64 " sockets\n", counts.calls, counts.steps, counts.passes,
-            counts.reclaimed);
-    fprintf(stderr, "unixbox: other numbers %" PRIu64 ", wrong counts %" PRIu64
-            ", failed checks %" PRIu64 ", lost messages %" PRIu64 ", files left %" PRIu64 "\n",
+    fprintf(stderr, "unixbox: %lu calls, %lu steps of the layer, %lu passes, %lu sockets reclaimed\n"
+            "unixbox: %lu other numbers, %lu wrong counts, %lu failed checks, %lu lost messages, "
+            "%lu files left\n", counts.calls, counts.steps, counts.passes, counts.reclaimed,
             counts.other_numbers, counts.wrong_counts, counts.failed_checks, counts.lost_messages,
             live);
-    bool has_title = false;
-    for (const struct sender *it = senders; it != NULL; it = it->next) {
-        if (it->sockets + it->plain_files == 0)
-            continue;
-        if (!has_title)
-            fprintf(stderr, "unixbox: leaked in cycles, by who sent it last\n"
-                    "    pid program          sockets  plain files\n");
-        has_title = true;
-        fprintf(stderr, "%7d %-16s %7" PRIu64 "  %11" PRIu64 "\n", it->tgid, it->name, it->sockets,
-                it->plain_files);
-    }
+    if (leaks != NULL)
+        fprintf(stderr, "unixbox: leaked in cycles, by who sent it last (0: nobody)\n"
+                "    pid program          sockets  plain files\n");
+    for (const struct leak *it = leaks; it != NULL; it = it->next)
+        fprintf(stderr, "%7d %-16s %7lu  %11lu\n", it->sender.user.pid, it->sender.name,
+                it->count[0], it->count[1]);
     scm_engine_free(&engine);
-    if (script != NULL && (fclose(script) != 0 || fclose(replies) != 0))
-        perror("unixbox: the script");
+    if (script != NULL && (fclose(script) != 0 || fclose(replies) != 0)) perror("unixbox");
 }

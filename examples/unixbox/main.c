@@ -1,181 +1,139 @@
 /* The supervisor's start, its loop, and its end. */
 #include "unixbox.h"
 #include <getopt.h>
+#include <pthread.h>
 #include <sys/epoll.h>
 #include <sys/wait.h>
-#include <time.h>
 
-enum { TICK = 10, MOST_EVENTS = 64 }; /* A tick is in milliseconds. */
+enum { TICK = 10, TICK_CALLS = 64, MOST_EVENTS = 64 }; /* A tick is in milliseconds. */
 
 struct options options = {.collector = COLLECT_SLICES, .budget = 4};
-int watches = -1;
-
-static const char usage[] =
-    "unixbox [OPTION ..] PROGRAM [ARGUMENT ..]\n"
-    "  --gc slice|pass|none  collects in slices (default), in whole passes, or not at all\n"
-    "  --budget N            looks at N files in a slice (default 4)\n"
-    "  --verify              recounts all tables after each step\n"
-    "  --check               lets the layer recount after each step\n"
-    "  --script FILE         writes the run as a script, and its replies to FILE.replies\n"
-    "  --graph FILE          writes a picture of what is left at the end, for Graphviz\n"
-    "  --dgram               serves pairs of datagram sockets as seqpackets\n"
-    "  --oob                 serves MSG_OOB as if it were not set\n"
-    "  --procnet             serves /proc/net/protocols\n";
+int watches;
+static int status; /* Of the program. */
+static pid_t program;
 
 static void fail(const char *what) {
     fprintf(stderr, "unixbox: %s: %s\n", what, strerror(errno));
     exit(125);
 }
 
-/* Reads the options. Returns the place of the program, or 0. */
+/* Reads the options. Returns the place of the program. */
 static int read_options(int argc, char **argv) {
+    static const char *const collectors[] = {"none", "slice", "pass", ""};
     static const struct option names[] = {
         {"gc", required_argument, NULL, 'g'}, {"budget", required_argument, NULL, 'b'},
         {"script", required_argument, NULL, 's'}, {"graph", required_argument, NULL, 'p'},
         {"verify", no_argument, &options.verifies, 1}, {"check", no_argument, &options.checks, 1},
         {"dgram", no_argument, &options.datagrams, 1}, {"oob", no_argument, &options.out_of_band, 1},
-        {"procnet", no_argument, &options.protocols, 1}, {NULL, 0, NULL, 0},
+        {"procnet", no_argument, &options.networks, 1}, {NULL, 0, NULL, 0},
     };
-    static const char *const collectors[] = {"none", "slice", "pass"};
+    bool fits = true;
     for (int option; (option = getopt_long(argc, argv, "+", names, NULL)) != -1;) {
-        int collector = 0;
-        while (option == 'g' && collector < 3 && strcmp(optarg, collectors[collector]) != 0)
-            collector++;
-        if (option == 'g')
-            options.collector = collector;
-        if (option == 'b')
-            options.budget = (uint32_t)strtoul(optarg, NULL, 10);
-        if (option == 'p')
-            options.graph = optarg;
-        if (option == 's' && !open_script(optarg))
-            fail(optarg);
-        if (option == '?' || collector == 3)
-            return 0;
+        int i = 0;
+        while (option == 'g' && i < 3 && strcmp(collectors[i], optarg) != 0) i++;
+        if (option == 'g') options.collector = i;
+        if (option == 'b') options.budget = (uint32_t)strtoul(optarg, NULL, 10);
+        if (option == 'p') options.graph = optarg;
+        if (option == 's' && !open_script(optarg)) fail(optarg);
+        fits = fits && option != '?' && i < 3;
     }
-    bool fits = options.budget >= 1 && options.budget <= SCM_MAX_BUDGET && optind < argc;
-    return fits ? optind : 0;
+    if (fits && options.budget >= 1 && options.budget <= SCM_MAX_BUDGET && optind < argc)
+        return optind;
+    fputs("usage: unixbox [--gc slice|pass|none] [--budget FILES] [--verify] [--check]\n"
+          "               [--script FILE] [--graph FILE] [--dgram] [--oob] [--procnet]\n"
+          "               PROGRAM [ARGUMENT ..]\n", stderr);
+    exit(125);
 }
 
 /* Starts the program, with the filter, in a process that waits for a signal to continue. */
-static pid_t start_program(char **arguments) {
-    int *listener = mmap(NULL, sizeof *listener, PROT_READ | PROT_WRITE,
-                         MAP_SHARED | MAP_ANONYMOUS, -1, 0);
+static void start_program(char **arguments) {
     struct rlimit limit = {SCM_MAX_NOFILE, SCM_MAX_NOFILE};
-    pid_t pid = listener != MAP_FAILED ? fork() : -1;
-    if (pid == 0) {
+    int listener = fcntl(0, F_DUPFD, 0); /* The lowest free number is the listener's. */
+    close(listener);
+    program = fork();
+    if (program == 0) {
         prctl(PR_SET_PDEATHSIG, SIGKILL);
         setrlimit(RLIMIT_NOFILE, &limit);
-        *listener = install_filter();
-        *listener = *listener < 0 ? -errno : *listener;
+        if (install_filter() != listener) fail("seccomp notification is refused");
         raise(SIGSTOP);
         execvp(arguments[0], arguments);
         perror(arguments[0]);
         _exit(127);
     }
-    if (pid < 0 || waitpid(pid, &(int){0}, WUNTRACED) < 0)
-        fail("fork");
-    int pidfd = (int)syscall(SYS_pidfd_open, pid, 0);
-    if (*listener >= 0)
-        notifications = (int)syscall(SYS_pidfd_getfd, pidfd, *listener, 0);
-    else
-        errno = -*listener;
-    if (notifications < 0) {
-        kill(pid, SIGKILL);
-        fail("seccomp notification is refused");
-    }
+    if (program < 0 || waitpid(program, &status, WUNTRACED) < 0) fail("fork");
+    if (WIFEXITED(status)) exit(WEXITSTATUS(status));
+    int pidfd = (int)syscall(SYS_pidfd_open, program, 0);
+    notifications = (int)syscall(SYS_pidfd_getfd, pidfd, listener, 0);
+    if (notifications < 0) fail("pidfd_getfd");
     close(pidfd);
-    return pid;
 }
 
-/* Makes the engine, and the supervisor's own surroundings: it outlives signals of a terminal.
- * Returns the end of the pipe by which the receiver hands over notifications. */
+/* Makes the engine and the supervisor's surroundings. Returns where the receiver's pipe ends. */
 static int prepare(void) {
     struct epoll_event event = {.events = EPOLLIN, .data.ptr = NULL};
     struct rlimit limit;
-    int ends[2];
+    static int ends[2];
+    pthread_t thread;
     getrlimit(RLIMIT_NOFILE, &limit);
     limit.rlim_cur = limit.rlim_max;
     setrlimit(RLIMIT_NOFILE, &limit);
-    signal(SIGPIPE, SIG_IGN);
-    signal(SIGINT, SIG_IGN);
+    signal(SIGINT, SIG_IGN); /* The program answers the terminal. */
     signal(SIGQUIT, SIG_IGN);
     umask(0);
     prctl(PR_SET_CHILD_SUBREAPER, 1);
     watches = epoll_create1(EPOLL_CLOEXEC);
     if (scm_engine_new(&engine) < 0 || scm_tell_released(&engine) < 0 ||
         scm_tell_changed(&engine) < 0 || pipe2(ends, O_CLOEXEC) < 0 ||
-        epoll_ctl(watches, EPOLL_CTL_ADD, ends[0], &event) < 0)
+        epoll_ctl(watches, EPOLL_CTL_ADD, ends[0], &event) < 0 ||
+        pthread_create(&thread, NULL, receive, &ends[1]) != 0)
         fail("the start");
-    start_receiver(ends[1]);
     return ends[0];
 }
 
-/* Waits for children that are over. The status of the program is the supervisor's. */
-static void reap(pid_t program, int *status, int flags) {
+static void reap(int flags) {
     int ended;
     for (pid_t pid; (pid = waitpid(-1, &ended, flags)) > 0;)
-        if (pid == program)
-            *status = WIFEXITED(ended) ? WEXITSTATUS(ended) : 128 + WTERMSIG(ended);
+        if (pid == program) status = WIFEXITED(ended) ? WEXITSTATUS(ended) : 128 + WTERMSIG(ended);
 }
 
-/* Looks after what no notification tells of: signals, and children that make no call. */
-static void tick(void) {
-    static int64_t last;
-    struct timespec now;
-    clock_gettime(CLOCK_MONOTONIC, &now);
-    int64_t milliseconds = now.tv_sec * 1000LL + now.tv_nsec / 1000000;
-    if (milliseconds - last < TICK)
-        return;
-    last = milliseconds;
-    bind_children(0);
-    interrupt_calls();
-}
-
-/* Serves calls until no program is left. */
-static void serve_all(int pipe_end, pid_t program, int *status) {
+/* Waits for a call, and serves it. Returns false where no program is left. */
+static bool serve_call(int pipe_end, bool is_busy) {
     struct epoll_event events[MOST_EVENTS];
     struct seccomp_notif notif;
-    for (bool is_over = false, is_busy = false; !is_over;) {
-        int count = epoll_wait(watches, events, MOST_EVENTS, is_busy ? 0 : TICK);
-        bool has_call = false;
-        for (int i = 0; i < count; i++) {
-            if (events[i].data.ptr == NULL)
-                has_call = true;
-            else
-                forget_process(events[i].data.ptr);
-        }
-        if (count > has_call)
-            reap(program, status, WNOHANG);
-        settle();
-        if (has_call && read(pipe_end, &notif, sizeof notif) == sizeof notif)
-            run_call(&notif);
-        else
-            is_over = has_call;
-        tick();
-        rerun_woken_calls();
-        is_busy = collect();
-        rerun_woken_calls();
+    bool has_call = false;
+    int count = epoll_wait(watches, events, MOST_EVENTS, is_busy ? 0 : TICK);
+    for (int i = 0; i < count; i++) {
+        has_call |= events[i].data.ptr == NULL;
+        if (events[i].data.ptr != NULL) forget_process(events[i].data.ptr);
     }
+    if (count > has_call) reap(WNOHANG);
+    settle();
+    if (has_call && read(pipe_end, &notif, sizeof notif) <= 0) return false;
+    if (has_call) run_call(&notif);
+    if (count == 0 || counts.calls % TICK_CALLS == 0) { /* Not all that happens is a call. */
+        bind_children(0);
+        wake(NULL);
+    }
+    rerun_woken_calls();
+    return true;
 }
 
 int main(int argc, char **argv) {
-    int at = read_options(argc, argv), status = 0;
-    if (at == 0) {
-        fputs(usage, stderr);
-        return 125;
-    }
-    pid_t program = start_program(argv + at);
+    bool is_root = geteuid() == 0, is_busy = false;
+    start_program(argv + read_options(argc, argv));
     int pipe_end = prepare();
-    bool is_root = geteuid() == 0;
-    long pid = record(0, scm_spawn(&engine, geteuid(), SCM_MAX_NOFILE, is_root), "pid %lld",
-                      "spawn %u %u%s", geteuid(), SCM_MAX_NOFILE, is_root ? " priv" : "");
+    int64_t answer = scm_spawn(&engine, geteuid(), SCM_MAX_NOFILE, is_root);
+    long pid = record(0, answer, "pid %ld", "spawn %u %u%s", geteuid(), SCM_MAX_NOFILE,
+                      is_root ? " priv" : "");
     bind_process(add_process((uint32_t)pid, getpid(), getpid()), program);
     kill(program, SIGCONT);
-    serve_all(pipe_end, program, &status);
-    while (processes != NULL)
-        forget_process(processes);
+    while (serve_call(pipe_end, is_busy)) {
+        is_busy = collect();
+        rerun_woken_calls();
+    }
+    while (processes != NULL) forget_process(processes);
     settle();
-    reap(program, &status, 0);
+    reap(0);
     conclude();
     return status;
 }

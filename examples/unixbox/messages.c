@@ -1,10 +1,10 @@
-/* Messages: what sends and receives carry, from the caller's memory to the layer and back. */
+/* Messages: what sends and receives carry, from the caller's memory to the layer and back. A call
+ * moves at most SCM_MAX_BYTES; what is longer goes on with the next call. */
 #include "unixbox.h"
 
 enum {
     MOST_PARTS = 1024,    /* UIO_MAXIOV */
     MOST_CONTROL = 20480, /* net.core.optmem_max */
-    STREAM_PIECE = 32768, /* Linux cuts what is longer, too. */
     USER_SPACE = CMSG_SPACE(sizeof(struct ucred)),
 };
 
@@ -28,14 +28,12 @@ static long read_message(const struct call *call) {
     struct msghdr *header = &message.header;
     message.at = has_header ? call->args[1] : 0;
     message.flags = has_header ? (int)call->args[2] : has_flags ? (int)call->args[3] : 0;
-    message.fd_count = 0;
-    message.total = 0;
+    message.total = message.fd_count = 0;
     *header = (struct msghdr){.msg_iov = (void *)call->args[1], .msg_iovlen = call->args[2]};
-    if (has_header && !read_memory(call, header, message.at, sizeof *header))
-        return -EFAULT;
+    if (has_header && !read_memory(call, header, message.at, sizeof *header)) return -EFAULT;
+    if (header->msg_control == NULL) header->msg_controllen = 0;
     if (has_header || call->number == SYS_readv || call->number == SYS_writev) {
-        if (header->msg_iovlen > MOST_PARTS)
-            return has_header ? -EMSGSIZE : -EINVAL;
+        if (header->msg_iovlen > MOST_PARTS) return has_header ? -EMSGSIZE : -EINVAL;
         if (!read_memory(call, message.parts, (uint64_t)header->msg_iov,
                          header->msg_iovlen * sizeof *message.parts))
             return -EFAULT;
@@ -44,36 +42,9 @@ static long read_message(const struct call *call) {
         header->msg_iovlen = 1;
         header->msg_namelen = call->number == SYS_sendto && call->args[4] ? call->args[5] : 0;
     }
-    for (size_t i = 0; i < header->msg_iovlen; i++)
-        message.total += message.parts[i].iov_len;
-    header->msg_controllen = header->msg_control != NULL ? header->msg_controllen : 0;
+    for (size_t i = 0; i < header->msg_iovlen; i++) message.total += message.parts[i].iov_len;
     return message.total <= SSIZE_MAX ? 0 : -EINVAL;
 }
-
-/* Copies bytes from the caller or to it, behind those that are done. */
-static bool move_bytes(const struct call *call, size_t length, bool is_read) {
-    static struct iovec there[MOST_PARTS];
-    struct iovec here = {bytes, length};
-    size_t skip = call->done, left = length, count = 0;
-    for (const struct iovec *it = message.parts; left > 0; it++) {
-        size_t passed = skip < it->iov_len ? skip : it->iov_len;
-        size_t taken = it->iov_len - passed < left ? it->iov_len - passed : left;
-        skip -= passed;
-        left -= taken;
-        if (taken > 0)
-            there[count++] = (struct iovec){(char *)it->iov_base + passed, taken};
-    }
-    ssize_t moved = is_read ? process_vm_readv(call->tid, &here, 1, there, count, 0)
-                            : process_vm_writev(call->tid, &here, 1, there, count, 0);
-    return length == 0 || moved == (ssize_t)length;
-}
-
-/* Returns what is done, if anything is. A refusal is the answer of the next call then. */
-static long partly(const struct call *call, long refusal) {
-    return call->done > 0 && refusal != CALL_WAITS ? (long)call->done : refusal;
-}
-
-/* ---- Sends ---- */
 
 /* Reads the descriptors and the credentials that go with a message. */
 static long read_control(const struct call *call) {
@@ -81,16 +52,13 @@ static long read_control(const struct call *call) {
     size_t length = message.header.msg_controllen;
     struct msghdr copy = {.msg_control = control, .msg_controllen = length};
     message.user = call->process->status.user;
-    if (length > sizeof control)
-        return -ENOBUFS;
-    if (!read_memory(call, control, (uint64_t)message.header.msg_control, length))
-        return -EFAULT;
+    if (length > sizeof control) return -ENOBUFS;
+    if (!read_memory(call, control, (uint64_t)message.header.msg_control, length)) return -EFAULT;
     for (struct cmsghdr *it = CMSG_FIRSTHDR(&copy); it != NULL; it = CMSG_NXTHDR(&copy, it)) {
         size_t size = it->cmsg_len - CMSG_LEN(0), count = size / sizeof(int);
         if (it->cmsg_len < CMSG_LEN(0) || it->cmsg_len > (size_t)(control + length - (char *)it))
             return -EINVAL;
-        if (it->cmsg_level != SOL_SOCKET)
-            continue;
+        if (it->cmsg_level != SOL_SOCKET) continue;
         if (it->cmsg_type == SCM_RIGHTS && message.fd_count + count <= SCM_MAX_FD) {
             memcpy(message.fds + message.fd_count, CMSG_DATA(it), count * sizeof(int));
             message.fd_count += count;
@@ -109,113 +77,79 @@ static void keep_cargo(const struct process *process) {
         struct file *file = file_of(process, message.fds[i]);
         if (file->host < 0)
             file->host = (int)syscall(SYS_pidfd_getfd, process->pidfd, message.fds[i], 0);
-        note_sender(file, process);
+        file->sender = process->status;
     }
 }
 
-/* Sends one message, with the descriptors if it is the first. */
-static long send_piece(struct call *call, size_t length) {
-    size_t count = call->done > 0 ? 0 : message.fd_count;
-    if (length > SCM_MAX_BYTES)
-        return -EMSGSIZE;
-    if (!move_bytes(call, length, true))
-        return -EFAULT;
-    int64_t answer =
-        scm_send(&engine, call->pid, call->fd, bytes, length, message.fds, count);
-    long result = record(call->pid, answer, "sent %lld", "send %u *%zu%s", call->fd, length,
-                         fds_text(message.fds, count));
-    if (result >= 0 && count > 0)
-        keep_cargo(call->process);
-    return result;
+/* Returns why a send is refused before the layer is asked, or 0. */
+static long refuse_send(struct call *call, const struct file *peer, bool is_stream) {
+    if ((message.flags & MSG_OOB) && !(options.out_of_band && is_stream)) return -EOPNOTSUPP;
+    if (message.header.msg_namelen > 0 && is_stream) return peer != NULL ? -EISCONN : -EOPNOTSUPP;
+    if (message.total > SCM_MAX_BYTES && !is_stream) return -EMSGSIZE;
+    call->raises_sigpipe = is_stream && !(message.flags & MSG_NOSIGNAL);
+    return (call->file->shut & 2) || (peer != NULL && (peer->shut & 1)) ? -EPIPE : 0;
 }
 
 long serve_send(struct call *call) {
     struct file *peer = peer_of(call->file);
     bool is_stream = call->file->kind == SCM_STREAM;
     long result = read_message(call);
-    if (result == 0)
-        result = read_control(call);
-    if (result < 0)
-        return result;
-    if ((message.flags & MSG_OOB) && !(options.out_of_band && is_stream))
-        return -EOPNOTSUPP;
-    if (message.header.msg_namelen > 0 && is_stream)
-        return peer != NULL ? -EISCONN : -EOPNOTSUPP;
-    call->raises_sigpipe = is_stream && !(message.flags & MSG_NOSIGNAL);
-    if ((call->file->shut & 2) || (peer != NULL && (peer->shut & 1)))
-        return partly(call, -EPIPE);
+    if (result == 0) result = read_control(call);
+    if (result == 0) result = refuse_send(call, peer, is_stream);
+    if (result < 0) return result;
     if (message.fd_count > 0)
         sync_table(call->process);
     else if (message.total == 0 && is_stream)
         return peer != NULL ? 0 : -ENOTCONN; /* The layer has no message without bytes. */
-    do {
-        size_t left = message.total - call->done;
-        result = send_piece(call, is_stream && left > STREAM_PIECE ? STREAM_PIECE : left);
-        if (result == -EAGAIN)
-            result = wait_for(call, message.flags, call->file->ino);
-        if (result < 0)
-            return partly(call, result);
-        call->done += (size_t)result;
-        if (peer != NULL) {
-            peer->last = message.user;
-            refresh(peer);
-        }
-    } while (call->done < message.total);
-    return (long)call->done;
+    size_t length = message.total < SCM_MAX_BYTES ? message.total : SCM_MAX_BYTES;
+    struct iovec here = {bytes, length};
+    if (process_vm_readv(call->tid, &here, 1, message.parts, message.header.msg_iovlen, 0) <
+        (ssize_t)length)
+        return -EFAULT;
+    int64_t answer =
+        scm_send(&engine, call->pid, call->fd, bytes, length, message.fds, message.fd_count);
+    result = record(call->pid, answer, "sent %ld", "send %u *%zu%s", call->fd, length,
+                    fds_text(message.fds, message.fd_count));
+    if (result < 0) return result == -EAGAIN ? wait_for(call, message.flags, call->file->ino) : result;
+    keep_cargo(call->process);
+    peer->last = message.user;
+    refresh(peer);
+    return result;
 }
 
-/* ---- Receives ---- */
-
-/* Takes, or looks at, what waits at a socket. */
-static long take(const struct call *call, bool peeks, size_t length, size_t room,
+/* Takes what waits at a socket, or looks at it. */
+static long take(struct call *call, bool peeks, size_t length, size_t room,
                  struct scm_received *got) {
     int64_t answer = (peeks ? scm_peek : scm_recv)(&engine, call->pid, call->fd, bytes, length,
                                                    message.fds, room, got);
+    call->has_taken = answer > 0 && !peeks;
     return record(call->pid, answer, received_text(answer, message.fds, got), "%s %u %zu %zu",
                   peeks ? "peek" : "recv", call->fd, length, room);
 }
 
-/* Installs the descriptors that came, as far as that works. */
-static void install_cargo(struct call *call, size_t count) {
-    for (size_t i = 0; i < count; i++) {
-        long fd = install(call, message.fds[i], message.flags & MSG_CMSG_CLOEXEC);
+/* Receives into the caller's places, with at most so many descriptors. */
+static long receive_message(struct call *call, size_t room) {
+    size_t length = message.total < SCM_MAX_BYTES ? message.total : SCM_MAX_BYTES;
+    const struct file *file = call->file, *peer = peer_of(file);
+    struct scm_received got = {0, false, false};
+    struct iovec here = {bytes, 0};
+    long result = take(call, message.flags & MSG_PEEK, length, room, &got);
+    if (result == -EAGAIN && ((file->shut & 1) || (peer != NULL && (peer->shut & 2)))) return 0;
+    if (result == -EAGAIN) return wait_for(call, message.flags, file->ino);
+    if (result < 0) return file->kind == SCM_STREAM && result == -ENOTCONN ? -EINVAL : result;
+    message.header.msg_flags |= (got.trunc ? MSG_TRUNC : 0) | (got.ctrunc ? MSG_CTRUNC : 0);
+    is_collection_due = is_collection_due || got.ctrunc;
+    for (size_t i = 0; i < got.fds; i++) {
+        long fd = install(call, message.fds[i], -1, false, message.flags & MSG_CMSG_CLOEXEC);
         if (fd >= 0)
             message.fds[message.fd_count++] = (uint32_t)fd;
         else
             message.header.msg_flags |= MSG_CTRUNC;
     }
-}
-
-static long receive(struct call *call, size_t room) {
-    bool is_stream = call->file->kind == SCM_STREAM, peeks = message.flags & MSG_PEEK;
-    bool waits_for_all = message.flags & MSG_WAITALL;
-    struct scm_received got = {0, false, false};
-    long result, whole = 0;
-    size_t length;
-    do {
-        length = message.total - call->done;
-        length = length < SCM_MAX_BYTES ? length : SCM_MAX_BYTES;
-        if ((message.flags & MSG_TRUNC) && !is_stream)
-            whole = take(call, true, SCM_MAX_BYTES, 0, &got);
-        result = take(call, peeks, length, room, &got);
-        if (result == -EAGAIN) {
-            const struct file *peer = peer_of(call->file);
-            bool is_over = (call->file->shut & 1) || (peer != NULL && (peer->shut & 2));
-            if (is_over || (call->done > 0 && !waits_for_all))
-                return (long)call->done;
-            result = wait_for(call, message.flags, call->file->ino);
-        }
-        if (result < 0)
-            return partly(call, is_stream && result == -ENOTCONN ? -EINVAL : result);
-        message.header.msg_flags |= (got.trunc ? MSG_TRUNC : 0) | (got.ctrunc ? MSG_CTRUNC : 0);
-        is_collection_due = is_collection_due || got.ctrunc;
-        install_cargo(call, got.fds);
-        if (!move_bytes(call, (size_t)result, false))
-            return -EFAULT;
-        call->done += (size_t)result;
-    } while (is_stream && result > 0 && !peeks && got.fds == 0 && !got.ctrunc &&
-             call->done < message.total && (waits_for_all || length == SCM_MAX_BYTES));
-    return whole > result ? whole : (long)call->done;
+    here.iov_len = (size_t)result;
+    bool is_written = process_vm_writev(call->tid, &here, 1, message.parts,
+                                        message.header.msg_iovlen, 0) == result;
+    return is_written ? result : -EFAULT;
 }
 
 /* Adds a control message, if there is room for it. Returns the length of all. */
@@ -236,10 +170,8 @@ static void write_header(const struct call *call, bool has_user) {
     const struct address *peer = &call->file->peer;
     struct msghdr *header = &message.header;
     size_t used = 0;
-    if (call->number == SYS_recvfrom)
-        write_address(call, call->args[4], call->args[5], peer);
-    if (message.at == 0)
-        return;
+    if (call->number == SYS_recvfrom) write_address(call, call->args[4], call->args[5], peer);
+    if (message.at == 0) return;
     if (has_user)
         used = add_control(control, used, SCM_CREDENTIALS, &call->file->last, sizeof(struct ucred));
     if (message.fd_count > 0)
@@ -247,9 +179,9 @@ static void write_header(const struct call *call, bool has_user) {
     used = used < header->msg_controllen ? used : header->msg_controllen;
     write_memory(call, (uint64_t)header->msg_control, control, used);
     header->msg_controllen = used;
-    if (header->msg_name != NULL)
-        write_memory(call, (uint64_t)header->msg_name, &peer->name,
-                     header->msg_namelen < peer->length ? header->msg_namelen : peer->length);
+    socklen_t room = header->msg_name != NULL ? header->msg_namelen : 0;
+    write_memory(call, (uint64_t)header->msg_name, &peer->name,
+                 room < peer->length ? room : peer->length);
     header->msg_namelen = peer->length;
     write_memory(call, message.at, header, sizeof *header);
 }
@@ -258,30 +190,18 @@ long serve_recv(struct call *call) {
     struct scm_file state;
     int has_user = 0;
     long result = read_message(call);
-    if (result < 0 || (message.flags & MSG_OOB))
-        return result < 0 ? result : -EINVAL;
+    if (result < 0) return result;
+    if (message.flags & (MSG_OOB | MSG_WAITALL)) return -EINVAL;
     message.header.msg_flags = message.flags & MSG_CMSG_CLOEXEC;
     getsockopt(call->file->host, SOL_SOCKET, SO_PASSCRED, &has_user, &(socklen_t){sizeof has_user});
     size_t room = message.header.msg_controllen, other = CMSG_LEN(0) + (has_user ? USER_SPACE : 0);
     room = room > other ? (room - other) / sizeof(int) : 0;
-    if (room > 0)
-        sync_table(call->process);
+    if (room > 0) sync_table(call->process);
     scm_file(&engine, call->file->ino, &state);
     if (message.total > 0)
-        result = receive(call, room < SCM_MAX_FD ? room : SCM_MAX_FD);
+        result = receive_message(call, room < SCM_MAX_FD ? room : SCM_MAX_FD);
     else if (message.at != 0 && state.messages == 0 && state.state == SCM_CONNECTED)
         result = wait_for(call, message.flags, call->file->ino);
-    if (result >= 0)
-        write_header(call, has_user);
+    if (result >= 0) write_header(call, has_user);
     return result;
-}
-
-/* ioctl(2) of FIONREAD: how many bytes a receive would take. */
-long serve_unread(struct call *call) {
-    struct scm_received got;
-    long result = take(call, true, SCM_MAX_BYTES, 0, &got);
-    int count = result > 0 ? (int)result : 0;
-    if (result < 0 && result != -EAGAIN)
-        return -EINVAL;
-    return write_memory(call, call->args[2], &count, sizeof count) ? 0 : -EFAULT;
 }

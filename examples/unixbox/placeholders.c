@@ -4,10 +4,17 @@
  * message of the layer is a byte between two placeholders. Their buffers are so large that one is
  * writable exactly if the layer's queue is not full. */
 #include "unixbox.h"
-#include <linux/sockios.h>
+
+enum { TOKEN = 768 }; /* What a byte takes of a buffer (SIOCOUTQ). */
 
 struct file **files;
 uint64_t file_room;
+
+void *allocate(size_t size) {
+    void *place = calloc(1, size);
+    if (place == NULL) abort();
+    return place;
+}
 
 struct file *file_at(uint64_t ino) {
     return ino < file_room ? files[ino] : NULL;
@@ -15,8 +22,7 @@ struct file *file_at(uint64_t ino) {
 
 struct file *file_of(const struct process *process, uint64_t fd) {
     uint64_t ino = 0;
-    if (fd < SCM_MAX_NOFILE)
-        scm_ino(&engine, process->pid, (uint32_t)fd, &ino);
+    if (fd < SCM_MAX_NOFILE) scm_ino(&engine, process->pid, (uint32_t)fd, &ino);
     return file_at(ino);
 }
 
@@ -29,31 +35,21 @@ struct file *peer_of(const struct file *file) {
 struct file *add_file(uint64_t ino, uint32_t kind) {
     if (ino >= file_room) {
         uint64_t room = 2 * ino + 1024;
-        files = realloc(files, room * sizeof *files);
-        if (files == NULL)
-            abort();
-        memset(files + file_room, 0, (room - file_room) * sizeof *files);
+        struct file **wider = allocate(room * sizeof *files);
+        if (file_room > 0) memcpy(wider, files, file_room * sizeof *files);
+        free(files);
+        files = wider;
         file_room = room;
     }
-    struct file *file = files[ino] = calloc(1, sizeof *file);
-    if (file == NULL)
-        abort();
-    *file = (struct file){.ino = ino, .kind = kind, .host = -1, .path = -1};
-    return file;
+    files[ino] = allocate(sizeof **files);
+    *files[ino] = (struct file){.ino = ino, .kind = kind, .host = -1, .path = -1};
+    return files[ino];
 }
 
-/* Gives a placeholder its buffer. A socket of the host is writable while at most a quarter of its
- * buffer is taken. The kernel doubles the number that it is given. */
+/* Gives a placeholder its buffer: a socket of the host is writable while at most a quarter of it is
+ * taken. The kernel doubles the number that it is given. */
 void size_buffer(int host) {
-    static int token; /* What a byte takes of a buffer. */
-    int ends[2];
-    if (token == 0 && socketpair(AF_UNIX, SOCK_STREAM | SOCK_CLOEXEC, 0, ends) == 0) {
-        send(ends[0], "", 1, MSG_DONTWAIT);
-        ioctl(ends[0], SIOCOUTQ, &token);
-        close(ends[0]);
-        close(ends[1]);
-    }
-    int bytes = 2 * SCM_MAX_MESSAGES * token - 1;
+    int bytes = 2 * SCM_MAX_MESSAGES * TOKEN - 1;
     setsockopt(host, SOL_SOCKET, SO_SNDBUF, &bytes, sizeof bytes);
 }
 
@@ -79,8 +75,7 @@ void refresh(struct file *file) {
 /* Closes a placeholder. Bytes that are left in it would be an error of its peer (ECONNRESET). */
 static void close_placeholder(int host) {
     char tokens[SCM_MAX_MESSAGES];
-    while (recv(host, tokens, sizeof tokens, MSG_DONTWAIT) > 0)
-        continue;
+    while (recv(host, tokens, sizeof tokens, MSG_DONTWAIT) > 0) continue;
     close(host);
 }
 
@@ -90,8 +85,7 @@ static void free_file(struct file *file) {
         close_placeholder(waits);
     if (file->kind != SCM_PLAIN)
         close_placeholder(file->host);
-    else
-        close(file->host);
+    else close(file->host);
     close(file->path);
     files[file->ino] = NULL;
     free(file);
@@ -102,18 +96,15 @@ void settle(void) {
     static uint64_t inos[SCM_MAX_FILES];
     int64_t freed = scm_released(&engine, inos, SCM_MAX_FILES);
     for (int64_t i = 0; i < freed; i++)
-        if (file_at(inos[i]) != NULL)
-            free_file(files[inos[i]]);
+        if (file_at(inos[i]) != NULL) free_file(files[inos[i]]);
     int64_t changed = scm_changed(&engine, inos, SCM_MAX_FILES);
     for (int64_t i = 0; i < changed; i++) {
-        if (file_at(inos[i]) == NULL)
-            continue;
+        if (file_at(inos[i]) == NULL) continue;
         refresh(files[inos[i]]);
         wake(files[inos[i]]);
         wake(peer_of(files[inos[i]]));
     }
-    if (freed + changed > 0) {
-        scm_clear_told(&engine);
-        inspect();
-    }
+    if (freed + changed == 0) return;
+    scm_clear_told(&engine);
+    inspect();
 }

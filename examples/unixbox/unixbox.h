@@ -14,18 +14,15 @@
 #include <dirent.h>
 #include <errno.h>
 #include <fcntl.h>
-#include <inttypes.h>
 #include <limits.h>
 #include <linux/seccomp.h>
 #include <poll.h>
 #include <scmgc.h>
 #include <signal.h>
-#include <stddef.h>
 #include <stdio.h>
 #include <stdlib.h>
 #include <string.h>
 #include <sys/ioctl.h>
-#include <sys/mman.h>
 #include <sys/prctl.h>
 #include <sys/resource.h>
 #include <sys/socket.h>
@@ -39,60 +36,58 @@
  * call waits, and is served again after a change. */
 enum { KERNEL_DOES_IT = -100001, CALL_WAITS = -100002 };
 
-struct options {
+extern struct options {
     enum { COLLECT_NEVER, COLLECT_SLICES, COLLECT_PASSES } collector;
-    uint32_t budget;                          /* Of a slice, in files. */
-    int verifies, checks;                     /* Whether all is recounted after each step. */
-    int datagrams, out_of_band, protocols;    /* What is served beside the usual. */
-    const char *graph;                        /* Where the picture goes. */
-};
+    uint32_t budget;                       /* Of a slice, in files. */
+    int verifies, checks;                  /* Whether all is recounted after each step. */
+    int datagrams, out_of_band, networks;  /* What is served beside the usual. */
+    const char *graph;                     /* Where the picture goes. */
+} options;
 
-struct counts {
-    uint64_t calls, steps, passes, reclaimed; /* Steps are calls of the layer. */
-    uint64_t other_numbers;                   /* Kernel and layer chose other descriptors. */
+extern struct counts {
+    uint64_t calls, steps, passes, reclaimed; /* Calls of programs, and of the layer. */
+    uint64_t other_numbers; /* Descriptors for which kernel and layer chose other numbers. */
     uint64_t wrong_counts, failed_checks, lost_messages;
-};
+} counts;
 
 /* What /proc/PID/status says of a thread and its process. */
 struct status {
     char name[16];
-    struct ucred user; /* Its pid is the number of the process. */
+    struct ucred user;    /* Its pid is the number of the process. */
     mode_t umask;
-    bool is_signalled; /* A signal waits that is neither blocked nor ignored. */
+    bool is_signalled;    /* A signal waits that is neither blocked nor ignored. */
 };
 
 struct process {
-    pid_t tgid;            /* The host's number. 0 until it is known. */
-    uint32_t pid;          /* The layer's number. */
-    pid_t parent, forker;  /* The process and the thread that forked it. */
+    pid_t tgid;           /* The host's number. 0 until it is known. */
+    uint32_t pid;         /* The layer's number. */
+    pid_t parent, forker; /* The process and the thread that forked it. */
     int pidfd;
-    DIR *table;            /* /proc/TGID/fd */
-    bool is_alive, has_threads;
-    bool has_changed;      /* An exec(2) or a setuid(2) may have made the rest out of date. */
+    DIR *table;           /* /proc/TGID/fd */
+    bool has_threads;
+    bool has_changed;     /* An exec(2) or a setuid(2) may have made the rest out of date. */
     struct status status;
-    pid_t closer;          /* The thread whose close(2) the kernel may not have done yet, or 0. */
+    pid_t closer;         /* The thread whose close(2) the kernel may not have done yet, or 0. */
     uint32_t closing;
     char closing_link[64];
     struct process *next;
 };
 
-struct address {
-    struct sockaddr_un name;
-    socklen_t length;      /* 0 where there is none. */
-};
-
 /* What the supervisor keeps for a file of the layer. */
 struct file {
     uint64_t ino;
-    uint32_t kind;         /* enum scm_kind */
-    bool is_datagram, is_embryo, listens;
-    int host;              /* The placeholder, or a copy of a plain file that was sent, or -1. */
-    int path;              /* Keeps the inode of a pathname from being used again, or -1. */
-    int shut;              /* What shutdown(2) ended: 1 for receives, 2 for sends. */
-    uint64_t tokens;       /* Bytes in the placeholder: as many as the socket has messages. */
-    struct address own, peer;
+    uint32_t kind;        /* enum scm_kind */
+    bool is_embryo, listens;
+    int host;             /* The placeholder, or a copy of a plain file that was sent, or -1. */
+    int path;             /* Keeps the inode of a pathname from being used again, or -1. */
+    int shut;             /* What shutdown(2) ended: 1 for receives, 2 for sends. */
+    uint64_t tokens;      /* Bytes in the placeholder: as many as the socket has messages. */
+    struct address {
+        struct sockaddr_un name;
+        socklen_t length; /* 0 where there is none. */
+    } own, peer;
     struct ucred owner, peer_owner, last; /* For SO_PEERCRED; who sent to this socket last. */
-    struct sender *sender; /* Who sent this file last, or NULL. */
+    struct status sender; /* Who sent this file last. */
 };
 
 /* A call of a program. */
@@ -101,23 +96,17 @@ struct call {
     int number;
     pid_t tid;
     struct process *process;
-    uint32_t pid;          /* The layer's number of the process. */
-    uint32_t fd;           /* The first argument, and the socket that it names, or NULL. */
-    struct file *file;
-    size_t done;           /* How many bytes it has sent or received so far. */
-    uint64_t waits_for;    /* The socket whose change it waits for. 0: any. */
-    bool is_woken, raises_sigpipe;
+    uint32_t pid, fd;     /* The layer's number of the process; the first argument. */
+    struct file *file;    /* The socket of the layer that the first argument names, or NULL. */
+    uint64_t waits_for;   /* The socket whose change it waits for. 0: any. */
+    bool is_woken, raises_sigpipe, has_taken; /* It has taken a message. */
     struct call *next;
 };
 
-typedef long handler(struct call *call);
-
 extern scm_engine engine;
-extern struct options options;
-extern struct counts counts;
 extern bool is_collection_due; /* Something was closed since the last pass began. */
 extern struct process *processes;
-extern struct file **files; /* By inode number; NULL where there is none. */
+extern struct file **files;    /* By inode number; NULL where there is none. */
 extern uint64_t file_room;
 extern int notifications, watches; /* The filter's listener, and an epoll(7) of all pidfds. */
 
@@ -125,33 +114,30 @@ extern int notifications, watches; /* The filter's listener, and an epoll(7) of 
 bool open_script(const char *path);
 long record(uint32_t pid, int64_t answer, const char *reply, const char *line, ...)
     __attribute__((format(printf, 4, 5)));
-const char *kind_name(uint32_t kind);
 const char *fds_text(const uint32_t *fds, size_t count);
 const char *received_text(int64_t answer, const uint32_t *fds, const struct scm_received *got);
 bool collect(void);
 void inspect(void);
-void note_sender(struct file *file, const struct process *process);
 void note_leak(const struct file *file);
 void conclude(void);
 /* filter.c */
 int install_filter(void);
-void start_receiver(int out);
+void *receive(void *out);
 void run_call(const struct seccomp_notif *notif);
 long wait_for(struct call *call, int flags, uint64_t ino);
 void wake(const struct file *file);
 void rerun_woken_calls(void);
-void interrupt_calls(void);
-void forget_calls(const struct process *process);
 bool read_memory(const struct call *call, void *to, uint64_t from, size_t length);
 bool write_memory(const struct call *call, uint64_t to, const void *from, size_t length);
 /* processes.c */
 bool read_status(pid_t tid, struct status *out);
 struct process *add_process(uint32_t pid, pid_t parent, pid_t forker);
 void bind_process(struct process *process, pid_t tgid);
+void bind_children(pid_t caller);
 struct process *process_of(pid_t tid);
 void forget_process(struct process *process);
-void bind_children(pid_t caller);
 /* placeholders.c */
+void *allocate(size_t size);
 struct file *file_at(uint64_t ino);
 struct file *file_of(const struct process *process, uint64_t fd);
 struct file *peer_of(const struct file *file);
@@ -163,14 +149,14 @@ void settle(void);
 /* descriptors.c */
 void finish_close(struct process *process, pid_t caller);
 void sync_table(struct process *process);
-long install(struct call *call, uint32_t fd, bool closes_on_exec);
+long install(struct call *call, uint32_t fd, int from, bool is_fixed, bool closes_on_exec);
 /* sockets.c */
 void write_address(const struct call *call, uint64_t at, uint64_t length_at,
                    const struct address *address);
 
-handler serve_socket, serve_socketpair, serve_bind, serve_listen, serve_connect, serve_accept,
-    serve_shutdown, serve_name, serve_peercred, serve_send, serve_recv, serve_unread, serve_close,
-    serve_dup, serve_dup2, serve_dupfd, serve_open, serve_fork, serve_change, serve_exit,
-    serve_limit;
+typedef long handler(struct call *call);
+handler serve_socket, serve_bind, serve_listen, serve_connect, serve_accept, serve_shutdown,
+    serve_name, serve_get_option, serve_set_option, serve_send, serve_recv, serve_close, serve_dup,
+    serve_dup2, serve_fcntl, serve_fork, serve_change, serve_limit;
 
 #endif
