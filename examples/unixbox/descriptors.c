@@ -104,23 +104,19 @@ long serve_close(struct call *call) {
     return KERNEL_DOES_IT;
 }
 
-/* The supervisor copies descriptors at once: if that were left to the kernel, another thread could
- * look at the table before it is done. */
+/* dup(2), dup2(2) and dup3(2). The supervisor copies descriptors at once: if that were left to the
+ * kernel, another thread could look at the table before it is done. */
 long serve_dup(struct call *call) {
-    sync_table(call->process);
-    int64_t answer = scm_dup(&engine, call->pid, call->fd);
-    long fd = record(call->pid, answer, "fd %ld", "dup %u", call->fd);
-    return fd < 0 ? fd : install(call, (uint32_t)fd, (int)call->fd, false, false);
-}
-
-/* dup2(2) and dup3(2). */
-long serve_dup2(struct call *call) {
     bool closes_on_exec = call->number == SYS_dup3 && (call->args[2] & O_CLOEXEC);
+    bool is_fixed = call->number != SYS_dup;
     uint32_t to = (uint32_t)call->args[1];
     sync_table(call->process);
-    if (call->fd == to || file_of(call->process, call->fd) == NULL) return KERNEL_DOES_IT;
-    long fd = duplicate_at(call->process, call->fd, to);
-    return fd < 0 ? fd : install(call, to, (int)call->fd, true, closes_on_exec);
+    if (file_of(call->process, call->fd) == NULL) return -EBADF;
+    if (is_fixed && call->fd == to) return KERNEL_DOES_IT;
+    long fd = is_fixed ? duplicate_at(call->process, call->fd, to)
+                       : record(call->pid, scm_dup(&engine, call->pid, call->fd), "fd %ld",
+                                "dup %u", call->fd);
+    return fd < 0 ? fd : install(call, (uint32_t)fd, (int)call->fd, is_fixed, closes_on_exec);
 }
 
 /* fcntl(2) with F_DUPFD: the lowest free number from the argument on. */

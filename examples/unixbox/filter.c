@@ -4,22 +4,15 @@
 #include <linux/filter.h>
 #include <pthread.h>
 
-#ifndef SECCOMP_FILTER_FLAG_WAIT_KILLABLE_RECV
-#define SECCOMP_FILTER_FLAG_WAIT_KILLABLE_RECV (1UL << 5)
-#endif
 enum { RESTART = -512, MOST_NUMBERS = 512 };
 
 int notifications = -1;
 static struct call *waiting; /* Calls that wait. */
 
-/* What would move bytes or descriptors past the layer is refused. */
+/* Refuses what would move bytes or descriptors past the layer, or tell of placeholders. */
 static long refuse(struct call *call) {
+    if (call->number == SYS_ioctl && call->args[1] != FIONREAD) return KERNEL_DOES_IT;
     return call->file != NULL ? -EINVAL : -ENOSYS;
-}
-
-/* ioctl(2) of FIONREAD, which would tell of placeholders. */
-static long refuse_unread(struct call *call) {
-    return call->args[1] == FIONREAD ? -EINVAL : KERNEL_DOES_IT;
 }
 
 /* Handlers of calls whose first argument is a socket of the layer, and of all others. */
@@ -30,12 +23,12 @@ static handler *const socket_handlers[MOST_NUMBERS] = {
     [SYS_listen] = serve_listen, [SYS_connect] = serve_connect, [SYS_accept] = serve_accept,
     [SYS_accept4] = serve_accept, [SYS_shutdown] = serve_shutdown, [SYS_getsockname] = serve_name,
     [SYS_getpeername] = serve_name, [SYS_getsockopt] = serve_get_option,
-    [SYS_setsockopt] = serve_set_option, [SYS_ioctl] = refuse_unread, [SYS_sendfile] = refuse,
+    [SYS_setsockopt] = serve_set_option, [SYS_ioctl] = refuse, [SYS_sendfile] = refuse,
     [SYS_sendmmsg] = refuse, [SYS_recvmmsg] = refuse,
 };
 static handler *const handlers[MOST_NUMBERS] = {
     [SYS_socket] = serve_socket, [SYS_socketpair] = serve_socket, [SYS_close] = serve_close,
-    [SYS_dup] = serve_dup, [SYS_dup2] = serve_dup2, [SYS_dup3] = serve_dup2,
+    [SYS_dup] = serve_dup, [SYS_dup2] = serve_dup, [SYS_dup3] = serve_dup,
     [SYS_fcntl] = serve_fcntl, [SYS_fork] = serve_fork, [SYS_vfork] = serve_fork,
     [SYS_clone] = serve_fork, [SYS_clone3] = serve_fork, [SYS_execve] = serve_change,
     [SYS_execveat] = serve_change, [SYS_setuid] = serve_change, [SYS_setgid] = serve_change,
@@ -154,9 +147,9 @@ long wait_for(struct call *call, int flags, uint64_t ino) {
 }
 
 /* Wakes the calls that wait for a socket, or all. */
-void wake(const struct file *file) {
+void wake(uint64_t ino) {
     for (struct call *it = waiting; it != NULL; it = it->next)
-        it->is_woken |= file == NULL || it->waits_for == file->ino || it->waits_for == 0;
+        it->is_woken |= ino == EVERYONE || it->waits_for == ino || it->waits_for == EVERYONE;
 }
 
 /* Serves calls that were woken once more. Those to whose threads a signal has come, or whose threads

@@ -88,41 +88,36 @@ static void do_pass(bool in_slices) {
 /* Does one slice or one pass, if one is due. Returns whether more is to do. */
 bool collect(void) {
     uint64_t in_flight = 0, pass = 0;
-    char text[32];
+    bool in_slices = options.collector == COLLECT_SLICES;
     scm_total(&engine, &in_flight);
     if (!is_running) {
         bool is_due = is_collection_due && in_flight > 0 && options.collector != COLLECT_NEVER;
         is_collection_due = false;
         if (!is_due) return false;
-        int64_t answer = options.collector == COLLECT_SLICES ? scm_begin(&engine, &pass) : 0;
-        snprintf(text, sizeof text, "started %lu", pass);
-        if (pass > 0) record(0, answer, text, "begin");
+        if (in_slices && scm_begin(&engine, &pass) == 0)
+            record(0, (int64_t)pass, "started %ld", "begin");
     }
-    do_pass(options.collector == COLLECT_SLICES);
+    do_pass(in_slices);
     return is_running || is_collection_due;
 }
 
-/* Compares the counts of each file with the tables of all processes. */
-static void verify_counts(void) {
-    uint32_t *places = allocate(file_room * sizeof *places);
+/* Recounts after a step, as the options say: the counts of each file from the tables of all
+ * processes, and all by the layer. */
+void inspect(void) {
+    uint32_t *places = options.verifies ? allocate(file_room * sizeof *places) : NULL;
+    struct scm_checked checked = {0, 0};
     uint64_t ino, refs, inflight;
-    for (struct process *it = processes; it != NULL; it = it->next)
+    char text[64];
+    for (struct process *it = processes; places != NULL && it != NULL; it = it->next)
         for (int64_t fd = 0; (fd = scm_next_fd(&engine, it->pid, (uint32_t)fd, &ino)) >= 0; fd++)
             places[ino]++;
-    for (ino = 0; ino < file_room; ino++) {
+    for (ino = 0; places != NULL && ino < file_room; ino++) {
         scm_refs(&engine, ino, &refs);
         scm_inflight(&engine, ino, &inflight);
         bool waits = files[ino] != NULL && files[ino]->is_embryo;
         counts.wrong_counts += refs != places[ino] + inflight + waits;
     }
     free(places);
-}
-
-/* Recounts after a step, as the options say. */
-void inspect(void) {
-    struct scm_checked checked = {0, 0};
-    char text[64];
-    if (options.verifies) verify_counts();
     if (!options.checks) return;
     int64_t answer = scm_check(&engine, &checked);
     snprintf(text, sizeof text, "check ok live %lu garbage %lu", checked.live, checked.garbage);

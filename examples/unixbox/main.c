@@ -9,8 +9,8 @@ enum { TICK = 10, TICK_CALLS = 64, MOST_EVENTS = 64 }; /* A tick is in milliseco
 
 struct options options = {.collector = COLLECT_SLICES, .budget = 4};
 int watches;
-static int status; /* Of the program. */
 static pid_t program;
+static int status, ends[2]; /* The program's status, and the pipe from the receiver. */
 
 static void fail(const char *what) {
     fprintf(stderr, "unixbox: %s: %s\n", what, strerror(errno));
@@ -19,18 +19,16 @@ static void fail(const char *what) {
 
 /* Reads the options. Returns the place of the program. */
 static int read_options(int argc, char **argv) {
-    static const char *const collectors[] = {"none", "slice", "pass", ""};
+    static const char *const collectors[] = {"none", "slice", "pass"};
     static const struct option names[] = {
         {"gc", required_argument, NULL, 'g'}, {"budget", required_argument, NULL, 'b'},
         {"script", required_argument, NULL, 's'}, {"graph", required_argument, NULL, 'p'},
         {"verify", no_argument, &options.verifies, 1}, {"check", no_argument, &options.checks, 1},
         {"dgram", no_argument, &options.datagrams, 1}, {"oob", no_argument, &options.out_of_band, 1},
-        {"procnet", no_argument, &options.networks, 1}, {NULL, 0, NULL, 0},
-    };
+        {"procnet", no_argument, &options.networks, 1}, {NULL, 0, NULL, 0}};
     bool fits = true;
-    for (int option; (option = getopt_long(argc, argv, "+", names, NULL)) != -1;) {
-        int i = 0;
-        while (option == 'g' && i < 3 && strcmp(collectors[i], optarg) != 0) i++;
+    for (int option, i; (option = getopt_long(argc, argv, "+", names, NULL)) != -1;) {
+        for (i = 0; option == 'g' && i < 3 && strcmp(collectors[i], optarg) != 0; i++) continue;
         if (option == 'g') options.collector = i;
         if (option == 'b') options.budget = (uint32_t)strtoul(optarg, NULL, 10);
         if (option == 'p') options.graph = optarg;
@@ -65,14 +63,12 @@ static void start_program(char **arguments) {
     int pidfd = (int)syscall(SYS_pidfd_open, program, 0);
     notifications = (int)syscall(SYS_pidfd_getfd, pidfd, listener, 0);
     if (notifications < 0) fail("pidfd_getfd");
-    close(pidfd);
 }
 
-/* Makes the engine and the supervisor's surroundings. Returns where the receiver's pipe ends. */
-static int prepare(void) {
+/* Makes the engine and the supervisor's surroundings. */
+static void prepare(void) {
     struct epoll_event event = {.events = EPOLLIN, .data.ptr = NULL};
     struct rlimit limit;
-    static int ends[2];
     pthread_t thread;
     getrlimit(RLIMIT_NOFILE, &limit);
     limit.rlim_cur = limit.rlim_max;
@@ -87,7 +83,6 @@ static int prepare(void) {
         epoll_ctl(watches, EPOLL_CTL_ADD, ends[0], &event) < 0 ||
         pthread_create(&thread, NULL, receive, &ends[1]) != 0)
         fail("the start");
-    return ends[0];
 }
 
 static void reap(int flags) {
@@ -97,7 +92,7 @@ static void reap(int flags) {
 }
 
 /* Waits for a call, and serves it. Returns false where no program is left. */
-static bool serve_call(int pipe_end, bool is_busy) {
+static bool serve_call(bool is_busy) {
     struct epoll_event events[MOST_EVENTS];
     struct seccomp_notif notif;
     bool has_call = false;
@@ -108,11 +103,11 @@ static bool serve_call(int pipe_end, bool is_busy) {
     }
     if (count > has_call) reap(WNOHANG);
     settle();
-    if (has_call && read(pipe_end, &notif, sizeof notif) <= 0) return false;
+    if (has_call && read(ends[0], &notif, sizeof notif) <= 0) return false;
     if (has_call) run_call(&notif);
     if (count == 0 || counts.calls % TICK_CALLS == 0) { /* Not all that happens is a call. */
         bind_children(0);
-        wake(NULL);
+        wake(EVERYONE);
     }
     rerun_woken_calls();
     return true;
@@ -121,13 +116,12 @@ static bool serve_call(int pipe_end, bool is_busy) {
 int main(int argc, char **argv) {
     bool is_root = geteuid() == 0, is_busy = false;
     start_program(argv + read_options(argc, argv));
-    int pipe_end = prepare();
+    prepare();
     int64_t answer = scm_spawn(&engine, geteuid(), SCM_MAX_NOFILE, is_root);
-    long pid = record(0, answer, "pid %ld", "spawn %u %u%s", geteuid(), SCM_MAX_NOFILE,
-                      is_root ? " priv" : "");
-    bind_process(add_process((uint32_t)pid, getpid(), getpid()), program);
+    record(0, answer, "pid %ld", "spawn %u %u%s", geteuid(), SCM_MAX_NOFILE, is_root ? " priv" : "");
+    bind_process(add_process((uint32_t)answer, getpid(), getpid()), program);
     kill(program, SIGCONT);
-    while (serve_call(pipe_end, is_busy)) {
+    while (serve_call(is_busy)) {
         is_busy = collect();
         rerun_woken_calls();
     }

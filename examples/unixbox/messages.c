@@ -2,18 +2,15 @@
  * moves at most SCM_MAX_BYTES; what is longer goes on with the next call. */
 #include "unixbox.h"
 
-enum {
-    MOST_PARTS = 1024,    /* UIO_MAXIOV */
-    MOST_CONTROL = 20480, /* net.core.optmem_max */
-    USER_SPACE = CMSG_SPACE(sizeof(struct ucred)),
-};
+/* UIO_MAXIOV, and net.core.optmem_max. */
+enum { MOST_PARTS = 1024, MOST_CONTROL = 20480, USER_SPACE = CMSG_SPACE(sizeof(struct ucred)) };
 
 /* What a call sends, or has room for. */
 static struct message {
     uint64_t at; /* Where the caller's msghdr is. 0: it has none. */
     struct msghdr header;
     struct iovec parts[MOST_PARTS];
-    size_t total;
+    size_t total, length; /* Of all parts, and how much of it is moved. */
     int flags;
     uint32_t fds[SCM_MAX_FD];
     size_t fd_count;
@@ -34,15 +31,15 @@ static long read_message(const struct call *call) {
     if (header->msg_control == NULL) header->msg_controllen = 0;
     if (has_header || call->number == SYS_readv || call->number == SYS_writev) {
         if (header->msg_iovlen > MOST_PARTS) return has_header ? -EMSGSIZE : -EINVAL;
-        if (!read_memory(call, message.parts, (uint64_t)header->msg_iov,
-                         header->msg_iovlen * sizeof *message.parts))
-            return -EFAULT;
+        size_t size = header->msg_iovlen * sizeof *message.parts;
+        if (!read_memory(call, message.parts, (uint64_t)header->msg_iov, size)) return -EFAULT;
     } else {
         message.parts[0] = (struct iovec){header->msg_iov, header->msg_iovlen & INT_MAX};
         header->msg_iovlen = 1;
         header->msg_namelen = call->number == SYS_sendto && call->args[4] ? call->args[5] : 0;
     }
     for (size_t i = 0; i < header->msg_iovlen; i++) message.total += message.parts[i].iov_len;
+    message.length = message.total < SCM_MAX_BYTES ? message.total : SCM_MAX_BYTES;
     return message.total <= SSIZE_MAX ? 0 : -EINVAL;
 }
 
@@ -71,94 +68,74 @@ static long read_control(const struct call *call) {
     return message.user.pid == call->process->tgid || geteuid() == 0 ? 0 : -EPERM;
 }
 
-/* Keeps a copy of each plain file that was sent, for who receives it, and who sent it. */
-static void keep_cargo(const struct process *process) {
-    for (size_t i = 0; i < message.fd_count; i++) {
+long serve_send(struct call *call) {
+    struct process *process = call->process;
+    struct file *peer = peer_of(call->file);
+    struct iovec here = {bytes, 0};
+    bool is_stream = call->file->kind == SCM_STREAM;
+    long result = read_message(call);
+    if (result == 0) result = read_control(call);
+    if (result < 0) return result;
+    if ((message.flags & MSG_OOB) && !(options.out_of_band && is_stream)) return -EOPNOTSUPP;
+    if (message.header.msg_namelen > 0 && is_stream) return peer != NULL ? -EISCONN : -EOPNOTSUPP;
+    if (message.total > SCM_MAX_BYTES && !is_stream) return -EMSGSIZE;
+    call->raises_sigpipe = is_stream && !(message.flags & MSG_NOSIGNAL);
+    if ((call->file->shut & 2) || (peer != NULL && (peer->shut & 1))) return -EPIPE;
+    if (message.fd_count > 0) sync_table(process);
+    if (message.fd_count + message.total == 0 && is_stream) /* The layer has no such message. */
+        return peer != NULL ? 0 : -ENOTCONN;
+    here.iov_len = message.length;
+    result = process_vm_readv(call->tid, &here, 1, message.parts, message.header.msg_iovlen, 0);
+    if (result != (long)message.length) return -EFAULT;
+    int64_t answer = scm_send(&engine, call->pid, call->fd, bytes, message.length, message.fds,
+                              message.fd_count);
+    result = record(call->pid, answer, "sent %ld", "send %u *%zu%s", call->fd, message.length,
+                    fds_text(message.fds, message.fd_count));
+    if (result == -EAGAIN) return wait_for(call, message.flags, call->file->ino);
+    if (result < 0) return result;
+    for (size_t i = 0; i < message.fd_count; i++) { /* A copy of plain files, for the receiver. */
         struct file *file = file_of(process, message.fds[i]);
         if (file->host < 0)
             file->host = (int)syscall(SYS_pidfd_getfd, process->pidfd, message.fds[i], 0);
         file->sender = process->status;
     }
-}
-
-/* Returns why a send is refused before the layer is asked, or 0. */
-static long refuse_send(struct call *call, const struct file *peer, bool is_stream) {
-    if ((message.flags & MSG_OOB) && !(options.out_of_band && is_stream)) return -EOPNOTSUPP;
-    if (message.header.msg_namelen > 0 && is_stream) return peer != NULL ? -EISCONN : -EOPNOTSUPP;
-    if (message.total > SCM_MAX_BYTES && !is_stream) return -EMSGSIZE;
-    call->raises_sigpipe = is_stream && !(message.flags & MSG_NOSIGNAL);
-    return (call->file->shut & 2) || (peer != NULL && (peer->shut & 1)) ? -EPIPE : 0;
-}
-
-long serve_send(struct call *call) {
-    struct file *peer = peer_of(call->file);
-    bool is_stream = call->file->kind == SCM_STREAM;
-    long result = read_message(call);
-    if (result == 0) result = read_control(call);
-    if (result == 0) result = refuse_send(call, peer, is_stream);
-    if (result < 0) return result;
-    if (message.fd_count > 0)
-        sync_table(call->process);
-    else if (message.total == 0 && is_stream)
-        return peer != NULL ? 0 : -ENOTCONN; /* The layer has no message without bytes. */
-    size_t length = message.total < SCM_MAX_BYTES ? message.total : SCM_MAX_BYTES;
-    struct iovec here = {bytes, length};
-    if (process_vm_readv(call->tid, &here, 1, message.parts, message.header.msg_iovlen, 0) <
-        (ssize_t)length)
-        return -EFAULT;
-    int64_t answer =
-        scm_send(&engine, call->pid, call->fd, bytes, length, message.fds, message.fd_count);
-    result = record(call->pid, answer, "sent %ld", "send %u *%zu%s", call->fd, length,
-                    fds_text(message.fds, message.fd_count));
-    if (result < 0) return result == -EAGAIN ? wait_for(call, message.flags, call->file->ino) : result;
-    keep_cargo(call->process);
     peer->last = message.user;
     refresh(peer);
     return result;
 }
 
-/* Takes what waits at a socket, or looks at it. */
-static long take(struct call *call, bool peeks, size_t length, size_t room,
-                 struct scm_received *got) {
-    int64_t answer = (peeks ? scm_peek : scm_recv)(&engine, call->pid, call->fd, bytes, length,
-                                                   message.fds, room, got);
-    call->has_taken = answer > 0 && !peeks;
-    return record(call->pid, answer, received_text(answer, message.fds, got), "%s %u %zu %zu",
-                  peeks ? "peek" : "recv", call->fd, length, room);
-}
-
 /* Receives into the caller's places, with at most so many descriptors. */
-static long receive_message(struct call *call, size_t room) {
-    size_t length = message.total < SCM_MAX_BYTES ? message.total : SCM_MAX_BYTES;
+static long take(struct call *call, size_t room) {
     const struct file *file = call->file, *peer = peer_of(file);
+    bool peeks = message.flags & MSG_PEEK;
     struct scm_received got = {0, false, false};
-    struct iovec here = {bytes, 0};
-    long result = take(call, message.flags & MSG_PEEK, length, room, &got);
+    int64_t answer = (peeks ? scm_peek : scm_recv)(&engine, call->pid, call->fd, bytes,
+                                                   message.length, message.fds, room, &got);
+    long result = record(call->pid, answer, received_text(answer, message.fds, &got),
+                         "%s %u %zu %zu", peeks ? "peek" : "recv", call->fd, message.length, room);
     if (result == -EAGAIN && ((file->shut & 1) || (peer != NULL && (peer->shut & 2)))) return 0;
     if (result == -EAGAIN) return wait_for(call, message.flags, file->ino);
     if (result < 0) return file->kind == SCM_STREAM && result == -ENOTCONN ? -EINVAL : result;
-    message.header.msg_flags |= (got.trunc ? MSG_TRUNC : 0) | (got.ctrunc ? MSG_CTRUNC : 0);
+    call->has_taken = result > 0 && !peeks;
     is_collection_due = is_collection_due || got.ctrunc;
+    message.header.msg_flags |= (got.trunc ? MSG_TRUNC : 0) | (got.ctrunc ? MSG_CTRUNC : 0);
     for (size_t i = 0; i < got.fds; i++) {
         long fd = install(call, message.fds[i], -1, false, message.flags & MSG_CMSG_CLOEXEC);
-        if (fd >= 0)
-            message.fds[message.fd_count++] = (uint32_t)fd;
-        else
-            message.header.msg_flags |= MSG_CTRUNC;
+        message.header.msg_flags |= fd < 0 ? MSG_CTRUNC : 0;
+        if (fd >= 0) message.fds[message.fd_count++] = (uint32_t)fd;
     }
-    here.iov_len = (size_t)result;
-    bool is_written = process_vm_writev(call->tid, &here, 1, message.parts,
-                                        message.header.msg_iovlen, 0) == result;
-    return is_written ? result : -EFAULT;
+    struct iovec here = {bytes, (size_t)result};
+    ssize_t written =
+        process_vm_writev(call->tid, &here, 1, message.parts, message.header.msg_iovlen, 0);
+    return written == result ? result : -EFAULT;
 }
 
 /* Adds a control message, if there is room for it. Returns the length of all. */
 static size_t add_control(char *control, size_t used, int type, const void *data, size_t size) {
     struct cmsghdr *header = (struct cmsghdr *)(control + used);
-    if (used + CMSG_LEN(size) > message.header.msg_controllen) {
-        message.header.msg_flags |= MSG_CTRUNC;
-        return used;
-    }
+    bool fits = used + CMSG_LEN(size) <= message.header.msg_controllen;
+    message.header.msg_flags |= fits ? 0 : MSG_CTRUNC;
+    if (!fits) return used;
     *header = (struct cmsghdr){CMSG_LEN(size), SOL_SOCKET, type};
     memcpy(CMSG_DATA(header), data, size);
     return used + CMSG_SPACE(size);
@@ -167,23 +144,23 @@ static size_t add_control(char *control, size_t used, int type, const void *data
 /* Writes what a receive tells beside its bytes. */
 static void write_header(const struct call *call, bool has_user) {
     _Alignas(struct cmsghdr) char control[USER_SPACE + CMSG_SPACE(SCM_MAX_FD * sizeof(int))] = {0};
-    const struct address *peer = &call->file->peer;
+    const struct file *peer = peer_of(call->file);
     struct msghdr *header = &message.header;
+    uint64_t name_at = call->number == SYS_recvfrom ? call->args[4] : (uint64_t)header->msg_name;
+    uint64_t length_at = call->number == SYS_recvfrom ? call->args[5] : message.at + sizeof(void *);
+    socklen_t none = 0;
     size_t used = 0;
-    if (call->number == SYS_recvfrom) write_address(call, call->args[4], call->args[5], peer);
-    if (message.at == 0) return;
     if (has_user)
         used = add_control(control, used, SCM_CREDENTIALS, &call->file->last, sizeof(struct ucred));
     if (message.fd_count > 0)
         used = add_control(control, used, SCM_RIGHTS, message.fds, message.fd_count * sizeof(int));
-    used = used < header->msg_controllen ? used : header->msg_controllen;
-    write_memory(call, (uint64_t)header->msg_control, control, used);
-    header->msg_controllen = used;
-    socklen_t room = header->msg_name != NULL ? header->msg_namelen : 0;
-    write_memory(call, (uint64_t)header->msg_name, &peer->name,
-                 room < peer->length ? room : peer->length);
-    header->msg_namelen = peer->length;
-    write_memory(call, message.at, header, sizeof *header);
+    header->msg_controllen = used < header->msg_controllen ? used : header->msg_controllen;
+    write_memory(call, (uint64_t)header->msg_control, control, header->msg_controllen);
+    if (message.at != 0) write_memory(call, message.at, header, sizeof *header);
+    if (peer != NULL && peer->own.length > 0)
+        write_address(call, name_at, length_at, peer);
+    else if (name_at != 0)
+        write_memory(call, length_at, &none, sizeof none);
 }
 
 long serve_recv(struct call *call) {
@@ -199,7 +176,7 @@ long serve_recv(struct call *call) {
     if (room > 0) sync_table(call->process);
     scm_file(&engine, call->file->ino, &state);
     if (message.total > 0)
-        result = receive_message(call, room < SCM_MAX_FD ? room : SCM_MAX_FD);
+        result = take(call, room < SCM_MAX_FD ? room : SCM_MAX_FD);
     else if (message.at != 0 && state.messages == 0 && state.state == SCM_CONNECTED)
         result = wait_for(call, message.flags, call->file->ino);
     if (result >= 0) write_header(call, has_user);

@@ -72,37 +72,26 @@ void refresh(struct file *file) {
         file->tokens--;
 }
 
-/* Closes a placeholder. Bytes that are left in it would be an error of its peer (ECONNRESET). */
-static void close_placeholder(int host) {
-    char tokens[SCM_MAX_MESSAGES];
-    while (recv(host, tokens, sizeof tokens, MSG_DONTWAIT) > 0) continue;
-    close(host);
-}
-
-static void free_file(struct file *file) {
-    note_leak(file);
-    for (int waits; file->listens && (waits = accept_host(file->host, 0)) >= 0;)
-        close_placeholder(waits);
-    if (file->kind != SCM_PLAIN)
-        close_placeholder(file->host);
-    else close(file->host);
-    close(file->path);
-    files[file->ino] = NULL;
-    free(file);
-}
-
 /* Frees what the last step freed, and refreshes and wakes what it changed. */
 void settle(void) {
     static uint64_t inos[SCM_MAX_FILES];
     int64_t freed = scm_released(&engine, inos, SCM_MAX_FILES);
-    for (int64_t i = 0; i < freed; i++)
-        if (file_at(inos[i]) != NULL) free_file(files[inos[i]]);
+    for (int64_t i = 0; i < freed; i++) {
+        struct file *file = file_at(inos[i]);
+        if (file == NULL) continue;
+        note_leak(file);
+        close(file->host);
+        close(file->path);
+        files[file->ino] = NULL;
+        free(file);
+    }
     int64_t changed = scm_changed(&engine, inos, SCM_MAX_FILES);
     for (int64_t i = 0; i < changed; i++) {
-        if (file_at(inos[i]) == NULL) continue;
-        refresh(files[inos[i]]);
-        wake(files[inos[i]]);
-        wake(peer_of(files[inos[i]]));
+        struct file *file = file_at(inos[i]), *peer = file != NULL ? peer_of(file) : NULL;
+        if (file == NULL) continue;
+        refresh(file);
+        wake(file->ino);
+        if (peer != NULL) wake(peer->ino);
     }
     if (freed + changed == 0) return;
     scm_clear_told(&engine);

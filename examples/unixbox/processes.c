@@ -63,7 +63,7 @@ void forget_process(struct process *process) {
     is_collection_due = true;
     while (*at != process) at = &(*at)->next;
     *at = process->next;
-    wake(NULL); /* Its calls end. */
+    wake(EVERYONE); /* Its calls end. */
     close(process->pidfd);
     if (process->table != NULL) closedir(process->table);
     free(process);

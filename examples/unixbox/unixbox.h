@@ -34,7 +34,7 @@
 
 /* What a handler answers beside a value or a negative errno: the kernel does the call itself; the
  * call waits, and is served again after a change. */
-enum { KERNEL_DOES_IT = -100001, CALL_WAITS = -100002 };
+enum { KERNEL_DOES_IT = -100001, CALL_WAITS = -100002, EVERYONE = 0 };
 
 extern struct options {
     enum { COLLECT_NEVER, COLLECT_SLICES, COLLECT_PASSES } collector;
@@ -85,8 +85,8 @@ struct file {
     struct address {
         struct sockaddr_un name;
         socklen_t length; /* 0 where there is none. */
-    } own, peer;
-    struct ucred owner, peer_owner, last; /* For SO_PEERCRED; who sent to this socket last. */
+    } own;
+    struct ucred owner, last; /* For SO_PEERCRED at its peer; who sent to this socket last. */
     struct status sender; /* Who sent this file last. */
 };
 
@@ -98,7 +98,7 @@ struct call {
     struct process *process;
     uint32_t pid, fd;     /* The layer's number of the process; the first argument. */
     struct file *file;    /* The socket of the layer that the first argument names, or NULL. */
-    uint64_t waits_for;   /* The socket whose change it waits for. 0: any. */
+    uint64_t waits_for;   /* The socket whose change it waits for, or EVERYONE. */
     bool is_woken, raises_sigpipe, has_taken; /* It has taken a message. */
     struct call *next;
 };
@@ -125,7 +125,7 @@ int install_filter(void);
 void *receive(void *out);
 void run_call(const struct seccomp_notif *notif);
 long wait_for(struct call *call, int flags, uint64_t ino);
-void wake(const struct file *file);
+void wake(uint64_t ino);
 void rerun_woken_calls(void);
 bool read_memory(const struct call *call, void *to, uint64_t from, size_t length);
 bool write_memory(const struct call *call, uint64_t to, const void *from, size_t length);
@@ -152,11 +152,11 @@ void sync_table(struct process *process);
 long install(struct call *call, uint32_t fd, int from, bool is_fixed, bool closes_on_exec);
 /* sockets.c */
 void write_address(const struct call *call, uint64_t at, uint64_t length_at,
-                   const struct address *address);
+                   const struct file *file);
 
 typedef long handler(struct call *call);
 handler serve_socket, serve_bind, serve_listen, serve_connect, serve_accept, serve_shutdown,
     serve_name, serve_get_option, serve_set_option, serve_send, serve_recv, serve_close, serve_dup,
-    serve_dup2, serve_fcntl, serve_fork, serve_change, serve_limit;
+    serve_fcntl, serve_fork, serve_change, serve_limit;
 
 #endif
