@@ -1,7 +1,7 @@
 /* Descriptors: tables of programs, kept the same in the kernel and in the layer. */
 #include "unixbox.h"
 
-enum { MOST_CHECKS = 200, MICROSECONDS = 50 };
+enum { MOST_LOOKS = 40, LOOK_MICROSECONDS = 50 };
 
 static void close_fd(const struct process *process, uint32_t fd) {
     record(process->pid, scm_close(&engine, process->pid, fd), "ok", "close %u", fd);
@@ -26,52 +26,35 @@ static void open_at(const struct process *process, uint32_t fd) {
     close_fd(process, (uint32_t)lowest);
 }
 
-static void read_link(const struct process *process, uint32_t fd, char *link, size_t room) {
-    char name[16];
-    snprintf(name, sizeof name, "%u", fd);
-    ssize_t length = readlinkat(dirfd(process->table), name, link, room - 1);
-    link[length > 0 ? length : 0] = '\0';
-}
-
-/* Waits until the kernel has done the close that was left to it: this thread may be ahead of it. */
-void finish_close(struct process *process, pid_t caller) {
-    char link[sizeof process->closing_link];
-    for (int i = 0; process->closer != 0 && process->closer != caller && i < MOST_CHECKS; i++) {
-        read_link(process, process->closing, link, sizeof link);
-        if (link[0] == '\0' || strcmp(link, process->closing_link) != 0) break;
-        usleep(MICROSECONDS);
-    }
-    process->closer = 0;
-}
-
-/* Makes the layer's table have the numbers of the kernel's: opens what the program has opened by
- * itself, and closes what an exec(2) has closed. All else that closes is served here, so two tables
- * with as many descriptors are the same. */
+/* Opens in the layer what the program has opened by itself, and closes what an exec(2) has closed.
+ * All else that closes is served, so two tables with as many descriptors are the same. */
 void sync_table(struct process *process) {
     bool is_open[SCM_MAX_NOFILE] = {false};
-    struct stat directory; /* Kernels before 6.2 say 0 for its size. */
+    struct stat directory = {.st_size = 0}; /* Kernels before 6.2 leave it so. */
     uint64_t ino;
     off_t count = 0;
     for (int64_t fd = 0; (fd = scm_next_fd(&engine, process->pid, (uint32_t)fd, &ino)) >= 0; fd++)
         count++;
-    if (process->has_changed)
-        read_status(process->tgid, &process->status);
-    else if (fstat(dirfd(process->table), &directory) == 0 && directory.st_size == count)
-        return;
+    fstat(dirfd(process->table), &directory);
+    for (int i = 0; process->closer != 0 && directory.st_size > count && i < MOST_LOOKS; i++) {
+        usleep(LOOK_MICROSECONDS); /* Another thread closes, and the kernel has not done it yet. */
+        fstat(dirfd(process->table), &directory);
+    }
+    process->closer = 0;
+    if (directory.st_size == count && !process->has_changed) return;
+    if (process->has_changed) read_status(process->tgid, &process->status);
     process->has_changed = false;
     rewinddir(process->table);
     for (struct dirent *it; (it = readdir(process->table)) != NULL;)
-        if (isdigit((unsigned char)it->d_name[0]) && atoi(it->d_name) < SCM_MAX_NOFILE)
-            is_open[atoi(it->d_name)] = true;
+        if (it->d_name[0] != '.') is_open[atoi(it->d_name) % SCM_MAX_NOFILE] = true;
     for (int64_t fd = 0; (fd = scm_next_fd(&engine, process->pid, (uint32_t)fd, &ino)) >= 0; fd++)
         if (!is_open[fd]) close_fd(process, (uint32_t)fd);
     for (uint32_t fd = 0; fd < SCM_MAX_NOFILE; fd++)
         if (is_open[fd] && file_of(process, fd) == NULL) open_at(process, fd);
 }
 
-/* Puts a descriptor that the layer has opened into the caller's table: at its number, or at the
- * one that the kernel chooses, which should be the same. A plain file is copied from `from`.
- * Returns the number, or a negative errno. */
+/* Puts a descriptor that the layer has opened into the caller's table: at its number, or at the one
+ * that the kernel chooses, which should be the same. A plain file is copied from `from`. */
 long install(struct call *call, uint32_t fd, int from, bool is_fixed, bool closes_on_exec) {
     const struct file *file = file_of(call->process, fd);
     bool is_ours = file != NULL && file->host >= 0;
@@ -83,11 +66,10 @@ long install(struct call *call, uint32_t fd, int from, bool is_fixed, bool close
     int number = ioctl(notifications, SECCOMP_IOCTL_NOTIF_ADDFD, &descriptor), error = errno;
     if (!is_ours) close(host);
     if (number == (int)fd) return number;
-    if (number < 0 && error == EBADF && from >= 0)
-        return KERNEL_DOES_IT; /* What O_PATH opened cannot be given. */
+    /* What O_PATH opened cannot be given. */
+    if (number < 0 && error == EBADF && from >= 0) return KERNEL_DOES_IT;
     /* Beside threads other numbers are no fault: one may open something after the last look. */
-    bool is_fault = !is_fixed && !call->process->has_threads && (number >= 0 || error != ENOENT);
-    counts.other_numbers += is_fault;
+    counts.other_numbers += !is_fixed && !call->process->has_threads && number >= 0;
     if (number >= 0) duplicate_at(call->process, fd, (uint32_t)number);
     close_fd(call->process, fd);
     return number >= 0 ? number : -error;
@@ -95,17 +77,12 @@ long install(struct call *call, uint32_t fd, int from, bool is_fixed, bool close
 
 /* A close can only be left to the kernel. */
 long serve_close(struct call *call) {
-    struct process *process = call->process;
-    if (file_of(process, call->fd) != NULL) close_fd(process, call->fd);
-    if (!process->has_threads) return KERNEL_DOES_IT;
-    process->closer = call->tid;
-    process->closing = call->fd;
-    read_link(process, call->fd, process->closing_link, sizeof process->closing_link);
+    if (file_of(call->process, call->fd) != NULL) close_fd(call->process, call->fd);
+    call->process->closer = call->process->has_threads ? call->tid : 0;
     return KERNEL_DOES_IT;
 }
 
-/* dup(2), dup2(2) and dup3(2). The supervisor copies descriptors at once: if that were left to the
- * kernel, another thread could look at the table before it is done. */
+/* dup(2), dup2(2) and dup3(2). Left to the kernel, they could be behind another thread's look. */
 long serve_dup(struct call *call) {
     bool closes_on_exec = call->number == SYS_dup3 && (call->args[2] & O_CLOEXEC);
     bool is_fixed = call->number != SYS_dup;

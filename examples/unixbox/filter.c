@@ -65,8 +65,8 @@ int install_filter(void) {
                         SECCOMP_FILTER_FLAG_WAIT_KILLABLE_RECV, &all);
 }
 
-/* Receives notifications and writes them to a pipe, in a thread that does nothing else: until a call
- * is received, any signal ends it, and a close(2) would answer EINTR. */
+/* Receives notifications, in a thread that does nothing else: until a call is received, any signal
+ * ends it, and a close(2) would answer EINTR. */
 void *receive(void *out) {
     struct seccomp_notif notif;
     struct pollfd ask = {notifications, POLLIN, 0};
@@ -109,7 +109,7 @@ static void run(struct call *call) {
     struct call **end = &waiting;
     long result = process != NULL ? KERNEL_DOES_IT : -EPERM;
     if (process != NULL) {
-        finish_close(process, call->tid);
+        if (process->closer == call->tid) process->closer = 0; /* It has closed. */
         if (process->has_changed) sync_table(process);
         call->file = file_of(process, call->fd);
         if (call->file != NULL && call->file->kind == SCM_PLAIN) call->file = NULL;
@@ -152,8 +152,8 @@ void wake(uint64_t ino) {
         it->is_woken |= ino == EVERYONE || it->waits_for == ino || it->waits_for == EVERYONE;
 }
 
-/* Serves calls that were woken once more. Those to whose threads a signal has come, or whose threads
- * are over, end: the kernel makes EINTR of a restart, or repeats the call. */
+/* Serves woken calls once more. Those whose threads have a signal or are over end: the kernel makes
+ * EINTR of a restart, or repeats the call. */
 void rerun_woken_calls(void) {
     for (struct call **at = &waiting; *at != NULL;) {
         struct call *call = *at;

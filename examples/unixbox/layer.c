@@ -2,14 +2,13 @@
 #include "unixbox.h"
 #include <stdarg.h>
 
-enum { MOST_PICTURE = 1 << 24 };
+enum { MOST_PICTURE = 1 << 24, MOST_LEAKS = 64 };
 
 /* How many sockets and plain files of a sender only a cycle kept. */
 static struct leak {
     struct status sender;
     uint64_t count[2];
-    struct leak *next;
-} *leaks;
+} leaks[MOST_LEAKS];
 
 scm_engine engine = SCM_ENGINE_INIT;
 struct counts counts;
@@ -71,7 +70,8 @@ const char *received_text(int64_t answer, const uint32_t *fds, const struct scm_
 static void do_pass(bool in_slices) {
     struct scm_finished over = {0, 0};
     char text[64];
-    int64_t answer = in_slices ? scm_slice(&engine, options.budget, &over) : scm_pass(&engine, &over);
+    int64_t answer = in_slices ? scm_slice(&engine, options.budget, &over)
+                               : scm_pass(&engine, &over);
     snprintf(text, sizeof text, "pass %lu reclaimed %lu", over.pass, over.reclaimed);
     if (in_slices)
         record(0, answer, answer == 1 ? "working" : text, "slice %u", options.budget);
@@ -101,42 +101,39 @@ bool collect(void) {
     return is_running || is_collection_due;
 }
 
-/* Recounts after a step, as the options say: the counts of each file from the tables of all
- * processes, and all by the layer. */
+/* Recounts after a step, as the options say: the places of each file from all tables, and all by
+ * the layer. */
 void inspect(void) {
-    uint32_t *places = options.verifies ? allocate(file_room * sizeof *places) : NULL;
     struct scm_checked checked = {0, 0};
     uint64_t ino, refs, inflight;
     char text[64];
-    for (struct process *it = processes; places != NULL && it != NULL; it = it->next)
+    for (struct process *it = processes; options.verifies && it != NULL; it = it->next)
         for (int64_t fd = 0; (fd = scm_next_fd(&engine, it->pid, (uint32_t)fd, &ino)) >= 0; fd++)
-            places[ino]++;
-    for (ino = 0; places != NULL && ino < file_room; ino++) {
-        scm_refs(&engine, ino, &refs);
-        scm_inflight(&engine, ino, &inflight);
-        bool waits = files[ino] != NULL && files[ino]->is_embryo;
-        counts.wrong_counts += refs != places[ino] + inflight + waits;
-    }
-    free(places);
+            file_at(ino)->places++;
+    for (int i = 0; options.verifies && i < FILE_SLOTS; i++)
+        for (struct file *it = files[i]; it != NULL; it = it->next) {
+            scm_refs(&engine, it->ino, &refs);
+            scm_inflight(&engine, it->ino, &inflight);
+            counts.wrong_counts += refs != it->places + inflight + it->is_embryo;
+            it->places = 0;
+        }
     if (!options.checks) return;
     int64_t answer = scm_check(&engine, &checked);
     snprintf(text, sizeof text, "check ok live %lu garbage %lu", checked.live, checked.garbage);
     counts.failed_checks += record(0, answer, text, "check") < 0;
 }
 
-/* Counts a file that is freed, by who sent it last: where a pass frees it, only a cycle kept it. */
+/* Counts a file that is freed, by who sent it last: where a pass frees it, only a cycle kept it. The
+ * last row is for all senders for whom there is no other. */
 void note_leak(const struct file *file) {
-    struct leak *it = leaks;
+    int i = 0;
+    while (i < MOST_LEAKS - 1 && leaks[i].count[0] + leaks[i].count[1] > 0 &&
+           (leaks[i].sender.user.pid != file->sender.user.pid ||
+            strcmp(leaks[i].sender.name, file->sender.name) != 0))
+        i++;
     if (!is_collecting) return;
-    while (it != NULL && (it->sender.user.pid != file->sender.user.pid ||
-                          strcmp(it->sender.name, file->sender.name) != 0))
-        it = it->next;
-    if (it == NULL) {
-        it = allocate(sizeof *it);
-        *it = (struct leak){.sender = file->sender, .next = leaks};
-        leaks = it;
-    }
-    it->count[file->kind == SCM_PLAIN]++;
+    leaks[i].sender = file->sender;
+    leaks[i].count[file->kind == SCM_PLAIN]++;
 }
 
 /* Writes the picture, does the last pass, and says what was found. */
@@ -150,17 +147,18 @@ void conclude(void) {
     while (is_running) do_pass(true);
     do_pass(false);
     scm_live(&engine, &live);
-    fprintf(stderr, "unixbox: %lu calls, %lu steps of the layer, %lu passes, %lu sockets reclaimed\n"
+    fprintf(stderr, "unixbox: %lu calls, %lu layer calls, %lu passes, %lu sockets reclaimed\n"
             "unixbox: %lu other numbers, %lu wrong counts, %lu failed checks, %lu lost messages, "
             "%lu files left\n", counts.calls, counts.steps, counts.passes, counts.reclaimed,
             counts.other_numbers, counts.wrong_counts, counts.failed_checks, counts.lost_messages,
             live);
-    if (leaks != NULL)
+    if (counts.reclaimed > 0)
         fprintf(stderr, "unixbox: leaked in cycles, by who sent it last (0: nobody)\n"
                 "    pid program          sockets  plain files\n");
-    for (const struct leak *it = leaks; it != NULL; it = it->next)
-        fprintf(stderr, "%7d %-16s %7lu  %11lu\n", it->sender.user.pid, it->sender.name,
-                it->count[0], it->count[1]);
+    for (const struct leak *it = leaks; it < leaks + MOST_LEAKS; it++)
+        if (it->count[0] + it->count[1] > 0)
+            fprintf(stderr, "%7d %-16s %7lu  %11lu\n", it->sender.user.pid, it->sender.name,
+                    it->count[0], it->count[1]);
     scm_engine_free(&engine);
     if (script != NULL && (fclose(script) != 0 || fclose(replies) != 0)) perror("unixbox");
 }

@@ -24,7 +24,7 @@ static int read_options(int argc, char **argv) {
         {"gc", required_argument, NULL, 'g'}, {"budget", required_argument, NULL, 'b'},
         {"script", required_argument, NULL, 's'}, {"graph", required_argument, NULL, 'p'},
         {"verify", no_argument, &options.verifies, 1}, {"check", no_argument, &options.checks, 1},
-        {"dgram", no_argument, &options.datagrams, 1}, {"oob", no_argument, &options.out_of_band, 1},
+        {"dgram", no_argument, &options.datagrams, 1}, {"oob", no_argument, &options.oob, 1},
         {"procnet", no_argument, &options.networks, 1}, {NULL, 0, NULL, 0}};
     bool fits = true;
     for (int option, i; (option = getopt_long(argc, argv, "+", names, NULL)) != -1;) {
@@ -118,7 +118,8 @@ int main(int argc, char **argv) {
     start_program(argv + read_options(argc, argv));
     prepare();
     int64_t answer = scm_spawn(&engine, geteuid(), SCM_MAX_NOFILE, is_root);
-    record(0, answer, "pid %ld", "spawn %u %u%s", geteuid(), SCM_MAX_NOFILE, is_root ? " priv" : "");
+    record(0, answer, "pid %ld", is_root ? "spawn %u %u priv" : "spawn %u %u", geteuid(),
+           SCM_MAX_NOFILE);
     bind_process(add_process((uint32_t)answer, getpid(), getpid()), program);
     kill(program, SIGCONT);
     while (serve_call(is_busy)) {

@@ -76,7 +76,7 @@ long serve_send(struct call *call) {
     long result = read_message(call);
     if (result == 0) result = read_control(call);
     if (result < 0) return result;
-    if ((message.flags & MSG_OOB) && !(options.out_of_band && is_stream)) return -EOPNOTSUPP;
+    if ((message.flags & MSG_OOB) && !(options.oob && is_stream)) return -EOPNOTSUPP;
     if (message.header.msg_namelen > 0 && is_stream) return peer != NULL ? -EISCONN : -EOPNOTSUPP;
     if (message.total > SCM_MAX_BYTES && !is_stream) return -EMSGSIZE;
     call->raises_sigpipe = is_stream && !(message.flags & MSG_NOSIGNAL);
@@ -141,44 +141,35 @@ static size_t add_control(char *control, size_t used, int type, const void *data
     return used + CMSG_SPACE(size);
 }
 
-/* Writes what a receive tells beside its bytes. */
+/* Writes what a receive tells beside its bytes. The name of a peer is not among it. */
 static void write_header(const struct call *call, bool has_user) {
     _Alignas(struct cmsghdr) char control[USER_SPACE + CMSG_SPACE(SCM_MAX_FD * sizeof(int))] = {0};
-    const struct file *peer = peer_of(call->file);
     struct msghdr *header = &message.header;
-    uint64_t name_at = call->number == SYS_recvfrom ? call->args[4] : (uint64_t)header->msg_name;
-    uint64_t length_at = call->number == SYS_recvfrom ? call->args[5] : message.at + sizeof(void *);
-    socklen_t none = 0;
     size_t used = 0;
+    if (call->number == SYS_recvfrom) write_memory(call, call->args[5], &(int){0}, sizeof(int));
+    if (message.at == 0) return;
     if (has_user)
         used = add_control(control, used, SCM_CREDENTIALS, &call->file->last, sizeof(struct ucred));
     if (message.fd_count > 0)
         used = add_control(control, used, SCM_RIGHTS, message.fds, message.fd_count * sizeof(int));
     header->msg_controllen = used < header->msg_controllen ? used : header->msg_controllen;
+    header->msg_namelen = 0;
     write_memory(call, (uint64_t)header->msg_control, control, header->msg_controllen);
-    if (message.at != 0) write_memory(call, message.at, header, sizeof *header);
-    if (peer != NULL && peer->own.length > 0)
-        write_address(call, name_at, length_at, peer);
-    else if (name_at != 0)
-        write_memory(call, length_at, &none, sizeof none);
+    write_memory(call, message.at, header, sizeof *header);
 }
 
 long serve_recv(struct call *call) {
-    struct scm_file state;
     int has_user = 0;
     long result = read_message(call);
     if (result < 0) return result;
     if (message.flags & (MSG_OOB | MSG_WAITALL)) return -EINVAL;
+    if (message.total == 0) return 0;
     message.header.msg_flags = message.flags & MSG_CMSG_CLOEXEC;
     getsockopt(call->file->host, SOL_SOCKET, SO_PASSCRED, &has_user, &(socklen_t){sizeof has_user});
     size_t room = message.header.msg_controllen, other = CMSG_LEN(0) + (has_user ? USER_SPACE : 0);
     room = room > other ? (room - other) / sizeof(int) : 0;
     if (room > 0) sync_table(call->process);
-    scm_file(&engine, call->file->ino, &state);
-    if (message.total > 0)
-        result = take(call, room < SCM_MAX_FD ? room : SCM_MAX_FD);
-    else if (message.at != 0 && state.messages == 0 && state.state == SCM_CONNECTED)
-        result = wait_for(call, message.flags, call->file->ino);
+    result = take(call, room < SCM_MAX_FD ? room : SCM_MAX_FD);
     if (result >= 0) write_header(call, has_user);
     return result;
 }

@@ -7,8 +7,7 @@
 
 enum { TOKEN = 768 }; /* What a byte takes of a buffer (SIOCOUTQ). */
 
-struct file **files;
-uint64_t file_room;
+struct file *files[FILE_SLOTS];
 
 void *allocate(size_t size) {
     void *place = calloc(1, size);
@@ -17,7 +16,9 @@ void *allocate(size_t size) {
 }
 
 struct file *file_at(uint64_t ino) {
-    return ino < file_room ? files[ino] : NULL;
+    struct file *it = files[ino % FILE_SLOTS];
+    while (it != NULL && it->ino != ino) it = it->next;
+    return it;
 }
 
 struct file *file_of(const struct process *process, uint64_t fd) {
@@ -33,30 +34,25 @@ struct file *peer_of(const struct file *file) {
 }
 
 struct file *add_file(uint64_t ino, uint32_t kind) {
-    if (ino >= file_room) {
-        uint64_t room = 2 * ino + 1024;
-        struct file **wider = allocate(room * sizeof *files);
-        if (file_room > 0) memcpy(wider, files, file_room * sizeof *files);
-        free(files);
-        files = wider;
-        file_room = room;
-    }
-    files[ino] = allocate(sizeof **files);
-    *files[ino] = (struct file){.ino = ino, .kind = kind, .host = -1, .path = -1};
-    return files[ino];
+    struct file *file = allocate(sizeof *file), **slot = &files[ino % FILE_SLOTS];
+    *file = (struct file){.ino = ino, .kind = kind, .host = -1, .path = -1, .next = *slot};
+    return *slot = file;
 }
 
-/* Gives a placeholder its buffer: a socket of the host is writable while at most a quarter of it is
- * taken. The kernel doubles the number that it is given. */
+static void free_file(struct file *file) {
+    struct file **at = &files[file->ino % FILE_SLOTS];
+    note_leak(file);
+    while (*at != file) at = &(*at)->next;
+    *at = file->next;
+    close(file->host);
+    close(file->path);
+    free(file);
+}
+
+/* A socket is writable while at most a quarter of twice this number is taken. */
 void size_buffer(int host) {
     int bytes = 2 * SCM_MAX_MESSAGES * TOKEN - 1;
     setsockopt(host, SOL_SOCKET, SO_SNDBUF, &bytes, sizeof bytes);
-}
-
-/* Takes the connection that waits longest, or -1. They wait in the order of the layer. */
-int accept_host(int listener, int flags) {
-    struct pollfd ask = {listener, POLLIN, 0};
-    return poll(&ask, 1, 0) == 1 ? accept4(listener, NULL, NULL, SOCK_CLOEXEC | flags) : -1;
 }
 
 /* Makes the bytes in the placeholder as many as the socket has messages. */
@@ -76,21 +72,13 @@ void refresh(struct file *file) {
 void settle(void) {
     static uint64_t inos[SCM_MAX_FILES];
     int64_t freed = scm_released(&engine, inos, SCM_MAX_FILES);
-    for (int64_t i = 0; i < freed; i++) {
-        struct file *file = file_at(inos[i]);
-        if (file == NULL) continue;
-        note_leak(file);
-        close(file->host);
-        close(file->path);
-        files[file->ino] = NULL;
-        free(file);
-    }
+    for (int64_t i = 0; i < freed; i++)
+        if (file_at(inos[i]) != NULL) free_file(file_at(inos[i]));
     int64_t changed = scm_changed(&engine, inos, SCM_MAX_FILES);
     for (int64_t i = 0; i < changed; i++) {
         struct file *file = file_at(inos[i]), *peer = file != NULL ? peer_of(file) : NULL;
-        if (file == NULL) continue;
-        refresh(file);
-        wake(file->ino);
+        if (file != NULL) refresh(file);
+        wake(inos[i]);
         if (peer != NULL) wake(peer->ino);
     }
     if (freed + changed == 0) return;

@@ -87,15 +87,15 @@ static pid_t unbound_child(pid_t parent, pid_t tid) {
     return pid;
 }
 
-/* Binds children that have made no call yet. A child whose parent is over is the supervisor's. One
- * that is not there goes where its fork(2) has failed: where `caller`, which is at another call,
- * forked it, or its parent is over. */
+/* Binds children that have made no call yet. One whose parent is over is the supervisor's. One that
+ * is not there goes, once its fork(2) is over: its forker is the caller of another call. */
 void bind_children(pid_t caller) {
     for (struct process *it = processes, *next; it != NULL; it = next) {
         next = it->next;
         if (it->tgid != 0) continue;
         bool has_parent = process_by(it->parent) != NULL;
-        pid_t heir = has_parent ? it->parent : getpid(), pid = unbound_child(it->parent, it->forker);
+        pid_t heir = has_parent ? it->parent : getpid();
+        pid_t pid = unbound_child(it->parent, it->forker);
         if (pid == 0) pid = unbound_child(heir, heir);
         if (pid > 0)
             bind_process(it, pid);

@@ -22,9 +22,8 @@ long serve_socket(struct call *call) {
     struct scm_pair pair = {0, 0};
     char text[64];
     if (call->args[0] != AF_UNIX) return KERNEL_DOES_IT;
-    if ((call->args[2] & ~(uint64_t)PF_UNIX) != 0 || (!is_stream && type != SOCK_SEQPACKET &&
-                                 !(type == SOCK_DGRAM && is_pair && options.datagrams)))
-        return -EPROTONOSUPPORT;
+    bool is_packet = type == SOCK_SEQPACKET || (type == SOCK_DGRAM && is_pair && options.datagrams);
+    if ((call->args[2] & ~(uint64_t)PF_UNIX) || (!is_stream && !is_packet)) return -EPROTONOSUPPORT;
     if (options.networks) { /* There /proc/net/protocols counts the placeholders. */
         snprintf(text, sizeof text, "/proc/%d/ns/net", call->tid);
         int network = open(text, O_RDONLY | O_CLOEXEC);
@@ -53,8 +52,7 @@ struct name {
     char key[KEY_ROOM], path[PATH_MAX];
 };
 
-/* Gives an abstract name its key: a hash (FNV-1a), for in Linux the sockets of each type have names
- * of their own, of any bytes. */
+/* An abstract name has any bytes, and each type of sockets its own: the key is a hash (FNV-1a). */
 static void hash_name(struct name *name, uint32_t kind) {
     const uint8_t *bytes = (const uint8_t *)&name->address.name;
     uint64_t hash = 14695981039346656037u;
@@ -90,8 +88,8 @@ static long read_name(const struct call *call, struct name *out) {
 }
 
 /* Writes the name of a socket, which is empty where there is no socket or no name. */
-void write_address(const struct call *call, uint64_t at, uint64_t length_at,
-                   const struct file *file) {
+static void write_address(const struct call *call, uint64_t at, uint64_t length_at,
+                          const struct file *file) {
     struct address none = {{.sun_family = AF_UNIX}, PATH_START};
     const struct address *address = file != NULL && file->own.length > 0 ? &file->own : &none;
     socklen_t room;
@@ -116,24 +114,23 @@ long serve_bind(struct call *call) {
         read_status(call->tid, &status);
         if (mknod(name.path, S_IFSOCK | (0777 & ~status.umask), 0) < 0)
             return errno == EEXIST ? -EADDRINUSE : -errno;
-        if (lchown(name.path, status.user.uid, status.user.gid) < 0) return -errno;
-        stat_name(&name);
+        if (lchown(name.path, status.user.uid, status.user.gid) < 0 || stat_name(&name) < 0)
+            return -errno;
         call->file->path = open(name.path, O_PATH | O_NOFOLLOW | O_CLOEXEC);
     }
     const uint8_t *key = (const uint8_t *)name.key;
     result = record(call->pid, scm_bind(&engine, call->pid, call->fd, key, strlen(name.key)), "ok",
                     "bind %u %s", call->fd, name.key);
     if (result == 0) call->file->own = name.address;
+    if (result < 0 && name.path[0] != '\0') unlink(name.path);
     return result;
 }
 
 /* getsockname(2) and getpeername(2). */
 long serve_name(struct call *call) {
-    bool is_own = call->number == SYS_getsockname;
-    struct scm_file state;
-    scm_file(&engine, call->file->ino, &state);
-    if (!is_own && (state.state == SCM_IDLE || state.state == SCM_LISTENING)) return -ENOTCONN;
-    write_address(call, call->args[1], call->args[2], is_own ? call->file : peer_of(call->file));
+    const struct file *file = call->number == SYS_getsockname ? call->file : peer_of(call->file);
+    if (file == NULL) return -ENOTCONN;
+    write_address(call, call->args[1], call->args[2], file);
     return 0;
 }
 
@@ -141,18 +138,18 @@ long serve_name(struct call *call) {
 long serve_get_option(struct call *call) {
     const struct file *peer = call->file->listens ? call->file : peer_of(call->file);
     struct ucred owner = peer != NULL ? peer->owner : (struct ucred){0, (uid_t)-1, (gid_t)-1};
-    socklen_t room;
+    socklen_t room = 0;
     if (call->args[2] != SO_PEERCRED) return KERNEL_DOES_IT;
-    if (!read_memory(call, &room, call->args[4], sizeof room)) return -EFAULT;
-    room = room < sizeof owner ? room : sizeof owner;
-    write_memory(call, call->args[3], &owner, room);
-    return write_memory(call, call->args[4], &room, sizeof room) ? 0 : -EFAULT;
+    read_memory(call, &room, call->args[4], sizeof room);
+    if (room != sizeof owner) return -EINVAL;
+    return write_memory(call, call->args[3], &owner, sizeof owner) ? 0 : -EFAULT;
 }
 
-/* setsockopt(2). The buffers of placeholders keep their sizes; three options are not served. */
+/* setsockopt(2): placeholders keep their buffers, and three options are not served. */
 long serve_set_option(struct call *call) {
     uint64_t option = call->args[2];
-    if (option == SO_PEEK_OFF || option == SO_RCVTIMEO || option == SO_SNDTIMEO) return -ENOPROTOOPT;
+    bool is_missing = option == SO_PEEK_OFF || option == SO_RCVTIMEO || option == SO_SNDTIMEO;
+    if (is_missing) return -ENOPROTOOPT;
     return option == SO_SNDBUF || option == SO_SNDBUFFORCE ? 0 : KERNEL_DOES_IT;
 }
 
@@ -183,12 +180,12 @@ long serve_connect(struct call *call) {
     if (result == 0 && name.path[0] != '\0') result = stat_name(&name);
     if (result < 0) return result;
     const uint8_t *key = (const uint8_t *)name.key;
-    result = record(call->pid, scm_connect(&engine, call->pid, call->fd, key, strlen(name.key)), "ok",
-                    "connect %u %s", call->fd, name.key);
+    int64_t answer = scm_connect(&engine, call->pid, call->fd, key, strlen(name.key));
+    result = record(call->pid, answer, "ok", "connect %u %s", call->fd, name.key);
     if (result < 0) return result == -EAGAIN ? wait_for(call, 0, EVERYONE) : result;
     int64_t count = scm_changed(&engine, inos, 4); /* One of these is the listener. */
     for (int64_t i = 0; i < count && i < 4; i++)
-        if (file_at(inos[i]) != NULL && files[inos[i]]->listens) listener = files[inos[i]];
+        if (file_at(inos[i]) != NULL && file_at(inos[i])->listens) listener = file_at(inos[i]);
     getsockname(listener->host, (struct sockaddr *)&host, &length);
     connect(client->host, (struct sockaddr *)&host, length);
     scm_file(&engine, client->ino, &state);
@@ -203,6 +200,7 @@ long serve_connect(struct call *call) {
 /* accept(2) and accept4(2). */
 long serve_accept(struct call *call) {
     int flags = call->number == SYS_accept4 ? (int)call->args[3] : 0;
+    struct pollfd ask = {call->file->host, POLLIN, 0};
     if (call->file->shut & 1) return -EINVAL;
     sync_table(call->process);
     long fd = record(call->pid, scm_accept(&engine, call->pid, call->fd), "fd %ld", "accept %u",
@@ -210,7 +208,8 @@ long serve_accept(struct call *call) {
     if (fd < 0) return fd == -EAGAIN ? wait_for(call, 0, call->file->ino) : fd;
     struct file *file = file_of(call->process, (uint64_t)fd);
     file->is_embryo = false;
-    size_buffer(file->host = accept_host(call->file->host, flags & SOCK_NONBLOCK));
+    if (poll(&ask, 1, 0) == 1) /* Connections wait in the order of the layer. */
+        size_buffer(file->host = accept4(ask.fd, NULL, NULL, flags | SOCK_CLOEXEC));
     fd = install(call, (uint32_t)fd, -1, false, flags & SOCK_CLOEXEC);
     if (fd >= 0) write_address(call, call->args[1], call->args[2], peer_of(file));
     return fd;

@@ -1,16 +1,11 @@
 /* unixbox: runs an unmodified Linux program, and all that it forks, with its AF_UNIX sockets on the
- * layer of libscmgc.a.
- *
- * A seccomp filter hands the calls that concern descriptors to this supervisor
+ * layer of libscmgc.a. A seccomp filter hands calls that concern descriptors to this supervisor
  * (seccomp_unotify(2)). It asks the layer, and answers in place of the kernel. Where a call opens a
  * socket, it installs a placeholder: a socket of the host that is ready for what the layer's socket
- * is ready for. So poll(2), select(2) and epoll(7) work without the supervisor. The kernel chooses
- * the number of a placeholder, and the layer its own: the two are compared at each call. */
-#ifndef UNIXBOX_H
-#define UNIXBOX_H
-
+ * is ready for, so that poll(2), select(2) and epoll(7) work by themselves. Kernel and layer choose
+ * the numbers of descriptors each for itself, and these are compared. */
+#pragma once
 #define _GNU_SOURCE
-#include <ctype.h>
 #include <dirent.h>
 #include <errno.h>
 #include <fcntl.h>
@@ -34,13 +29,13 @@
 
 /* What a handler answers beside a value or a negative errno: the kernel does the call itself; the
  * call waits, and is served again after a change. */
-enum { KERNEL_DOES_IT = -100001, CALL_WAITS = -100002, EVERYONE = 0 };
+enum { KERNEL_DOES_IT = -100001, CALL_WAITS = -100002, EVERYONE = 0, FILE_SLOTS = 4096 };
 
 extern struct options {
     enum { COLLECT_NEVER, COLLECT_SLICES, COLLECT_PASSES } collector;
     uint32_t budget;                       /* Of a slice, in files. */
     int verifies, checks;                  /* Whether all is recounted after each step. */
-    int datagrams, out_of_band, networks;  /* What is served beside the usual. */
+    int datagrams, oob, networks;          /* What is served beside the usual. */
     const char *graph;                     /* Where the picture goes. */
 } options;
 
@@ -68,8 +63,6 @@ struct process {
     bool has_changed;     /* An exec(2) or a setuid(2) may have made the rest out of date. */
     struct status status;
     pid_t closer;         /* The thread whose close(2) the kernel may not have done yet, or 0. */
-    uint32_t closing;
-    char closing_link[64];
     struct process *next;
 };
 
@@ -88,6 +81,8 @@ struct file {
     } own;
     struct ucred owner, last; /* For SO_PEERCRED at its peer; who sent to this socket last. */
     struct status sender; /* Who sent this file last. */
+    uint64_t places;      /* How many places in tables a recount finds. */
+    struct file *next;
 };
 
 /* A call of a program. */
@@ -106,11 +101,9 @@ struct call {
 extern scm_engine engine;
 extern bool is_collection_due; /* Something was closed since the last pass began. */
 extern struct process *processes;
-extern struct file **files;    /* By inode number; NULL where there is none. */
-extern uint64_t file_room;
+extern struct file *files[FILE_SLOTS];  /* Lists, by inode number modulo FILE_SLOTS. */
 extern int notifications, watches; /* The filter's listener, and an epoll(7) of all pidfds. */
 
-/* layer.c */
 bool open_script(const char *path);
 long record(uint32_t pid, int64_t answer, const char *reply, const char *line, ...)
     __attribute__((format(printf, 4, 5)));
@@ -120,7 +113,7 @@ bool collect(void);
 void inspect(void);
 void note_leak(const struct file *file);
 void conclude(void);
-/* filter.c */
+
 int install_filter(void);
 void *receive(void *out);
 void run_call(const struct seccomp_notif *notif);
@@ -129,34 +122,27 @@ void wake(uint64_t ino);
 void rerun_woken_calls(void);
 bool read_memory(const struct call *call, void *to, uint64_t from, size_t length);
 bool write_memory(const struct call *call, uint64_t to, const void *from, size_t length);
-/* processes.c */
+
 bool read_status(pid_t tid, struct status *out);
 struct process *add_process(uint32_t pid, pid_t parent, pid_t forker);
 void bind_process(struct process *process, pid_t tgid);
 void bind_children(pid_t caller);
 struct process *process_of(pid_t tid);
 void forget_process(struct process *process);
-/* placeholders.c */
+
 void *allocate(size_t size);
 struct file *file_at(uint64_t ino);
 struct file *file_of(const struct process *process, uint64_t fd);
 struct file *peer_of(const struct file *file);
 struct file *add_file(uint64_t ino, uint32_t kind);
 void size_buffer(int host);
-int accept_host(int listener, int flags);
 void refresh(struct file *file);
 void settle(void);
-/* descriptors.c */
-void finish_close(struct process *process, pid_t caller);
+
 void sync_table(struct process *process);
 long install(struct call *call, uint32_t fd, int from, bool is_fixed, bool closes_on_exec);
-/* sockets.c */
-void write_address(const struct call *call, uint64_t at, uint64_t length_at,
-                   const struct file *file);
 
 typedef long handler(struct call *call);
 handler serve_socket, serve_bind, serve_listen, serve_connect, serve_accept, serve_shutdown,
     serve_name, serve_get_option, serve_set_option, serve_send, serve_recv, serve_close, serve_dup,
     serve_fcntl, serve_fork, serve_change, serve_limit;
-
-#endif
