@@ -22,8 +22,8 @@ static handler *const socket_handlers[MOST_NUMBERS] = {
     [SYS_sendto] = serve_send, [SYS_sendmsg] = serve_send, [SYS_bind] = serve_bind,
     [SYS_listen] = serve_listen, [SYS_connect] = serve_connect, [SYS_accept] = serve_accept,
     [SYS_accept4] = serve_accept, [SYS_shutdown] = serve_shutdown, [SYS_getsockname] = serve_name,
-    [SYS_getpeername] = serve_name, [SYS_getsockopt] = serve_get_option,
-    [SYS_setsockopt] = serve_set_option, [SYS_ioctl] = refuse, [SYS_sendfile] = refuse,
+    [SYS_getpeername] = serve_name, [SYS_getsockopt] = serve_option,
+    [SYS_setsockopt] = serve_option, [SYS_ioctl] = refuse, [SYS_sendfile] = refuse,
     [SYS_sendmmsg] = refuse, [SYS_recvmmsg] = refuse,
 };
 static handler *const handlers[MOST_NUMBERS] = {

@@ -66,10 +66,21 @@ const char *received_text(int64_t answer, const uint32_t *fds, const struct scm_
     return text;
 }
 
-/* Does a slice, or a whole pass. What this frees, only a cycle kept. */
-static void do_pass(bool in_slices) {
+/* Does one slice or one pass, if one is due. What this frees, only a cycle kept. Returns whether more
+ * is to do. */
+bool collect(void) {
     struct scm_finished over = {0, 0};
+    uint64_t in_flight = 0, pass = 0;
     char text[64];
+    scm_total(&engine, &in_flight);
+    if (!is_running) {
+        bool is_due = is_collection_due && in_flight > 0 && options.collector != COLLECT_NEVER;
+        is_collection_due = false;
+        if (!is_due) return false;
+        if (options.collector == COLLECT_SLICES && scm_begin(&engine, &pass) == 0)
+            record(0, (int64_t)pass, "started %ld", "begin");
+    }
+    bool in_slices = is_running || pass > 0;
     int64_t answer = in_slices ? scm_slice(&engine, options.budget, &over)
                                : scm_pass(&engine, &over);
     snprintf(text, sizeof text, "pass %lu reclaimed %lu", over.pass, over.reclaimed);
@@ -83,21 +94,6 @@ static void do_pass(bool in_slices) {
     is_collecting = true;
     settle();
     is_collecting = false;
-}
-
-/* Does one slice or one pass, if one is due. Returns whether more is to do. */
-bool collect(void) {
-    uint64_t in_flight = 0, pass = 0;
-    bool in_slices = options.collector == COLLECT_SLICES;
-    scm_total(&engine, &in_flight);
-    if (!is_running) {
-        bool is_due = is_collection_due && in_flight > 0 && options.collector != COLLECT_NEVER;
-        is_collection_due = false;
-        if (!is_due) return false;
-        if (in_slices && scm_begin(&engine, &pass) == 0)
-            record(0, (int64_t)pass, "started %ld", "begin");
-    }
-    do_pass(in_slices);
     return is_running || is_collection_due;
 }
 
@@ -123,8 +119,7 @@ void inspect(void) {
     counts.failed_checks += record(0, answer, text, "check") < 0;
 }
 
-/* Counts a file that is freed, by who sent it last: where a pass frees it, only a cycle kept it. The
- * last row is for all senders for whom there is no other. */
+/* Counts a file that the collector frees, by who sent it last. The last row is for all others. */
 void note_leak(const struct file *file) {
     int i = 0;
     while (i < MOST_LEAKS - 1 && leaks[i].count[0] + leaks[i].count[1] > 0 &&
@@ -144,8 +139,8 @@ void conclude(void) {
     FILE *file = options.graph != NULL ? fopen(options.graph, "w") : NULL;
     if (file != NULL) fwrite(picture, 1, length < MOST_PICTURE ? length : MOST_PICTURE, file);
     if (options.graph != NULL && (file == NULL || fclose(file) != 0)) perror(options.graph);
-    while (is_running) do_pass(true);
-    do_pass(false);
+    options.collector = COLLECT_PASSES;
+    do is_collection_due = true; while (collect());
     scm_live(&engine, &live);
     fprintf(stderr, "unixbox: %lu calls, %lu layer calls, %lu passes, %lu sockets reclaimed\n"
             "unixbox: %lu other numbers, %lu wrong counts, %lu failed checks, %lu lost messages, "

@@ -80,10 +80,12 @@ struct process *process_of(pid_t tid) {
 /* Returns a child of this thread that no process is bound to, or 0. */
 static pid_t unbound_child(pid_t parent, pid_t tid) {
     char path[64], text[4096], *at = text;
+    struct status status;
     snprintf(path, sizeof path, "/proc/%d/task/%d/children", parent, tid);
     read_text(path, text, sizeof text);
     pid_t pid = (pid_t)strtol(at, &at, 10);
-    while (pid > 0 && process_by(pid) != NULL) pid = (pid_t)strtol(at, &at, 10);
+    while (pid > 0 && (process_by(pid) != NULL || !read_status(pid, &status)))
+        pid = (pid_t)strtol(at, &at, 10);
     return pid;
 }
 
@@ -94,9 +96,8 @@ void bind_children(pid_t caller) {
         next = it->next;
         if (it->tgid != 0) continue;
         bool has_parent = process_by(it->parent) != NULL;
-        pid_t heir = has_parent ? it->parent : getpid();
-        pid_t pid = unbound_child(it->parent, it->forker);
-        if (pid == 0) pid = unbound_child(heir, heir);
+        pid_t pid = has_parent ? unbound_child(it->parent, it->forker)
+                               : unbound_child(getpid(), getpid());
         if (pid > 0)
             bind_process(it, pid);
         else if (it->forker == caller || !has_parent)

@@ -134,23 +134,20 @@ long serve_name(struct call *call) {
     return 0;
 }
 
-/* getsockopt(2) of SO_PEERCRED. */
-long serve_get_option(struct call *call) {
+/* getsockopt(2) and setsockopt(2). Placeholders keep their buffers; three options are not served. */
+long serve_option(struct call *call) {
     const struct file *peer = call->file->listens ? call->file : peer_of(call->file);
     struct ucred owner = peer != NULL ? peer->owner : (struct ucred){0, (uid_t)-1, (gid_t)-1};
     socklen_t room = 0;
-    if (call->args[2] != SO_PEERCRED) return KERNEL_DOES_IT;
+    switch (call->args[2]) {
+    case SO_SNDBUF: case SO_SNDBUFFORCE: return call->number == SYS_setsockopt ? 0 : KERNEL_DOES_IT;
+    case SO_PEEK_OFF: case SO_RCVTIMEO: case SO_SNDTIMEO: return -ENOPROTOOPT;
+    case SO_PEERCRED: break;
+    default: return KERNEL_DOES_IT;
+    }
     read_memory(call, &room, call->args[4], sizeof room);
     if (room != sizeof owner) return -EINVAL;
     return write_memory(call, call->args[3], &owner, sizeof owner) ? 0 : -EFAULT;
-}
-
-/* setsockopt(2): placeholders keep their buffers, and three options are not served. */
-long serve_set_option(struct call *call) {
-    uint64_t option = call->args[2];
-    bool is_missing = option == SO_PEEK_OFF || option == SO_RCVTIMEO || option == SO_SNDTIMEO;
-    if (is_missing) return -ENOPROTOOPT;
-    return option == SO_SNDBUF || option == SO_SNDBUFFORCE ? 0 : KERNEL_DOES_IT;
 }
 
 long serve_listen(struct call *call) {

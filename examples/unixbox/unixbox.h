@@ -144,5 +144,5 @@ long install(struct call *call, uint32_t fd, int from, bool is_fixed, bool close
 
 typedef long handler(struct call *call);
 handler serve_socket, serve_bind, serve_listen, serve_connect, serve_accept, serve_shutdown,
-    serve_name, serve_get_option, serve_set_option, serve_send, serve_recv, serve_close, serve_dup,
+    serve_name, serve_option, serve_send, serve_recv, serve_close, serve_dup,
     serve_fcntl, serve_fork, serve_change, serve_limit;
