@@ -99,7 +99,7 @@ static void answer(struct call *call, long result) {
     if (call->raises_sigpipe && result == -EPIPE)
         syscall(SYS_tgkill, call->process->tgid, call->tid, SIGPIPE);
     if (ioctl(notifications, SECCOMP_IOCTL_NOTIF_SEND, &response) < 0)
-        counts.lost_messages += call->has_taken;
+        counts.lost += call->has_taken;
     free(call);
 }
 

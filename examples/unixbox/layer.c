@@ -1,5 +1,6 @@
 /* Steps of the layer: their record, the collector, and what is found. */
 #include "unixbox.h"
+#include <err.h>
 #include <stdarg.h>
 
 enum { MOST_PICTURE = 1 << 24, MOST_LEAKS = 64 };
@@ -138,22 +139,20 @@ void conclude(void) {
     size_t length = (size_t)scm_graph(&engine, picture, sizeof picture);
     FILE *file = options.graph != NULL ? fopen(options.graph, "w") : NULL;
     if (file != NULL) fwrite(picture, 1, length < MOST_PICTURE ? length : MOST_PICTURE, file);
-    if (options.graph != NULL && (file == NULL || fclose(file) != 0)) perror(options.graph);
+    if (options.graph != NULL && (file == NULL || fclose(file) != 0)) warn("%s", options.graph);
     options.collector = COLLECT_PASSES;
     do is_collection_due = true; while (collect());
     scm_live(&engine, &live);
     fprintf(stderr, "unixbox: %lu calls, %lu layer calls, %lu passes, %lu sockets reclaimed\n"
             "unixbox: %lu other numbers, %lu wrong counts, %lu failed checks, %lu lost messages, "
             "%lu files left\n", counts.calls, counts.steps, counts.passes, counts.reclaimed,
-            counts.other_numbers, counts.wrong_counts, counts.failed_checks, counts.lost_messages,
-            live);
+            counts.other_numbers, counts.wrong_counts, counts.failed_checks, counts.lost, live);
     if (counts.reclaimed > 0)
         fprintf(stderr, "unixbox: leaked in cycles, by who sent it last (0: nobody)\n"
                 "    pid program          sockets  plain files\n");
-    for (const struct leak *it = leaks; it < leaks + MOST_LEAKS; it++)
-        if (it->count[0] + it->count[1] > 0)
-            fprintf(stderr, "%7d %-16s %7lu  %11lu\n", it->sender.user.pid, it->sender.name,
-                    it->count[0], it->count[1]);
+    for (const struct leak *it = leaks; it < leaks + MOST_LEAKS && it->count[0] + it->count[1]; it++)
+        fprintf(stderr, "%7d %-16s %7lu  %11lu\n", it->sender.user.pid, it->sender.name,
+                it->count[0], it->count[1]);
     scm_engine_free(&engine);
-    if (script != NULL && (fclose(script) != 0 || fclose(replies) != 0)) perror("unixbox");
+    if (script != NULL && (fclose(script) != 0 || fclose(replies) != 0)) warn("the script");
 }

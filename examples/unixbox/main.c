@@ -1,21 +1,17 @@
 /* The supervisor's start, its loop, and its end. */
 #include "unixbox.h"
+#include <err.h>
 #include <getopt.h>
 #include <pthread.h>
 #include <sys/epoll.h>
 #include <sys/wait.h>
 
-enum { TICK = 10, TICK_CALLS = 64, MOST_EVENTS = 64 }; /* A tick is in milliseconds. */
+enum { TICK = 10, TICK_CALLS = 64, MOST_EVENTS = 64, FAILED = 125 }; /* Ticks: milliseconds. */
 
 struct options options = {.collector = COLLECT_SLICES, .budget = 4};
 int watches;
 static pid_t program;
 static int status, ends[2]; /* The program's status, and the pipe from the receiver. */
-
-static void fail(const char *what) {
-    fprintf(stderr, "unixbox: %s: %s\n", what, strerror(errno));
-    exit(125);
-}
 
 /* Reads the options. Returns the place of the program. */
 static int read_options(int argc, char **argv) {
@@ -32,15 +28,14 @@ static int read_options(int argc, char **argv) {
         if (option == 'g') options.collector = i;
         if (option == 'b') options.budget = (uint32_t)strtoul(optarg, NULL, 10);
         if (option == 'p') options.graph = optarg;
-        if (option == 's' && !open_script(optarg)) fail(optarg);
+        if (option == 's' && !open_script(optarg)) err(FAILED, "%s", optarg);
         fits = fits && option != '?' && i < 3;
     }
     if (fits && options.budget >= 1 && options.budget <= SCM_MAX_BUDGET && optind < argc)
         return optind;
-    fputs("usage: unixbox [--gc slice|pass|none] [--budget FILES] [--verify] [--check]\n"
-          "               [--script FILE] [--graph FILE] [--dgram] [--oob] [--procnet]\n"
-          "               PROGRAM [ARGUMENT ..]\n", stderr);
-    exit(125);
+    fputs("usage: unixbox [--gc slice|pass|none] [--budget FILES] [--verify] [--check] [--dgram]\n"
+          "  [--oob] [--procnet] [--script FILE] [--graph FILE] PROGRAM [ARGUMENT ..]\n", stderr);
+    exit(FAILED);
 }
 
 /* Starts the program, with the filter, in a process that waits for a signal to continue. */
@@ -52,17 +47,16 @@ static void start_program(char **arguments) {
     if (program == 0) {
         prctl(PR_SET_PDEATHSIG, SIGKILL);
         setrlimit(RLIMIT_NOFILE, &limit);
-        if (install_filter() != listener) fail("seccomp notification is refused");
+        if (install_filter() != listener) err(FAILED, "seccomp notification is refused");
         raise(SIGSTOP);
         execvp(arguments[0], arguments);
-        perror(arguments[0]);
-        _exit(127);
+        err(127, "%s", arguments[0]);
     }
-    if (program < 0 || waitpid(program, &status, WUNTRACED) < 0) fail("fork");
+    if (program < 0 || waitpid(program, &status, WUNTRACED) < 0) err(FAILED, "fork");
     if (WIFEXITED(status)) exit(WEXITSTATUS(status));
     int pidfd = (int)syscall(SYS_pidfd_open, program, 0);
     notifications = (int)syscall(SYS_pidfd_getfd, pidfd, listener, 0);
-    if (notifications < 0) fail("pidfd_getfd");
+    if (notifications < 0) err(FAILED, "pidfd_getfd");
 }
 
 /* Makes the engine and the supervisor's surroundings. */
@@ -82,7 +76,7 @@ static void prepare(void) {
         scm_tell_changed(&engine) < 0 || pipe2(ends, O_CLOEXEC) < 0 ||
         epoll_ctl(watches, EPOLL_CTL_ADD, ends[0], &event) < 0 ||
         pthread_create(&thread, NULL, receive, &ends[1]) != 0)
-        fail("the start");
+        err(FAILED, "the start");
 }
 
 static void reap(int flags) {
@@ -105,10 +99,7 @@ static bool serve_call(bool is_busy) {
     settle();
     if (has_call && read(ends[0], &notif, sizeof notif) <= 0) return false;
     if (has_call) run_call(&notif);
-    if (count == 0 || counts.calls % TICK_CALLS == 0) { /* Not all that happens is a call. */
-        bind_children(0);
-        wake(EVERYONE);
-    }
+    if (count == 0 || counts.calls % TICK_CALLS == 0) wake(EVERYONE); /* A signal may have come. */
     rerun_woken_calls();
     return true;
 }

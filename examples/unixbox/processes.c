@@ -69,14 +69,6 @@ void forget_process(struct process *process) {
     free(process);
 }
 
-/* Returns the process of a thread, or NULL where it is over. */
-struct process *process_of(pid_t tid) {
-    struct status status;
-    bind_children(tid);
-    struct process *process = process_by(tid);
-    return process == NULL && read_status(tid, &status) ? process_by(status.user.pid) : process;
-}
-
 /* Returns a child of this thread that no process is bound to, or 0. */
 static pid_t unbound_child(pid_t parent, pid_t tid) {
     char path[64], text[4096], *at = text;
@@ -91,7 +83,7 @@ static pid_t unbound_child(pid_t parent, pid_t tid) {
 
 /* Binds children that have made no call yet. One whose parent is over is the supervisor's. One that
  * is not there goes, once its fork(2) is over: its forker is the caller of another call. */
-void bind_children(pid_t caller) {
+static void bind_children(pid_t caller) {
     for (struct process *it = processes, *next; it != NULL; it = next) {
         next = it->next;
         if (it->tgid != 0) continue;
@@ -103,6 +95,14 @@ void bind_children(pid_t caller) {
         else if (it->forker == caller || !has_parent)
             forget_process(it);
     }
+}
+
+/* Returns the process of a thread, or NULL where it is over. */
+struct process *process_of(pid_t tid) {
+    struct status status;
+    bind_children(tid);
+    struct process *process = process_by(tid);
+    return process == NULL && read_status(tid, &status) ? process_by(status.user.pid) : process;
 }
 
 /* The layer forks at once; the host's number is bound when the child is there. */

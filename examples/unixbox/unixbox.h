@@ -39,10 +39,9 @@ extern struct options {
     const char *graph;                     /* Where the picture goes. */
 } options;
 
+/* Of calls of programs and of the layer; of descriptors for which these chose other numbers; .. */
 extern struct counts {
-    uint64_t calls, steps, passes, reclaimed; /* Calls of programs, and of the layer. */
-    uint64_t other_numbers; /* Descriptors for which kernel and layer chose other numbers. */
-    uint64_t wrong_counts, failed_checks, lost_messages;
+    uint64_t calls, steps, passes, reclaimed, other_numbers, wrong_counts, failed_checks, lost;
 } counts;
 
 /* What /proc/PID/status says of a thread and its process. */
@@ -126,7 +125,6 @@ bool write_memory(const struct call *call, uint64_t to, const void *from, size_t
 bool read_status(pid_t tid, struct status *out);
 struct process *add_process(uint32_t pid, pid_t parent, pid_t forker);
 void bind_process(struct process *process, pid_t tgid);
-void bind_children(pid_t caller);
 struct process *process_of(pid_t tid);
 void forget_process(struct process *process);
 
