@@ -33,7 +33,7 @@ static handler *const handlers[MOST_NUMBERS] = {
     [SYS_clone] = serve_fork, [SYS_clone3] = serve_fork, [SYS_execve] = serve_change,
     [SYS_execveat] = serve_change, [SYS_setuid] = serve_change, [SYS_setgid] = serve_change,
     [SYS_setreuid] = serve_change, [SYS_setregid] = serve_change, [SYS_setresuid] = serve_change,
-    [SYS_setresgid] = serve_change, [SYS_setrlimit] = serve_limit,
+    [SYS_setresgid] = serve_change, [SYS_setrlimit] = refuse,
     [SYS_prlimit64] = serve_limit, [SYS_io_uring_setup] = refuse, [SYS_io_setup] = refuse,
     [SYS_preadv2] = refuse, [SYS_pwritev2] = refuse, [SYS_splice] = refuse,
     [SYS_close_range] = refuse, [SYS_pidfd_getfd] = refuse,
@@ -117,7 +117,7 @@ static void run(struct call *call) {
         if (serve == NULL) serve = handlers[call->number];
         if (serve != NULL) result = serve(call);
     }
-    settle(); /* Before its caller goes on, placeholders are ready for what the call left. */
+    settle(false); /* Before its caller goes on, placeholders are ready for what the call left. */
     if (result != CALL_WAITS) {
         answer(call, result);
         return;
@@ -130,10 +130,9 @@ static void run(struct call *call) {
 void run_call(const struct seccomp_notif *notif) {
     struct call *call = allocate(sizeof *call);
     *call = (struct call){.id = notif->id, .number = notif->data.nr, .tid = (pid_t)notif->pid,
-                          .process = process_of((pid_t)notif->pid)};
+                          .fd = (uint32_t)notif->data.args[0], .process = process_of(notif->pid)};
     memcpy(call->args, notif->data.args, sizeof call->args);
     call->pid = call->process != NULL ? call->process->pid : 0;
-    call->fd = (uint32_t)call->args[0];
     counts.calls++;
     run(call);
 }
@@ -152,8 +151,7 @@ void wake(uint64_t ino) {
         it->is_woken |= ino == EVERYONE || it->waits_for == ino || it->waits_for == EVERYONE;
 }
 
-/* Serves woken calls once more. Those whose threads have a signal or are over end: the kernel makes
- * EINTR of a restart, or repeats the call. */
+/* Serves woken calls once more. Where a signal has come, the kernel makes EINTR of a restart. */
 void rerun_woken_calls(void) {
     for (struct call **at = &waiting; *at != NULL;) {
         struct call *call = *at;

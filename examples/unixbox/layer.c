@@ -14,7 +14,7 @@ static struct leak {
 scm_engine engine = SCM_ENGINE_INIT;
 struct counts counts;
 bool is_collection_due;
-static bool is_running, is_collecting;
+static bool is_running;
 static FILE *script, *replies;
 
 /* Opens the script, and the file of its replies. */
@@ -26,8 +26,7 @@ bool open_script(const char *path) {
     return script != NULL && replies != NULL && fprintf(script, "version 2\n") > 0;
 }
 
-/* Counts a step of a process (0: of none), and writes its line and its reply, which may have the
- * answer in it. Returns the answer, or a negative errno. */
+/* Records a step of a process (0: of none), and returns its answer, or a negative errno. */
 long record(uint32_t pid, int64_t answer, const char *reply, const char *line, ...) {
     static const int errors[] = { /* In the order of enum scm_error. */
         0, EBADF, ENOTSOCK, EINVAL, EMFILE, ENFILE, EAGAIN, EMSGSIZE, ETOOMANYREFS, ENOBUFS,
@@ -67,8 +66,7 @@ const char *received_text(int64_t answer, const uint32_t *fds, const struct scm_
     return text;
 }
 
-/* Does one slice or one pass, if one is due. What this frees, only a cycle kept. Returns whether more
- * is to do. */
+/* Does one slice or one pass, if one is due. Returns whether more is to do. */
 bool collect(void) {
     struct scm_finished over = {0, 0};
     uint64_t in_flight = 0, pass = 0;
@@ -92,14 +90,11 @@ bool collect(void) {
     is_running = answer == 1;
     counts.passes += answer == 0;
     counts.reclaimed += over.reclaimed;
-    is_collecting = true;
-    settle();
-    is_collecting = false;
+    settle(true);
     return is_running || is_collection_due;
 }
 
-/* Recounts after a step, as the options say: the places of each file from all tables, and all by
- * the layer. */
+/* Recounts after a step: the places of each file from all tables, and all by the layer. */
 void inspect(void) {
     struct scm_checked checked = {0, 0};
     uint64_t ino, refs, inflight;
@@ -127,7 +122,6 @@ void note_leak(const struct file *file) {
            (leaks[i].sender.user.pid != file->sender.user.pid ||
             strcmp(leaks[i].sender.name, file->sender.name) != 0))
         i++;
-    if (!is_collecting) return;
     leaks[i].sender = file->sender;
     leaks[i].count[file->kind == SCM_PLAIN]++;
 }
@@ -150,9 +144,9 @@ void conclude(void) {
     if (counts.reclaimed > 0)
         fprintf(stderr, "unixbox: leaked in cycles, by who sent it last (0: nobody)\n"
                 "    pid program          sockets  plain files\n");
-    for (const struct leak *it = leaks; it < leaks + MOST_LEAKS && it->count[0] + it->count[1]; it++)
-        fprintf(stderr, "%7d %-16s %7lu  %11lu\n", it->sender.user.pid, it->sender.name,
-                it->count[0], it->count[1]);
+    for (int i = 0; i < MOST_LEAKS && leaks[i].count[0] + leaks[i].count[1] > 0; i++)
+        fprintf(stderr, "%7d %-16s %7lu  %11lu\n", leaks[i].sender.user.pid, leaks[i].sender.name,
+                leaks[i].count[0], leaks[i].count[1]);
     scm_engine_free(&engine);
     if (script != NULL && (fclose(script) != 0 || fclose(replies) != 0)) warn("the script");
 }

@@ -96,7 +96,7 @@ static bool serve_call(bool is_busy) {
         if (events[i].data.ptr != NULL) forget_process(events[i].data.ptr);
     }
     if (count > has_call) reap(WNOHANG);
-    settle();
+    settle(false);
     if (has_call && read(ends[0], &notif, sizeof notif) <= 0) return false;
     if (has_call) run_call(&notif);
     if (count == 0 || counts.calls % TICK_CALLS == 0) wake(EVERYONE); /* A signal may have come. */
@@ -118,7 +118,7 @@ int main(int argc, char **argv) {
         rerun_woken_calls();
     }
     while (processes != NULL) forget_process(processes);
-    settle();
+    settle(false);
     reap(0);
     conclude();
     return status;

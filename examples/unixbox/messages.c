@@ -1,5 +1,4 @@
-/* Messages: what sends and receives carry, from the caller's memory to the layer and back. A call
- * moves at most SCM_MAX_BYTES; what is longer goes on with the next call. */
+/* Messages: what sends and receives carry. A call moves at most SCM_MAX_BYTES of a stream. */
 #include "unixbox.h"
 
 /* UIO_MAXIOV, and net.core.optmem_max. */
@@ -10,10 +9,9 @@ static struct message {
     uint64_t at; /* Where the caller's msghdr is. 0: it has none. */
     struct msghdr header;
     struct iovec parts[MOST_PARTS];
-    size_t total, length; /* Of all parts, and how much of it is moved. */
+    size_t total, length, fd_count; /* Bytes of all parts, and how many are moved. */
     int flags;
     uint32_t fds[SCM_MAX_FD];
-    size_t fd_count;
     struct ucred user; /* SCM_CREDENTIALS */
 } message;
 static uint8_t bytes[SCM_MAX_BYTES];
@@ -71,7 +69,6 @@ static long read_control(const struct call *call) {
 long serve_send(struct call *call) {
     struct process *process = call->process;
     struct file *peer = peer_of(call->file);
-    struct iovec here = {bytes, 0};
     bool is_stream = call->file->kind == SCM_STREAM;
     long result = read_message(call);
     if (result == 0) result = read_control(call);
@@ -84,7 +81,7 @@ long serve_send(struct call *call) {
     if (message.fd_count > 0) sync_table(process);
     if (message.fd_count + message.total == 0 && is_stream) /* The layer has no such message. */
         return peer != NULL ? 0 : -ENOTCONN;
-    here.iov_len = message.length;
+    struct iovec here = {bytes, message.length};
     result = process_vm_readv(call->tid, &here, 1, message.parts, message.header.msg_iovlen, 0);
     if (result != (long)message.length) return -EFAULT;
     int64_t answer = scm_send(&engine, call->pid, call->fd, bytes, message.length, message.fds,

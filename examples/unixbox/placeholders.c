@@ -1,8 +1,6 @@
-/* Files of the layer, and the sockets of the host that stand for them in tables of programs.
- *
- * Placeholders are connected as the layer's sockets are, so the host knows whose peer is gone. A
- * message of the layer is a byte between two placeholders. Their buffers are so large that one is
- * writable exactly if the layer's queue is not full. */
+/* Placeholders: sockets of the host that stand for the layer's in tables of programs. They are
+ * connected as the layer's are, and each message is a byte between two. Their buffers are so large
+ * that one is writable exactly if the layer's queue is not full. */
 #include "unixbox.h"
 
 enum { TOKEN = 768 }; /* What a byte takes of a buffer (SIOCOUTQ). */
@@ -41,7 +39,6 @@ struct file *add_file(uint64_t ino, uint32_t kind) {
 
 static void free_file(struct file *file) {
     struct file **at = &files[file->ino % FILE_SLOTS];
-    note_leak(file);
     while (*at != file) at = &(*at)->next;
     *at = file->next;
     close(file->host);
@@ -68,12 +65,16 @@ void refresh(struct file *file) {
         file->tokens--;
 }
 
-/* Frees what the last step freed, and refreshes and wakes what it changed. */
-void settle(void) {
+/* Frees what the last step freed, and refreshes and wakes what it changed. What the collector frees,
+ * only a cycle kept. */
+void settle(bool is_collected) {
     static uint64_t inos[SCM_MAX_FILES];
     int64_t freed = scm_released(&engine, inos, SCM_MAX_FILES);
-    for (int64_t i = 0; i < freed; i++)
-        if (file_at(inos[i]) != NULL) free_file(file_at(inos[i]));
+    for (int64_t i = 0; i < freed; i++) {
+        struct file *file = file_at(inos[i]);
+        if (file != NULL && is_collected) note_leak(file);
+        if (file != NULL) free_file(file);
+    }
     int64_t changed = scm_changed(&engine, inos, SCM_MAX_FILES);
     for (int64_t i = 0; i < changed; i++) {
         struct file *file = file_at(inos[i]), *peer = file != NULL ? peer_of(file) : NULL;

@@ -126,15 +126,12 @@ long serve_change(struct call *call) {
     return KERNEL_DOES_IT;
 }
 
-/* setrlimit(2) and prlimit(2) of RLIMIT_NOFILE. */
+/* prlimit(2) of RLIMIT_NOFILE, which is also what setrlimit(3) calls. */
 long serve_limit(struct call *call) {
-    bool has_target = call->number == SYS_prlimit64;
-    struct process *process = call->process;
+    struct process *process = call->args[0] ? process_by((pid_t)call->args[0]) : call->process;
     struct rlimit limit = {0, 0};
-    if (has_target && call->args[0] != 0) process = process_by((pid_t)call->args[0]);
-    if (call->args[has_target] != RLIMIT_NOFILE || process == NULL) return KERNEL_DOES_IT;
-    if (!read_memory(call, &limit, call->args[has_target ? 2 : 1], sizeof limit))
-        return KERNEL_DOES_IT; /* It only asks. */
+    bool is_set = read_memory(call, &limit, call->args[2], sizeof limit);
+    if (call->args[1] != RLIMIT_NOFILE || process == NULL || !is_set) return KERNEL_DOES_IT;
     if (limit.rlim_cur > SCM_MAX_NOFILE) return -EPERM;
     sync_table(process); /* The layer opens nothing above a lower limit. */
     int64_t answer = scm_limit(&engine, process->pid, (uint32_t)limit.rlim_cur);

@@ -134,7 +134,7 @@ long serve_name(struct call *call) {
     return 0;
 }
 
-/* getsockopt(2) and setsockopt(2). Placeholders keep their buffers; three options are not served. */
+/* getsockopt(2) and setsockopt(2). Placeholders keep their buffers. */
 long serve_option(struct call *call) {
     const struct file *peer = call->file->listens ? call->file : peer_of(call->file);
     struct ucred owner = peer != NULL ? peer->owner : (struct ucred){0, (uid_t)-1, (gid_t)-1};

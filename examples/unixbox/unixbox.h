@@ -135,7 +135,7 @@ struct file *peer_of(const struct file *file);
 struct file *add_file(uint64_t ino, uint32_t kind);
 void size_buffer(int host);
 void refresh(struct file *file);
-void settle(void);
+void settle(bool is_collected);
 
 void sync_table(struct process *process);
 long install(struct call *call, uint32_t fd, int from, bool is_fixed, bool closes_on_exec);
