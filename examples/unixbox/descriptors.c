@@ -53,8 +53,8 @@ void sync_table(struct process *process) {
         if (is_open[fd] && file_of(process, fd) == NULL) open_at(process, fd);
 }
 
-/* Puts a descriptor that the layer has opened into the caller's table: at its number, or at the one
- * that the kernel chooses, which should be the same. A plain file is copied from `from`. */
+/* Puts what the layer has opened at `fd` there in the caller's table. Where the number is not fixed,
+ * the kernel chooses it, and should choose this one. A plain file is copied from `from`. */
 long install(struct call *call, uint32_t fd, int from, bool is_fixed, bool closes_on_exec) {
     const struct file *file = file_of(call->process, fd);
     bool is_ours = file != NULL && file->host >= 0;

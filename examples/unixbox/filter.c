@@ -39,27 +39,21 @@ static handler *const handlers[MOST_NUMBERS] = {
     [SYS_close_range] = refuse, [SYS_pidfd_getfd] = refuse,
 };
 
-static void add(struct sock_fprog *to, uint16_t code, size_t value, uint8_t if_so, uint8_t if_not) {
-    to->filter[to->len++] = (struct sock_filter){code, if_so, if_not, (uint32_t)value};
-}
-
 /* Installs the filter in this process. Returns the descriptor of its notifications. */
 int install_filter(void) {
-    const uint16_t load = BPF_LD | BPF_W | BPF_ABS, equal = BPF_JMP | BPF_JEQ | BPF_K;
-    static struct sock_filter code[2 * MOST_NUMBERS];
-    struct sock_fprog all = {0, code};
-    /* The other ABIs of the processor have numbers of their own. */
-    add(&all, load, offsetof(struct seccomp_data, arch), 0, 0);
-    add(&all, equal, AUDIT_ARCH_X86_64, 0, 2);
-    add(&all, load, offsetof(struct seccomp_data, nr), 0, 0);
-    add(&all, BPF_JMP | BPF_JGE | BPF_K, MOST_NUMBERS, 0, 1);
-    add(&all, BPF_RET, SECCOMP_RET_ERRNO | ENOSYS, 0, 0);
-    for (size_t number = 0; number < MOST_NUMBERS; number++) {
+    static struct sock_filter code[2 * MOST_NUMBERS] = {
+        BPF_STMT(BPF_LD | BPF_W | BPF_ABS, offsetof(struct seccomp_data, arch)),
+        BPF_JUMP(BPF_JMP | BPF_JEQ | BPF_K, AUDIT_ARCH_X86_64, 0, 2),
+        BPF_STMT(BPF_LD | BPF_W | BPF_ABS, offsetof(struct seccomp_data, nr)),
+        BPF_JUMP(BPF_JMP | BPF_JGE | BPF_K, MOST_NUMBERS, 0, 1), /* A number of another ABI. */
+        BPF_STMT(BPF_RET | BPF_K, SECCOMP_RET_ERRNO | ENOSYS)};
+    struct sock_fprog all = {5, code};
+    for (unsigned number = 0; number < MOST_NUMBERS; number++) {
         if (socket_handlers[number] == NULL && handlers[number] == NULL) continue;
-        add(&all, equal, number, 0, 1);
-        add(&all, BPF_RET, SECCOMP_RET_USER_NOTIF, 0, 0);
+        code[all.len++] = (struct sock_filter)BPF_JUMP(BPF_JMP | BPF_JEQ | BPF_K, number, 0, 1);
+        code[all.len++] = (struct sock_filter)BPF_STMT(BPF_RET | BPF_K, SECCOMP_RET_USER_NOTIF);
     }
-    add(&all, BPF_RET, SECCOMP_RET_ALLOW, 0, 0);
+    code[all.len++] = (struct sock_filter)BPF_STMT(BPF_RET | BPF_K, SECCOMP_RET_ALLOW);
     if (geteuid() != 0) prctl(PR_SET_NO_NEW_PRIVS, 1, 0, 0, 0);
     return (int)syscall(SYS_seccomp, SECCOMP_SET_MODE_FILTER, SECCOMP_FILTER_FLAG_NEW_LISTENER |
                         SECCOMP_FILTER_FLAG_WAIT_KILLABLE_RECV, &all);

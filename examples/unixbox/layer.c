@@ -148,5 +148,4 @@ void conclude(void) {
         fprintf(stderr, "%7d %-16s %7lu  %11lu\n", leaks[i].sender.user.pid, leaks[i].sender.name,
                 leaks[i].count[0], leaks[i].count[1]);
     scm_engine_free(&engine);
-    if (script != NULL && (fclose(script) != 0 || fclose(replies) != 0)) warn("the script");
 }

@@ -6,7 +6,7 @@
 #include <sys/epoll.h>
 #include <sys/wait.h>
 
-enum { TICK = 10, TICK_CALLS = 64, MOST_EVENTS = 64, FAILED = 125 }; /* Ticks: milliseconds. */
+enum { TICK = 10, TICK_CALLS = 64, FAILED = 125 }; /* A tick is in milliseconds. */
 
 struct options options = {.collector = COLLECT_SLICES, .budget = 4};
 int watches;
@@ -87,18 +87,17 @@ static void reap(int flags) {
 
 /* Waits for a call, and serves it. Returns false where no program is left. */
 static bool serve_call(bool is_busy) {
-    struct epoll_event events[MOST_EVENTS];
+    struct epoll_event event;
     struct seccomp_notif notif;
-    bool has_call = false;
-    int count = epoll_wait(watches, events, MOST_EVENTS, is_busy ? 0 : TICK);
-    for (int i = 0; i < count; i++) {
-        has_call |= events[i].data.ptr == NULL;
-        if (events[i].data.ptr != NULL) forget_process(events[i].data.ptr);
+    int count = epoll_wait(watches, &event, 1, is_busy ? 0 : TICK);
+    if (count == 1 && event.data.ptr != NULL) {
+        forget_process(event.data.ptr);
+        reap(WNOHANG);
+        settle(false);
+    } else if (count == 1) {
+        if (read(ends[0], &notif, sizeof notif) <= 0) return false;
+        run_call(&notif);
     }
-    if (count > has_call) reap(WNOHANG);
-    settle(false);
-    if (has_call && read(ends[0], &notif, sizeof notif) <= 0) return false;
-    if (has_call) run_call(&notif);
     if (count == 0 || counts.calls % TICK_CALLS == 0) wake(EVERYONE); /* A signal may have come. */
     rerun_woken_calls();
     return true;

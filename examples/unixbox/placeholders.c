@@ -65,8 +65,7 @@ void refresh(struct file *file) {
         file->tokens--;
 }
 
-/* Frees what the last step freed, and refreshes and wakes what it changed. What the collector frees,
- * only a cycle kept. */
+/* Frees what the last step freed, or collected, and refreshes and wakes what it changed. */
 void settle(bool is_collected) {
     static uint64_t inos[SCM_MAX_FILES];
     int64_t freed = scm_released(&engine, inos, SCM_MAX_FILES);

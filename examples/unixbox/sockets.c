@@ -20,16 +20,12 @@ long serve_socket(struct call *call) {
     bool is_pair = call->number == SYS_socketpair, is_stream = type == SOCK_STREAM;
     uint32_t kind = is_stream ? SCM_STREAM : SCM_SEQPACKET;
     struct scm_pair pair = {0, 0};
-    char text[64];
+    char text[32];
     if (call->args[0] != AF_UNIX) return KERNEL_DOES_IT;
     bool is_packet = type == SOCK_SEQPACKET || (type == SOCK_DGRAM && is_pair && options.datagrams);
     if ((call->args[2] & ~(uint64_t)PF_UNIX) || (!is_stream && !is_packet)) return -EPROTONOSUPPORT;
-    if (options.networks) { /* There /proc/net/protocols counts the placeholders. */
-        snprintf(text, sizeof text, "/proc/%d/ns/net", call->tid);
-        int network = open(text, O_RDONLY | O_CLOEXEC);
-        setns(network, CLONE_NEWNET);
-        close(network);
-    }
+    /* There /proc/net/protocols counts the placeholders. */
+    if (options.networks) setns(call->process->pidfd, CLONE_NEWNET);
     sync_table(call->process);
     int64_t answer = is_pair ? scm_pair(&engine, call->pid, kind, &pair)
                              : scm_socket(&engine, call->pid, kind);

@@ -27,8 +27,7 @@
 #include <sys/un.h>
 #include <unistd.h>
 
-/* What a handler answers beside a value or a negative errno: the kernel does the call itself; the
- * call waits, and is served again after a change. */
+/* Beside a value or a negative errno a handler answers: the kernel does it, or it waits. */
 enum { KERNEL_DOES_IT = -100001, CALL_WAITS = -100002, EVERYONE = 0, FILE_SLOTS = 4096 };
 
 extern struct options {
