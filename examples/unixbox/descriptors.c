@@ -53,16 +53,15 @@ void sync_table(struct process *process) {
         if (is_open[fd] && file_of(process, fd) == NULL) open_at(process, fd);
 }
 
-/* Puts what the layer has opened at `fd` there in the caller's table. Where the number is not fixed,
+/* Puts what the layer has opened at `fd` there in the caller's table. If the number is not fixed,
  * the kernel chooses it, and should choose this one. A plain file is copied from `from`. */
 long install(struct call *call, uint32_t fd, int from, bool is_fixed, bool closes_on_exec) {
     const struct file *file = file_of(call->process, fd);
     bool is_ours = file != NULL && file->host >= 0;
     int host = is_ours ? file->host : (int)syscall(SYS_pidfd_getfd, call->process->pidfd, from, 0);
     struct seccomp_notif_addfd descriptor = {
-        .id = call->id, .srcfd = (uint32_t)host, .newfd = is_fixed ? fd : 0,
-        .flags = is_fixed ? SECCOMP_ADDFD_FLAG_SETFD : 0,
-        .newfd_flags = closes_on_exec ? O_CLOEXEC : 0};
+        .id = call->id, .flags = is_fixed ? SECCOMP_ADDFD_FLAG_SETFD : 0, .srcfd = (uint32_t)host,
+        .newfd = is_fixed ? fd : 0, .newfd_flags = closes_on_exec ? O_CLOEXEC : 0};
     int number = ioctl(notifications, SECCOMP_IOCTL_NOTIF_ADDFD, &descriptor), error = errno;
     if (!is_ours) close(host);
     if (number == (int)fd) return number;

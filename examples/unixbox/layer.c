@@ -1,6 +1,5 @@
 /* Steps of the layer: their record, the collector, and what is found. */
 #include "unixbox.h"
-#include <err.h>
 #include <stdarg.h>
 
 enum { MOST_PICTURE = 1 << 24, MOST_LEAKS = 64 };
@@ -133,7 +132,7 @@ void conclude(void) {
     size_t length = (size_t)scm_graph(&engine, picture, sizeof picture);
     FILE *file = options.graph != NULL ? fopen(options.graph, "w") : NULL;
     if (file != NULL) fwrite(picture, 1, length < MOST_PICTURE ? length : MOST_PICTURE, file);
-    if (options.graph != NULL && (file == NULL || fclose(file) != 0)) warn("%s", options.graph);
+    if (options.graph != NULL && (file == NULL || fclose(file) != 0)) perror(options.graph);
     options.collector = COLLECT_PASSES;
     do is_collection_due = true; while (collect());
     scm_live(&engine, &live);

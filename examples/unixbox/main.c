@@ -10,8 +10,7 @@ enum { TICK = 10, TICK_CALLS = 64, FAILED = 125 }; /* A tick is in milliseconds.
 
 struct options options = {.collector = COLLECT_SLICES, .budget = 4};
 int watches;
-static pid_t program;
-static int status, ends[2]; /* The program's status, and the pipe from the receiver. */
+static int program, status, ends[2]; /* Its pid and its status; the pipe from the receiver. */
 
 /* Reads the options. Returns the place of the program. */
 static int read_options(int argc, char **argv) {
@@ -71,9 +70,9 @@ static void prepare(void) {
     signal(SIGQUIT, SIG_IGN);
     umask(0);
     prctl(PR_SET_CHILD_SUBREAPER, 1);
-    watches = epoll_create1(EPOLL_CLOEXEC);
     if (scm_engine_new(&engine) < 0 || scm_tell_released(&engine) < 0 ||
         scm_tell_changed(&engine) < 0 || pipe2(ends, O_CLOEXEC) < 0 ||
+        (watches = epoll_create1(EPOLL_CLOEXEC)) < 0 ||
         epoll_ctl(watches, EPOLL_CTL_ADD, ends[0], &event) < 0 ||
         pthread_create(&thread, NULL, receive, &ends[1]) != 0)
         err(FAILED, "the start");

@@ -1,8 +1,7 @@
 /* Messages: what sends and receives carry. A call moves at most SCM_MAX_BYTES of a stream. */
 #include "unixbox.h"
 
-/* UIO_MAXIOV, and net.core.optmem_max. */
-enum { MOST_PARTS = 1024, MOST_CONTROL = 20480, USER_SPACE = CMSG_SPACE(sizeof(struct ucred)) };
+enum { MOST_PARTS = IOV_MAX, MOST_CONTROL = 20480, USER_SPACE = CMSG_SPACE(sizeof(struct ucred)) };
 
 /* What a call sends, or has room for. */
 static struct message {
@@ -122,9 +121,8 @@ static long take(struct call *call, size_t room) {
         if (fd >= 0) message.fds[message.fd_count++] = (uint32_t)fd;
     }
     struct iovec here = {bytes, (size_t)result};
-    ssize_t written =
-        process_vm_writev(call->tid, &here, 1, message.parts, message.header.msg_iovlen, 0);
-    return written == result ? result : -EFAULT;
+    unsigned long count = message.header.msg_iovlen;
+    return process_vm_writev(call->tid, &here, 1, message.parts, count, 0) == result ? result : -EFAULT;
 }
 
 /* Adds a control message, if there is room for it. Returns the length of all. */

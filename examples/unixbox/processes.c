@@ -81,8 +81,7 @@ static pid_t unbound_child(pid_t parent, pid_t tid) {
     return pid;
 }
 
-/* Binds children that have made no call yet. One whose parent is over is the supervisor's. One that
- * is not there goes, once its fork(2) is over: its forker is the caller of another call. */
+/* Binds children that are there. The others go where their fork(2) has failed: it is over. */
 static void bind_children(pid_t caller) {
     for (struct process *it = processes, *next; it != NULL; it = next) {
         next = it->next;

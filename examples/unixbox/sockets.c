@@ -24,8 +24,7 @@ long serve_socket(struct call *call) {
     if (call->args[0] != AF_UNIX) return KERNEL_DOES_IT;
     bool is_packet = type == SOCK_SEQPACKET || (type == SOCK_DGRAM && is_pair && options.datagrams);
     if ((call->args[2] & ~(uint64_t)PF_UNIX) || (!is_stream && !is_packet)) return -EPROTONOSUPPORT;
-    /* There /proc/net/protocols counts the placeholders. */
-    if (options.networks) setns(call->process->pidfd, CLONE_NEWNET);
+    if (options.networks) setns(call->process->pidfd, CLONE_NEWNET); /* To be counted there. */
     sync_table(call->process);
     int64_t answer = is_pair ? scm_pair(&engine, call->pid, kind, &pair)
                              : scm_socket(&engine, call->pid, kind);
@@ -210,9 +209,8 @@ long serve_accept(struct call *call) {
 
 /* The layer has no shutdown(2): sends and receives look at what is kept here. */
 long serve_shutdown(struct call *call) {
-    if (call->args[1] > SHUT_RDWR) return -EINVAL;
+    if (shutdown(call->file->host, (int)call->args[1]) < 0) return -errno;
     call->file->shut |= (int)call->args[1] + 1;
-    shutdown(call->file->host, (int)call->args[1]);
     wake(EVERYONE);
     return 0;
 }

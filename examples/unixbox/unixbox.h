@@ -57,8 +57,7 @@ struct process {
     pid_t parent, forker; /* The process and the thread that forked it. */
     int pidfd;
     DIR *table;           /* /proc/TGID/fd */
-    bool has_threads;
-    bool has_changed;     /* An exec(2) or a setuid(2) may have made the rest out of date. */
+    bool has_threads, has_changed; /* exec(2) or setuid(2) has made the rest out of date. */
     struct status status;
     pid_t closer;         /* The thread whose close(2) the kernel may not have done yet, or 0. */
     struct process *next;
