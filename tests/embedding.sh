@@ -5,9 +5,9 @@
 # The header and the bindings are compared with the sources, and these with the library's exports;
 # the examples are built, run, and compared with their stored output, and the samples of pages with
 # the examples; bad numbers and want of memory are tried; a program owns pipes that stand behind
-# files; seeded walks go through the calls, beside the plain engine. What needs a tool that is not
-# there is left out, with a line that says so. The first that fails ends the script; else its last
-# line is 'N passed, 0 failed'.
+# files; seeded walks go through the calls, beside the plain engine; programs see under unixbox what
+# they see natively. What needs a tool that is not there is left out, with a line that says so. The
+# first that fails ends the script; else its last line is 'N passed, 0 failed'.
 set -eu
 if [ $# -ne 1 ]; then
     echo "usage: tests/embedding.sh out/libscmgc.a (make embed builds the library, and calls this)" >&2
@@ -117,6 +117,14 @@ if has "$cc" && has python3; then
     passes "the walks through C passed"
 else
     echo "embedding: no C compiler or no python3, so no walk was played through C"
+fi
+
+if has "$cc" && has python3; then
+    tests/unixbox.sh "$library" > "$room/unixbox"
+    cat "$room/unixbox"
+    passed=$((passed + $(grep -c ' passed' "$room/unixbox" || true)))
+else
+    echo "embedding: no C compiler or no python3, so no program was run under unixbox"
 fi
 
 if has cargo; then

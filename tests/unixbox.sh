@@ -1,0 +1,77 @@
+#!/bin/sh
+# Whether programs see under unixbox what they see natively.
+# usage: tests/unixbox.sh out/libscmgc.a
+#
+# Builds examples/unixbox, and runs the programs of tests/unixbox natively and under it: by slices of
+# one file and by whole passes, with all places recounted and checked after each step. The outputs
+# are the same, and unixbox finds nothing wrong. With the collector off, the check of a cycle fails.
+# All of it is done again with unixbox under the sanitizers. What cannot be run here is left out,
+# with a line that says so. The first that fails ends the script.
+set -eu
+if [ $# -ne 1 ] || [ ! -f "$1" ]; then
+    echo "usage: tests/unixbox.sh out/libscmgc.a (make lib builds it)" >&2
+    exit 2
+fi
+library=$(cd "$(dirname "$1")" && pwd)/$(basename "$1")
+cd "$(dirname "$0")/.."
+room=$(mktemp -d)
+trap 'rm -rf "$room"' EXIT
+chmod 755 "$room"
+cc=${CC:-cc}
+checks="-std=c11 -O1 -g -Wall -Wextra -Werror"
+sanitizers="-fsanitize=address,undefined -fno-sanitize-recover=all"
+# ETOOMANYREFS spares the privileged, so the program in C runs as a user of its own.
+user=
+if [ "$(id -u)" = 0 ]; then
+    user="setpriv --reuid $((60000 + $$ % 5000)) --regid 60000 --clear-groups"
+fi
+
+fails() {
+    echo "unixbox: $1" >&2
+    cat "$room/layer" "$room/said" >&2
+    exit 1
+}
+
+# Runs a command natively and under this build of unixbox, as this user.
+same() {
+    box=$1
+    as=$2
+    shift 2
+    timeout 60 $as "$@" > "$room/native"
+    for how in "--gc=slice --budget=1" --gc=pass; do
+        timeout 60 $as "$box" $how --verify --check -- "$@" > "$room/layer" 2> "$room/said" ||
+            fails "status $?: $box $how -- $*"
+        diff "$room/native" "$room/layer" || fails "not as natively: $box $how -- $*"
+        case $(grep "files left" "$room/said") in
+        "" | *[1-9]*) fails "unixbox finds something wrong: $box $how -- $*" ;;
+        esac
+    done
+}
+
+# Runs the programs under a build of unixbox.
+plays() {
+    same "$1" "$user" "$room/descriptors"
+    same "$1" "" python3 tests/unixbox/descriptors.py
+    if timeout 60 "$1" --gc=none -- "$room/descriptors" cycle > "$room/layer" 2> "$room/said"; then
+        fails "a cycle is freed with --gc=none"
+    fi
+    echo "unixbox: the programs passed$2"
+}
+
+for name in notification descriptors cost; do
+    $cc $checks -pedantic "tests/unixbox/$name.c" -o "$room/$name"
+done
+if ! $user "$room/notification" 2> "$room/why"; then
+    echo "unixbox: no seccomp notification ($(cat "$room/why")), so nothing was run under it"
+    exit 0
+fi
+build="$cc $checks -Iinclude examples/unixbox/*.c $library -lpthread"
+$build -o "$room/unixbox"
+plays "$room/unixbox" ""
+echo 'int main(void) { return 0; }' > "$room/empty.c"
+if $cc $sanitizers "$room/empty.c" -o "$room/empty" 2> "$room/why" && "$room/empty"; then
+    $build $sanitizers -o "$room/unixbox_checked"
+    plays "$room/unixbox_checked" ", with unixbox under the sanitizers"
+else
+    echo "unixbox: no address sanitizer, so unixbox was not run under one"
+fi
