@@ -13,6 +13,7 @@
 # make embed     compare its header with it, and run the programs in C and Rust that use it
 # make bench-c   nanoseconds for each call from C, over two of the workloads
 # make unixbox   build the supervisor that runs programs on the library: out/unixbox
+# make clients   run test suites of others natively and under unixbox, and compare: 40 minutes
 # make install   put the program, the library and its header below PREFIX
 # make clean     remove all that was built, and the work that checks keep
 
@@ -90,6 +91,10 @@ archive:
 embed: lib
 	tests/embedding.sh $(LIBRARY)
 
+clients: unixbox
+	$(need) python3
+	tools/clients
+
 bench-c: lib
 	$(need) $(firstword $(CC))
 	$(CC) -O2 -Iinclude examples/c/bench.c $(LIBRARY) -o out/bench_c
@@ -111,4 +116,4 @@ clean:
 	rm -rf out crates/*/out
 
 .DEFAULT_GOAL := help
-.PHONY: help try build run check bindings test walks stress bench lib archive embed bench-c unixbox install clean
+.PHONY: help try build run check bindings test walks stress bench lib archive embed clients bench-c unixbox install clean
