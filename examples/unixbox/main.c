@@ -63,6 +63,9 @@ static void prepare(void) {
     struct epoll_event event = {.events = EPOLLIN, .data.ptr = NULL};
     struct rlimit limit;
     pthread_t thread;
+    /* A struct sched_attr: slices of 0.1 ms, so that both threads run soon after they are woken. */
+    syscall(SYS_sched_setattr, 0, (uint32_t[12]){[0] = 48, [6] = 100000}, 0);
+    ioctl(notifications, SECCOMP_IOW(4, __u64), 1UL); /* SECCOMP_USER_NOTIF_FD_SYNC_WAKE_UP */
     getrlimit(RLIMIT_NOFILE, &limit);
     limit.rlim_cur = limit.rlim_max;
     setrlimit(RLIMIT_NOFILE, &limit);

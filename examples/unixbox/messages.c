@@ -3,7 +3,6 @@
 
 enum { MOST_PARTS = IOV_MAX, MOST_CONTROL = 20480, USER_SPACE = CMSG_SPACE(sizeof(struct ucred)) };
 
-/* What a call sends, or has room for. */
 static struct message {
     uint64_t at; /* Where the caller's msghdr is. 0: it has none. */
     struct msghdr header;
@@ -122,7 +121,8 @@ static long take(struct call *call, size_t room) {
     }
     struct iovec here = {bytes, (size_t)result};
     unsigned long count = message.header.msg_iovlen;
-    return process_vm_writev(call->tid, &here, 1, message.parts, count, 0) == result ? result : -EFAULT;
+    if (process_vm_writev(call->tid, &here, 1, message.parts, count, 0) != result) return -EFAULT;
+    return result;
 }
 
 /* Adds a control message, if there is room for it. Returns the length of all. */

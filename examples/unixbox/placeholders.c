@@ -32,6 +32,7 @@ struct file *peer_of(const struct file *file) {
 }
 
 struct file *add_file(uint64_t ino, uint32_t kind) {
+    if (file_at(ino) != NULL) return file_at(ino);
     struct file *file = allocate(sizeof *file), **slot = &files[ino % FILE_SLOTS];
     *file = (struct file){.ino = ino, .kind = kind, .host = -1, .path = -1, .next = *slot};
     return *slot = file;

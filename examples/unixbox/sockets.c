@@ -14,7 +14,6 @@ static long add_socket(struct call *call, uint32_t fd, uint32_t kind, int host) 
     return install(call, fd, -1, false, (int)call->args[1] & SOCK_CLOEXEC);
 }
 
-/* socket(2) and socketpair(2). */
 long serve_socket(struct call *call) {
     int flags = (int)call->args[1] | SOCK_CLOEXEC, type = flags & 0xf, hosts[2] = {-1, -1};
     bool is_pair = call->number == SYS_socketpair, is_stream = type == SOCK_STREAM;
@@ -121,7 +120,6 @@ long serve_bind(struct call *call) {
     return result;
 }
 
-/* getsockname(2) and getpeername(2). */
 long serve_name(struct call *call) {
     const struct file *file = call->number == SYS_getsockname ? call->file : peer_of(call->file);
     if (file == NULL) return -ENOTCONN;
@@ -189,7 +187,6 @@ long serve_connect(struct call *call) {
     return 0;
 }
 
-/* accept(2) and accept4(2). */
 long serve_accept(struct call *call) {
     int flags = call->number == SYS_accept4 ? (int)call->args[3] : 0;
     struct pollfd ask = {call->file->host, POLLIN, 0};

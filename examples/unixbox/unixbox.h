@@ -38,8 +38,7 @@ extern struct options {
     const char *graph;                     /* Where the picture goes. */
 } options;
 
-/* Of calls of programs and of the layer; of descriptors for which these chose other numbers; .. */
-extern struct counts {
+extern struct counts { /* Of calls of programs, of calls of the layer (steps), and so on. */
     uint64_t calls, steps, passes, reclaimed, other_numbers, wrong_counts, failed_checks, lost;
 } counts;
 
@@ -82,7 +81,6 @@ struct file {
     struct file *next;
 };
 
-/* A call of a program. */
 struct call {
     uint64_t id, args[6];
     int number;
