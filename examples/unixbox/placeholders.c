@@ -42,8 +42,8 @@ static void free_file(struct file *file) {
     struct file **at = &files[file->ino % FILE_SLOTS];
     while (*at != file) at = &(*at)->next;
     *at = file->next;
-    close(file->host);
-    close(file->path);
+    if (file->host >= 0) close(file->host);
+    if (file->path >= 0) close(file->path);
     free(file);
 }
 
