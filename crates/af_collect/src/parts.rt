@@ -68,8 +68,8 @@ impl Parts {
         }
     }
 
-    /// Drops the first place of a file that nothing holds. Where marking goes on, what stood there is
-    /// marked first.
+    /// Drops the first place of a file that nothing holds. Where marking goes on, what stood there
+    /// is marked first.
     #[inline(always)]
     fn drop_place(&mut self, file: &FileRef)
         requires kept { AreKept self.old }
@@ -171,8 +171,8 @@ impl Parts {
         self.tally(unmarked);
     }
 
-    /// Counts a socket that is gone as reclaimed, where sweeping goes on and the pass had still to mark
-    /// it.
+    /// Counts a socket that is gone as reclaimed, where sweeping goes on and the pass had still to
+    /// mark it.
     #[inline(always)]
     fn tally(&mut self, unmarked: bool)
         requires { is_sweeping self.old.progress.stage ≡ true → self.old.progress.reclaimed ≤ MAX_FILES }

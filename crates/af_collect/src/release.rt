@@ -95,8 +95,8 @@ impl Holdings {
         self.files.next_waiting()
     }
 
-    /// A file that no place holds, and that holds nothing itself, goes, and its peer hangs up. Whether it
-    /// was a socket that the pass had still to mark.
+    /// A file that no place holds, and that holds nothing itself, goes, and its peer hangs up. Whether
+    /// it was a socket that the pass had still to mark.
     pub(crate) fn take_away(&mut self, file: &FileRef) -> bool
         requires live { IsLive self.old.world file.now }
         requires unheld { refs self.old.world file.now ≡ 0 }
@@ -109,8 +109,8 @@ impl Holdings {
     }
 }
 
-/// A file, which has nothing to receive, goes, and its peer hangs up. Whether it was a socket that the
-/// pass had still to mark.
+/// A file, which has nothing to receive, goes, and its peer hangs up. Whether it was a socket that
+/// the pass had still to mark.
 fn remove(files: &mut Files, file: &FileRef) -> bool
     requires silent { queue_in files.old.files file.now ≡ [] }
     ensures gone { (w : World) → w.files ≡ files.old.files → AreMutual w → record w { files = files.new.files } ≡ without (nat_eq file.now) w }

@@ -213,8 +213,8 @@ impl Files {
     }
 
     /// The file, which has nothing to receive, goes; of a stranger nothing. Its number is never given
-    /// again, and its name is free. Answers to whom it was connected, and whether it was a socket that
-    /// the pass had still to mark. It takes no memory.
+    /// again, and its name is free. Answers to whom it was connected, and whether it was a socket
+    /// that the pass had still to mark. It takes no memory.
     #[inline(always)]
     #[tactic(auto, using(af_mark::proofs::Listed::gone))]
     pub fn remove(&mut self, file: &FileRef) -> (Option<FileRef>, bool)
@@ -232,8 +232,8 @@ impl Files {
         }
     }
 
-    /// A file that is not grey goes, and the socket that it was is handed on. Whether the pass had still
-    /// to mark it.
+    /// A file that is not grey goes, and the socket that it was is handed on. Whether the pass had
+    /// still to mark it.
     #[inline(always)]
     #[tactic(auto, using(crate::proofs::Begun::begun))]
     fn take_out(&mut self, file: &FileRef) -> (Option<Endpoint>, bool)
