@@ -7,4 +7,5 @@ mod drives;
 mod gates;
 mod growths;
 mod limits;
+mod shared;
 mod wide;

@@ -30,10 +30,16 @@ fn is_full(book: &mut Book) -> bool {
     book.call(1, Event::Slice(1)) == Err(CallError::LogFull) && book.log().len() == ENTRIES
 }
 
-/// The log takes its last entry, and no further one.
+/// Returns whether the log is taken whole, and calls are logged again.
+fn goes_on_when_taken(book: &mut Book) -> bool {
+    book.take_log().len() == ENTRIES && fill(book, 2) && book.log().len() == 2
+}
+
+/// The log takes its last entry, and no further one until it is taken.
 fn fills_up(rt: &impl Abort, book: &mut Book) {
     assert!(rt; fill(book, ENTRIES));
     assert!(rt; is_full(book));
+    assert!(rt; goes_on_when_taken(book));
 }
 
 #[test]
