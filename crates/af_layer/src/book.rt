@@ -106,8 +106,8 @@ impl Book {
         self.log.as_slice()
     }
 
-    /// Takes the log: hands over all entries, and goes on with an empty log, which runs from the
-    /// engine as it is. It takes no memory.
+    /// Hands over all entries and empties the log, which runs from the engine as it is then. It
+    /// takes no memory.
     ///
     /// Logs that were taken one after the other are one run: [`taken_logs_are_one`].
     ///

@@ -1,4 +1,4 @@
-//! A checkpoint: an audit after which the book goes on.
+//! A checkpoint: an audit of a book that stays in use.
 ghost use Rattle.std.specs.Prelude.{◌≡◌, [], IfErr, IfOk, OnErr, OnOk};
 ghost use Rattle.af_layer.specs.Audit.{AreEmptied, HasFault, IsWhole};
 

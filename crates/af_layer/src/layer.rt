@@ -24,7 +24,7 @@ pub struct Layer {
 
 /// A book whose log was never taken: it has all that was ever done.
 ///
-/// What lies under a lock is known by its type alone, so the type says it.
+/// A contract knows of a locked value only what its type says, so the type says this.
 #[derive(Drop)]
 struct UntakenBook {
     book: Book,
