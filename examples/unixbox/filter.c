@@ -15,7 +15,7 @@ static long refuse(struct call *call) {
     return call->file != NULL ? -EINVAL : -ENOSYS;
 }
 
-/* Handlers of calls whose first argument is a socket of the layer, and of all others. */
+/* Handlers of calls whose first argument is a socket of the layer, and of other calls. */
 static handler *const socket_handlers[MOST_NUMBERS] = {
     [SYS_read] = serve_recv, [SYS_readv] = serve_recv, [SYS_recvfrom] = serve_recv,
     [SYS_recvmsg] = serve_recv, [SYS_write] = serve_send, [SYS_writev] = serve_send,
@@ -69,7 +69,8 @@ void *receive(void *out) {
         memset(&notif, 0, sizeof notif);
         if (ioctl(notifications, SECCOMP_IOCTL_NOTIF_RECV, &notif) < 0)
             poll(&ask, 1, 0); /* Whether a program is left. */
-        else if (write(*(int *)out, &notif, sizeof notif) < 0) break;
+        else if (write(*(int *)out, &notif, sizeof notif) < 0)
+            break;
     }
     close(*(int *)out);
     return NULL;

@@ -27,7 +27,7 @@
 #include <sys/un.h>
 #include <unistd.h>
 
-/* Beside a value or a negative errno a handler answers: the kernel does it, or it waits. */
+/* The first two are answers of handlers, beside a value or a negative errno. */
 enum { KERNEL_DOES_IT = -100001, CALL_WAITS = -100002, EVERYONE = 0, FILE_SLOTS = 4096 };
 
 extern struct options {
