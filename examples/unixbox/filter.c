@@ -31,10 +31,10 @@ static handler *const handlers[MOST_NUMBERS] = {
     [SYS_dup] = serve_dup, [SYS_dup2] = serve_dup, [SYS_dup3] = serve_dup,
     [SYS_fcntl] = serve_fcntl, [SYS_fork] = serve_fork, [SYS_vfork] = serve_fork,
     [SYS_clone] = serve_fork, [SYS_clone3] = serve_fork, [SYS_execve] = serve_change,
-    [SYS_execveat] = serve_change, [SYS_setuid] = serve_change, [SYS_setgid] = serve_change,
-    [SYS_setreuid] = serve_change, [SYS_setregid] = serve_change, [SYS_setresuid] = serve_change,
-    [SYS_setresgid] = serve_change, [SYS_setrlimit] = refuse,
-    [SYS_prlimit64] = serve_limit, [SYS_io_uring_setup] = refuse, [SYS_io_setup] = refuse,
+    [SYS_execveat] = serve_change, [SYS_exit_group] = serve_change, [SYS_setuid] = serve_change,
+    [SYS_setgid] = serve_change, [SYS_setreuid] = serve_change, [SYS_setregid] = serve_change,
+    [SYS_setresuid] = serve_change, [SYS_setresgid] = serve_change, [SYS_prlimit64] = serve_limit,
+    [SYS_setrlimit] = refuse, [SYS_io_uring_setup] = refuse, [SYS_io_setup] = refuse,
     [SYS_preadv2] = refuse, [SYS_pwritev2] = refuse, [SYS_splice] = refuse,
     [SYS_close_range] = refuse, [SYS_pidfd_getfd] = refuse,
 };
@@ -86,7 +86,6 @@ bool write_memory(const struct call *call, uint64_t to, const void *from, size_t
     return process_vm_writev(call->tid, &here, 1, &there, 1, 0) == (ssize_t)length;
 }
 
-/* Answers a call, and is done with it. */
 static void answer(struct call *call, long result) {
     struct seccomp_notif_resp response = {.id = call->id, .val = result >= 0 ? result : 0};
     response.flags = result == KERNEL_DOES_IT ? SECCOMP_USER_NOTIF_FLAG_CONTINUE : 0;
@@ -103,7 +102,7 @@ static void run(struct call *call) {
     struct process *process = call->process;
     struct call **end = &waiting;
     long result = process != NULL ? KERNEL_DOES_IT : -EPERM;
-    if (process != NULL) {
+    if (process != NULL && !process->is_over) {
         if (process->closer == call->tid) process->closer = 0; /* It has closed. */
         if (process->has_changed) sync_table(process);
         call->file = file_of(process, call->fd);

@@ -16,7 +16,6 @@ bool is_collection_due;
 static bool is_running;
 static FILE *script, *replies;
 
-/* Opens the script, and the file of its replies. */
 bool open_script(const char *path) {
     char name[PATH_MAX];
     snprintf(name, sizeof name, "%s.replies", path);

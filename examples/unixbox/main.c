@@ -58,7 +58,6 @@ static void start_program(char **arguments) {
     if (notifications < 0) err(FAILED, "pidfd_getfd");
 }
 
-/* Makes the engine and the supervisor's surroundings. */
 static void prepare(void) {
     struct epoll_event event = {.events = EPOLLIN, .data.ptr = NULL};
     struct rlimit limit;

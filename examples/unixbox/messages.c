@@ -156,9 +156,8 @@ static void write_header(const struct call *call, bool has_user) {
 long serve_recv(struct call *call) {
     int has_user = 0;
     long result = read_message(call);
-    if (result < 0) return result;
-    if (message.flags & (MSG_OOB | MSG_WAITALL)) return -EINVAL;
-    if (message.total == 0) return 0;
+    if (result == 0 && (message.flags & (MSG_OOB | MSG_WAITALL))) result = -EINVAL;
+    if (result < 0 || message.total == 0) return result;
     message.header.msg_flags = message.flags & MSG_CMSG_CLOEXEC;
     getsockopt(call->file->host, SOL_SOCKET, SO_PASSCRED, &has_user, &(socklen_t){sizeof has_user});
     size_t room = message.header.msg_controllen, other = CMSG_LEN(0) + (has_user ? USER_SPACE : 0);

@@ -57,10 +57,14 @@ void bind_process(struct process *process, pid_t tgid) {
         forget_process(process);
 }
 
+static void exit_process(struct process *process) {
+    if (!process->is_over) record(process->pid, scm_exit(&engine, process->pid), "ok", "exit");
+    process->is_over = is_collection_due = true;
+}
+
 void forget_process(struct process *process) {
     struct process **at = &processes;
-    record(process->pid, scm_exit(&engine, process->pid), "ok", "exit");
-    is_collection_due = true;
+    exit_process(process);
     while (*at != process) at = &(*at)->next;
     *at = process->next;
     wake(EVERYONE); /* Its calls end. */
@@ -119,9 +123,10 @@ long serve_fork(struct call *call) {
     return KERNEL_DOES_IT;
 }
 
-/* exec(2), which closes descriptors, and setuid(2) and the like. */
+/* exec(2), setuid(2) and the like, and exit_group(2), after which other threads may still call. */
 long serve_change(struct call *call) {
     call->process->has_changed = true;
+    if (call->number == SYS_exit_group) exit_process(call->process);
     return KERNEL_DOES_IT;
 }
 

@@ -95,7 +95,7 @@ static void write_address(const struct call *call, uint64_t at, uint64_t length_
 long serve_bind(struct call *call) {
     static unsigned next;
     struct name name;
-    struct status status = call->process->status;
+    struct status *status = &call->process->status;
     long result = read_name(call, &name);
     if (result < 0) return result;
     if (call->file->own.length > 0) return name.address.length == PATH_START ? 0 : -EINVAL;
@@ -105,11 +105,11 @@ long serve_bind(struct call *call) {
         hash_name(&name, call->file->kind);
     }
     if (name.path[0] != '\0') { /* Makes the socket's file for the caller. */
-        read_status(call->tid, &status);
-        if (mknod(name.path, S_IFSOCK | (0777 & ~status.umask), 0) < 0)
+        read_status(call->tid, status);
+        if (mknod(name.path, S_IFSOCK | (0777 & ~status->umask), 0) < 0)
             return errno == EEXIST ? -EADDRINUSE : -errno;
-        if (lchown(name.path, status.user.uid, status.user.gid) < 0 || stat_name(&name) < 0)
-            return -errno;
+        if (lchown(name.path, status->user.uid, status->user.gid) < 0) return -errno;
+        stat_name(&name);
         call->file->path = open(name.path, O_PATH | O_NOFOLLOW | O_CLOEXEC);
     }
     const uint8_t *key = (const uint8_t *)name.key;

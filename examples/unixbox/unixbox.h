@@ -56,7 +56,7 @@ struct process {
     pid_t parent, forker; /* The process and the thread that forked it. */
     int pidfd;
     DIR *table;           /* /proc/TGID/fd */
-    bool has_threads, has_changed; /* exec(2) or setuid(2) has made the rest out of date. */
+    bool is_over, has_threads, has_changed; /* By exec(2) or setuid(2): what follows is stale. */
     struct status status;
     pid_t closer;         /* The thread whose close(2) the kernel may not have done yet, or 0. */
     struct process *next;
