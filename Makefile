@@ -13,7 +13,7 @@
 # make embed     compare its header with it, and run the programs in C and Rust that use it
 # make bench-c   nanoseconds for each call from C, over two of the workloads
 # make unixbox   build the supervisor that runs programs on the library: out/unixbox
-# make clients   run test suites of others natively and under unixbox, and compare: 40 minutes
+# make clients   run test suites of others natively and under unixbox, and compare: half an hour
 # make install   put the program, the library and its header below PREFIX
 # make clean     remove all that was built, and the work that checks keep
 
