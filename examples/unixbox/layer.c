@@ -129,6 +129,7 @@ void conclude(void) {
     static uint8_t picture[MOST_PICTURE];
     uint64_t live = 0;
     size_t length = (size_t)scm_graph(&engine, picture, sizeof picture);
+    umask(options.mask);
     FILE *file = options.graph != NULL ? fopen(options.graph, "w") : NULL;
     if (file != NULL) fwrite(picture, 1, length < MOST_PICTURE ? length : MOST_PICTURE, file);
     if (options.graph != NULL && (file == NULL || fclose(file) != 0)) perror(options.graph);

@@ -70,7 +70,7 @@ static void prepare(void) {
     setrlimit(RLIMIT_NOFILE, &limit);
     signal(SIGINT, SIG_IGN); /* The program answers the terminal. */
     signal(SIGQUIT, SIG_IGN);
-    umask(0);
+    options.mask = umask(0); /* A pathname gets the mode that its program asks for. */
     prctl(PR_SET_CHILD_SUBREAPER, 1);
     if (scm_engine_new(&engine) < 0 || scm_tell_released(&engine) < 0 ||
         scm_tell_changed(&engine) < 0 || pipe2(ends, O_CLOEXEC) < 0 ||

@@ -36,6 +36,7 @@ extern struct options {
     int verifies, checks;                  /* Whether all is recounted after each step. */
     int datagrams, oob, networks;          /* What is served beside the usual. */
     const char *graph;                     /* Where the picture goes. */
+    mode_t mask;                           /* That of the supervisor, umask(2). */
 } options;
 
 extern struct counts { /* Of calls of programs, of calls of the layer (steps), and so on. */
