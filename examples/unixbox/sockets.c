@@ -167,7 +167,8 @@ long serve_connect(struct call *call) {
     uint64_t inos[4];
     long result = read_name(call, &name);
     if (result == 0 && name.address.length == PATH_START) result = -EINVAL;
-    if (result == 0 && name.path[0] != '\0') result = stat_name(&name);
+    if (result == 0 && name.path[0] != '\0')
+        result = access(name.path, W_OK) < 0 ? -errno : stat_name(&name);
     if (result < 0) return result;
     const uint8_t *key = (const uint8_t *)name.key;
     int64_t answer = scm_connect(&engine, call->pid, call->fd, key, strlen(name.key));
