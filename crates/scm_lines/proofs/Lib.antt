@@ -3,6 +3,10 @@ pub mod WordLemmas
 pub mod PayloadLemmas
 pub mod AttachedLemmas
 pub mod Choices
+pub mod FittingLemmas
+pub mod FormsFit
+pub mod VersionsFit
+pub mod LinesFit
 pub mod NumberLemmas
 pub mod PayloadSays
 pub mod AttachedSays

@@ -95,7 +95,7 @@ is_comment_of [] = false
 is_comment_of (word ∷ words) = begins_comment word
 
 -- a comment is known by its first word
-comment_by_word : (bytes : List ℕ) → is_comment bytes ≡ is_comment_of (words_of bytes)
+pub comment_by_word : (bytes : List ℕ) → is_comment bytes ≡ is_comment_of (words_of bytes)
 comment_by_word [] = refl
 comment_by_word (b ∷ bytes) = by_blank (is_blank b) (comment_by_word bytes)
   where

@@ -10,3 +10,4 @@ pub mod Lines
 pub mod Says
 pub mod Versions
 pub mod Fault
+pub mod Fitting

@@ -44,6 +44,11 @@ abbrev pub no_words : List (List ℕ) → Bool
 no_words [] = true
 no_words (word ∷ words) = false
 
+-- The word, where there is just one.
+abbrev pub only_of : List (List ℕ) → Option (List ℕ)
+only_of [] = None
+only_of (word ∷ words) = if no_words words then Some word else None
+
 -- What a line stands for where no word is left over.
 abbrev pub at_end : {A : Type 0} → A → List (List ℕ) → Option A
 at_end said words = if no_words words then Some said else None
@@ -59,10 +64,14 @@ abbrev pub word_as : {A : Type 0} → (List ℕ → Option A) → List (List ℕ
 word_as read [] = None
 word_as read (word ∷ words) = option_map (λ found. (found, words)) (read word)
 
+-- A byte from 0x20 to 0x7E, or a tab.
+abbrev pub is_printable : ℕ → Bool
+is_printable b = (nat_le 32 b && nat_le b 126) || (b == 9)
+
 -- No byte but those from 0x20 to 0x7E and the tab.
 abbrev pub all_printable : List ℕ → Bool
 all_printable [] = true
-all_printable (b ∷ bytes) = ((nat_le 32 b && nat_le b 126) || (b == 9)) && all_printable bytes
+all_printable (b ∷ bytes) = is_printable b && all_printable bytes
 
 -- The first word begins with #.
 abbrev pub is_comment : List ℕ → Bool

@@ -14,10 +14,10 @@ use af_base::names::Fd;
 use std::alloc::{AllocError, Global};
 
 /// The most descriptors that one item stands for, and all items of a line together.
-const MAX_ATTACHED: usize = 1024;
+pub const MAX_ATTACHED: usize = 1024;
 
 /// Where the first `*` stands.
-fn star_at(word: &[u8]) -> Option<usize>
+pub fn star_at(word: &[u8]) -> Option<usize>
     ensures value { result ≡ position (λ b. b == 42) word.now }
     ensures within { IfSome result (λ i. i < length word.now) }
 {
@@ -25,7 +25,7 @@ fn star_at(word: &[u8]) -> Option<usize>
 }
 
 /// A descriptor, and how often it is named.
-fn item(word: &[u8]) -> Option<(Fd, usize)>
+pub fn item(word: &[u8]) -> Option<(Fd, usize)>
     ensures value { option_map (λ found. replicate found.1 found.0) result ≡ item_of word.now }
     ensures few { IfSome result (λ found. found.1 ≤ MAX_ATTACHED) }
 {

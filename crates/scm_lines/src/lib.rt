@@ -2,21 +2,28 @@
 //!
 //! A caller wants [`read_in`], [`Version`] and [`Line`]. The line is cut into words (`words`), the
 //! first word says which form it has (`keywords`), and each form reads the words that are left
-//! (`forms`, with `numbers`, `payload` and `attached`). `specs/Says.antt` has the table of forms;
+//! (`forms`, with `numbers`, `payload` and `attached`). [`why`] says of another line what does not fit,
+//! and where (`explain`, with `misfit`). `specs/Says.antt` has the table of forms;
 //! [`laws`] says that what is read is the table.
 #![tactic(auto)]
 
 mod attached;
+mod explain;
 mod fault;
 mod forms;
 mod keywords;
 pub mod laws;
 mod line;
+mod misfit;
 mod numbers;
 mod payload;
+mod reason;
 mod version;
 mod words;
 
+pub use explain::why;
 pub use fault::LineFault;
 pub use line::{Line, MAX_LINE, Report, line_of};
+pub use reason::{Reason, Unreadable};
 pub use version::{Version, read_in};
+pub use words::only_word;

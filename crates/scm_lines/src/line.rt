@@ -39,7 +39,7 @@ pub enum Line {
 }
 
 /// Whether a line with this first word is a comment.
-fn begins_comment(word: &[u8]) -> bool
+pub fn begins_comment(word: &[u8]) -> bool
     ensures { result ≡ begins_comment word.now }
 {
     matches!(word, [b'#', ..])

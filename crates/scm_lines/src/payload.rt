@@ -10,7 +10,7 @@ use std::alloc::Global;
 
 /// The most bytes that a word stands for: one more than a message may have, so that a script can
 /// ask for a message that is too long.
-const MAX_PAYLOAD: usize = 65_537;
+pub const MAX_PAYLOAD: usize = 65_537;
 
 /// A letter, a digit, `_`, `-` or `.`: it stands for itself.
 fn is_plain(b: u8) -> bool
@@ -33,7 +33,7 @@ fn hex_value(b: u8) -> Option<u8>
 
 /// The first byte that a word stands for, and the characters after those that spell it.
 #[inline(always)]
-fn first_byte(word: &[u8]) -> Option<(u8, &[u8])>
+pub fn first_byte(word: &[u8]) -> Option<(u8, &[u8])>
     ensures some { IfSome result (λ found.
         unescape word.now ≡ byte_before (Some found.0) (unescape found.1.now)) }
     ensures shorter { IfSome result (λ found. length found.1.now < length word.now) }

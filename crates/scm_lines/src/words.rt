@@ -1,6 +1,7 @@
 //! The words of a line, which spaces and tabs part.
-ghost use Rattle.std.specs.Prelude.{◌≡◌, ◌∷◌, ◌≤◌, ◌<◌, [], IfSome, IfNone, length, false};
-ghost use Rattle.scm_lines.specs.Words.{all_printable, is_blank, words_of, ends_word, no_words, StartsWord};
+ghost use Rattle.std.specs.Prelude.{◌≡◌, ◌∷◌, ◌≤◌, ◌<◌, ◌+◌, [], IfSome, IfNone, length, false};
+ghost use Rattle.std.specs.Option.{option_map};
+ghost use Rattle.scm_lines.specs.Words.{all_printable, is_blank, is_printable, words_of, ends_word, no_words, only_of, StartsWord};
 
 /// A space or a tab.
 fn is_blank(b: u8) -> bool
@@ -30,6 +31,7 @@ fn cut_word(bytes: &[u8]) -> (&[u8], &[u8])
     requires { ends_word bytes.now ≡ false }
     ensures word { words_of bytes.now ≡ result.0.now ∷ words_of result.1.now }
     ensures shorter { length result.1.now < length bytes.now }
+    ensures within { length result.0.now + length result.1.now ≡ length bytes.now }
 {
     let mut end = 1;
     while end < bytes.len() && !is_blank(bytes[end]) {
@@ -43,6 +45,7 @@ pub fn first_word(bytes: &[u8]) -> Option<(&[u8], &[u8])>
     ensures some { IfSome result (λ found. words_of bytes.now ≡ found.0.now ∷ words_of found.1.now) }
     ensures none { IfNone result (words_of bytes.now ≡ []) }
     ensures shorter { IfSome result (λ found. length found.1.now < length bytes.now) }
+    ensures within { IfSome result (λ found. length found.0.now + length found.1.now ≤ length bytes.now) }
 {
     let start = without_blanks(bytes);
     if start.is_empty() {
@@ -52,11 +55,26 @@ pub fn first_word(bytes: &[u8]) -> Option<(&[u8], &[u8])>
     }
 }
 
+/// Returns the word of a line that has just one.
+pub fn only_word(bytes: &[u8]) -> Option<&[u8]>
+    ensures { option_map (λ word. word.now) result ≡ only_of (words_of bytes.now) }
+{
+    let (word, rest) = first_word(bytes)?;
+    is_end(rest).then_some(word)
+}
+
 /// Whether no word is left.
 pub fn is_end(bytes: &[u8]) -> bool
     ensures { result ≡ no_words (words_of bytes.now) }
 {
     first_word(bytes).is_none()
+}
+
+/// Whether the byte is a printable ASCII character, a space or a tab.
+pub fn is_printable(b: u8) -> bool
+    ensures { result ≡ is_printable b }
+{
+    matches!(b, b' '..=b'~' | b'\t')
 }
 
 /// Whether each byte is a printable ASCII character, a space or a tab.
@@ -66,7 +84,7 @@ pub fn all_printable(bytes: &[u8]) -> bool
     // Nearly all names are, and a loop that has no early end takes many bytes at once.
     let mut all = true;
     for b in bytes {
-        all &= matches!(*b, b' '..=b'~' | b'\t');
+        all &= is_printable(*b);
     }
     all
 }

@@ -1,0 +1,20 @@
+use Rattle.std.proofs.Common.{◌∙◌, inl, inr}
+use Rattle.scm_lines.specs.Words.{words_of}
+use Rattle.scm_lines.proofs.FormsFit.{step_fits}
+use Rattle.scm_lines.specs.declared.keywords.Verb.TheVariants as verb
+use Rattle.scm_lines.proofs.explain.why_step.Goals as goal
+
+pub returns-in-Dup2-clause-exact : goal.returns-in-Dup2-clause-exact
+returns-in-Dup2-clause-exact c = elim c.in-Dup2.is [
+  | inl is ↦ rw is (c.why_words-in-Dup2.ensures.exact ∙ step_fits verb.Dup2 (words_of c.args.bytes.now))
+  | inr is ↦ rw is (c.why_words-in-Dup2.ensures.exact ∙ step_fits verb.Listen (words_of c.args.bytes.now))
+]
+
+pub returns-in-Send-clause-exact : goal.returns-in-Send-clause-exact
+returns-in-Send-clause-exact c = rw c.in-Send.is (c.why_words-in-Send.ensures.exact ∙ step_fits verb.Send (words_of c.args.bytes.now))
+
+pub returns-in-Recv-clause-exact : goal.returns-in-Recv-clause-exact
+returns-in-Recv-clause-exact c = elim c.in-Recv.is [
+  | inl is ↦ rw is (c.why_words-in-Recv.ensures.exact ∙ step_fits verb.Recv (words_of c.args.bytes.now))
+  | inr is ↦ rw is (c.why_words-in-Recv.ensures.exact ∙ step_fits verb.Peek (words_of c.args.bytes.now))
+]
