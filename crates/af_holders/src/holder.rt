@@ -1,0 +1,85 @@
+//! The places that hold files.
+
+use af_base::listing::{ListedFile, ListedTable};
+use af_base::names::{Fd, Ino, Pid};
+use std::alloc::AllocError;
+
+/// A place that holds a file.
+#[derive(Clone, Copy, Debug, PartialEq, Eq)]
+pub enum Holder {
+    /// An open descriptor of a process.
+    Descriptor(Pid, Fd),
+    /// The queue of a socket: the file travels with a message there.
+    Queue(Ino),
+    /// The backlog of a listener: the file is an embryo that waits there.
+    Backlog(Ino),
+}
+
+/// A file, and a place that holds it.
+#[derive(Clone, Copy, Debug, PartialEq, Eq)]
+pub struct Held {
+    /// The file.
+    pub ino: Ino,
+    /// The place.
+    pub by: Holder,
+}
+
+/// Appends the descriptors of a process.
+fn push_table(list: &mut Vec<Held>, table: &ListedTable) -> Result<(), AllocError> {
+    for number in &table.numbers {
+        list.push(Held {
+            ino: number.ino,
+            by: Holder::Descriptor(table.pid, number.fd),
+        })?;
+    }
+    Ok(())
+}
+
+/// Appends the files in the queue of a file.
+fn push_queue(list: &mut Vec<Held>, file: &ListedFile) -> Result<(), AllocError> {
+    let Some(socket) = &file.socket else {
+        return Ok(());
+    };
+    for message in &socket.queue {
+        for ino in &message.attached {
+            list.push(Held {
+                ino: *ino,
+                by: Holder::Queue(file.ino),
+            })?;
+        }
+    }
+    Ok(())
+}
+
+/// Appends the embryos in the backlog of a file.
+fn push_backlog(list: &mut Vec<Held>, file: &ListedFile) -> Result<(), AllocError> {
+    let Some(socket) = &file.socket else {
+        return Ok(());
+    };
+    for ino in &socket.backlog {
+        list.push(Held {
+            ino: *ino,
+            by: Holder::Backlog(file.ino),
+        })?;
+    }
+    Ok(())
+}
+
+/// Appends all places, by the number of the file that they hold. Of one file, descriptors come
+/// first, then queues, then backlogs, each by rising numbers.
+pub fn push_places(
+    list: &mut Vec<Held>,
+    tables: &[ListedTable],
+    files: &[ListedFile],
+) -> Result<(), AllocError> {
+    for table in tables {
+        push_table(list, table)?;
+    }
+    for file in files {
+        push_queue(list, file)?;
+    }
+    for file in files {
+        push_backlog(list, file)?;
+    }
+    list.sort_by_key(|held| held.ino.0)
+}
