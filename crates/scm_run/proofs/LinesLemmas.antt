@@ -33,7 +33,7 @@ first_part : (w : List ℕ) (others : List (List ℕ)) (y : List ℕ) (more : Li
 first_part w others y more e = rw e refl
 
 -- a line feed ends the first line
-line-front : (w rest : List ℕ) → NoFeed w → lines (w ++ 10 ∷ rest) ≡ strip_carriage_return w ∷ lines rest
+pub line-front : (w rest : List ℕ) → NoFeed w → lines (w ++ 10 ∷ rest) ≡ strip_carriage_return w ∷ lines rest
 line-front w rest here =
     let (y, (more, e)) = parts (λ b. b == 10) rest in
     ap lines_of_parts (slice_split_at (λ b. b == 10) w 10 rest here refl) ∙ first_part w (slice_split (λ b. b == 10) rest) y more e
@@ -106,7 +106,7 @@ is_ten : (b : ℕ) → (b == 10) ≡ true → b ≡ 10
 is_ten b e = grind (arith, common_steps)
 
 -- the bytes before the first line feed, if there is one
-first_cut : (bs : List ℕ) → (x : List ℕ) × (NoFeed x × ((bs ≡ x) ⊎ ((r : List ℕ) × (bs ≡ x ++ 10 ∷ r))))
+pub first_cut : (bs : List ℕ) → (x : List ℕ) × (NoFeed x × ((bs ≡ x) ⊎ ((r : List ℕ) × (bs ≡ x ++ 10 ∷ r))))
 first_cut [] = ([], (All-nil (λ c. (c == 10) ≡ false), inl refl))
 first_cut (b ∷ bs) = by_test (b == 10) refl (first_cut bs)
   where

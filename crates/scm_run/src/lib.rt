@@ -12,4 +12,6 @@ mod run;
 mod text;
 
 pub use fault::RunFault;
-pub use run::run_script;
+pub use line::answer;
+pub use run::{run_script, without_return};
+pub use text::MAX_REPLY_LINE;

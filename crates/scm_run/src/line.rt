@@ -48,7 +48,7 @@ fn answer_report(alloc: Global, engine: &Engine, report: Report, text: &mut Vec<
 /// Does what a line says, appends its text, and says how many events that were.
 ///
 /// There is room for the text of any reply before the step, so a step that was done has its text.
-fn answer(alloc: Global, engine: &mut Engine, says: Line, text: &mut Vec<u8>) -> u64
+pub fn answer(alloc: Global, engine: &mut Engine, says: Line, text: &mut Vec<u8>) -> u64
     requires { vec_len text.old + MAX_REPLY_LINE ≤ vec_capacity text.old }
     ensures does { (line : List ℕ) × (text.new.items ≡ text.old.items ++ line) × Does engine.old says result line engine.new }
     ensures few { result ≤ 1 }

@@ -48,8 +48,8 @@ impl Model for Run {
     ghost invariant = { λ r. r.events ≤ r.done };
 }
 
-/// The bytes without the one carriage return at their end.
-fn without_return(bytes: &[u8]) -> &[u8]
+/// Returns the bytes without the one carriage return at their end.
+pub fn without_return(bytes: &[u8]) -> &[u8]
     ensures { result.now ≡ strip_carriage_return bytes.now }
 {
     match bytes {

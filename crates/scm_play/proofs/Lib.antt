@@ -1,0 +1,3 @@
+-- Lemmas.
+pub mod Cutting
+pub mod Playing
