@@ -1,11 +1,11 @@
 # make           print this list
-# make try       play the example script unproved: a minute after a fresh clone
+# make try       show the example script with its answers, unproved: a minute after a fresh clone
 # make run       prove and build the program, and play the example script: half an hour on four cores
 # make build     prove and build the program alone: crates/scmgc/out/scmgc
 # make check     before a commit: compare events and the header, prove what has changed and all above it, play the cases
 # make bindings  write the header and the bindings for Rust, after a change of a call, an error or a limit
 # make test      the gate: proofs from nothing, tests, cases, C and Rust, walks, wrong bodies: 40 minutes on four cores
-# make walks     random scripts by the proved program, compared with a plain engine in Python
+# make walks     random scripts and edited lines by the proved program, compared with a plain engine and a reader in Python
 # make stress    each request for memory refused in turn, and the largest worlds, by the proved program and tests
 # make bench     nanoseconds for each event, over named workloads, and calls a second from threads
 # make lib       prove and build the library for C and Rust programs, with all that it needs: out/libscmgc.a
@@ -34,7 +34,7 @@ help:
 
 try:
 	$(need) rt
-	cd crates/scmgc && rt try -- run < ../../examples/cycle.script
+	cd crates/scmgc && rt try -- play < ../../examples/cycle.script
 
 # An empty script does nothing; asking for its run proves, builds and links the program.
 build:
@@ -62,6 +62,7 @@ test:
 
 walks: build
 	tools/walks
+	tools/plays
 
 # The tests stay in the folders out/ of their crates.
 stress: build

@@ -1,6 +1,6 @@
 //! A case: a name and a script.
-ghost use Rattle.std.specs.Prelude.{◌≡◌, ◌==◌};
-ghost use Rattle.std.specs.List.{after_first, before_first};
+ghost use Rattle.std.specs.Prelude.{◌≡◌, ◌==◌, codes, nat_eq};
+ghost use Rattle.std.specs.List.{after_first, before_first, starts_with};
 
 /// What stands before the name of each case: the end of a line, and the beginning of the next.
 pub const BEFORE_NAME: &str = "\n== ";
@@ -21,5 +21,12 @@ impl<'a> Case<'a> {
     {
         let (name, script) = text.split_once('\n').unwrap_or((text, ""));
         Case { name, script }
+    }
+
+    /// Returns whether the script is played, and not run: its name says so.
+    pub fn is_played(&self) -> bool
+        ensures { result ≡ starts_with nat_eq self.now.name.now (codes "played: ") }
+    {
+        self.name.starts_with("played: ")
     }
 }

@@ -1,30 +1,52 @@
 -- A command line names one task.
-use Rattle.std.proofs.Common.{◌≡◌, ℕ, List, ap, arith, codes, length, subst, sym, ◌∙◌}
+use Rattle.std.proofs.Common.{◌≡◌, ℕ, List, ap, arith, codes, get_or, length, subst, sym, ◌∙◌}
 use Rattle.std.specs.Prelude.{Option, Some, None, Result, Ok, Err, IfErr, IfNone}
 use Rattle.std.proofs.lemmas.Slice.Eq.{bytes_eq-Decides}
+use denote.Ref.{Bor}
 use Rattle.clap.specs.Words.{Row, Text, subcommand_of}
 use Rattle.scm_command.specs.Task.{IsInRange, IsRace, Names, StandsFor, whole_app}
 use Rattle.scm_command.specs.declared.task.Task.{Task}
-use Rattle.scm_command.specs.declared.task.Task.TheVariants.{Race, Run}
+use Rattle.scm_command.specs.declared.task.Task.TheVariants.{Play, Race, Run}
 
--- No subcommand stands for a run and for a race.
-run_or_race : (found : Option (Text × List Row)) → (workers steps seed budget : ℕ) → StandsFor found Run → StandsFor found (Race workers steps seed budget) → ⊥
-run_or_race None workers steps seed budget run race = run
-run_or_race (Some found) workers steps seed budget run race =
-    let is_run = (bytes_eq-Decides found.0 (codes "run")).0 run in
-    let is_race = (bytes_eq-Decides found.0 (codes "race")).0 race.0 in
-    let bad : 3 ≡ 4 = ap length (sym is_run ∙ is_race) in
-    absurd (omega (arith, bad))
+-- The name of the subcommand of a task.
+abbrev name_of : Task → Text
+name_of Run = codes "run"
+name_of (Play file) = codes "play"
+name_of (Race workers steps seed budget) = codes "race"
 
--- So no words name both.
-pub run_not_race : (words : List Text) → (workers steps seed budget : ℕ) → Names words Run → Names words (Race workers steps seed budget) → ⊥
+-- What stands for a task has its name.
+stands_name : (found : Text × List Row) (task : Task) → StandsFor (Some found) task → found.0 ≡ name_of task
+stands_name found Run run = (bytes_eq-Decides found.0 (codes "run")).0 run
+stands_name found (Play file) play = (bytes_eq-Decides found.0 (codes "play")).0 play.0
+stands_name found (Race workers steps seed budget) race = (bytes_eq-Decides found.0 (codes "race")).0 race.0
+
+-- So it stands for no task of another name.
+one_name : (found : Option (Text × List Row)) (task other : Task) → StandsFor found task → StandsFor found other → name_of task ≡ name_of other
+one_name None task other stands too = absurd stands
+one_name (Some found) task other stands too = sym (stands_name found task stands) ∙ stands_name found other too
+
+-- No words name two tasks of other names.
+one_task : (words : List Text) (task other : Task) → Names words task → Names words other → name_of task ≡ name_of other
 unfolding Names
-run_not_race words workers steps seed budget run race = run_or_race (subcommand_of whole_app words) workers steps seed budget run race
+one_task words task other names too = one_name (subcommand_of whole_app words) task other names too
+
+pub run_not_race : (words : List Text) → (workers steps seed budget : ℕ) → Names words Run → Names words (Race workers steps seed budget) → ⊥
+run_not_race words workers steps seed budget run race =
+    let bad : 3 ≡ 4 = ap length (one_task words Run (Race workers steps seed budget) run race) in absurd (omega (arith, bad))
+
+pub run_not_play : (words : List Text) (file : Option (Bor (List ℕ))) → Names words Run → Names words (Play file) → ⊥
+run_not_play words file run play =
+    let bad : 3 ≡ 4 = ap length (one_task words Run (Play file) run play) in absurd (omega (arith, bad))
+
+pub race_not_play : (words : List Text) (workers steps seed budget : ℕ) (file : Option (Bor (List ℕ))) → Names words (Race workers steps seed budget) → Names words (Play file) → ⊥
+race_not_play words workers steps seed budget file race play =
+    let bad : 114 ≡ 112 = ap (λ name. get_or name 0 0) (one_task words (Race workers steps seed budget) (Play file) race play) in absurd (omega (arith, bad))
 
 -- The numbers of a race that is asked for lie in their ranges.
 pub in_range : (found : Option (Text × List Row)) → (task : Task) → StandsFor found task → IsInRange task
 in_range None task stands = absurd stands
 in_range (Some found) Run stands = tt
+in_range (Some found) (Play file) stands = tt
 in_range (Some found) (Race workers steps seed budget) stands =
     let race = stands.1 in (
       race.workers_is.least_is,
@@ -35,12 +57,13 @@ in_range (Some found) (Race workers steps seed budget) stands =
       race.budget_is.most_is,
     )
 
--- What stands for no run and for no race stands for no task.
-pub no_task : (found : Option (Text × List Row)) (name : Text) (rows : List Row) → found ≡ Some (name, rows) → (name ≡ codes "run" → ⊥)
+-- What stands for no run, for no play and for no race stands for no task.
+pub no_task : (found : Option (Text × List Row)) (name : Text) (rows : List Row) → found ≡ Some (name, rows) → (name ≡ codes "run" → ⊥) → (name ≡ codes "play" → ⊥)
     → ((workers steps seed budget : ℕ) → IsRace rows workers steps seed budget → ⊥) → (task : Task) → StandsFor found task → ⊥
-no_task found name rows is not_run not_race task stands = from task (subst (λ f. StandsFor f task) is stands) where
+no_task found name rows is not_run not_play not_race task stands = from task (subst (λ f. StandsFor f task) is stands) where
   from : (t : Task) → StandsFor (Some (name, rows)) t → ⊥
   from Run run = not_run ((bytes_eq-Decides name (codes "run")).0 run)
+  from (Play file) play = not_play ((bytes_eq-Decides name (codes "play")).0 play.0)
   from (Race workers steps seed budget) race = not_race workers steps seed budget race.1
 
 -- What there is none for, where there is none.

@@ -1,12 +1,14 @@
 -- What the program answers.
-use Rattle.std.specs.Prelude.{◌≡◌, ◌⊎◌, ℕ, List, Bool, true, Option, Result, Ok, Err, IfOk, IfErr}
+use Rattle.std.specs.Prelude.{◌≡◌, ◌⊎◌, ℕ, List, Bool, true, Option, Some, None, Result, Ok, Err, IfOk, IfErr}
 use Rattle.std.specs.Io.KnownBytes.{Appends}
 use Rattle.scm_run.specs.Script.{RanToEnd, StopsBy, is_read_fault, is_write_fault}
 use Rattle.scm_run.specs.declared.fault.RunFault.{RunFault}
 use Rattle.scm_run.specs.declared.fault.RunFault.TheVariants as fault
+use Rattle.scm_play.specs.Played.{Played}
+use Rattle.scm_play.specs.declared.show.Style.{Style}
 use Rattle.scm_race.specs.Race.{RaceText}
 use Rattle.scm_command.specs.declared.task.Task.{Task}
-use Rattle.scm_command.specs.declared.task.Task.TheVariants.{Race, Run}
+use Rattle.scm_command.specs.declared.task.Task.TheVariants.{Play, Race, Run}
 
 -- The exit status after a fault: 2 for a line that cannot be read, else 1. This project's profile.
 abbrev pub fault_status : RunFault → ℕ
@@ -37,7 +39,13 @@ RanRace workers steps seed budget before after = (text : List ℕ) × RaceText w
 abbrev pub WroteNoRace : Bool → Option (List ℕ) → Bool → Option (List ℕ) → Type 0
 WroteNoRace had_failed before has_failed after = ((has_failed ≡ had_failed) × (after ≡ before)) ⊎ (has_failed ≡ true)
 
--- The task was done to its end: the script on the input was run, or there was a race, and nothing was read.
+-- A script was played to its end, where the reader tells it.
+abbrev pub PlayedScript : Option (List ℕ) → Option (List ℕ) → Option (List ℕ) → Type 0
+PlayedScript told before after = (style : Style) × ((input : List ℕ) → told ≡ Some input → Played style input before after)
+
+-- The task was done to its end: the script on the input was run or played; or that of a file was played, or there was a race, and the input was not read.
 abbrev pub Did : Task → Option (List ℕ) → Option (List ℕ) → Option (List ℕ) → Option (List ℕ) → Type 0
 Did Run told left before after = (events : ℕ) × RanToEnd told left before after events
+Did (Play None) told left before after = PlayedScript told before after
+Did (Play (Some path)) told left before after = left ≡ told
 Did (Race workers steps seed budget) told left before after = (left ≡ told) × RanRace workers steps seed budget before after

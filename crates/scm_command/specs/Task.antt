@@ -1,15 +1,20 @@
 -- What a command line asks for.
 use Rattle.std.specs.Prelude.{◌≡◌, ◌==◌, ◌≤◌, ℕ, List, length, Option, Some, None, Bool, true, codes, pos, ⊤}
+use Rattle.std.specs.Option.{option_map}
 use Rattle.std.specs.Str.{bytes_eq}
 use Rattle.std.specs.Str.Parse.{IsNumeral, digits_value, without_leading_plus}
-use Rattle.clap.specs.Words.{App, Row, Rule, Text, fault_of, new_app, new_rule, one_of, subcommand_of, with_rule, with_subcommand}
+use Rattle.clap.specs.Words.{App, Row, Rule, Text, fault_of, first_of, new_app, new_rule, one_of, subcommand_of, with_rule, with_subcommand}
 use Rattle.clap.specs.declared.builder.value_parser.ValueParser.TheVariants.{Signed}
 use Rattle.scm_command.specs.declared.task.Task.{Task}
-use Rattle.scm_command.specs.declared.task.Task.TheVariants.{Race, Run}
+use Rattle.scm_command.specs.declared.task.Task.TheVariants.{Play, Race, Run}
 
 -- The subcommand that runs a script, which has no options.
 abbrev pub run_app : App
 run_app = new_app (codes "run")
+
+-- The subcommand that plays a script, which may name a file.
+abbrev pub play_app : App
+play_app = with_rule (new_app (codes "play")) (new_rule (codes "FILE"))
 
 -- An option that must be given, as `--name`, and takes a number within these bounds.
 abbrev pub number_rule : Text → ℕ → ℕ → Rule
@@ -36,7 +41,7 @@ bare_app = let app = new_app (codes "scmgc") in record app {
 
 -- The whole command.
 abbrev pub whole_app : App
-whole_app = with_subcommand (with_subcommand bare_app run_app.top) race_app.top
+whole_app = with_subcommand (with_subcommand (with_subcommand bare_app run_app.top) play_app.top) race_app.top
 
 -- The value of the option of this name is the number n, within these bounds: it is what the text says that `clap` found for the option. A plus may stand before its digits.
 pub record HasNumber (rows : List Row) (name : Text) (least most n : ℕ) : Type 0 where
@@ -58,6 +63,7 @@ pub record IsRace (rows : List Row) (workers steps seed budget : ℕ) : Type 0 w
 abbrev pub StandsFor : Option (Text × List Row) → Task → Type 0
 StandsFor None task = ⊥
 StandsFor (Some found) Run = bytes_eq found.0 (codes "run") ≡ true
+StandsFor (Some found) (Play file) = (bytes_eq found.0 (codes "play") ≡ true) × (option_map (λ path. path.now) file ≡ first_of (codes "FILE") found.1)
 StandsFor (Some found) (Race workers steps seed budget) = (bytes_eq found.0 (codes "race") ≡ true) × IsRace found.1 workers steps seed budget
 
 -- The words of a command line fit the whole command: no fault is found in them. A call for help or for the version is one.
@@ -71,5 +77,6 @@ Names words task = StandsFor (subcommand_of whole_app words) task
 -- The numbers of a race lie in their ranges.
 abbrev pub IsInRange : Task → Type 0
 IsInRange Run = ⊤
+IsInRange (Play file) = ⊤
 IsInRange (Race workers steps seed budget) =
     (1 ≤ workers) × (workers ≤ 32) × (5 ≤ steps) × (steps ≤ 20000) × (1 ≤ budget) × (budget ≤ 65536)

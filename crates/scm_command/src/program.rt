@@ -1,22 +1,26 @@
 //! The whole program, over any streams.
-ghost use Rattle.std.specs.Prelude.{◌≡◌, ◌≢◌, ◌≤◌, ◌⊎◌, ℕ, IfOk, false, true, map, string_bytes};
+ghost use Rattle.std.specs.Prelude.{◌≡◌, ◌≢◌, ◌≤◌, ◌⊎◌, ℕ, List, IfOk, Some, false, true, map, string_bytes};
 ghost use Rattle.clap.specs.Words.{kind_of};
 ghost use Rattle.clap.specs.declared.error.kind.ErrorKind.TheVariants.{OutOfMemory};
 ghost use Rattle.scm_command.specs.Program.{Did, RanRace, RanScript, WroteNoRace, fault_status};
 ghost use Rattle.scm_command.specs.Task.{IsInRange, Names, fits};
 ghost use Rattle.scm_command.specs.declared.task.Task.{Task as Asked};
 ghost use Rattle.scm_command.specs.declared.task.Task.TheVariants as task;
+ghost use Rattle.scm_play.specs.Played.{Played};
 ghost use Rattle.scm_race.specs.Race.{RaceText};
 
 use crate::task::{Task, task_of};
 use clap::error::ErrorKind;
+use scm_play::{PlayFault, Style, play};
 use scm_race::{Race, RaceFault};
 use scm_run::{RunFault, run_script};
 use scm_watched::{Watched, write_whole};
 use std::alloc::Global;
 use std::convert::AsStr;
 use std::fmt::Display;
-use std::io::{Read, Write};
+use std::fs;
+use std::io::{BufReader, Read, Write};
+use std::rt::Files;
 use std::sync::Wait;
 use std::thread::Threads;
 
@@ -105,15 +109,60 @@ fn run_race<H: Threads + Wait + Sync, W: Write, E: Write>(
     }
 }
 
+/// Plays the script that a reader gives, and answers the exit status.
+fn play_script<R: Read + Drop, W: Write, E: Write>(
+    alloc: Global,
+    style: Style,
+    input: R,
+    output: &mut W,
+    errors: &mut E,
+) -> u8
+    ensures done { result ≡ 0 → (script : List ℕ) → R.remaining input ≡ Some script → Played style script (W.contents output.old) (W.contents output.new) }
+    ensures few { result ≤ 1 }
+{
+    let played = match BufReader::new(alloc, input) {
+        Ok(mut reader) => play(alloc, style, &mut reader, output),
+        Err(error) => Err(PlayFault::of_read(error)),
+    };
+    match played {
+        Ok(()) => 0,
+        Err(fault) => {
+            say(errors, &fault);
+            FAILED
+        }
+    }
+}
+
+/// Plays the script in the file of this path, and answers the exit status.
+fn play_file<H: Files, W: Write, E: Write>(
+    rt: &H,
+    alloc: Global,
+    path: &str,
+    output: &mut W,
+    errors: &mut E,
+) -> u8
+    ensures { result ≤ 1 }
+{
+    match fs::open(rt, path) {
+        Ok(file) => play_script(alloc, Style::Script, file, output, errors),
+        Err(error) => {
+            let _ = writeln!(errors, "scmgc: {path}: {error}");
+            FAILED
+        }
+    }
+}
+
 /// Does all that the program does with these words and streams, and answers its exit status: 0,
-/// or 1 for a failed run or race or where there is no memory to read the command line, or 2 for a
-/// line or a command line that cannot be read.
+/// or 1 for a failed run, play or race or where there is no memory to read the command line, or 2 for
+/// a line of a run or a command line that cannot be read.
 ///
-/// The first word is the program's name. A fault is one line on the error stream.
-pub fn program<H: Threads + Wait + Sync, S: AsStr, R: Read, W: Write, E: Write>(
+/// The first word is the program's name. A fault is one line on the error stream. The style is that of
+/// a script that is played from the input.
+pub fn program<H: Threads + Wait + Sync + Files, S: AsStr, R: Read, W: Write, E: Write>(
     rt: &H,
     alloc: Global,
     words: &[S],
+    style: Style,
     input: &mut Watched<R>,
     output: &mut Watched<W>,
     errors: &mut E,
@@ -149,6 +198,8 @@ pub fn program<H: Threads + Wait + Sync, S: AsStr, R: Read, W: Write, E: Write>(
             Ok(_) => 0,
             Err(fault) => complain(errors, &fault),
         },
+        Ok(Task::Play { file: None }) => play_script(alloc, style, input, output, errors),
+        Ok(Task::Play { file: Some(path) }) => play_file(rt, alloc, path, output, errors),
         Ok(
             Task::Race {
                 workers,

@@ -1,9 +1,11 @@
 //! The command line.
-ghost use Rattle.std.specs.Prelude.{◌≡◌, ℕ, IfNone, IfOk, IfErr, IfSome, false, true, map};
-ghost use Rattle.clap.specs.Words.{app_of, found_of, kind_of, rows_of, rule_of, subcommand_rows_of, with_rule};
+ghost use Rattle.std.specs.Prelude.{◌≡◌, ℕ, List, Option, IfNone, IfOk, IfErr, IfSome, codes, false, true, map};
+ghost use Rattle.std.specs.Borrow.{Bor};
+ghost use Rattle.std.specs.Option.{option_map};
+ghost use Rattle.clap.specs.Words.{app_of, first_of, found_of, kind_of, rows_of, rule_of, subcommand_rows_of, with_rule};
 ghost use Rattle.clap.specs.declared.builder.command.Command.TheViews.{out-Command};
 ghost use Rattle.clap.specs.declared.error.kind.ErrorKind.TheVariants.{OutOfMemory};
-ghost use Rattle.scm_command.specs.Task.{HasNumber, IsInRange, IsRace, Names, StandsFor, bare_app, fits, number_rule, race_app, run_app, whole_app};
+ghost use Rattle.scm_command.specs.Task.{HasNumber, IsInRange, IsRace, Names, StandsFor, bare_app, fits, number_rule, race_app, play_app, run_app, whole_app};
 ghost use Rattle.scm_command.specs.declared.task.Task.{Task as Asked};
 
 use af_base::limits::MAX_BUDGET;
@@ -16,9 +18,14 @@ use std::convert::AsStr;
 
 /// What the program is asked to do.
 #[derive(Clone, Copy, Debug, PartialEq, Eq)]
-pub enum Task {
+pub enum Task<'a> {
     /// Run the script on standard input.
     Run,
+    /// Play a script for its author to see.
+    Play {
+        /// The path of the script, or none for standard input.
+        file: Option<&'a str>,
+    },
     /// Let workers and a collector race on one layer.
     Race {
         /// How many workers there are, 1 to 32.
@@ -39,6 +46,14 @@ One whose first line is 'version 2' may also have
   P peek N N N   process P sees what it may receive: socket, most bytes, most descriptors
   P limit N      process P has another limit on its descriptors";
 
+/// What the help says of playing.
+const OF_PLAYING: &str =
+    "The world goes on as it was after a line that cannot be read. Besides the lines
+of a script there are
+  who     which descriptors, queues and backlogs hold each file, and what is garbage
+  graph   the world in the language of Graphviz
+  help    all lines";
+
 /// The subcommand that runs a script.
 fn run_command<'a>(alloc: Global) -> Command<'a>
     ensures shape { app_of result ≡ run_app }
@@ -47,6 +62,17 @@ fn run_command<'a>(alloc: Global) -> Command<'a>
     Command::new(alloc, "run")
         .about("Runs the script on standard input and writes the line of each reply")
         .after_help(OF_SCRIPTS)
+}
+
+/// The subcommand that plays a script.
+fn play_command<'a>(alloc: Global) -> Result<Command<'a>, AllocError>
+    ensures shape { IfOk result (λ c. app_of c ≡ play_app) }
+    ensures local { IfOk result (λ c. (out-Command c).has_globals ≡ false) }
+{
+    Command::new(alloc, "play")
+        .about("Plays a script: shows each line with its answer, or why it cannot be read")
+        .after_help(OF_PLAYING)
+        .arg(Arg::new(alloc, "FILE").help("The script to play, or standard input without it"))
 }
 
 /// An option that must be given, and takes a number in this range.
@@ -138,6 +164,7 @@ fn whole_command<'a>(alloc: Global) -> Result<Command<'a>, AllocError>
 {
     bare_command(alloc)
         .subcommand(run_command(alloc))?
+        .subcommand(play_command(alloc)?)?
         .subcommand(race_command(alloc)?)
 }
 
@@ -154,7 +181,7 @@ fn number(matches: &ArgMatches<'_>, name: &str, least: u32, most: u32) -> Option
 }
 
 /// The race that these options ask for.
-fn race_of(matches: &ArgMatches<'_>) -> Option<Task>
+fn race_of<'a>(matches: &ArgMatches<'a>) -> Option<Task<'a>>
     ensures some { IfSome result (λ task. (workers steps seed budget : ℕ) × (task ≡ Asked.Race workers steps seed budget)
         × IsRace (rows_of (found_of matches.now)) workers steps seed budget) }
     ensures none { IfNone result ((workers steps seed budget : ℕ) → ¬ (IsRace (rows_of (found_of matches.now)) workers steps seed budget)) }
@@ -167,13 +194,23 @@ fn race_of(matches: &ArgMatches<'_>) -> Option<Task>
     })
 }
 
+/// The script that these options ask to play.
+fn play_of<'a>(matches: &ArgMatches<'a>) -> Task<'a>
+    ensures { (file : Option (Bor (List ℕ))) × (result ≡ Asked.Play file) × (option_map (λ path. path.now) file ≡ first_of (codes "FILE") (rows_of (found_of matches.now))) }
+{
+    Task::Play {
+        file: matches.get_str("FILE"),
+    }
+}
+
 /// The task that the matches' subcommand stands for.
-fn chosen_task(matches: &ArgMatches<'_>) -> Option<Task>
+fn chosen_task<'a>(matches: &ArgMatches<'a>) -> Option<Task<'a>>
     ensures some { IfSome result (StandsFor (subcommand_rows_of matches.now)) }
     ensures none { IfNone result ((task : Asked) → ¬ (StandsFor (subcommand_rows_of matches.now) task)) }
 {
     match matches.subcommand()? {
         ("run", _) => Some(Task::Run),
+        ("play", options) => Some(play_of(options)),
         ("race", options) => race_of(options),
         _ => None,
     }
@@ -181,7 +218,7 @@ fn chosen_task(matches: &ArgMatches<'_>) -> Option<Task>
 
 /// The task that a command line names, by the whole command.
 #[tactic(auto, unfolding(crate::specs::Task::fits, crate::specs::Task::Names))]
-fn task_by<'a, S: AsStr>(command: &mut Command<'a>, words: &'a [S]) -> Result<Task, Error>
+fn task_by<'a, S: AsStr>(command: &mut Command<'a>, words: &'a [S]) -> Result<Task<'a>, Error>
     requires { app_of command.old ≡ whole_app }
     ensures ok { IfOk result (Names (map S.text words.entry.now)) }
     ensures ranges { IfOk result IsInRange }
@@ -202,7 +239,7 @@ fn task_by<'a, S: AsStr>(command: &mut Command<'a>, words: &'a [S]) -> Result<Ta
 /// Reads the task that a command line names. Its first word is the program's name.
 ///
 /// A call for help or for the version is an error too, with that text.
-pub fn task_of<'a, S: AsStr>(alloc: Global, words: &'a [S]) -> Result<Task, Error>
+pub fn task_of<'a, S: AsStr>(alloc: Global, words: &'a [S]) -> Result<Task<'a>, Error>
     ensures ok { IfOk result (Names (map S.text words.entry.now)) }
     ensures ranges { IfOk result IsInRange }
     ensures fit { IfOk result (λ _. fits (map S.text words.entry.now) ≡ true) }

@@ -3,15 +3,20 @@
 #![tactic(auto)]
 
 use scm_command::program::program;
+use scm_play::Style;
 use scm_run::RunFault;
 use scm_watched::Watched;
 use std::alloc::AllocError;
 use std::env;
-use std::io::ErrorKind;
+use std::io::{ErrorKind, IsTerminal};
 use std::process::ExitCode;
 
 fn main(rt: HostRuntime) -> ExitCode {
     let alloc = rt.alloc();
+    let style = match rt.stdin().is_terminal() {
+        true => Style::Terminal,
+        false => Style::Script,
+    };
     let mut input = Watched::new(rt.stdin());
     let mut output = Watched::new(rt.stdout());
     let mut errors = rt.stderr();
@@ -31,6 +36,7 @@ fn main(rt: HostRuntime) -> ExitCode {
         &rt,
         alloc,
         words.as_slice(),
+        style,
         &mut input,
         &mut output,
         &mut errors,

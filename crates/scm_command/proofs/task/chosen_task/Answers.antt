@@ -9,4 +9,4 @@ returns-in-race-default-clause-none c =
     let name = c.in_ok-subcommand.field-0.0.now in
     let rows = rows_of (found_of c.in_ok-subcommand.field-0.1.now) in
     let is : subcommand_rows_of c.args.matches.now ≡ Some (name, rows) = search rules in
-    none_then c.race_of.result (no_task (subcommand_rows_of c.args.matches.now) name rows is (search rules)) c.race_of.ensures.none
+    none_then c.race_of.result (no_task (subcommand_rows_of c.args.matches.now) name rows is (search rules) (search rules)) c.race_of.ensures.none
