@@ -1,10 +1,12 @@
 //! The program over memory, and over streams that fail.
 use scm_command::program::program;
+use scm_play::Style;
 use scm_watched::Watched;
 use std::alloc::AllocGlobal;
 use std::io;
 use std::io::{ErrorKind, Read, Write};
 use std::process::Abort;
+use std::rt::Files;
 use std::sync::Wait;
 use std::thread::Threads;
 
@@ -56,7 +58,7 @@ impl Answer {
 
 /// Runs the program with these words over these streams, and answers its exit status. A test looks
 /// at what that left and no further, so this promises nothing.
-fn run_over<H: Threads + Wait + Sync + AllocGlobal, R: Read, W: Write>(
+fn run_over<H: Threads + Wait + Sync + Files + AllocGlobal, R: Read, W: Write>(
     rt: &H,
     words: &[&str],
     input: &mut R,
@@ -65,11 +67,19 @@ fn run_over<H: Threads + Wait + Sync + AllocGlobal, R: Read, W: Write>(
 ) -> u8 {
     let mut input = Watched::new(input);
     let mut output = Watched::new(output);
-    program(rt, rt.alloc(), words, &mut input, &mut output, errors)
+    program(
+        rt,
+        rt.alloc(),
+        words,
+        Style::Script,
+        &mut input,
+        &mut output,
+        errors,
+    )
 }
 
 /// Runs the program with these words on this script.
-pub fn run<H: Threads + Wait + Sync + AllocGlobal>(
+pub fn run<H: Threads + Wait + Sync + Files + AllocGlobal>(
     rt: &H,
     words: &[&str],
     script: &[u8],
@@ -86,7 +96,7 @@ pub fn run<H: Threads + Wait + Sync + AllocGlobal>(
 }
 
 /// The program has this status, and writes these texts.
-pub fn answers<H: Threads + Wait + Sync + AllocGlobal + Abort>(
+pub fn answers<H: Threads + Wait + Sync + Files + AllocGlobal + Abort>(
     rt: &H,
     words: &[&str],
     script: &[u8],
@@ -115,7 +125,7 @@ fn reads_a_script_cut_anywhere(rt: HostRuntime) {
 }
 
 /// The program, of which a stream fails, has status 1 and says so.
-fn fails<H: Threads + Wait + Sync + AllocGlobal + Abort, R: Read, W: Write>(
+fn fails<H: Threads + Wait + Sync + Files + AllocGlobal + Abort, R: Read, W: Write>(
     rt: &H,
     input: &mut R,
     output: &mut W,

@@ -2,6 +2,7 @@
 use super::programs::answers;
 use std::alloc::{AllocError, AllocGlobal};
 use std::process::Abort;
+use std::rt::Files;
 use std::sync::Wait;
 use std::test::Fail;
 use std::thread::Threads;
@@ -38,7 +39,7 @@ static GOOD_LINES: [(&str, &str); 2] = [
 ];
 
 /// Checks that the program answers so to a line, with its line feed and without.
-fn answers_alike<H: Threads + Wait + Sync + AllocGlobal + Abort>(
+fn answers_alike<H: Threads + Wait + Sync + Files + AllocGlobal + Abort>(
     rt: &H,
     line: &[u8],
     wanted: (u8, &str, &str),

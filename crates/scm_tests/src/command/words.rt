@@ -2,6 +2,7 @@
 use super::programs::{answers, run};
 use std::alloc::{AllocError, AllocGlobal, Global};
 use std::process::Abort;
+use std::rt::Files;
 use std::sync::Wait;
 use std::test::Fail;
 use std::thread::Threads;
@@ -58,7 +59,7 @@ pub fn words_of(alloc: Global, line: &str) -> Result<Vec<&str>, AllocError> {
 }
 
 /// Each of these command lines is refused.
-fn are_refused<H: Threads + Wait + Sync + AllocGlobal + Abort>(
+fn are_refused<H: Threads + Wait + Sync + Files + AllocGlobal + Abort>(
     rt: &H,
     lines: &[&str],
 ) -> Result<(), AllocError> {
