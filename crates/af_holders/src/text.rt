@@ -44,8 +44,8 @@ fn push_file(text: &mut String, ino: Ino, lost: &[Ino]) -> Result<(), AllocError
     }
 }
 
-/// Lists the files of the engine's world by rising number, a line for each: its number, whether it is
-/// garbage, which no process can come to, and each place that holds it.
+/// Lists the files of the engine's world by rising number, a line for each: its number, whether it
+/// is garbage, which no process can come to, and each place that holds it.
 ///
 /// A place is a descriptor of a process, the queue of a socket, where the file travels with a
 /// message, or the backlog of a listener, where it waits as an embryo. A file stands there once for

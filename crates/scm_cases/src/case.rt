@@ -13,8 +13,8 @@ pub struct Case<'a> {
 }
 
 impl<'a> Case<'a> {
-    /// The case that stands in a list behind `BEFORE_NAME`: its first line is the name, and the rest
-    /// is the script.
+    /// The case that stands in a list behind `BEFORE_NAME`: its first line is the name, and the
+    /// rest is the script.
     pub fn of(text: &'a str) -> Self
         ensures name { result.name.now ≡ before_first (λ b. b == 10) text.now }
         ensures script { result.script.now ≡ after_first (λ b. b == 10) text.now }

@@ -2,9 +2,9 @@
 //!
 //! A caller wants [`read_in`], [`Version`] and [`Line`]. The line is cut into words (`words`), the
 //! first word says which form it has (`keywords`), and each form reads the words that are left
-//! (`forms`, with `numbers`, `payload` and `attached`). [`why`] says of another line what does not fit,
-//! and where (`explain`, with `misfit`). `specs/Says.antt` has the table of forms;
-//! [`laws`] says that what is read is the table.
+//! (`forms`, with `numbers`, `payload` and `attached`). [`why`] says of another line what does not
+//! fit, and where (`explain`, with `misfit`). `specs/Says.antt` has the table of forms; [`laws`]
+//! says that what is read is the table.
 #![tactic(auto)]
 
 mod attached;

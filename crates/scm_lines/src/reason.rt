@@ -68,8 +68,8 @@ pub enum Reason {
 #[derive(Clone, Copy, Debug, PartialEq, Eq, Error)]
 #[error("column {column}: {reason}")]
 pub struct Unreadable {
-    /// The column of the first byte that does not fit, counted from 1. A missing word has the column
-    /// behind the line's last byte.
+    /// The column of the first byte that does not fit, counted from 1. A missing word has the
+    /// column behind the line's last byte.
     pub column: usize,
     /// What does not fit there.
     pub reason: Reason,

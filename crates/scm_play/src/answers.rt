@@ -18,8 +18,8 @@ fn reason(alloc: Global, version: Version, bytes: &[u8]) -> Result<Vec<u8>, Allo
     Ok(line.into_bytes())
 }
 
-/// Makes the answer to a line that cannot be read: to the question that it asks, or why it cannot be
-/// read.
+/// Makes the answer to a line that cannot be read: to the question that it asks, or why it cannot
+/// be read.
 fn answer_unreadable(
     alloc: Global,
     engine: &Engine,
@@ -35,8 +35,8 @@ fn answer_unreadable(
     }
 }
 
-/// Does a line that can be read, and appends its answer. Of any other line the world stays as it is:
-/// appended is the answer to the question that it asks, or why it cannot be read.
+/// Does a line that can be read, and appends its answer. Of any other line the world stays as it
+/// is: appended is the answer to the question that it asks, or why it cannot be read.
 pub fn answer_line(
     alloc: Global,
     engine: &mut Engine,

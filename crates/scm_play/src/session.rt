@@ -16,7 +16,8 @@ use scm_run::without_return;
 use std::alloc::{AllocError, Global};
 use std::io::{BufRead, Write};
 
-/// The line that these bytes are, without its end: one line feed, and one carriage return before it.
+/// The line that these bytes are, without its end: one line feed, and one carriage return before
+/// it.
 fn line_in(bytes: &[u8]) -> &[u8]
     ensures { result.now ≡ line_in bytes.now }
 {
