@@ -1,9 +1,9 @@
 -- The first line of an input, and the lines behind it.
-use Rattle.std.proofs.Common.{◌≡◌, ◌⊎◌, ℕ, ◌+◌, ◌-◌, ◌<◌, ◌==◌, List, [], ◌∷◌, ◌++◌, ◌&&◌, Bool, true, false, cond, get_or, length, nat_lt, take, refl, sym, ap, ◌∙◌, inl, inr, arith, length-append}
+use Rattle.std.proofs.Common.{◌≡◌, ◌⊎◌, ℕ, ◌+◌, ◌-◌, ◌<◌, ◌==◌, List, [], ◌∷◌, ◌++◌, ◌&&◌, Bool, true, false, cond, get_or, length, nat_lt, take, refl, ap, ◌∙◌, inl, inr, arith, length-append}
 use Rattle.std.proofs.lemmas.Grind.{common_steps}
 use Rattle.std.proofs.lemmas.List.Elements.{All-cons, All-get_or, All-nil}
 use Rattle.std.proofs.Math.Seq.{get_or-append_seam, take-append_seam}
-use Rattle.std.specs.Io.BufRead.{drop_through, ends_with_byte, take_through}
+use Rattle.std.specs.Io.BufRead.{drop_through, take_through}
 use Rattle.std.specs.Str.Lines.{lines, strip_carriage_return}
 use Rattle.scm_run.specs.Script.{NoFeed}
 use Rattle.scm_run.proofs.LinesLemmas.{last_line, line-front}
