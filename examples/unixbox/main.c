@@ -60,14 +60,16 @@ static void start_program(char **arguments) {
 
 static void prepare(void) {
     struct epoll_event event = {.events = EPOLLIN, .data.ptr = NULL};
-    struct rlimit limit;
+    struct rlimit limit = {2 * SCM_MAX_FILES, 2 * SCM_MAX_FILES}; /* A placeholder each. */
     pthread_t thread;
     /* A struct sched_attr: slices of 0.1 ms, so that both threads run soon after they are woken. */
     syscall(SYS_sched_setattr, 0, (uint32_t[12]){[0] = 48, [6] = 100000}, 0);
     ioctl(notifications, SECCOMP_IOW(4, __u64), 1UL); /* SECCOMP_USER_NOTIF_FD_SYNC_WAKE_UP */
-    getrlimit(RLIMIT_NOFILE, &limit);
-    limit.rlim_cur = limit.rlim_max;
-    setrlimit(RLIMIT_NOFILE, &limit);
+    if (setrlimit(RLIMIT_NOFILE, &limit) < 0) { /* Without privileges, as many as there may be. */
+        getrlimit(RLIMIT_NOFILE, &limit);
+        limit.rlim_cur = limit.rlim_max;
+        setrlimit(RLIMIT_NOFILE, &limit);
+    }
     signal(SIGINT, SIG_IGN); /* The program answers the terminal. */
     signal(SIGQUIT, SIG_IGN);
     options.mask = umask(0); /* A pathname gets the mode that its program asks for. */

@@ -24,15 +24,21 @@ long serve_socket(struct call *call) {
     bool is_packet = type == SOCK_SEQPACKET || (type == SOCK_DGRAM && is_pair && options.datagrams);
     if ((call->args[2] & ~(uint64_t)PF_UNIX) || (!is_stream && !is_packet)) return -EPROTONOSUPPORT;
     if (options.networks) setns(call->process->pidfd, CLONE_NEWNET); /* To be counted there. */
+    if ((is_pair ? socketpair(AF_UNIX, flags, 0, hosts)
+                 : (hosts[0] = socket(AF_UNIX, flags, 0))) < 0)
+        return -ENFILE; /* The supervisor has no descriptor left for a placeholder. */
     sync_table(call->process);
     int64_t answer = is_pair ? scm_pair(&engine, call->pid, kind, &pair)
                              : scm_socket(&engine, call->pid, kind);
     snprintf(text, sizeof text, "fds %u %u", pair.first, pair.second);
     long fd = record(call->pid, answer, is_pair ? text : "fd %ld", "%s %s",
                      is_pair ? "pair" : "socket", is_stream ? "stream" : "seqpacket");
-    if (fd < 0) return fd;
-    if (!is_pair) return add_socket(call, (uint32_t)fd, kind, socket(AF_UNIX, flags, 0));
-    socketpair(AF_UNIX, flags, 0, hosts);
+    if (fd < 0) {
+        close(hosts[0]);
+        close(hosts[1]);
+        return fd;
+    }
+    if (!is_pair) return add_socket(call, (uint32_t)fd, kind, hosts[0]);
     long first = add_socket(call, pair.first, kind, hosts[0]);
     long second = add_socket(call, pair.second, kind, hosts[1]);
     int fds[2] = {(int)first, (int)second};
