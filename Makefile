@@ -1,40 +1,55 @@
 # make           print this list
-# make try       show the example script with its answers, unproved: a minute after a fresh clone
+# make try       show the example script, or that of SCRIPT=FILE, with its answers, by an unproved program: out/unproved/scmgc, in a minute or two
 # make run       prove and build the program, and play the example script: half an hour on four cores
 # make build     prove and build the program alone: crates/scmgc/out/scmgc
 # make check     before a commit: compare events and the header, prove what has changed and all above it, play the cases
-# make bindings  write the header and the bindings for Rust, after a change of a call, an error or a limit
+# make bindings  write the header, its manual page and the bindings for Rust, after a change of a call, an error or a limit
 # make test      the gate: proofs from nothing, tests, cases, C and Rust, walks, wrong bodies: 40 minutes on four cores
 # make walks     random scripts and edited lines by the proved program, compared with a plain engine and a reader in Python
 # make stress    each request for memory refused in turn, and the largest worlds, by the proved program and tests
 # make bench     nanoseconds for each event, over named workloads, and calls a second from threads
-# make lib       prove and build the library for C and Rust programs, with all that it needs: out/libscmgc.a
+# make try-lib   build the library for C and Rust programs without proofs, to try it: out/unproved/libjaywardrobe.a, in a minute or two
+# make lib       prove and build the library for C and Rust programs, with all that it needs: out/libjaywardrobe.a
 # make archive   put that library together once more, over what make lib proved
 # make embed     compare its header with it, and run the programs in C and Rust that use it
 # make bench-c   nanoseconds for each call from C, over two of the workloads
-# make unixbox   build the supervisor that runs programs on the library: out/unixbox
+# make unixbox   build the supervisor that runs programs on the library, proved or not: out/unixbox
 # make clients   run test suites of others natively and under unixbox, and compare: half an hour
-# make install   put the program, the library and its header below PREFIX
+# make install   put the program and the library, as far as they are built, below PREFIX (/usr/local); it builds nothing
+# make uninstall remove them from there
 # make clean     remove all that was built, and the work that checks keep
 
 PROGRAM := crates/scmgc/out/scmgc
 STATIC := crates/scm_c/out/libscm_c.a
-LIBRARY := out/libscmgc.a
+LIBRARY := out/libjaywardrobe.a
+# What is built without proofs: the program, and the library.
+TRIED := out/unproved/scmgc
+UNPROVED := out/unproved/libjaywardrobe.a
 # The kit's folder: it has the few heap functions over malloc that the library stands on.
 KIT = $(dir $(firstword $(shell rt doc 2> /dev/null)))
+SCRIPT ?= examples/cycle.script
 PREFIX ?= /usr/local
+BINDIR ?= $(PREFIX)/bin
+LIBDIR ?= $(PREFIX)/lib
+INCLUDEDIR ?= $(PREFIX)/include
+MANDIR ?= $(PREFIX)/share/man
 
 # Stops with a line that says where to get it, where one of these programs is missing.
 need = @tools/need python3
+# The proved library where it is built, and else the one to try.
+at_hand = $(shell for it in $(LIBRARY) $(UNPROVED); do test -f $$it && echo $$it && break; done)
 # Runs a command in a crate's folder, and says on standard error how far the build is and about how long the rest takes.
 in_crate = cd crates/$(1) && ../../tools/gate-times --crate $(1)
 
 help:
 	@sed -n 's/^# \(make\)/\1/p; /^$$/q' $(firstword $(MAKEFILE_LIST))
 
-try:
+try: $(TRIED)
+	$(TRIED) play $(SCRIPT)
+
+$(TRIED) $(UNPROVED): out/unproved/%: tools/try-build $(wildcard crates/*/src/*.rt crates/*/src/*/*.rt)
 	$(need) rt
-	cd crates/scmgc && rt try -- play < ../../examples/cycle.script
+	tools/try-build $*
 
 # An empty script does nothing; asking for its run proves, builds and links the program.
 build:
@@ -47,6 +62,7 @@ run: build
 check:
 	$(need) rt
 	tests/events_agree.py
+	tests/calls_agree.py
 	tools/bindings --check
 	rt all check
 	cd crates/scm_cases && rt run < stdin | cmp - stdout
@@ -76,6 +92,9 @@ bench:
 	$(call in_crate,af_bench) rt run
 	tools/bench
 
+try-lib: $(UNPROVED)
+	@echo '$(UNPROVED) is NOT proved: make lib proves and builds $(LIBRARY)'
+
 lib:
 	$(need) rt $(firstword $(AR))
 	$(call in_crate,scm_c) rt lib
@@ -103,18 +122,40 @@ bench-c: lib
 
 unixbox:
 	$(need) $(firstword $(CC))
-	@test -f $(LIBRARY) || { echo 'make unixbox: $(LIBRARY) is not built: run make lib' >&2; exit 2; }
-	$(CC) -std=c11 -O2 -Iinclude examples/unixbox/*.c $(LIBRARY) -o out/unixbox -lpthread
+	@test -n '$(at_hand)' || \
+		{ echo 'make unixbox: no library is built: run make lib, or make try-lib for an unproved one' >&2; exit 2; }
+	$(CC) -std=c11 -O2 -Iinclude examples/unixbox/*.c $(at_hand) -o out/unixbox -lpthread
+	@echo 'out/unixbox is built over $(at_hand)'
 
-install: build lib
-	install -D $(PROGRAM) $(DESTDIR)$(PREFIX)/bin/scmgc
-	install -D -m 644 $(LIBRARY) $(DESTDIR)$(PREFIX)/lib/libscmgc.a
-	install -D -m 644 include/scmgc.h $(DESTDIR)$(PREFIX)/include/scmgc.h
-	mkdir -p $(DESTDIR)$(PREFIX)/lib/pkgconfig
-	sed 's|@PREFIX@|$(PREFIX)|' scmgc.pc.in > $(DESTDIR)$(PREFIX)/lib/pkgconfig/scmgc.pc
+# Proves and builds nothing, so that root may run it.
+install:
+	@test -f $(PROGRAM) || test -f $(LIBRARY) || \
+		{ echo 'make install: nothing is built: run make build for the program, make lib for the library' >&2; exit 2; }
+	@if test -f $(PROGRAM); then $(MAKE) --no-print-directory install-program; \
+		else echo 'make install: there is no program to install: make build builds it'; fi
+	@if test -f $(LIBRARY); then $(MAKE) --no-print-directory install-library; \
+		else echo 'make install: there is no library to install: make lib builds it'; fi
+
+install-program:
+	install -D $(PROGRAM) $(DESTDIR)$(BINDIR)/scmgc
+	install -D -m 644 docs/man/scmgc.1 $(DESTDIR)$(MANDIR)/man1/scmgc.1
+
+install-library:
+	install -D -m 644 $(LIBRARY) $(DESTDIR)$(LIBDIR)/libjaywardrobe.a
+	install -D -m 644 -t $(DESTDIR)$(INCLUDEDIR) include/*.h
+	install -D -m 644 docs/man/jaywardrobe.3 $(DESTDIR)$(MANDIR)/man3/jaywardrobe.3
+	install -d $(DESTDIR)$(LIBDIR)/pkgconfig
+	sed 's|@PREFIX@|$(PREFIX)|; s|@LIBDIR@|$(LIBDIR)|; s|@INCLUDEDIR@|$(INCLUDEDIR)|' jaywardrobe.pc.in \
+		> $(DESTDIR)$(LIBDIR)/pkgconfig/jaywardrobe.pc
+
+uninstall:
+	rm -f $(addprefix $(DESTDIR),$(BINDIR)/scmgc $(MANDIR)/man1/scmgc.1 $(MANDIR)/man3/jaywardrobe.3)
+	rm -f $(addprefix $(DESTDIR),$(LIBDIR)/libjaywardrobe.a $(LIBDIR)/pkgconfig/jaywardrobe.pc)
+	rm -f $(addprefix $(DESTDIR)$(INCLUDEDIR)/,$(notdir $(wildcard include/*.h)))
 
 clean:
 	rm -rf out crates/*/out
 
 .DEFAULT_GOAL := help
-.PHONY: help try build run check bindings test walks stress bench lib archive embed clients bench-c unixbox install clean
+.PHONY: help try build run check bindings test walks stress bench try-lib lib archive embed clients bench-c unixbox \
+	install install-program install-library uninstall clean

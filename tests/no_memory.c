@@ -1,7 +1,7 @@
-/* Want of memory: every allocation fails in turn. Each call is then refused by SCM_ENOMEM and leaves
+/* Want of memory: every allocation fails in turn. Each call is then refused by JW_ENOMEM and leaves
  * the engine as it was, or is done; asked again it is done; and the calls that never need memory are
  * never refused. Link with -Wl,--wrap=malloc,--wrap=realloc. The status is 0 where all of that holds. */
-#include <scmgc.h>
+#include <jaywardrobe.h>
 #include <stdio.h>
 #include <stdlib.h>
 #include <string.h>
@@ -26,7 +26,7 @@ void *__wrap_realloc(void *old, size_t size) {
     return fails() ? NULL : __real_realloc(old, size);
 }
 
-static scm_engine engine = SCM_ENGINE_INIT;
+static jw_engine engine = JW_ENGINE_INIT;
 static int failures, refusals;
 
 /* What can be seen of the engine in short. */
@@ -36,12 +36,12 @@ struct view {
 };
 
 static struct view look(void) {
-    struct view view = {scm_next_pid(&engine), 0, 0, 0};
+    struct view view = {jw_next_pid(&engine), 0, 0, 0};
     uint64_t ino = 0, count;
-    scm_live(&engine, &view.live);
-    scm_total(&engine, &view.total);
-    while (scm_next_after(&engine, ino, &ino) == 0 && ino != 0) {
-        scm_refs(&engine, ino, &count);
+    jw_live(&engine, &view.live);
+    jw_total(&engine, &view.total);
+    while (jw_next_after(&engine, ino, &ino) == 0 && ino != 0) {
+        jw_refs(&engine, ino, &count);
         view.refs += count;
     }
     return view;
@@ -56,14 +56,14 @@ static bool same(struct view a, struct view b) {
     do { \
         struct view before = look(); \
         int64_t answer = (call); \
-        if (answer == -SCM_ENOMEM) { \
+        if (answer == -JW_ENOMEM) { \
             refusals++; \
             if (!same(before, look())) \
                 failures++, fprintf(stderr, "line %d: changed\n", __LINE__); \
             answer = (call); \
         } \
         if (answer != (wanted)) \
-            failures++, fprintf(stderr, "line %d: %s\n", __LINE__, scm_strerror(answer)); \
+            failures++, fprintf(stderr, "line %d: %s\n", __LINE__, jw_strerror(answer)); \
     } while (0)
 
 /* A call that never needs memory. */
@@ -73,82 +73,78 @@ static bool same(struct view a, struct view b) {
             failures++, fprintf(stderr, "line %d\n", __LINE__); \
     } while (0)
 
-static const uint8_t *text(const char *s) {
-    return (const uint8_t *)s;
-}
-
 static void life(void) {
-    struct scm_pair pair = {0, 0};
-    struct scm_received got = {0, false, false};
-    struct scm_finished finished = {0, 0};
-    struct scm_checked checked = {0, 0};
-    struct scm_ready ready;
+    struct jw_pair pair = {0, 0};
+    struct jw_received got = {0, false, false};
+    struct jw_finished finished = {0, 0};
+    struct jw_checked checked = {0, 0};
+    struct jw_ready ready;
     uint8_t bytes[8];
     uint32_t fds[8];
     uint64_t ino, inos[16];
 
-    DONE(scm_spawn(&engine, 7, 64, false), 1);
-    DONE(scm_open(&engine, 1), 0);
-    DONE(scm_tell_released(&engine), 0);
-    DONE(scm_tell_changed(&engine), 0);
-    FREE(scm_close(&engine, 1, 0), 0);
-    FREE(scm_released(&engine, inos, 16) == 1 && inos[0] == 1, true);
-    FREE(scm_changed(&engine, inos, 16), 0);
-    FREE(scm_clear_told(&engine), 0);
-    DONE(scm_pair(&engine, 1, SCM_STREAM, &pair), 0);
-    DONE(scm_open(&engine, 1), 2);
-    DONE(scm_dup(&engine, 1, 2), 3);
-    DONE(scm_dup2(&engine, 1, 2, 40), 40);
+    DONE(jw_spawn(&engine, 7, 64, false), 1);
+    DONE(jw_open(&engine, 1), 0);
+    DONE(jw_tell_released(&engine), 0);
+    DONE(jw_tell_changed(&engine), 0);
+    FREE(jw_close(&engine, 1, 0), 0);
+    FREE(jw_released(&engine, inos, 16) == 1 && inos[0] == 1, true);
+    FREE(jw_changed(&engine, inos, 16), 0);
+    FREE(jw_clear_told(&engine), 0);
+    DONE(jw_pair(&engine, 1, JW_STREAM, &pair), 0);
+    DONE(jw_open(&engine, 1), 2);
+    DONE(jw_dup(&engine, 1, 2), 3);
+    DONE(jw_dup2(&engine, 1, 2, 40), 40);
     fds[0] = 2, fds[1] = 0;
-    DONE(scm_send(&engine, 1, 1, text("hello"), 5, fds, 2), 5);
-    FREE(scm_send(&engine, 1, 1, text("hello"), 0, fds, 2), -SCM_EINVAL);
-    FREE(scm_send(&engine, 1, 2, text("hello"), 5, fds, 2), -SCM_ENOTSOCK);
-    DONE(scm_peek(&engine, 1, 0, bytes, 8, fds, 8, &got), 5);
+    DONE(jw_send(&engine, 1, 1, "hello", 5, fds, 2), 5);
+    FREE(jw_send(&engine, 1, 1, "hello", 0, fds, 2), -JW_EINVAL);
+    FREE(jw_send(&engine, 1, 2, "hello", 5, fds, 2), -JW_ENOTSOCK);
+    DONE(jw_peek(&engine, 1, 0, bytes, 8, fds, 8, &got), 5);
     FREE(got.fds == 2 && memcmp(bytes, "hello", 5) == 0, true);
-    FREE(scm_close(&engine, 1, fds[0]), 0);
-    FREE(scm_close(&engine, 1, fds[1]), 0);
-    DONE(scm_recv(&engine, 1, 0, bytes, 8, fds, 8, &got), 5);
+    FREE(jw_close(&engine, 1, fds[0]), 0);
+    FREE(jw_close(&engine, 1, fds[1]), 0);
+    DONE(jw_recv(&engine, 1, 0, bytes, 8, fds, 8, &got), 5);
     FREE(got.fds == 2 && memcmp(bytes, "hello", 5) == 0, true);
-    FREE(scm_limit(&engine, 1, 128), 0);
-    DONE(scm_fork(&engine, 1), 2);
-    DONE(scm_socket(&engine, 1, SCM_SEQPACKET), 6);
-    DONE(scm_bind(&engine, 1, 6, text("name"), 4), 0);
-    DONE(scm_listen(&engine, 1, 6, 2), 0);
-    DONE(scm_socket(&engine, 1, SCM_SEQPACKET), 7);
-    DONE(scm_connect(&engine, 1, 7, text("name"), 4), 0);
-    DONE(scm_accept(&engine, 1, 6), 8);
+    FREE(jw_limit(&engine, 1, 128), 0);
+    DONE(jw_fork(&engine, 1), 2);
+    DONE(jw_socket(&engine, 1, JW_SEQPACKET), 6);
+    DONE(jw_bind(&engine, 1, 6, "name", 4), 0);
+    DONE(jw_listen(&engine, 1, 6, 2), 0);
+    DONE(jw_socket(&engine, 1, JW_SEQPACKET), 7);
+    DONE(jw_connect(&engine, 1, 7, "name", 4), 0);
+    DONE(jw_accept(&engine, 1, 6), 8);
     fds[0] = 7;
-    DONE(scm_send(&engine, 1, 7, text("me"), 2, fds, 1), 2);
-    DONE(scm_check(&engine, &checked), 0);
+    DONE(jw_send(&engine, 1, 7, "me", 2, fds, 1), 2);
+    DONE(jw_check(&engine, &checked), 0);
     /* The picture is longer than the place, and has the same length each time. */
-    int64_t length = scm_graph(&engine, bytes, 0);
-    if (length == -SCM_ENOMEM)
-        refusals++, length = scm_graph(&engine, bytes, 0);
-    DONE(scm_graph(&engine, bytes, sizeof bytes), length);
+    int64_t length = jw_graph(&engine, bytes, 0);
+    if (length == -JW_ENOMEM)
+        refusals++, length = jw_graph(&engine, bytes, 0);
+    DONE(jw_graph(&engine, bytes, sizeof bytes), length);
     FREE(length > 500 && memcmp(bytes, "digraph ", 8) == 0, true);
-    FREE(scm_poll(&engine, 1, 6, &ready) == 0 && scm_next_fd(&engine, 1, 0, &ino) == 0 && scm_ino(&engine, 1, 0, &ino) == 0, true);
-    FREE(scm_exit(&engine, 2), 0);
-    FREE(scm_close(&engine, 1, 40), 0);
-    FREE(scm_exit(&engine, 1), 0);
-    FREE(scm_pass(&engine, &finished), 0);
-    FREE(scm_live(&engine, &checked.live), 0);
+    FREE(jw_poll(&engine, 1, 6, &ready) == 0 && jw_next_fd(&engine, 1, 0, &ino) == 0 && jw_ino(&engine, 1, 0, &ino) == 0, true);
+    FREE(jw_exit(&engine, 2), 0);
+    FREE(jw_close(&engine, 1, 40), 0);
+    FREE(jw_exit(&engine, 1), 0);
+    FREE(jw_pass(&engine, &finished), 0);
+    FREE(jw_live(&engine, &checked.live), 0);
     FREE(checked.live == 0, true);
-    FREE(scm_released(&engine, inos, 16), 6);
-    FREE(scm_changed(&engine, inos, 16), 0);
-    FREE(scm_clear_told(&engine), 0);
-    FREE(scm_released(&engine, inos, 16), 0);
+    FREE(jw_released(&engine, inos, 16), 6);
+    FREE(jw_changed(&engine, inos, 16), 0);
+    FREE(jw_clear_told(&engine), 0);
+    FREE(jw_released(&engine, inos, 16), 0);
 }
 
 int main(void) {
     for (long nth = 0; nth < 200; nth++) {
         left = nth;
-        if (scm_engine_new(&engine) == -SCM_ENOMEM) {
+        if (jw_engine_new(&engine) == -JW_ENOMEM) {
             refusals++;
-            if (engine.at != NULL || scm_engine_new(&engine) != 0)
+            if (engine.at != NULL || jw_engine_new(&engine) != 0)
                 return 1;
         }
         life();
-        scm_engine_free(&engine);
+        jw_engine_free(&engine);
         if (left >= 0)
             break;
     }

@@ -1,7 +1,7 @@
 /* A program that owns 1,000 pipes: the writing end of each stands behind a plain file.
  *
  * It plays 100,000 events from a fixed seed, with a few processes. After each event it closes the
- * writing ends whose files scm_released names, and empties the list. A pipe whose file was freed is
+ * writing ends whose files jw_released names, and empties the list. A pipe whose file was freed is
  * made anew for a later open. The reading ends say which writing ends are closed (poll(2),
  * POLLHUP).
  *
@@ -11,12 +11,12 @@
  *   named are as many as the live ones, so each freed file is named. The reading ends of the pipes
  *   that the event opens or closes are asked.
  * - Every STRIDE events, and at the end, all reading ends are compared with a recount: the arrows
- *   of the picture that scm_graph draws. scm_check recounts too.
+ *   of the picture that jw_graph draws. jw_check recounts too.
  * - At the end all processes exit, and passes free the rest. All writing ends are closed then.
  *
  * The status is 0 if all of that holds. */
 #define _XOPEN_SOURCE 700
-#include <scmgc.h>
+#include <jaywardrobe.h>
 #include <inttypes.h>
 #include <poll.h>
 #include <stdio.h>
@@ -46,10 +46,10 @@ struct event {
     uint64_t done, closed;
 };
 
-static scm_engine engine = SCM_ENGINE_INIT;
+static jw_engine engine = JW_ENGINE_INIT;
 static struct conduit pipes[PIPES];
 static struct conduit *owner[INOS]; /* The pipe of a plain file, also of one that was freed. */
-static bool was_named[INOS];        /* Whether scm_released named the file. */
+static bool was_named[INOS];        /* Whether jw_released named the file. */
 static uint32_t next_pipe;          /* Where the search for an unowned pipe begins. */
 static uint32_t pids[PROCESSES], running;
 static uint64_t made, named, opened, closed, places[INOS], released[INOS];
@@ -77,7 +77,7 @@ static uint32_t below(uint32_t bound) {
 
 static uint64_t refs(uint64_t ino) {
     uint64_t count;
-    MUST(scm_refs(&engine, ino, &count) == 0);
+    MUST(jw_refs(&engine, ino, &count) == 0);
     return count;
 }
 
@@ -125,7 +125,7 @@ static void own(uint64_t ino, struct conduit *it) {
  * Returns how many writing ends were closed. */
 static uint64_t close_released(void) {
     uint64_t live, before = closed;
-    int64_t count = scm_released(&engine, released, INOS);
+    int64_t count = jw_released(&engine, released, INOS);
     MUST(count >= 0 && count < INOS);
     for (int64_t i = 0; i < count; i++) {
         uint64_t ino = released[i];
@@ -141,15 +141,15 @@ static uint64_t close_released(void) {
     }
     for (int64_t i = 0; i < count; i++)
         MUST(owner[released[i]] == NULL || is_hung_up(owner[released[i]]));
-    MUST(scm_live(&engine, &live) == 0 && live == made - named);
-    MUST(scm_clear_told(&engine) == 0);
+    MUST(jw_live(&engine, &live) == 0 && live == made - named);
+    MUST(jw_clear_told(&engine) == 0);
     return closed - before;
 }
 
 /* Counts the places that hold each file: the arrows to it, but for the dotted ones, which are a
  * peer's. */
 static void recount(void) {
-    int64_t length = scm_graph(&engine, picture, TEXT);
+    int64_t length = jw_graph(&engine, picture, TEXT);
     MUST(length > 0 && length <= TEXT);
     picture[length] = '\0';
     memset(places, 0, (made + 1) * sizeof *places);
@@ -167,7 +167,7 @@ static void recount(void) {
  * many are hung up. */
 static uint64_t compare_ends(void) {
     static struct pollfd asks[PIPES];
-    struct scm_checked checked;
+    struct jw_checked checked;
     uint64_t hung_up = 0;
     recount();
     for (int i = 0; i < PIPES; i++)
@@ -180,7 +180,7 @@ static uint64_t compare_ends(void) {
     }
     for (uint64_t ino = 1; ino <= made; ino++)
         MUST(owner[ino] == NULL || places[ino] == refs(ino));
-    MUST(scm_check(&engine, &checked) == 0);
+    MUST(jw_check(&engine, &checked) == 0);
     return hung_up;
 }
 
@@ -189,20 +189,20 @@ static uint64_t compare_ends(void) {
 /* Draws a descriptor, most often one that is open. */
 static uint32_t any_fd(uint32_t pid) {
     uint64_t ino;
-    int64_t fd = scm_next_fd(&engine, pid, below(NOFILE), &ino);
+    int64_t fd = jw_next_fd(&engine, pid, below(NOFILE), &ino);
     if (fd < 0)
-        fd = scm_next_fd(&engine, pid, 0, &ino);
+        fd = jw_next_fd(&engine, pid, 0, &ino);
     return fd < 0 || below(20) == 0 ? below(NOFILE) : (uint32_t)fd;
 }
 
 /* Draws a descriptor, most often that of a socket in this state. */
-static uint32_t any_socket(uint32_t pid, enum scm_state state) {
+static uint32_t any_socket(uint32_t pid, enum jw_state state) {
     uint32_t fd = any_fd(pid);
     for (int i = 0; i < DRAWS; i++) {
         uint64_t ino;
-        struct scm_file file;
-        MUST(scm_ino(&engine, pid, fd, &ino) == 0 && scm_file(&engine, ino, &file) == 0);
-        if (file.kind != SCM_NO_FILE && file.kind != SCM_PLAIN && file.state == (uint32_t)state)
+        struct jw_file file;
+        MUST(jw_ino(&engine, pid, fd, &ino) == 0 && jw_file(&engine, ino, &file) == 0);
+        if (file.kind != JW_NO_FILE && file.kind != JW_PLAIN && file.state == (uint32_t)state)
             break;
         fd = any_fd(pid);
     }
@@ -210,12 +210,12 @@ static uint32_t any_socket(uint32_t pid, enum scm_state state) {
 }
 
 static uint32_t any_kind(void) {
-    return below(2) == 0 ? SCM_STREAM : SCM_SEQPACKET;
+    return below(2) == 0 ? JW_STREAM : JW_SEQPACKET;
 }
 
-static const uint8_t *any_name(void) {
+static const char *any_name(void) {
     static const char names[NAMES + 1] = "abcdef";
-    return (const uint8_t *)&names[below(NAMES)];
+    return &names[below(NAMES)];
 }
 
 /* Counts the files that an event makes. */
@@ -234,57 +234,57 @@ static int64_t started(int64_t answer) {
 static int64_t play_spawn(uint32_t pid) {
     (void)pid;
     if (running == PROCESSES)
-        return -SCM_EAGAIN;
-    return started(scm_spawn(&engine, 1000 + below(USERS), NOFILE, below(4) == 0));
+        return -JW_EAGAIN;
+    return started(jw_spawn(&engine, 1000 + below(USERS), NOFILE, below(4) == 0));
 }
 
 static int64_t play_fork(uint32_t pid) {
-    return running == PROCESSES ? -SCM_EAGAIN : started(scm_fork(&engine, pid));
+    return running == PROCESSES ? -JW_EAGAIN : started(jw_fork(&engine, pid));
 }
 
 static int64_t play_exit(uint32_t pid) {
     for (uint32_t i = 0; i < running; i++)
         if (pids[i] == pid)
             pids[i--] = pids[--running];
-    return scm_exit(&engine, pid);
+    return jw_exit(&engine, pid);
 }
 
 static int64_t play_open(uint32_t pid) {
     struct conduit *it = unowned();
     if (it == NULL)
-        return -SCM_ENFILE;
-    int64_t fd = makes(1, scm_open(&engine, pid));
+        return -JW_ENFILE;
+    int64_t fd = makes(1, jw_open(&engine, pid));
     if (fd >= 0) {
         uint64_t ino;
-        MUST(scm_ino(&engine, pid, (uint32_t)fd, &ino) == 0);
+        MUST(jw_ino(&engine, pid, (uint32_t)fd, &ino) == 0);
         own(ino, it);
     }
     return fd;
 }
 
 static int64_t play_dup(uint32_t pid) {
-    return scm_dup(&engine, pid, any_fd(pid));
+    return jw_dup(&engine, pid, any_fd(pid));
 }
 
 static int64_t play_dup2(uint32_t pid) {
-    return scm_dup2(&engine, pid, any_fd(pid), any_fd(pid));
+    return jw_dup2(&engine, pid, any_fd(pid), any_fd(pid));
 }
 
 static int64_t play_close(uint32_t pid) {
-    return scm_close(&engine, pid, any_fd(pid));
+    return jw_close(&engine, pid, any_fd(pid));
 }
 
 static int64_t play_limit(uint32_t pid) {
-    return scm_limit(&engine, pid, below(3) == 0 ? below(NOFILE) : NOFILE);
+    return jw_limit(&engine, pid, below(3) == 0 ? below(NOFILE) : NOFILE);
 }
 
 static int64_t play_pair(uint32_t pid) {
-    struct scm_pair pair;
-    return makes(2, scm_pair(&engine, pid, any_kind(), &pair));
+    struct jw_pair pair;
+    return makes(2, jw_pair(&engine, pid, any_kind(), &pair));
 }
 
 static int64_t play_socket(uint32_t pid) {
-    return makes(1, scm_socket(&engine, pid, any_kind()));
+    return makes(1, jw_socket(&engine, pid, any_kind()));
 }
 
 /* The socket that got a name last. */
@@ -293,8 +293,8 @@ static struct {
 } bound;
 
 static int64_t play_bind(uint32_t pid) {
-    uint32_t fd = any_socket(pid, SCM_IDLE);
-    int64_t answer = scm_bind(&engine, pid, fd, any_name(), 1);
+    uint32_t fd = any_socket(pid, JW_IDLE);
+    int64_t answer = jw_bind(&engine, pid, fd, any_name(), 1);
     if (answer == 0)
         bound.pid = pid, bound.fd = fd;
     return answer;
@@ -302,58 +302,58 @@ static int64_t play_bind(uint32_t pid) {
 
 static int64_t play_listen(uint32_t pid) {
     if (below(2) == 0)
-        return scm_listen(&engine, bound.pid, bound.fd, 1 + below(4));
-    return scm_listen(&engine, pid, any_socket(pid, SCM_IDLE), 1 + below(4));
+        return jw_listen(&engine, bound.pid, bound.fd, 1 + below(4));
+    return jw_listen(&engine, pid, any_socket(pid, JW_IDLE), 1 + below(4));
 }
 
 static int64_t play_connect(uint32_t pid) {
-    uint32_t fd = any_socket(pid, SCM_IDLE);
-    return makes(1, scm_connect(&engine, pid, fd, any_name(), 1));
+    uint32_t fd = any_socket(pid, JW_IDLE);
+    return makes(1, jw_connect(&engine, pid, fd, any_name(), 1));
 }
 
 static int64_t play_accept(uint32_t pid) {
-    return scm_accept(&engine, pid, any_socket(pid, SCM_LISTENING));
+    return jw_accept(&engine, pid, any_socket(pid, JW_LISTENING));
 }
 
 static int64_t play_send(uint32_t pid) {
     static const uint8_t bytes[MOST_BYTES];
-    uint32_t fds[MOST_FDS], on = any_socket(pid, SCM_CONNECTED), count = below(MOST_FDS + 1);
+    uint32_t fds[MOST_FDS], on = any_socket(pid, JW_CONNECTED), count = below(MOST_FDS + 1);
     for (uint32_t i = 0; i < count; i++)
-        fds[i] = below(3) > 0 ? any_fd(pid) : any_socket(pid, SCM_CONNECTED);
-    return scm_send(&engine, pid, on, bytes, 1 + below(MOST_BYTES), fds, count);
+        fds[i] = below(3) > 0 ? any_fd(pid) : any_socket(pid, JW_CONNECTED);
+    return jw_send(&engine, pid, on, bytes, 1 + below(MOST_BYTES), fds, count);
 }
 
 /* Receives, often with too little room. */
 static int64_t play_recv(uint32_t pid) {
     uint8_t bytes[MOST_BYTES];
-    uint32_t fds[MOST_FDS], on = any_socket(pid, SCM_CONNECTED);
-    struct scm_received out;
-    return scm_recv(&engine, pid, on, bytes, 1 + below(MOST_BYTES), fds, below(MOST_FDS), &out);
+    uint32_t fds[MOST_FDS], on = any_socket(pid, JW_CONNECTED);
+    struct jw_received out;
+    return jw_recv(&engine, pid, on, bytes, 1 + below(MOST_BYTES), fds, below(MOST_FDS), &out);
 }
 
 static int64_t play_peek(uint32_t pid) {
     uint8_t bytes[MOST_BYTES];
-    uint32_t fds[MOST_FDS], on = any_socket(pid, SCM_CONNECTED);
-    struct scm_received out;
-    return scm_peek(&engine, pid, on, bytes, 1 + below(MOST_BYTES), fds, below(MOST_FDS), &out);
+    uint32_t fds[MOST_FDS], on = any_socket(pid, JW_CONNECTED);
+    struct jw_received out;
+    return jw_peek(&engine, pid, on, bytes, 1 + below(MOST_BYTES), fds, below(MOST_FDS), &out);
 }
 
 static int64_t play_begin(uint32_t pid) {
     uint64_t pass;
     (void)pid;
-    return scm_begin(&engine, &pass);
+    return jw_begin(&engine, &pass);
 }
 
 static int64_t play_slice(uint32_t pid) {
-    struct scm_finished finished;
+    struct jw_finished finished;
     (void)pid;
-    return scm_slice(&engine, 1 + below(MOST_BUDGET), &finished);
+    return jw_slice(&engine, 1 + below(MOST_BUDGET), &finished);
 }
 
 static int64_t play_pass(uint32_t pid) {
-    struct scm_finished finished;
+    struct jw_finished finished;
     (void)pid;
-    return scm_pass(&engine, &finished);
+    return jw_pass(&engine, &finished);
 }
 
 static struct event events[] = {
@@ -395,7 +395,7 @@ static struct event *any_event(void) {
 static void play(struct event *it, uint32_t pid) {
     played = it->name;
     int64_t answer = it->play(pid);
-    MUST(answer != -SCM_ENOMEM && answer != -SCM_EDIFFERS && answer != -SCM_ENOENGINE);
+    MUST(answer != -JW_ENOMEM && answer != -JW_EDIFFERS && answer != -JW_ENOENGINE);
     it->done += answer >= 0;
     it->closed += close_released();
 }
@@ -425,7 +425,7 @@ int main(void) {
     }
     for (int i = 0; i < PIPES; i++)
         make(&pipes[i]);
-    MUST(scm_engine_new(&engine) == 0 && scm_tell_released(&engine) == 0);
+    MUST(jw_engine_new(&engine) == 0 && jw_tell_released(&engine) == 0);
 
     for (number = 1; number <= EVENTS; number++) {
         if (running == 0)
@@ -439,13 +439,13 @@ int main(void) {
     while (running > 0)
         play(event_of("exit"), pids[0]);
     uint64_t most = event_of("pass")->done + LAST_PASSES;
-    while (scm_live(&engine, &live) == 0 && live > 0) {
+    while (jw_live(&engine, &live) == 0 && live > 0) {
         MUST(event_of("pass")->done < most);
         play(event_of("slice"), 0); /* A pass that runs is finished first. */
         play(event_of("pass"), 0);
     }
     MUST(compare_ends() == PIPES && closed == opened);
-    scm_engine_free(&engine);
+    jw_engine_free(&engine);
 
     printf("pipes: %d events, %" PRIu64 " files opened and freed\n", EVENTS, opened);
     for (const struct event *it = events; it < events + KINDS; it++)

@@ -5,12 +5,12 @@ Beside it runs the plain engine in Python (tools/plain_engine.py). Each answer i
 each process: which descriptors are open, which file each refers to, and what it is ready for; and the name of each
 socket. Some 100,000 seeded events are played, begins and slices of passes among them.
 
-After every other event, drawn by the seed, the two lists are compared. `scm_released` has each file that the plain
+After every other event, drawn by the seed, the two lists are compared. `jw_released` has each file that the plain
 engine freed since the lists were emptied last, once, and no other. A socket that was live then and is live now, is not
-in `scm_changed`, and whose peer is not, is ready for what it was then. The lists are emptied at random moments.
+in `jw_changed`, and whose peer is not, is ready for what it was then. The lists are emptied at random moments.
 
 It prints the first differences. The status is 0 where there is none and both lists had something, and else 1. The
-library is built from out/libscmgc.a, as tests/embedding.sh does.
+library is built from out/libjaywardrobe.a, as tests/embedding.sh does.
 """
 import ctypes
 import os
@@ -27,16 +27,16 @@ from typing import Dict, Iterator, List, NamedTuple, Set, Tuple
 sys.dont_write_bytecode = True
 ROOT = os.path.dirname(os.path.dirname(os.path.realpath(__file__)))
 sys.path.insert(0, f"{ROOT}/tools")
-from plain_engine import Event, spelled  # noqa: E402
+from plain_engine import MAX_BYTES, Event, spelled  # noqa: E402
 
 LOADER = SourceFileLoader("walks", f"{ROOT}/tools/walks")
 walks = module_from_spec(spec_from_loader("walks", LOADER))
 LOADER.exec_module(walks)
 
-with open(f"{ROOT}/include/scmgc.h", encoding="utf-8") as header:
-    ERRORS = {int(number): name for name, number in re.findall(r"SCM_(E\w+) = (\d+)", header.read())}
+with open(f"{ROOT}/include/jaywardrobe.h", encoding="utf-8") as header:
+    ERRORS = {int(number): name for name, number in re.findall(r"JW_(E\w+) = (\d+)", header.read())}
 TYPES = {"stream": 1, "seqpacket": 2}
-# What a call answers where it is done, by its name.
+# The answer of a call that was done, by its name.
 OPENS = {"open", "dup", "dup2", "socket", "accept"}
 STARTS = {"spawn", "fork"}
 # How many walks of each mix, and how many differences are shown.
@@ -88,8 +88,8 @@ class Library:
         self.call("engine_new")
 
     def call(self, name: str, *inputs) -> int:
-        """Calls scm_NAME with the handle before these inputs."""
-        function = self.calls[f"scm_{name}"]
+        """Calls jw_NAME with the handle before these inputs."""
+        function = self.calls[f"jw_{name}"]
         function.restype = ctypes.c_int64
         answer = function(ctypes.byref(self.handle), *inputs)
         if answer < 0:
@@ -97,7 +97,7 @@ class Library:
         return answer
 
     def free(self):
-        self.calls.scm_engine_free(ctypes.byref(self.handle))
+        self.calls.jw_engine_free(ctypes.byref(self.handle))
 
     def step(self, event: Event) -> str:
         who = [] if event.pid is None else [ctypes.c_uint32(event.pid)]
@@ -168,7 +168,7 @@ class Library:
         goes_on = self.call(verb, *inputs, ctypes.byref(out))
         return "working" if goes_on else f"pass {out.passed} reclaimed {out.reclaimed}"
 
-    # What can be seen.
+    # The views.
 
     def table(self, pid: int) -> Iterator[Tuple[int, int]]:
         """The open descriptors of a process by rising number, each with its file."""
@@ -204,7 +204,7 @@ class Library:
         most, whole = self.list_within(name, count + 1, count + 1)
         cut = [*whole[: count // 2], *[UNWRITTEN] * (count + 1 - count // 2)]
         if not count == half == most or nothing != [UNWRITTEN] or few != cut or whole[count] != UNWRITTEN:
-            raise Difference(f"scm_{name} answers {count}, {half}, {most}, and writes {nothing}, {few}, {whole}")
+            raise Difference(f"jw_{name} answers {count}, {half}, {most}, and writes {nothing}, {few}, {whole}")
         return whole[:count]
 
     def list_within(self, name: str, room: int, places: int) -> Tuple[int, List[int]]:
@@ -260,7 +260,7 @@ class Looks(NamedTuple):
 
 class Told:
     """What the library tells of freed files and of readiness, beside what the plain engine had when the lists were
-    emptied last. `compare_views` comes before: what scm_poll says of each descriptor is what the plain engine says."""
+    emptied last. `compare_views` comes before: what jw_poll says of each descriptor is what the plain engine says."""
 
     def __init__(self, library: Library, seed: str):
         self.library, self.draw = library, random.Random(seed)
@@ -268,14 +268,14 @@ class Told:
         self.is_told, self.looks = False, Looks()
         self.live: Set[int] = set()
         self.next_ino = 1
-        # What each socket was ready for.
+        # The readiness of each socket before.
         self.ready: Dict[int, Tuple[bool, bool, bool]] = {}
 
     def empty(self, engine, *calls: str):
         """Empties the lists by these calls."""
         for name in calls:
             if self.library.call(name) != 0:
-                raise Difference(f"scm_{name} does not answer 0")
+                raise Difference(f"jw_{name} does not answer 0")
         if self.library.told("released") or self.library.told("changed"):
             raise Difference(f"a list is not empty after {calls[-1]}")
         self.live, self.next_ino = {it.ino for it in engine.files}, engine.next_ino
@@ -325,7 +325,15 @@ def events_of(name: str, seed: str) -> Iterator[Event]:
     for _ in range(walks.EVENTS // 4):
         event = source.event()
         yield event
-        source.note(event, engine.step(event))
+        source.note(event, engine.step(from_c(event)))
+
+
+def from_c(event: Event) -> Event:
+    """The event that a call does: room for more bytes than a message can have is taken for that many."""
+    if event.verb not in ("recv", "peek"):
+        return event
+    on, most_bytes, most_fds = event.values
+    return event._replace(values=(on, min(most_bytes, MAX_BYTES), most_fds))
 
 
 def played(task: Tuple[str, str, int]) -> Tuple[int, str, Looks]:
@@ -336,7 +344,7 @@ def played(task: Tuple[str, str, int]) -> Tuple[int, str, Looks]:
     for event in events_of(name, f"{name} from C {number}"):
         count += 1
         told = library.step(event)
-        wanted = plain.slice(event, told, library.rows()) if event.verb == "slice" else plain.other(event)
+        wanted = plain.slice(event, told, library.rows()) if event.verb == "slice" else plain.other(from_c(event))
         try:
             if told != wanted:
                 raise Difference(f"{told[:80]!r}, and not {wanted[:80]!r}")

@@ -3,7 +3,7 @@
  *     openclose  a process opens a plain file and closes it
  *     pingpong   a descriptor is sent, received and closed */
 #define _POSIX_C_SOURCE 199309L
-#include <scmgc.h>
+#include <jaywardrobe.h>
 #include <stdio.h>
 #include <time.h>
 
@@ -15,24 +15,24 @@ static double now(void) {
     return (double)t.tv_sec * 1e9 + (double)t.tv_nsec;
 }
 
-static bool openclose(scm_engine *engine) {
-    int64_t fd = scm_open(engine, 1);
-    return fd >= 0 && scm_close(engine, 1, (uint32_t)fd) == 0;
+static bool openclose(jw_engine *engine) {
+    int64_t fd = jw_open(engine, 1);
+    return fd >= 0 && jw_close(engine, 1, (uint32_t)fd) == 0;
 }
 
 /* Number 0 and 1 are a pair, and 2 a plain file. */
-static bool pingpong(scm_engine *engine) {
+static bool pingpong(jw_engine *engine) {
     static const uint8_t byte = 'a';
     static const uint32_t file = 2;
-    struct scm_received got;
+    struct jw_received got;
     uint8_t bytes[1];
     uint32_t fds[1];
-    return scm_send(engine, 1, 0, &byte, 1, &file, 1) == 1
-        && scm_recv(engine, 1, 1, bytes, 1, fds, 1, &got) == 1
-        && scm_close(engine, 1, fds[0]) == 0;
+    return jw_send(engine, 1, 0, &byte, 1, &file, 1) == 1
+        && jw_recv(engine, 1, 1, bytes, 1, fds, 1, &got) == 1
+        && jw_close(engine, 1, fds[0]) == 0;
 }
 
-static bool measure(const char *name, scm_engine *engine, bool (*round)(scm_engine *), int calls) {
+static bool measure(const char *name, jw_engine *engine, bool (*round)(jw_engine *), int calls) {
     double least = 1e18;
     for (int run = 0; run < RUNS; run++) {
         double start = now();
@@ -47,12 +47,12 @@ static bool measure(const char *name, scm_engine *engine, bool (*round)(scm_engi
 }
 
 int main(void) {
-    scm_engine engine = SCM_ENGINE_INIT;
-    struct scm_pair pair;
-    bool done = scm_engine_new(&engine) == 0 && scm_spawn(&engine, 1000, 1024, false) == 1
+    jw_engine engine = JW_ENGINE_INIT;
+    struct jw_pair pair;
+    bool done = jw_engine_new(&engine) == 0 && jw_spawn(&engine, 1000, 1024, false) == 1
         && measure("openclose", &engine, openclose, 2)
-        && scm_pair(&engine, 1, SCM_SEQPACKET, &pair) == 0 && scm_open(&engine, 1) == 2
+        && jw_pair(&engine, 1, JW_SEQPACKET, &pair) == 0 && jw_open(&engine, 1) == 2
         && measure("pingpong", &engine, pingpong, 3);
-    scm_engine_free(&engine);
+    jw_engine_free(&engine);
     return done ? 0 : 1;
 }

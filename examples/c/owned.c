@@ -3,8 +3,8 @@
  * A parent passes the file to its child. The child sends it on, together with the socket that is to
  * receive it, and exits. That socket is then in its own queue, beside the file, and no table
  * refers to either. A pass of the collector frees both, in slices. The program closes the writing
- * end when scm_released names the file. */
-#include <scmgc.h>
+ * end when jw_released names the file. */
+#include <jaywardrobe.h>
 #include <inttypes.h>
 #include <poll.h>
 #include <stdio.h>
@@ -20,36 +20,36 @@ static int host[FILES];
 /* The answer, or the end of the program with the name of the error. */
 static int64_t must(const char *what, int64_t answer) {
     if (answer < 0) {
-        fprintf(stderr, "%s: %s\n", what, scm_strerror(answer));
+        fprintf(stderr, "%s: %s\n", what, jw_strerror(answer));
         exit(1);
     }
     return answer;
 }
 
 /* Closes the host's descriptors whose files were freed. */
-static void close_released(scm_engine *engine) {
+static void close_released(jw_engine *engine) {
     uint64_t inos[FILES];
-    int64_t count = must("released", scm_released(engine, inos, FILES));
+    int64_t count = must("released", jw_released(engine, inos, FILES));
     for (int64_t i = 0; i < count; i++)
         if (host[inos[i]] > 0)
             close(host[inos[i]]);
-    must("clear", scm_clear_told(engine));
+    must("clear", jw_clear_told(engine));
 }
 
 /* Prints how many files are live, and whether the writing end is open. */
-static void show(const char *when, scm_engine *engine, int reading_end) {
+static void show(const char *when, jw_engine *engine, int reading_end) {
     struct pollfd ask = {reading_end, 0, 0};
     uint64_t live = 0;
-    must("live", scm_live(engine, &live));
+    must("live", jw_live(engine, &live));
     const char *state = poll(&ask, 1, 0) == 1 && (ask.revents & POLLHUP) ? "closed" : "open";
     printf("%-20s %" PRIu64 " files live, host descriptor %s\n", when, live, state);
 }
 
 int main(void) {
-    scm_engine engine = SCM_ENGINE_INIT;
-    struct scm_pair pair;
-    struct scm_received got;
-    struct scm_finished finished;
+    jw_engine engine = JW_ENGINE_INIT;
+    struct jw_pair pair;
+    struct jw_received got;
+    struct jw_finished finished;
     uint64_t ino, pass;
     int64_t runs;
     uint32_t fds[2];
@@ -58,39 +58,39 @@ int main(void) {
 
     if (pipe(ends) < 0)
         return 1;
-    must("engine", scm_engine_new(&engine));
-    must("tell", scm_tell_released(&engine));
-    uint32_t parent = (uint32_t)must("spawn", scm_spawn(&engine, 1000, 64, false));
-    must("pair", scm_pair(&engine, parent, SCM_SEQPACKET, &pair));
-    uint32_t child = (uint32_t)must("fork", scm_fork(&engine, parent));
+    must("engine", jw_engine_new(&engine));
+    must("tell", jw_tell_released(&engine));
+    uint32_t parent = (uint32_t)must("spawn", jw_spawn(&engine, 1000, 64, false));
+    must("pair", jw_pair(&engine, parent, JW_SEQPACKET, &pair));
+    uint32_t child = (uint32_t)must("fork", jw_fork(&engine, parent));
 
-    uint32_t file = (uint32_t)must("open", scm_open(&engine, parent));
-    must("ino", scm_ino(&engine, parent, file, &ino));
+    uint32_t file = (uint32_t)must("open", jw_open(&engine, parent));
+    must("ino", jw_ino(&engine, parent, file, &ino));
     host[ino] = ends[1];
     show("opened", &engine, ends[0]);
 
-    must("send", scm_send(&engine, parent, pair.first, text, 9, &file, 1));
-    must("exit", scm_exit(&engine, parent));
+    must("send", jw_send(&engine, parent, pair.first, text, 9, &file, 1));
+    must("exit", jw_exit(&engine, parent));
     close_released(&engine);
     show("in flight", &engine, ends[0]);
-    must("recv", scm_recv(&engine, child, pair.second, text, sizeof text, fds, 1, &got));
+    must("recv", jw_recv(&engine, child, pair.second, text, sizeof text, fds, 1, &got));
     show("received", &engine, ends[0]);
 
     /* The receiving socket is sent into its own queue. */
     fds[1] = pair.second;
-    must("send", scm_send(&engine, child, pair.first, text, 9, fds, 2));
-    must("exit", scm_exit(&engine, child));
+    must("send", jw_send(&engine, child, pair.first, text, 9, fds, 2));
+    must("exit", jw_exit(&engine, child));
     close_released(&engine);
     show("lost in a cycle", &engine, ends[0]);
 
-    must("begin", scm_begin(&engine, &pass));
+    must("begin", jw_begin(&engine, &pass));
     do {
-        runs = must("slice", scm_slice(&engine, BUDGET, &finished));
+        runs = must("slice", jw_slice(&engine, BUDGET, &finished));
         close_released(&engine);
     } while (runs == 1);
     show("collected", &engine, ends[0]);
 
-    scm_engine_free(&engine);
+    jw_engine_free(&engine);
     close(ends[0]);
     return 0;
 }

@@ -19,7 +19,7 @@ use Rattle.af_base.specs.declared.limits.TheConstants.{SCM_MAX_FD}
 abbrev first_of : Bool → Bool → Bool → Errno
 first_of a b c = if a then ESRCH else (if b then EBADF else (if c then ENOTSOCK else EINVAL))
 
--- Where the fourth test fits, what stands behind it is not looked at.
+-- If the fourth test fits, the tests behind it do not matter.
 fourth : (a b c d : Bool) (more : Row) → d ≡ true → first_fit ((a, ESRCH) ∷ (b, EBADF) ∷ (c, ENOTSOCK) ∷ (d, EINVAL) ∷ more) ≡ Some (first_of a b c)
 fourth true b c d more fits = refl
 fourth false true c d more fits = refl
@@ -31,7 +31,7 @@ either : (a b : Bool) → b ≡ true → (a || b) ≡ true
 either true b is = refl
 either false b is = is
 
--- What is refused is refused whatever would have been answered and changed.
+-- A refusal does not depend on the answer and the change that it prevents.
 alike : (o o' : Option Errno) (e : Errno) (a a' : Reply) (now now' old new : World) (r : Reply) → o ≡ Some e → o' ≡ Some e → Outcome o false a now old r new → Outcome o' false a' now' old r new
 alike o o' e a a' now now' old new r is is' h =
     let refused : Outcome (Some e) false a now old r new = subst (λ k. Outcome k false a now old r new) is h in

@@ -1,4 +1,4 @@
--- What a call from C does to the engine behind its handle, and what it answers.
+-- The effect of a call from C on the engine behind its handle, and its answer.
 use Rattle.std.specs.Prelude.{◌≡◌, ◌⊎◌, ℤ, pos, Option, Some, None}
 use Rattle.af_base.specs.Pass.{Machine}
 use Rattle.af_base.specs.Run.{Step, fresh}
@@ -29,7 +29,7 @@ CallsInto old event written x result y new =
 abbrev pub Refuses : Option Machine → Errno → ℤ → Option Machine → Type 0
 Refuses old e result new = (result ≡ error_code e) × (new ≡ old)
 
--- A new engine, to which nothing has happened; or want of memory, and none.
+-- A new engine, without any event; or out of memory, and none.
 abbrev pub Makes : ℤ → Option Machine → Type 0
 Makes result new = ((result ≡ pos 0) × (new ≡ Some fresh)) ⊎ ((result ≡ error_code ENOMEM) × (new ≡ None))
 

@@ -1,5 +1,5 @@
 -- The numbers that cross to C.
-use Rattle.std.specs.Prelude.{ℕ, ℤ, pos, ◌-ℤ◌, length, Option, Some, None, nat_eq, if◌then◌else◌}
+use Rattle.std.specs.Prelude.{ℕ, ℤ, pos, ◌+◌, ◌*◌, ◌-ℤ◌, length, Option, Some, None, nat_eq, if◌then◌else◌}
 use Rattle.af_base.specs.Errno.{number_of}
 use Rattle.af_base.specs.declared.errno.Errno.{Errno}
 use Rattle.af_base.specs.declared.events.Reply.{Reply}
@@ -15,11 +15,11 @@ below n = pos 0 -ℤ pos n
 abbrev pub error_code : Errno → ℤ
 error_code e = below (number_of e)
 
--- What a call on a handle without an engine answers (this project's own: no error number of the engine).
+-- The answer of a call on a handle without an engine (this project's own: no error number of the engine).
 abbrev pub no_engine : ℤ
 no_engine = below 100
 
--- A reply as the number that a call answers (the manual page of each call: a pid, a descriptor, how many bytes; 0 at the end of a connection, and where there is no more to say; 1 for a pass that goes on).
+-- A reply as the number that a call answers (the manual page of each call: a pid, a descriptor, how many bytes; 0 at the end of a connection, and without a number to report; 1 for a pass with work left).
 abbrev pub code_of : Reply → ℤ
 code_of (reply.Pid p) = pos p
 code_of (reply.Fd n) = pos n
@@ -33,6 +33,10 @@ code_of reply.Working = pos 1
 code_of (reply.Done n k) = pos 0
 code_of (reply.Refused e) = error_code e
 
--- The type of a socket that C names by a number: 1 is a stream, 2 a seqpacket socket (the header's SCM_STREAM, SCM_SEQPACKET).
+-- The type of a socket that C names by a number: 1 is a stream, 2 a seqpacket socket (the header's JW_STREAM, JW_SEQPACKET).
 abbrev pub type_named : ℕ → Option SockType
 type_named n = if nat_eq n 1 then Some Stream else (if nat_eq n 2 then Some Seqpacket else None)
+
+-- A version as one number, of which a later one is larger (the header's JW_VERSION).
+abbrev pub version_number : ℕ → ℕ → ℕ → ℕ
+version_number major minor patch = major * 1000000 + minor * 1000 + patch

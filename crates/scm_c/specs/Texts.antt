@@ -1,4 +1,4 @@
--- What the calls that give a name or a picture answer and write.
+-- The answers and results of the calls that give a name or a picture.
 use Rattle.std.specs.Prelude.{◌≡◌, ◌⊎◌, ℕ, ℤ, pos, List, [], length, unwrap_or}
 use Rattle.af_base.specs.declared.errno.Errno.TheVariants.{ENOMEM}
 use Rattle.af_base.specs.World.{World}
@@ -11,7 +11,7 @@ use Rattle.scm_c.specs.Written.{over}
 abbrev pub IsNameWritten : World → ℕ → List ℕ → ℤ → List ℕ → Type 0
 IsNameWritten w f old r new = let name = unwrap_or (name_at w f) [] in (r ≡ pos (length name)) × (new ≡ over name old)
 
--- The answer is how long a picture of the world is, and as much of it as fits is written; or it is want of memory, and what was there stays.
+-- The answer is the length of a picture of the world, and as much of it as fits is written; or it is out of memory, and nothing is written.
 abbrev pub IsPictureWritten : World → List ℕ → ℤ → List ℕ → Type 0
 IsPictureWritten w old r new =
     ((text : List ℕ) × IsGraph w text × (r ≡ pos (length text)) × (new ≡ over text old))

@@ -1,4 +1,4 @@
--- The calls on the list of freed files, and on that of the sockets whose readiness may have changed.
+-- The calls on the list of freed files, and on that of the sockets whose readiness may have changed. Definitions that name no manual page are this project's own.
 use Rattle.std.specs.Prelude.{◌≡◌, ◌⊎◌, ℕ, ℤ, pos, true, List, length, Option, Some, None}
 use Rattle.af_base.specs.Pass.{Machine}
 use Rattle.af_base.specs.Told.{TellsChanged, TellsReleased}
@@ -7,15 +7,15 @@ use Rattle.af_base.specs.declared.errno.Errno.TheVariants.{ENOMEM}
 use Rattle.scm_c.specs.Codes.{error_code, no_engine}
 use Rattle.scm_c.specs.Written.{over}
 
--- The machine with a list of freed files from now on; both lists are empty (this project's own).
+-- The machine with a list of freed files from now on; both lists are empty.
 abbrev pub tells_released : Machine → Machine
 tells_released m = record m { since = record { changed = m.since.changed; released = true; files = m.world.files; next = m.world.next_ino } }
 
--- The machine with a list of changed sockets from now on; both lists are empty (this project's own).
+-- The machine with a list of changed sockets from now on; both lists are empty.
 abbrev pub tells_changed : Machine → Machine
 tells_changed m = record m { since = record { changed = true; released = m.since.released; files = m.world.files; next = m.world.next_ino } }
 
--- The machine with both lists empty; which of them it keeps stays (this project's own).
+-- The machine with both lists empty; which of them it keeps stays.
 abbrev pub cleared : Machine → Machine
 cleared m = record m { since = record m.since { files = m.world.files; next = m.world.next_ino } }
 
@@ -29,10 +29,10 @@ abbrev pub MayAlter : Option Machine → (Machine → Machine) → ℤ → Optio
 MayAlter (Some m) f result new = ((result ≡ pos 0) × (new ≡ Some (f m))) ⊎ ((result ≡ error_code ENOMEM) × (new ≡ Some m))
 MayAlter None f result new = (result ≡ no_engine) × (new ≡ None)
 
--- The answer is how long the list of the freed files is, and as much of it as fits is written (this project's own).
+-- The answer is how long the list of the freed files is, and as much of it as fits is written.
 abbrev pub IsReleasedWritten : World → Since → List ℕ → ℤ → List ℕ → Type 0
 IsReleasedWritten w since old r new = (told : List ℕ) × TellsReleased w since told × (r ≡ pos (length told)) × (new ≡ over told old)
 
--- The answer is how long the list of the sockets whose readiness may have changed is, and as much of it as fits is written (this project's own).
+-- The answer is how long the list of the sockets whose readiness may have changed is, and as much of it as fits is written.
 abbrev pub IsChangedWritten : World → Since → List ℕ → ℤ → List ℕ → Type 0
 IsChangedWritten w since old r new = (told : List ℕ) × TellsChanged w since told × (r ≡ pos (length told)) × (new ≡ over told old)

@@ -1,6 +1,7 @@
--- What a call writes to the places that C gave it.
+-- The values that a call writes to the caller's places. Definitions that name no manual page are of this project's profile (docs/PROFILE.md).
 use Rattle.std.specs.Prelude.{◌≡◌, ◌⊎◌, ◌<◌, ℕ, ◌++◌, Bool, true, false, List, length, take, drop, min, Option, Some, None}
 use Rattle.af_base.specs.World.{World, is_live, IsLive}
+use Rattle.af_base.specs.declared.limits.TheConstants.{MAX_BYTES}
 use Rattle.af_base.specs.declared.events.Reply.{Reply}
 use Rattle.af_base.specs.declared.events.Reply.TheVariants as reply
 use Rattle.af_base.specs.declared.events.SockType.{SockType}
@@ -19,12 +20,12 @@ abbrev pub pair_written : Reply → Pair → Pair
 pair_written (reply.Fds n m) old = record { first = n; second = m }
 pair_written r old = old
 
--- The number of a pass that began (this project's profile).
+-- The number of a pass that began.
 abbrev pub begun_written : Reply → ℕ → ℕ
 begun_written (reply.Started n) old = n
 begun_written r old = old
 
--- The number of a pass that is over, and how many sockets it reclaimed (this project's profile).
+-- The number of a pass that is over, and how many sockets it reclaimed.
 abbrev pub finished_written : Reply → Finished → Finished
 finished_written (reply.Done n k) old = record { pass = n; reclaimed = k }
 finished_written r old = old
@@ -33,7 +34,11 @@ finished_written r old = old
 abbrev pub over : List ℕ → List ℕ → List ℕ
 over xs old = take (length old) xs ++ drop (length xs) old
 
--- A length as a number of 32 bits: the largest stands for all above it.
+-- How many bytes a receive asks for where there is room for n: no message has more (this project's own; recvmsg(2) takes any room).
+abbrev pub room : ℕ → ℕ
+room n = min n MAX_BYTES
+
+-- A length as a number of 32 bits: the largest is for all above it.
 abbrev pub as_u32 : ℕ → ℕ
 as_u32 n = min n 4294967295
 
@@ -41,7 +46,7 @@ as_u32 n = min n 4294967295
 abbrev pub Places : Type 0
 Places = List ℕ × List ℕ × Received
 
--- What a receive writes: the bytes and numbers that it got, how many numbers, and whether some bytes or descriptors were dropped; at the end of a connection, that there are no numbers (recvmsg(2); cmsg(3)).
+-- The values that a receive writes: the bytes and numbers that it got, how many numbers, and whether some bytes or descriptors were dropped; at the end of a connection, that there are no numbers (recvmsg(2); cmsg(3)).
 abbrev pub received_written : Reply → Places → Places
 received_written (reply.Got bytes fds trunc ctrunc) (xs, ns, old) = (over bytes xs, over fds ns, record { fds = length fds; trunc = trunc; ctrunc = ctrunc })
 received_written reply.End (xs, ns, old) = (xs, ns, record { fds = 0; trunc = false; ctrunc = false })
@@ -53,12 +58,12 @@ IsNextLive w f n =
     ((n ≡ 0) × ((q : ℕ) → f < q → is_live w q ≡ false))
     ⊎ ((f < n) × IsLive w n × ((q : ℕ) → f < q → q < n → is_live w q ≡ false))
 
--- A socket's type as the header numbers it (SCM_STREAM, SCM_SEQPACKET).
+-- A socket's type as the header numbers it (JW_STREAM, JW_SEQPACKET).
 abbrev pub type_number : SockType → ℕ
 type_number Stream = 1
 type_number Seqpacket = 2
 
--- A socket's state as the header numbers it (SCM_IDLE, SCM_LISTENING, SCM_CONNECTED, SCM_HUNG_UP).
+-- A socket's state as the header numbers it (JW_IDLE, JW_LISTENING, JW_CONNECTED, JW_HUNG_UP).
 abbrev pub state_number : State → ℕ
 state_number state.Idle = 0
 state_number (state.Listening b) = 1
@@ -72,7 +77,7 @@ peer_number (state.Listening b) = 0
 peer_number (state.Connected q) = q
 peer_number state.HungUp = 0
 
--- A file as C sees it: nothing live has kind 0, a plain file kind 3 (SCM_NO_FILE, SCM_PLAIN).
+-- A file as C sees it: nothing live has kind 0, a plain file kind 3 (JW_NO_FILE, JW_PLAIN).
 abbrev pub file_of : Option FileInfo → File
 file_of None = record { kind = 0; state = 0; peer = 0; messages = 0; embryos = 0 }
 file_of (Some shown.Plain) = record { kind = 3; state = 0; peer = 0; messages = 0; embryos = 0 }

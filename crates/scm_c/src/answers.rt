@@ -8,14 +8,14 @@ use af_base::events::Reply;
 /// The handle has no engine: none was made, or it was freed.
 pub(crate) const NO_ENGINE: i64 = -100;
 
-/// What a refused call answers.
+/// Returns the answer of a refused call.
 pub(crate) fn refusal(error: Errno) -> i64
     ensures { result ≡ error_code error }
 {
     -i64::from(error.number())
 }
 
-/// A reply as the number that a call answers.
+/// Returns a reply as the number that a call answers.
 pub(crate) fn code(reply: &Reply) -> i64
     ensures { result ≡ code_of reply.now }
 {

@@ -1,4 +1,4 @@
-//! What an independent recount says of an engine.
+//! An independent recount of an engine.
 ghost use Rattle.std.specs.Prelude.{◌≡◌, ◌⊎◌};
 ghost use Rattle.af_report.specs.Check.{IsChecked};
 ghost use Rattle.scm_c.specs.Calls.{Tells};
@@ -26,9 +26,10 @@ pub struct Counted {
 /// Counts all places anew, compares each number that the engine keeps with that count, and writes
 /// how many files are live and how many of them are garbage. Answers 0.
 ///
-/// Errors: SCM_ENOMEM.
+/// Errors: JW_ENOMEM.
+#[must_use]
 #[unsafe(no_mangle)]
-pub extern "C" fn scm_check(alloc: Global, engine: &mut Handle, out: &mut Counted) -> i64
+pub extern "C" fn jw_check(alloc: Global, engine: &mut Handle, out: &mut Counted) -> i64
     ensures same { engine.new.shown ≡ engine.old.shown }
     ensures value { Tells engine.old.shown (λ m c. IsChecked m.world c.live c.garbage) out.old result out.new ⊎ ((result ≡ error_code Errno.ENOMEM) × (out.new ≡ out.old)) }
 {

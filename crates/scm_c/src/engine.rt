@@ -13,9 +13,10 @@ use std::alloc::Global;
 /// Makes an engine to which nothing has happened. An engine that was in the handle is freed, also
 /// where the new one is refused. Answers 0.
 ///
-/// Errors: SCM_ENOMEM; the handle has no engine then.
+/// Errors: JW_ENOMEM; the handle has no engine then.
+#[must_use]
 #[unsafe(no_mangle)]
-pub extern "C" fn scm_engine_new(alloc: Global, engine: &mut Handle) -> i64
+pub extern "C" fn jw_engine_new(alloc: Global, engine: &mut Handle) -> i64
     ensures { Makes result engine.new.shown }
 {
     *engine = Handle::none(alloc);
@@ -37,7 +38,7 @@ pub extern "C" fn scm_engine_new(alloc: Global, engine: &mut Handle) -> i64
 
 /// Frees the engine, if there is one. The handle has no engine then.
 #[unsafe(no_mangle)]
-pub extern "C" fn scm_engine_free(alloc: Global, engine: &mut Handle)
+pub extern "C" fn jw_engine_free(alloc: Global, engine: &mut Handle)
     ensures { engine.new.shown ≡ None }
 {
     drop(engine.take(alloc));

@@ -1,20 +1,21 @@
 //! The engine for programs in C and in other languages: a static library of thin calls.
 //!
-//! C holds a word, which is null or stands for an engine (`Handle`), and gives its address to each
-//! call. A call does one event, or tells something of the engine; it answers 0 or more, or a negative
-//! error. `tools/bindings` writes `include/scmgc.h` from what is here, doc comments included.
+//! C holds a word, which is null or refers to an engine (`Handle`), and gives its address to each
+//! call. A call does one event, or reads the engine; it answers 0 or more, or a negative error.
+//! `tools/bindings` writes `include/jaywardrobe.h` from these modules, doc comments included.
 #![tactic(auto)]
 
 mod answers;
 mod audit;
 mod engine;
 mod handle;
-mod loose;
 mod messages;
 mod passes;
 mod processes;
+mod raw_box;
 mod sockets;
 mod tables;
 mod texts;
 mod told;
+mod version;
 mod views;

@@ -1,13 +1,13 @@
 //! Messages: sent, received and peeked at.
 ghost use Rattle.std.specs.Prelude.{◌≡◌, [], length, take};
 ghost use Rattle.scm_c.specs.Calls.{Calls, CallsInto};
-ghost use Rattle.scm_c.specs.Written.{as_u32, over, received_written};
+ghost use Rattle.scm_c.specs.Written.{as_u32, over, received_written, room};
 
 use crate::answers::{NO_ENGINE, code, refusal};
 use crate::engine::reply_to;
 use crate::handle::Handle;
 use af_base::events::{Event, Reply, Step};
-use af_base::limits::SCM_MAX_FD;
+use af_base::limits::{MAX_BYTES, SCM_MAX_FD};
 use af_base::names::{Fd, Pid};
 use arrayvec::ArrayVec;
 use std::alloc::Global;
@@ -31,10 +31,11 @@ pub struct Received {
 /// SCM_RIGHTS; unix(7), cmsg(3)). The bytes are copied once. Memory is requested after all other
 /// tests. Answers how many bytes were sent, which is all of them.
 ///
-/// Errors: SCM_ESRCH, SCM_EBADF, SCM_ENOTSOCK, SCM_EINVAL, SCM_EMSGSIZE, SCM_EBADF for one of
-/// `fds`, SCM_ENOTCONN, SCM_EPIPE, SCM_ETOOMANYREFS, SCM_ENOBUFS, SCM_EAGAIN, SCM_ENOMEM.
+/// Errors: JW_ESRCH, JW_EBADF, JW_ENOTSOCK, JW_EINVAL, JW_EMSGSIZE, JW_EBADF for one of
+/// `fds`, JW_ENOTCONN, JW_EPIPE, JW_ETOOMANYREFS, JW_ENOBUFS, JW_EAGAIN, JW_ENOMEM.
+#[must_use]
 #[unsafe(no_mangle)]
-pub extern "C" fn scm_send(
+pub extern "C" fn jw_send(
     alloc: Global,
     engine: &mut Handle,
     pid: u32,
@@ -67,17 +68,18 @@ fn push_first(fds: &[u32], first: &mut ArrayVec<Fd, MOST>)
     }
 }
 
-/// Receives at most `len` bytes, 1 to 65536, and at most `nfds` descriptors (recvmsg(2) with
-/// SCM_RIGHTS). Writes the bytes and the new descriptors, and to `out` how many descriptors there
-/// are and what did not fit. Answers how many bytes it wrote, or 0 where nothing is left and the
-/// peer is gone.
+/// Receives at most `len` bytes, 1 or more, and at most `nfds` descriptors (recvmsg(2) with
+/// SCM_RIGHTS). More room than 65536 bytes is taken for 65536. Writes the bytes and the new
+/// descriptors, and to `out` how many descriptors there are and what did not fit. Answers how many
+/// bytes it wrote, or 0 where nothing is left and the peer is gone.
 ///
 /// A packet's bytes beyond `len` are dropped; a stream's wait for the next receive. Descriptors
 /// beyond `nfds` or beyond the free ones are closed.
 ///
-/// Errors: SCM_ESRCH, SCM_EBADF, SCM_ENOTSOCK, SCM_EINVAL, SCM_ENOTCONN, SCM_EAGAIN, SCM_ENOMEM.
+/// Errors: JW_ESRCH, JW_EBADF, JW_ENOTSOCK, JW_EINVAL, JW_ENOTCONN, JW_EAGAIN, JW_ENOMEM.
+#[must_use]
 #[unsafe(no_mangle)]
-pub extern "C" fn scm_recv(
+pub extern "C" fn jw_recv(
     alloc: Global,
     engine: &mut Handle,
     pid: u32,
@@ -86,24 +88,25 @@ pub extern "C" fn scm_recv(
     fds: &mut [u32],
     out: &mut Received,
 ) -> i64
-    ensures { CallsInto engine.old.shown (Event.Proc pid (Step.Recv fd (as_u32 (length bytes.old)) (as_u32 (length fds.old)))) received_written (bytes.old, fds.old, out.old) result (bytes.new, fds.new, out.new) engine.new.shown }
+    ensures { CallsInto engine.old.shown (Event.Proc pid (Step.Recv fd (room (length bytes.old)) (as_u32 (length fds.old)))) received_written (bytes.old, fds.old, out.old) result (bytes.new, fds.new, out.new) engine.new.shown }
 {
     let step = Step::Recv {
         on: Fd(fd),
-        max_bytes: as_u32(bytes.len()),
+        max_bytes: room(bytes.len()),
         max_fds: as_u32(fds.len()),
     };
     receive(alloc, engine, &Event::Proc(Pid(pid), step), bytes, fds, out)
 }
 
-/// Writes and answers what scm_recv would, but takes nothing from the queue (recvmsg(2), MSG_PEEK).
+/// Writes and answers what jw_recv would, but takes nothing from the queue (recvmsg(2), MSG_PEEK).
 ///
 /// The descriptors are installed and also stay in the queue, where they are still charged. A second
 /// peek installs them again. Bytes and descriptors that do not fit stay in the queue too.
 ///
-/// Errors: SCM_ESRCH, SCM_EBADF, SCM_ENOTSOCK, SCM_EINVAL, SCM_ENOTCONN, SCM_EAGAIN, SCM_ENOMEM.
+/// Errors: JW_ESRCH, JW_EBADF, JW_ENOTSOCK, JW_EINVAL, JW_ENOTCONN, JW_EAGAIN, JW_ENOMEM.
+#[must_use]
 #[unsafe(no_mangle)]
-pub extern "C" fn scm_peek(
+pub extern "C" fn jw_peek(
     alloc: Global,
     engine: &mut Handle,
     pid: u32,
@@ -112,11 +115,11 @@ pub extern "C" fn scm_peek(
     fds: &mut [u32],
     out: &mut Received,
 ) -> i64
-    ensures { CallsInto engine.old.shown (Event.Proc pid (Step.Peek fd (as_u32 (length bytes.old)) (as_u32 (length fds.old)))) received_written (bytes.old, fds.old, out.old) result (bytes.new, fds.new, out.new) engine.new.shown }
+    ensures { CallsInto engine.old.shown (Event.Proc pid (Step.Peek fd (room (length bytes.old)) (as_u32 (length fds.old)))) received_written (bytes.old, fds.old, out.old) result (bytes.new, fds.new, out.new) engine.new.shown }
 {
     let step = Step::Peek {
         on: Fd(fd),
-        max_bytes: as_u32(bytes.len()),
+        max_bytes: room(bytes.len()),
         max_fds: as_u32(fds.len()),
     };
     receive(alloc, engine, &Event::Proc(Pid(pid), step), bytes, fds, out)
@@ -140,7 +143,14 @@ fn receive(
     code(&reply)
 }
 
-/// A length as a number of 32 bits; the largest stands for all above it.
+/// Returns how many bytes to ask for with this much room: at most what a message can have.
+fn room(length: usize) -> u32
+    ensures { result ≡ room length }
+{
+    length.min(MAX_BYTES) as u32
+}
+
+/// Returns a length as a number of 32 bits; the largest is for all above it.
 fn as_u32(length: usize) -> u32
     ensures { result ≡ as_u32 length }
 {

@@ -22,9 +22,10 @@ pub struct Finished {
 /// Begins a pass of the collector, and writes its number. It costs the same with few files and with
 /// many. Answers 0.
 ///
-/// Errors: SCM_EBUSY.
+/// Errors: JW_EBUSY.
+#[must_use]
 #[unsafe(no_mangle)]
-pub extern "C" fn scm_begin(alloc: Global, engine: &mut Handle, pass: &mut u64) -> i64
+pub extern "C" fn jw_begin(alloc: Global, engine: &mut Handle, pass: &mut u64) -> i64
     ensures { CallsInto engine.old.shown Event.Begin begun_written pass.old result pass.new engine.new.shown }
 {
     let Some(reply) = reply_to(alloc, engine, &Event::Begin) else {
@@ -37,11 +38,12 @@ pub extern "C" fn scm_begin(alloc: Global, engine: &mut Handle, pass: &mut u64) 
 }
 
 /// Continues the pass by at most `budget` files, 1 to 65536. Answers 1 while the pass runs. Answers
-/// 0 when it is over, and writes what scm_pass writes.
+/// 0 when it is over, and writes what jw_pass writes.
 ///
-/// Errors: SCM_EIDLE, SCM_EINVAL.
+/// Errors: JW_EIDLE, JW_EINVAL.
+#[must_use]
 #[unsafe(no_mangle)]
-pub extern "C" fn scm_slice(
+pub extern "C" fn jw_slice(
     alloc: Global,
     engine: &mut Handle,
     budget: u32,
@@ -55,9 +57,10 @@ pub extern "C" fn scm_slice(
 /// Does a whole pass at once: reclaims what no process can reach. Writes the number of the pass,
 /// and how many sockets were garbage. Answers 0.
 ///
-/// Errors: SCM_EBUSY.
+/// Errors: JW_EBUSY.
+#[must_use]
 #[unsafe(no_mangle)]
-pub extern "C" fn scm_pass(alloc: Global, engine: &mut Handle, out: &mut Finished) -> i64
+pub extern "C" fn jw_pass(alloc: Global, engine: &mut Handle, out: &mut Finished) -> i64
     ensures { CallsInto engine.old.shown Event.Pass finished_written out.old result out.new engine.new.shown }
 {
     collect(alloc, engine, &Event::Pass, out)

@@ -12,9 +12,10 @@ use std::alloc::Global;
 /// on its descriptors (RLIMIT_NOFILE, getrlimit(2)). A privileged process is not held to its user's
 /// share of descriptors in flight (unix(7), CAP_SYS_RESOURCE). Answers its pid.
 ///
-/// Errors: SCM_ERANGE, SCM_EAGAIN, SCM_ENOMEM.
+/// Errors: JW_ERANGE, JW_EAGAIN, JW_ENOMEM.
+#[must_use]
 #[unsafe(no_mangle)]
-pub extern "C" fn scm_spawn(
+pub extern "C" fn jw_spawn(
     alloc: Global,
     engine: &mut Handle,
     uid: u32,
@@ -33,9 +34,10 @@ pub extern "C" fn scm_spawn(
 
 /// Opens a plain file (open(2)). Answers its descriptor, the lowest that is free.
 ///
-/// Errors: SCM_ESRCH, SCM_EMFILE, SCM_ENFILE, SCM_ENOMEM.
+/// Errors: JW_ESRCH, JW_EMFILE, JW_ENFILE, JW_ENOMEM.
+#[must_use]
 #[unsafe(no_mangle)]
-pub extern "C" fn scm_open(alloc: Global, engine: &mut Handle, pid: u32) -> i64
+pub extern "C" fn jw_open(alloc: Global, engine: &mut Handle, pid: u32) -> i64
     ensures { Calls engine.old.shown (Event.Proc pid Step.Open) result engine.new.shown }
 {
     let Some(mut inside) = engine.take(alloc) else {
@@ -51,9 +53,10 @@ pub extern "C" fn scm_open(alloc: Global, engine: &mut Handle, pid: u32) -> i64
 
 /// Duplicates a descriptor (dup(2)). Answers the new descriptor, the lowest that is free.
 ///
-/// Errors: SCM_ESRCH, SCM_EBADF, SCM_EMFILE, SCM_ENOMEM.
+/// Errors: JW_ESRCH, JW_EBADF, JW_EMFILE, JW_ENOMEM.
+#[must_use]
 #[unsafe(no_mangle)]
-pub extern "C" fn scm_dup(alloc: Global, engine: &mut Handle, pid: u32, fd: u32) -> i64
+pub extern "C" fn jw_dup(alloc: Global, engine: &mut Handle, pid: u32, fd: u32) -> i64
     ensures { Calls engine.old.shown (Event.Proc pid (Step.Dup fd)) result engine.new.shown }
 {
     call_of(alloc, engine, pid, Step::Dup(Fd(fd)))
@@ -62,9 +65,10 @@ pub extern "C" fn scm_dup(alloc: Global, engine: &mut Handle, pid: u32, fd: u32)
 /// Duplicates a descriptor at a given number, in place of what that number had (dup2(2)). Answers
 /// that number.
 ///
-/// Errors: SCM_ESRCH, SCM_EBADF, SCM_ENOMEM.
+/// Errors: JW_ESRCH, JW_EBADF, JW_ENOMEM.
+#[must_use]
 #[unsafe(no_mangle)]
-pub extern "C" fn scm_dup2(alloc: Global, engine: &mut Handle, pid: u32, from: u32, to: u32) -> i64
+pub extern "C" fn jw_dup2(alloc: Global, engine: &mut Handle, pid: u32, from: u32, to: u32) -> i64
     ensures { Calls engine.old.shown (Event.Proc pid (Step.Dup2 from to)) result engine.new.shown }
 {
     call_of(alloc, engine, pid, Step::Dup2(Fd(from), Fd(to)))
@@ -72,9 +76,9 @@ pub extern "C" fn scm_dup2(alloc: Global, engine: &mut Handle, pid: u32, from: u
 
 /// Closes a descriptor (close(2)). Answers 0.
 ///
-/// Errors: SCM_ESRCH, SCM_EBADF.
+/// Errors: JW_ESRCH, JW_EBADF.
 #[unsafe(no_mangle)]
-pub extern "C" fn scm_close(alloc: Global, engine: &mut Handle, pid: u32, fd: u32) -> i64
+pub extern "C" fn jw_close(alloc: Global, engine: &mut Handle, pid: u32, fd: u32) -> i64
     ensures { Calls engine.old.shown (Event.Proc pid (Step.Close fd)) result engine.new.shown }
 {
     let Some(mut inside) = engine.take(alloc) else {
@@ -90,9 +94,10 @@ pub extern "C" fn scm_close(alloc: Global, engine: &mut Handle, pid: u32, fd: u3
 
 /// Makes a child of the process, with a copy of its table (fork(2)). Answers the child's pid.
 ///
-/// Errors: SCM_ESRCH, SCM_EAGAIN, SCM_ENOMEM.
+/// Errors: JW_ESRCH, JW_EAGAIN, JW_ENOMEM.
+#[must_use]
 #[unsafe(no_mangle)]
-pub extern "C" fn scm_fork(alloc: Global, engine: &mut Handle, pid: u32) -> i64
+pub extern "C" fn jw_fork(alloc: Global, engine: &mut Handle, pid: u32) -> i64
     ensures { Calls engine.old.shown (Event.Proc pid Step.Fork) result engine.new.shown }
 {
     call_of(alloc, engine, pid, Step::Fork)
@@ -102,9 +107,10 @@ pub extern "C" fn scm_fork(alloc: Global, engine: &mut Handle, pid: u32) -> i64
 /// RLIMIT_NOFILE). There is no hard limit. Open descriptors stay open, also at or above the limit.
 /// Answers 0.
 ///
-/// Errors: SCM_ESRCH, SCM_ERANGE.
+/// Errors: JW_ESRCH, JW_ERANGE.
+#[must_use]
 #[unsafe(no_mangle)]
-pub extern "C" fn scm_limit(alloc: Global, engine: &mut Handle, pid: u32, nofile: u32) -> i64
+pub extern "C" fn jw_limit(alloc: Global, engine: &mut Handle, pid: u32, nofile: u32) -> i64
     ensures { Calls engine.old.shown (Event.Proc pid (Step.Limit nofile)) result engine.new.shown }
 {
     call_of(alloc, engine, pid, Step::Limit(nofile))
@@ -112,9 +118,9 @@ pub extern "C" fn scm_limit(alloc: Global, engine: &mut Handle, pid: u32, nofile
 
 /// Ends the process and closes its descriptors (_exit(2)). Answers 0.
 ///
-/// Errors: SCM_ESRCH.
+/// Errors: JW_ESRCH.
 #[unsafe(no_mangle)]
-pub extern "C" fn scm_exit(alloc: Global, engine: &mut Handle, pid: u32) -> i64
+pub extern "C" fn jw_exit(alloc: Global, engine: &mut Handle, pid: u32) -> i64
     ensures { Calls engine.old.shown (Event.Proc pid Step.Exit) result engine.new.shown }
 {
     call_of(alloc, engine, pid, Step::Exit)

@@ -23,13 +23,14 @@ pub struct Pair {
     pub second: u32,
 }
 
-/// Makes two connected sockets of type SCM_STREAM or SCM_SEQPACKET (socketpair(2)), and writes
+/// Makes two connected sockets of type JW_STREAM or JW_SEQPACKET (socketpair(2)), and writes
 /// their descriptors. Answers 0.
 ///
-/// Errors: SCM_EINVAL for another type, before all else; SCM_ESRCH, SCM_EMFILE, SCM_ENFILE,
-/// SCM_ENOMEM.
+/// Errors: JW_EINVAL for another type, before all else; JW_ESRCH, JW_EMFILE, JW_ENFILE,
+/// JW_ENOMEM.
+#[must_use]
 #[unsafe(no_mangle)]
-pub extern "C" fn scm_pair(
+pub extern "C" fn jw_pair(
     alloc: Global,
     engine: &mut Handle,
     pid: u32,
@@ -63,7 +64,7 @@ fn write_pair(reply: &Reply, out: &mut Pair)
     }
 }
 
-/// The type that C names by this number.
+/// Returns the type that C names by this number.
 fn type_named(kind: u32) -> Option<SockType>
     ensures { result ≡ type_named kind }
 {
@@ -74,12 +75,13 @@ fn type_named(kind: u32) -> Option<SockType>
     }
 }
 
-/// Makes a socket of type SCM_STREAM or SCM_SEQPACKET (socket(2)). Answers its descriptor.
+/// Makes a socket of type JW_STREAM or JW_SEQPACKET (socket(2)). Answers its descriptor.
 ///
-/// Errors: SCM_EINVAL for another type, before all else; SCM_ESRCH, SCM_EMFILE, SCM_ENFILE,
-/// SCM_ENOMEM.
+/// Errors: JW_EINVAL for another type, before all else; JW_ESRCH, JW_EMFILE, JW_ENFILE,
+/// JW_ENOMEM.
+#[must_use]
 #[unsafe(no_mangle)]
-pub extern "C" fn scm_socket(alloc: Global, engine: &mut Handle, pid: u32, kind: u32) -> i64
+pub extern "C" fn jw_socket(alloc: Global, engine: &mut Handle, pid: u32, kind: u32) -> i64
     ensures made { IfSome (type_named kind) (λ k. Calls engine.old.shown (Event.Proc pid (Step.Socket k)) result engine.new.shown) }
     ensures invalid { IfNone (type_named kind) (Refuses engine.old.shown Errno.EINVAL result engine.new.shown) }
 {
@@ -92,16 +94,11 @@ pub extern "C" fn scm_socket(alloc: Global, engine: &mut Handle, pid: u32, kind:
 /// Gives a socket an abstract name (bind(2), unix(7)): 1 to 107 letters, digits, '-', '.' and '_'.
 /// The name is copied first. Answers 0.
 ///
-/// Errors: SCM_ESRCH, SCM_EBADF, SCM_ENOTSOCK, SCM_EINVAL, SCM_EADDRINUSE; SCM_ENOMEM, which here
+/// Errors: JW_ESRCH, JW_EBADF, JW_ENOTSOCK, JW_EINVAL, JW_EADDRINUSE; JW_ENOMEM, which here
 /// may come before these.
+#[must_use]
 #[unsafe(no_mangle)]
-pub extern "C" fn scm_bind(
-    alloc: Global,
-    engine: &mut Handle,
-    pid: u32,
-    fd: u32,
-    name: &[u8],
-) -> i64
+pub extern "C" fn jw_bind(alloc: Global, engine: &mut Handle, pid: u32, fd: u32, name: &[u8]) -> i64
     ensures { Calls engine.old.shown (Event.Proc pid (Step.Bind fd name.now)) result engine.new.shown ⊎ Refuses engine.old.shown Errno.ENOMEM result engine.new.shown }
 {
     match items(alloc, name) {
@@ -112,9 +109,10 @@ pub extern "C" fn scm_bind(
 
 /// Lets a socket with a name wait for connections, with room for 1 to 128 (listen(2)). Answers 0.
 ///
-/// Errors: SCM_ESRCH, SCM_EBADF, SCM_ENOTSOCK, SCM_EINVAL, SCM_ENOMEM.
+/// Errors: JW_ESRCH, JW_EBADF, JW_ENOTSOCK, JW_EINVAL, JW_ENOMEM.
+#[must_use]
 #[unsafe(no_mangle)]
-pub extern "C" fn scm_listen(
+pub extern "C" fn jw_listen(
     alloc: Global,
     engine: &mut Handle,
     pid: u32,
@@ -133,10 +131,11 @@ pub extern "C" fn scm_listen(
 /// Connects a socket to the listener of this name, without waiting (connect(2)). The socket is
 /// connected at once, and the other end waits to be accepted. The name is copied first. Answers 0.
 ///
-/// Errors: SCM_ESRCH, SCM_EBADF, SCM_ENOTSOCK, SCM_EINVAL, SCM_EISCONN, SCM_ECONNREFUSED,
-/// SCM_EPROTOTYPE, SCM_EAGAIN, SCM_ENFILE; SCM_ENOMEM, which here may come before these.
+/// Errors: JW_ESRCH, JW_EBADF, JW_ENOTSOCK, JW_EINVAL, JW_EISCONN, JW_ECONNREFUSED,
+/// JW_EPROTOTYPE, JW_EAGAIN, JW_ENFILE; JW_ENOMEM, which here may come before these.
+#[must_use]
 #[unsafe(no_mangle)]
-pub extern "C" fn scm_connect(
+pub extern "C" fn jw_connect(
     alloc: Global,
     engine: &mut Handle,
     pid: u32,
@@ -151,7 +150,7 @@ pub extern "C" fn scm_connect(
     }
 }
 
-/// A copy of these bytes.
+/// Copies these bytes.
 fn items(alloc: Global, bytes: &[u8]) -> Result<Items<u8>, AllocError>
     ensures { IfOk result (λ copy. copy ≡ bytes.now) }
 {
@@ -161,9 +160,10 @@ fn items(alloc: Global, bytes: &[u8]) -> Result<Items<u8>, AllocError>
 /// Accepts the connection that waits longest at a listener (accept(2)). Answers the new socket's
 /// descriptor.
 ///
-/// Errors: SCM_ESRCH, SCM_EBADF, SCM_ENOTSOCK, SCM_EINVAL, SCM_EAGAIN, SCM_EMFILE, SCM_ENOMEM.
+/// Errors: JW_ESRCH, JW_EBADF, JW_ENOTSOCK, JW_EINVAL, JW_EAGAIN, JW_EMFILE, JW_ENOMEM.
+#[must_use]
 #[unsafe(no_mangle)]
-pub extern "C" fn scm_accept(alloc: Global, engine: &mut Handle, pid: u32, fd: u32) -> i64
+pub extern "C" fn jw_accept(alloc: Global, engine: &mut Handle, pid: u32, fd: u32) -> i64
     ensures { Calls engine.old.shown (Event.Proc pid (Step.Accept fd)) result engine.new.shown }
 {
     call_of(alloc, engine, pid, Step::Accept(Fd(fd)))

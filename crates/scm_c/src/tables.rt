@@ -14,7 +14,7 @@ use std::alloc::Global;
 /// Writes the inode number of the file that a descriptor refers to, or 0 where the descriptor is not
 /// open or there is no such process. Answers 0.
 #[unsafe(no_mangle)]
-pub extern "C" fn scm_ino(
+pub extern "C" fn jw_ino(
     alloc: Global,
     engine: &mut Handle,
     pid: u32,
@@ -38,9 +38,10 @@ pub extern "C" fn scm_ino(
 /// Answers the lowest open descriptor of a process that is not below `from`, and writes the inode
 /// number of its file. A walk over a table asks again from the next number.
 ///
-/// Errors: SCM_EBADF; no descriptor is open from there on, or there is no such process.
+/// Errors: JW_EBADF; no descriptor is open from there on, or there is no such process.
+#[must_use]
 #[unsafe(no_mangle)]
-pub extern "C" fn scm_next_fd(
+pub extern "C" fn jw_next_fd(
     alloc: Global,
     engine: &mut Handle,
     pid: u32,
@@ -64,7 +65,7 @@ pub extern "C" fn scm_next_fd(
     }
 }
 
-/// What a descriptor is ready for.
+/// The readiness of a descriptor.
 #[repr(C)]
 #[derive(Clone, Copy)]
 pub struct Ready {
@@ -79,9 +80,10 @@ pub struct Ready {
 /// Writes what a descriptor is ready for (poll(2)). A plain file is always readable and writable.
 /// Answers 0.
 ///
-/// Errors: SCM_ESRCH, SCM_EBADF.
+/// Errors: JW_ESRCH, JW_EBADF.
+#[must_use]
 #[unsafe(no_mangle)]
-pub extern "C" fn scm_poll(
+pub extern "C" fn jw_poll(
     alloc: Global,
     engine: &mut Handle,
     pid: u32,

@@ -13,8 +13,9 @@ use std::alloc::Global;
 
 /// Writes the abstract name of a socket (unix(7)), as many bytes as there is room for. Answers how
 /// many bytes the name has: 0 where the file has none, or is unknown. It needs no memory.
+#[must_use]
 #[unsafe(no_mangle)]
-pub extern "C" fn scm_name(alloc: Global, engine: &mut Handle, ino: u64, name: &mut [u8]) -> i64
+pub extern "C" fn jw_name(alloc: Global, engine: &mut Handle, ino: u64, name: &mut [u8]) -> i64
     ensures same { engine.new.shown ≡ engine.old.shown }
     ensures value { Asks engine.old.shown (λ m r y. IsNameWritten m.world ino name.old r y) name.old result name.new }
 {
@@ -23,7 +24,7 @@ pub extern "C" fn scm_name(alloc: Global, engine: &mut Handle, ino: u64, name: &
     };
     let length = match inside.name(Ino(ino)) {
         Some(found) => {
-            write_bytes(found.as_slice(), name);
+            write_bytes(found, name);
             found.len() as i64
         }
         None => 0,
@@ -35,9 +36,10 @@ pub extern "C" fn scm_name(alloc: Global, engine: &mut Handle, ino: u64, name: &
 /// Writes a picture of all files, with what refers to each, in the language of Graphviz; garbage is
 /// pink. Writes as many bytes as there is room for. Answers how many bytes the picture has.
 ///
-/// Errors: SCM_ENOMEM.
+/// Errors: JW_ENOMEM.
+#[must_use]
 #[unsafe(no_mangle)]
-pub extern "C" fn scm_graph(alloc: Global, engine: &mut Handle, text: &mut [u8]) -> i64
+pub extern "C" fn jw_graph(alloc: Global, engine: &mut Handle, text: &mut [u8]) -> i64
     ensures same { engine.new.shown ≡ engine.old.shown }
     ensures value { Asks engine.old.shown (λ m r y. IsPictureWritten m.world text.old r y) text.old result text.new }
 {

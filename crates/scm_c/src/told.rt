@@ -10,13 +10,14 @@ use af_base::errno::Errno;
 use af_base::names::{FileRef, Ino};
 use std::alloc::Global;
 
-/// Asks for the list of freed files, which scm_released writes, and empties both lists. A call that
+/// Asks for the list of freed files, which jw_released writes, and empties both lists. A call that
 /// makes a file reserves room in the list from now on, so a call that frees files needs no memory.
 /// Answers 0.
 ///
-/// Errors: SCM_ENOMEM.
+/// Errors: JW_ENOMEM.
+#[must_use]
 #[unsafe(no_mangle)]
-pub extern "C" fn scm_tell_released(alloc: Global, engine: &mut Handle) -> i64
+pub extern "C" fn jw_tell_released(alloc: Global, engine: &mut Handle) -> i64
     ensures { MayAlter engine.old.shown tells_released result engine.new.shown }
 {
     let Some(mut inside) = engine.take(alloc) else {
@@ -30,13 +31,14 @@ pub extern "C" fn scm_tell_released(alloc: Global, engine: &mut Handle) -> i64
     }
 }
 
-/// Asks for the list of sockets whose readiness may have changed (poll(2)), which scm_changed
+/// Asks for the list of sockets whose readiness may have changed (poll(2)), which jw_changed
 /// writes, and empties both lists. A call that makes a file reserves room in the list from now on,
 /// so no other call needs memory for it. Answers 0.
 ///
-/// Errors: SCM_ENOMEM.
+/// Errors: JW_ENOMEM.
+#[must_use]
 #[unsafe(no_mangle)]
-pub extern "C" fn scm_tell_changed(alloc: Global, engine: &mut Handle) -> i64
+pub extern "C" fn jw_tell_changed(alloc: Global, engine: &mut Handle) -> i64
     ensures { MayAlter engine.old.shown tells_changed result engine.new.shown }
 {
     let Some(mut inside) = engine.take(alloc) else {
@@ -52,9 +54,10 @@ pub extern "C" fn scm_tell_changed(alloc: Global, engine: &mut Handle) -> i64
 
 /// Writes the inode numbers of the files that were freed since the lists were emptied last, each
 /// once, as many as there is room for. Answers the length of the list, which is 0 before
-/// scm_tell_released. It needs no memory.
+/// jw_tell_released. It needs no memory.
+#[must_use]
 #[unsafe(no_mangle)]
-pub extern "C" fn scm_released(alloc: Global, engine: &mut Handle, inos: &mut [u64]) -> i64
+pub extern "C" fn jw_released(alloc: Global, engine: &mut Handle, inos: &mut [u64]) -> i64
     ensures same { engine.new.shown ≡ engine.old.shown }
     ensures value { Asks engine.old.shown (λ m r y. IsReleasedWritten m.world m.since inos.old r y) inos.old result inos.new }
 {
@@ -70,11 +73,12 @@ pub extern "C" fn scm_released(alloc: Global, engine: &mut Handle, inos: &mut [u
 
 /// Writes the inode numbers of the live sockets whose readiness may have changed since the lists
 /// were emptied last, each once, as many as there is room for. Answers the length of the list, which
-/// is 0 before scm_tell_changed. It needs no memory.
+/// is 0 before jw_tell_changed. It needs no memory.
 ///
-/// For a socket that is not in the list, and whose peer is not, scm_poll writes what it did then.
+/// For a socket that is not in the list, and whose peer is not, jw_poll writes what it did then.
+#[must_use]
 #[unsafe(no_mangle)]
-pub extern "C" fn scm_changed(alloc: Global, engine: &mut Handle, inos: &mut [u64]) -> i64
+pub extern "C" fn jw_changed(alloc: Global, engine: &mut Handle, inos: &mut [u64]) -> i64
     ensures same { engine.new.shown ≡ engine.old.shown }
     ensures value { Asks engine.old.shown (λ m r y. IsChangedWritten m.world m.since inos.old r y) inos.old result inos.new }
 {
@@ -90,7 +94,7 @@ pub extern "C" fn scm_changed(alloc: Global, engine: &mut Handle, inos: &mut [u6
 
 /// Empties both lists. It needs no memory. Answers 0.
 #[unsafe(no_mangle)]
-pub extern "C" fn scm_clear_told(alloc: Global, engine: &mut Handle) -> i64
+pub extern "C" fn jw_clear_told(alloc: Global, engine: &mut Handle) -> i64
     ensures { Alters engine.old.shown cleared result engine.new.shown }
 {
     let Some(mut inside) = engine.take(alloc) else {

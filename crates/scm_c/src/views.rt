@@ -1,4 +1,4 @@
-//! What can be seen of an engine. None of these changes it, or takes memory.
+//! The views of an engine. None of these changes it, or takes memory.
 ghost use Rattle.std.specs.Prelude.{◌≡◌, Some, pos};
 ghost use Rattle.std.specs.FinMap as map;
 ghost use Rattle.af_base.specs.Counts.{charged, inflight, refs, total};
@@ -16,7 +16,7 @@ use std::alloc::Global;
 /// Writes how many places in tables, queues and backlogs hold the file: its reference count. Writes
 /// 0 for an unknown file. Answers 0.
 #[unsafe(no_mangle)]
-pub extern "C" fn scm_refs(alloc: Global, engine: &mut Handle, ino: u64, count: &mut u64) -> i64
+pub extern "C" fn jw_refs(alloc: Global, engine: &mut Handle, ino: u64, count: &mut u64) -> i64
     ensures same { engine.new.shown ≡ engine.old.shown }
     ensures value { Tells engine.old.shown (λ m n. n ≡ refs m.world ino) count.old result count.new }
 {
@@ -31,7 +31,7 @@ pub extern "C" fn scm_refs(alloc: Global, engine: &mut Handle, ino: u64, count: 
 /// Writes how often the file is in flight, repeats included (unix(7), SCM_RIGHTS). Writes 0 for an
 /// unknown file. Answers 0.
 #[unsafe(no_mangle)]
-pub extern "C" fn scm_inflight(alloc: Global, engine: &mut Handle, ino: u64, count: &mut u64) -> i64
+pub extern "C" fn jw_inflight(alloc: Global, engine: &mut Handle, ino: u64, count: &mut u64) -> i64
     ensures same { engine.new.shown ≡ engine.old.shown }
     ensures value { Tells engine.old.shown (λ m n. n ≡ inflight m.world ino) count.old result count.new }
 {
@@ -46,7 +46,7 @@ pub extern "C" fn scm_inflight(alloc: Global, engine: &mut Handle, ino: u64, cou
 /// Writes how many descriptors in flight are charged to the user (unix(7), ETOOMANYREFS). Writes 0
 /// for an unknown user. Answers 0.
 #[unsafe(no_mangle)]
-pub extern "C" fn scm_charged(alloc: Global, engine: &mut Handle, uid: u32, count: &mut u64) -> i64
+pub extern "C" fn jw_charged(alloc: Global, engine: &mut Handle, uid: u32, count: &mut u64) -> i64
     ensures same { engine.new.shown ≡ engine.old.shown }
     ensures value { Tells engine.old.shown (λ m n. n ≡ charged m.world uid) count.old result count.new }
 {
@@ -60,7 +60,7 @@ pub extern "C" fn scm_charged(alloc: Global, engine: &mut Handle, uid: u32, coun
 
 /// Writes how many descriptors are in flight. Answers 0.
 #[unsafe(no_mangle)]
-pub extern "C" fn scm_total(alloc: Global, engine: &mut Handle, count: &mut u64) -> i64
+pub extern "C" fn jw_total(alloc: Global, engine: &mut Handle, count: &mut u64) -> i64
     ensures same { engine.new.shown ≡ engine.old.shown }
     ensures value { Tells engine.old.shown (λ m n. n ≡ total m.world) count.old result count.new }
 {
@@ -74,7 +74,7 @@ pub extern "C" fn scm_total(alloc: Global, engine: &mut Handle, count: &mut u64)
 
 /// Writes how many files are live. Answers 0.
 #[unsafe(no_mangle)]
-pub extern "C" fn scm_live(alloc: Global, engine: &mut Handle, count: &mut u64) -> i64
+pub extern "C" fn jw_live(alloc: Global, engine: &mut Handle, count: &mut u64) -> i64
     ensures same { engine.new.shown ≡ engine.old.shown }
     ensures value { Tells engine.old.shown (λ m n. n ≡ map.len m.world.files) count.old result count.new }
 {
@@ -89,12 +89,7 @@ pub extern "C" fn scm_live(alloc: Global, engine: &mut Handle, count: &mut u64) 
 /// Writes the least live file above `ino`, or 0 where there is none. A walk from 0 on comes to
 /// every live file. Answers 0.
 #[unsafe(no_mangle)]
-pub extern "C" fn scm_next_after(
-    alloc: Global,
-    engine: &mut Handle,
-    ino: u64,
-    next: &mut u64,
-) -> i64
+pub extern "C" fn jw_next_after(alloc: Global, engine: &mut Handle, ino: u64, next: &mut u64) -> i64
     ensures same { engine.new.shown ≡ engine.old.shown }
     ensures value { Tells engine.old.shown (λ m n. IsNextLive m.world ino n) next.old result next.new }
 {
@@ -110,8 +105,9 @@ pub extern "C" fn scm_next_after(
 }
 
 /// Answers the pid that the next process gets.
+#[must_use]
 #[unsafe(no_mangle)]
-pub extern "C" fn scm_next_pid(alloc: Global, engine: &mut Handle) -> i64
+pub extern "C" fn jw_next_pid(alloc: Global, engine: &mut Handle) -> i64
     ensures same { engine.new.shown ≡ engine.old.shown }
     ensures value { TellsNumber engine.old.shown (λ m. pos m.world.next_pid) result }
 {
@@ -127,9 +123,9 @@ pub extern "C" fn scm_next_pid(alloc: Global, engine: &mut Handle) -> i64
 #[repr(C)]
 #[derive(Clone, Copy)]
 pub struct File {
-    /// The kind of the file (enum scm_kind).
+    /// The kind of the file (enum jw_kind).
     pub kind: u32,
-    /// The state of the socket (enum scm_state).
+    /// The state of the socket (enum jw_state).
     pub state: u32,
     /// The inode number of the peer of a connected socket, else 0.
     pub peer: u64,
@@ -139,9 +135,9 @@ pub struct File {
     pub embryos: u64,
 }
 
-/// Writes what the file is. Writes SCM_NO_FILE as the kind of an unknown file. Answers 0.
+/// Writes what the file is. Writes JW_NO_FILE as the kind of an unknown file. Answers 0.
 #[unsafe(no_mangle)]
-pub extern "C" fn scm_file(alloc: Global, engine: &mut Handle, ino: u64, out: &mut File) -> i64
+pub extern "C" fn jw_file(alloc: Global, engine: &mut Handle, ino: u64, out: &mut File) -> i64
     ensures same { engine.new.shown ≡ engine.old.shown }
     ensures value { Tells engine.old.shown (λ m f. f ≡ file_of (shown_of (map.get m.world.files ino))) out.old result out.new }
 {
@@ -156,7 +152,7 @@ pub extern "C" fn scm_file(alloc: Global, engine: &mut Handle, ino: u64, out: &m
     0
 }
 
-/// A live file as C sees it.
+/// Returns a live file as C sees it.
 fn file_of(info: &FileInfo) -> File
     ensures { result ≡ file_of (Some info.now) }
 {
@@ -177,7 +173,7 @@ fn file_of(info: &FileInfo) -> File
     }
 }
 
-/// A file of this kind, of which no more is known.
+/// Makes a file of this kind, without other parts.
 fn bare(kind: u32) -> File
     ensures { result ≡ record { kind = kind; state = 0; peer = 0; messages = 0; embryos = 0 } }
 {
@@ -190,7 +186,7 @@ fn bare(kind: u32) -> File
     }
 }
 
-/// The number of a socket's type.
+/// Returns the number of a socket's type.
 fn type_number(kind: SockType) -> u32
     ensures { result ≡ type_number kind }
 {
@@ -200,7 +196,7 @@ fn type_number(kind: SockType) -> u32
     }
 }
 
-/// The number of a socket's state.
+/// Returns the number of a socket's state.
 fn state_number(state: State) -> u32
     ensures { result ≡ state_number state }
 {
@@ -212,7 +208,7 @@ fn state_number(state: State) -> u32
     }
 }
 
-/// The peer that a socket of this state has, or 0.
+/// Returns the peer that a socket of this state has, or 0.
 fn peer_number(state: State) -> u64
     ensures { result ≡ peer_number state }
 {

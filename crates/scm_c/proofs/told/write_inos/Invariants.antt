@@ -1,4 +1,4 @@
--- The numbers so far were written, and the rest stands.
+-- The numbers so far were written, and the rest is unchanged.
 use Rattle.std.proofs.Common.{◌≡◌, ◌++◌, take, drop}
 use Rattle.scm_c.proofs.told.write_inos.Given as goal
 
