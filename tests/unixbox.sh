@@ -1,6 +1,6 @@
 #!/bin/sh
 # Whether programs see under unixbox what they see natively.
-# usage: tests/unixbox.sh out/libscmgc.a
+# usage: tests/unixbox.sh out/libjaywardrobe.a
 #
 # Builds examples/unixbox, and runs the programs of tests/unixbox natively and under it: by slices of
 # one file and by whole passes, with all places recounted and checked after each step. The outputs
@@ -9,7 +9,7 @@
 # with a line that says so. The first that fails ends the script.
 set -eu
 if [ $# -ne 1 ] || [ ! -f "$1" ]; then
-    echo "usage: tests/unixbox.sh out/libscmgc.a (make lib builds it)" >&2
+    echo "usage: tests/unixbox.sh out/libjaywardrobe.a (make lib builds it)" >&2
     exit 2
 fi
 library=$(cd "$(dirname "$1")" && pwd)/$(basename "$1")

@@ -4,23 +4,23 @@
 enum { MOST_LOOKS = 40, LOOK_MICROSECONDS = 50 };
 
 static void close_fd(const struct process *process, uint32_t fd) {
-    record(process->pid, scm_close(&engine, process->pid, fd), "ok", "close %u", fd);
+    record(process->pid, jw_close(&engine, process->pid, fd), "ok", "close %u", fd);
     is_collection_due = true;
 }
 
 static long duplicate_at(const struct process *process, uint32_t from, uint32_t to) {
     is_collection_due = true;
-    return record(process->pid, scm_dup2(&engine, process->pid, from, to), "fd %ld", "dup2 %u %u",
+    return record(process->pid, jw_dup2(&engine, process->pid, from, to), "fd %ld", "dup2 %u %u",
                   from, to);
 }
 
 /* Opens a plain file at a number that is free. */
 static void open_at(const struct process *process, uint32_t fd) {
-    long lowest = record(process->pid, scm_open(&engine, process->pid), "fd %ld", "open");
+    long lowest = record(process->pid, jw_open(&engine, process->pid), "fd %ld", "open");
     uint64_t ino = 0;
     if (lowest < 0) return;
-    scm_ino(&engine, process->pid, (uint32_t)lowest, &ino);
-    add_file(ino, SCM_PLAIN);
+    jw_ino(&engine, process->pid, (uint32_t)lowest, &ino);
+    add_file(ino, JW_PLAIN);
     if (lowest == fd) return;
     duplicate_at(process, (uint32_t)lowest, fd);
     close_fd(process, (uint32_t)lowest);
@@ -29,11 +29,11 @@ static void open_at(const struct process *process, uint32_t fd) {
 /* Opens in the layer what the program has opened by itself, and closes what an exec(2) has closed.
  * All else that closes is served, so two tables with as many descriptors are the same. */
 void sync_table(struct process *process) {
-    bool is_open[SCM_MAX_NOFILE] = {false};
+    bool is_open[JW_MAX_NOFILE] = {false};
     struct stat directory = {.st_size = 0}; /* Kernels before 6.2 leave it so. */
     uint64_t ino;
     off_t count = 0;
-    for (int64_t fd = 0; (fd = scm_next_fd(&engine, process->pid, (uint32_t)fd, &ino)) >= 0; fd++)
+    for (int64_t fd = 0; (fd = jw_next_fd(&engine, process->pid, (uint32_t)fd, &ino)) >= 0; fd++)
         count++;
     fstat(dirfd(process->table), &directory);
     for (int i = 0; process->closer != 0 && directory.st_size > count && i < MOST_LOOKS; i++) {
@@ -46,10 +46,10 @@ void sync_table(struct process *process) {
     process->has_changed = false;
     rewinddir(process->table);
     for (struct dirent *it; (it = readdir(process->table)) != NULL;)
-        if (it->d_name[0] != '.') is_open[atoi(it->d_name) % SCM_MAX_NOFILE] = true;
-    for (int64_t fd = 0; (fd = scm_next_fd(&engine, process->pid, (uint32_t)fd, &ino)) >= 0; fd++)
+        if (it->d_name[0] != '.') is_open[atoi(it->d_name) % JW_MAX_NOFILE] = true;
+    for (int64_t fd = 0; (fd = jw_next_fd(&engine, process->pid, (uint32_t)fd, &ino)) >= 0; fd++)
         if (!is_open[fd]) close_fd(process, (uint32_t)fd);
-    for (uint32_t fd = 0; fd < SCM_MAX_NOFILE; fd++)
+    for (uint32_t fd = 0; fd < JW_MAX_NOFILE; fd++)
         if (is_open[fd] && file_of(process, fd) == NULL) open_at(process, fd);
 }
 
@@ -90,7 +90,7 @@ long serve_dup(struct call *call) {
     if (file_of(call->process, call->fd) == NULL) return -EBADF;
     if (is_fixed && call->fd == to) return KERNEL_DOES_IT;
     long fd = is_fixed ? duplicate_at(call->process, call->fd, to)
-                       : record(call->pid, scm_dup(&engine, call->pid, call->fd), "fd %ld",
+                       : record(call->pid, jw_dup(&engine, call->pid, call->fd), "fd %ld",
                                 "dup %u", call->fd);
     return fd < 0 ? fd : install(call, (uint32_t)fd, (int)call->fd, is_fixed, closes_on_exec);
 }
@@ -100,7 +100,7 @@ long serve_fcntl(struct call *call) {
     bool closes_on_exec = call->args[1] == F_DUPFD_CLOEXEC;
     if (call->args[1] != F_DUPFD && !closes_on_exec) return KERNEL_DOES_IT;
     sync_table(call->process);
-    for (uint64_t to = call->args[2]; to < SCM_MAX_NOFILE; to++) {
+    for (uint64_t to = call->args[2]; to < JW_MAX_NOFILE; to++) {
         if (file_of(call->process, to) != NULL) continue;
         long number = duplicate_at(call->process, call->fd, (uint32_t)to);
         if (number < 0) break;

@@ -106,7 +106,7 @@ static void run(struct call *call) {
         if (process->closer == call->tid) process->closer = 0; /* It has closed. */
         if (process->has_changed) sync_table(process);
         call->file = file_of(process, call->fd);
-        if (call->file != NULL && call->file->kind == SCM_PLAIN) call->file = NULL;
+        if (call->file != NULL && call->file->kind == JW_PLAIN) call->file = NULL;
         handler *serve = call->file != NULL ? socket_handlers[call->number] : NULL;
         if (serve == NULL) serve = handlers[call->number];
         if (serve != NULL) result = serve(call);

@@ -10,7 +10,7 @@ static struct leak {
     uint64_t count[2];
 } leaks[MOST_LEAKS];
 
-scm_engine engine = SCM_ENGINE_INIT;
+jw_engine engine = JW_ENGINE_INIT;
 struct counts counts;
 bool is_collection_due;
 static bool is_running;
@@ -26,9 +26,6 @@ bool open_script(const char *path) {
 
 /* Records a step of a process (0: of none), and returns its answer, or a negative errno. */
 long record(uint32_t pid, int64_t answer, const char *reply, const char *line, ...) {
-    static const int errors[] = { /* In the order of enum scm_error. */
-        0, EBADF, ENOTSOCK, EINVAL, EMFILE, ENFILE, EAGAIN, EMSGSIZE, ETOOMANYREFS, ENOBUFS,
-        ENOTCONN, EPIPE, EISCONN, EADDRINUSE, ECONNREFUSED, EPROTOTYPE, ESRCH, ENOMEM};
     counts.steps++;
     if (script != NULL) {
         va_list arguments;
@@ -36,16 +33,16 @@ long record(uint32_t pid, int64_t answer, const char *reply, const char *line, .
         if (pid > 0) fprintf(script, "%u ", pid);
         vfprintf(script, line, arguments);
         va_end(arguments);
-        fprintf(replies, answer < 0 ? scm_strerror(answer) : reply, answer);
+        fprintf(replies, answer < 0 ? jw_strerror(answer) : reply, answer);
         fputc('\n', script);
         fputc('\n', replies);
     }
-    return answer >= 0 ? answer : -answer <= SCM_ENOMEM ? -errors[-answer] : -EIO;
+    return answer >= 0 ? answer : -jw_errno(answer);
 }
 
 /* Returns descriptors as a line of the script has them. */
 const char *fds_text(const uint32_t *fds, size_t count) {
-    static char text[8 * SCM_MAX_FD];
+    static char text[8 * JW_MAX_FD];
     int length = 0;
     text[0] = '\0';
     for (size_t i = 0; script != NULL && i < count; i++)
@@ -54,8 +51,8 @@ const char *fds_text(const uint32_t *fds, size_t count) {
 }
 
 /* Returns the reply to a receive. The script sends bytes `x` in place of the program's. */
-const char *received_text(int64_t answer, const uint32_t *fds, const struct scm_received *got) {
-    static char text[SCM_MAX_BYTES + 16 * SCM_MAX_FD];
+const char *received_text(int64_t answer, const uint32_t *fds, const struct jw_received *got) {
+    static char text[JW_MAX_BYTES + 16 * JW_MAX_FD];
     if (script == NULL || answer <= 0) return "end";
     memset(text, 'x', sizeof text);
     memcpy(text, "got ", 4);
@@ -66,20 +63,20 @@ const char *received_text(int64_t answer, const uint32_t *fds, const struct scm_
 
 /* Does one slice or one pass, if one is due. Returns whether more is to do. */
 bool collect(void) {
-    struct scm_finished over = {0, 0};
+    struct jw_finished over = {0, 0};
     uint64_t in_flight = 0, pass = 0;
     char text[64];
-    scm_total(&engine, &in_flight);
+    jw_total(&engine, &in_flight);
     if (!is_running) {
         bool is_due = is_collection_due && in_flight > 0 && options.collector != COLLECT_NEVER;
         is_collection_due = false;
         if (!is_due) return false;
-        if (options.collector == COLLECT_SLICES && scm_begin(&engine, &pass) == 0)
+        if (options.collector == COLLECT_SLICES && jw_begin(&engine, &pass) == 0)
             record(0, (int64_t)pass, "started %ld", "begin");
     }
     bool in_slices = is_running || pass > 0;
-    int64_t answer = in_slices ? scm_slice(&engine, options.budget, &over)
-                               : scm_pass(&engine, &over);
+    int64_t answer = in_slices ? jw_slice(&engine, options.budget, &over)
+                               : jw_pass(&engine, &over);
     snprintf(text, sizeof text, "pass %lu reclaimed %lu", over.pass, over.reclaimed);
     if (in_slices)
         record(0, answer, answer == 1 ? "working" : text, "slice %u", options.budget);
@@ -94,21 +91,21 @@ bool collect(void) {
 
 /* Recounts after a step: the places of each file from all tables, and all by the layer. */
 void inspect(void) {
-    struct scm_checked checked = {0, 0};
+    struct jw_checked checked = {0, 0};
     uint64_t ino, refs, inflight;
     char text[64];
     for (struct process *it = processes; options.verifies && it != NULL; it = it->next)
-        for (int64_t fd = 0; (fd = scm_next_fd(&engine, it->pid, (uint32_t)fd, &ino)) >= 0; fd++)
+        for (int64_t fd = 0; (fd = jw_next_fd(&engine, it->pid, (uint32_t)fd, &ino)) >= 0; fd++)
             file_at(ino)->places++;
     for (int i = 0; options.verifies && i < FILE_SLOTS; i++)
         for (struct file *it = files[i]; it != NULL; it = it->next) {
-            scm_refs(&engine, it->ino, &refs);
-            scm_inflight(&engine, it->ino, &inflight);
+            jw_refs(&engine, it->ino, &refs);
+            jw_inflight(&engine, it->ino, &inflight);
             counts.wrong_counts += refs != it->places + inflight + it->is_embryo;
             it->places = 0;
         }
     if (!options.checks) return;
-    int64_t answer = scm_check(&engine, &checked);
+    int64_t answer = jw_check(&engine, &checked);
     snprintf(text, sizeof text, "check ok live %lu garbage %lu", checked.live, checked.garbage);
     counts.failed_checks += record(0, answer, text, "check") < 0;
 }
@@ -121,21 +118,21 @@ void note_leak(const struct file *file) {
             strcmp(leaks[i].sender.name, file->sender.name) != 0))
         i++;
     leaks[i].sender = file->sender;
-    leaks[i].count[file->kind == SCM_PLAIN]++;
+    leaks[i].count[file->kind == JW_PLAIN]++;
 }
 
 /* Writes the picture, does the last pass, and says what was found. */
 void conclude(void) {
     static uint8_t picture[MOST_PICTURE];
     uint64_t live = 0;
-    size_t length = (size_t)scm_graph(&engine, picture, sizeof picture);
+    size_t length = (size_t)jw_graph(&engine, picture, sizeof picture);
     umask(options.mask);
     FILE *file = options.graph != NULL ? fopen(options.graph, "w") : NULL;
     if (file != NULL) fwrite(picture, 1, length < MOST_PICTURE ? length : MOST_PICTURE, file);
     if (options.graph != NULL && (file == NULL || fclose(file) != 0)) perror(options.graph);
     options.collector = COLLECT_PASSES;
     do is_collection_due = true; while (collect());
-    scm_live(&engine, &live);
+    jw_live(&engine, &live);
     fprintf(stderr, "unixbox: %lu calls, %lu layer calls, %lu passes, %lu sockets reclaimed\n"
             "unixbox: %lu other numbers, %lu wrong counts, %lu failed checks, %lu lost messages, "
             "%lu files left\n", counts.calls, counts.steps, counts.passes, counts.reclaimed,
@@ -146,5 +143,5 @@ void conclude(void) {
     for (int i = 0; i < MOST_LEAKS && leaks[i].count[0] + leaks[i].count[1] > 0; i++)
         fprintf(stderr, "%7d %-16s %7lu  %11lu\n", leaks[i].sender.user.pid, leaks[i].sender.name,
                 leaks[i].count[0], leaks[i].count[1]);
-    scm_engine_free(&engine);
+    jw_engine_free(&engine);
 }

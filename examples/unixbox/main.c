@@ -30,7 +30,7 @@ static int read_options(int argc, char **argv) {
         if (option == 's' && !open_script(optarg)) err(FAILED, "%s", optarg);
         fits = fits && option != '?' && i < 3;
     }
-    if (fits && options.budget >= 1 && options.budget <= SCM_MAX_BUDGET && optind < argc)
+    if (fits && options.budget >= 1 && options.budget <= JW_MAX_BUDGET && optind < argc)
         return optind;
     fputs("usage: unixbox [--gc slice|pass|none] [--budget FILES] [--verify] [--check] [--dgram]\n"
           "  [--oob] [--procnet] [--script FILE] [--graph FILE] PROGRAM [ARGUMENT ..]\n", stderr);
@@ -39,7 +39,7 @@ static int read_options(int argc, char **argv) {
 
 /* Starts the program, with the filter, in a process that waits for a signal to continue. */
 static void start_program(char **arguments) {
-    struct rlimit limit = {SCM_MAX_NOFILE, SCM_MAX_NOFILE};
+    struct rlimit limit = {JW_MAX_NOFILE, JW_MAX_NOFILE};
     int listener = fcntl(0, F_DUPFD, 0); /* The lowest free number is the listener's. */
     close(listener);
     program = fork();
@@ -60,7 +60,7 @@ static void start_program(char **arguments) {
 
 static void prepare(void) {
     struct epoll_event event = {.events = EPOLLIN, .data.ptr = NULL};
-    struct rlimit limit = {2 * SCM_MAX_FILES, 2 * SCM_MAX_FILES}; /* A placeholder each. */
+    struct rlimit limit = {2 * JW_MAX_FILES, 2 * JW_MAX_FILES}; /* A placeholder each. */
     pthread_t thread;
     /* A struct sched_attr: slices of 0.1 ms, so that both threads run soon after they are woken. */
     syscall(SYS_sched_setattr, 0, (uint32_t[12]){[0] = 48, [6] = 100000}, 0);
@@ -74,8 +74,8 @@ static void prepare(void) {
     signal(SIGQUIT, SIG_IGN);
     options.mask = umask(0); /* A pathname gets the mode that its program asks for. */
     prctl(PR_SET_CHILD_SUBREAPER, 1);
-    if (scm_engine_new(&engine) < 0 || scm_tell_released(&engine) < 0 ||
-        scm_tell_changed(&engine) < 0 || pipe2(ends, O_CLOEXEC) < 0 ||
+    if (jw_engine_new(&engine) < 0 || jw_tell_released(&engine) < 0 ||
+        jw_tell_changed(&engine) < 0 || pipe2(ends, O_CLOEXEC) < 0 ||
         (watches = epoll_create1(EPOLL_CLOEXEC)) < 0 ||
         epoll_ctl(watches, EPOLL_CTL_ADD, ends[0], &event) < 0 ||
         pthread_create(&thread, NULL, receive, &ends[1]) != 0)
@@ -110,9 +110,9 @@ int main(int argc, char **argv) {
     bool is_root = geteuid() == 0, is_busy = false;
     start_program(argv + read_options(argc, argv));
     prepare();
-    int64_t answer = scm_spawn(&engine, geteuid(), SCM_MAX_NOFILE, is_root);
+    int64_t answer = jw_spawn(&engine, geteuid(), JW_MAX_NOFILE, is_root);
     record(0, answer, "pid %ld", is_root ? "spawn %u %u priv" : "spawn %u %u", geteuid(),
-           SCM_MAX_NOFILE);
+           JW_MAX_NOFILE);
     bind_process(add_process((uint32_t)answer, getpid(), getpid()), program);
     kill(program, SIGCONT);
     while (serve_call(is_busy)) {

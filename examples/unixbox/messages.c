@@ -1,4 +1,4 @@
-/* Messages: what sends and receives carry. A call moves at most SCM_MAX_BYTES of a stream. */
+/* Messages: what sends and receives carry. A call moves at most JW_MAX_BYTES of a stream. */
 #include "unixbox.h"
 
 enum { MOST_PARTS = IOV_MAX, MOST_CONTROL = 20480, USER_SPACE = CMSG_SPACE(sizeof(struct ucred)) };
@@ -9,10 +9,10 @@ static struct message {
     struct iovec parts[MOST_PARTS];
     size_t total, length, fd_count; /* Bytes of all parts, and how many are moved. */
     int flags;
-    uint32_t fds[SCM_MAX_FD];
+    uint32_t fds[JW_MAX_FD];
     struct ucred user; /* SCM_CREDENTIALS */
 } message;
-static uint8_t bytes[SCM_MAX_BYTES];
+static uint8_t bytes[JW_MAX_BYTES];
 
 /* Reads where the bytes of a call are, and its flags. */
 static long read_message(const struct call *call) {
@@ -35,7 +35,7 @@ static long read_message(const struct call *call) {
         header->msg_namelen = call->number == SYS_sendto && call->args[4] ? call->args[5] : 0;
     }
     for (size_t i = 0; i < header->msg_iovlen; i++) message.total += message.parts[i].iov_len;
-    message.length = message.total < SCM_MAX_BYTES ? message.total : SCM_MAX_BYTES;
+    message.length = message.total < JW_MAX_BYTES ? message.total : JW_MAX_BYTES;
     return message.total <= SSIZE_MAX ? 0 : -EINVAL;
 }
 
@@ -52,7 +52,7 @@ static long read_control(const struct call *call) {
         if (it->cmsg_len < CMSG_LEN(0) || it->cmsg_len > (size_t)(control + length - (char *)it))
             return -EINVAL;
         if (it->cmsg_level != SOL_SOCKET) continue;
-        if (it->cmsg_type == SCM_RIGHTS && message.fd_count + count <= SCM_MAX_FD) {
+        if (it->cmsg_type == SCM_RIGHTS && message.fd_count + count <= JW_MAX_FD) {
             memcpy(message.fds + message.fd_count, CMSG_DATA(it), count * sizeof(int));
             message.fd_count += count;
         } else if (it->cmsg_type == SCM_CREDENTIALS && size == sizeof message.user) {
@@ -67,13 +67,13 @@ static long read_control(const struct call *call) {
 long serve_send(struct call *call) {
     struct process *process = call->process;
     struct file *peer = peer_of(call->file);
-    bool is_stream = call->file->kind == SCM_STREAM;
+    bool is_stream = call->file->kind == JW_STREAM;
     long result = read_message(call);
     if (result == 0) result = read_control(call);
     if (result < 0) return result;
     if ((message.flags & MSG_OOB) && !(options.oob && is_stream)) return -EOPNOTSUPP;
     if (message.header.msg_namelen > 0 && is_stream) return peer != NULL ? -EISCONN : -EOPNOTSUPP;
-    if (message.total > SCM_MAX_BYTES && !is_stream) return -EMSGSIZE;
+    if (message.total > JW_MAX_BYTES && !is_stream) return -EMSGSIZE;
     call->raises_sigpipe = is_stream && !(message.flags & MSG_NOSIGNAL);
     if ((call->file->shut & 2) || (peer != NULL && (peer->shut & 1))) return -EPIPE;
     if (message.fd_count > 0) sync_table(process);
@@ -82,7 +82,7 @@ long serve_send(struct call *call) {
     struct iovec here = {bytes, message.length};
     result = process_vm_readv(call->tid, &here, 1, message.parts, message.header.msg_iovlen, 0);
     if (result != (long)message.length) return -EFAULT;
-    int64_t answer = scm_send(&engine, call->pid, call->fd, bytes, message.length, message.fds,
+    int64_t answer = jw_send(&engine, call->pid, call->fd, bytes, message.length, message.fds,
                               message.fd_count);
     result = record(call->pid, answer, "sent %ld", "send %u *%zu%s", call->fd, message.length,
                     fds_text(message.fds, message.fd_count));
@@ -103,14 +103,14 @@ long serve_send(struct call *call) {
 static long take(struct call *call, size_t room) {
     const struct file *file = call->file, *peer = peer_of(file);
     bool peeks = message.flags & MSG_PEEK;
-    struct scm_received got = {0, false, false};
-    int64_t answer = (peeks ? scm_peek : scm_recv)(&engine, call->pid, call->fd, bytes,
+    struct jw_received got = {0, false, false};
+    int64_t answer = (peeks ? jw_peek : jw_recv)(&engine, call->pid, call->fd, bytes,
                                                    message.length, message.fds, room, &got);
     long result = record(call->pid, answer, received_text(answer, message.fds, &got),
                          "%s %u %zu %zu", peeks ? "peek" : "recv", call->fd, message.length, room);
     if (result == -EAGAIN && ((file->shut & 1) || (peer != NULL && (peer->shut & 2)))) return 0;
     if (result == -EAGAIN) return wait_for(call, message.flags, file->ino);
-    if (result < 0) return file->kind == SCM_STREAM && result == -ENOTCONN ? -EINVAL : result;
+    if (result < 0) return file->kind == JW_STREAM && result == -ENOTCONN ? -EINVAL : result;
     call->has_taken = result > 0 && !peeks;
     is_collection_due = is_collection_due || got.ctrunc;
     message.header.msg_flags |= (got.trunc ? MSG_TRUNC : 0) | (got.ctrunc ? MSG_CTRUNC : 0);
@@ -138,7 +138,7 @@ static size_t add_control(char *control, size_t used, int type, const void *data
 
 /* Writes what a receive tells beside its bytes. The name of a peer is not among it. */
 static void write_header(const struct call *call, bool has_user) {
-    _Alignas(struct cmsghdr) char control[USER_SPACE + CMSG_SPACE(SCM_MAX_FD * sizeof(int))] = {0};
+    _Alignas(struct cmsghdr) char control[USER_SPACE + CMSG_SPACE(JW_MAX_FD * sizeof(int))] = {0};
     struct msghdr *header = &message.header;
     size_t used = 0;
     if (call->number == SYS_recvfrom) write_memory(call, call->args[5], &(int){0}, sizeof(int));
@@ -163,7 +163,7 @@ long serve_recv(struct call *call) {
     size_t room = message.header.msg_controllen, other = CMSG_LEN(0) + (has_user ? USER_SPACE : 0);
     room = room > other ? (room - other) / sizeof(int) : 0;
     if (room > 0) sync_table(call->process);
-    result = take(call, room < SCM_MAX_FD ? room : SCM_MAX_FD);
+    result = take(call, room < JW_MAX_FD ? room : JW_MAX_FD);
     if (result >= 0) write_header(call, has_user);
     return result;
 }

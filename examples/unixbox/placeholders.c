@@ -21,13 +21,13 @@ struct file *file_at(uint64_t ino) {
 
 struct file *file_of(const struct process *process, uint64_t fd) {
     uint64_t ino = 0;
-    if (fd < SCM_MAX_NOFILE) scm_ino(&engine, process->pid, (uint32_t)fd, &ino);
+    if (fd < JW_MAX_NOFILE) jw_ino(&engine, process->pid, (uint32_t)fd, &ino);
     return file_at(ino);
 }
 
 struct file *peer_of(const struct file *file) {
-    struct scm_file state;
-    scm_file(&engine, file->ino, &state);
+    struct jw_file state;
+    jw_file(&engine, file->ino, &state);
     return file_at(state.peer);
 }
 
@@ -49,15 +49,15 @@ static void free_file(struct file *file) {
 
 /* A socket is writable while at most a quarter of twice this number is taken. */
 void size_buffer(int host) {
-    int bytes = 2 * SCM_MAX_MESSAGES * TOKEN - 1;
+    int bytes = 2 * JW_MAX_MESSAGES * TOKEN - 1;
     setsockopt(host, SOL_SOCKET, SO_SNDBUF, &bytes, sizeof bytes);
 }
 
 /* Makes the bytes in the placeholder as many as the socket has messages. */
 void refresh(struct file *file) {
-    struct scm_file state;
+    struct jw_file state;
     char token;
-    scm_file(&engine, file->ino, &state);
+    jw_file(&engine, file->ino, &state);
     const struct file *peer = file_at(state.peer);
     while (file->tokens < state.messages && peer != NULL &&
            send(peer->host, "", 1, MSG_DONTWAIT | MSG_NOSIGNAL) == 1)
@@ -68,14 +68,14 @@ void refresh(struct file *file) {
 
 /* Frees what the last step freed, or collected, and refreshes and wakes what it changed. */
 void settle(bool is_collected) {
-    static uint64_t inos[SCM_MAX_FILES];
-    int64_t freed = scm_released(&engine, inos, SCM_MAX_FILES);
+    static uint64_t inos[JW_MAX_FILES];
+    int64_t freed = jw_released(&engine, inos, JW_MAX_FILES);
     for (int64_t i = 0; i < freed; i++) {
         struct file *file = file_at(inos[i]);
         if (file != NULL && is_collected) note_leak(file);
         if (file != NULL) free_file(file);
     }
-    int64_t changed = scm_changed(&engine, inos, SCM_MAX_FILES);
+    int64_t changed = jw_changed(&engine, inos, JW_MAX_FILES);
     for (int64_t i = 0; i < changed; i++) {
         struct file *file = file_at(inos[i]), *peer = file != NULL ? peer_of(file) : NULL;
         if (file != NULL) refresh(file);
@@ -83,6 +83,6 @@ void settle(bool is_collected) {
         if (peer != NULL) wake(peer->ino);
     }
     if (freed + changed == 0) return;
-    scm_clear_told(&engine);
+    jw_clear_told(&engine);
     inspect();
 }

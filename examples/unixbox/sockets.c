@@ -2,12 +2,12 @@
 #include "unixbox.h"
 #include <sched.h>
 
-enum { KEY_ROOM = SCM_MAX_NAME + 1, PATH_START = offsetof(struct sockaddr_un, sun_path) };
+enum { KEY_ROOM = JW_MAX_NAME + 1, PATH_START = offsetof(struct sockaddr_un, sun_path) };
 
 /* Keeps a placeholder for a socket that the layer has just opened, and installs it. */
 static long add_socket(struct call *call, uint32_t fd, uint32_t kind, int host) {
     uint64_t ino = 0;
-    scm_ino(&engine, call->pid, fd, &ino);
+    jw_ino(&engine, call->pid, fd, &ino);
     struct file *file = add_file(ino, kind);
     file->owner = call->process->status.user;
     size_buffer(file->host = host);
@@ -17,8 +17,8 @@ static long add_socket(struct call *call, uint32_t fd, uint32_t kind, int host) 
 long serve_socket(struct call *call) {
     int flags = (int)call->args[1] | SOCK_CLOEXEC, type = flags & 0xf, hosts[2] = {-1, -1};
     bool is_pair = call->number == SYS_socketpair, is_stream = type == SOCK_STREAM;
-    uint32_t kind = is_stream ? SCM_STREAM : SCM_SEQPACKET;
-    struct scm_pair pair = {0, 0};
+    uint32_t kind = is_stream ? JW_STREAM : JW_SEQPACKET;
+    struct jw_pair pair = {0, 0};
     char text[32];
     if (call->args[0] != AF_UNIX) return KERNEL_DOES_IT;
     bool is_packet = type == SOCK_SEQPACKET || (type == SOCK_DGRAM && is_pair && options.datagrams);
@@ -28,8 +28,8 @@ long serve_socket(struct call *call) {
                  : (hosts[0] = socket(AF_UNIX, flags, 0))) < 0)
         return -ENFILE; /* The supervisor has no descriptor left for a placeholder. */
     sync_table(call->process);
-    int64_t answer = is_pair ? scm_pair(&engine, call->pid, kind, &pair)
-                             : scm_socket(&engine, call->pid, kind);
+    int64_t answer = is_pair ? jw_pair(&engine, call->pid, kind, &pair)
+                             : jw_socket(&engine, call->pid, kind);
     snprintf(text, sizeof text, "fds %u %u", pair.first, pair.second);
     long fd = record(call->pid, answer, is_pair ? text : "fd %ld", "%s %s",
                      is_pair ? "pair" : "socket", is_stream ? "stream" : "seqpacket");
@@ -58,7 +58,7 @@ static void hash_name(struct name *name, uint32_t kind) {
     uint64_t hash = 14695981039346656037u;
     for (socklen_t i = PATH_START; i < name->address.length; i++)
         hash = (hash ^ bytes[i]) * 1099511628211u;
-    sprintf(name->key, "%c.%016lx", kind == SCM_STREAM ? 's' : 'q', hash);
+    sprintf(name->key, "%c.%016lx", kind == JW_STREAM ? 's' : 'q', hash);
 }
 
 /* Gives a pathname its key: the device and the inode of the socket's file. */
@@ -118,9 +118,8 @@ long serve_bind(struct call *call) {
         stat_name(&name);
         call->file->path = open(name.path, O_PATH | O_NOFOLLOW | O_CLOEXEC);
     }
-    const uint8_t *key = (const uint8_t *)name.key;
-    result = record(call->pid, scm_bind(&engine, call->pid, call->fd, key, strlen(name.key)), "ok",
-                    "bind %u %s", call->fd, name.key);
+    int64_t answer = jw_bind(&engine, call->pid, call->fd, name.key, strlen(name.key));
+    result = record(call->pid, answer, "ok", "bind %u %s", call->fd, name.key);
     if (result == 0) call->file->own = name.address;
     if (result < 0 && name.path[0] != '\0') unlink(name.path);
     return result;
@@ -152,9 +151,9 @@ long serve_option(struct call *call) {
 long serve_listen(struct call *call) {
     struct sockaddr any = {.sa_family = AF_UNIX};
     uint32_t most = (uint32_t)call->args[1] + 1; /* Linux lets one more wait, too. */
-    if (most == 0 || most > SCM_MAX_BACKLOG) most = SCM_MAX_BACKLOG;
+    if (most == 0 || most > JW_MAX_BACKLOG) most = JW_MAX_BACKLOG;
     if (call->file->listens) return 0;
-    long result = record(call->pid, scm_listen(&engine, call->pid, call->fd, most), "ok",
+    long result = record(call->pid, jw_listen(&engine, call->pid, call->fd, most), "ok",
                          "listen %u %u", call->fd, most);
     if (result < 0) return result;
     call->file->listens = true;
@@ -169,23 +168,22 @@ long serve_connect(struct call *call) {
     struct file *client = call->file, *listener = client;
     struct sockaddr_un host;
     socklen_t length = sizeof host;
-    struct scm_file state;
+    struct jw_file state;
     uint64_t inos[4];
     long result = read_name(call, &name);
     if (result == 0 && name.address.length == PATH_START) result = -EINVAL;
     if (result == 0 && name.path[0] != '\0')
         result = access(name.path, W_OK) < 0 ? -errno : stat_name(&name);
     if (result < 0) return result;
-    const uint8_t *key = (const uint8_t *)name.key;
-    int64_t answer = scm_connect(&engine, call->pid, call->fd, key, strlen(name.key));
+    int64_t answer = jw_connect(&engine, call->pid, call->fd, name.key, strlen(name.key));
     result = record(call->pid, answer, "ok", "connect %u %s", call->fd, name.key);
     if (result < 0) return result == -EAGAIN ? wait_for(call, 0, EVERYONE) : result;
-    int64_t count = scm_changed(&engine, inos, 4); /* One of these is the listener. */
+    int64_t count = jw_changed(&engine, inos, 4); /* One of these is the listener. */
     for (int64_t i = 0; i < count && i < 4; i++)
         if (file_at(inos[i]) != NULL && file_at(inos[i])->listens) listener = file_at(inos[i]);
     getsockname(listener->host, (struct sockaddr *)&host, &length);
     connect(client->host, (struct sockaddr *)&host, length);
-    scm_file(&engine, client->ino, &state);
+    jw_file(&engine, client->ino, &state);
     struct file *embryo = add_file(state.peer, client->kind);
     embryo->is_embryo = true;
     embryo->own = listener->own;
@@ -199,7 +197,7 @@ long serve_accept(struct call *call) {
     struct pollfd ask = {call->file->host, POLLIN, 0};
     if (call->file->shut & 1) return -EINVAL;
     sync_table(call->process);
-    long fd = record(call->pid, scm_accept(&engine, call->pid, call->fd), "fd %ld", "accept %u",
+    long fd = record(call->pid, jw_accept(&engine, call->pid, call->fd), "fd %ld", "accept %u",
                      call->fd);
     if (fd < 0) return fd == -EAGAIN ? wait_for(call, 0, call->file->ino) : fd;
     struct file *file = file_of(call->process, (uint64_t)fd);

@@ -1,5 +1,5 @@
 /* unixbox: runs an unmodified Linux program, and all that it forks, with its AF_UNIX sockets on the
- * layer of libscmgc.a. A seccomp filter hands calls that concern descriptors to this supervisor
+ * layer of libjaywardrobe.a. A seccomp filter hands calls that concern descriptors to this supervisor
  * (seccomp_unotify(2)). It asks the layer, and answers in place of the kernel. Where a call opens a
  * socket, it installs a placeholder: a socket of the host that is ready for what the layer's socket
  * is ready for, so that poll(2), select(2) and epoll(7) work by themselves. Kernel and layer choose
@@ -12,7 +12,7 @@
 #include <limits.h>
 #include <linux/seccomp.h>
 #include <poll.h>
-#include <scmgc.h>
+#include <jaywardrobe.h>
 #include <signal.h>
 #include <stdio.h>
 #include <stdlib.h>
@@ -66,7 +66,7 @@ struct process {
 /* What the supervisor keeps for a file of the layer. */
 struct file {
     uint64_t ino;
-    uint32_t kind;        /* enum scm_kind */
+    uint32_t kind;        /* enum jw_kind */
     bool is_embryo, listens;
     int host;             /* The placeholder, or a copy of a plain file that was sent, or -1. */
     int path;             /* Keeps the inode of a pathname from being used again, or -1. */
@@ -94,7 +94,7 @@ struct call {
     struct call *next;
 };
 
-extern scm_engine engine;
+extern jw_engine engine;
 extern bool is_collection_due; /* Something was closed since the last pass began. */
 extern struct process *processes;
 extern struct file *files[FILE_SLOTS];  /* Lists, by inode number modulo FILE_SLOTS. */
@@ -104,7 +104,7 @@ bool open_script(const char *path);
 long record(uint32_t pid, int64_t answer, const char *reply, const char *line, ...)
     __attribute__((format(printf, 4, 5)));
 const char *fds_text(const uint32_t *fds, size_t count);
-const char *received_text(int64_t answer, const uint32_t *fds, const struct scm_received *got);
+const char *received_text(int64_t answer, const uint32_t *fds, const struct jw_received *got);
 bool collect(void);
 void inspect(void);
 void note_leak(const struct file *file);
