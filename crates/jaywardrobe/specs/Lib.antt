@@ -1,4 +1,4 @@
--- What the contracts of the calls speak of: the machine, its events, and the reports.
+-- The terms of the contracts: the machine, its events, and the reports.
 pub mod Types
 pub use Rattle.af_base.specs.World
 pub use Rattle.af_base.specs.Places
@@ -19,7 +19,13 @@ pub use Rattle.af_base.specs.Ready
 pub use Rattle.af_base.specs.Told
 pub use Rattle.af_steps.specs.Shown
 pub use Rattle.af_steps.specs.Outcome
+pub use Rattle.af_layer.specs.Audit
+pub use Rattle.af_layer.specs.Calls
+pub use Rattle.af_layer.specs.Drive
+pub use Rattle.af_layer.specs.Log
+pub use Rattle.af_layer.specs.Seats
 pub use Rattle.af_layer.specs.Shared
+pub use Rattle.af_layer.specs.Taken
 pub use Rattle.af_owned.specs.Lending
 pub use Rattle.af_owned.specs.Owning
 pub use Rattle.af_report.specs.Check

@@ -16,6 +16,14 @@ pub use Rattle.af_base.specs.declared.listing.ListedMessage.{ListedMessage}
 pub use Rattle.af_base.specs.declared.listing.ListedNumber.{ListedNumber}
 pub use Rattle.af_base.specs.declared.listing.ListedSocket.{ListedSocket}
 pub use Rattle.af_base.specs.declared.listing.ListedTable.{ListedTable}
+pub use Rattle.af_layer.specs.declared.audit.CloseFault.{CloseFault}
+pub use Rattle.af_layer.specs.declared.audit.CloseFault.TheVariants as closing
+pub use Rattle.af_layer.specs.declared.book.CallError.{CallError}
+pub use Rattle.af_layer.specs.declared.book.CallError.TheVariants as calling
+pub use Rattle.af_layer.specs.declared.driving.DriveFault.{DriveFault}
+pub use Rattle.af_layer.specs.declared.driving.DriveFault.TheVariants as driving
+pub use Rattle.af_layer.specs.declared.layer.OpenError.{OpenError}
+pub use Rattle.af_layer.specs.declared.layer.OpenError.TheVariants as opening
 pub use Rattle.af_steps.specs.declared.messages.Received.{Received}
 pub use Rattle.af_steps.specs.declared.messages.Received.TheVariants as got
 pub use Rattle.af_steps.specs.declared.passes.Finished.{Finished}

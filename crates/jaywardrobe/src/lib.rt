@@ -30,6 +30,7 @@
 //! in a line.
 #![tactic(auto)]
 
+pub mod layer;
 pub mod report;
 
 pub use af_base::errno::Errno;

@@ -1,4 +1,4 @@
-//! What an engine holds, as text: a table, the totals of users, a check, and a picture in the language
-//! of Graphviz.
+//! Reports of an engine as text: a table, the totals of users, a check, and a picture in the
+//! language of Graphviz.
 pub use af_graph::graph;
 pub use af_report::{Checked, check, count, table, totals};
