@@ -17,11 +17,11 @@ use Rattle.af_base.proofs.Listed.{sum_by-mapped}
 use Rattle.af_base.proofs.Totals.{total-same}
 
 module _ {X : Type 0} (g : X → X) where
-  -- Each value changed: what stands at a key.
+  -- A lookup in a map whose values were each changed.
   get-each : (m : Map X) (q : ℕ) → finmap.get (map_entries (λ _. g) (finmap.entries m)) q ≡ option_map g (finmap.get m q)
   get-each m q = get-map_entries (λ _. g) (finmap.entries m) q ∙ ap (option_map g) (sym (finmap.get-entries m q))
 
-  -- What a changed value was.
+  -- A value of a changed map comes from a value before.
   was : (o : Option X) (y : X) → option_map g o ≡ Some y → (x : X) × (o ≡ Some x) × (g x ≡ y)
   was None y e = absurd (none_some y e)
   was (Some x) y e = (x, refl, some_same (g x) y e)
@@ -32,11 +32,11 @@ module _ {X : Type 0} (g : X → X) where
       (λ k y is. let at = was (finmap.get m k) y (sym (get-each m k) ∙ is) in (at.0, at.1, ap F (sym at.2) ∙ same at.0))
       (λ k x is. (g x, get-each m k ∙ ap (option_map g) is, same x))
 
--- What travels in a queue travels in it when it is bare.
+-- A file is carried by a bare queue exactly when the queue carries it.
 carried-bare : (q : List Message) → carried (map bare_message q) ≡ carried q
 carried-bare q = flat_map-map (λ m. m.attached) bare_message q
 
--- What a file holds it holds when it is bare.
+-- A bare file holds the same files.
 contents-bare : (x : File) → contents (bare_file x) ≡ contents x
 contents-bare Plain = refl
 contents-bare (AsSocket s) = ap (λ c. c ++ s.backlog) (carried-bare s.queue)
@@ -45,13 +45,13 @@ queue-bare : (x : File) → carried (queue_of (bare_file x)) ≡ carried (queue_
 queue-bare Plain = refl
 queue-bare (AsSocket s) = carried-bare s.queue
 
--- What weighs a message without its bytes weighs it when it is bare.
+-- A sum that ignores payload bytes is the same over bare messages.
 weight-bare : (F : Message → ℕ) → ((m : Message) → F (bare_message m) ≡ F m) → (x : File) → sum_by F (queue_of (bare_file x)) ≡ sum_by F (queue_of x)
 weight-bare F same Plain = refl
 weight-bare F same (AsSocket s) = sum_by-mapped F bare_message s.queue ∙ (λ i. sum_by (λ m. same m i) s.queue)
 
 module _ (w : World) where
-  -- How many numbers stand for a file.
+  -- The number of descriptors that refer to a file.
   pub tabled-bare : (f : ℕ) → tabled (bare w) f ≡ tabled w f
   tabled-bare f = total-each bare_process (λ p. total_of (λ g. one f g) p.table) (λ x. refl) w.processes
 
@@ -78,21 +78,21 @@ module _ (w : World) where
     still None = refl
     still (Some x) = refl
 
-  -- What a number stands for.
+  -- The file that a descriptor refers to.
   pub table_at-bare : (p n : ℕ) → table_at (bare w) p n ≡ table_at w p n
   table_at-bare p n = ap (λ o. option_map_or (λ q. finmap.get q.table n) o None) (get-each bare_process w.processes p) ∙ still (finmap.get w.processes p) where
     still : (o : Option Process) → option_map_or (λ q. finmap.get q.table n) (option_map bare_process o) None ≡ option_map_or (λ q. finmap.get q.table n) o None
     still None = refl
     still (Some q) = refl
 
-  -- What a socket holds.
+  -- The files that a socket holds.
   pub held-bare : (s : ℕ) → held_by (bare w) s ≡ held_by w s
   held-bare s = ap (λ o. option_map_or contents o []) (get-each bare_file w.files s) ∙ still (finmap.get w.files s) where
     still : (o : Option File) → option_map_or contents (option_map bare_file o) [] ≡ option_map_or contents o []
     still None = refl
     still (Some x) = contents-bare x
 
-  -- What is reached when bare is reached.
+  -- A file that is reachable in the bare world is reachable.
   reached-from_bare : (f : ℕ) → Reached (bare w) f → Reached w f
   reached-from_bare _ (ByTable f t) = ByTable f (t.0, t.1, sym (table_at-bare t.0 t.1) ∙ t.2)
   reached-from_bare _ (BySocket s f r h) = BySocket s f (reached-from_bare s r) (subst (λ xs. Contains xs f) (held-bare s) h)
@@ -101,10 +101,10 @@ module _ (w : World) where
   reached-to_bare _ (ByTable f t) = ByTable f (t.0, t.1, table_at-bare t.0 t.1 ∙ t.2)
   reached-to_bare _ (BySocket s f r h) = BySocket s f (reached-to_bare s r) (subst (λ xs. Contains xs f) (sym (held-bare s)) h)
 
-  -- What is reached.
+  -- The set of reachable files.
   pub reached-bare : (f : ℕ) → Reached (bare w) f ↔ Reached w f
   reached-bare f = (reached-from_bare f, reached-to_bare f)
 
-  -- What is garbage.
+  -- The set of garbage files.
   pub garbage-bare : (f : ℕ) → Garbage (bare w) f ↔ Garbage w f
   garbage-bare f = (λ g. (sym (live-bare f) ∙ g.0, λ r. g.1 (reached-to_bare f r)), λ g. (live-bare f ∙ g.0, λ r. g.1 (reached-from_bare f r)))

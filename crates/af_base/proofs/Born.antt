@@ -15,7 +15,7 @@ use Rattle.af_base.proofs.Moved.{table-there, there-table}
 use Rattle.af_base.proofs.Sums.{total-insert}
 use Rattle.af_base.proofs.Totals.{total-most}
 
--- What cannot be something is nothing.
+-- An option that cannot be some value is empty.
 nothing_there : {X : Type 0} (o : Option X) → ¬ (IsTrue (is_some o)) → o ≡ None
 nothing_there None n = refl
 nothing_there (Some x) n = absurd (n refl)

@@ -1,4 +1,4 @@
--- Where nothing is in flight and no embryo waits, all files stand in tables.
+-- With nothing in flight and no pending embryo, each file is in some table.
 use Rattle.std.proofs.Common.{◌≡◌, ℕ, inl, inr, arith}
 use Rattle.std.proofs.lemmas.Bool.{cases_lt}
 use Rattle.af_base.specs.World.{IsLive, World}

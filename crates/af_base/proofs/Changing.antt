@@ -1,4 +1,4 @@
--- What a step of a process changes: one change after the other, each with what it needs.
+-- The changes of a step, one after the other, each with its requirements.
 use Rattle.std.proofs.Common.{◌≡◌, ◌<◌, ◌≤◌, ℕ, ◌+◌, Bool, true, false, ◌⊎◌, inl, inr, List, [], ◌∷◌, ◌++◌, length, refl, subst, nat_eq, arith}
 use Rattle.std.specs.Prelude.{Some, None, if◌then◌else◌}
 use Rattle.std.specs.List.{Contains, list_any, zip}
@@ -12,7 +12,7 @@ use Rattle.af_base.specs.Counts.{total}
 use Rattle.af_base.specs.Changes.{add_file, add_process, add_user, bound, connected, dequeued, install, install_all, listening, push_message, pushed, queued, remove_process, set_limit, uninstall, with_queue, with_socket}
 use Rattle.af_base.specs.Names.{is_name, named}
 use Rattle.af_base.specs.Reached.{Reached}
-use Rattle.af_base.specs.Refusals.{is_crowded, is_full, room_of}
+use Rattle.af_base.specs.Refusals.{is_at_process_limit, is_full, room_of}
 use Rattle.af_base.specs.Steps.{connected_socket, idle_socket, with_embryo, with_pair}
 use Rattle.af_base.specs.Take.{take_from}
 use Rattle.af_base.specs.Whole.{IsMessageWithin, IsProcessWithin, IsWhole, IsWithin}
@@ -56,7 +56,7 @@ pub record Changed (old now : World) : Type 0 where
 pub unchanged : (w : World) → Changed w w
 unchanged w = record { places = Same; fits = λ k. k }
 
--- What holds the same as before holds nothing new.
+-- A change that keeps all holders adds no held file.
 still-holds : (old w : World) (s : ℕ) (g : Socket → Socket) → ((x : Socket) → contents (AsSocket (g x)) ≡ contents (AsSocket x)) → (q f : ℕ) → Holds (with_socket w s g) q f → Holds w q f ⊎ IsKnown old f
 still-holds old w s g same q f h = inl (subst (λ xs. Contains xs f) (held-with_socket w s g same q) h)
 
@@ -81,7 +81,7 @@ module _ {old w : World} (c : Changed old w) where
   pub changed-uninstall : (p n : ℕ) → Changed old (uninstall w p n)
   changed-uninstall p n = tables (uninstall w p n).processes w.next_pid w.users (λ f t. inl (tabled-uninstall w p n f t)) (λ k. (whole-uninstall w p n k.0, within-uninstall w p n k.1))
 
-  pub changed-process : (q : Process) → is_crowded w ≡ false → (IsWithin w → IsProcessWithin q) → ((n f : ℕ) → map.get q.table n ≡ Some f → InTable w f) → Changed old (add_process w q)
+  pub changed-process : (q : Process) → is_at_process_limit w ≡ false → (IsWithin w → IsProcessWithin q) → ((n f : ℕ) → map.get q.table n ≡ Some f → InTable w f) → Changed old (add_process w q)
   changed-process q room fits had =
       tables (add_process w q).processes (w.next_pid + 1) w.users (λ f t. inl (tabled-more w q had f t)) (λ k. (whole-add_process w q k.0 (λ n f is. k.0.tables_live f (had n f is)), within-add_process w q k.1 room (fits k.1)))
 

@@ -210,14 +210,14 @@ module _ (w : World) (c : ℕ) (kind : SockType) (client : Socket) (k : IsWhole 
   live_before : (f : ℕ) → IsLive w f → IsLive made f
   live_before f live = live_base f ∙ live-blank w (AsSocket embryo) (blank-connected kind c) k f live
 
-  -- Who is live afterwards is the embryo, or was live.
+  -- A file that is live afterwards is the embryo, or was live.
   live_was : (f : ℕ) → IsLive made f → (f ≡ n) ⊎ IsLive w f
   live_was f live = elim (which-blank w (AsSocket embryo) (blank-connected kind c) f) [
     | inl e ↦ inl e
     | inr e ↦ inr (sym (ap is_some e) ∙ sym (live_base f) ∙ live)
   ]
 
-  -- What is held afterwards was held.
+  -- A file that is held afterwards was held.
   held_was : (q f : ℕ) → Holds made q f → Holds w q f
   held_was q f h = elim (held-changed {A = ⊥} base c (connected n) q f (λ x is d. inl d) h) [
     | inl z ↦ held-blank w (AsSocket embryo) (blank-connected kind c) q f z
@@ -232,7 +232,7 @@ module _ (w : World) (c : ℕ) (kind : SockType) (client : Socket) (k : IsWhole 
   pub waiting-made : waiting made n ≡ 0
   waiting-made = waiting-none made n (λ q h. let low = k.files_numbered n (k.queues_live q n (held_was q n h)) in omega (arith, low))
 
-  -- Who is not the client is there as before.
+  -- Files other than the client are unchanged.
   pub still-made : (f : ℕ) → nat_eq f c ≡ false → IsLive w f → map.get made.files f ≡ map.get w.files f
   still-made f apart live = others-changed base c (connected n) f apart ∙ still-blank w (AsSocket embryo) (blank-connected kind c) k f live
 

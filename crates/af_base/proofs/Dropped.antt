@@ -1,4 +1,4 @@
--- What is left of counts and of files where a file is gone.
+-- Counts and files after a file is freed.
 use Rattle.std.proofs.Common.{◌≡◌, ℕ, ◌+◌, Bool, true, false, not, inl, inr, length, refl, sym, ap, ◌∙◌, cond, nat_eq, arith}
 use Rattle.std.specs.Prelude.{Option, Some, None, option_map}
 use Rattle.std.specs.FinMap as map
@@ -25,7 +25,7 @@ without-was gone w q y is = by (gone q) refl (map.get w.files q) refl (sym (get-
   by false e None d k = absurd (none_some y (sym (ap (λ b. cond (not b) (option_map (file_without gone) (map.get w.files q)) None) e ∙ ap (option_map (file_without gone)) d) ∙ k))
   by false e (Some x) d k = (x, d, e, some_same _ y (sym (ap (λ b. cond (not b) (option_map (file_without gone) (map.get w.files q)) None) e ∙ ap (option_map (file_without gone)) d) ∙ k))
 
--- What does not hang on whom a file talks to adds up to less by what the file that is gone had.
+-- A sum that ignores peers decreases by the part of the freed file.
 pub total-without : (F : File → ℕ) → ((gone : ℕ → Bool) (x : File) → F (file_without gone x) ≡ F x) → (w : World) (f : ℕ) (x : File) → map.get w.files f ≡ Some x → total_of F (without (nat_eq f) w).files + F x ≡ total_of F w.files
 total-without F same w f x is =
     let other : total_of F (without (nat_eq f) w).files ≡ total_of F (map.remove w.files f) = total-same F F (without (nat_eq f) w).files (map.remove w.files f) up down in
@@ -41,7 +41,7 @@ total-without F same w f x is =
         | inr a ↦ (file_without (nat_eq f) z, without-stays (nat_eq f) w k z (told_apart f k (λ s. not_same k f a (sym s))) (sym (remove-other w.files f k a) ∙ e), same (nat_eq f) z)
       ]
 
--- Who has hung up has the queue that it had.
+-- A socket that hung up keeps its queue.
 pub same_queue : (gone : ℕ → Bool) (x : File) → queue_of (file_without gone x) ≡ queue_of x
 same_queue gone Plain = refl
 same_queue gone (AsSocket s) = refl

@@ -1,9 +1,9 @@
--- What is in a list.
+-- Membership in lists.
 use Rattle.std.proofs.Common.{◌≡◌, ◌<◌, ℕ, zero, suc, List, [], ◌∷◌, length, refl, arith}
 use Rattle.std.specs.List.{Contains, slice_index_or}
 
 module _ {X : Type 0} where
-  -- What is in a list that begins with another is in the rest.
+  -- An element of a list that begins with another element is in the rest.
   pub Contains-rest : (x : X) (xs : List X) (y : X) → Contains (x ∷ xs) y → ¬ (x ≡ y) → Contains xs y
   Contains-rest x xs y h n = at h.0 h.1 h.2 where
     at : (k : ℕ) → k < length (x ∷ xs) → slice_index_or (x ∷ xs) k y ≡ y → Contains xs y
@@ -14,7 +14,7 @@ module _ {X : Type 0} where
   pub Contains-first : (x : X) (xs : List X) → Contains (x ∷ xs) x
   Contains-first x xs = (0, omega arith, refl)
 
-  -- What is in the rest of a list is in it.
+  -- An element of the rest of a list is in the list.
   pub Contains-later : (x : X) (xs : List X) (y : X) → Contains xs y → Contains (x ∷ xs) y
   Contains-later x xs y h = (suc h.0, omega (arith, h.1), h.2)
 

@@ -22,12 +22,12 @@ use Rattle.af_base.proofs.Totals.{total-below}
 abbrev pub WaitOnce : World → Type 0
 WaitOnce w = (f : ℕ) → waiting w f ≤ 1
 
--- What is in a list without its first is in the list.
+-- An element of a list without its first is in the list.
 pub Contains-dropped : (xs : List ℕ) (f : ℕ) → Contains (drop 1 xs) f → Contains xs f
 Contains-dropped [] f h = h
 Contains-dropped (x ∷ xs) f h = Contains-later x xs f h
 
--- Without its first a list has no more of a number.
+-- Removing the first element raises no count.
 count-drop : (xs : List ℕ) (f : ℕ) → count_in f (drop 1 xs) ≤ count_in f xs
 count-drop [] f = omega arith
 count-drop (x ∷ xs) f = omega (arith, count-cons f x xs)

@@ -21,7 +21,7 @@ module _ (w : World) (p : ℕ) where
     | inr apart ↦ sym (remove-other w.processes p r apart) ∙ is
   ]
 
-  -- What a table holds afterwards it held before.
+  -- A file in a table afterwards was in it before.
   pub tabled-remove : (f : ℕ) → InTable (remove_process w p) f → InTable w f
   tabled-remove f t =
       let at = table-there (remove_process w p) t.0 t.1 f t.2 in

@@ -42,7 +42,7 @@ range_below : (a n b : ℕ) → a + n ≤ b → All (λ c. c < b) (range_with_le
 range_below a zero b h = All-nil (λ c. c < b)
 range_below a (suc n) b h = All-cons (λ c. c < b) a (range_with_len (a + 1) n) (omega (arith, h)) (range_below (a + 1) n b (omega (arith, h)))
 
--- What is not something is nothing.
+-- An option that is not some value is empty.
 none_there : {X : Type 0} (o : Option X) → not (is_some o) ≡ true → o ≡ None
 none_there None e = refl
 none_there (Some x) e = absurd (false≢true e)

@@ -20,12 +20,12 @@ use Rattle.af_base.specs.declared.listing.ListedSocket.{ListedSocket}
 use Rattle.af_base.specs.declared.listing.ListedTable.{ListedTable}
 use Rattle.af_base.proofs.Listed.{keyed-total, sum_by-mapped}
 
--- What was gathered of all items.
+-- The list gathered from all items.
 pub gathered : {A : Type 0} (h : A → List ℕ) (xs : List A) (i : ℕ) (start new all : List ℕ) → length xs ≤ i → new ≡ start ++ flat_map h (take i xs) → flat_map h xs ≡ all → new ≡ start ++ all
 gathered h xs i start new all end so_far is = so_far ∙ ap (λ ys. start ++ flat_map h ys) (take_all i xs end) ∙ ap (λ ys. start ++ ys) is
 
 module _ {X : Type 0} (F G : X → ℕ) where
-  -- What weighs the same for all items adds up to the same.
+  -- Two sums whose items agree are equal.
   sum_same : (P : X → Type 0) → ((y : X) → P y → F y ≡ G y) → (xs : List X) → All P xs → sum_by F xs ≡ sum_by G xs
   sum_same P same [] h = refl
   sum_same P same (x ∷ xs) h =
@@ -38,11 +38,11 @@ count_flat f g [] = refl
 count_flat f g (x ∷ xs) = omega (arith, sum_by-append (λ y. cond (nat_eq f y) 1 0) (g x) (flat_map g xs), count_flat f g xs, sum_by-cons (λ y. count_in f (g y)) x xs)
 
 module _ (x : ListedFile) (s : ListedSocket) (is : x.socket ≡ Some s) where
-  -- What travels in the queue of a listed socket.
+  -- The files that the queue of a listed socket carries.
   pub carried_listed : carried (queue_of (file_of x)) ≡ flat_map (λ m. m.attached.items) s.queue.items
   carried_listed = ap (λ o. carried (queue_of (option_map_or (λ s. AsSocket (socket_of s)) o Plain))) is ∙ flat_map-map (λ m. m.attached) message_of s.queue.items
 
-  -- Whom its queue is charged to.
+  -- The users that its queue is charged to.
   pub payers_listed : flat_map payers_of (queue_of (file_of x)) ≡ flat_map (λ m. payers_of (message_of m)) s.queue.items
   payers_listed = ap (λ o. flat_map payers_of (queue_of (option_map_or (λ s. AsSocket (socket_of s)) o Plain))) is ∙ flat_map-map payers_of message_of s.queue.items
 
@@ -50,11 +50,11 @@ module _ (x : ListedFile) (s : ListedSocket) (is : x.socket ≡ Some s) where
   pub backlog_listed : backlog_of (file_of x) ≡ s.backlog.items
   backlog_listed = ap (λ o. backlog_of (option_map_or (λ s. AsSocket (socket_of s)) o Plain)) is
 
-  -- What it holds.
+  -- The files that it holds.
   pub contents_listed : contents (file_of x) ≡ flat_map (λ m. m.attached.items) s.queue.items ++ s.backlog.items
   contents_listed = (λ i. carried_listed i ++ backlog_listed i)
 
--- A user stands among those that a message is charged to as often as the message charges to it.
+-- The count of a user in the list of a message is the message's charge to that user.
 count_payers : (u : ℕ) (m : Message) → count_in u (payers_of m) ≡ charge u m
 count_payers u m = sum_by-mapped (λ y. cond (nat_eq u y) 1 0) (λ _. m.user) m.attached ∙ each (nat_eq u m.user) m.attached where
   each : (b : Bool) (xs : List ℕ) → sum_by (λ y. cond b 1 0) xs ≡ cond b (length xs) 0
@@ -63,11 +63,11 @@ count_payers u m = sum_by-mapped (λ y. cond (nat_eq u y) 1 0) (λ _. m.user) m.
   each true (x ∷ xs) = omega (arith, each true xs, sum_by-cons (λ y. 1) x xs)
   each false (x ∷ xs) = omega (arith, each false xs, sum_by-cons (λ y. 0) x xs)
 
--- What a world adds up over its files is what the list of files does.
+-- A sum over the files of a world is the sum over their list.
 files_total : (F : File → ℕ) (files : List ListedFile) → AreFiles files → total_of F (files_of files) ≡ sum_by (λ x. F (file_of x)) files
 files_total F files ordered = keyed-total (λ x. x.ino) file_of F files ordered.inos
 
--- A file stands among those that tables hold as often as numbers stand for it.
+-- The count of a file in the list of table entries is the number of descriptors that refer to it.
 pub count_tabled : (tables : List ListedTable) (files : List ListedFile) → AreTables tables → (f : ℕ) → count_in f (flat_map inos_of tables) ≡ tabled (listed tables files) f
 count_tabled tables files ordered f =
     count_flat f inos_of tables
@@ -76,7 +76,7 @@ count_tabled tables files ordered f =
       table : (t : ListedTable) → IsRisingTable t → total_of (λ g. one f g) (table_of t) ≡ count_in f (inos_of t)
       table t h = keyed-total (λ n. n.fd) (λ n. n.ino) (one f) t.numbers.items h ∙ sym (sum_by-mapped (λ g. cond (nat_eq f g) 1 0) (λ n. n.ino) t.numbers.items)
 
--- It stands among all that is held as often as a place holds it.
+-- The count of a file in the list of holdings is its reference count.
 pub count_held : (tables : List ListedTable) (files : List ListedFile) → AreTables tables → AreFiles files → (f : ℕ)
     → count_in f (flat_map inos_of tables ++ flat_map (λ x. contents (file_of x)) files) ≡ refs (listed tables files) f
 count_held tables files rising ordered f =
@@ -85,7 +85,7 @@ count_held tables files rising ordered f =
     omega (arith, numbers, places, sum_by-append (λ y. cond (nat_eq f y) 1 0) (flat_map inos_of tables) (flat_map (λ x. contents (file_of x)) files))
 
 module _ (tables : List ListedTable) (files : List ListedFile) (ordered : AreFiles files) where
-  -- It stands among all that travels as often as a queue holds it.
+  -- The count of a file in the list of queued files is its in-flight count.
   pub count_queued : (f : ℕ) → count_in f (flat_map (λ x. carried (queue_of (file_of x))) files) ≡ inflight (listed tables files) f
   count_queued f = count_flat f (λ x. carried (queue_of (file_of x))) files ∙ sym (files_total (λ x. count_in f (carried (queue_of x))) files ordered)
 
@@ -96,7 +96,7 @@ module _ (tables : List ListedTable) (files : List ListedFile) (ordered : AreFil
       ∙ (λ i. sum_by (λ x. length-flat_map (λ m. m.attached) (queue_of (file_of x)) i) files)
       ∙ sym (files_total (λ x. sum_by (λ m. length m.attached) (queue_of x)) files ordered)
 
-  -- A user stands among those that queues are charged to as often as it is charged.
+  -- The count of a user in the list of charges is that user's total.
   pub count_charged : (u : ℕ) → count_in u (flat_map (λ x. flat_map payers_of (queue_of (file_of x))) files) ≡ charged (listed tables files) u
   count_charged u =
       count_flat u (λ x. flat_map payers_of (queue_of (file_of x))) files

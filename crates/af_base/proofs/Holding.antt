@@ -1,4 +1,4 @@
--- What sockets hold, and what tables have, after a change.
+-- The files that sockets hold and that tables refer to, after a change.
 use Rattle.std.proofs.Common.{◌≡◌, ℕ, ◌⊎◌, inl, inr, List, [], ◌∷◌, ◌++◌, drop, sym, ap, ◌∙◌, subst}
 use Rattle.std.specs.Prelude.{Some}
 use Rattle.std.specs.List.{Contains}
@@ -14,7 +14,7 @@ use Rattle.af_base.proofs.Moved.{held-changed, table-there, there-table}
 use Rattle.af_base.proofs.Places.{carried-push}
 use Rattle.af_base.proofs.Takes.{taken-before}
 
--- What is held where an embryo more waits was held, or is the embryo.
+-- With one embryo more, a held file was held or is the embryo.
 pub held-queued : (w : World) (l n q f : ℕ) → Holds (with_socket w l (queued n)) q f → Holds w q f ⊎ (n ≡ f)
 held-queued w l n q f h = held-changed w l (queued n) q f (λ x is d. elim (Contains-append_cases (carried x.queue) (x.backlog ++ n ∷ []) f d) [
   | inl z ↦ inl (Contains-append_left (carried x.queue) x.backlog f z)
@@ -24,7 +24,7 @@ held-queued w l n q f h = held-changed w l (queued n) q f (λ x is d. elim (Cont
   ]
 ]) h
 
--- What is held where a message more waits was held, or travels with it.
+-- With one message more, a held file was held or is attached to it.
 pub held-pushed : (w : World) (s : ℕ) (m : Message) (q f : ℕ) → Holds (push_message w s m) q f → Holds w q f ⊎ Contains m.attached f
 held-pushed w s m q f h = held-changed w s (pushed m) q f (λ x is d. elim (Contains-append_cases (carried (x.queue ++ m ∷ [])) x.backlog f d) [
   | inl y ↦ elim (Contains-append_cases (carried x.queue) m.attached f (subst (λ xs. Contains xs f) (carried-push x.queue m) y)) [
@@ -34,7 +34,7 @@ held-pushed w s m q f h = held-changed w s (pushed m) q f (λ x is d. elim (Cont
   | inr y ↦ inl (Contains-append_right (carried x.queue) x.backlog f y)
 ]) h
 
--- What is held where the first embryo of a listener is gone was held
+-- without the first embryo of a listener, a held file was held
 pub held-dequeued : (w : World) (s q f : ℕ) → Holds (with_socket w s dequeued) q f → Holds w q f
 held-dequeued w s q f h = elim (held-changed {A = ⊥} w s dequeued q f (λ x is d. inl (gain x d)) h) [ inl y ↦ y | inr y ↦ absurd y ] where
   gain : (x : Socket) → Contains (contents (AsSocket (dequeued x))) f → Contains (contents (AsSocket x)) f
@@ -43,7 +43,7 @@ held-dequeued w s q f h = elim (held-changed {A = ⊥} w s dequeued q f (λ x is
     | inr z ↦ Contains-append_right (carried x.queue) x.backlog f (Contains-dropped x.backlog f z)
   ]
 
--- What is held after a receive was held
+-- after a receive, a held file was held
 module _ (w : World) (s n : ℕ) (x : Socket) (at : map.get w.files s ≡ Some (AsSocket x)) where
   abbrev rest : List Message
   rest = (take_from x.kind x.queue n).rest
@@ -58,7 +58,7 @@ module _ (w : World) (s n : ℕ) (x : Socket) (at : map.get w.files s ≡ Some (
           | inr z ↦ Contains-append_right (carried y.queue) y.backlog f z
         ]
 
--- What tables have with a process more they had
+-- with one process more, a file in a table was in one before
 pub tabled-more : (w : World) (q : Process) → ((n f : ℕ) → map.get q.table n ≡ Some f → InTable w f) → (f : ℕ) → InTable (add_process w q) f → InTable w f
 tabled-more w q had f t =
     let now = table-there (add_process w q) t.0 t.1 f t.2 in

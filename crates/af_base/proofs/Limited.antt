@@ -22,7 +22,7 @@ module _ (w : World) (p n : ℕ) where
   abbrev new : World
   new = set_limit w p n
 
-  -- Each number stands for what it stood for.
+  -- Each descriptor refers to the same file as before.
   pub table_at-limited : (r k : ℕ) → table_at new r k ≡ table_at w r k
   table_at-limited r k = ap (λ o. option_map_or (λ q. map.get q.table k) o None) (get-change_at (limited n) w.processes p r) ∙ each (eq_by_cmp nat_cmp r p) (map.get w.processes r) where
     each : (b : Bool) (o : Option Process) → option_map_or (λ q. map.get q.table k) (option_map (λ q. cond b (limited n q) q) o) None ≡ option_map_or (λ q. map.get q.table k) o None
@@ -30,11 +30,11 @@ module _ (w : World) (p n : ℕ) where
     each true (Some q) = refl
     each false (Some q) = refl
 
-  -- What a table holds it held.
+  -- A file in a table was in it.
   pub tabled-limited : (f : ℕ) → InTable new f → InTable w f
   tabled-limited f t = (t.0, t.1, sym (table_at-limited t.0 t.1) ∙ t.2)
 
-  -- As many numbers stand for a file as did.
+  -- As many descriptors refer to a file as before.
   pub count-limited : (f : ℕ) → tabled new f ≡ tabled w f
   count-limited f = by (map.get w.processes p) refl where
     by : (o : Option Process) → map.get w.processes p ≡ o → total_of (λ q. total_of (λ g. one f g) q.table) new.processes ≡ tabled w f

@@ -34,11 +34,11 @@ module _ {A X : Type 0} (key : A → ℕ) (value : A → X) where
   pub keyed-entries : (xs : List A) → IsStrictlyIncreasing (map key xs) → finmap.entries (keyed key value xs) ≡ map entry xs
   keyed-entries xs h = listed (map entry xs) (subst (IsStrictlySortedBy nat_cmp) (sym (map-map (λ e. e.0) entry xs)) (sorted_from_strictly_increasing (map key xs) h))
 
-  -- What its values add up to.
+  -- The sum of its values.
   pub keyed-total : (F : X → ℕ) (xs : List A) → IsStrictlyIncreasing (map key xs) → total_of F (keyed key value xs) ≡ sum_by (λ x. F (value x)) xs
   keyed-total F xs h = ap (sum_by (λ e. F e.1)) (keyed-entries xs h) ∙ sum_by-mapped (λ e. F e.1) entry xs
 
-  -- What it has at a key is the first item with this key.
+  -- The value at a key is the first item with this key.
   pub keyed-get : (xs : List A) (q : ℕ) → finmap.get (keyed key value xs) q ≡ option_map value (find (λ x. nat_eq q (key x)) xs)
   keyed-get xs q = finmap.get-from_entries nat_cmp_total (map entry xs) q ∙ found xs where
     either : (b : Bool) (x : A) (o : Option A) → cond b (Some (value x)) (option_map value o) ≡ option_map value (cond b (Some x) o)

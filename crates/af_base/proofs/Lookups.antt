@@ -1,4 +1,4 @@
--- What a map has at a number, before and after a change.
+-- Lookups in a map, before and after a change.
 use Rattle.std.proofs.Common.{rules, ◌≡◌, ℕ, true, false, ◌⊎◌, inl, inr, refl, sym, ap, subst, ◌∙◌, cond, nat_eq}
 use Rattle.std.specs.Prelude.{Option, Some, None, IsTrue, IsSome, is_some, option_map}
 use Rattle.std.specs.Option.{option_map_or}
@@ -22,7 +22,7 @@ some_same x y e = ap (λ o. option_map_or (λ z. z) o x) e
 pub some_is : {X : Type 0} (o : Option X) (x : X) → o ≡ Some x → IsSome o
 some_is o x e = subst IsSome (sym e) (search rules)
 
--- What is there is a value.
+-- A lookup that succeeds finds a value of the map.
 pub there : {X : Type 0} (o : Option X) → IsTrue (is_some o) → (x : X) × (o ≡ Some x)
 there None l = absurd (false≢true l)
 there (Some x) l = (x, refl)
@@ -35,7 +35,7 @@ same_or_not q k = elim (cases_Bool (nat_eq q k)) [ inl e ↦ inl (eqb-true q k e
 pub itself : (k : ℕ) → nat_eq k k ≡ true
 itself k = eq-eqb k k refl
 
--- A number that is not another is told from it.
+-- A number that differs from another has a key of its own.
 pub told_apart : (q k : ℕ) → ¬ (q ≡ k) → nat_eq q k ≡ false
 told_apart q k n = elim (same_or_not q k) [ inl e ↦ absurd (n e) | inr e ↦ e ]
 
@@ -61,7 +61,7 @@ module _ {X : Type 0} (m : Map X) (k : ℕ) where
   remove-other q e = map.get-remove nat_cmp_total m k q ∙ ap (λ b. cond b None (map.get m q)) (unsigned_tied q k ∙ e)
 
 module _ {X : Type 0} (g : X → X) (m : Map X) (k q : ℕ) where
-  -- What a value at q is after k was changed.
+  -- The value at q after the value at k was changed.
   abbrev changed : X → X
   changed x = cond (eq_by_cmp nat_cmp q k) (g x) x
 
@@ -73,7 +73,7 @@ module _ {X : Type 0} (g : X → X) (m : Map X) (k q : ℕ) where
   off_key : (x : X) → nat_eq q k ≡ false → changed x ≡ x
   off_key x a = ap (λ b. cond b (g x) x) (unsigned_tied q k ∙ a)
 
-  -- What stands in a map with k changed stood there before, or came of it at k.
+  -- A value of a map changed at k was there before, or is the changed value.
   pub changed-was : (y : X) → map.get (change_at g m k) q ≡ Some y → (x : X) × (map.get m q ≡ Some x) × (((q ≡ k) × (y ≡ g x)) ⊎ (y ≡ x))
   changed-was y is = by (map.get m q) refl (sym (get-change_at g m k q) ∙ is) where
     by : (o : Option X) → map.get m q ≡ o → option_map changed o ≡ Some y → (x : X) × (map.get m q ≡ Some x) × (((q ≡ k) × (y ≡ g x)) ⊎ (y ≡ x))
@@ -87,7 +87,7 @@ module _ {X : Type 0} (g : X → X) (m : Map X) (k q : ℕ) where
       ],
     )
 
-  -- Whether something stands there stays.
+  -- A change at k keeps whether q has a value.
   pub changed-live : is_some (map.get (change_at g m k) q) ≡ is_some (map.get m q)
   changed-live = ap is_some (get-change_at g m k q) ∙ by (map.get m q) where
     by : (o : Option X) → is_some (option_map changed o) ≡ is_some o

@@ -16,18 +16,18 @@ use Rattle.af_base.proofs.Stepping.{get-change_at}
 use Rattle.af_base.proofs.Sums.{total-change_at}
 use Rattle.af_base.proofs.Lookups.{changed-live, changed-was, insert-here, insert-other, none_some, remove-here, remove-other, same_or_not, some_same}
 
--- What a number stands for stands in a process's table.
+-- The file that a descriptor refers to is in a table.
 pub table-there : (w : World) (p n g : ℕ) → table_at w p n ≡ Some g → (q : Process) × (map.get w.processes p ≡ Some q) × (map.get q.table n ≡ Some g)
 table-there w p n g = by (map.get w.processes p) refl where
   by : (o : Option Process) → map.get w.processes p ≡ o → option_map_or (λ q. map.get q.table n) o None ≡ Some g → (q : Process) × (map.get w.processes p ≡ Some q) × (map.get q.table n ≡ Some g)
   by None e is = absurd (none_some g is)
   by (Some q) e is = (q, e, is)
 
--- What stands in a process's table is what the number stands for.
+-- A file in a process's table is one that a descriptor refers to.
 pub there-table : (w : World) (p n : ℕ) (q : Process) → map.get w.processes p ≡ Some q → table_at w p n ≡ map.get q.table n
 there-table w p n q e = ap (λ o. option_map_or (λ r. map.get r.table n) o None) e
 
--- Who holds a file is a file that has it.
+-- The holder of a file is a file that has it.
 pub holds-there : (w : World) (s f : ℕ) → Holds w s f → (x : File) × (map.get w.files s ≡ Some x) × Contains (contents x) f
 holds-there w s f = by (map.get w.files s) refl where
   by : (o : Option File) → map.get w.files s ≡ o → Contains (option_map_or contents o []) f → (x : File) × (map.get w.files s ≡ Some x) × Contains (contents x) f
@@ -53,15 +53,15 @@ others-changed w s g q apart = by (map.get w.files s) where
   by None = refl
   by (Some y) = insert-other w.files s (file_with g y) q apart
 
--- Whom a file that is there talks to.
+-- The peer of a live file.
 pub state-there : (w : World) (f : ℕ) (x : File) → map.get w.files f ≡ Some x → state_at w f ≡ state_of x
 state-there w f x at = ap (λ o. option_map_or state_of o state.Idle) at
 
--- Whom another file talks to stays.
+-- Another file keeps its peer.
 pub state-others : (w : World) (s : ℕ) (g : Socket → Socket) (q : ℕ) → nat_eq q s ≡ false → state_at (with_socket w s g) q ≡ state_at w q
 state-others w s g q apart = ap (λ o. option_map_or state_of o state.Idle) (others-changed w s g q apart)
 
--- What no change of a socket alters adds up to the same.
+-- A sum that no change of a socket alters is the same.
 pub total-changed : (F : File → ℕ) (w : World) (s : ℕ) (g : Socket → Socket) → ((x : Socket) → F (AsSocket (g x)) ≡ F (AsSocket x)) → total_of F (with_socket w s g).files ≡ total_of F w.files
 total-changed F w s g same = by (map.get w.files s) refl where
   each : (x : File) → F (file_with g x) ≡ F x
@@ -81,7 +81,7 @@ state-changed w s g same q = ap (λ o. option_map_or state_of o state.Idle) (get
   each true (Some (AsSocket x)) = same x
   each false (Some x) = refl
 
--- What is held after a socket's change was held before, or is among what the change put in.
+-- After a change of a socket, a held file was held before, or the change added it.
 pub held-changed : {A : Type 0} (w : World) (s : ℕ) (g : Socket → Socket) (q f : ℕ)
     → ((x : Socket) → map.get w.files s ≡ Some (AsSocket x) → Contains (contents (AsSocket (g x))) f → Contains (contents (AsSocket x)) f ⊎ A) → Holds (with_socket w s g) q f → Holds w q f ⊎ A
 held-changed {A = A} w s g q f gain h =
@@ -98,7 +98,7 @@ held-changed {A = A} w s g q f gain h =
         | inr y ↦ inr y
       ]
 
--- What a table has after a change it had before, or the change put it in.
+-- After a change, a file in a table was in it before, or the change added it.
 pub tabled-changed : {A : Type 0} (w : World) (p : ℕ) (g : Map ℕ → Map ℕ) (f : ℕ)
     → ((r : Process) (n : ℕ) → map.get w.processes p ≡ Some r → map.get (g r.table) n ≡ Some f → (map.get r.table n ≡ Some f) ⊎ A) → InTable (with_table w p g) f → InTable w f ⊎ A
 tabled-changed {A = A} w p g f gain t =
@@ -110,14 +110,14 @@ tabled-changed {A = A} w p g f gain t =
       | inr y ↦ inl (stood (sym (ap (λ r. map.get r.table t.1) y) ∙ new.2))
     ]
 
--- What tables have after a number was taken into use is what they had, and its file.
+-- After a descriptor is allocated, the tables refer to the same files, and its file.
 pub tabled-install : (w : World) (p n g f : ℕ) → InTable (install w p n g) f → InTable w f ⊎ (g ≡ f)
 tabled-install w p n g f = tabled-changed w p (λ t. map.insert t n g) f (λ r q at is. elim (same_or_not q n) [
   | inl same ↦ inr (some_same g f (sym (insert-here r.table n g) ∙ ap (map.get (map.insert r.table n g)) (sym same) ∙ is))
   | inr apart ↦ inl (sym (insert-other r.table n g q apart) ∙ is)
 ])
 
--- What tables have after a number was given up they had before.
+-- After a descriptor is closed, a file in a table was in one before.
 pub tabled-uninstall : (w : World) (p n f : ℕ) → InTable (uninstall w p n) f → InTable w f
 tabled-uninstall w p n f t = elim (tabled-changed {A = ⊥} w p (λ t. map.remove t n) f (λ r q at is. inl (elim (same_or_not q n) [
   | inl same ↦ absurd (none_some f (sym (remove-here r.table n) ∙ ap (map.get (map.remove r.table n)) (sym same) ∙ is))

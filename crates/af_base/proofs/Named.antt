@@ -40,7 +40,7 @@ named-there w f name = by (map.get w.files f) refl where
   by None e is = absurd (none_some name is)
   by (Some x) e is = (x, e, is)
 
--- Who has a name afterwards had it before.
+-- A socket that has a name afterwards had it before.
 pub names-kept : (w new : World) → ((f : ℕ) (name : List ℕ) → name_at new f ≡ Some name → name_at w f ≡ Some name) → AreNamedApart w → AreNamedApart new
 names-kept w new was apart f g name e d = apart f g name (was f name e) (was g name d)
 
@@ -61,7 +61,7 @@ name-changed w s g same f name e =
 pub names-changed : (w : World) (s : ℕ) (g : Socket → Socket) → ((x : Socket) → (g x).name ≡ x.name) → AreNamedApart w → AreNamedApart (with_socket w s g)
 names-changed w s g same apart = names-kept w (with_socket w s g) (name-changed w s g same) apart
 
--- Who has a name after a socket got one had it before, or is that socket.
+-- After a bind, a socket with a name had it before, or is the bound one.
 name-bound : (w : World) (s : ℕ) (given : List ℕ) (f : ℕ) (name : List ℕ) → name_at (with_socket w s (bound given)) f ≡ Some name → ((f ≡ s) × (given ≡ name)) ⊎ (name_at w f ≡ Some name)
 name-bound w s given f name e =
     let new = named-there (with_socket w s (bound given)) f name e in
@@ -115,7 +115,7 @@ module _ {X : Type 0} (test : X → Bool) where
     by rest true t n = absurd (none_some d.0 (sym n))
     by rest false t n = at t (rest n k x) (nat_cmp k d.0) is
 
-  -- What the first that passes is.
+  -- The first element that passes a test.
   first_passes : (es : List (ℕ × X)) → T (is_sorted nat_cmp es) → (k : ℕ) → first_key es ≡ Some k → (x : X) × (find nat_cmp k es ≡ Some x) × (test x ≡ true)
   first_passes [] s k e = absurd (none_some k e)
   first_passes (d ∷ es) s k e = by (first_passes es (second _ _ s) k) (test d.1) refl e where
@@ -136,7 +136,7 @@ name_of-has name (AsSocket s) e = by s.name e where
   by None e = absurd (false≢true e)
   by (Some other) e = ap Some (sym (list_same name other e))
 
--- Who is found by a name has it.
+-- A socket that a name finds has this name.
 pub named-some : (w : World) (name : List ℕ) (f : ℕ) → named w.files name ≡ Some f → name_at w f ≡ Some name
 named-some w name f e =
     let at = first_passes (has_name name) (map.entries w.files) (entries_sorted w.files) f e in

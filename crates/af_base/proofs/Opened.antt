@@ -55,15 +55,15 @@ module _ (w : World) (x : File) (blank : IsBlank x) where
   pub blank-there : map.get new.files a ≡ Some x
   blank-there = insert-here w.files a x
 
-  -- A number is that of the new file, or stands for what it stood for.
+  -- A descriptor refers to the new file, or to the file that it referred to.
   pub which-blank : (q : ℕ) → (q ≡ a) ⊎ (map.get new.files q ≡ map.get w.files q)
   which-blank q = elim (same_or_not q a) [ inl e ↦ inl e | inr e ↦ inr (insert-other w.files a x q e) ]
 
-  -- What was there is there as it was.
+  -- A file that was live is unchanged.
   pub still-blank : IsWhole w → (f : ℕ) → IsLive w f → map.get new.files f ≡ map.get w.files f
   still-blank k f l = let low = k.files_numbered f l in insert-other w.files a x f (told_apart f a (λ e. omega (arith, e, low)))
 
-  -- What was there is there.
+  -- A file that was live is live.
   pub live-blank : IsWhole w → (f : ℕ) → IsLive w f → IsLive new f
   live-blank k f l = ap is_some (still-blank k f l) ∙ l
 
@@ -81,7 +81,7 @@ module _ (w : World) (x : File) (blank : IsBlank x) where
     | inr s ↦ name-there w f (map.get new.files f) (sym s) ∙ e
   ]
 
-  -- Whom a file talks to stays, where the new file talks to nobody.
+  -- Each file keeps its peer, since the new file has none.
   state-blank : state_of x ≡ state.Idle → IsWhole w → (q : ℕ) → state_at new q ≡ state_at w q
   state-blank idle k q = elim (which-blank q) [
     | inl e ↦

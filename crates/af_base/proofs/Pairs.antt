@@ -61,7 +61,7 @@ module _ (w : World) (kind : SockType) where
     | inr e ↦ elim (same_or_not q b) [ inl d ↦ inr (inl d) | inr d ↦ inr (inr (others_there q e d)) ]
   ]
 
-  -- What was there is there.
+  -- A file that was live is live.
   pub live-pair : IsWhole w → (f : ℕ) → IsLive w f → IsLive new f
   live-pair k f l = let low = k.files_numbered f l in ap is_some (others_there f (told_apart f a (λ e. omega (arith, e, low))) (told_apart f b (λ e. omega (arith, e, low)))) ∙ l
 
@@ -75,11 +75,11 @@ module _ (w : World) (kind : SockType) where
     ]
   ]
 
-  -- Whom a file that is there talks to.
+  -- The peer of a live file.
   state_there : (q : ℕ) (o : Option File) → map.get new.files q ≡ o → state_at new q ≡ option_map_or state_of o state.Idle
   state_there q o e = ap (λ o. option_map_or state_of o state.Idle) e
 
-  -- Who is connected is live.
+  -- A connected file is live.
   connected_live : (q p : ℕ) → state_at w q ≡ state.Connected p → IsLive w q
   connected_live q p = by (map.get w.files q) where
     by : (o : Option File) → option_map_or state_of o state.Idle ≡ state.Connected p → IsTrue (is_some o)

@@ -20,6 +20,6 @@ settled-held w f s l = elim (cases_lt 0 (refs w f)) [
 pub settled-counted : (w : World) → ((f : ℕ) → IsLive w f → 0 < refs w f) → IsSettled w
 settled-counted w h = settled_by w (λ f l. held_by_some w f (h f l))
 
--- A live file without a place goes first, and what the rest settles to is what the whole settles to.
+-- Freeing an unheld live file first and settling the rest equals settling the whole.
 pub settles-without : (w : World) (f : ℕ) → IsLive w f → refs w f ≡ 0 → (new : World) → Settles (without (nat_eq f) w) new → Settles w new
 settles-without w f l z new = let none = held_by_none w f z in settles_first w f l none.0 none.1 new

@@ -31,7 +31,7 @@ module _ (t : ℕ → Bool) (w : World) where
     by None e d = absurd (none_some y d)
     by (Some x) e d = (x, e, some_same _ y d)
 
-  -- Whom a file talks to stays.
+  -- Each file keeps its peer.
   state_at-emptied : (f : ℕ) → state_at (emptied t w) f ≡ state_at w f
   state_at-emptied f = ap (λ o. option_map_or state_of o state.Idle) (get-emptied t w f) ∙ each (t f) (map.get w.files f) where
     each : (b : Bool) (o : Option File) → option_map_or state_of (option_map (λ x. if b then empty_file x else x) o) state.Idle ≡ option_map_or state_of o state.Idle
@@ -40,7 +40,7 @@ module _ (t : ℕ → Bool) (w : World) where
     each true (Some (AsSocket s)) = refl
     each false (Some x) = refl
 
-  -- What weighs no more where it is emptied adds up to no more.
+  -- A sum that emptying cannot raise does not grow.
   fewer : (F : File → ℕ) → ((x : File) → F (empty_file x) ≤ F x) → total_of F (emptied t w).files ≤ total_of F w.files
   fewer F low = total-below F F (emptied t w).files w.files (λ f y is.
       let was = emptied-was f y is in

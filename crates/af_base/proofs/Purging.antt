@@ -1,4 +1,4 @@
--- Emptying some and then others, each with what then goes, is emptying all of them at once.
+-- Emptying some sockets and then others, and settling each time, equals emptying all at once.
 use Rattle.std.proofs.Common.{◌≡◌, ℕ, Bool, true, false, not, ◌||◌, ◌⊎◌, inl, inr, List, [], refl, sym, ap, ◌∙◌, subst, cond, arith}
 use Rattle.std.specs.Prelude.{Option, Some, None, option_map, is_some, if◌then◌else◌}
 use Rattle.std.specs.Option.{option_map_or}
@@ -75,7 +75,7 @@ module _ (t u : ℕ → Bool) (w v z : World) (first : Purges t w v) (second : P
   abbrev all : World
   all = emptied both w
 
-  -- what goes first goes
+  -- a file freed by the first part is freed
   goes_first : (f : ℕ) → Unheld (emptied t w) f → Unheld all f
   goes_first _ (Goes f l no_table hs) = Goes f (live-emptied both w f ∙ sym (live-emptied t w f) ∙ l) no_table (λ s h.
       let from = from_emptied both w s f h in
@@ -99,7 +99,7 @@ module _ (t u : ℕ → Bool) (w v z : World) (first : Purges t w v) (second : P
   to_tables_v : (f : ℕ) → InTable w f → InTable v f
   to_tables_v f h = subst (λ x. InTable x f) (sym first.2) h
 
-  -- what goes second goes
+  -- a file freed by the second part is freed
   goes_second : (f : ℕ) → Unheld (emptied u v) f → Unheld all f
   goes_second _ (Goes f l no_table hs) =
       let live = stays _ _ (sym (live_v f) ∙ sym (live-emptied u v f) ∙ l) in
@@ -111,7 +111,7 @@ module _ (t u : ℕ → Bool) (w v z : World) (first : Purges t w v) (second : P
         | inr e ↦ goes_second s (hs s (to_emptied u v s f apart.1 (to_v s f e apart.0 from.1)))
       ])
 
-  -- nothing else goes
+  -- no other file is freed
   goes_by : (f : ℕ) → Unheld all f → (first.0 f ≡ true) ⊎ Unheld (emptied u v) f
   goes_by _ (Goes f l no_table hs) =
       elim (cases_Bool (first.0 f)) [

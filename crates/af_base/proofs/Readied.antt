@@ -1,4 +1,4 @@
--- What a file is ready for comes of its face and of its peer's, and a step changes few faces.
+-- Readiness follows from a file's face and its peer's, and a step changes few faces.
 use Rattle.std.proofs.Common.{◌≡◌, ◌<◌, ℕ, ◌+◌, Bool, true, false, not, inl, inr, List, [], ◌∷◌, ◌++◌, refl, sym, ap, ◌∙◌, subst, cond, nat_eq, arith}
 use Rattle.std.specs.Prelude.{Option, Some, None, option_map, is_none, is_some, length, nat_le, if◌then◌else◌}
 use Rattle.std.specs.Option.{option_and_then, option_map_or}
@@ -32,7 +32,7 @@ use Rattle.af_base.proofs.Settling.{get-without, live-without, stays}
 use Rattle.af_base.proofs.Stepping.{get-change_at}
 use Rattle.af_base.proofs.Whole.{not_connected, peer_or}
 
--- Whom a face talks to.
+-- The peer of a face.
 abbrev talks : Face → State
 talks Blank = state.Idle
 talks (Shows r full t) = t
@@ -43,12 +43,12 @@ full_of None = false
 full_of (Some Blank) = false
 full_of (Some (Shows r full t)) = full
 
--- What a file of this face is ready for, where its peer's queue is full or not.
+-- The readiness of a face, by whether its peer's queue is full.
 abbrev ready_by : Face → Bool → Ready
 ready_by Blank full = record { readable = true; writable = true; hung_up = false }
 ready_by (Shows r own t) full = record { readable = r; writable = is_none (first_fit (on_peer (record no_socket { state = t }) ++ (full, EAGAIN) ∷ [])); hung_up = is_hung_up t }
 
--- What a file is ready for, by faces alone.
+-- The readiness of a file, by faces alone.
 abbrev by_faces : (ℕ → Option Face) → Option Face → Option Ready
 by_faces face o = option_map (λ x. ready_by x (full_of (face (peer_of (talks x))))) o
 
@@ -60,7 +60,7 @@ full-face w q = by (map.get w.files q) where
   by (Some Plain) = refl
   by (Some (AsSocket s)) = refl
 
--- Whom a file talks to, its face says.
+-- A file's face has its peer.
 state-face : (w : World) (f : ℕ) → state_at w f ≡ option_map_or talks (face_at w f) state.Idle
 state-face w f = by (map.get w.files f) where
   by : (o : Option File) → option_map_or state_of o state.Idle ≡ option_map_or talks (option_map face_of o) state.Idle
@@ -68,7 +68,7 @@ state-face w f = by (map.get w.files f) where
   by (Some Plain) = refl
   by (Some (AsSocket s)) = refl
 
--- What a file is ready for, faces say.
+-- Faces determine the readiness of a file.
 ready-faces : (w : World) (f : ℕ) → ready w f ≡ by_faces (face_at w) (face_at w f)
 ready-faces w f = by (map.get w.files f) where
   by : (o : Option File) → option_map (ready_of w.files) o ≡ by_faces (face_at w) (option_map face_of o)
@@ -148,7 +148,7 @@ effect-faces w p (step.Recv k max_bytes max_fds) f low n =
 effect-faces w p (step.Peek k max_bytes max_fds) f low n = ap (λ fs. face_in fs f) (files-installed w p (zip (got_at w p k max_bytes max_fds) (taken_on w p k max_bytes).attached))
 effect-faces w p (step.Limit k) f low n = refl
 
--- Settling leaves the face of who is live, and has no peer that goes.
+-- Settling keeps the face of each file that stays live, and no such file has a peer that is freed.
 pub settles-faces : (mid new : World) → Settles mid new → (f : ℕ) → IsLive new f → ((q : ℕ) → state_at mid f ≡ state.Connected q → IsLive new q) → face_at new f ≡ face_at mid f
 settles-faces mid new s f live peer =
     ap (λ v. face_at v f) s.2
@@ -167,7 +167,7 @@ settles-faces mid new s f live peer =
         by (state.Connected q) d = ap (λ b. Some (face_of (AsSocket (record x { state = cond b state.HungUp (state.Connected q) })))) (here q (peer q (state-there mid f (AsSocket x) e ∙ d)))
         by state.HungUp d = refl
 
--- Who is connected is there.
+-- A connected file is live.
 connected-live : (w : World) (q f : ℕ) → state_at w q ≡ state.Connected f → IsLive w q
 connected-live w q f = by (map.get w.files q) where
   by : (o : Option File) → option_map_or state_of o state.Idle ≡ state.Connected f → is_some o ≡ true
@@ -182,7 +182,7 @@ connected-socket w q f = by (map.get w.files q) where
   by (Some Plain) e = absurd (not_connected state.Idle f refl e)
   by (Some (AsSocket s)) e = refl
 
--- What tells whose face changed tells whose readiness did.
+-- A list of files whose face changed covers those whose readiness changed.
 pub tells-changed : (w : World) (since : Since) (told : List ℕ) → IsWhole w → (since.changed ≡ true → AreChanged w.files since told) → TellsChanged w since told
 tells-changed w since told whole h asked f socket none peers =
     let same = h asked in
@@ -199,7 +199,7 @@ module _ (old new : World) (whole : IsWhole old) (these : List ℕ)
         same q (whole.files_numbered q (connected-live old q f back)) (alone.peer_there q e) (alone.peer_untouched q e)
         (λ h d. subst (IsLive new) (ap (peer_or 0) (sym back ∙ d)) is)
 
--- What holds of the old world, and of what settles of the effect, holds after any outcome.
+-- A property of the old world and of the settled effect holds after any outcome.
 after : (P : World → Type 0) (o : Option Errno) (frugal : Bool) (answer : Reply) (effect old : World) (r : Reply) (new : World) → P old → (Settles effect new → P new) → Outcome o frugal answer effect old r new → P new
 after P (Some e) frugal answer effect old r new was next out = subst P (sym out.1) was
 after P None true answer effect old r new was next out = next out.1
@@ -224,7 +224,7 @@ emptied-faces test w f e = ap (option_map face_of) (get-emptied test w f ∙ ap 
   each None = refl
   each (Some x) = refl
 
--- What a pass or a slice purges of these files leaves what all others are ready for, whose peer is none of these and does not go.
+-- A purge of these files keeps the readiness of each other file whose peer is not among them and stays live.
 pub purge-ready : (old new : World) (test : ℕ → Bool) → IsWhole old → Purges test old new → (f : ℕ) → IsLive old f → IsLive new f → test f ≡ false
     → ((q : ℕ) → state_at old f ≡ state.Connected q → IsLive new q × (test q ≡ false)) → ready new f ≡ ready old f
 purge-ready old new test whole purged f was is e peer = same-ready new old f (face f is e (λ q d. (peer q d).0)) (λ q d.

@@ -1,4 +1,4 @@
--- A number that stands for another file than before.
+-- A descriptor that refers to another file than before.
 use Rattle.std.proofs.Common.{◌≡◌, ℕ, ◌+◌, ap, arith}
 use Rattle.std.specs.Prelude.{Some}
 use Rattle.std.specs.Option.{option_map_or}

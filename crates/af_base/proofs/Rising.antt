@@ -1,4 +1,4 @@
--- A walk over a map by rising number: what stands above the last number, and the next above it.
+-- A walk over a map by rising number: the keys above the last one, and the least of them.
 use Rattle.std.proofs.Common.{◌≡◌, ℕ, ◌<◌, ◌≤◌, true, false, T, cond, inl, inr, List, [], ◌∷◌, filter, length, refl, sym, ap, ◌∙◌, subst, arith}
 use Rattle.std.specs.Prelude.{Some, None, IsTrue, is_some, nat_lt}
 use Rattle.std.specs.Ordering.{nat_cmp, is_lt}
@@ -24,12 +24,12 @@ module _ {X : Type 0} where
   abbrev pub above : ℕ → List (ℕ × X) → List (ℕ × X)
   above k es = filter (λ e. nat_lt k e.0) es
 
-  -- There are no more of them than of all.
+  -- A part of the entries is no larger than the whole.
   pub above-le : (k : ℕ) (es : List (ℕ × X)) → length (above k es) ≤ length es
   above-le k [] = omega arith
   above-le k (e ∷ es) = elim (nat_lt k e.0) as (λ b. length (cond b (e ∷ above k es) (above k es)) ≤ length (e ∷ es)) [ true ↦ omega (arith, above-le k es) | false ↦ omega (arith, above-le k es) ]
 
-  -- All entries stand above a number.
+  -- All entries are above a number.
   abbrev AreAbove : ℕ → List (ℕ × X) → Type 0
   AreAbove k [] = Unit {0}
   AreAbove k (e ∷ es) = (k < e.0) × AreAbove k es
@@ -38,7 +38,7 @@ module _ {X : Type 0} where
   are_above k [] h = tt
   are_above k (e ∷ es) h = (less k e.0 (nat_cmp k e.0) refl (first _ _ h), are_above k es (second _ _ h))
 
-  -- What stands above a number stands above a lower one.
+  -- A key above a number is above each lower one.
   above_all : (j k : ℕ) → j ≤ k → (es : List (ℕ × X)) → AreAbove k es → above j es ≡ es
   above_all j k le [] h = refl
   above_all j k le (e ∷ es) h = ap (λ b. cond b (e ∷ above j es) (above j es)) (lt-ltb j e.0 (omega (arith, h.0))) ∙ ap (λ ds. e ∷ ds) (above_all j k le es h.1)
@@ -47,7 +47,7 @@ module _ {X : Type 0} where
   passed : (j : ℕ) (e : ℕ × X) (es : List (ℕ × X)) → e.0 ≤ j → above j (e ∷ es) ≡ above j es
   passed j e es le = ap (λ b. cond b (e ∷ above j es) (above j es)) (le-ltb j e.0 le)
 
-  -- What is looked for is not the first.
+  -- The key that is looked for is not the first.
   later : (q : ℕ) (e : ℕ × X) (es : List (ℕ × X)) → (q ≡ e.0 → ⊥) → find nat_cmp q (e ∷ es) ≡ find nat_cmp q es
   later q e es n = ap (λ b. cond b (Some e.1) (find nat_cmp q es)) (unsigned_tied q e.0 ∙ ne_eqb q e.0 n)
 
@@ -97,9 +97,9 @@ module _ {X : Type 0} where
     | inr zero ↦ absurd (not_absent e es (subst (λ k. is_some (find nat_cmp k (e ∷ es)) ≡ false) (omega (arith, zero)) none))
   ]
 
-  -- What a walk is told of the next number, where the map that it looks at is m.
+  -- The answer of a walk at each number, for a map m.
   module _ (seen m : Map X) (same : seen ≡ m) (last n : ℕ) (over : last < n) (live : IsTrue (map.contains_key seen n)) (least : (q : ℕ) → last < q → q < n → map.contains_key seen q ≡ false) where
-    -- It has a value, and what stands above the last is this, and what stands above it.
+    -- It has a value, and the keys above the last are this one and those above it.
     pub next_entry : (x : X) × (map.get m n ≡ Some x) × (above last (map.entries m) ≡ (n, x) ∷ above n (map.entries m))
     next_entry =
         let at = there (map.get seen n) live in
@@ -110,10 +110,10 @@ module _ {X : Type 0} where
     pub fewer_above : length (above n (map.entries m)) < length (above last (map.entries m))
     fewer_above = omega (arith, ap length next_entry.2)
 
-  -- What it is told at the end: there is nothing above the last.
+  -- The answer at the end: no key is above the last.
   pub no_entry : (seen m : Map X) → seen ≡ m → (last : ℕ) → ((q : ℕ) → last < q → map.contains_key seen q ≡ false) → above last (map.entries m) ≡ []
   no_entry seen m same last none = none_in (map.entries m) last (λ q high. sym (ap is_some (ap (λ d. map.get d q) same ∙ get-entries m q)) ∙ none q high)
 
-  -- Where 0 has no value, all stand above it.
+  -- If 0 has no value, all keys are above it.
   pub all_entries : (seen m : Map X) → seen ≡ m → map.contains_key seen 0 ≡ false → above 0 (map.entries m) ≡ map.entries m
   all_entries seen m same none = all_in (map.entries m) (entries_sorted m) (sym (ap is_some (ap (λ d. map.get d 0) same ∙ get-entries m 0)) ∙ none)

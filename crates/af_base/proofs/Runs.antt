@@ -1,4 +1,4 @@
--- A run goes on by one step.
+-- A run extended by one step.
 use Rattle.std.proofs.Common.{List, [], ◌∷◌, ◌++◌, refl, sym, subst}
 use Rattle.af_base.specs.declared.events.Event.{Event}
 use Rattle.af_base.specs.declared.events.Reply.{Reply}

@@ -1,4 +1,4 @@
--- What the derived `==` of steps, events and replies says.
+-- The derived `==` of steps, events and replies is equality.
 use Rattle.std.proofs.Common.{◌≡◌, ℕ, Bool, true, false, ◌&&◌, refl, ap, List, rules}
 use Rattle.std.specs.Prelude.{nat_eq}
 use Rattle.std.specs.Cmp.Lexicographic.{pointwise}

@@ -1,4 +1,4 @@
--- What settling leaves is determined, and may be found one file at a time.
+-- The settled world is unique, and can be found one file at a time.
 use Rattle.std.proofs.Common.{Ordering, is_eq, ◌≡◌, ℕ, Bool, true, false, not, ◌||◌, ◌⊎◌, inl, inr, List, [], ◌∷◌, refl, sym, ap, ◌∙◌, subst, cond, arith, nat_eq}
 use Rattle.std.specs.Prelude.{Option, Some, None, option_map, IsTrue, is_some}
 use Rattle.std.specs.Option.{option_map_or}
@@ -33,7 +33,7 @@ get-map_entries g (e ∷ es) q =
       mapped Less p = refl
       mapped Greater p = refl
 
--- what a file is after the others went
+-- a file after the others were freed
 pub get-without : (gone : ℕ → Bool) (w : World) (q : ℕ) → map.get (without gone w).files q ≡ cond (not (gone q)) (option_map (file_without gone) (map.get w.files q)) None
 get-without gone w q =
     map.get-retain_keys (map_entries (λ _. file_without gone) (map.entries w.files)) (λ f. not (gone f)) q (λ x e. ap (λ y. not (gone y)) (sym (nat_cmp-IsAntisymmetric q x e)))
@@ -143,7 +143,7 @@ module _ (w : World) (f : ℕ) (live : IsTrue (is_live w f)) (no_table : ¬ (InT
   itself : (s : ℕ) → nat_eq f s ≡ true → held_by rest s ≡ []
   itself s e = held-without (nat_eq f) w s ∙ ap (λ b. cond (not b) (held_by w s) []) e
 
-  -- what goes of the rest goes
+  -- a file freed from the rest is freed from the whole
   pub goes_up : (g : ℕ) → Unheld rest g → Unheld w g
   goes_up _ (Goes g l t hs) =
       Goes g (stays _ _ (sym (live-without (nat_eq f) w g) ∙ l)).1 t (λ s h. elim (nat_eq f s) as (λ b. nat_eq f s ≡ b → Unheld w s) [
@@ -151,7 +151,7 @@ module _ (w : World) (f : ℕ) (live : IsTrue (is_live w f)) (no_table : ¬ (InT
         | false ↦ λ e. goes_up s (hs s (subst (λ xs. Contains xs g) (sym (other s e)) h))
       ] refl)
 
-  -- what goes is f, or goes of the rest
+  -- a freed file is f, or is freed from the rest
   pub goes_down : (g : ℕ) → Unheld w g → (nat_eq f g ≡ true) ⊎ Unheld rest g
   goes_down _ (Goes g l t hs) = elim (nat_eq f g) as (λ b. nat_eq f g ≡ b → (nat_eq f g ≡ true) ⊎ Unheld rest g) [
     | true ↦ λ e. inl e
@@ -161,7 +161,7 @@ module _ (w : World) (f : ℕ) (live : IsTrue (is_live w f)) (no_table : ¬ (InT
     ] refl))
   ] refl
 
-  -- a file that nothing holds goes first, and then the rest settles
+  -- freeing an unheld file first and settling the rest gives the settled world
   pub settles_first : (new : World) → Settles rest new → Settles w new
   settles_first new t =
       let up : (g : ℕ) → (nat_eq f g || t.0 g) ≡ true → Unheld w g = λ g e. elim (or_cases _ _ e) [ inl y ↦ subst (Unheld w) (same_of g y) first_goes | inr y ↦ goes_up g ((t.1 g).0 y) ] in

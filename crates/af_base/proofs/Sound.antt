@@ -20,7 +20,7 @@ use Rattle.af_base.proofs.Settling.{live-without, stays, to_without}
 use Rattle.af_base.proofs.Whole.{not_connected, whole-settles}
 use Rattle.af_base.proofs.Within.{within-settles}
 
--- What settled is settled.
+-- A world that was settled by definition is settled.
 pub settled-settles : (old new : World) → Settles old new → IsSettled new
 settled-settles old new s = subst IsSettled (sym s.2) none where
   before : (f : ℕ) → Unheld (without s.0 old) f → Unheld old f

@@ -65,7 +65,7 @@ process-there w p = by (map.get w.processes p) where
   by None e = absurd (false≢true (sym e))
   by (Some q) e = refl
 
--- A number that stands for a socket stands for the one that it gives.
+-- A descriptor of a socket refers to the one that it gives.
 pub socket-there : (w : World) (p n : ℕ) → is_none (table_at w p n) ≡ false → is_none (socket_at w (ino_on w p n)) ≡ false → map.get w.files (ino_on w p n) ≡ Some (AsSocket (socket_on w p n))
 socket-there w p n = by (table_at w p n) where
   at : (o : Option File) → is_none (option_and_then socket_of o) ≡ false → o ≡ Some (AsSocket (unwrap_or (option_and_then socket_of o) no_socket))
@@ -102,7 +102,7 @@ connected-to s tests = by s.state tests.here tests.rest.here where
   by (state.Connected p) e d = refl
   by state.HungUp e d = absurd (false≢true (sym d))
 
--- Who was never connected and does not listen is idle.
+-- A socket that was never connected and does not listen is idle.
 pub never-connected : (t : State) → is_connected t ≡ false → is_listening t ≡ false → t ≡ state.Idle
 never-connected state.Idle e d = refl
 never-connected (state.Listening b) e d = absurd (false≢true (sym d))
@@ -131,7 +131,7 @@ listener-there w name = by (named w.files name) where
   by None e = absurd (false≢true (sym e))
   by (Some f) e = at (map.get w.files f) e
 
--- Who is connected is a socket.
+-- A connected file is a socket.
 pub connected-socket : (w : World) (f p : ℕ) → state_at w f ≡ state.Connected p → (x : Socket) × (map.get w.files f ≡ Some (AsSocket x))
 connected-socket w f p = by (map.get w.files f) refl where
   by : (o : Option File) → map.get w.files f ≡ o → option_map_or state_of o state.Idle ≡ state.Connected p → (x : Socket) × (map.get w.files f ≡ Some (AsSocket x))
@@ -139,7 +139,7 @@ connected-socket w f p = by (map.get w.files f) refl where
   by (Some Plain) e d = not_connected state.Idle p refl d
   by (Some (AsSocket x)) e d = (x, e)
 
--- What numbers stand for stands in a table.
+-- A file that descriptors refer to is in a table.
 pub attached-tabled : (w : World) (p : ℕ) (ns : List ℕ) (f : ℕ) → Contains (filter_map (table_at w p) ns) f → (n : ℕ) × (table_at w p n ≡ Some f)
 attached-tabled w p [] f h = absurd (Contains-none f h)
 attached-tabled w p (n ∷ ns) f h = by (λ k. attached-tabled w p ns f k) (table_at w p n) refl h where
@@ -170,7 +170,7 @@ pub first-waits : (fs : List ℕ) → nat_eq (length fs) 0 ≡ false → Contain
 first-waits [] e = absurd (false≢true (sym e))
 first-waits (g ∷ gs) e = Contains-first g gs
 
--- A number that is open stands for what it gives.
+-- An open descriptor refers to the file that it gives.
 number-there : (w : World) (p n : ℕ) → is_none (table_at w p n) ≡ false → table_at w p n ≡ Some (ino_on w p n)
 number-there w p n = by (table_at w p n) where
   by : (o : Option ℕ) → is_none o ≡ false → o ≡ Some (unwrap_or o 0)
@@ -186,7 +186,7 @@ module _ (w : World) (p : ℕ) (whole : IsWhole w) (at : map.get w.processes p �
   lowest-low : is_short q 1 ≡ false → free_at w p 0 < q.limit
   lowest-low some = let one = ltb-false (length (free_numbers q)) 1 some in (free-free_numbers q).low 0 0 (omega (arith, one))
 
-  -- What a socket that a number stands for holds is live, and known.
+  -- The files that a descriptor's socket holds are live and known.
   held-on : (n f : ℕ) → is_none (table_at w p n) ≡ false → map.get w.files (ino_on w p n) ≡ Some (AsSocket (socket_on w p n)) → Contains (contents (AsSocket (socket_on w p n))) f → IsLive w f × IsKnown w f
   held-on n f there is h =
       let holds = there-holds w (ino_on w p n) f (AsSocket (socket_on w p n)) is h in
@@ -196,7 +196,7 @@ module _ (w : World) (p : ℕ) (whole : IsWhole w) (at : map.get w.processes p �
   opens : (x : File) → is_short q 1 ≡ false → Changed w (add_file w x) → Changed w (install (add_file w x) p (free_at w p 0) w.next_ino)
   opens x some c = changed-install c p (free_at w p 0) w.next_ino q at (lowest-low some) (ap is_some (insert-here w.files w.next_ino x)) (inr (omega arith))
 
-  -- A number more for what one stands for.
+  -- One descriptor more for a file that has one.
   copies : (n m : ℕ) → is_none (table_at w p n) ≡ false → m < q.limit → Changed w (install w p m (ino_on w p n))
   copies n m there low =
       let t : InTable w (ino_on w p n) = (p, n, number-there w p n there) in
@@ -286,23 +286,23 @@ module _ (w : World) (p : ℕ) (whole : IsWhole w) (at : map.get w.processes p �
     there : map.get w.files (ino_on w p n) ≡ Some (AsSocket (socket_on w p n))
     there = socket-there w p n row.here row.rest.here
 
-    -- What is taken is live, and known.
+    -- A received file is live and known.
     taken-on : (f : ℕ) → Contains taken.attached f → IsLive w f × IsKnown w f
     taken-on f h =
         let s = socket_on w p n in
         held-on n f row.here there (Contains-append_left (carried s.queue) s.backlog f (taken-before s.kind s.queue max_bytes f (Contains-append_left taken.attached (carried taken.rest) f h)))
 
-    -- What was received.
+    -- The result of a receive.
     receives : Changed w (effect w p (step.Recv n max_bytes max_fds))
     receives =
         changed-installs w (with_queue w (ino_on w p n) taken.rest) p q (got_at w p n max_bytes max_fds) taken.attached (changed-take (unchanged w) (ino_on w p n) max_bytes (socket_on w p n) there) at (free-lowest_free _ q)
         (λ f h. let k = taken-on f h in (live-changed w (ino_on w p n) (λ y. record y { queue = taken.rest }) f ∙ k.0, k.1))
 
-    -- What was looked at.
+    -- The result of a peek.
     peeks : Changed w (effect w p (step.Peek n max_bytes max_fds))
     peeks = changed-installs w w p q (got_at w p n max_bytes max_fds) taken.attached (unchanged w) at (free-lowest_free _ q) taken-on
 
-  -- What a step changes.
+  -- The change of a step.
   changes-row : (s : Step) → NoneFits (step_row w p s) → Changed w (effect w p s)
   changes-row step.Open row = opens Plain row.here (changed-plain (unchanged w) row.rest.here)
   changes-row (step.Dup n) row = copies n (free_at w p 0) row.here (lowest-low row.rest.here)
@@ -321,13 +321,13 @@ module _ (w : World) (p : ℕ) (whole : IsWhole w) (at : map.get w.processes p �
   changes-row (step.Peek n max_bytes max_fds) row = peeks n max_bytes max_fds row
   changes-row (step.Limit n) row = changed-limit (unchanged w) p n (ltb-false MAX_NOFILE n row.here)
 
--- What a step that nothing refuses changes, before the world settles.
+-- The change of a step that is not refused, before the world settles.
 pub effect-changes : (w : World) (p : ℕ) (s : Step) → IsWhole w → refusal w p s ≡ None → Changed w (effect w p s)
 effect-changes w p s whole none =
     let row = none-fits ((not (map.contains_key w.processes p), ESRCH) ∷ step_row w p s) none in
     changes-row w p whole (process-there w p row.here) s row.rest
 
--- What a start that nothing refuses changes.
+-- The change of a start that is not refused.
 pub spawn-changes : (w : World) (uid nofile : ℕ) (privileged : Bool) → spawn_refusal w nofile ≡ None → Changed w (spawned w uid nofile privileged)
 spawn-changes w uid nofile privileged none =
     let row = none-fits (spawn_row w nofile) none in

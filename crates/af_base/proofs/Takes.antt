@@ -1,4 +1,4 @@
--- What a receive takes and what it leaves are the files that were there.
+-- The files taken by a receive and those left are the files before it.
 use Rattle.std.proofs.Common.{◌≡◌, ◌<◌, ◌≤◌, ℕ, zero, suc, ◌+◌, ◌-◌, Bool, true, false, not, inl, inr, List, [], ◌∷◌, ◌++◌, length, take, drop, refl, sym, ap, ◌∙◌, subst, cond, arith, min}
 use Rattle.std.specs.Prelude.{Option, Some, None, nat_le, nat_lt}
 use Rattle.std.specs.Option.{option_map_or, unwrap_or}
@@ -15,11 +15,11 @@ use Rattle.af_base.specs.Whole.{IsMessageWithin}
 use Rattle.af_base.proofs.Elements.{Contains-first, Contains-later, Contains-none}
 use Rattle.af_base.proofs.Lookups.{none_some}
 
--- How many bytes stand before the first message with files.
+-- The number of bytes before the first message with files.
 abbrev pub before : List Message → ℕ
 before q = length (joined (take_while (λ m. not (has_files m)) q))
 
--- What is taken up to a place, whichever it is.
+-- The messages up to any position.
 abbrev pub up_to : List Message → ℕ → Option Message → Taken
 up_to q n o = option_map_or (λ m. take_to q n m.attached (before q) (before q + length m.bytes)) o (take_to q n [] (before q) (before q))
 
@@ -152,13 +152,13 @@ pub have-bytes : (q : List Message) → AreWithin q → HaveBytes q
 have-bytes [] k = tt
 have-bytes (m ∷ q) k = ((k m (Contains-first m q)).some, have-bytes q (λ n h. k n (Contains-later m q n h)))
 
--- What is left of a queue of which these files were taken.
+-- The rest of a queue after these files were taken.
 pub record Leaves (q : List Message) (fs : List ℕ) (rest : List Message) : Type 0 where
   pub carried : fs ++ carried rest ≡ carried q
   pub fewer : length rest ≤ length q
   pub within : AreWithin rest
 
--- A cut leaves no more messages, and these within the limits.
+-- A cut leaves at most as many messages, each within the limits.
 fewer-cut : (c : ℕ) (q : List Message) → length (cut c q) ≤ length q
 fewer-cut c [] = omega arith
 fewer-cut c (m ∷ q) = by (fewer-cut (c - length m.bytes) q) (nat_le (length m.bytes) c) (nat_lt 0 c) where
@@ -188,7 +188,7 @@ within-cut c (m ∷ q) k = by (within-cut (c - length m.bytes) q (λ n h. k n (C
         let most = mine.bytes in
         record { some = omega (arith, long, past); bytes = omega (arith, long, most); attached = omega arith }
 
--- What a receive takes of a queue within the limits.
+-- The result of a receive from a queue within the limits.
 pub leaves-taken : (kind : SockType) (q : List Message) (n : ℕ) → AreWithin q → Leaves q (take_from kind q n).attached (take_from kind q n).rest
 leaves-taken Stream q n k = record { carried = stream-files q n (have-bytes q k); fewer = fewer (find has_files q); within = within (find has_files q) } where
   fewer : (o : Option Message) → length (up_to q n o).rest ≤ length q

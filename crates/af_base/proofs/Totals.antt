@@ -1,4 +1,4 @@
--- What two maps add up to, where their values compare key by key.
+-- Sums of two maps whose values compare key by key.
 use Rattle.std.proofs.Common.{◌≡◌, ◌≤◌, ℕ, ◌*◌, T, inl, inr, List, [], ◌∷◌, length, refl, sym, ap, ◌∙◌, subst, arith}
 use Rattle.std.specs.Prelude.{Some}
 use Rattle.std.specs.List.{sum_by}
@@ -31,7 +31,7 @@ module _ {X Y : Type 0} (F : X → ℕ) (G : Y → ℕ) where
       ]) in
       omega (arith, at.2, rest, sum_by-cons (λ d. F d.1) e es, total-remove G n e.0 at.0 at.1)
 
-  -- It adds up to no more.
+  -- The sum is at most the other.
   pub total-below : (m : Map X) (n : Map Y) → IsBelow m n → total_of F m ≤ total_of G n
   total-below m n h = entries_below (map.entries m) (entries_sorted m) n (λ k x is. h k x (get-entries m k ∙ is))
 

@@ -1,4 +1,4 @@
--- What the finite map of a `BTreeMap`'s entries has, and what a change of the tree does to it.
+-- The finite map of a `BTreeMap`'s entries, and how it changes with the tree.
 use Rattle.std.proofs.Common.{◌≡◌, ℕ, List, [], ◌∷◌, refl, sym, ap, ◌∙◌, cond, Ordering}
 use Rattle.std.specs.Prelude.{Some, None}
 use Rattle.std.specs.Ordering.{eq_by_cmp, is_eq}
@@ -54,7 +54,7 @@ nat_changed f m n k x v was e h =
 pub nat_unchanged : {X : Type 0} (f : X → X) (m : BTreeMap ℕ X) (k : ℕ) → tree.get nat_cmp m k ≡ None → from_entries {R = nat_cmp} m.entries ≡ change_at f (from_entries m.entries) k
 nat_unchanged f m k was = ap (λ o. option_map_or (λ y. insert (from_entries m.entries) k (f y)) o (from_entries m.entries)) (sym (nat_looked m k ∙ was))
 
--- to put in what stands there changes nothing
+-- inserting the present value changes nothing
 pub insert_same : {X : Type 0} (m : FinMap nat_cmp X) (k : ℕ) (v : X) → get m k ≡ Some v → insert m k v ≡ m
 insert_same m k v is = same_map nat_cmp_total nat_cmp-IsAntisymmetric _ _ (λ q. get-insert nat_cmp_total m k v q ∙ put_back q (nat_cmp q k) refl) where
   put_back : (q : ℕ) (o : Ordering) → nat_cmp q k ≡ o → cond (is_eq o) (Some v) (get m q) ≡ get m q

@@ -1,4 +1,4 @@
--- What is changed stays whole.
+-- Changes keep a world well-formed.
 use Rattle.std.proofs.Common.{◌≡◌, ◌<◌, ℕ, Bool, true, false, not, ◌⊎◌, inl, inr, List, [], ◌∷◌, ◌++◌, refl, sym, ap, ◌∙◌, subst, cond, nat_eq, arith}
 use Rattle.std.specs.Prelude.{Option, Some, None, IsTrue, option_map}
 use Rattle.std.specs.Option.{option_map_or}
@@ -23,7 +23,7 @@ use Rattle.af_base.proofs.Embryos.{WaitOnce, waiting-changed, waiting-gone}
 use Rattle.af_base.proofs.Named.{AreNamedApart, names-changed, names-gone}
 use Rattle.af_base.proofs.Moved.{held-changed, live-changed, state-changed, there-holds, tabled-install, tabled-uninstall}
 
--- Whom a file talks to where some are gone.
+-- The peer of a file after some files were freed.
 state_at-without : (gone : ℕ → Bool) (w : World) (q : ℕ) → state_at (without gone w) q ≡ cond (not (gone q)) (state_without gone (state_at w q)) state.Idle
 state_at-without gone w q = ap (λ o. option_map_or state_of o state.Idle) (get-without gone w q) ∙ each (gone q) (map.get w.files q) where
   each : (b : Bool) (o : Option File) → option_map_or state_of (cond (not b) (option_map (file_without gone) o) None) state.Idle ≡ cond (not b) (state_without gone (option_map_or state_of o state.Idle)) state.Idle
@@ -50,7 +50,7 @@ peer_or d state.HungUp = d
 pub not_connected : {A : Type 0} (t : State) (p : ℕ) → has_peer t ≡ false → t ≡ state.Connected p → A
 not_connected t p e is = absurd (false≢true (sym e ∙ ap has_peer is))
 
--- Who is connected afterwards was connected before to one who is not gone.
+-- A file that is connected afterwards was connected before, to a peer that is still live.
 still_connected : (gone : ℕ → Bool) (t : State) (p : ℕ) → state_without gone t ≡ state.Connected p → (t ≡ state.Connected p) × (gone p ≡ false)
 still_connected gone state.Idle p e = not_connected state.Idle p refl e
 still_connected gone (state.Listening b) p e = not_connected (state.Listening b) p refl e

@@ -1,4 +1,4 @@
--- What is changed stays within the limits.
+-- Changes keep a world within the limits.
 use Rattle.std.proofs.Common.{◌≡◌, ◌<◌, ◌≤◌, ℕ, ◌+◌, Bool, true, false, ◌||◌, inl, inr, List, [], ◌∷◌, ◌++◌, length, refl, sym, ap, ◌∙◌, subst, cond, nat_eq, arith, length-append}
 use Rattle.std.specs.Prelude.{Option, Some, None, is_some, if◌then◌else◌}
 use Rattle.std.specs.Option.{option_map_or}
@@ -17,7 +17,7 @@ use Rattle.af_base.specs.Places.{carried, queue_of}
 use Rattle.af_base.specs.Counts.{total, total_of}
 use Rattle.af_base.specs.Unheld.{Settles, file_without, state_without, without}
 use Rattle.af_base.specs.Changes.{add_file, add_process, add_user, change_at, file_with, install, push_message, uninstall, with_queue, with_socket}
-use Rattle.af_base.specs.Refusals.{is_crowded, is_full, is_listening, room_of, socket_of}
+use Rattle.af_base.specs.Refusals.{is_at_process_limit, is_full, is_listening, room_of, socket_of}
 use Rattle.af_base.specs.Steps.{connected_socket, spawned, with_pair}
 use Rattle.af_base.specs.Whole.{IsMessageWithin, IsProcessWithin, IsSocketWithin, IsWithin}
 use Rattle.af_base.proofs.Dropped.{same_queue, without-was}
@@ -42,7 +42,7 @@ len-insert_most m k v = omega (arith, total-insert (λ y. 1) m k v, total-count 
 pub socket_same : (x y : Socket) → AsSocket x ≡ AsSocket y → x ≡ y
 socket_same x y e = some_same x y (ap socket_of e)
 
--- What is below the limit of a process is below the largest one.
+-- A number below the limit of a process is below the largest limit.
 pub below-most : (w : World) (p n : ℕ) (q : Process) → IsWithin w → map.get w.processes p ≡ Some q → n < q.limit → n < MAX_NOFILE
 below-most w p n q k at low = let fits = k.processes p q at in let most = fits.limit in omega (arith, low, most)
 
@@ -180,7 +180,7 @@ neither true b e = absurd (false≢true (sym e))
 neither false b e = (refl, e)
 
 -- Where a process fits, it fits.
-pub within-add_process : (w : World) (q : Process) → IsWithin w → is_crowded w ≡ false → IsProcessWithin q → IsWithin (add_process w q)
+pub within-add_process : (w : World) (q : Process) → IsWithin w → is_at_process_limit w ≡ false → IsProcessWithin q → IsWithin (add_process w q)
 within-add_process w q k room fits =
     let parts = neither _ _ room in
     let few = leb-false MAX_PROCESSES (map.len w.processes) parts.0 in
@@ -200,7 +200,7 @@ within-add_process w q k room fits =
     }
 
 -- A process started, where there is room for one and its limit is not too high.
-pub within-spawned : (w : World) (uid nofile : ℕ) (privileged : Bool) → IsWithin w → is_crowded w ≡ false → nofile ≤ MAX_NOFILE → IsWithin (spawned w uid nofile privileged)
+pub within-spawned : (w : World) (uid nofile : ℕ) (privileged : Bool) → IsWithin w → is_at_process_limit w ≡ false → nofile ≤ MAX_NOFILE → IsWithin (spawned w uid nofile privileged)
 within-spawned w uid nofile privileged k room low = within-add_user _ uid (within-add_process w _ k room (record { limit = low; numbers = λ n l. absurd (false≢true (sym (ap is_some (map.get-empty nat_cmp n)) ∙ l)) }))
 
 -- A socket that does not listen has room for no embryo.
@@ -246,14 +246,14 @@ within-pair w kind k room =
     within-add_file (add_file w (AsSocket (connected_socket kind (w.next_ino + 1)))) (connected_socket kind w.next_ino)
     (within-add_file w (connected_socket kind (w.next_ino + 1)) k (omega (arith, few)) (omega (arith, low)) refl refl refl refl) (omega (arith, few, one_more)) (omega (arith, low)) refl refl refl refl
 
--- Who has hung up has room for as many embryos: none.
+-- A socket that hung up has no backlog.
 same_room : (gone : ℕ → Bool) (t : State) → room_of (state_without gone t) ≡ room_of t
 same_room gone state.Idle = refl
 same_room gone (state.Listening b) = refl
 same_room gone (state.Connected p) = elim (gone p) as (λ b. room_of (cond b state.HungUp (state.Connected p)) ≡ 0) [ true ↦ refl | false ↦ refl ]
 same_room gone state.HungUp = refl
 
--- Who hangs up did not listen, and does not.
+-- A socket that hangs up did not listen, and does not.
 same_listening : (gone : ℕ → Bool) (t : State) → is_listening (state_without gone t) ≡ is_listening t
 same_listening gone state.Idle = refl
 same_listening gone (state.Listening b) = refl

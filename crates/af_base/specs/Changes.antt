@@ -1,4 +1,4 @@
--- How a world is changed: a value in a map, a table, a socket, a file or a process more.
+-- How a world is changed: a value in a map, a table, a socket, a file or a process more. Definitions that name no manual page are of this project's profile (docs/PROFILE.md).
 use Rattle.std.specs.Prelude.{ℕ, ◌+◌, List, [], ◌∷◌, ◌++◌, Some, drop, nat_eq, if◌then◌else◌}
 use Rattle.std.specs.List.{list_any}
 use Rattle.std.specs.Option.{option_map_or}
@@ -31,15 +31,15 @@ change_socket_at g files s = change_at (file_with g) files s
 abbrev pub with_socket : World → ℕ → (Socket → Socket) → World
 with_socket w s g = record w { files = change_socket_at g w.files s }
 
--- A process whose number n stands for f (dup(2)).
+-- A process with descriptor n set to f (dup(2)).
 abbrev pub installed : ℕ → ℕ → Process → Process
 installed n f q = record q { table = map.insert q.table n f }
 
--- The number n of process p stands for f (dup(2)).
+-- Descriptor n of process p set to f (dup(2)).
 abbrev pub install : World → ℕ → ℕ → ℕ → World
 install w p n f = with_process w p (installed n f)
 
--- These numbers stand for these files, one after the other.
+-- These descriptors set to these files, in order.
 abbrev pub install_all : World → ℕ → List (ℕ × ℕ) → World
 install_all w p [] = w
 install_all w p (e ∷ es) = install_all (install w p e.0 e.1) p es
@@ -96,14 +96,14 @@ set_limit w p n = with_process w p (limited n)
 abbrev pub remove_process : World → ℕ → World
 remove_process w p = record w { processes = map.remove w.processes p }
 
--- The next inode number is this file (this project's profile).
+-- The next inode number is this file.
 abbrev pub add_file : World → File → World
 add_file w x = record w { files = map.insert w.files w.next_ino x; next_ino = w.next_ino + 1 }
 
--- The next pid is this process (this project's profile).
+-- The next pid is this process.
 abbrev pub add_process : World → Process → World
 add_process w q = record w { processes = map.insert w.processes w.next_pid q; next_pid = w.next_pid + 1 }
 
--- A user goes last, if it is new (this project's profile).
+-- A new user is added at the end.
 abbrev pub add_user : World → ℕ → World
 add_user w u = if list_any (nat_eq u) w.users then w else record w { users = w.users ++ u ∷ [] }

@@ -1,4 +1,4 @@
--- How many places hold a file, and how many are charged to a user: numbers of places, repeats included.
+-- How many places hold a file, and how many are charged to a user: numbers of places, repeats included. Definitions that name no manual page are this project's own, or of its profile (docs/PROFILE.md).
 use Rattle.std.specs.Prelude.{◌≡◌, ℕ, ◌+◌, Bool, List, length, nat_eq, false, if◌then◌else◌}
 use Rattle.std.specs.List.{sum_by, count_by}
 use Rattle.std.specs.FinMap as map
@@ -6,7 +6,7 @@ use Rattle.std.specs.Option.{option_map_or}
 use Rattle.af_base.specs.World.{World, Map, Message}
 use Rattle.af_base.specs.Places.{backlog_of, carried, contents, queue_of}
 
--- What the values of a map add up to.
+-- The sum of the values of a map.
 abbrev pub total_of : {X : Type 0} → (X → ℕ) → Map X → ℕ
 total_of f m = sum_by (λ e. f e.1) (map.entries m)
 
@@ -14,19 +14,19 @@ total_of f m = sum_by (λ e. f e.1) (map.entries m)
 abbrev pub count_in : ℕ → List ℕ → ℕ
 count_in f xs = count_by (nat_eq f) xs
 
--- The list has just the keys whose value is chosen, each once (this project's own).
-abbrev pub AreJust : {X : Type 0} → (X → Bool) → Map X → List ℕ → Type 0
-AreJust chosen m fs = (f : ℕ) → count_in f fs ≡ (if option_map_or chosen (map.get m f) false then 1 else 0)
+-- The list has just the keys whose value is chosen, each once.
+abbrev pub ListsExactly : {X : Type 0} → (X → Bool) → Map X → List ℕ → Type 0
+ListsExactly chosen m fs = (f : ℕ) → count_in f fs ≡ (if option_map_or chosen (map.get m f) false then 1 else 0)
 
 -- One where the two are equal.
 abbrev pub one : ℕ → ℕ → ℕ
 one f g = if nat_eq f g then 1 else 0
 
--- How many numbers of all tables stand for f (open(2)).
+-- The number of descriptors that refer to f, in all tables (open(2)).
 abbrev pub tabled : World → ℕ → ℕ
 tabled w f = total_of (λ p. total_of (λ g. one f g) p.table) w.processes
 
--- The reference count: how many places hold f, in tables, queues and backlogs (close(2): the description goes with its last reference).
+-- The reference count: how many places hold f, in tables, queues and backlogs (close(2): a description is freed with its last reference).
 abbrev pub refs : World → ℕ → ℕ
 refs w f = tabled w f + total_of (λ x. count_in f (contents x)) w.files
 
@@ -38,7 +38,7 @@ inflight w f = total_of (λ x. count_in f (carried (queue_of x))) w.files
 abbrev pub waiting : World → ℕ → ℕ
 waiting w f = total_of (λ x. count_in f (backlog_of x)) w.files
 
--- What a message charges to user u: each file that travels with it, repeats included, where u sent it (this project's profile).
+-- The charge of a message to user u: the number of attached files, repeats included, if u sent it.
 abbrev pub charge : ℕ → Message → ℕ
 charge u m = if nat_eq u m.user then length m.attached else 0
 

@@ -5,7 +5,7 @@ use Rattle.std.specs.Option.{option_map_or}
 use Rattle.std.specs.FinMap as map
 use Rattle.af_base.specs.World.{World, Map, Process, Message, File, Plain, AsSocket}
 
--- What the number n stands for in process p of these (open(2): a descriptor is an index into the process's table).
+-- The file that descriptor n of process p refers to (open(2): a descriptor is an index into the process's table).
 abbrev pub number_in : Map Process → ℕ → ℕ → Option ℕ
 number_in processes p n = option_map_or (λ q. map.get q.table n) (map.get processes p) None
 
@@ -31,7 +31,7 @@ carried q = flat_map (λ m. m.attached) q
 abbrev pub contents : File → List ℕ
 contents x = carried (queue_of x) ++ backlog_of x
 
--- What the queue of the file s of these has.
+-- The queue of the file s of these.
 abbrev pub queue_in : Map File → ℕ → List Message
 queue_in files s = option_map_or queue_of (map.get files s) []
 
@@ -39,7 +39,7 @@ queue_in files s = option_map_or queue_of (map.get files s) []
 abbrev pub queue_at : World → ℕ → List Message
 queue_at w s = queue_in w.files s
 
--- What the backlog of the file s of these has.
+-- The backlog of the file s of these.
 abbrev pub backlog_in : Map File → ℕ → List ℕ
 backlog_in files s = option_map_or backlog_of (map.get files s) []
 
@@ -47,7 +47,7 @@ backlog_in files s = option_map_or backlog_of (map.get files s) []
 abbrev pub backlog_at : World → ℕ → List ℕ
 backlog_at w s = backlog_in w.files s
 
--- What the queue and the backlog of the file s of these hold.
+-- The files in the queue and the backlog of the file s of these.
 abbrev pub held_in : Map File → ℕ → List ℕ
 held_in files s = option_map_or contents (map.get files s) []
 

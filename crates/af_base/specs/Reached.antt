@@ -1,4 +1,4 @@
--- What a chain of places that begins in a table leads to, and what none leads to.
+-- The files that a chain of places from a table reaches, and the garbage that no chain reaches.
 use Rattle.std.specs.Prelude.{◌≡◌, ℕ, Bool, true, false, ◌↔◌, ◌&&◌}
 use Rattle.std.specs.List.{count_by}
 use Rattle.std.specs.FinMap as map

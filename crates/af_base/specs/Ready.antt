@@ -1,4 +1,4 @@
--- What a file is ready for (poll(2)), and whose readiness a step can change.
+-- The readiness of a file (poll(2)), and the files whose readiness a step can change. Definitions that name no manual page are this project's own.
 use Rattle.std.specs.Prelude.{◌≡◌, ℕ, Bool, true, false, Option, ◌||◌, ◌++◌, List, [], ◌∷◌, is_none, length, nat_le, option_map}
 use Rattle.std.specs.List.{Contains}
 use Rattle.std.specs.FinMap as map
@@ -21,20 +21,20 @@ reads s = is_none (first_fit (on_receive s 1)) || is_none (first_fit (on_accept 
 abbrev pub writes : Socket → List Message → Bool
 writes s queue = is_none (first_fit (on_peer s ++ on_room queue))
 
--- What a file among these is ready for: a plain one is always ready (poll(2)).
+-- The readiness of a file among these: a plain file is always ready (poll(2)).
 abbrev pub ready_of : Map File → File → Ready
 ready_of files Plain = record { readable = true; writable = true; hung_up = false }
 ready_of files (AsSocket s) = record { readable = reads s; writable = writes s (queue_in files (peer_of s.state)); hung_up = is_hung_up s.state }
 
--- What the file f of these is ready for; nothing of a stranger (poll(2)).
+-- The readiness of the file f of these; an unknown file is not ready (poll(2)).
 abbrev pub ready_in : Map File → ℕ → Option Ready
 ready_in files f = option_map (ready_of files) (map.get files f)
 
--- What the file f is ready for.
+-- The readiness of the file f.
 abbrev pub ready : World → ℕ → Option Ready
 ready w f = ready_in w.files f
 
--- What steps of process p find at its number n: a receive of one byte and no descriptor is not refused, or an accept is not before a number is wanted for it; a send of one byte is not refused; the peer is gone.
+-- The readiness that steps of process p find at descriptor n: readable if a receive of one byte without descriptors is not refused, or an accept is not before it needs a descriptor; writable if a send of one byte is not refused; hung up if the peer is gone.
 abbrev pub found : World → ℕ → ℕ → Ready
 found w p n = record {
   readable = is_none (refusal w p (step.Recv n 1 0)) || is_none (first_fit (on_process (map.get w.processes p) ++ (at_socket w p n ++ on_accept (socket_on w p n))));
@@ -42,17 +42,17 @@ found w p n = record {
   hung_up = is_hung_up (socket_on w p n).state;
 }
 
--- What of a file itself the readiness of it and of its peer comes from: whether it reads, whether its queue is full, and whom it can talk to (this project's own).
+-- The face of a file, from which its own and its peer's readiness follow: whether it is readable, whether its queue is full, and its peer.
 pub data Face : Type 0 where
   Blank : Face
   Shows : (reads : Bool) → (full : Bool) → (state : State) → Face
 
--- The face of a file (this project's own).
+-- The face of a file.
 abbrev pub face_of : File → Face
 face_of Plain = Blank
 face_of (AsSocket s) = Shows (reads s) (nat_le MAX_MESSAGES (length s.queue)) s.state
 
--- The face of the file f of these (this project's own).
+-- The face of the file f of these.
 abbrev pub face_in : Map File → ℕ → Option Face
 face_in files f = option_map face_of (map.get files f)
 
@@ -60,7 +60,7 @@ face_in files f = option_map face_of (map.get files f)
 abbrev pub face_at : World → ℕ → Option Face
 face_at w f = face_in w.files f
 
--- The files whose own queue, backlog or state a step of process p changes, of those that were there, but for those whose peer is freed (this project's own).
+-- The files whose own queue, backlog or state a step of process p changes, of those that were there, but for those whose peer is freed.
 abbrev pub touched : World → ℕ → Step → List ℕ
 touched w p (step.Listen n b) = ino_on w p n ∷ []
 touched w p (step.Connect n name) = ino_on w p n ∷ ino_named w name ∷ []
@@ -69,7 +69,7 @@ touched w p (step.Send n bytes attach) = peer_of (socket_on w p n).state ∷ []
 touched w p (step.Recv n max_bytes max_fds) = ino_on w p n ∷ []
 touched w p s = []
 
--- The file f is not one of these, and its peer, if it has one, is live and is not one either (this project's own).
+-- The file f is not one of these, and its peer, if it has one, is live and is not one either.
 pub record IsLeftAlone (old new : World) (these : List ℕ) (f : ℕ) : Type 0 where
   pub untouched : ¬ (Contains these f)
   pub peer_there : (q : ℕ) → state_at old f ≡ state.Connected q → IsLive new q

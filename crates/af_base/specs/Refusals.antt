@@ -114,8 +114,8 @@ abbrev pub is_full : World → ℕ → Bool
 is_full w k = is_full_of w.files w.next_ino k
 
 -- Whether there can be no further process (fork(2), EAGAIN).
-abbrev pub is_crowded : World → Bool
-is_crowded w = nat_le MAX_PROCESSES (map.len w.processes) || nat_lt MAX_PID w.next_pid
+abbrev pub is_at_process_limit : World → Bool
+is_at_process_limit w = nat_le MAX_PROCESSES (map.len w.processes) || nat_lt MAX_PID w.next_pid
 
 -- Tests with their errors, in the order in which they are made.
 abbrev pub Row : Type 0
@@ -126,13 +126,13 @@ abbrev pub first_fit : Row → Option Errno
 first_fit [] = None
 first_fit (r ∷ rs) = if r.0 then Some r.1 else first_fit rs
 
--- ---- The parts of rows: each has the tests that one look-up is put to, over what it needs and no more.
+-- ---- The parts of rows: each lists the tests of one look-up, over what it needs only.
 
 -- A process must be there (kill(2), ESRCH).
 abbrev pub on_process : Option Process → Row
 on_process process = (not (is_some process), ESRCH) ∷ []
 
--- A number must stand for a file (close(2), EBADF).
+-- A descriptor must be open (close(2), EBADF).
 abbrev pub on_number : Option ℕ → Row
 on_number file = (is_none file, EBADF) ∷ []
 
@@ -150,7 +150,7 @@ on_files w k = (is_full w k, ENFILE) ∷ []
 
 -- The world must have room for a process more (fork(2), EAGAIN).
 abbrev pub on_processes : World → Row
-on_processes w = (is_crowded w, EAGAIN) ∷ []
+on_processes w = (is_at_process_limit w, EAGAIN) ∷ []
 
 -- A number in place of n must be n, or below the limit of the process (dup2(2), EBADF).
 abbrev pub on_place : Process → ℕ → ℕ → Row
@@ -172,11 +172,11 @@ on_name owner = (not (is_none owner), EADDRINUSE) ∷ []
 abbrev pub on_listen : Socket → ℕ → Row
 on_listen s b = (is_none s.name || is_connected s.state || is_listening s.state || not (is_between 1 MAX_BACKLOG b), EINVAL) ∷ []
 
--- Who connects must be new (connect(2), EISCONN).
+-- A connecting socket must be new (connect(2), EISCONN).
 abbrev pub on_client : State → Row
 on_client s = (is_listening s, EINVAL) ∷ (is_connected s, EISCONN) ∷ []
 
--- Whom a socket of this type connects to must listen, be of the same type, and have room (connect(2), ECONNREFUSED, EPROTOTYPE, EAGAIN).
+-- A connect needs a listener of the same type with room in its backlog (connect(2), ECONNREFUSED, EPROTOTYPE, EAGAIN).
 abbrev pub on_listener : Socket → SockType → Row
 on_listener s kind =
     (not (is_listening s.state), ECONNREFUSED)
@@ -188,7 +188,7 @@ on_listener s kind =
 abbrev pub on_accept : Socket → Row
 on_accept s = (not (is_listening s.state), EINVAL) ∷ (nat_eq (length s.backlog) 0, EAGAIN) ∷ []
 
--- A message must have a right number of bytes and of descriptors, each of which stands for a file by this look-up (sendmsg(2); unix(7), SCM_RIGHTS).
+-- A message must have a valid number of bytes and of descriptors, each of them open by this look-up (sendmsg(2); unix(7), SCM_RIGHTS).
 abbrev pub on_parts : (ℕ → Option ℕ) → List ℕ → List ℕ → Row
 on_parts look bytes attach =
     (nat_eq (length bytes) 0 || nat_lt SCM_MAX_FD (length attach), EINVAL)
@@ -211,7 +211,7 @@ on_charge charge total limit privileged files =
 abbrev pub on_room : List Message → Row
 on_room queue = (nat_le MAX_MESSAGES (length queue), EAGAIN) ∷ []
 
--- The socket must have something to give to a receive of at most so many bytes (recvmsg(2), EINVAL, ENOTCONN, EAGAIN).
+-- The socket must have something to give to a receive of at most n bytes (recvmsg(2), EINVAL, ENOTCONN, EAGAIN).
 abbrev pub on_receive : Socket → ℕ → Row
 on_receive s max_bytes =
     (not (is_between 1 MAX_BYTES max_bytes), EINVAL)
@@ -221,11 +221,11 @@ on_receive s max_bytes =
 
 -- ---- The rows, each the joining of its parts.
 
--- What process p has at n must be a socket (bind(2), EBADF, ENOTSOCK).
+-- Descriptor n of process p must be a socket (bind(2), EBADF, ENOTSOCK).
 abbrev pub at_socket : World → ℕ → ℕ → Row
 at_socket w p n = on_number (table_at w p n) ++ on_socket (socket_at w (ino_on w p n))
 
--- Why a receive of at most so many bytes is refused, whether it takes or only looks (recvmsg(2), MSG_PEEK).
+-- Why a receive of at most k bytes is refused, also as a peek (recvmsg(2), MSG_PEEK).
 abbrev pub recv_row : World → ℕ → ℕ → ℕ → Row
 recv_row w p n max_bytes = at_socket w p n ++ on_receive (socket_on w p n) max_bytes
 
@@ -233,7 +233,7 @@ recv_row w p n max_bytes = at_socket w p n ++ on_receive (socket_on w p n) max_b
 abbrev pub spawn_row : World → ℕ → Row
 spawn_row w nofile = on_limit nofile ++ on_processes w
 
--- Why a step of a process that is there is refused: open(2), dup(2), dup2(2), close(2), fork(2), _exit(2), socketpair(2), socket(2), bind(2), listen(2), connect(2), accept(2), sendmsg(2), recvmsg(2), setrlimit(2), but for want of memory.
+-- Why a step of a running process is refused, but for out of memory: open(2), dup(2), dup2(2), close(2), fork(2), _exit(2), socketpair(2), socket(2), bind(2), listen(2), connect(2), accept(2), sendmsg(2), recvmsg(2), setrlimit(2).
 abbrev pub step_row : World → ℕ → Step → Row
 step_row w p step.Open = on_free (process_at w p) 1 ++ on_files w 1
 step_row w p (step.Dup n) = on_number (table_at w p n) ++ on_free (process_at w p) 1
@@ -261,10 +261,10 @@ step_row w p (step.Recv n max_bytes max_fds) = recv_row w p n max_bytes
 step_row w p (step.Peek n max_bytes max_fds) = recv_row w p n max_bytes
 step_row w p (step.Limit n) = on_limit n
 
--- The error with which a process cannot start, if there is one but want of memory.
+-- The error with which a process cannot start, but for out of memory.
 abbrev pub spawn_refusal : World → ℕ → Option Errno
 spawn_refusal w nofile = first_fit (spawn_row w nofile)
 
--- The error with which the step of process p is refused, if there is one but want of memory; a process that is not there comes first (kill(2), ESRCH).
+-- The error of a refused step of process p, but for out of memory; an unknown process comes first (kill(2), ESRCH).
 abbrev pub refusal : World → ℕ → Step → Option Errno
 refusal w p s = first_fit (on_process (map.get w.processes p) ++ step_row w p s)

@@ -1,4 +1,4 @@
--- What a step of a process answers and what it changes.
+-- The reply and the effect of each step of a process. The definition that names no manual page is of this project's profile (docs/PROFILE.md).
 use Rattle.std.specs.Prelude.{◌≡◌, ◌⊎◌, ℕ, ◌+◌, Bool, true, false, List, length, filter_map, min, Option, Some, None, slice_get, slice_index, unwrap_or, nat_eq, nat_lt, if◌then◌else◌}
 use Rattle.std.specs.List.{zip}
 use Rattle.std.specs.FinMap as map
@@ -42,7 +42,7 @@ with_embryo w c l kind = with_socket (with_socket (add_file w (AsSocket (connect
 abbrev pub first_embryo : World → ℕ → ℕ → ℕ
 first_embryo w p n = unwrap_or (slice_get (socket_on w p n).backlog 0) 0
 
--- What a receive takes.
+-- The messages that a receive takes.
 abbrev pub taken_on : World → ℕ → ℕ → ℕ → Taken
 taken_on w p n max_bytes = take_from (socket_on w p n).kind (socket_on w p n).queue max_bytes
 
@@ -50,11 +50,11 @@ taken_on w p n max_bytes = take_from (socket_on w p n).kind (socket_on w p n).qu
 abbrev pub got_at : World → ℕ → ℕ → ℕ → ℕ → List ℕ
 got_at w p n max_bytes max_fds = lowest_free (min (length (taken_on w p n max_bytes).attached) max_fds) (process_at w p)
 
--- The world with a process more: its table is empty, and its user goes last in the list if it is new.
+-- The world with a new process: its table is empty, and a new user is added at the end of the list.
 abbrev pub spawned : World → ℕ → ℕ → Bool → World
 spawned w uid nofile privileged = add_user (add_process w (record { user = uid; limit = nofile; privileged = privileged; table = map.empty })) uid
 
--- What a receive answers: no bytes, End, where the peer is gone and nothing is left (recvmsg(2)).
+-- The reply of a receive: an empty receive is End, if the peer is gone and nothing is left (recvmsg(2)).
 abbrev pub received : World → ℕ → ℕ → ℕ → ℕ → Reply
 received w p n max_bytes max_fds =
     let taken = taken_on w p n max_bytes in
@@ -112,7 +112,7 @@ needs_no_memory step.Exit = true
 needs_no_memory (step.Limit n) = true
 needs_no_memory s = false
 
--- The outcome of a step: refused by an error and nothing changed; or answered, and the changed world settled; or, where the step may need memory, refused for want of it and nothing changed (this project's profile).
+-- The outcome of a step: refused by an error and nothing changed; or answered, and the changed world settled; or, where the step may need memory, refused for want of it and nothing changed.
 abbrev pub Outcome : Option Errno → Bool → Reply → World → World → Reply → World → Type 0
 Outcome (Some e) frugal answer effect old r new = (r ≡ reply.Refused e) × (new ≡ old)
 Outcome None true answer effect old r new = (r ≡ answer) × Settles effect new

@@ -1,4 +1,4 @@
--- What a receive takes from a queue that is not empty.
+-- The part of a queue that a receive takes; the queue is not empty. The definition that names no manual page is of this project's profile (docs/PROFILE.md).
 use Rattle.std.specs.Prelude.{ℕ, ◌+◌, ◌-◌, Bool, false, not, List, [], ◌∷◌, take, drop, length, min, nat_lt, nat_le, if◌then◌else◌}
 use Rattle.std.specs.List.{flat_map, take_while, find}
 use Rattle.std.specs.Option.{option_map_or}
@@ -6,7 +6,7 @@ use Rattle.af_base.specs.World.{Message}
 use Rattle.af_base.specs.declared.events.SockType.{SockType}
 use Rattle.af_base.specs.declared.events.SockType.TheVariants.{Stream, Seqpacket}
 
--- What was taken, whether bytes were dropped (recvmsg(2), MSG_TRUNC), and the queue that is left.
+-- The result of taking: the messages, whether bytes were dropped (recvmsg(2), MSG_TRUNC), and the rest of the queue.
 pub record Taken : Type 0 where
   pub bytes : List ℕ
   pub attached : List ℕ
@@ -26,7 +26,7 @@ abbrev pub take_seqpacket : List Message → ℕ → Taken
 take_seqpacket [] n = nothing_taken
 take_seqpacket (m ∷ q) n = record { bytes = take n m.bytes; attached = m.attached; trunc = nat_lt n (length m.bytes); rest = q }
 
--- The queue without its first c bytes: a message that keeps no byte is gone, and one that lost a byte keeps no file (this project's profile).
+-- The queue without its first c bytes: a message that keeps no byte is gone, and one that lost a byte keeps no file.
 abbrev pub cut : ℕ → List Message → List Message
 cut c [] = []
 cut c (m ∷ q) =
@@ -50,7 +50,7 @@ take_stream q n =
     let begin = length (joined (take_while (λ m. not (has_files m)) q)) in
     option_map_or (λ m. take_to q n m.attached begin (begin + length m.bytes)) (find has_files q) (take_to q n [] begin begin)
 
--- What a receive of at most n bytes takes, by the socket's type.
+-- The result of a receive of at most n bytes, by the socket's type.
 abbrev pub take_from : SockType → List Message → ℕ → Taken
 take_from Stream q n = take_stream q n
 take_from Seqpacket q n = take_seqpacket q n

@@ -1,4 +1,4 @@
--- What is told since the lists were emptied last: which files were freed, and whose readiness may have changed.
+-- The reports since the lists were last emptied: which files were freed, and whose readiness may have changed. Definitions that name no manual page are this project's own.
 use Rattle.std.specs.Prelude.{◌≡◌, ◌+◌, ℕ, Bool, true, List, Option, IsTrue, is_some, nat_lt, option_map, if◌then◌else◌}
 use Rattle.std.specs.Option.{option_and_then}
 use Rattle.std.specs.FinMap as map
@@ -9,27 +9,27 @@ use Rattle.af_base.specs.Refusals.{socket_of}
 use Rattle.af_base.specs.Whole.{state_at}
 use Rattle.af_base.specs.World.{File, Map, Since, World}
 
--- Whether the number was live when the lists were emptied last, or was given out since (this project's own).
+-- Whether the number was live when the lists were emptied last, or was given out since.
 abbrev pub was_given : Since → ℕ → ℕ → Bool
 was_given since next f = if nat_lt f since.next then map.contains_key since.files f else nat_lt f next
 
--- Each number that was live then, or was given out since, is live or in the list, once; no other is in it (this project's own).
+-- Each number that was live then, or was given out since, is live or in the list, once; no other is in it.
 abbrev pub AreReleased : {V : Type 0} → Map V → ℕ → Since → List ℕ → Type 0
 AreReleased live next since told = (f : ℕ) → count_in f told + (if map.contains_key live f then 1 else 0) ≡ (if was_given since next f then 1 else 0)
 
--- Whether the number is a socket's among these files (this project's own).
+-- Whether the number is a socket's among these files.
 abbrev pub is_socket_in : Map File → ℕ → Bool
 is_socket_in files f = is_some (option_and_then socket_of (map.get files f))
 
--- A socket that is not in the list has the face that it had then (this project's own).
+-- A socket that is not in the list has the face that it had then.
 abbrev pub AreChanged : Map File → Since → List ℕ → Type 0
 AreChanged files since told = (f : ℕ) → IsTrue (is_socket_in files f) → count_in f told ≡ 0 → face_in files f ≡ face_in since.files f
 
--- The list has the files of the world that were freed (this project's own).
+-- The list has the files of the world that were freed.
 abbrev pub TellsReleased : World → Since → List ℕ → Type 0
 TellsReleased w since told = since.released ≡ true → AreReleased w.files w.next_ino since told
 
--- A socket that is not in the list, and whose peer is not, is ready for what it was then (this project's own).
+-- A socket that is not in the list, and whose peer is not, is ready for what it was then.
 abbrev pub TellsChanged : World → Since → List ℕ → Type 0
 TellsChanged w since told =
     since.changed ≡ true → (f : ℕ) → IsTrue (is_socket_in w.files f) → count_in f told ≡ 0 → ((q : ℕ) → state_at w f ≡ state.Connected q → count_in q told ≡ 0) → ready w f ≡ ready_in since.files f

@@ -1,4 +1,4 @@
--- What goes when nothing holds it, to the end.
+-- The files that are freed once they are unreferenced, to the end.
 use Rattle.std.specs.Prelude.{◌≡◌, ℕ, Bool, true, cond, not, List, [], ◌∷◌, ◌↔◌}
 use Rattle.std.specs.FinMap as map
 use Rattle.af_base.specs.declared.events.State.{State}
@@ -6,7 +6,7 @@ use Rattle.af_base.specs.declared.events.State.TheVariants as state
 use Rattle.af_base.specs.World.{World, Map, File, Plain, AsSocket, IsLive}
 use Rattle.af_base.specs.Places.{InTable, Holds}
 
--- The least set of live files such that f is in it where no table holds f and each socket that holds f is in it (close(2): a description goes with its last reference; a cycle is never in it).
+-- The least set of live files such that f is in it if no table holds f and each socket that holds f is in it (close(2): a description is freed with its last reference; a cycle is never in it).
 pub data Unheld (w : World) : ℕ → Type 0 where
   Goes : (f : ℕ) → IsLive w f → ¬ (InTable w f) → ((s : ℕ) → Holds w s f → Unheld w s) → Unheld w f
 

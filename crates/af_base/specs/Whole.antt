@@ -1,4 +1,4 @@
--- What is true of every world that events lead to.
+-- The invariant of every world that events lead to. Definitions that name no manual page are of this project's profile (docs/PROFILE.md).
 use Rattle.std.specs.Prelude.{◌≡◌, ◌<◌, ◌≤◌, ◌+◌, ℕ, IsTrue, true, List, Option, Some, length}
 use Rattle.std.specs.List.{Contains}
 use Rattle.std.specs.Option.{option_and_then, option_map_or}
@@ -13,16 +13,16 @@ use Rattle.af_base.specs.Names.{is_name}
 use Rattle.af_base.specs.Refusals.{is_listening, room_of, socket_at}
 use Rattle.af_base.specs.Unheld.{IsSettled}
 
--- Whom a file can talk to: a plain file nobody.
+-- The peer state of a file; a plain file has none.
 abbrev pub state_of : File → State
 state_of Plain = state.Idle
 state_of (AsSocket s) = s.state
 
--- Whom the file f can talk to.
+-- The peer of the file f.
 abbrev pub state_at : World → ℕ → State
 state_at w f = option_map_or state_of (map.get w.files f) state.Idle
 
--- Who is connected to a file is its peer in turn, so peers are live (socketpair(2)).
+-- The peer of a connected file is connected to it, so peers are live (socketpair(2)).
 abbrev pub AreMutual : World → Type 0
 AreMutual w = (f p : ℕ) → state_at w f ≡ state.Connected p → state_at w p ≡ state.Connected f
 
@@ -30,7 +30,7 @@ AreMutual w = (f p : ℕ) → state_at w f ≡ state.Connected p → state_at w 
 abbrev pub name_at : World → ℕ → Option (List ℕ)
 name_at w f = option_and_then (λ s. s.name) (socket_at w f)
 
--- The world is whole: each place holds a live file, peers are mutual, no two sockets have one name, no file is in two backlogs, and the numbers given are below the next ones; the next ones and the files' numbers begin at 1, so 0 is no file (this project's profile).
+-- The world is whole: each place holds a live file, peers are mutual, no two sockets have one name, no file is in two backlogs, and the numbers given are below the next ones; the next ones and the files' numbers begin at 1, so 0 is no file.
 pub record IsWhole (w : World) : Type 0 where
   pub tables_live : (f : ℕ) → InTable w f → IsLive w f
   pub queues_live : (s f : ℕ) → Holds w s f → IsLive w f
@@ -63,7 +63,7 @@ pub record IsSocketWithin (s : Socket) : Type 0 where
   pub name : (name : List ℕ) → s.name ≡ Some name → is_name name ≡ true
   pub messages : (m : Message) → Contains s.queue m → IsMessageWithin m
 
--- The world is within all limits (this project's profile).
+-- The world is within all limits.
 pub record IsWithin (w : World) : Type 0 where
   pub process_count : map.len w.processes ≤ MAX_PROCESSES
   pub file_count : map.len w.files ≤ MAX_FILES

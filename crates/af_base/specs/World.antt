@@ -1,4 +1,4 @@
--- The world: which processes run, which files are open, and what waits in the queues.
+-- The world: which processes run, which files are open, and what waits in the queues. Definitions that name no manual page are of this project's profile (docs/PROFILE.md).
 -- Files, processes, users and descriptors go by their numbers.
 use Rattle.std.specs.Prelude.{ℕ, Bool, List, [], Option, IsTrue, false}
 use Rattle.std.specs.Ordering.{nat_cmp}
@@ -25,19 +25,19 @@ pub record Socket : Type 0 where
   pub queue : List Message
   pub backlog : List ℕ
 
--- An open file description (open(2)): a plain file, of which nothing is known, or a socket.
+-- An open file description (open(2)): a plain file, without any content, or a socket.
 pub data File : Type 0 where
   Plain : File
   AsSocket : (socket : Socket) → File
 
--- A process: its user, its limit on descriptors (getrlimit(2), RLIMIT_NOFILE), whether it is privileged, and what each open number stands for.
+-- A process: its user, its limit on descriptors (getrlimit(2), RLIMIT_NOFILE), whether it is privileged, and the file of each open descriptor.
 pub record Process : Type 0 where
   pub user : ℕ
   pub limit : ℕ
   pub privileged : Bool
   pub table : Map ℕ
 
--- All that is there, with the next numbers to give, and the users in the order of their first process (this project's profile).
+-- All that is there, with the next numbers to give, and the users in the order of their first process.
 pub record World : Type 0 where
   pub processes : Map Process
   pub files : Map File
@@ -45,18 +45,18 @@ pub record World : Type 0 where
   pub next_pid : ℕ
   pub users : List ℕ
 
--- Whether freed files and changed readiness are told; the files when the lists were emptied last, and the number that the next one got (this project's profile).
+-- Whether freed files and changed readiness are reported; the files when the lists were last emptied, and the next inode number then.
 pub record Since : Type 0 where
   pub changed : Bool
   pub released : Bool
   pub files : Map File
   pub next : ℕ
 
--- Nothing is told (this project's profile).
+-- Nothing is reported.
 abbrev pub untold : Since
 untold = record { changed = false; released = false; files = map.empty; next = 1 }
 
--- No process, no file, no user; numbers begin at 1 (this project's profile).
+-- No process, no file, no user; numbers begin at 1.
 abbrev pub empty_world : World
 empty_world = record { processes = map.empty; files = map.empty; next_ino = 1; next_pid = 1; users = [] }
 

@@ -52,14 +52,14 @@ pub enum Errno {
 }
 
 impl Errno {
-    /// This project's number for the error, from 1.
+    /// Returns the error's number in this project, from 1.
     pub fn number(self) -> u8
         ensures { result ≡ number_of self }
     {
         self as u8
     }
 
-    /// The error's name in capitals, as in errno(3); EIDLE is this project's own.
+    /// Returns the error's name in capitals, as in errno(3); EIDLE is this project's own.
     pub fn name(self) -> &'static str
         ensures { result.now ≡ name_of self }
     {

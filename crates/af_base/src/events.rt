@@ -1,11 +1,11 @@
-//! What may happen, and what is answered.
+//! Events and their replies.
 ghost use Rattle.std.specs.Prelude.{◌≡◌};
 
 use crate::errno::Errno;
 use crate::items::Items;
 use crate::names::{Fd, Ino, Pid, Uid};
 
-/// What a socket keeps of the borders between messages (unix(7)).
+/// A socket's type: how it keeps the borders between messages (unix(7)).
 #[derive(Clone, Copy, Debug, PartialEq, Eq)]
 pub enum SockType {
     /// SOCK_STREAM: connection-oriented, bytes in order, with no borders between messages.
@@ -14,13 +14,13 @@ pub enum SockType {
     Seqpacket,
 }
 
-/// Whom a socket can talk to.
+/// A socket's connection state.
 #[derive(Clone, Copy, Debug, PartialEq, Eq)]
 pub enum State {
     /// Never connected, and not listening.
     Idle,
-    /// Waits for connections. At most so many embryos, the other ends of connections that nobody
-    /// has accepted yet, wait at it.
+    /// Waits for connections. Holds its backlog: the most embryos (server ends that nobody has
+    /// accepted) that may wait at it.
     Listening(u32),
     /// Connected to a live peer.
     Connected(Ino),
@@ -52,7 +52,7 @@ pub enum Step {
         on: Fd,
         name: Items<u8>,
     },
-    /// listen(2), with room for so many embryos.
+    /// listen(2), with this backlog.
     Listen {
         on: Fd,
         backlog: u32,
@@ -70,7 +70,7 @@ pub enum Step {
         bytes: Items<u8>,
         attach: Items<Fd>,
     },
-    /// recvmsg(2): at most so many bytes and so many descriptors.
+    /// recvmsg(2), with room for this many bytes and descriptors.
     Recv {
         on: Fd,
         max_bytes: u32,
@@ -87,7 +87,7 @@ pub enum Step {
     Limit(u32),
 }
 
-/// What may happen.
+/// An event.
 #[derive(Clone, Debug, PartialEq, Eq, Drop)]
 pub enum Event {
     /// A process of this user starts, with a limit on its descriptors (RLIMIT_NOFILE). A privileged
@@ -101,13 +101,13 @@ pub enum Event {
     Proc(Pid, Step),
     /// The collector begins a pass, which slices go on with.
     Begin,
-    /// The collector goes on with the pass that runs, by at most so many units.
+    /// Continues the running pass, by at most this many units.
     Slice(u32),
     /// The collector makes a whole pass.
     Pass,
 }
 
-/// What is answered.
+/// The reply to an event.
 #[derive(Clone, Debug, PartialEq, Eq, Drop)]
 pub enum Reply {
     /// A process was made.
@@ -120,7 +120,7 @@ pub enum Reply {
     Ok,
     /// So many bytes were sent.
     Sent(u32),
-    /// What a receive took or a peek saw, and where its descriptors were installed.
+    /// The bytes and descriptors of a receive or peek, and where they were installed.
     Got {
         bytes: Items<u8>,
         fds: Items<Fd>,
@@ -133,9 +133,9 @@ pub enum Reply {
     End,
     /// A pass of the collector began: its number.
     Started(u64),
-    /// The pass goes on.
+    /// The pass has work left.
     Working,
-    /// The pass is over, and so many sockets were reclaimed.
+    /// The pass is done, and has reclaimed this many sockets.
     Done {
         pass: u64,
         reclaimed: u64,
@@ -144,7 +144,7 @@ pub enum Reply {
     Refused(Errno),
 }
 
-// What the calls of an engine answer, each as the reply that tells it.
+// The answers of an engine's calls, each as its reply.
 
 impl From<Pid> for Reply {
     ghost use Rattle.af_base.specs.declared.events.Reply.TheVariants as reply;

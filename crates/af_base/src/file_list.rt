@@ -4,8 +4,8 @@ ghost use Rattle.af_base.specs.Counts.{count_in};
 
 use crate::names::{FileRef, Ino};
 
-/// Where a file stands in the list: this place is tried first, and then all from the end. Nothing
-/// where it does not.
+/// Returns the position of a file in the list, if it is there. Tries this position first, and then
+/// all from the end.
 #[inline(always)]
 fn place_of(files: &[FileRef], ino: Ino, at: usize) -> Option<usize>
     ensures some { IfSome result (λ i. slice_get files.now i ≡ Some ino) }
@@ -19,11 +19,10 @@ fn place_of(files: &[FileRef], ino: Ino, at: usize) -> Option<usize>
     files.iter().rposition(|file| file.ino() == ino)
 }
 
-/// The file is in the list once less, if it was there, and the last takes its place. Which place
-/// that was, where this one is tried first, and then all from the end; nothing where it was not
-/// there. It takes no memory.
+/// Removes the file from the list once, if it is there; the last takes its place. Returns that
+/// position. Tries this position first, and then all from the end. Takes no memory.
 #[inline(always)]
-pub fn unlist(files: &mut Vec<FileRef>, ino: Ino, at: usize) -> Option<usize>
+pub fn swap_remove_file(files: &mut Vec<FileRef>, ino: Ino, at: usize) -> Option<usize>
     ensures each { (f : ℕ) → count_in f files.new.items ≡ count_in f files.old.items - cond (nat_eq f ino) 1 0 }
     ensures place { IfSome result (λ i. slice_get files.old.items i ≡ Some ino) }
     ensures none { IfNone result (count_in ino files.old.items ≡ 0) }

@@ -9,7 +9,7 @@ use crate::listing::{ListedFile, ListedMessage, ListedTable};
 use crate::names::{Ino, Uid};
 use std::alloc::{AllocError, Global};
 
-/// The files that the numbers of the table stand for go last.
+/// Appends the files that the table's descriptors refer to.
 fn push_inos(inos: &mut Vec<Ino>, table: &ListedTable) -> Result<(), AllocError>
     ensures { OnOk result (inos.new.items ≡ inos.old.items ++ inos_of table.now) }
 {
@@ -19,7 +19,7 @@ fn push_inos(inos: &mut Vec<Ino>, table: &ListedTable) -> Result<(), AllocError>
     Ok(())
 }
 
-/// What travels in the queue of the file goes last.
+/// Appends the files that the queue of the file carries.
 fn push_carried(inos: &mut Vec<Ino>, file: &ListedFile) -> Result<(), AllocError>
     ensures { OnOk result (inos.new.items ≡ inos.old.items ++ carried (queue_of (file_of file.now))) }
 {
@@ -32,7 +32,7 @@ fn push_carried(inos: &mut Vec<Ino>, file: &ListedFile) -> Result<(), AllocError
     Ok(())
 }
 
-/// What the file holds goes last.
+/// Appends the files that the file holds.
 fn push_contents(inos: &mut Vec<Ino>, file: &ListedFile) -> Result<(), AllocError>
     ensures { OnOk result (inos.new.items ≡ inos.old.items ++ contents (file_of file.now)) }
 {
@@ -43,7 +43,7 @@ fn push_contents(inos: &mut Vec<Ino>, file: &ListedFile) -> Result<(), AllocErro
     inos.extend_from_slice(socket.backlog.as_slice())
 }
 
-/// The user whom the message is charged to goes last, once for each file that travels with it.
+/// Appends the user whom the message is charged to, once for each attached file.
 fn push_payer(payers: &mut Vec<Uid>, message: &ListedMessage) -> Result<(), AllocError>
     ensures { OnOk result (payers.new.items ≡ payers.old.items ++ payers_of (message_of message.now)) }
 {
@@ -53,7 +53,7 @@ fn push_payer(payers: &mut Vec<Uid>, message: &ListedMessage) -> Result<(), Allo
     Ok(())
 }
 
-/// The users whom the queue of the file is charged to go last, once for each place.
+/// Appends the users whom the queue of the file is charged to, once for each place.
 fn push_payers(payers: &mut Vec<Uid>, file: &ListedFile) -> Result<(), AllocError>
     ensures { OnOk result (payers.new.items ≡ payers.old.items ++ flat_map payers_of (queue_of (file_of file.now))) }
 {
@@ -66,7 +66,7 @@ fn push_payers(payers: &mut Vec<Uid>, file: &ListedFile) -> Result<(), AllocErro
     Ok(())
 }
 
-/// The file of each place, rising.
+/// Returns the file of each place, rising.
 pub fn held(
     alloc: Global,
     tables: &[ListedTable],
@@ -87,7 +87,7 @@ pub fn held(
     Ok(held)
 }
 
-/// The file of each place in a queue, rising.
+/// Returns the file of each place in a queue, rising.
 pub fn queued(alloc: Global, files: &[ListedFile]) -> Result<Vec<Ino>, AllocError>
     requires { AreFiles files.now }
     ensures each { IfOk result (λ xs. IsTally (inflight (listed [] files.now)) xs.items) }
@@ -101,7 +101,7 @@ pub fn queued(alloc: Global, files: &[ListedFile]) -> Result<Vec<Ino>, AllocErro
     Ok(queued)
 }
 
-/// The user whom each place in a queue is charged to, rising.
+/// Returns the user whom each place in a queue is charged to, rising.
 pub fn payers(alloc: Global, files: &[ListedFile]) -> Result<Vec<Uid>, AllocError>
     requires { AreFiles files.now }
     ensures { IfOk result (λ xs. IsTally (charged (listed [] files.now)) xs.items) }

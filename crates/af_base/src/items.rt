@@ -20,14 +20,14 @@ impl<T> Model for Items<T> {
 }
 
 impl<T> Items<T> {
-    /// These items. It takes no memory.
+    /// Makes a list of these items. Takes no memory.
     pub fn of(items: Vec<T>) -> Items<T>
         ensures { result ≡ items.items }
     {
         Items { items }
     }
 
-    /// The items as they are. It takes no memory.
+    /// Returns the items as a vector. Takes no memory.
     pub fn into_vec(self) -> Vec<T>
         ensures { result.items ≡ self }
     {
@@ -35,21 +35,21 @@ impl<T> Items<T> {
         items
     }
 
-    /// All items, in order.
+    /// Returns all items, in order.
     pub fn as_slice(&self) -> &[T]
         ensures { result.now ≡ self.now }
     {
         self.items.as_slice()
     }
 
-    /// How many there are.
+    /// Returns how many items there are.
     pub fn len(&self) -> usize
         ensures { result ≡ length self.now }
     {
         self.items.len()
     }
 
-    /// Whether there is none.
+    /// Returns whether there is no item.
     pub fn is_empty(&self) -> bool
         ensures { IsTrue result ↔ (self.now ≡ []) }
     {

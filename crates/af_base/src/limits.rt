@@ -1,4 +1,4 @@
-//! The limits: how much there may be at once, and how far each number runs.
+//! The limits: how many of each kind there may be, and the largest number of each kind.
 
 /// Processes at once.
 pub const MAX_PROCESSES: usize = 1024;

@@ -1,4 +1,4 @@
-//! Plain lists of tables, queues and backlogs: what a recount goes over.
+//! Plain lists of tables, queues and backlogs, for a recount.
 ghost use Rattle.std.specs.Prelude.{◌≡◌, ℕ, IfOk, length};
 ghost use Rattle.std.specs.List.Sorted.{IsNonDecreasing};
 ghost use Rattle.af_base.specs.Counts.{charged, count_in, inflight, refs, total};
@@ -9,7 +9,7 @@ use crate::names::{Fd, Ino, Pid, Uid};
 use std::alloc::{AllocError, Global};
 use std::marker::Model;
 
-/// An open number of a process, and the file that it stands for.
+/// An open descriptor of a process, and its file.
 #[derive(Clone, Copy, Debug, PartialEq, Eq)]
 pub struct ListedNumber {
     /// The number.
@@ -27,7 +27,7 @@ pub struct ListedTable {
     pub numbers: Vec<ListedNumber>,
 }
 
-/// What travels with a message, and whom it is charged to.
+/// The attached files of a message, and the user whom it is charged to.
 #[derive(Debug, Drop)]
 pub struct ListedMessage {
     /// The user who sent it.
@@ -36,7 +36,7 @@ pub struct ListedMessage {
     pub attached: Vec<Ino>,
 }
 
-/// What a socket holds.
+/// The files that a socket holds.
 #[derive(Debug, Drop)]
 pub struct ListedSocket {
     /// The messages that it has to receive, in order.
@@ -50,12 +50,12 @@ pub struct ListedSocket {
 pub struct ListedFile {
     /// Its inode number.
     pub ino: Ino,
-    /// What it holds, if it is a socket; a plain file holds nothing.
+    /// The contents of a socket; a plain file has none.
     pub socket: Option<ListedSocket>,
 }
 
-/// The tables of all processes and all live files, as they stood at one moment. A clause sees it
-/// as a bare world. Its places are kept sorted beside them, so that a count is a binary search.
+/// The tables of all processes and all live files, at one moment. A clause sees it as a bare world.
+/// Its places are kept sorted beside them, so that a count is a binary search.
 #[derive(Debug, Drop)]
 pub struct Listing {
     tables: Vec<ListedTable>,
@@ -82,8 +82,8 @@ impl Model for Listing {
 }
 
 impl Listing {
-    /// A listing of these tables, by rising pid, and these files, by rising inode number. What it
-    /// takes memory for is three lists of places, each sorted here once.
+    /// Lists these tables, by rising pid, and these files, by rising inode number. Takes memory for
+    /// three lists of places, each sorted once.
     pub fn of(
         alloc: Global,
         tables: Vec<ListedTable>,
@@ -105,7 +105,7 @@ impl Listing {
         })
     }
 
-    /// The tables, by rising pid.
+    /// Returns the tables, by rising pid.
     pub fn tables(&self) -> &[ListedTable]
         ensures value { self.now.processes ≡ processes_of result.now }
         ensures ordered { AreTables result.now }
@@ -113,7 +113,7 @@ impl Listing {
         self.tables.as_slice()
     }
 
-    /// The live files, by rising inode number.
+    /// Returns the live files, by rising inode number.
     pub fn files(&self) -> &[ListedFile]
         ensures value { self.now.files ≡ files_of result.now }
         ensures ordered { AreFiles result.now }
@@ -121,8 +121,8 @@ impl Listing {
         self.files.as_slice()
     }
 
-    /// The file of each place, in tables, queues and backlogs, rising: a file stands there once for
-    /// each place that holds it.
+    /// Returns the file of each place, in tables, queues and backlogs, rising: a file occurs once
+    /// for each place that holds it.
     pub fn held(&self) -> &[Ino]
         ensures rising { IsNonDecreasing result.now }
         ensures each { (f : ℕ) → count_in f result.now ≡ refs self.now f }
@@ -130,8 +130,7 @@ impl Listing {
         self.held.as_slice()
     }
 
-    /// The file of each place in a queue, rising: a file stands there once for each such place that
-    /// holds it.
+    /// Returns the file of each place in a queue, rising: a file occurs once for each such place.
     pub fn queued(&self) -> &[Ino]
         ensures rising { IsNonDecreasing result.now }
         ensures each { (f : ℕ) → count_in f result.now ≡ inflight self.now f }
@@ -140,8 +139,8 @@ impl Listing {
         self.queued.as_slice()
     }
 
-    /// The user whom each place in a queue is charged to, rising: a user stands there once for each
-    /// file that travels with a message that it sent.
+    /// Returns the user whom each place in a queue is charged to, rising: a user occurs once for
+    /// each file attached to a message of theirs.
     pub fn payers(&self) -> &[Uid]
         ensures rising { IsNonDecreasing result.now }
         ensures each { (u : ℕ) → count_in u result.now ≡ charged self.now u }

@@ -30,8 +30,8 @@ impl fmt::Display for Ino {
     }
 }
 
-/// A file, and where it stood when this was made. A clause sees the number alone: the key is only a
-/// hint, and who goes by it looks whether that very number stands there.
+/// A file, and the key under which its row was found. A clause sees the number alone: the key is a
+/// hint, and each use of it compares the number.
 #[derive(Debug, Default, Drop)]
 pub struct FileRef {
     ino: Ino,
@@ -47,27 +47,27 @@ impl Model for FileRef {
 }
 
 impl FileRef {
-    /// The file of this number, which stands under this key.
+    /// Makes a reference to the file of this number, whose row has this key.
     pub fn new(ino: Ino, key: usize) -> FileRef
         ensures { result ≡ ino }
     {
         FileRef { ino, key }
     }
 
-    /// Its number.
+    /// Returns its number.
     pub fn ino(&self) -> Ino
         ensures { result ≡ self.now }
     {
         self.ino
     }
 
-    /// The key under which it stood. No contract rests on it.
+    /// Returns the key under which the row was found. No contract rests on it.
     pub fn key(&self) -> usize {
         self.key
     }
 
-    /// The same once more.
-    pub fn again(&self) -> FileRef
+    /// Returns another reference to the same file.
+    pub fn duplicate(&self) -> FileRef
         ensures { result ≡ self.now }
     {
         FileRef {

@@ -1,6 +1,6 @@
-//! What a file is ready for.
+//! The readiness of a file.
 
-/// What poll(2) tells of a file.
+/// The readiness of a file, as poll(2) reports it.
 #[derive(Clone, Copy, Debug, PartialEq, Eq)]
 pub struct Ready {
     /// A receive of a byte, or an accept, has something to give, or the end to tell (POLLIN).

@@ -1,7 +1,7 @@
-//! What calls of a layer cost, from threads beside each other.
+//! Measures calls of a layer, from threads beside each other.
 //!
-//! Each run is over a fresh layer. In each thread a process of its own opens a plain file and closes it,
-//! by turns.
+//! Each run is over a fresh layer. In each thread a process of its own opens a plain file and
+//! closes it, by turns.
 
 use crate::runs::{Runs, print_times, refused, time_of};
 use af_base::events::{Event, Step};
@@ -20,7 +20,7 @@ const SPAWN: Event = Event::Spawn {
     privileged: false,
 };
 
-/// Measures calls from so many threads, each of which does the events of a run.
+/// Measures calls from this many threads, each of which does the events of a run.
 pub fn measure<R: Threads + Wait + Clock + Print + Sync>(
     rt: &R,
     alloc: Global,
@@ -35,7 +35,7 @@ pub fn measure<R: Threads + Wait + Clock + Print + Sync>(
     )
 }
 
-/// How long a run takes, in nanoseconds.
+/// Returns how long a run takes, in nanoseconds.
 fn time_of_run<R: Threads + Wait + Clock + Sync>(
     rt: &R,
     alloc: Global,
@@ -49,7 +49,7 @@ fn time_of_run<R: Threads + Wait + Clock + Sync>(
     }
 }
 
-/// A script of so many events for each thread.
+/// Makes a script of this many events for each thread.
 fn scripts(alloc: Global, threads: u32, events: usize) -> io::Result<Vec<Vec<Event>>> {
     let mut scripts = Vec::new(alloc);
     for pid in 1..=threads {
@@ -58,7 +58,7 @@ fn scripts(alloc: Global, threads: u32, events: usize) -> io::Result<Vec<Vec<Eve
     Ok(scripts)
 }
 
-/// So many events of a process that opens a plain file and closes it, by turns.
+/// Makes this many events of a process that opens a plain file and closes it, by turns.
 fn script(alloc: Global, pid: Pid, events: usize) -> io::Result<Vec<Event>> {
     let mut script = Vec::with_capacity(alloc, events)?;
     for turn in 0..events {
@@ -75,7 +75,7 @@ fn open_or_close(turn: usize) -> Step {
     }
 }
 
-/// How long it takes to do these scripts from these seats, in nanoseconds.
+/// Returns how long it takes to do these scripts from these seats, in nanoseconds.
 fn time_of_scripts<R: Threads + Wait + Clock + Sync>(
     rt: &R,
     layer: &Layer,

@@ -14,17 +14,17 @@ mod script;
 use crate::runs::Runs;
 use std::{env, io};
 
-/// What a command line asks for.
+/// The work that a command line asks for.
 #[derive(Clone, Copy)]
 enum Task {
-    /// A script is measured, but for so many lines that come first.
+    /// Measures a script, without its first lines, this many.
     Script(usize, Runs),
-    /// Calls from so many threads are measured.
+    /// Measures calls from this many threads.
     Layer(u32, Runs),
 }
 
 impl Task {
-    /// The task that the words of a command line name, the program's own name first.
+    /// Returns the task that the words of a command line name, the program's own name first.
     fn of(words: &[String]) -> Option<Task> {
         let [_, form, first, events, count] = words else {
             return None;
@@ -50,7 +50,7 @@ fn main(rt: HostRuntime) -> io::Result<()> {
     }
 }
 
-/// The fault of a command line that names no task.
+/// Returns the fault of a command line that names no task.
 fn usage() -> io::Result<()> {
     Err(io::Error::other("usage: af_bench [script SETUP EVENTS RUNS | layer THREADS EVENTS RUNS]"))
 }

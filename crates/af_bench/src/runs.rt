@@ -4,7 +4,7 @@ use std::alloc::Global;
 use std::io::{self, Print};
 use std::time::{Clock, Instant};
 
-/// So many runs are made, of so many events each.
+/// How many runs are made, and of how many events each.
 #[derive(Clone, Copy)]
 pub struct Runs {
     pub events: usize,
@@ -12,7 +12,7 @@ pub struct Runs {
 }
 
 impl Runs {
-    /// The runs that these words name.
+    /// Returns the runs that these words name.
     pub fn of(events: &str, count: &str) -> Option<Runs> {
         Some(Runs {
             events: events.parse().ok()?,
@@ -21,8 +21,8 @@ impl Runs {
     }
 }
 
-/// Makes so many runs by `time_of_run`, and then prints what each took, so that no printing comes between
-/// them.
+/// Makes this many runs by `time_of_run`, and then prints their times, so that no printing comes
+/// between them.
 pub fn print_times<R: Print, F: FnMut() -> io::Result<u128>>(
     rt: &R,
     alloc: Global,
@@ -41,7 +41,8 @@ pub fn print_times<R: Print, F: FnMut() -> io::Result<u128>>(
     Ok(())
 }
 
-/// How long `are_done` takes, in nanoseconds. It does events, and says whether none was refused.
+/// Returns how long `are_done` takes, in nanoseconds. It does events, and returns whether none was
+/// refused.
 pub fn time_of<R: Clock, F: FnOnce() -> bool>(rt: &R, are_done: F) -> io::Result<u128>
     requires can_do { F.IsAlwaysCallable are_done }
 {
@@ -52,7 +53,7 @@ pub fn time_of<R: Clock, F: FnOnce() -> bool>(rt: &R, are_done: F) -> io::Result
     Ok(start.elapsed(rt)?.as_nanos())
 }
 
-/// The fault of an event that is refused.
+/// Returns the fault of an event that is refused.
 pub fn refused() -> io::Error {
     io::Error::other("an event was refused")
 }

@@ -1,8 +1,8 @@
-//! What the events of a script cost an engine.
+//! Measures the events of a script.
 //!
-//! Each line of the script is an event. Some lines come first, and are only done. The rest is done over
-//! and over: a run goes on where the one before it stopped, and the first line of the rest comes again
-//! behind the last.
+//! Each line of the script is an event. The first lines are only done. The rest is done over and
+//! over: a run continues where the one before it stopped, and the first line of the rest follows
+//! the last.
 
 use crate::runs::{Runs, print_times, refused, time_of};
 use af_base::events::{Event, Reply};
@@ -14,7 +14,7 @@ use std::iter::Cycle;
 use std::slice::Iter;
 use std::str::Lines;
 
-/// Measures the script from standard input, of which so many lines come first.
+/// Measures the script from standard input, without its first lines, this many.
 pub fn measure_input(rt: &HostRuntime, setup: usize, runs: Runs) -> io::Result<()> {
     let script = io::read_to_string(rt.alloc(), rt.stdin())?;
     measure_script(rt, script.as_str(), setup, runs)
@@ -59,7 +59,7 @@ fn event_of(alloc: Global, line: &str) -> io::Result<Event> {
     }
 }
 
-/// The events of all lines that are left.
+/// Returns the events of all lines that are left.
 fn events_of(alloc: Global, lines: &mut Lines<'_>) -> io::Result<Vec<Event>> {
     let mut events = Vec::new(alloc);
     for line in lines {
@@ -84,7 +84,7 @@ fn measure(rt: &HostRuntime, engine: &mut Engine, events: &[Event], runs: Runs) 
     )
 }
 
-/// Does so many events, and says whether none was refused. It stops at the first that is.
+/// Does this many events, and returns whether none was refused. Stops at the first that is.
 fn are_done(engine: &mut Engine, round: &mut Cycle<Iter<'_, Event>>, events: usize) -> bool {
     for event in round.take(events) {
         if !is_done(engine, event) {

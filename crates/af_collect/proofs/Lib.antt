@@ -1,6 +1,7 @@
--- What each change owes to the pass: what is lost is shaded before, and all that is kept is kept.
+-- The duties of each change to the pass: lost files are shaded before, and the invariant holds after.
 pub mod Holding
 pub mod Losing
 pub mod Placed
+pub mod Made
 pub mod Standing
 pub mod Passing

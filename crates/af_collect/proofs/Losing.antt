@@ -1,4 +1,4 @@
--- What a file is about to lose is shaded, and then lost.
+-- The files that a file is about to lose are shaded, and then lost.
 use Rattle.std.proofs.Common.{◌≡◌, ◌<◌, ◌≤◌, ◌+◌, ℕ, Bool, true, false, List, [], ◌∷◌, ◌++◌, drop, refl, sym, ap, ◌∙◌, subst, nat_eq, arith, inl, inr}
 use Rattle.std.specs.Prelude.{Option, Some, None, length, slice_get, take, unwrap_or, if◌then◌else◌}
 use Rattle.std.specs.FinMap as map
@@ -21,7 +21,7 @@ use Rattle.af_hold.specs.Losing.{without_place}
 use Rattle.af_mark.specs.Marked.{Marked, is_marked, shaded}
 use Rattle.af_pass.specs.declared.Progress.{Progress}
 use Rattle.af_pass.specs.Since.{Covers, Moves}
-use Rattle.af_pass.specs.Keeping.{IsKept, below, first_held, is_marking, shaded_all}
+use Rattle.af_pass.specs.Keeping.{PassInvariant, below, first_held, is_marking, shaded_all}
 use Rattle.af_pass.proofs.Keeping.{in_marking, kept_moves, kept_shaded, kept_shaded_all, marking_only}
 use Rattle.af_pass.proofs.Shaded.{all_marked, stays_marked}
 use Rattle.af_pass.proofs.Sockets.{covers_dequeued, covers_popped, moves_dequeued, moves_popped}
@@ -32,17 +32,17 @@ pub first_taken : (xs : List ℕ) (f : ℕ) → slice_get xs 0 ≡ Some f → Co
 first_taken [] f e = absurd (none_some f e)
 first_taken (x ∷ xs) f e = (0, omega arith, ap (λ o. unwrap_or o f) e)
 
--- What the first message carries is what the queue of it alone carries.
+-- The first message carries what a queue of it alone carries.
 first_carried : (q : List Message) (m : Message) (f : ℕ) → slice_get q 0 ≡ Some m → Contains m.attached f → Contains (carried (take 1 q)) f
 first_carried [] m f e h = absurd (none_some m e)
 first_carried (x ∷ q) m f e h = Contains-append_left x.attached [] f (subst (λ y. Contains y.attached f) (sym (ap (λ o. unwrap_or o m) e)) h)
 
--- What is in the first of a list is in the list.
+-- An element of the first of a list is in the list.
 taken_there : (xs : List ℕ) (f : ℕ) → Contains (take 1 xs) f → Contains xs f
 taken_there [] f h = h
 taken_there (x ∷ xs) f h = Contains-append_left (x ∷ []) xs f h
 
--- What the first message carries, the queue carries.
+-- The queue carries the files of its first message.
 carried_there : (q : List Message) (f : ℕ) → Contains (carried (take 1 q)) f → Contains (carried q) f
 carried_there [] f h = h
 carried_there (m ∷ q) f h = elim (Contains-append_cases m.attached [] f h) [
@@ -90,7 +90,7 @@ module _ (w : World) (s : ℕ) where
     by true = moves_dequeued begun w s
     by false = moves_popped begun w s
 
-  -- What it loses is no garbage, and is marked, if it is of the begin.
+  -- The lost files are no garbage, and are marked, if they are of the begin.
   covers_lost : (begun : World) (marked visited : ℕ → Bool) → ((f : ℕ) → Contains (first_held w s) f → (IsLive begun f → marked f ≡ true) × (¬ (Garbage begun f))) → Covers begun w (without_place w s) marked visited
   covers_lost begun marked visited was = by (nat_eq (length (queue_at w s)) 0) was where
     by : (b : Bool) → ((f : ℕ) → Contains (if b then take 1 (backlog_at w s) else carried (take 1 (queue_at w s))) f → (IsLive begun f → marked f ≡ true) × (¬ (Garbage begun f)))
@@ -100,21 +100,21 @@ module _ (w : World) (s : ℕ) where
 
 module _ {w begun : World} {m : Marked} {c : Progress} where
   -- A live file that is one of these is marked where they are shaded, if it is of the begin.
-  pub marked_there : (fs : List ℕ) (f : ℕ) → is_marking c.stage ≡ true → Contains fs f → IsLive w f → IsKept w begun m c → IsLive begun f → is_marked (shaded_all fs m) f ≡ true
+  pub marked_there : (fs : List ℕ) (f : ℕ) → is_marking c.stage ≡ true → Contains fs f → IsLive w f → PassInvariant w begun m c → IsLive begun f → is_marked (shaded_all fs m) f ≡ true
   marked_there fs f t h l k b = all_marked fs m f h (k.known f ∙ l) ((in_marking (marking_only c.stage t) k).running.since.below f b)
 
-  -- What a table holds is shaded.
-  pub kept_tabled : (f : ℕ) → IsWhole w → is_marking c.stage ≡ true → InTable w f → IsKept w begun m c → IsKept w begun (shaded f m) c
+  -- The files of a table are shaded.
+  pub kept_tabled : (f : ℕ) → IsWhole w → is_marking c.stage ≡ true → InTable w f → PassInvariant w begun m c → PassInvariant w begun (shaded f m) c
   kept_tabled f whole t h k = kept_shaded m c f t (whole.tables_live f h) (λ g. (in_marking (marking_only c.stage t) k).running.since.stray.tables f g h) k
 
-  -- What a number stands for is marked where it is shaded, if it is of the begin.
-  pub marked_number : (p n x f : ℕ) → IsWhole w → is_marking c.stage ≡ true → table_at w p n ≡ Some x → IsKept w begun m c → table_at w p n ≡ Some f → IsLive begun f → is_marked (shaded x m) f ≡ true
+  -- The file of a descriptor is marked when it is shaded, if it is of the begin.
+  pub marked_number : (p n x f : ℕ) → IsWhole w → is_marking c.stage ≡ true → table_at w p n ≡ Some x → PassInvariant w begun m c → table_at w p n ≡ Some f → IsLive begun f → is_marked (shaded x m) f ≡ true
   marked_number p n x f whole t here k at b =
       let same : f ≡ x = ap (λ o. unwrap_or o f) (sym at ∙ here) in
       subst (λ y. is_marked (shaded y m) f ≡ true) same (marked_there (f ∷ []) f t (Contains-first f []) (whole.tables_live f (p, n, at)) k b)
 
-  -- All numbers up to one are seen to, where those before were, none follows, and what it stands for is shaded.
-  pub marked_next : (p next n x : ℕ) → IsWhole w → is_marking c.stage ≡ true → table_at w p n ≡ Some x → ((q : ℕ) → next ≤ q → q < n → table_at w p q ≡ None) → IsKept w begun m c
+  -- All descriptors up to one are done, if those before were, none follows, and its file is shaded.
+  pub marked_next : (p next n x : ℕ) → IsWhole w → is_marking c.stage ≡ true → table_at w p n ≡ Some x → ((q : ℕ) → next ≤ q → q < n → table_at w p q ≡ None) → PassInvariant w begun m c
       → ((q f : ℕ) → q < next → table_at w p q ≡ Some f → IsLive begun f → is_marked m f ≡ true) → (q f : ℕ) → q < n + 1 → table_at w p q ≡ Some f → IsLive begun f → is_marked (shaded x m) f ≡ true
   marked_next p next n x whole t here least k before q f low at b = elim (cases_lt q next) [
     | inl y ↦ stays_marked m x f (before q f y at b)
@@ -124,22 +124,22 @@ module _ {w begun : World} {m : Marked} {c : Progress} where
     ]
   ]
 
-  -- What a file that is no garbage holds is shaded.
-  pub kept_held : (fs : List ℕ) (s : ℕ) → IsWhole w → is_marking c.stage ≡ true → ¬ (Garbage begun s) → ((f : ℕ) → Contains fs f → Holds w s f) → IsKept w begun m c → IsKept w begun (shaded_all fs m) c
+  -- The files held by a file that is no garbage are shaded.
+  pub kept_held : (fs : List ℕ) (s : ℕ) → IsWhole w → is_marking c.stage ≡ true → ¬ (Garbage begun s) → ((f : ℕ) → Contains fs f → Holds w s f) → PassInvariant w begun m c → PassInvariant w begun (shaded_all fs m) c
   kept_held fs s whole t spared held k =
       kept_shaded_all fs m c t (λ f h. (whole.queues_live s f (held f h), λ g. spared ((in_marking (marking_only c.stage t) k).running.since.stray.queues s f (held f h) g))) k
 
   module _ (x : ℕ) (whole : IsWhole w) (l : IsLive w x) (none : refs w x ≡ 0) where
-    -- A file that nothing holds while marking goes on is no garbage, and nor is what it holds.
-    unheld_spared : is_marking c.stage ≡ true → IsKept w begun m c → (¬ (Garbage begun x)) × ((f : ℕ) → Holds w x f → ¬ (Garbage begun f))
+    -- While marking, an unheld file is no garbage, and nor are the files that it holds.
+    unheld_spared : is_marking c.stage ≡ true → PassInvariant w begun m c → (¬ (Garbage begun x)) × ((f : ℕ) → Holds w x f → ¬ (Garbage begun f))
     unheld_spared t k = let no = held_by_none w x none in waiting_held x t l no.0 no.1 k
 
-    -- What it would lose first is shaded.
-    pub kept_first : is_marking c.stage ≡ true → IsKept w begun m c → IsKept w begun (shaded_all (first_held w x) m) c
+    -- The files that it would lose first are shaded.
+    pub kept_first : is_marking c.stage ≡ true → PassInvariant w begun m c → PassInvariant w begun (shaded_all (first_held w x) m) c
     kept_first t k = kept_held (first_held w x) x whole t (unheld_spared t k).0 (first_holds w x) k
 
-    -- It loses the first of what it holds, which is shaded where marking goes on.
-    pub kept_lost : (n : Marked) → (is_marking c.stage ≡ true → n ≡ shaded_all (first_held w x) m) → IsKept w begun m c → IsKept w begun n c → IsKept (without_place w x) begun n c
+    -- It loses the first of its files, which are shaded while marking.
+    pub kept_lost : (n : Marked) → (is_marking c.stage ≡ true → n ≡ shaded_all (first_held w x) m) → PassInvariant w begun m c → PassInvariant w begun n c → PassInvariant (without_place w x) begun n c
     kept_lost n is k k' = kept_moves n c (omega (arith, next_lost w x)) (live_lost w x) (λ _. moves_lost w x begun)
         (λ t. covers_lost w x begun (is_marked n) (below c.visited) (λ f h. (
           λ b. subst (λ o. is_marked o f ≡ true) (sym (is t)) (marked_there (first_held w x) f t h (whole.queues_live x f (first_holds w x f h)) k b),

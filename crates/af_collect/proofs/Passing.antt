@@ -9,7 +9,7 @@ use Rattle.af_base.specs.World.{AsSocket, File, Plain, World}
 use Rattle.af_base.specs.Pass.{Idle, Pass, Running}
 use Rattle.af_base.specs.Reached.{is_socket}
 use Rattle.af_base.specs.Refusals.{socket_of}
-use Rattle.af_desc.specs.Filed.{is_unmarked_socket}
+use Rattle.af_desc.specs.FilesView.{is_unmarked_socket}
 use Rattle.af_mark.specs.Marked.{Marked, is_marked, knows}
 use Rattle.af_pass.specs.declared.Stage.{Stage}
 use Rattle.af_pass.specs.declared.Stage.TheVariants.{Marking, Resting, Sweeping}
@@ -28,7 +28,7 @@ seen_begun Resting b begun n spent is = absurd (false≢true (ap runs is))
 seen_begun Marking b begun n spent is = ap (begun_of b) is
 seen_begun Sweeping b begun n spent is = ap (begun_of b) is
 
--- A file that goes is counted where it is a socket that the pass had still to mark, and sweeping goes on.
+-- A freed file is counted if it is a socket that the pass had still to mark, and the pass sweeps.
 pub counted_gone : (w : World) (m : Marked) (c : Progress) (f : ℕ) (unmarked : Bool) → knows m f ≡ true → unmarked ≡ is_unmarked_socket w.files m f → record c { reclaimed = c.reclaimed + (if unmarked && is_sweeping c.stage then 1 else 0) } ≡ counted w m f c
 counted_gone w m c f unmarked known is = ap (λ b. record c { reclaimed = c.reclaimed + (if b then 1 else 0) }) (and_comm unmarked (is_sweeping c.stage) ∙ ap (λ b. is_sweeping c.stage && b) (is ∙ same)) where
   by : (o : Option File) → is_some (option_and_then socket_of o) ≡ option_map_or is_socket o false

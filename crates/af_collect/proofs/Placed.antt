@@ -1,5 +1,5 @@
 -- Each change of places, and each file more, keeps what is kept.
-use Rattle.std.proofs.Common.{◌≡◌, ℕ, Bool, true, false, List, [], ◌∷◌, ◌++◌, inl, inr, nat_eq, refl, sym, ap, ◌∙◌, subst, arith}
+use Rattle.std.proofs.Common.{◌≡◌, ◌≤◌, ℕ, Bool, true, false, List, [], ◌∷◌, ◌++◌, inl, inr, nat_eq, refl, sym, ap, ◌∙◌, subst, arith}
 use Rattle.std.specs.Prelude.{IsTrue, is_none, is_some, unwrap_or, if◌then◌else◌}
 use Rattle.std.specs.List.{Contains, list_any, zip}
 use Rattle.std.specs.FinMap as map
@@ -15,7 +15,7 @@ use Rattle.af_base.specs.Table.{lowest_free}
 use Rattle.af_base.proofs.Lookups.{insert-other, told_apart}
 use Rattle.af_base.proofs.Moved.{live-changed, there-holds}
 use Rattle.af_base.proofs.Takes.{leaves-taken}
-use Rattle.af_ledger.specs.Kept.{Kept}
+use Rattle.af_ledger.specs.Tally.{Tally}
 use Rattle.af_hold.specs.Agreement.{IsExact}
 use Rattle.af_hold.specs.Receiving.{taken_at}
 use Rattle.af_hold.proofs.Exact.{install-filled}
@@ -25,7 +25,7 @@ use Rattle.af_pass.specs.declared.Stage.{Stage}
 use Rattle.af_pass.specs.declared.Stage.TheVariants.{Marking, Resting, Sweeping}
 use Rattle.af_pass.specs.declared.Progress.{Progress}
 use Rattle.af_pass.specs.Since.{Covers, Moves}
-use Rattle.af_pass.specs.Keeping.{IsKept, IsRunning, Spares, below, is_marking, is_running, pass_of, shaded_all, shaded_in}
+use Rattle.af_pass.specs.Keeping.{PassInvariant, IsRunning, Spares, below, is_marking, is_running, pass_of, shaded_all, shaded_in}
 use Rattle.af_pass.proofs.Born.{AreFilesBelow, covers_add_file, moves_add_file}
 use Rattle.af_pass.proofs.Keeping.{in_marking, in_sweeping, kept_born, kept_moves, kept_shaded_all}
 use Rattle.af_pass.proofs.Known.{known_made}
@@ -42,8 +42,8 @@ files_spawned w uid nofile privileged = by (add_process w (record { user = uid; 
   by v true = (refl, refl)
   by v false = (refl, refl)
 
--- What a receive takes out of a socket, or a peek sees in it, is held by it.
-taken_held : {j : Kept} (w : World) (s max : ℕ) → IsExact w j → is_none (socket_at w s) ≡ false → (f : ℕ) → Contains (taken_at w s max).attached f → Holds w s f
+-- The files that a receive or a peek gives are held by the socket.
+taken_held : {j : Tally} (w : World) (s max : ℕ) → IsExact w j → is_none (socket_at w s) ≡ false → (f : ℕ) → Contains (taken_at w s max).attached f → Holds w s f
 taken_held w s max exact socket f h =
     let x = unwrap_or (socket_at w s) no_socket in
     let at = is-socket w s socket in
@@ -53,15 +53,15 @@ taken_held w s max exact socket f h =
 
 module _ {w begun : World} {m : Marked} {c : Progress} where
   -- A change of tables keeps what is kept.
-  pub kept_tables : (v : World) → v.files ≡ w.files → v.next_ino ≡ w.next_ino → (is_running c.stage ≡ true → Moves begun w v) → (is_marking c.stage ≡ true → Covers begun w v (is_marked m) (below c.visited)) → IsKept w begun m c → IsKept v begun m c
+  pub kept_tables : (v : World) → v.files ≡ w.files → v.next_ino ≡ w.next_ino → (is_running c.stage ≡ true → Moves begun w v) → (is_marking c.stage ≡ true → Covers begun w v (is_marked m) (below c.visited)) → PassInvariant w begun m c → PassInvariant v begun m c
   kept_tables v files next moves covers k = kept_moves m c (omega (arith, next)) (λ f. ap (λ fs. map.contains_key fs f) files) moves covers k
 
   -- A change of a socket keeps what is kept.
-  pub kept_socket : (s : ℕ) (g : Socket → Socket) → (is_running c.stage ≡ true → Moves begun w (with_socket w s g)) → (is_marking c.stage ≡ true → Covers begun w (with_socket w s g) (is_marked m) (below c.visited)) → IsKept w begun m c → IsKept (with_socket w s g) begun m c
+  pub kept_socket : (s : ℕ) (g : Socket → Socket) → (is_running c.stage ≡ true → Moves begun w (with_socket w s g)) → (is_marking c.stage ≡ true → Covers begun w (with_socket w s g) (is_marked m) (below c.visited)) → PassInvariant w begun m c → PassInvariant (with_socket w s g) begun m c
   kept_socket s g moves covers k = kept_moves m c (omega arith) (live-changed w s g) moves covers k
 
   -- Where a pass runs, the files of its begin have numbers that the next file does not have.
-  begun_below : IsKept w begun m c → is_running c.stage ≡ true → AreFilesBelow begun w.next_ino
+  begun_below : PassInvariant w begun m c → is_running c.stage ≡ true → AreFilesBelow begun w.next_ino
   begun_below k e = by c.stage refl e where
     low : IsRunning w begun m c → AreFilesBelow begun w.next_ino
     low r f l = let a = r.since.below f l in let b = r.low in omega (arith, a, b)
@@ -71,8 +71,12 @@ module _ {w begun : World} {m : Marked} {c : Progress} where
     by Marking d e = low (in_marking d k).running
     by Sweeping d e = low (in_sweeping d k).running
 
+  -- A file made since is no garbage of the begin.
+  pub made_spared : PassInvariant w begun m c → is_running c.stage ≡ true → (f : ℕ) → w.next_ino ≤ f → ¬ (Garbage begun f)
+  made_spared k e f high g = let low = begun_below k e f g.0 in omega (arith, high, low)
+
   -- A file more, which holds nothing and is born, keeps what is kept.
-  pub kept_made : (x : File) → contents x ≡ [] → AreFilesBelow w w.next_ino → IsKept w begun m c → IsKept (add_file w x) begun (born w.next_ino m) c
+  pub kept_made : (x : File) → contents x ≡ [] → AreFilesBelow w w.next_ino → PassInvariant w begun m c → PassInvariant (add_file w x) begun (born w.next_ino m) c
   kept_made x empty numbered k =
       let n = w.next_ino in
       let new : knows m n ≡ false = k.known n ∙ elim (cases_Bool (is_live w n)) [ inl l ↦ let low = numbered n l in absurd (omega (arith, low)) | inr none ↦ none ] in
@@ -80,22 +84,22 @@ module _ {w begun : World} {m : Marked} {c : Progress} where
       (λ f l low. sym (ap is_some (insert-other w.files n x f (told_apart f n (λ e. omega (arith, e, low))))) ∙ l)
       (λ e. moves_add_file w x begun empty (begun_below k e)) (λ _. covers_add_file w x begun (is_marked m) (below c.visited) numbered) k
 
-  -- What is taken out of a queue is shaded where marking goes on.
-  kept_shaded_in : (fs : List ℕ) → ((f : ℕ) → Contains fs f → IsLive w f × (is_running c.stage ≡ true → ¬ (Garbage begun f))) → IsKept w begun m c → IsKept w begun (shaded_in c.stage fs m) c
+  -- The files taken out of a queue are shaded while marking.
+  kept_shaded_in : (fs : List ℕ) → ((f : ℕ) → Contains fs f → IsLive w f × (is_running c.stage ≡ true → ¬ (Garbage begun f))) → PassInvariant w begun m c → PassInvariant w begun (shaded_in c.stage fs m) c
   kept_shaded_in fs each k = by (is_marking c.stage) refl where
-    by : (b : Bool) → is_marking c.stage ≡ b → IsKept w begun (if b then shaded_all fs m else m) c
+    by : (b : Bool) → is_marking c.stage ≡ b → PassInvariant w begun (if b then shaded_all fs m else m) c
     by true e = kept_shaded_all fs m c e (λ f h. ((each f h).0, (each f h).1 (marking_runs c.stage e))) k
     by false e = k
 
 module _ {w begun : World} {m : Marked} {c : Progress} where
   -- Another limit of a process keeps what is kept.
-  pub kept_limited : (p n : ℕ) → IsKept w begun m c → IsKept (set_limit w p n) begun m c
+  pub kept_limited : (p n : ℕ) → PassInvariant w begun m c → PassInvariant (set_limit w p n) begun m c
   kept_limited p n k = kept_tables (set_limit w p n) refl refl (λ _. moves_limited begun w p n) (λ _. covers_limited begun w p n (is_marked m) (below c.visited)) k
 
-  module _ {j : Kept} (exact : IsExact w j) (s max : ℕ) (socket : is_none (socket_at w s) ≡ false) where
-    -- What is seen in the queue of a spared socket, which stays as it is, comes into a table at the lowest free numbers: that keeps what is kept.
-    pub kept_peeked : (n p : ℕ) (ns : List ℕ) → Spares (pass_of c.stage begun n) s → IsTrue (map.contains_key w.processes p) → (k : ℕ) × (ns ≡ lowest_free k (process_at w p)) → IsKept w begun m c
-        → IsKept (install_all w p (zip ns (taken_at w s max).attached)) begun m c
+  module _ {j : Tally} (exact : IsExact w j) (s max : ℕ) (socket : is_none (socket_at w s) ≡ false) where
+    -- A peek of a spared socket, installed at the lowest free descriptors, keeps the invariant.
+    pub kept_peeked : (n p : ℕ) (ns : List ℕ) → Spares (pass_of c.stage begun n) s → IsTrue (map.contains_key w.processes p) → (k : ℕ) × (ns ≡ lowest_free k (process_at w p)) → PassInvariant w begun m c
+        → PassInvariant (install_all w p (zip ns (taken_at w s max).attached)) begun m c
     kept_peeked n p ns spared there lowest k =
         let t = taken_at w s max in
         let none : (f : ℕ) → Contains t.attached f → is_running c.stage ≡ true → ¬ (Garbage begun f) = λ f h e. spared_running c.stage begun n f e (held_spared n s f k (taken_held w s max exact socket f h) spared) in
@@ -103,9 +107,9 @@ module _ {w begun : World} {m : Marked} {c : Progress} where
         kept_tables (install_all w p (zip ns t.attached)) (ap (λ (y : World). y.files) filled) (ap (λ (y : World). y.next_ino) filled)
         (λ e. moves_install_files begun w p ns t.attached (λ f h. none f h e)) (λ e. covers_install_lowest begun w p ns t.attached (is_marked m) (below c.visited) there lowest) k
 
-    -- What is taken out of the queue of a spared socket is shaded where marking goes on, and comes into a table at the lowest free numbers: that keeps what is kept.
-    pub kept_taken : (n p : ℕ) (ns : List ℕ) → Spares (pass_of c.stage begun n) s → IsTrue (map.contains_key w.processes p) → (k : ℕ) × (ns ≡ lowest_free k (process_at w p)) → IsKept w begun m c
-        → IsKept (install_all (with_queue w s (taken_at w s max).rest) p (zip ns (taken_at w s max).attached)) begun (shaded_in c.stage (taken_at w s max).attached m) c
+    -- A receive from a spared socket, whose files are shaded while marking and installed at the lowest free descriptors, keeps the invariant.
+    pub kept_taken : (n p : ℕ) (ns : List ℕ) → Spares (pass_of c.stage begun n) s → IsTrue (map.contains_key w.processes p) → (k : ℕ) × (ns ≡ lowest_free k (process_at w p)) → PassInvariant w begun m c
+        → PassInvariant (install_all (with_queue w s (taken_at w s max).rest) p (zip ns (taken_at w s max).attached)) begun (shaded_in c.stage (taken_at w s max).attached m) c
     kept_taken n p ns spared there lowest k =
         let x = unwrap_or (socket_at w s) no_socket in
         let at = is-socket w s socket in
@@ -117,7 +121,7 @@ module _ {w begun : World} {m : Marked} {c : Progress} where
         let live : (f : ℕ) → Contains t.attached f → IsLive w f = λ f h. exact.whole.queues_live s f (taken_held w s max exact socket f h) in
         let marked : (f : ℕ) → Contains t.attached f → is_marking c.stage ≡ true → IsLive begun f → is_marked o f ≡ true = λ f h e b.
         ap (λ a. is_marked (if a then shaded_all t.attached m else m) f) e ∙ marked_there t.attached f e h (live f h) k b in
-        let left : IsKept v begun o c = kept_socket s (λ y. record y { queue = t.rest })
+        let left : PassInvariant v begun o c = kept_socket s (λ y. record y { queue = t.rest })
         (λ e. moves_receive begun w s x max at within)
         (λ e. covers_receive begun w s x max at within (is_marked o) (below c.visited) (λ f h. (marked f h e, none f h (marking_runs c.stage e))))
         (kept_shaded_in t.attached (λ f h. (live f h, none f h)) k) in

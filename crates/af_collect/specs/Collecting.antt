@@ -1,4 +1,4 @@
--- What a whole pass does to a world.
+-- The effect of a whole pass on a world.
 use Rattle.std.specs.Prelude.{◌≡◌, ◌↔◌, ℕ, Bool, true}
 use Rattle.af_base.specs.World.{World}
 use Rattle.af_base.specs.Pass.{Purges}

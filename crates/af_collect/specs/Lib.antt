@@ -1,3 +1,3 @@
--- What a store shows, what its parts keep, and what a whole pass does.
+-- The view of a store, the invariant of its parts, and the effect of a whole pass.
 pub mod Collecting
 pub mod Shown

@@ -1,4 +1,4 @@
--- What a store shows, and what its parts keep.
+-- The view of a store, and the invariant of its parts. Definitions that name no manual page are of this project's profile (docs/PROFILE.md).
 use Rattle.std.specs.Prelude.{◌≡◌, ℕ, Bool, List, [], Option, None, Some, slice_get, true}
 use Rattle.std.specs.Option.{option_map_or}
 use Rattle.af_base.specs.declared.events.Reply.{Reply}
@@ -7,13 +7,13 @@ use Rattle.af_base.specs.Pass.{Pass}
 use Rattle.af_base.specs.Places.{queue_at}
 use Rattle.af_base.specs.World.{IsLive, Map, Since, World}
 use Rattle.af_table.specs.Procs.{row_in}
-use Rattle.af_hold.specs.Stored.{Stored}
+use Rattle.af_hold.specs.HoldingsView.{HoldingsView}
 use Rattle.af_mark.specs.Marked.{Marked, is_marked}
-use Rattle.af_pass.specs.Keeping.{IsKept, is_marking}
+use Rattle.af_pass.specs.Keeping.{PassInvariant, is_marking}
 use Rattle.af_pass.specs.declared.Progress.{Progress}
-use Rattle.af_collect.specs.declared.parts.Parts.{Parts}
+use Rattle.af_collect.specs.declared.parts.Collector.{Collector}
 
--- The world, below which number each table has room, whether there is room for a message more, the pass that runs, which files it has marked, how far it is, and what is told (this project's profile).
+-- The world, the size of each table, whether there is room for a message more, the running pass, its marks, its progress, and the reports.
 pub record Shown : Type 0 where
   pub world : World
   pub rows : Map ℕ
@@ -23,31 +23,31 @@ pub record Shown : Type 0 where
   pub progress : Progress
   pub since : Since
 
--- Below which number process p has room: below none, where there is no such process (this project's profile).
+-- Below which number process p has room: below none, where there is no such process.
 abbrev pub room_at : Shown → ℕ → ℕ
 room_at s p = row_in s.rows p
 
 -- All that is kept of the pass of these parts, with other holdings.
-abbrev pub AreKeptWith : Parts → Stored → Type 0
-AreKeptWith p s = IsKept s.world p.begun.value.world s.marks p.progress
+abbrev pub KeepsPassWith : Collector → HoldingsView → Type 0
+KeepsPassWith p s = PassInvariant s.world p.begun.value.world s.marks p.progress
 
 -- The same, with their own.
-abbrev pub AreKept : Parts → Type 0
-AreKept p = AreKeptWith p p.places
+abbrev pub KeepsPass : Collector → Type 0
+KeepsPass p = KeepsPassWith p p.places
 
 -- The same parts with these marks.
-abbrev pub with_marks : Marked → Parts → Parts
+abbrev pub with_marks : Marked → Collector → Collector
 with_marks m p = record p { places = record p.places { marks = m } }
 
--- Where a pass marks, each of these files that was there at its begin is marked (this project's profile).
-abbrev pub MarksAll : (ℕ → Type 0) → Parts → Parts → Type 0
+-- Where a pass marks, each of these files that was there at its begin is marked.
+abbrev pub MarksAll : (ℕ → Type 0) → Collector → Collector → Type 0
 MarksAll these old new = is_marking old.progress.stage ≡ true → (f : ℕ) → these f → IsLive old.begun.value.world f → is_marked new.places.marks f ≡ true
 
--- The reply to a slice: the pass goes on, or it is done, and so many sockets were garbage.
+-- The reply to a slice: the pass has work left, or it is done, and this many sockets were garbage.
 abbrev pub slice_reply : ℕ → Option ℕ → Reply
 slice_reply pass None = reply.Working
 slice_reply pass (Some n) = reply.Done pass n
 
--- What the first message of the queue of s carries (this project's profile).
+-- The files attached to the first message of the queue of s.
 abbrev pub first_attached : World → ℕ → List ℕ
 first_attached w s = option_map_or (λ m. m.attached) (slice_get (queue_at w s) 0) []

@@ -2,7 +2,7 @@
 ghost use Rattle.std.specs.Prelude.{◌≡◌};
 ghost use Rattle.std.specs.FinMap as map;
 ghost use Rattle.af_base.specs.World.{empty_world, untold};
-ghost use Rattle.af_base.specs.Refusals.{is_crowded};
+ghost use Rattle.af_base.specs.Refusals.{is_at_process_limit};
 
 use af_base::limits::{MAX_PID, MAX_PROCESSES};
 use af_desc::Files;
@@ -36,9 +36,9 @@ impl Drop for Holdings {
 impl Model for Holdings {
     ghost use Rattle.std.specs.FinMap as map;
     ghost use Rattle.std.specs.Coded.{codes};
-    ghost use Rattle.af_hold.specs.Stored.{AreExact, Stored, world_of};
+    ghost use Rattle.af_hold.specs.HoldingsView.{AreExact, HoldingsView, world_of};
 
-    ghost Value = { Stored };
+    ghost Value = { HoldingsView };
 
     ghost coded = { Prim.hlevel (codes, map.code) };
 
@@ -48,7 +48,7 @@ impl Model for Holdings {
 }
 
 impl Holdings {
-    /// Nothing at all. It takes no memory.
+    /// Makes empty holdings. Takes no memory.
     pub(crate) fn new(alloc: Global) -> Holdings
         ensures world { result.world ≡ empty_world }
         ensures marks { result.marks.colors ≡ map.empty }
@@ -62,9 +62,9 @@ impl Holdings {
         }
     }
 
-    /// Whether there can be no further process.
-    pub fn is_crowded(&self) -> bool
-        ensures { result ≡ is_crowded self.now.world }
+    /// Returns whether there can be no further process.
+    pub fn is_at_process_limit(&self) -> bool
+        ensures { result ≡ is_at_process_limit self.now.world }
     {
         self.procs.count() >= MAX_PROCESSES || self.procs.next_pid().0 > MAX_PID
     }

@@ -16,8 +16,8 @@ use af_queue::Queue;
 use std::alloc::{AllocError, Global};
 
 impl Holdings {
-    /// Plain lists of the tables, queues and backlogs as they stand, and whom each message is charged
-    /// to; no bytes, states, names or limits. The error says that memory was refused.
+    /// Returns plain lists of the tables, queues and backlogs, and the user charged for each
+    /// message; no bytes, states, names or limits. Fails only if memory is refused.
     pub fn listing(&self) -> Result<Listing, AllocError>
         ensures { IfOk result (λ l. l ≡ bare self.now.world) }
     {
@@ -26,7 +26,7 @@ impl Holdings {
         Listing::of(self.alloc, tables, files)
     }
 
-    /// The tables, by rising pid.
+    /// Returns the tables, by rising pid.
     fn listed_tables(&self) -> Result<Vec<ListedTable>, AllocError>
         ensures shown { IfOk result (λ tables. processes_of tables.items ≡ (bare self.now.world).processes) }
         ensures ordered { IfOk result (λ tables. AreTables tables.items) }
@@ -38,23 +38,23 @@ impl Holdings {
         Ok(tables)
     }
 
-    /// The live files, by rising inode number.
+    /// Returns the live files, by rising inode number.
     fn listed_files(&self) -> Result<Vec<ListedFile>, AllocError>
         ensures shown { IfOk result (λ files. files_of files.items ≡ (bare self.now.world).files) }
         ensures ordered { IfOk result (λ files. AreFiles files.items) }
     {
         let mut files = Vec::new(self.alloc);
         let mut last = Ino(0);
-        let mut near = 0;
-        while let Some((file, at)) = self.files.next_after(last, near) {
+        let mut order_hint = 0;
+        while let Some((file, at)) = self.files.next_after(last, order_hint) {
             files.push(self.listed_file(&file)?)?;
             last = file.ino();
-            near = at;
+            order_hint = at;
         }
         Ok(files)
     }
 
-    /// A live file, with what it has to receive and who waits at it.
+    /// Lists a live file, with its messages and embryos.
     fn listed_file(&self, file: &FileRef) -> Result<ListedFile, AllocError>
         requires { world.IsLive self.now.world file.now }
         ensures ino { IfOk result (λ x. x.ino ≡ file.now) }
@@ -72,7 +72,7 @@ impl Holdings {
     }
 }
 
-/// What a socket has to receive and who waits at it, as plain lists.
+/// Lists a socket's messages and embryos.
 fn listed_socket(alloc: Global, socket: &Socket) -> Result<ListedSocket, AllocError>
     requires { length socket.now.backlog ≤ MAX_BACKLOG }
     ensures shown { IfOk result (λ s. socket_of s ≡ bare_socket socket.now) }
@@ -84,13 +84,13 @@ fn listed_socket(alloc: Global, socket: &Socket) -> Result<ListedSocket, AllocEr
     })
 }
 
-/// What the messages of a queue carry, and whom each is charged to, in order.
+/// Lists the files attached to the messages of a queue, and the user charged for each, in order.
 fn listed_messages(alloc: Global, queue: &Queue) -> Result<Vec<ListedMessage>, AllocError>
     ensures shown { IfOk result (λ messages. map message_of messages.items ≡ map bare_message queue.now) }
     ensures few { IfOk result (λ messages. sum_by (λ m. length m.attached.items) messages.items ≤ MAX_MESSAGES * SCM_MAX_FD) }
 {
     let mut messages = Vec::with_capacity(alloc, queue.len())?;
-    let mut left = queue.again();
+    let mut left = queue.duplicate();
     while let Some((message, rest)) = left.split_first() {
         messages.push(ListedMessage {
             attached: numbers_of(alloc, message.attached())?,
@@ -101,7 +101,7 @@ fn listed_messages(alloc: Global, queue: &Queue) -> Result<Vec<ListedMessage>, A
     Ok(messages)
 }
 
-/// The numbers of the embryos that wait at a socket.
+/// Returns the numbers of the embryos that wait at a socket.
 fn numbers_waiting(alloc: Global, socket: &Socket) -> Result<Vec<Ino>, AllocError>
     ensures { IfOk result (λ inos. inos.items ≡ socket.now.backlog) }
 {
@@ -111,7 +111,7 @@ fn numbers_waiting(alloc: Global, socket: &Socket) -> Result<Vec<Ino>, AllocErro
     backlog.files().iter().map(|file| file.ino()).collect(alloc)
 }
 
-/// The numbers of these files.
+/// Returns the numbers of these files.
 fn numbers_of(alloc: Global, files: &[FileRef]) -> Result<Vec<Ino>, AllocError>
     ensures { IfOk result (λ inos. inos.items ≡ files.now) }
 {

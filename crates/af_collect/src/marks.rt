@@ -1,4 +1,4 @@
-//! What a pass of the collector marks. No call takes memory.
+//! The marks of a pass of the collector. No call takes memory.
 ghost use Rattle.std.specs.Prelude.{◌≡◌, ℕ, [], false, true};
 ghost use Rattle.af_base.specs.Counts.{tabled};
 ghost use Rattle.af_base.specs.Places.{held_by};
@@ -9,15 +9,15 @@ use crate::holdings::Holdings;
 use af_base::names::FileRef;
 
 impl Holdings {
-    /// A pass begins, over the files that are there: none is marked. It costs the same however many
-    /// there are, but for one time in 2^64.
-    pub(crate) fn unmark(&mut self)
+    /// Begins a pass over the present files: none is marked. Costs the same for any number of
+    /// files, but for one time in 2^64.
+    pub(crate) fn start_epoch(&mut self)
         ensures unmarked { (f : ℕ) → is_marked self.new.marks f ≡ false }
         ensures known { (f : ℕ) → knows self.new.marks f ≡ knows self.old.marks f }
         ensures bound { self.new.marks.bound ≡ self.old.world.next_ino }
         ensures rest { self.new ≡ record self.old { marks = self.new.marks } }
     {
-        self.files.unmark();
+        self.files.start_epoch();
     }
 
     /// Ends a pass: no file is marked.
@@ -28,7 +28,7 @@ impl Holdings {
         self.files.end_pass();
     }
 
-    /// A file is marked, and is to be scanned, if it was born before the pass and is not marked.
+    /// Marks a file grey, if it was born before the pass and is not marked.
     #[inline(always)]
     pub(crate) fn shade(&mut self, file: &FileRef)
         ensures { self.new ≡ record self.old { marks = shaded file.now self.old.marks } }
@@ -48,11 +48,11 @@ impl Holdings {
         self.files.visit(file, may_scan)
     }
 
-    /// A file that was to be scanned is so no more, and stays marked.
+    /// Makes a grey file black.
     #[inline(always)]
-    pub(crate) fn scanned(&mut self, file: &FileRef)
+    pub(crate) fn blacken(&mut self, file: &FileRef)
         ensures { self.new ≡ record self.old { marks = blackened file.now self.old.marks } }
     {
-        self.files.scanned(file);
+        self.files.blacken(file);
     }
 }

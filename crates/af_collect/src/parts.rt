@@ -10,7 +10,7 @@ ghost use Rattle.af_base.specs.Whole.{IsSound};
 ghost use Rattle.af_hold.specs.Losing.{places_at, without_place};
 ghost use Rattle.af_pass.specs.Keeping.{first_held, is_marking, is_running, is_sweeping, shaded_all};
 ghost use Rattle.af_mark.specs.Marked.{forgotten};
-ghost use Rattle.af_collect.specs.Shown.{AreKept, MarksAll, with_marks};
+ghost use Rattle.af_collect.specs.Shown.{KeepsPass, MarksAll, with_marks};
 
 use crate::holdings::Holdings;
 use crate::shading::{shade_embryo, shade_first};
@@ -20,17 +20,17 @@ use std::snapshot::Snapshot;
 
 /// The holdings, with what is marked, and how far a pass is.
 #[derive(Drop)]
-pub struct Parts {
+pub struct Collector {
     pub places: Holdings,
     /// The holdings when the pass began: for contracts alone.
     pub begun: Snapshot<Holdings>,
     pub progress: Progress,
-    /// Where in the order the file stands that a pass visited or swept last: a hint.
-    pub near: usize,
+    /// The position in the order of the file that a pass visited or swept last: a hint.
+    pub order_hint: usize,
 }
 
-impl Parts {
-    /// Whether marking goes on.
+impl Collector {
+    /// Returns whether a pass marks.
     #[inline(always)]
     pub fn is_marking(&self) -> bool
         ensures { result ≡ is_marking self.now.progress.stage }
@@ -38,19 +38,19 @@ impl Parts {
         matches!(self.progress.stage, Stage::Marking)
     }
 
-    /// Whether a pass runs.
+    /// Returns whether a pass runs.
     pub fn is_running(&self) -> bool
         ensures { result ≡ is_running self.now.progress.stage }
     {
         !matches!(self.progress.stage, Stage::Resting)
     }
 
-    /// Takes away what nothing holds, one file after another. Where marking goes on, what a file loses
-    /// is marked first; where sweeping does, the garbage that goes is counted.
+    /// Frees unheld files, one after another. While marking, it first marks the files that each one
+    /// loses; while sweeping, it counts the freed garbage.
     #[inline(never)]
     pub fn release(&mut self)
-        requires kept { AreKept self.old }
-        ensures kept { AreKept self.new }
+        requires kept { KeepsPass self.old }
+        ensures kept { KeepsPass self.new }
         ensures settles { Settles self.old.places.world self.new.places.world }
         ensures sound { IsSound self.new.places.world }
         ensures rows { self.new.places.rows ≡ self.old.places.rows }
@@ -68,30 +68,29 @@ impl Parts {
         }
     }
 
-    /// Drops the first place of a file that nothing holds. Where marking goes on, what stood there
-    /// is marked first.
+    /// Drops the first place of an unheld file. While marking, it first marks the file there.
     #[inline(always)]
     fn drop_place(&mut self, file: &FileRef)
-        requires kept { AreKept self.old }
+        requires kept { KeepsPass self.old }
         requires live { IsLive self.old.places.world file.now }
         requires unheld { refs self.old.places.world file.now ≡ 0 }
         requires some { 0 < places_at self.old.places.world file.now }
-        ensures kept { AreKept self.new }
+        ensures kept { KeepsPass self.new }
         ensures places { self.new.places ≡ record self.old.places { world = without_place self.old.places.world file.now; marks = self.new.places.marks; message_room = self.new.places.message_room } }
         ensures begun { self.new.begun ≡ self.old.begun }
         ensures progress { self.new.progress ≡ self.old.progress }
     {
-        // What a file holds is live: that is what a whole world says of places.
-        self.places.is_whole();
+        // A held file is live, as in each well-formed world.
+        self.places.lemma_is_whole();
         self.shade_first(file);
         self.places.drop_place(file);
     }
 
-    /// Marks what a number is about to lose, where marking goes on.
+    /// Marks the file that a descriptor is about to lose, while marking.
     #[inline(always)]
     pub fn shade_number(&mut self, pid: Pid, fd: Fd)
-        requires kept { AreKept self.old }
-        ensures kept { AreKept self.new }
+        requires kept { KeepsPass self.old }
+        ensures kept { KeepsPass self.new }
         ensures frame { self.new ≡ with_marks self.new.places.marks self.old }
         ensures marked { MarksAll (λ f. table_at self.old.places.world pid fd ≡ Some f) self.old self.new }
     {
@@ -100,15 +99,15 @@ impl Parts {
         }
         if let Some(file) = self.places.procs().lookup(pid, fd) {
             // Tables hold live files: that is what a whole world says of them.
-            self.places.is_whole();
+            self.places.lemma_is_whole();
             self.places.shade(&file);
         }
     }
 
-    /// Marks what a process is about to lose, where marking goes on.
+    /// Marks the files that a process is about to lose, while marking.
     pub fn shade_table(&mut self, pid: Pid)
-        requires kept { AreKept self.old }
-        ensures kept { AreKept self.new }
+        requires kept { KeepsPass self.old }
+        ensures kept { KeepsPass self.new }
         ensures frame { self.new ≡ with_marks self.new.places.marks self.old }
         ensures marked { MarksAll (λ f. (n : ℕ) × (table_at self.old.places.world pid n ≡ Some f)) self.old self.new }
     {
@@ -116,7 +115,7 @@ impl Parts {
             return;
         }
         // Tables hold live files: that is what a whole world says of them.
-        self.places.is_whole();
+        self.places.lemma_is_whole();
         let mut next = Fd(0);
         while let Some((fd, file)) = self.places.procs().next_open(pid, next) {
             self.places.shade(&file);
@@ -124,45 +123,45 @@ impl Parts {
         }
     }
 
-    /// Marks the embryo that a listener is about to lose, where marking goes on.
+    /// Marks the embryo that a listener is about to lose, while marking.
     pub fn shade_embryo(&mut self, listener: &FileRef)
-        requires kept { AreKept self.old }
+        requires kept { KeepsPass self.old }
         requires spared { is_running self.old.progress.stage ≡ true → ¬ (Garbage self.old.begun.value.world listener.now) }
-        ensures kept { AreKept self.new }
+        ensures kept { KeepsPass self.new }
         ensures frame { self.new ≡ with_marks self.new.places.marks self.old }
         ensures marked { MarksAll (λ f. slice_get (backlog_at self.old.places.world listener.now) 0 ≡ Some f) self.old self.new }
     {
         if self.is_marking() {
             // Backlogs hold live files: that is what a whole world says of them.
-            self.places.is_whole();
+            self.places.lemma_is_whole();
             shade_embryo(&mut self.places, listener, 0);
         }
     }
 
-    /// Marks what a file that nothing holds is about to lose, where marking goes on.
+    /// Marks the files that an unheld file is about to lose, while marking.
     fn shade_first(&mut self, file: &FileRef)
-        requires kept { AreKept self.old }
+        requires kept { KeepsPass self.old }
         requires live { IsLive self.old.places.world file.now }
         requires unheld { refs self.old.places.world file.now ≡ 0 }
-        ensures kept { AreKept self.new }
+        ensures kept { KeepsPass self.new }
         ensures frame { self.new ≡ with_marks self.new.places.marks self.old }
         ensures marked { is_marking self.old.progress.stage ≡ true → self.new.places.marks ≡ shaded_all (first_held self.old.places.world file.now) self.old.places.marks }
     {
         if self.is_marking() {
-            // What a file holds is live: that is what a whole world says of places.
-            self.places.is_whole();
+            // A held file is live, as in each well-formed world.
+            self.places.lemma_is_whole();
             shade_first(&mut self.places, file);
         }
     }
 
     /// Takes away a file that nothing holds, and that holds nothing.
     fn take_away(&mut self, file: &FileRef)
-        requires kept { AreKept self.old }
+        requires kept { KeepsPass self.old }
         requires live { IsLive self.old.places.world file.now }
         requires unheld { refs self.old.places.world file.now ≡ 0 }
         requires bare { held_by self.old.places.world file.now ≡ [] }
         requires silent { queue_at self.old.places.world file.now ≡ [] }
-        ensures kept { AreKept self.new }
+        ensures kept { KeepsPass self.new }
         ensures places { self.new.places ≡ record self.old.places { world = without (nat_eq file.now) self.old.places.world; marks = forgotten file.now self.old.places.marks } }
         ensures begun { self.new.begun ≡ self.old.begun }
         ensures progress { self.new.progress ≡ record self.old.progress { reclaimed = self.new.progress.reclaimed } }
@@ -171,8 +170,7 @@ impl Parts {
         self.tally(unmarked);
     }
 
-    /// Counts a socket that is gone as reclaimed, where sweeping goes on and the pass had still to
-    /// mark it.
+    /// Counts a freed socket as reclaimed, if the pass sweeps and had still to mark it.
     #[inline(always)]
     fn tally(&mut self, unmarked: bool)
         requires { is_sweeping self.old.progress.stage ≡ true → self.old.progress.reclaimed ≤ MAX_FILES }

@@ -1,11 +1,11 @@
-//! A pass of the collector: it begins, goes on by slices, and is done; or all of it at once.
+//! A pass of the collector: it begins, proceeds by slices, and is done; or runs whole.
 ghost use Rattle.std.specs.Prelude.{◌≡◌, ◌≤◌, ◌+◌, ℕ, false, true};
 ghost use Rattle.af_base.specs.World.{World};
 ghost use Rattle.af_base.specs.Pass.{Idle, Running, Slices};
 ghost use Rattle.af_base.specs.Unheld.{Settles};
 ghost use Rattle.af_base.specs.Whole.{IsSound};
 ghost use Rattle.af_mark.specs.Marked.{is_marked};
-ghost use Rattle.af_pass.specs.Keeping.{IsKept, runs};
+ghost use Rattle.af_pass.specs.Keeping.{PassInvariant, runs};
 ghost use Rattle.af_collect.specs.Collecting.{Collects};
 ghost use Rattle.af_collect.specs.Shown.{slice_reply};
 
@@ -14,7 +14,7 @@ use af_base::limits::MAX_BUDGET;
 use af_pass::Stage;
 
 impl Store {
-    /// Whether a pass runs.
+    /// Returns whether a pass runs.
     pub fn is_passing(&self) -> bool
         ensures { result ≡ runs self.now.pass }
     {
@@ -32,14 +32,14 @@ impl Store {
     /// Does nothing: it tells the prover what a pass that runs keeps between any two calls, of its
     /// marks and of how far it is.
     pub fn lemma_pass(&self)
-        ensures { (begun : World) (spent : ℕ) → self.now.pass ≡ Running begun spent → IsKept self.now.world begun self.now.marks self.now.progress }
+        ensures { (begun : World) (spent : ℕ) → self.now.pass ≡ Running begun spent → PassInvariant self.now.world begun self.now.marks self.now.progress }
     {
         // The invariant says it: it is enough to look at a field.
         let _parts = &self.parts;
     }
 
-    /// Begins a pass over the world as it stands: no file is marked yet, and none was looked at. It
-    /// costs the same however many files there are.
+    /// Begins a pass over the world: no file is marked yet, and none was looked at. Costs the same
+    /// for any number of files.
     pub fn begin(&mut self)
         requires idle { runs self.old.pass ≡ false }
         requires sound { IsSound self.old.world }
@@ -53,8 +53,8 @@ impl Store {
         self.parts.begin();
     }
 
-    /// The pass goes on by at most so many units, each of which visits, scans or sweeps one file. Where
-    /// it is done, how many sockets were garbage when it began.
+    /// Proceeds by at most this many units, each of which visits, scans or sweeps one file. If the
+    /// pass is done, returns how many sockets were garbage when it began.
     pub fn slice(&mut self, budget: u32) -> Option<u64>
         requires running { runs self.old.pass ≡ true }
         requires sound { IsSound self.old.world }
@@ -72,7 +72,7 @@ impl Store {
         Some(self.parts.progress.reclaimed)
     }
 
-    /// A whole pass: it begins, and goes on until it is done. How many sockets were garbage.
+    /// Runs a whole pass. Returns how many sockets were garbage.
     pub fn collect(&mut self) -> u64
         requires idle { runs self.old.pass ≡ false }
         requires sound { IsSound self.old.world }

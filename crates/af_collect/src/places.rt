@@ -1,8 +1,9 @@
 //! Place changes of single numbers and messages. Each is one change of the world, and keeps the
 //! counts in step with it. A file that lost its last place waits, with all that it holds, until
 //! `release` comes to it.
-ghost use Rattle.std.specs.Prelude.{◌≡◌, ◌<◌, ◌≤◌, ◌+◌, ◌∷◌, ◌^◌, [], ℕ, None, IsTrue, IfOk, OnOk, OnErr, length, map, drop, false, is_none, true};
+ghost use Rattle.std.specs.Prelude.{◌≡◌, ◌<◌, ◌≤◌, ◌+◌, ◌∷◌, ◌^◌, [], ℕ, None, IsTrue, IfOk, IfSome, OnOk, OnErr, length, map, drop, false, is_none, true};
 ghost use Rattle.std.specs.List.{zip, All, Contains};
+ghost use Rattle.std.specs.Option.{option_map_or};
 ghost use Rattle.std.specs.FinMap as finmap;
 ghost use Rattle.af_base.specs.World as world;
 ghost use Rattle.af_base.specs.Places.{queue_at, table_at};
@@ -15,19 +16,23 @@ ghost use Rattle.af_hold.specs.Limits.{IsBelowLimit, IsOfProcess};
 ghost use Rattle.af_hold.specs.Receiving.{taken_at};
 ghost use Rattle.af_pass.specs.Keeping.{Spares};
 ghost use Rattle.af_collect.specs.Shown.{room_at};
-ghost use Rattle.af_desc.specs.Filed.{received_of};
+ghost use Rattle.af_desc.specs.FilesView.{lowered, received_of};
+ghost use Rattle.af_ledger.specs.Counted.{IsCounted};
+ghost use Rattle.af_ledger.specs.Tally.{count_in_map};
+ghost use Rattle.af_ledger.specs.declared.place.Place.TheVariants.{Table};
 
 use crate::shading::shade_taken;
 use crate::store::Store;
 use af_base::limits::{MAX_INFLIGHT, MAX_MESSAGES};
 use af_base::names::{Fd, FileRef, Pid};
-use af_hold::{drop_all, hold_all, table_in_all};
+use af_desc::Files;
+use af_hold::{charge_message, table_in_all, uncharge_message};
 use af_ledger::Place;
 use af_queue::{Msg, Taken};
 use std::alloc::AllocError;
 
 impl Store {
-    /// A live file into a table, at a free number for which there is room. It takes no memory.
+    /// Installs a live file at a free descriptor for which there is room. Takes no memory.
     #[inline(always)]
     pub fn table_in(&mut self, pid: Pid, fd: Fd, file: FileRef)
         requires there { IsTrue (finmap.contains_key self.old.world.processes pid) }
@@ -39,11 +44,29 @@ impl Store {
         ensures { self.new ≡ record self.old { world = install self.old.world pid fd file } }
     {
         let places = &mut self.parts.places;
-        places.files.raise(&Place::Table, &file);
+        places.files.hold(&Place::Table, &file);
         places.procs.install(pid, fd, file);
     }
 
-    /// An open number of a process is free from now on. It takes no memory.
+    /// Puts a live file into a table, at a number for which there is room, in place of what the
+    /// number stood for (dup2(2)). It takes no memory.
+    #[inline(always)]
+    pub fn replace(&mut self, pid: Pid, fd: Fd, file: FileRef)
+        requires there { IsTrue (finmap.contains_key self.old.world.processes pid) }
+        requires row { fd < room_at self.old pid }
+        requires limit { IsBelowLimit self.old.world pid fd }
+        requires live { world.IsLive self.old.world file }
+        requires spared { Spares self.old.pass file }
+        ensures { self.new ≡ record self.old { world = install self.old.world pid fd file; marks = self.new.marks } }
+    {
+        self.parts.shade_number(pid, fd);
+        let places = &mut self.parts.places;
+        let was = places.procs.replace(pid, fd, file.duplicate());
+        lower_number(&mut places.files, was);
+        places.files.hold(&Place::Table, &file);
+    }
+
+    /// Closes an open descriptor of a process. Takes no memory.
     #[inline(always)]
     pub fn table_out(&mut self, pid: Pid, fd: Fd)
         requires { is_none (table_at self.old.world pid fd) ≡ false }
@@ -52,7 +75,7 @@ impl Store {
         self.parts.shade_number(pid, fd);
         let places = &mut self.parts.places;
         let file = places.procs.take_out(pid, fd).unwrap();
-        places.files.lower(&Place::Table, &file);
+        places.files.drop_one(&Place::Table, &file);
     }
 
     /// Appends a message to the queue of a socket. It carries live files, and each of these places is
@@ -69,7 +92,7 @@ impl Store {
         ensures { self.new ≡ record self.old { world = push_message self.old.world socket.now message; message_room = self.new.message_room } }
     {
         let places = &mut self.parts.places;
-        hold_all(
+        charge_message(
             &mut places.files,
             &mut places.ledger,
             message.user(),
@@ -78,9 +101,9 @@ impl Store {
         places.files.push(socket, message);
     }
 
-    /// What a receive of at most `max` bytes takes out of a queue (recvmsg(2)): its first files come
-    /// into a table, at these numbers, which are the lowest free ones, and all its places in the queue
-    /// are dropped. Memory is taken before anything changes: on an error nothing has changed.
+    /// Takes from a queue what a receive of at most `max` bytes gives (recvmsg(2)): installs its
+    /// first files at these descriptors, the lowest free ones, and drops all its places in the
+    /// queue. Takes memory before any change: on an error nothing has changed.
     pub fn take_msg(
         &mut self,
         socket: &FileRef,
@@ -103,7 +126,7 @@ impl Store {
         let attached = taken.attached();
         // Into the table first, so that no file waits in between.
         table_in_all(&mut places.procs, &mut places.files, pid, fds, attached);
-        drop_all(
+        uncharge_message(
             &mut places.files,
             &mut places.ledger,
             taken.user(),
@@ -113,9 +136,9 @@ impl Store {
         Ok(taken)
     }
 
-    /// What a receive of at most `max` bytes would take out of a queue, which stays as it is
-    /// (recvmsg(2), MSG_PEEK): its first files come into a table too, at these numbers, which are the
-    /// lowest free ones. Memory is taken before anything changes: on an error nothing has changed.
+    /// Copies what a receive of at most `max` bytes would take from a queue, which stays as it is
+    /// (recvmsg(2), MSG_PEEK): installs its first files at these descriptors, the lowest free ones.
+    /// Takes memory before any change: on an error nothing has changed.
     pub fn peek_msg(
         &mut self,
         socket: &FileRef,
@@ -144,5 +167,16 @@ impl Store {
             seen.attached(),
         );
         Ok(seen)
+    }
+}
+
+/// Counts one number less of the file that it stood for, if it stood for one. It takes no memory.
+#[inline(always)]
+fn lower_number(files: &mut Files, was: Option<FileRef>)
+    requires { IfSome was (λ f. IsCounted Table (count_in_map files.old.counts f)) }
+    ensures { files.new ≡ option_map_or (λ f. lowered Table f files.old) was files.old }
+{
+    if let Some(was) = was {
+        files.drop_one(&Place::Table, &was);
     }
 }

@@ -13,7 +13,7 @@ use af_desc::Files;
 use af_table::Procs;
 
 impl Holdings {
-    /// The processes with their tables.
+    /// Returns the processes with their tables.
     #[inline(always)]
     pub fn procs(&self) -> &Procs
         ensures processes { result.now.processes ≡ self.now.world.processes }
@@ -23,7 +23,7 @@ impl Holdings {
         &self.procs
     }
 
-    /// The files.
+    /// Returns the files.
     #[inline(always)]
     pub fn files(&self) -> &Files
         ensures files { result.now.files ≡ self.now.world.files }
@@ -34,9 +34,9 @@ impl Holdings {
         &self.files
     }
 
-    /// Nothing at run time: it says that at every moment, between any two calls, the world is whole
-    /// and within the limits.
-    pub(crate) fn is_whole(&self)
+    /// Does nothing at run time. Shows that at every moment, between any two calls, the world is
+    /// well-formed and within the limits.
+    pub(crate) fn lemma_is_whole(&self)
         ensures whole { IsWhole self.now.world }
         ensures within { IsWithin self.now.world }
     {
@@ -44,49 +44,49 @@ impl Holdings {
         let _ledger = &self.ledger;
     }
 
-    /// How many places hold the file; none holds a stranger.
+    /// Returns how many places hold the file; 0 for an unknown one.
     pub fn refs(&self, ino: Ino) -> u64
         ensures { result ≡ refs self.now.world ino }
     {
         self.files.refs(ino)
     }
 
-    /// How many places hold the file that stands there; none holds a stranger.
+    /// Returns how many places hold the file of this reference; 0 for an unknown one.
     pub fn refs_at(&self, file: &FileRef) -> u64
         ensures { result ≡ refs self.now.world file.now }
     {
         self.files.refs_at(file)
     }
 
-    /// How many numbers of all tables stand for the file.
+    /// Returns how many descriptors refer to the file.
     pub(crate) fn tabled(&self, file: &FileRef) -> u64
         ensures { result ≡ tabled self.now.world file.now }
     {
         self.files.tabled(file)
     }
 
-    /// How many places in queues hold the file.
+    /// Returns how many places in queues hold the file.
     pub fn inflight(&self, ino: Ino) -> u64
         ensures { result ≡ inflight self.now.world ino }
     {
         self.files.inflight(ino)
     }
 
-    /// How many places in queues hold the file that stands there.
+    /// Returns how many places in queues hold the file of this reference.
     pub fn inflight_at(&self, file: &FileRef) -> u64
         ensures { result ≡ inflight self.now.world file.now }
     {
         self.files.inflight_at(file)
     }
 
-    /// How many places in queues are charged to the user.
+    /// Returns how many places in queues are charged to the user.
     pub fn charged(&self, user: Uid) -> u64
         ensures { result ≡ charged self.now.world user }
     {
         self.ledger.charged(user)
     }
 
-    /// How many places in queues there are.
+    /// Returns how many places in queues there are.
     pub fn total(&self) -> u64
         ensures { result ≡ total self.now.world }
     {
@@ -102,22 +102,22 @@ impl Holdings {
         self.ledger.total() == 0 && !self.files.has_embryos()
     }
 
-    /// How many users there are: a user stays when its last process is gone.
+    /// Returns how many users there are: a user stays after its last process ended.
     pub fn users(&self) -> usize
         ensures { result ≡ length self.now.world.users }
     {
         self.ledger.users()
     }
 
-    /// The i-th user, from 0, in the order of their first process; nothing past the last.
+    /// Returns the i-th user, from 0, in the order of their first process, if there is one.
     pub fn user_at(&self, i: usize) -> Option<Uid>
         ensures { result ≡ slice_get self.now.world.users i }
     {
         self.ledger.user_at(i)
     }
 
-    /// Whether a user may send so many files by a process of this limit and privilege, or why not
-    /// (unix(7), ETOOMANYREFS).
+    /// Returns whether a user may send this many files by a process of this limit and privilege, or
+    /// why not (unix(7), ETOOMANYREFS).
     pub fn may_send(
         &self,
         uid: Uid,

@@ -1,4 +1,4 @@
-//! What nothing holds: it is emptied and taken away, one file and one place at a time, without memory.
+//! The freeing of unheld files, one file and one place at a time, without memory.
 ghost use Rattle.std.specs.Prelude.{◌≡◌, ◌<◌, [], IfSome, IfNone, IsTrue, drop, false, length, nat_eq, true};
 ghost use Rattle.af_base.specs.World.{IsLive, World};
 ghost use Rattle.af_base.specs.Counts.{refs};
@@ -6,7 +6,7 @@ ghost use Rattle.af_base.specs.Changes.{dequeued, with_queue, with_socket};
 ghost use Rattle.af_base.specs.Places.{backlog_at, held_by, queue_at, queue_in};
 ghost use Rattle.af_base.specs.Pass.{emptied};
 ghost use Rattle.af_base.specs.Unheld.{without};
-ghost use Rattle.af_desc.specs.Filed as desc;
+ghost use Rattle.af_desc.specs.FilesView as desc;
 ghost use Rattle.af_base.specs.Whole.{AreMutual, IsSound};
 ghost use Rattle.af_hold.specs.Losing.{places_at, without_place};
 ghost use Rattle.af_mark.specs.Marked.{forgotten};
@@ -14,12 +14,12 @@ ghost use Rattle.af_mark.specs.Marked.{forgotten};
 use crate::holdings::Holdings;
 use af_base::names::FileRef;
 use af_desc::Files;
-use af_hold::drop_all;
+use af_hold::uncharge_message;
 use af_ledger::Place;
 
 impl Holdings {
-    /// The first message of a queue goes, and its places with it. Whether there was one. It takes no
-    /// memory.
+    /// Removes the first message of a queue, and its places. Returns whether there was one. Takes
+    /// no memory.
     #[inline(always)]
     fn drop_first(&mut self, file: &FileRef) -> bool
         ensures world { self.new ≡ record self.old { world = with_queue self.old.world file.now (drop 1 (queue_at self.old.world file.now)); message_room = self.new.message_room } }
@@ -29,7 +29,7 @@ impl Holdings {
         let Some(message) = self.files.pop(file) else {
             return false;
         };
-        drop_all(
+        uncharge_message(
             &mut self.files,
             &mut self.ledger,
             message.user(),
@@ -38,8 +38,8 @@ impl Holdings {
         true
     }
 
-    /// The first embryo of a listener waits no more, and its place in the backlog goes. Whether one
-    /// waited. It takes no memory.
+    /// Removes the first embryo of a listener from its backlog. Returns whether there was one.
+    /// Takes no memory.
     #[inline(always)]
     fn drop_embryo(&mut self, file: &FileRef) -> bool
         ensures world { self.new ≡ record self.old { world = with_socket self.old.world file.now dequeued } }
@@ -49,12 +49,12 @@ impl Holdings {
         let Some(embryo) = self.files.dequeue(file) else {
             return false;
         };
-        self.files.lower(&Place::Backlog, &embryo);
+        self.files.drop_one(&Place::Backlog, &embryo);
         true
     }
 
-    /// The first message of a file goes, or, where it has none, its first embryo, and the places with
-    /// it. Whether the file had one of the two. It takes no memory.
+    /// Removes the first message of a file, or else its first embryo, and their places. Returns
+    /// whether the file had one of the two. Takes no memory.
     #[inline(always)]
     pub(crate) fn drop_place(&mut self, file: &FileRef) -> bool
         ensures world { self.new ≡ record self.old { world = without_place self.old.world file.now; message_room = self.new.message_room } }
@@ -79,14 +79,14 @@ impl Holdings {
         }
     }
 
-    /// All places that a file holds are dropped. It takes no memory.
+    /// Drops all places that a file holds. Takes no memory.
     pub(crate) fn empty(&mut self, file: &FileRef)
         ensures { self.new ≡ record self.old { world = emptied (nat_eq file.now) self.old.world; message_room = self.new.message_room } }
     {
         while self.drop_place(file) {}
     }
 
-    /// A live file that no place holds, if there is one.
+    /// Returns a live file that no place holds, if there is one.
     pub(crate) fn next_waiting(&self) -> Option<FileRef>
         ensures live { IfSome result (λ f. IsLive self.now.world f) }
         ensures unheld { IfSome result (λ f. refs self.now.world f ≡ 0) }
@@ -95,8 +95,8 @@ impl Holdings {
         self.files.next_waiting()
     }
 
-    /// A file that no place holds, and that holds nothing itself, goes, and its peer hangs up. Whether
-    /// it was a socket that the pass had still to mark.
+    /// Frees an unheld and empty file, and hangs up its peer. Returns whether it was a socket that
+    /// the pass had still to mark.
     pub(crate) fn take_away(&mut self, file: &FileRef) -> bool
         requires live { IsLive self.old.world file.now }
         requires unheld { refs self.old.world file.now ≡ 0 }
@@ -109,7 +109,7 @@ impl Holdings {
     }
 }
 
-/// A file, which has nothing to receive, goes, and its peer hangs up. Whether it was a socket that
+/// Frees a file whose queue is empty, and hangs up its peer. Returns whether it was a socket that
 /// the pass had still to mark.
 fn remove(files: &mut Files, file: &FileRef) -> bool
     requires silent { queue_in files.old.files file.now ≡ [] }

@@ -1,5 +1,5 @@
-//! What a file holds, or is about to lose, is marked. A mark stands beside the file that it is of, so
-//! what a file holds is looked up anew for each.
+//! Marks the files that a file holds, or is about to lose. A mark is kept in the row of its file,
+//! so each held file is looked up anew.
 ghost use Rattle.std.specs.Prelude.{◌≡◌, ◌≤◌, ◌*◌, [], drop, length, slice_get, take};
 ghost use Rattle.std.specs.Option.{option_map_or};
 ghost use Rattle.af_base.specs.Places.{backlog_at, carried, held_by, queue_at};
@@ -15,7 +15,7 @@ use af_pass::{Progress, Stage};
 use af_queue::BATCH;
 use arrayvec::ArrayVec;
 
-/// Marks what was taken out of a queue, where marking goes on.
+/// Marks the files that were taken out of a queue, while marking.
 pub fn shade_taken(progress: &Progress, files: &mut Files, taken: &[FileRef])
     ensures { files.new ≡ record files.old { marks = shaded_in progress.now.stage taken.now files.old.marks } }
 {
@@ -43,7 +43,7 @@ pub fn shade_held(places: &mut Holdings, file: &FileRef)
     shade_backlog(places, file);
 }
 
-/// Marks what the messages of the file's queue carry.
+/// Marks the files that the file's queue carries.
 #[tactic(auto, using(crate::proofs::Holding::carried_one))]
 #[inline(always)]
 fn shade_queue(places: &mut Holdings, file: &FileRef)
@@ -57,7 +57,7 @@ fn shade_queue(places: &mut Holdings, file: &FileRef)
     }
 }
 
-/// The same, some at a time.
+/// Marks the same, some at a time.
 #[inline(never)]
 fn shade_carried(places: &mut Holdings, file: &FileRef)
     ensures { places.new ≡ record places.old { marks = shaded_all (carried (queue_at places.old.world file.now)) places.old.marks } }
@@ -95,18 +95,19 @@ fn shade_backlog(places: &mut Holdings, file: &FileRef)
     }
 }
 
-/// Marks what the first message of the file's queue carries.
+/// Marks the files attached to the first message of the file's queue.
 #[inline(always)]
 fn shade_message(places: &mut Holdings, file: &FileRef)
     ensures { places.new ≡ record places.old { marks = shaded_all (first_attached places.old.world file.now) places.old.marks } }
 {
     for index in 0..attached(places, file).len() {
-        let held = attached(places, file)[index].again();
+        let held = attached(places, file)[index].duplicate();
         places.shade(&held);
     }
 }
 
-/// Marks what the file would lose first: what its first message carries, or else its first embryo.
+/// Marks the files that the file would lose first: those of its first message, or else its first
+/// embryo.
 #[tactic(auto, using(crate::proofs::Holding::carried_first))]
 pub fn shade_first(places: &mut Holdings, file: &FileRef)
     ensures { places.new ≡ record places.old { marks = shaded_all (first_held places.old.world file.now) places.old.marks } }
@@ -118,7 +119,7 @@ pub fn shade_first(places: &mut Holdings, file: &FileRef)
     }
 }
 
-/// Marks the embryo at this place of the file's backlog; nothing past the last.
+/// Marks the embryo at this position of the file's backlog, if there is one.
 #[tactic(auto, using(crate::proofs::Holding::first_left, crate::proofs::Holding::none_left))]
 #[inline(always)]
 pub fn shade_embryo(places: &mut Holdings, file: &FileRef, at: usize)
@@ -129,7 +130,7 @@ pub fn shade_embryo(places: &mut Holdings, file: &FileRef, at: usize)
     }
 }
 
-/// How many messages the file has to receive.
+/// Returns how many messages the file's queue has.
 #[inline(always)]
 fn messages(places: &Holdings, file: &FileRef) -> usize
     ensures { result ≡ length (queue_at places.now.world file.now) }
@@ -140,7 +141,7 @@ fn messages(places: &Holdings, file: &FileRef) -> usize
     }
 }
 
-/// How many embryos wait at the file.
+/// Returns how many embryos wait at the file.
 #[inline(always)]
 fn embryos(places: &Holdings, file: &FileRef) -> usize
     ensures { result ≡ length (backlog_at places.now.world file.now) }
@@ -154,7 +155,7 @@ fn embryos(places: &Holdings, file: &FileRef) -> usize
     }
 }
 
-/// What the messages of the file's queue carry, from this file on: 16 at most.
+/// Returns the files that the queue of the file carries, from this one on: 16 at most.
 #[inline(always)]
 fn carried(places: &Holdings, file: &FileRef, from: usize) -> ArrayVec<FileRef, BATCH>
     ensures files { result.items ≡ take BATCH (drop from (carried (queue_at places.now.world file.now))) }
@@ -166,7 +167,7 @@ fn carried(places: &Holdings, file: &FileRef, from: usize) -> ArrayVec<FileRef, 
     }
 }
 
-/// What the first message of the file's queue carries.
+/// Returns the files attached to the first message of the file's queue.
 #[inline(always)]
 fn attached<'a>(places: &'a Holdings, file: &FileRef) -> &'a [FileRef]
     ensures { result.now ≡ first_attached places.now.world file.now }
@@ -180,16 +181,16 @@ fn attached<'a>(places: &'a Holdings, file: &FileRef) -> &'a [FileRef]
     }
 }
 
-/// The embryo at this place of the file's backlog, if there is one.
+/// Returns the embryo at this position of the file's backlog, if there is one.
 #[inline(always)]
 fn embryo_at(places: &Holdings, file: &FileRef, at: usize) -> Option<FileRef>
     ensures { result ≡ slice_get (backlog_at places.now.world file.now) at }
 {
     let embryo = socket(places, file)?.backlog()?.files().get(at)?;
-    Some(embryo.again())
+    Some(embryo.duplicate())
 }
 
-/// The socket; a plain file and a stranger are none.
+/// Returns the socket; `None` for a plain or unknown file.
 #[inline(always)]
 fn socket<'a>(places: &'a Holdings, file: &FileRef) -> Option<Socket<'a>>
     ensures { result ≡ socket_at places.now.world file.now }

@@ -1,12 +1,12 @@
 //! Sockets that are made, named, made to listen and connected, and the embryos that wait to be
 //! accepted. Each call is one change of the world, and keeps the counts in step with it.
-ghost use Rattle.std.specs.Prelude.{◌≡◌, ◌<◌, ◌≤◌, ℕ, None, Some, IsTrue, IfOk, IfSome, OnOk, OnErr, length, false, is_none, slice_get, true};
+ghost use Rattle.std.specs.Prelude.{◌≡◌, ◌<◌, ◌≤◌, ℕ, None, Some, IsTrue, IfSome, OnOk, OnErr, length, false, is_none, slice_get, true};
 ghost use Rattle.std.specs.FinMap as finmap;
 ghost use Rattle.af_base.specs.World as world;
 ghost use Rattle.af_base.specs.Names.{is_name, named};
+ghost use Rattle.af_base.specs.Counts.{waiting};
 ghost use Rattle.af_base.specs.Places.{backlog_at, table_at};
 ghost use Rattle.af_base.specs.Changes.{add_file, bound, connected, dequeued, install, listening, queued, with_socket};
-ghost use Rattle.af_base.specs.Counts.{waiting};
 ghost use Rattle.af_base.specs.Refusals.{is_full, room_of, socket_at};
 ghost use Rattle.af_base.specs.Steps.{connected_socket, idle_socket};
 ghost use Rattle.af_hold.specs.Limits.{IsBelowLimit};
@@ -15,44 +15,32 @@ ghost use Rattle.af_collect.specs.Shown.{room_at};
 
 use crate::store::Store;
 use af_base::events::{SockType, State};
-use af_base::items::Items;
 use af_base::limits::MAX_BACKLOG;
 use af_base::names::{Fd, FileRef, Pid};
 use af_ledger::Place;
 use std::alloc::AllocError;
 
 impl Store {
-    /// A socket more that was never connected, which waits for its first place (socket(2)). On an
+    /// Makes a socket that was never connected, at a free descriptor for which there is room
+    /// (socket(2)). On an error nothing has changed.
+    pub fn make_sock(&mut self, kind: SockType, pid: Pid, fd: Fd) -> Result<(), AllocError>
+        requires full { is_full self.old.world 1 ≡ false }
+        requires there { IsTrue (finmap.contains_key self.old.world.processes pid) }
+        requires row { fd < room_at self.old pid }
+        requires limit { IsBelowLimit self.old.world pid fd }
+        requires free { table_at self.old.world pid fd ≡ None }
+        ensures ok { OnOk result (self.new ≡ record self.old { world = install (add_file self.old.world (world.AsSocket (idle_socket kind))) pid fd self.old.world.next_ino; marks = self.new.marks }) }
+        ensures err { OnErr result (self.new ≡ self.old) }
+    {
+        let places = &mut self.parts.places;
+        let file = places.files.make_sock(kind, &Place::Table)?;
+        places.procs.install(pid, fd, file);
+        Ok(())
+    }
+
+    /// Gives a socket that has no name and never listened this one, which is free (bind(2)). On an
     /// error nothing has changed.
-    pub fn make_sock(&mut self, kind: SockType) -> Result<FileRef, AllocError>
-        requires { is_full self.old.world 1 ≡ false }
-        ensures ok { OnOk result (self.new ≡ record self.old { world = add_file self.old.world (world.AsSocket (idle_socket kind)); marks = self.new.marks }) }
-        ensures ino { IfOk result (λ ino. ino ≡ self.old.world.next_ino) }
-        ensures spared { IfOk result (λ ino. Spares self.new.pass ino) }
-        ensures err { OnErr result (self.new ≡ self.old) }
-    {
-        let places = &mut self.parts.places;
-        places.files.make_sock(kind)
-    }
-
-    /// An embryo: a socket more, and this client, which was never connected, are connected to each
-    /// other (connect(2)). It waits for its place in a backlog. On an error nothing has changed.
-    pub fn make_embryo(&mut self, kind: SockType, client: &FileRef) -> Result<FileRef, AllocError>
-        requires room { is_full self.old.world 1 ≡ false }
-        requires socket { is_none (socket_at self.old.world client.now) ≡ false }
-        requires idle { IfSome (socket_at self.old.world client.now) (λ s. s.state ≡ State.Idle) }
-        ensures ok { OnOk result (self.new ≡ record self.old { world = with_socket (add_file self.old.world (world.AsSocket (connected_socket kind client.now))) client.now (connected self.old.world.next_ino); marks = self.new.marks }) }
-        ensures ino { IfOk result (λ ino. ino ≡ self.old.world.next_ino) }
-        ensures spared { IfOk result (λ ino. Spares self.new.pass ino) }
-        ensures err { OnErr result (self.new ≡ self.old) }
-    {
-        let places = &mut self.parts.places;
-        places.files.make_embryo(kind, client)
-    }
-
-    /// A socket that has no name and never listened has this one from now on, which is nobody's
-    /// (bind(2)). On an error nothing has changed.
-    pub fn bind(&mut self, socket: &FileRef, name: &Items<u8>) -> Result<(), AllocError>
+    pub fn bind(&mut self, socket: &FileRef, name: &[u8]) -> Result<(), AllocError>
         requires nameless { IfSome (socket_at self.old.world socket.now) (λ s. s.name ≡ None) }
         requires name { is_name name.now ≡ true }
         requires free { named self.old.world.files name.now ≡ None }
@@ -77,7 +65,30 @@ impl Store {
         places.files.listen(socket, most)
     }
 
-    /// An embryo into the backlog of a listener that has room for it, last. It takes no memory.
+    /// Makes an embryo: a socket that is connected to this client, which was never connected, and
+    /// the client to it. Appends it to the backlog of a listener that has room for it (connect(2)).
+    /// On an error nothing has changed.
+    pub fn make_embryo(
+        &mut self,
+        kind: SockType,
+        client: &FileRef,
+        listener: &FileRef,
+    ) -> Result<(), AllocError>
+        requires full { is_full self.old.world 1 ≡ false }
+        requires client { is_none (socket_at self.old.world client.now) ≡ false }
+        requires idle { IfSome (socket_at self.old.world client.now) (λ s. s.state ≡ State.Idle) }
+        requires listener { is_none (socket_at self.old.world listener.now) ≡ false }
+        requires room { IfSome (socket_at self.old.world listener.now) (λ s. length s.backlog < room_of s.state) }
+        ensures ok { OnOk result (self.new ≡ record self.old { world = with_socket (with_socket (add_file self.old.world (world.AsSocket (connected_socket kind client.now))) client.now (connected self.old.world.next_ino)) listener.now (queued self.old.world.next_ino); marks = self.new.marks }) }
+        ensures err { OnErr result (self.new ≡ self.old) }
+    {
+        let places = &mut self.parts.places;
+        let embryo = places.files.make_embryo(kind, client, &Place::Backlog)?;
+        places.files.enqueue(listener, embryo);
+        Ok(())
+    }
+
+    /// Appends an embryo to the backlog of a listener that has room for it. Takes no memory.
     pub fn put_embryo(&mut self, listener: &FileRef, embryo: FileRef)
         requires live { world.IsLive self.old.world embryo }
         requires spared { Spares self.old.pass embryo }
@@ -87,12 +98,12 @@ impl Store {
         ensures { self.new ≡ record self.old { world = with_socket self.old.world listener.now (queued embryo) } }
     {
         let places = &mut self.parts.places;
-        places.files.raise(&Place::Backlog, &embryo);
+        places.files.hold(&Place::Backlog, &embryo);
         places.files.enqueue(listener, embryo);
     }
 
-    /// The first embryo of a listener out of its backlog and into a table, at a free number for which
-    /// there is room (accept(2)). It takes no memory.
+    /// Moves the first embryo of a listener out of its backlog and into a table, at a free
+    /// descriptor for which there is room (accept(2)). Takes no memory.
     pub fn take_embryo(&mut self, listener: &FileRef, pid: Pid, fd: Fd)
         requires there { IsTrue (finmap.contains_key self.old.world.processes pid) }
         requires row { fd < room_at self.old pid }
@@ -106,8 +117,8 @@ impl Store {
         let places = &mut self.parts.places;
         let embryo = places.files.dequeue(listener).unwrap();
         // Into the table first, so that it does not wait in between.
-        places.files.raise(&Place::Table, &embryo);
-        places.files.lower(&Place::Backlog, &embryo);
+        places.files.hold(&Place::Table, &embryo);
+        places.files.drop_one(&Place::Backlog, &embryo);
         places.procs.install(pid, fd, embryo);
     }
 }

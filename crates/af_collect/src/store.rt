@@ -1,21 +1,24 @@
 //! All that is there, and beside it the pass that runs.
-ghost use Rattle.std.specs.Prelude.{◌≡◌, ◌<◌, ◌≤◌, ◌+◌, ℕ, false, None, Some, IsTrue, IsOk, IfOk, OnOk, OnErr, true};
+ghost use Rattle.std.specs.Prelude.{◌≡◌, ◌<◌, ◌≤◌, ◌+◌, ◌∷◌, [], false, None, Some, IsTrue, IsOk, IfOk, OnOk, OnErr, true};
 ghost use Rattle.std.specs.FinMap as map;
 ghost use Rattle.af_base.specs.World.{Plain, empty_world, untold};
-ghost use Rattle.af_base.specs.Changes.{add_file, add_process, remove_process, set_limit};
+ghost use Rattle.af_base.specs.Changes.{add_file, add_process, install, remove_process, set_limit};
 ghost use Rattle.af_base.specs.Pass.{Idle};
-ghost use Rattle.af_base.specs.Refusals.{is_full, is_crowded, process_at};
+ghost use Rattle.af_base.specs.Places.{table_at};
+ghost use Rattle.af_base.specs.Refusals.{is_full, is_at_process_limit, process_at};
 ghost use Rattle.af_base.specs.Steps.{spawned, with_pair};
+ghost use Rattle.af_base.specs.Table.{lowest_free};
 ghost use Rattle.af_base.specs.Told.{AreChanged, TellsReleased};
-ghost use Rattle.af_pass.specs.Keeping.{Spares};
+ghost use Rattle.af_hold.specs.Limits.{IsBelowLimit};
 ghost use Rattle.af_collect.specs.Shown.{room_at};
 
 use crate::holdings::Holdings;
-use crate::parts::Parts;
+use crate::parts::Collector;
 use af_base::events::SockType;
 use af_base::limits::MAX_NOFILE;
-use af_base::names::{FileRef, Ino, Pid, Uid};
-use af_hold::{drop_numbers, hold_numbers};
+use af_base::names::{Fd, FileRef, Ino, Pid, Uid};
+use af_hold::{ref_table, unref_table};
+use af_ledger::Place;
 use af_pass::{Progress, Stage};
 use std::alloc::{AllocError, Global};
 use std::marker::Model;
@@ -24,7 +27,7 @@ use std::snapshot::Snapshot;
 /// The processes with their tables, the files, how many places hold each file, and the pass of the
 /// collector, if one runs.
 pub struct Store {
-    pub(crate) parts: Parts,
+    pub(crate) parts: Collector,
 }
 
 /// It is written out, and not derived, so that what owns a store has one call where it drops it.
@@ -38,7 +41,7 @@ impl Model for Store {
     ghost use Rattle.std.specs.FinMap as map;
     ghost use Rattle.std.specs.Coded.{codes};
     ghost use Rattle.af_pass.specs.Keeping.{pass_of};
-    ghost use Rattle.af_collect.specs.Shown.{AreKept, Shown};
+    ghost use Rattle.af_collect.specs.Shown.{KeepsPass, Shown};
 
     ghost Value = { Shown };
 
@@ -46,11 +49,11 @@ impl Model for Store {
 
     ghost view = { λ s. record { world = s.parts.places.world; rows = s.parts.places.rows; message_room = s.parts.places.message_room; pass = pass_of s.parts.progress.stage s.parts.begun.value.world s.parts.progress.looked; marks = s.parts.places.marks; progress = s.parts.progress; since = s.parts.places.since } };
 
-    ghost invariant = { λ s. AreKept s.parts };
+    ghost invariant = { λ s. KeepsPass s.parts };
 }
 
 impl Store {
-    /// Nothing at all. It takes no memory.
+    /// Makes an empty store. Takes no memory.
     pub fn new(alloc: Global) -> Store
         ensures world { result.world ≡ empty_world }
         ensures since { result.since ≡ untold }
@@ -59,7 +62,7 @@ impl Store {
         let places = Holdings::new(alloc);
         let begun = Snapshot::of(&places);
         Store {
-            parts: Parts {
+            parts: Collector {
                 places,
                 begun,
                 progress: Progress {
@@ -69,15 +72,15 @@ impl Store {
                     looked: 0,
                     reclaimed: 0,
                 },
-                near: 0,
+                order_hint: 0,
             },
         }
     }
 
-    /// A process more, with an empty table. On an error nothing has changed.
+    /// Starts a process with an empty table. On an error nothing has changed.
     pub fn spawn(&mut self, uid: Uid, limit: u32, privileged: bool) -> Result<Pid, AllocError>
         requires limit { limit ≤ MAX_NOFILE }
-        requires room { is_crowded self.old.world ≡ false }
+        requires room { is_at_process_limit self.old.world ≡ false }
         ensures ok { OnOk result (self.new.world ≡ spawned self.old.world uid limit privileged) }
         ensures pass { self.new.pass ≡ self.old.pass }
         ensures since { self.new.since ≡ self.old.since }
@@ -92,8 +95,8 @@ impl Store {
         Ok(places.procs.spawn(uid, limit, privileged))
     }
 
-    /// A process has this limit on its descriptors from now on (setrlimit(2), RLIMIT_NOFILE); no number
-    /// of it is closed. It takes no memory.
+    /// Sets a process's limit on descriptors (setrlimit(2), RLIMIT_NOFILE); none is closed. Takes
+    /// no memory.
     pub fn set_limit(&mut self, pid: Pid, limit: u32)
         requires { limit ≤ MAX_NOFILE }
         ensures { self.new ≡ record self.old { world = set_limit self.old.world pid limit } }
@@ -102,8 +105,8 @@ impl Store {
         places.procs.set_limit(pid, limit);
     }
 
-    /// Room to take so many numbers of the process into use. Where its row is as long as its limit,
-    /// or none is to come, it needs no memory.
+    /// Reserves room to install this many descriptors of the process. Needs no memory if its table
+    /// is as long as its limit, or none is to come.
     #[inline(always)]
     pub fn room_for(&mut self, pid: Pid, count: usize) -> Result<(), AllocError>
         ensures world { self.new.world ≡ self.old.world }
@@ -150,16 +153,16 @@ impl Store {
         places.files.tell_changed()
     }
 
-    /// Returns the numbers of the files that were freed since the lists were emptied last, each once,
-    /// where that is told.
+    /// Returns the numbers of the files that were freed since the lists were last emptied, each
+    /// once, if that list is kept.
     pub fn released(&self) -> &[Ino]
         ensures { TellsReleased self.now.world self.now.since result.now }
     {
         self.parts.places.files().released()
     }
 
-    /// Returns the sockets whose readiness may have changed since the lists were emptied last, each
-    /// once, where that is told.
+    /// Returns the sockets whose readiness may have changed since the lists were last emptied, each
+    /// once, if that list is kept.
     pub fn changed(&self) -> &[FileRef]
         ensures { self.now.since.changed ≡ true → AreChanged self.now.world.files self.now.since result.now }
     {
@@ -174,37 +177,51 @@ impl Store {
         places.files.clear_told();
     }
 
-    /// A plain file more, which waits for its first place: without one, `release` takes it away. On
-    /// an error nothing has changed.
-    pub fn make_plain(&mut self) -> Result<FileRef, AllocError>
-        requires { is_full self.old.world 1 ≡ false }
-        ensures ok { OnOk result (self.new ≡ record self.old { world = add_file self.old.world Plain; marks = self.new.marks }) }
-        ensures ino { IfOk result (λ ino. ino ≡ self.old.world.next_ino) }
-        ensures spared { IfOk result (λ ino. Spares self.new.pass ino) }
+    /// Makes a plain file, at a free descriptor for which there is room (open(2)). On an error
+    /// nothing has changed.
+    pub fn make_plain(&mut self, pid: Pid, fd: Fd) -> Result<(), AllocError>
+        requires full { is_full self.old.world 1 ≡ false }
+        requires there { IsTrue (map.contains_key self.old.world.processes pid) }
+        requires row { fd < room_at self.old pid }
+        requires limit { IsBelowLimit self.old.world pid fd }
+        requires free { table_at self.old.world pid fd ≡ None }
+        ensures ok { OnOk result (self.new ≡ record self.old { world = install (add_file self.old.world Plain) pid fd self.old.world.next_ino; marks = self.new.marks }) }
         ensures err { OnErr result (self.new ≡ self.old) }
     {
         let places = &mut self.parts.places;
-        places.files.make_plain()
+        let file = places.files.make_plain(&Place::Table)?;
+        places.procs.install(pid, fd, file);
+        Ok(())
     }
 
-    /// Two sockets more, connected to each other, which wait for their first places. Both or, on an
-    /// error, none, and nothing has changed.
-    pub fn make_two(&mut self, kind: SockType) -> Result<(FileRef, FileRef), AllocError>
-        requires { is_full self.old.world 2 ≡ false }
-        ensures ok { OnOk result (self.new ≡ record self.old { world = with_pair self.old.world kind; marks = self.new.marks }) }
-        ensures inos { IfOk result (λ both. (both.0 ≡ self.old.world.next_ino) × (both.1 ≡ self.old.world.next_ino + 1)) }
-        ensures spared { IfOk result (λ both. Spares self.new.pass both.0 × Spares self.new.pass both.1) }
+    /// Makes two sockets that are connected to each other, at the two lowest free descriptors, for
+    /// which there is room (socketpair(2)). On an error it makes none, and nothing has changed.
+    pub fn make_two(
+        &mut self,
+        kind: SockType,
+        pid: Pid,
+        lower: Fd,
+        higher: Fd,
+    ) -> Result<(), AllocError>
+        requires full { is_full self.old.world 2 ≡ false }
+        requires there { IsTrue (map.contains_key self.old.world.processes pid) }
+        requires lowest { lower ∷ higher ∷ [] ≡ lowest_free 2 (process_at self.old.world pid) }
+        requires row { (lower < room_at self.old pid) × (higher < room_at self.old pid) }
+        ensures ok { OnOk result (self.new ≡ record self.old { world = install (install (with_pair self.old.world kind) pid lower self.old.world.next_ino) pid higher (self.old.world.next_ino + 1); marks = self.new.marks }) }
         ensures err { OnErr result (self.new ≡ self.old) }
     {
         let places = &mut self.parts.places;
-        places.files.make_two(kind)
+        let (first, second) = places.files.make_two(kind, &Place::Table)?;
+        places.procs.install(pid, lower, first);
+        places.procs.install(pid, higher, second);
+        Ok(())
     }
 
-    /// A process more, by a fork: of the same user, with the same limit and privilege, and the same
-    /// open numbers. On an error nothing has changed.
+    /// Starts a process by a fork: of the same user, with the same limit and privilege, and the
+    /// same open descriptors. On an error nothing has changed.
     pub fn copy_for_fork(&mut self, pid: Pid) -> Result<Pid, AllocError>
         requires there { IsTrue (map.contains_key self.old.world.processes pid) }
-        requires room { is_crowded self.old.world ≡ false }
+        requires room { is_at_process_limit self.old.world ≡ false }
         ensures ok { OnOk result (self.new.world ≡ add_process self.old.world (process_at self.old.world pid)) }
         ensures pass { self.new.pass ≡ self.old.pass }
         ensures since { self.new.since ≡ self.old.since }
@@ -215,11 +232,11 @@ impl Store {
     {
         let places = &mut self.parts.places;
         let child = places.procs.copy_for_fork(pid)?;
-        hold_numbers(&mut places.files, &child);
+        ref_table(&mut places.files, &child);
         Ok(places.procs.add(child))
     }
 
-    /// A process goes, and all its numbers are free. It takes no memory.
+    /// Ends a process, and frees all its descriptors. Takes no memory.
     pub fn remove_process(&mut self, pid: Pid)
         ensures world { self.new.world ≡ remove_process self.old.world pid }
         ensures pass { self.new.pass ≡ self.old.pass }
@@ -231,6 +248,6 @@ impl Store {
         let Some(process) = places.procs.remove(pid) else {
             return;
         };
-        drop_numbers(&mut places.files, &process);
+        unref_table(&mut places.files, &process);
     }
 }

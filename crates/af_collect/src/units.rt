@@ -7,21 +7,21 @@ ghost use Rattle.af_mark.specs.Marked.{is_grey, is_marked};
 ghost use Rattle.af_pass.specs.declared.Stage.TheVariants as stage;
 ghost use Rattle.af_pass.specs.Keeping.{is_running};
 ghost use Rattle.af_pass.specs.Purged.{ArePurged};
-ghost use Rattle.af_collect.specs.Shown.{AreKept};
+ghost use Rattle.af_collect.specs.Shown.{KeepsPass};
 
-use crate::parts::Parts;
+use crate::parts::Collector;
 use crate::shading::shade_held;
 use af_base::names::{FileRef, Ino};
 use af_pass::{Progress, Stage};
 use std::snapshot::Snapshot;
 
-impl Parts {
+impl Collector {
     /// Begins a pass over the files that are there: none is marked. It costs the same however many
     /// there are.
     pub fn begin(&mut self)
-        requires kept { AreKept self.old }
+        requires kept { KeepsPass self.old }
         requires sound { IsSound self.old.places.world }
-        ensures kept { AreKept self.new }
+        ensures kept { KeepsPass self.new }
         ensures places { self.new.places ≡ record self.old.places { marks = self.new.places.marks } }
         ensures begun { self.new.begun.value ≡ self.old.places }
         ensures stage { self.new.progress.stage ≡ stage.Marking }
@@ -29,7 +29,7 @@ impl Parts {
         ensures unmarked { (f : ℕ) → is_marked self.new.places.marks f ≡ false }
     {
         self.begun = Snapshot::of(&self.places);
-        self.places.unmark();
+        self.places.start_epoch();
         self.progress = Progress {
             stage: Stage::Marking,
             visited: 0,
@@ -43,10 +43,10 @@ impl Parts {
     /// of its begin is left, and the number of reclaimed sockets is the number of those that were
     /// garbage.
     pub fn units(&mut self, budget: u32) -> bool
-        requires kept { AreKept self.old }
+        requires kept { KeepsPass self.old }
         requires running { is_running self.old.progress.stage ≡ true }
         requires sound { IsSound self.old.places.world }
-        ensures kept { AreKept self.new }
+        ensures kept { KeepsPass self.new }
         ensures running { is_running self.new.progress.stage ≡ true }
         ensures sound { IsSound self.new.places.world }
         ensures rows { self.new.places.rows ≡ self.old.places.rows }
@@ -78,11 +78,11 @@ impl Parts {
     /// how many, 0 where the pass is over.
     #[inline(always)]
     fn unit(&mut self, left: u32) -> u32
-        requires kept { AreKept self.old }
+        requires kept { KeepsPass self.old }
         requires running { is_running self.old.progress.stage ≡ true }
         requires sound { IsSound self.old.places.world }
         requires some { 0 < left }
-        ensures kept { AreKept self.new }
+        ensures kept { KeepsPass self.new }
         ensures running { is_running self.new.progress.stage ≡ true }
         ensures sound { IsSound self.new.places.world }
         ensures rows { self.new.places.rows ≡ self.old.places.rows }
@@ -111,11 +111,11 @@ impl Parts {
     /// then sweeping begins.
     #[inline(always)]
     fn mark_on(&mut self, left: u32) -> u32
-        requires kept { AreKept self.old }
+        requires kept { KeepsPass self.old }
         requires marking { self.old.progress.stage ≡ stage.Marking }
         requires sound { IsSound self.old.places.world }
         requires some { 0 < left }
-        ensures kept { AreKept self.new }
+        ensures kept { KeepsPass self.new }
         ensures places { self.new.places ≡ record self.old.places { marks = self.new.places.marks } }
         ensures begun { self.new.begun ≡ self.old.begun }
         ensures few { result ≤ left }
@@ -124,7 +124,7 @@ impl Parts {
         ensures over { result ≡ 0 → self.new.progress.stage ≡ stage.Sweeping }
     {
         if let Some((file, at)) = self.next_from(self.progress.visited) {
-            self.near = at;
+            self.order_hint = at;
             return self.visit(&file, left);
         }
         if let Some(file) = self.places.files().next_grey() {
@@ -138,10 +138,10 @@ impl Parts {
 
     /// Does one unit of sweeping. Returns how many it did, 0 where all is swept.
     fn sweep_on(&mut self) -> u32
-        requires kept { AreKept self.old }
+        requires kept { KeepsPass self.old }
         requires sweeping { self.old.progress.stage ≡ stage.Sweeping }
         requires sound { IsSound self.old.places.world }
-        ensures kept { AreKept self.new }
+        ensures kept { KeepsPass self.new }
         ensures sound { IsSound self.new.places.world }
         ensures rows { self.new.places.rows ≡ self.old.places.rows }
         ensures since { self.new.places.since ≡ self.old.places.since }
@@ -156,13 +156,13 @@ impl Parts {
         let Some((file, at)) = self.next_from(self.progress.swept) else {
             return 0;
         };
-        self.near = at;
+        self.order_hint = at;
         self.sweep(&file);
         1
     }
 
-    /// The live file with the least number from this one on, of those that the pass goes over, and
-    /// where it stands in the order.
+    /// Returns the live file with the least number from this one on, among those of the pass, and
+    /// its position in the order.
     #[inline(always)]
     fn next_from(&self, from: u64) -> Option<(FileRef, usize)>
         ensures live { IfSome result (λ f. IsLive self.now.places.world f.0) }
@@ -175,7 +175,7 @@ impl Parts {
             return None;
         }
         let before = Ino(from.saturating_sub(1));
-        let (file, at) = self.places.files().next_after(before, self.near)?;
+        let (file, at) = self.places.files().next_after(before, self.order_hint)?;
         if file.ino() >= bound {
             return None;
         }
@@ -186,20 +186,20 @@ impl Parts {
     /// and two units are left. Returns how many units that was.
     #[inline(always)]
     fn visit(&mut self, file: &FileRef, left: u32) -> u32
-        requires kept { AreKept self.old }
+        requires kept { KeepsPass self.old }
         requires marking { self.old.progress.stage ≡ stage.Marking }
         requires some { 0 < left }
         requires live { IsLive self.old.places.world file.now }
         requires within { (self.old.progress.visited ≤ file.now) × (file.now < self.old.places.marks.bound) }
         requires least { (g : ℕ) → self.old.progress.visited ≤ g → g < file.now → is_live self.old.places.world g ≡ false }
-        ensures kept { AreKept self.new }
+        ensures kept { KeepsPass self.new }
         ensures places { self.new.places ≡ record self.old.places { marks = self.new.places.marks } }
         ensures begun { self.new.begun ≡ self.old.begun }
         ensures units { (0 < result) × (result ≤ left) }
         ensures progress { self.new.progress ≡ record self.old.progress { visited = file.now + 1; looked = self.old.progress.looked + result } }
     {
         // Files' numbers are below the next one: that is what a whole world says of them.
-        self.places.is_whole();
+        self.places.lemma_is_whole();
         let scanned = self.places.visit(file, left > 1);
         let units = if scanned { 2 } else { 1 };
         self.progress.visited = file.ino().0 + 1;
@@ -207,34 +207,34 @@ impl Parts {
         units
     }
 
-    /// A marked file is scanned: all that it holds is marked.
+    /// Scans a marked file: marks all files that it holds.
     #[inline(never)]
     fn scan(&mut self, file: &FileRef)
-        requires kept { AreKept self.old }
+        requires kept { KeepsPass self.old }
         requires marking { self.old.progress.stage ≡ stage.Marking }
         requires grey { is_grey self.old.places.marks file.now ≡ true }
-        ensures kept { AreKept self.new }
+        ensures kept { KeepsPass self.new }
         ensures places { self.new.places ≡ record self.old.places { marks = self.new.places.marks } }
         ensures begun { self.new.begun ≡ self.old.begun }
         ensures progress { self.new.progress ≡ record self.old.progress { looked = self.old.progress.looked + 1 } }
     {
-        // What a file holds is live: that is what a whole world says of places.
-        self.places.is_whole();
+        // A held file is live, as in each well-formed world.
+        self.places.lemma_is_whole();
         shade_held(&mut self.places, file);
-        self.places.scanned(file);
+        self.places.blacken(file);
         self.progress.looked += 1;
     }
 
-    /// A file is swept: if it is not marked, its queue and its backlog are emptied, and what nothing
-    /// holds then goes.
+    /// Sweeps a file: if it is not marked, empties its queue and its backlog, and frees the files
+    /// that are then unheld.
     fn sweep(&mut self, file: &FileRef)
-        requires kept { AreKept self.old }
+        requires kept { KeepsPass self.old }
         requires sweeping { self.old.progress.stage ≡ stage.Sweeping }
         requires sound { IsSound self.old.places.world }
         requires live { IsLive self.old.places.world file.now }
         requires within { (self.old.progress.swept ≤ file.now) × (file.now < self.old.places.marks.bound) }
         requires least { (g : ℕ) → self.old.progress.swept ≤ g → g < file.now → is_live self.old.places.world g ≡ false }
-        ensures kept { AreKept self.new }
+        ensures kept { KeepsPass self.new }
         ensures sound { IsSound self.new.places.world }
         ensures rows { self.new.places.rows ≡ self.old.places.rows }
         ensures since { self.new.places.since ≡ self.old.places.since }

@@ -1,4 +1,4 @@
-//! What is there, lent for reading.
+//! Parts of the store, lent for reading.
 ghost use Rattle.std.specs.Prelude.{◌≡◌, ℕ};
 ghost use Rattle.af_base.specs.Places.{InTable};
 ghost use Rattle.af_pass.specs.Keeping.{Spares};
@@ -7,7 +7,7 @@ use crate::holdings::Holdings;
 use crate::store::Store;
 
 impl Store {
-    /// The processes, the files, and the counts that are kept of them.
+    /// Lends the processes, the files, and their counts.
     #[inline(always)]
     pub fn holdings(&self) -> &Holdings
         ensures world { result.now.world ≡ self.now.world }
@@ -18,9 +18,9 @@ impl Store {
         &self.parts.places
     }
 
-    /// Nothing at run time: it says that what a table holds is no garbage of the begin of a pass
-    /// that runs.
-    pub fn is_spared(&self)
+    /// Does nothing at run time. Shows that a file in a table is no garbage of the begin of a
+    /// running pass.
+    pub fn lemma_is_spared(&self)
         ensures { (f : ℕ) → InTable self.now.world f → Spares self.now.pass f }
     {
         // The invariant says it: it is enough to look at a field.

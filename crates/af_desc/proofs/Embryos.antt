@@ -12,17 +12,17 @@ use Rattle.af_base.proofs.Lookups.{none_some}
 use Rattle.af_base.proofs.Sums.{total-insert}
 use Rattle.af_base.proofs.Totals.{total-below, total-most}
 use Rattle.af_ledger.specs.Counted.{IsCounted, fewer, more, uncounted}
-use Rattle.af_ledger.specs.Kept.{count_in_map}
+use Rattle.af_ledger.specs.Tally.{count_in_map}
 use Rattle.af_ledger.specs.declared.count.Count.{Count}
 use Rattle.af_ledger.specs.declared.place.Place.{Place}
 use Rattle.af_ledger.specs.declared.place.Place.TheVariants.{Backlog, Queue, Table}
-use Rattle.af_desc.specs.Filed.{AreEmbryos, with_embryo, without_embryo}
+use Rattle.af_desc.specs.FilesView.{AreEmbryos, with_embryo, without_embryo}
 
 abbrev waits : Count → ℕ
 waits c = c.waiting
 
 module _ (m : Map Count) (f : ℕ) where
-  -- What a file's numbers add is what is told of them.
+  -- The sum over a file's counts is the one that its view shows.
   was : option_map_or waits (map.get m f) 0 ≡ (count_in_map m f).waiting
   was = by (map.get m f) where
     by : (o : Option Count) → option_map_or waits o 0 ≡ (unwrap_or o uncounted).waiting
@@ -32,10 +32,6 @@ module _ (m : Map Count) (f : ℕ) where
   -- With other numbers of a file the places add up to what they did, but for those of this file.
   changed : (c : Count) → total_of waits (map.insert m f c) + (count_in_map m f).waiting ≡ total_of waits m + c.waiting
   changed c = omega (arith, total-insert waits m f c, was)
-
-  -- A file more, without a place.
-  pub embryos-entered : (n : ℕ) → AreEmbryos m n → AreEmbryos (map.insert m f uncounted) n
-  embryos-entered n h low = let most = h low in omega (arith, most, changed uncounted)
 
   -- A file less.
   pub embryos-removed : (n : ℕ) → AreEmbryos m n → AreEmbryos (map.remove m f) n
@@ -47,14 +43,18 @@ module _ (m : Map Count) (f : ℕ) where
         by k x true is = absurd (none_some x is)
         by k x false is = is
 
-  -- A place more.
-  embryos-more : (p : Place) (n : ℕ) → AreEmbryos m n → AreEmbryos (map.insert m f (more p (count_in_map m f))) (with_embryo p n)
-  embryos-more Table n h = λ low. let most = h low in omega (arith, most, changed (more Table (count_in_map m f)))
-  embryos-more (Queue u) n h = λ low. let most = h low in omega (arith, most, changed (more (Queue u) (count_in_map m f)))
-  embryos-more Backlog n h = by (nat_lt n (2 ^ 64 - 1)) refl where
-    by : (b : Bool) → nat_lt n (2 ^ 64 - 1) ≡ b → AreEmbryos (map.insert m f (more Backlog (count_in_map m f))) (cond b (n + 1) n)
-    by true e low = let most = h (ltb-true n (2 ^ 64 - 1) e) in omega (arith, most, changed (more Backlog (count_in_map m f)))
+  -- A place more than these, which are no more in backlogs than the file had.
+  embryos-more : (c : Count) → c.waiting ≤ (count_in_map m f).waiting → (p : Place) (n : ℕ) → AreEmbryos m n → AreEmbryos (map.insert m f (more p c)) (with_embryo p n)
+  embryos-more c few Table n h = λ low. let most = h low in omega (arith, most, few, changed (more Table c))
+  embryos-more c few (Queue u) n h = λ low. let most = h low in omega (arith, most, few, changed (more (Queue u) c))
+  embryos-more c few Backlog n h = by (nat_lt n (2 ^ 64 - 1)) refl where
+    by : (b : Bool) → nat_lt n (2 ^ 64 - 1) ≡ b → AreEmbryos (map.insert m f (more Backlog c)) (cond b (n + 1) n)
+    by true e low = let most = h (ltb-true n (2 ^ 64 - 1) e) in omega (arith, most, few, changed (more Backlog c))
     by false e low = let high = ltb-false n (2 ^ 64 - 1) e in absurd (omega (arith, high, low))
+
+  -- A file more, with its first place.
+  pub embryos-entered : (p : Place) (n k : ℕ) → k ≡ with_embryo p n → AreEmbryos m n → AreEmbryos (map.insert m f (more p uncounted)) k
+  embryos-entered p n k is h = subst (AreEmbryos (map.insert m f (more p uncounted))) (sym is) (embryos-more uncounted (omega arith) p n h)
 
   -- A place less, which there is.
   embryos-fewer : (p : Place) (n : ℕ) → IsCounted p (count_in_map m f) → AreEmbryos m n → AreEmbryos (map.insert m f (fewer p (count_in_map m f))) (without_embryo p n)
@@ -67,7 +67,7 @@ module _ (m : Map Count) (f : ℕ) where
 
 -- The number stays right with a place more.
 pub counted-more : (m : Map Count) (f : ℕ) (p : Place) (n k : ℕ) → k ≡ with_embryo p n → AreEmbryos m n → AreEmbryos (map.insert m f (more p (count_in_map m f))) k
-counted-more m f p n k is h = subst (AreEmbryos (map.insert m f (more p (count_in_map m f)))) (sym is) (embryos-more m f p n h)
+counted-more m f p n k is h = subst (AreEmbryos (map.insert m f (more p (count_in_map m f)))) (sym is) (embryos-more m f (count_in_map m f) (omega arith) p n h)
 
 -- And with a place less.
 pub counted-fewer : (m : Map Count) (f : ℕ) (p : Place) (n k : ℕ) → k ≡ without_embryo p n → IsCounted p (count_in_map m f) → AreEmbryos m n → AreEmbryos (map.insert m f (fewer p (count_in_map m f))) k

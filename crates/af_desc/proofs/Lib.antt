@@ -2,7 +2,7 @@ pub mod Begun
 pub mod Embryos
 pub mod Naming
 pub mod Filing
-pub mod Rowed
+pub mod RowsView
 pub mod Noting
 pub mod Telling
 pub mod Visiting

@@ -1,4 +1,4 @@
--- That the names are just those of the files, whatever comes, goes or changes.
+-- The names are just those of the files, whatever files are made, freed or changed.
 use Rattle.std.proofs.Common.{◌≡◌, ℕ, Bool, true, false, ◌⊎◌, inl, inr, List, [], refl, sym, ap, ◌∙◌, subst, cond, nat_eq}
 use Rattle.std.specs.Prelude.{◌↔◌, Option, Some, None, IfSome, is_some}
 use Rattle.std.specs.Option.{option_and_then, option_map_or}
@@ -15,7 +15,7 @@ use Rattle.af_base.specs.World.{AsSocket, File, Map, Plain, Socket, World}
 use Rattle.af_base.proofs.Lookups.{insert-here, insert-other, none_some, not_same, remove-here, remove-other, same_or_not, some_same}
 use Rattle.af_base.proofs.Named.{named-none, named-some}
 use Rattle.af_base.proofs.Same.{list_itself, list_same}
-use Rattle.af_desc.specs.Filed.{AreNamed, name_in, name_of, socket_in}
+use Rattle.af_desc.specs.FilesView.{AreNamed, name_in, name_of, socket_in}
 use Rattle.af_listen.specs.Named.{Named}
 
 -- The name of what is there.
@@ -61,14 +61,14 @@ module _ (names : Named) (m : Map File) (h : AreNamed names m) where
     nothing None e = refl
     nothing (Some x) e = absurd (false≢true (sym e))
 
-  -- A file without a name goes, or a stranger.
+  -- A file without a name is freed, or an unknown one.
   pub named-gone : (k : ℕ) → option_and_then name_of (map.get m k) ≡ None → AreNamed names (map.remove m k)
   named-gone k none = same-names (map.remove m k) (λ f. elim (same_or_not f k) [
     | inl e ↦ ap (name_in (map.remove m k)) e ∙ name-at (map.remove m k) k None (remove-here m k) ∙ sym none ∙ sym (name-at m k (map.get m k) refl) ∙ sym (ap (name_in m) e)
     | inr e ↦ ap (λ o. option_and_then (λ s. s.name) (option_and_then socket_of o)) (remove-other m k f e)
   ])
 
-  -- Who is found by a name.
+  -- The socket that a name finds.
   pub named-is : (name : List ℕ) → map.get names name ≡ named m name
   named-is name = by (named m name) refl where
     world : World
@@ -81,7 +81,7 @@ module _ (names : Named) (m : Map File) (h : AreNamed names m) where
       none None is = refl
       none (Some f) is = absurd (named-none world name e f ((h.each name f).0 is))
 
--- Two names are one, or are told apart.
+-- Two names are equal, or differ.
 one-or-two : (a b : List ℕ) → (a ≡ b) ⊎ (eq_by_cmp (slice_cmp nat_cmp) a b ≡ false)
 one-or-two a b = by (eq_by_cmp (slice_cmp nat_cmp) a b) refl where
   by : (c : Bool) → eq_by_cmp (slice_cmp nat_cmp) a b ≡ c → (a ≡ b) ⊎ (eq_by_cmp (slice_cmp nat_cmp) a b ≡ false)
@@ -101,7 +101,7 @@ module _ (names : Named) (m : Map File) (h : AreNamed names m) (name : List ℕ)
   given-other : (f : ℕ) (q : List ℕ) → eq_by_cmp (slice_cmp nat_cmp) q name ≡ false → map.get (map.insert names name f) q ≡ map.get names q
   given-other f q e = get-insert nat_list_cmp_total names name f q ∙ ap (λ b. cond b (Some f) (map.get names q)) e
 
-  -- The file of the name goes, and the name with it.
+  -- The file of the name is freed, and the name with it.
   pub named-freed : (k : ℕ) → name_in m k ≡ Some name → AreNamed (map.remove names name) (map.remove m k)
   named-freed k had = record { each = λ q f. freed q f (one-or-two q name) } where
     gone : name_in (map.remove m k) k ≡ None
@@ -197,7 +197,7 @@ named-changed names m f g same h = by (map.get m f) refl where
   by None at = h
   by (Some x) at = named-insert names m h f x (file_with g x) at (name-kept g same x)
 
--- A change of a socket leaves a plain file and a stranger as they are.
+-- A change of a socket keeps a plain file and an unknown one.
 pub unchanged : (g : Socket → Socket) (m : Map File) (k : ℕ) → socket_in m k ≡ None → m ≡ change_socket_at g m k
 unchanged g m k none = by (map.get m k) refl none where
   by : (o : Option File) → map.get m k ≡ o → option_and_then socket_of o ≡ None → m ≡ option_map_or (λ x. map.insert m k (file_with g x)) o m

@@ -18,8 +18,9 @@ use Rattle.af_base.proofs.Stepping.{get-change_at}
 use Rattle.std.proofs.lemmas.Bool.{eqb-true, false≢true}
 use Rattle.af_ledger.specs.declared.count.Count.{Count}
 use Rattle.af_mark.specs.declared.mark.Mark.{Mark}
-use Rattle.af_order.proofs.Values.{gone_few}
-use Rattle.af_desc.specs.Lined.{Lined, with_line, without_line}
+use Rattle.ordered_slab.proofs.Values.{gone_few}
+use Rattle.af_ledger.specs.declared.place.Place.{Place}
+use Rattle.af_desc.specs.LinesView.{LinesView, with_line, without_line}
 use Rattle.af_base.specs.Told.{is_socket_in}
 use Rattle.af_desc.specs.Told.{AreListed, AreNoted, Notes}
 
@@ -81,7 +82,7 @@ face-still files k f g same = ap (option_map face_of) (get-change_at (file_with 
   each true e (Some (AsSocket x)) at = ap Some (same x (ap (map.get files) (sym (eqb-true f k e)) ∙ at))
   each false e (Some x) at = refl
 
-module _ (old new : Lined) (fs : List ℕ) (space : ℕ) (since : Since) (h : AreNoted old fs space since) where
+module _ (old new : LinesView) (fs : List ℕ) (space : ℕ) (since : Since) (h : AreNoted old fs space since) where
   -- Other files of the same faces.
   pub noted-faces : new.noted ≡ old.noted → ((f : ℕ) → face_in new.files f ≡ face_in old.files f) → AreNoted new fs space since
   noted-faces noted faces = record {
@@ -115,7 +116,7 @@ module _ (old new : Lined) (fs : List ℕ) (space : ℕ) (since : Since) (h : Ar
   noted-bound (Ok a) f name ok err = noted-faces (ap (λ l. l.noted) ok) (λ q. ap (λ l. face_in l.files q) ok ∙ face-same old.files f q (bound name) (λ s. refl))
   noted-bound (Err b) f name ok err = noted-still err
 
-  -- A file goes, and is in the list no more.
+  -- A file is freed, and leaves the list.
   pub noted-gone : (f : ℕ) (gs : List ℕ) (most : ℕ) → new ≡ without_line f new.room old → AreListed (map.remove old.noted f) gs → space ≤ most → AreNoted new gs most since
   noted-gone f gs most is listed more = record {
     listed = subst (λ n. AreListed n gs) (sym (ap (λ l. l.noted) is)) listed;
@@ -129,7 +130,7 @@ module _ (old new : Lined) (fs : List ℕ) (space : ℕ) (since : Since) (h : Ar
   }
 
 -- A file is noted, and changes then.
-module _ (old mid : Lined) (fs gs : List ℕ) (space most : ℕ) (since : Since) (f : ℕ) (h : AreNoted old fs space since) (n : Notes since.changed old mid f) (listed : AreListed mid.noted gs) (more : space ≤ most) where
+module _ (old mid : LinesView) (fs gs : List ℕ) (space most : ℕ) (since : Since) (f : ℕ) (h : AreNoted old fs space since) (n : Notes since.changed old mid f) (listed : AreListed mid.noted gs) (more : space ≤ most) where
   pub noted-first : AreNoted mid gs most since
   noted-first = record {
     listed = listed;
@@ -137,7 +138,7 @@ module _ (old mid : Lined) (fs gs : List ℕ) (space most : ℕ) (since : Since)
     same = λ a g s e. let at = ap (λ l. face_in l.files g) n.rest in at ∙ h.same a g (sym (alike mid.files old.files g at) ∙ s) (n.others g e);
   }
 
-  pub noted-changed : {b : Bool} (new : Lined) (g : Socket → Socket) → new ≡ record mid { files = change_socket_at g mid.files f; message_room = b } → AreNoted new gs most since
+  pub noted-changed : {b : Bool} (new : LinesView) (g : Socket → Socket) → new ≡ record mid { files = change_socket_at g mid.files f; message_room = b } → AreNoted new gs most since
   noted-changed new g is = subst (λ l. AreNoted l gs most since) (sym is) (record {
     listed = noted-first.listed;
     fits = noted-first.fits;
@@ -150,7 +151,7 @@ module _ (old mid : Lined) (fs gs : List ℕ) (space most : ℕ) (since : Since)
   })
 
 -- A file changes, and is noted then.
-pub noted-after : (old mid new : Lined) (fs gs : List ℕ) (space most : ℕ) (since : Since) (f : ℕ) (g : Socket → Socket) (b : Bool) → AreNoted old fs space since → mid ≡ record old { files = change_socket_at g old.files f; message_room = b }
+pub noted-after : (old mid new : LinesView) (fs gs : List ℕ) (space most : ℕ) (since : Since) (f : ℕ) (g : Socket → Socket) (b : Bool) → AreNoted old fs space since → mid ≡ record old { files = change_socket_at g old.files f; message_room = b }
     → Notes since.changed mid new f → AreListed new.noted gs → space ≤ most → AreNoted new gs most since
 noted-after old mid new fs gs space most since f g b h is n listed more = record {
   listed = listed;
@@ -160,13 +161,13 @@ noted-after old mid new fs gs space most since f g b h is n listed more = record
       elim (same_or_not q f) [
         | inl here ↦ absurd (n.noted a (ap (is_socket_in mid.files) (sym here) ∙ socket) (ap (map.get new.noted) (sym here) ∙ e))
         | inr apart ↦
-            ap (λ l. face_in l.files q) (n.rest ∙ ap {B = Lined} (λ l. record l { noted = new.noted }) is) ∙ face-apart old.files f q g apart
+            ap (λ l. face_in l.files q) (n.rest ∙ ap {B = LinesView} (λ l. record l { noted = new.noted }) is) ∙ face-apart old.files f q g apart
             ∙ h.same a q (sym (socket-stays old.files f q g) ∙ sym (ap (λ l. is_socket_in l.files q) is) ∙ socket) (sym (ap (λ l. map.get l.noted q) is) ∙ n.others q e)
       ];
 }
 
 -- Nobody is noted where there is no row.
-pub noted-none : (l : Lined) (fs : List ℕ) (space : ℕ) (since : Since) → l.noted ≡ map.empty → fs ≡ [] → since.changed ≡ false → AreNoted l fs space since
+pub noted-none : (l : LinesView) (fs : List ℕ) (space : ℕ) (since : Since) → l.noted ≡ map.empty → fs ≡ [] → since.changed ≡ false → AreNoted l fs space since
 noted-none l fs space since none empty off = record {
   listed = just-empty (λ b. b) l.noted fs none empty;
   fits = λ a. absurd (false≢true (sym off ∙ a));
@@ -182,10 +183,10 @@ noted-absent m fs f h there none = by (map.get m f) there (sym none ∙ h f) whe
   by (Some true) t e = absurd (omega (arith, e))
 
 -- A file that was not noted is noted, and the last of the list, which has room for it.
-module _ (asked : Bool) (old new : Lined) (f : ℕ) (is : new ≡ record old { noted = map.insert old.noted f true }) where
+module _ (asked : Bool) (old new : LinesView) (f : ℕ) (is : new ≡ record old { noted = map.insert old.noted f true }) where
   pub notes-set : map.len new.noted ≡ map.len old.noted → Notes asked old new f
   notes-set many = record {
-    rest = is ∙ ap {B = Lined} (λ m. record old { noted = m }) (sym (ap (λ l. l.noted) is));
+    rest = is ∙ ap {B = LinesView} (λ m. record old { noted = m }) (sym (ap (λ l. l.noted) is));
     noted = λ a s e. false≢true (sym (some_same true false (sym (now f ∙ insert-here old.noted f true) ∙ e)));
     others = λ g e. elim (same_or_not g f) [
       | inl here ↦ absurd (false≢true (sym (some_same true false (sym (now g ∙ ap (map.get (map.insert old.noted f true)) here ∙ insert-here old.noted f true) ∙ e))))
@@ -204,7 +205,7 @@ none-counts : (g : ℕ) (fs : List ℕ) → length fs ≡ 0 → count_in g fs �
 none-counts g [] e = refl
 none-counts g (x ∷ xs) e = absurd (omega (arith, e))
 
--- A file that goes is in the list no more.
+-- A freed file leaves the list.
 module _ (m : Map Bool) (fs : List ℕ) (f : ℕ) (h : AreListed m fs) where
   pub struck-empty : length fs ≡ 0 → AreListed (map.remove m f) fs
   struck-empty e = just-gone (λ b. b) m (map.remove m f) fs f h fs refl (λ g. let none = none-counts g fs e in omega (arith, none))
@@ -215,7 +216,7 @@ module _ (m : Map Bool) (fs : List ℕ) (f : ℕ) (h : AreListed m fs) where
   pub struck-other : option_map_or (λ b. b) (map.get m f) false ≡ false → AreListed (map.remove m f) fs
   struck-other n = just-without (λ b. b) m (map.remove m f) fs f h refl n
 
--- The last of the list is noted no more.
+-- The last of the list is no longer noted.
 pub struck-last : (m : Map Bool) (fs gs : List ℕ) (f : ℕ) → AreListed m fs → fs ≡ gs ++ f ∷ [] → AreListed (map.insert m f false) gs
 struck-last m fs gs f h is = just-struck (λ b. b) m (map.insert m f false) fs f h false refl gs refl (λ g.
     let all = ap (count_in g) is in
@@ -224,21 +225,21 @@ struck-last m fs gs f h is = just-struck (λ b. b) m (map.insert m f false) fs f
     omega (arith, all, more, last))
 
 -- A file more, which is not noted yet.
-module _ (old mid : Lined) (fs : List ℕ) (space : ℕ) (since : Since) (ino room : ℕ) (x : File) (h : AreNoted old fs space since) (is : mid ≡ with_line ino x room old) where
+module _ (p : Place) (old mid : LinesView) (fs : List ℕ) (space : ℕ) (since : Since) (ino room : ℕ) (x : File) (h : AreNoted old fs space since) (is : mid ≡ with_line ino x p room old) where
   pub pushed-listed : map.contains_key old.noted ino ≡ false → AreListed mid.noted fs
   pushed-listed new = just-same (λ b. b) old.noted mid.noted fs ino h.listed false (ap (λ l. l.noted) is) (by (map.get old.noted ino) new) where
     by : (o : Option Bool) → is_some o ≡ false → false ≡ option_map_or (λ b. b) o false
     by None e = refl
     by (Some b) e = absurd (false≢true (sym e))
 
-  pub noted-pushed : (new : Lined) (gs : List ℕ) (most k : ℕ) → k ≡ ino → Notes since.changed mid new k → AreListed new.noted gs → (since.changed ≡ true → map.len mid.noted ≤ space) → space ≤ most → AreNoted new gs most since
+  pub noted-pushed : (new : LinesView) (gs : List ℕ) (most k : ℕ) → k ≡ ino → Notes since.changed mid new k → AreListed new.noted gs → (since.changed ≡ true → map.len mid.noted ≤ space) → space ≤ most → AreNoted new gs most since
   noted-pushed new gs most k here n listed fits more = record {
     listed = listed;
     fits = λ a. let few = fits a in omega (arith, few, more, n.len);
     same = λ a g s e. elim (same_or_not g ino) [
       | inl own ↦ absurd (n.noted a (ap (is_socket_in mid.files) (here ∙ sym own) ∙ sym (ap (λ l. is_socket_in l.files g) n.rest) ∙ s) (ap (map.get new.noted) (here ∙ sym own) ∙ e))
       | inr apart ↦
-          let at = ap (λ l. face_in l.files g) (n.rest ∙ ap {B = Lined} (λ l. record l { noted = new.noted }) is) ∙ ap (option_map face_of) (insert-other old.files ino x g apart) in
+          let at = ap (λ l. face_in l.files g) (n.rest ∙ ap {B = LinesView} (λ l. record l { noted = new.noted }) is) ∙ ap (option_map face_of) (insert-other old.files ino x g apart) in
           at ∙ h.same a g (sym (alike new.files old.files g at) ∙ s) (sym (insert-other old.noted ino false g apart) ∙ sym (ap (λ l. map.get l.noted g) is) ∙ n.others g e)
     ];
   }

@@ -16,11 +16,12 @@ use Rattle.af_base.proofs.Sums.{total-remove}
 use Rattle.af_base.proofs.Totals.{total-most}
 use Rattle.af_base.proofs.Lookups.{insert-here, insert-other, itself, not_same, remove-here, remove-other, same_or_not, there, told_apart}
 use Rattle.std.proofs.lemmas.Bool.{cases_Bool, false≢true, le-ltb, lt-ltb, ltb-false, ltb-true}
-use Rattle.af_ledger.specs.Counted.{uncounted}
+use Rattle.af_ledger.specs.Counted.{more, uncounted}
+use Rattle.af_ledger.specs.declared.place.Place.{Place}
 use Rattle.af_ledger.specs.declared.count.Count.{Count}
 use Rattle.af_mark.specs.declared.mark.Mark.{Mark}
-use Rattle.af_desc.specs.Filed.{popped}
-use Rattle.af_desc.specs.Lined.{Lined, with_line, without_line}
+use Rattle.af_desc.specs.FilesView.{popped}
+use Rattle.af_desc.specs.LinesView.{LinesView, with_line, without_line}
 use Rattle.af_base.specs.Told.{AreChanged, AreReleased, was_given}
 use Rattle.af_desc.specs.Told.{AreAccounted, AreListed, AreNoted, AreTold, Notes, room_in}
 use Rattle.af_desc.proofs.Noting.{face-still, noted-absent, noted-after, noted-bound, noted-changed, noted-counted, noted-faces, noted-marked, noted-none, noted-roomy, socket-there}
@@ -30,7 +31,7 @@ abbrev bit : Bool → ℕ
 bit b = cond b 1 0
 
 -- The same keys of as many rows, and the same last number.
-module _ (old new : Lined) (gone : List ℕ) (wide : ℕ) (since : Since) (h : AreAccounted old gone wide since) where
+module _ (old new : LinesView) (gone : List ℕ) (wide : ℕ) (since : Since) (h : AreAccounted old gone wide since) where
   pub accounted-alike : (more : ℕ) → new.last ≡ old.last → ((f : ℕ) → map.contains_key new.counts f ≡ map.contains_key old.counts f) → map.len new.counts ≡ map.len old.counts → wide ≤ more → AreAccounted new gone more since
   accounted-alike more last live len wider = record {
     later = let low = h.later in omega (arith, low, last);
@@ -44,11 +45,11 @@ module _ (old new : Lined) (gone : List ℕ) (wide : ℕ) (since : Since) (h : A
   accounted-same more last counts wider = accounted-alike more last (λ f. ap (λ m. map.contains_key m f) counts) (ap map.len counts) wider
 
 -- A file comes, under the number after the last.
-module _ (old mid : Lined) (gone : List ℕ) (wide : ℕ) (since : Since) (ino room : ℕ) (x : File) (h : AreAccounted old gone wide since) (is : mid ≡ with_line ino x room old) (next : ino ≡ old.last + 1) where
+module _ (p : Place) (old mid : LinesView) (gone : List ℕ) (wide : ℕ) (since : Since) (ino room : ℕ) (x : File) (h : AreAccounted old gone wide since) (is : mid ≡ with_line ino x p room old) (next : ino ≡ old.last + 1) where
   last : mid.last ≡ ino
   last = ap (λ l. l.last) is
 
-  comes : (f : ℕ) → map.contains_key mid.counts f ≡ map.contains_key (map.insert old.counts ino uncounted) f
+  comes : (f : ℕ) → map.contains_key mid.counts f ≡ map.contains_key (map.insert old.counts ino (more p uncounted)) f
   comes f = ap (λ l. map.contains_key l.counts f) is
 
   -- It is there, and in no list.
@@ -59,7 +60,7 @@ module _ (old mid : Lined) (gone : List ℕ) (wide : ℕ) (since : Since) (ino r
       let before = h.each a f in
       let zero : bit (was_given since (old.last + 1) f) ≡ 0 = ap bit (given (old.last + 1) ∙ le-ltb f (old.last + 1) (omega (arith, here, next))) in
       let one : bit (was_given since (mid.last + 1) f) ≡ 1 = ap bit (given (mid.last + 1) ∙ lt-ltb f (mid.last + 1) (omega (arith, here, last))) in
-      let now : bit (map.contains_key mid.counts f) ≡ 1 = ap bit (comes f ∙ ap is_some (ap (map.get (map.insert old.counts ino uncounted)) here ∙ insert-here old.counts ino uncounted)) in
+      let now : bit (map.contains_key mid.counts f) ≡ 1 = ap bit (comes f ∙ ap is_some (ap (map.get (map.insert old.counts ino (more p uncounted))) here ∙ insert-here old.counts ino (more p uncounted))) in
       omega (arith, before, zero, one, now)
 
   -- Another number is given as before.
@@ -78,19 +79,19 @@ module _ (old mid : Lined) (gone : List ℕ) (wide : ℕ) (since : Since) (ino r
   accounted-pushed fits = record {
     later = let low = h.later in omega (arith, low, next, last);
     below = λ f high.
-        comes f ∙ ap is_some (insert-other old.counts ino uncounted f (told_apart f ino (λ e. omega (arith, high, e, last))))
+        comes f ∙ ap is_some (insert-other old.counts ino (more p uncounted) f (told_apart f ino (λ e. omega (arith, high, e, last))))
         ∙ h.below f (omega (arith, high, next, last));
     each = λ a f. elim (same_or_not f ino) [
       | inl here ↦ own f here a
       | inr apart ↦
-          ap (λ b. count_in f gone + bit b) (comes f ∙ ap is_some (insert-other old.counts ino uncounted f apart)) ∙ h.each a f
+          ap (λ b. count_in f gone + bit b) (comes f ∙ ap is_some (insert-other old.counts ino (more p uncounted) f apart)) ∙ h.each a f
           ∙ sym (ap {B = ℕ} (λ b. bit (cond (nat_lt f since.next) (map.contains_key since.files f) b)) (below-last f apart))
     ];
     fits = fits;
   }
 
--- A file goes.
-module _ (old new : Lined) (gone : List ℕ) (wide : ℕ) (since : Since) (h : AreAccounted old gone wide since) (f : ℕ) (gs : List ℕ) (more : ℕ) where
+-- A file is freed.
+module _ (old new : LinesView) (gone : List ℕ) (wide : ℕ) (since : Since) (h : AreAccounted old gone wide since) (f : ℕ) (gs : List ℕ) (more : ℕ) where
   pub accounted-gone : new ≡ without_line f new.room old
       → (since.released ≡ true → (q : ℕ) → count_in q gs + bit (map.contains_key (map.remove old.counts f) q) ≡ count_in q gone + bit (map.contains_key old.counts q))
       → (since.released ≡ true → length gs + map.len (map.remove old.counts f) ≡ length gone + map.len old.counts) → wide ≤ more → AreAccounted new gs more since
@@ -108,8 +109,8 @@ module _ (old new : Lined) (gone : List ℕ) (wide : ℕ) (since : Since) (h : A
     fits = λ a. let few = h.fits a in let same = len a in omega (arith, few, same, wider, ap (λ l. map.len l.counts) is);
   }
 
--- The lists are emptied: what is told begins anew.
-pub accounted-anew : (lines : Lined) (gone : List ℕ) (wide : ℕ) (since : Since) → gone ≡ [] → since.next ≡ lines.last + 1 → since.files ≡ lines.files → ((f : ℕ) → map.contains_key lines.counts f ≡ map.contains_key lines.files f)
+-- The lists are emptied, and a new period begins.
+pub accounted-anew : (lines : LinesView) (gone : List ℕ) (wide : ℕ) (since : Since) → gone ≡ [] → since.next ≡ lines.last + 1 → since.files ≡ lines.files → ((f : ℕ) → map.contains_key lines.counts f ≡ map.contains_key lines.files f)
     → ((f : ℕ) → lines.last < f → map.contains_key lines.counts f ≡ false) → (since.released ≡ true → map.len lines.counts ≤ wide) → AreAccounted lines gone wide since
 accounted-anew lines gone wide since none next files same below fits = record {
   later = omega (arith, next);
@@ -126,7 +127,7 @@ accounted-anew lines gone wide since none next files same below fits = record {
 }
 
 -- And of sockets: none has another face than now.
-pub noted-anew : (lines : Lined) (fs : List ℕ) (space : ℕ) (since : Since) → since.files ≡ lines.files → AreListed lines.noted fs → (since.changed ≡ true → map.len lines.noted ≤ space) → AreNoted lines fs space since
+pub noted-anew : (lines : LinesView) (fs : List ℕ) (space : ℕ) (since : Since) → since.files ≡ lines.files → AreListed lines.noted fs → (since.changed ≡ true → map.len lines.noted ≤ space) → AreNoted lines fs space since
 noted-anew lines fs space since files listed fits = record {
   listed = listed;
   fits = fits;
@@ -136,7 +137,7 @@ noted-anew lines fs space since files listed fits = record {
 -- ---- both lists
 
 -- A new layer tells nothing.
-pub told-none : (l : Lined) (fs : List ℕ) (space : ℕ) (gone : List ℕ) (wide : ℕ) (since : Since) → l.noted ≡ map.empty → l.counts ≡ map.empty → l.last ≡ 0 → fs ≡ [] → since.changed ≡ false → since.released ≡ false → since.next ≡ 1 → AreTold l fs space gone wide since
+pub told-none : (l : LinesView) (fs : List ℕ) (space : ℕ) (gone : List ℕ) (wide : ℕ) (since : Since) → l.noted ≡ map.empty → l.counts ≡ map.empty → l.last ≡ 0 → fs ≡ [] → since.changed ≡ false → since.released ≡ false → since.next ≡ 1 → AreTold l fs space gone wide since
 told-none l fs space gone wide since none uncounted first empty off mute next = record {
   noted = noted-none l fs space since none empty off;
   accounted = record {
@@ -147,7 +148,7 @@ told-none l fs space gone wide since none uncounted first empty off mute next = 
   };
 }
 
-module _ (old new : Lined) (fs : List ℕ) (space : ℕ) (gone : List ℕ) (wide : ℕ) (since : Since) (h : AreTold old fs space gone wide since) where
+module _ (old new : LinesView) (fs : List ℕ) (space : ℕ) (gone : List ℕ) (wide : ℕ) (since : Since) (h : AreTold old fs space gone wide since) where
   -- Nothing changes.
   pub told-still : new ≡ old → AreTold new fs space gone wide since
   told-still is = subst (λ l. AreTold l fs space gone wide since) (sym is) h
@@ -188,18 +189,18 @@ module _ (old new : Lined) (fs : List ℕ) (space : ℕ) (gone : List ℕ) (wide
     by (Err b) ok err = accounted-same old new gone wide since h.accounted wide (ap (λ l. l.last) err) (ap (λ l. l.counts) err) (omega arith)
 
 -- A file is noted, and changes then.
-module _ (old mid : Lined) (fs gs : List ℕ) (space most : ℕ) (gone : List ℕ) (wide : ℕ) (since : Since) (f : ℕ) (h : AreTold old fs space gone wide since) (n : Notes since.changed old mid f) (listed : AreListed mid.noted gs) (same : most ≡ space) where
+module _ (old mid : LinesView) (fs gs : List ℕ) (space most : ℕ) (gone : List ℕ) (wide : ℕ) (since : Since) (f : ℕ) (h : AreTold old fs space gone wide since) (n : Notes since.changed old mid f) (listed : AreListed mid.noted gs) (same : most ≡ space) where
   accounted-noted : AreAccounted mid gone wide since
   accounted-noted = accounted-same old mid gone wide since h.accounted wide (ap (λ l. l.last) n.rest) (ap (λ l. l.counts) n.rest) (omega arith)
 
-  pub told-changed : (b : Bool) (new : Lined) (g : Socket → Socket) → new ≡ record mid { files = change_socket_at g mid.files f; message_room = b } → AreTold new gs most gone wide since
+  pub told-changed : (b : Bool) (new : LinesView) (g : Socket → Socket) → new ≡ record mid { files = change_socket_at g mid.files f; message_room = b } → AreTold new gs most gone wide since
   told-changed b new g is = record {
     noted = noted-changed old mid fs gs space most since f h.noted n listed (omega (arith, same)) new g is;
     accounted = accounted-same mid new gone wide since accounted-noted wide (ap (λ l. l.last) is) (ap (λ l. l.counts) is) (omega arith);
   }
 
 -- A file changes, and is noted then.
-pub told-after : (old mid new : Lined) (fs gs : List ℕ) (space most : ℕ) (gone : List ℕ) (wide : ℕ) (since : Since) (f : ℕ) (g : Socket → Socket) (b : Bool) → AreTold old fs space gone wide since
+pub told-after : (old mid new : LinesView) (fs gs : List ℕ) (space most : ℕ) (gone : List ℕ) (wide : ℕ) (since : Since) (f : ℕ) (g : Socket → Socket) (b : Bool) → AreTold old fs space gone wide since
     → mid ≡ record old { files = change_socket_at g old.files f; message_room = b } → Notes since.changed mid new f → AreListed new.noted gs → most ≡ space → AreTold new gs most gone wide since
 told-after old mid new fs gs space most gone wide since f g b h is n listed same = record {
   noted = noted-after old mid new fs gs space most since f g b h.noted is n listed (omega (arith, same));
@@ -207,7 +208,7 @@ told-after old mid new fs gs space most gone wide since f g b h is n listed same
 }
 
 -- No embryo comes out, and nothing shows.
-pub told-nobody : (old new : Lined) (fs : List ℕ) (space : ℕ) (gone : List ℕ) (wide : ℕ) (since : Since) (f : ℕ) → AreTold old fs space gone wide since → backlog_in old.files f ≡ []
+pub told-nobody : (old new : LinesView) (fs : List ℕ) (space : ℕ) (gone : List ℕ) (wide : ℕ) (since : Since) (f : ℕ) → AreTold old fs space gone wide since → backlog_in old.files f ≡ []
     → new ≡ record old { files = change_socket_at dequeued old.files f } → AreTold new fs space gone wide since
 told-nobody old new fs space gone wide since f h none is = record {
   noted = noted-faces old new fs space since h.noted (ap (λ l. l.noted) is) (λ q. ap (λ l. face_in l.files q) is ∙ face-still old.files f q dequeued (λ s at.
@@ -217,7 +218,7 @@ told-nobody old new fs space gone wide since f h none is = record {
 }
 
 -- Nor does a message.
-pub told-silent : (old new : Lined) (fs : List ℕ) (space : ℕ) (gone : List ℕ) (wide : ℕ) (since : Since) (f : ℕ) (b : Bool) → AreTold old fs space gone wide since → queue_in old.files f ≡ []
+pub told-silent : (old new : LinesView) (fs : List ℕ) (space : ℕ) (gone : List ℕ) (wide : ℕ) (since : Since) (f : ℕ) (b : Bool) → AreTold old fs space gone wide since → queue_in old.files f ≡ []
     → new ≡ record old { files = change_socket_at popped old.files f; message_room = b } → AreTold new fs space gone wide since
 told-silent old new fs space gone wide since f b h none is = record {
   noted = noted-faces old new fs space since h.noted (ap (λ l. l.noted) is) (λ q. ap (λ l. face_in l.files q) is ∙ face-still old.files f q popped (λ s at.
@@ -226,7 +227,7 @@ told-silent old new fs space gone wide since f b h none is = record {
   accounted = accounted-same old new gone wide since h.accounted wide (ap (λ l. l.last) is) (ap (λ l. l.counts) is) (omega arith);
 }
 
--- What fits where there is room for one more.
+-- A list with room for one more has room for it.
 module _ (since : Since) (room noted many freed all v : ℕ) (seen : room_in since room noted many freed all ≡ v) (some : 0 < v) where
   pub room-noted : since.changed ≡ true → many + 1 ≤ noted
   room-noted a =
@@ -262,7 +263,7 @@ lived m k is =
     let most = total-most (λ x. 1) 1 m (λ q x e. omega arith) in
     omega (arith, total-remove (λ x. 1) m k at.0 at.1, most)
 
--- A file that goes is in the list.
+-- A freed file is in the list.
 module _ {V : Type 0} (m : Map V) (k : ℕ) (fs gs : List ℕ) where
   pub freed-listed : gs ≡ fs ++ k ∷ [] → map.contains_key m k ≡ true → (f : ℕ) → count_in f gs + bit (map.contains_key (map.remove m k) f) ≡ count_in f fs + bit (map.contains_key m f)
   freed-listed is was f =
@@ -287,7 +288,7 @@ module _ {V : Type 0} (m : Map V) (k : ℕ) (fs gs : List ℕ) where
       let less : map.len (map.remove m k) ≡ map.len m - 1 = map.len-remove nat_cmp_total m k ∙ ap (λ b. cond b (map.len m - 1) (map.len m)) was in
       omega (arith, ap length is, length-append fs (k ∷ []), less, some)
 
-  -- A stranger is in none.
+  -- An unknown file is in no list.
   pub freed-absent : gs ≡ fs → map.contains_key m k ≡ false → (f : ℕ) → count_in f gs + bit (map.contains_key (map.remove m k) f) ≡ count_in f fs + bit (map.contains_key m f)
   freed-absent is none f =
       let same = ap (count_in f) is in
@@ -302,12 +303,12 @@ module _ {V : Type 0} (m : Map V) (k : ℕ) (fs gs : List ℕ) where
       let same : map.len (map.remove m k) ≡ map.len m = map.len-remove nat_cmp_total m k ∙ ap (λ b. cond b (map.len m - 1) (map.len m)) none in
       omega (arith, ap length is, same)
 
--- What the lists tell.
-pub changed-told : (lines : Lined) (fs : List ℕ) (space : ℕ) (since : Since) → AreNoted lines fs space since → since.changed ≡ true → ((f : ℕ) → map.contains_key lines.noted f ≡ map.contains_key lines.files f) → AreChanged lines.files since fs
+-- The content of the lists.
+pub changed-told : (lines : LinesView) (fs : List ℕ) (space : ℕ) (since : Since) → AreNoted lines fs space since → since.changed ≡ true → ((f : ℕ) → map.contains_key lines.noted f ≡ map.contains_key lines.files f) → AreChanged lines.files since fs
 changed-told lines fs space since h asked one f socket none = h.same asked f socket (noted-absent lines.noted fs f h.listed (one f ∙ socket-there lines.files f socket) none)
 
-pub released-told : (lines : Lined) (gone : List ℕ) (wide : ℕ) (since : Since) → AreAccounted lines gone wide since → since.released ≡ true → ((f : ℕ) → map.contains_key lines.counts f ≡ map.contains_key lines.files f) → AreReleased lines.files (lines.last + 1) since gone
+pub released-told : (lines : LinesView) (gone : List ℕ) (wide : ℕ) (since : Since) → AreAccounted lines gone wide since → since.released ≡ true → ((f : ℕ) → map.contains_key lines.counts f ≡ map.contains_key lines.files f) → AreReleased lines.files (lines.last + 1) since gone
 released-told lines gone wide since h asked one f = ap (λ b. count_in f gone + bit b) (sym (one f)) ∙ h.each asked f
 
--- What is kept where the rest stays.
+-- The invariant, if the rest is unchanged.
 pub ruleset telling = (told-still, told-marked, told-roomed, told-counted)

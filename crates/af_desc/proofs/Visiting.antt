@@ -5,7 +5,7 @@ use Rattle.std.specs.FinMap as map
 use Rattle.std.specs.Option.{option_map_or}
 use Rattle.std.proofs.lemmas.Bool.{and_parts, lt-ltb}
 use Rattle.std.proofs.Math.Bool.{and-false}
-use Rattle.af_ledger.specs.Kept.{count_in_map}
+use Rattle.af_ledger.specs.Tally.{count_in_map}
 use Rattle.af_mark.specs.Grey.{color_in, colors_in}
 use Rattle.af_listen.specs.Named.{Named}
 use Rattle.af_mark.specs.Marked.{Marked, is_grey, is_mark, is_white, visited}
@@ -13,19 +13,19 @@ use Rattle.af_mark.specs.declared.color.Color.TheVariants.{Black, Grey}
 use Rattle.af_mark.specs.declared.mark.Mark.{Mark}
 use Rattle.af_mark.proofs.Colors.{color_after, color_get, color_now}
 use Rattle.af_mark.proofs.Listed.{listed-bare, listed-grey, listed-same, white-known}
-use Rattle.af_desc.specs.Filed.{AreFiled, AreWhite, Filed}
-use Rattle.af_desc.specs.Rowed.{Rowed, is_due, marking}
+use Rattle.af_desc.specs.FilesView.{FilesInvariant, AreWhite, FilesView}
+use Rattle.af_desc.specs.RowsView.{RowsView, is_due, marking}
 use Rattle.af_desc.proofs.Filing.{filed-marked, seen}
 use Rattle.af_desc.proofs.Whites.{white-marked}
 
-module _ (epoch bound : ℕ) (r : Rowed) (f : ℕ) where
+module _ (epoch bound : ℕ) (r : RowsView) (f : ℕ) where
   abbrev now : Marked
   now = record { colors = colors_in epoch r.marks; bound = bound }
 
   abbrev tabled : ℕ
   tabled = (count_in_map r.counts f).tabled
 
-  -- Whether the file is white is told by its mark.
+  -- A file's mark says whether it is white.
   white_is : is_white now f ≡ option_map_or (λ x. not (is_mark (color_in epoch x))) (map.get r.marks f) false
   white_is = ap (λ o. is_some o && not (option_map_or is_mark o false)) (color_get epoch r.marks f) ∙ by (map.get r.marks f) where
     by : (o : Option Mark) → (is_some (option_map (color_in epoch) o) && not (option_map_or is_mark (option_map (color_in epoch) o) false)) ≡ option_map_or (λ x. not (is_mark (color_in epoch x))) o false
@@ -53,16 +53,16 @@ module _ (epoch bound : ℕ) (r : Rowed) (f : ℕ) where
     pub visited-due : f < bound → (bare : Bool) → visited bare tabled f now ≡ record now { colors = map.insert now.colors f (if bare then Black else Grey) }
     visited-due low bare = λ i. cond (parts.0 i) (cond (lt-ltb f bound low i && due-white i) (record now { colors = map.insert now.colors f (if bare then Black else Grey) }) now) now
 
-    -- What is seen then.
+    -- The view after it.
     pub seen-visited : f < bound → (next at : ℕ) (bare : Bool) → seen epoch bound (record r { marks = map.insert r.marks f (marking epoch at bare) }) next ≡ record (seen epoch bound r next) { marks = visited bare tabled f now }
     seen-visited low next at bare =
-        ap {B = Filed} (λ (m : Marked). record (seen epoch bound r next) { marks = m })
+        ap {B = FilesView} (λ (m : Marked). record (seen epoch bound r next) { marks = m })
         (ap {B = Marked} (λ cs. record { colors = cs; bound = bound }) (color_after epoch r.marks _ f (marking epoch at bare) (if bare then Black else Grey) refl (color_now epoch (marking epoch at bare) refl)) ∙ sym (visited-due low bare))
 
-  module _ {names : Named} {waiting grey : List ℕ} {room next most embryos white : ℕ} (h : AreFiled r waiting room names next epoch grey most embryos bound white) (due : is_due epoch r.counts r.marks f ≡ true) (low : f < bound)
-      (new : Rowed) (at : ℕ) (bare : Bool) (is : new ≡ record r { marks = map.insert r.marks f (marking epoch at bare) }) (len : map.len new.marks ≡ map.len r.marks) where
+  module _ {names : Named} {waiting grey : List ℕ} {room next most embryos white : ℕ} (h : FilesInvariant r waiting room names next epoch grey most embryos bound white) (due : is_due epoch r.counts r.marks f ≡ true) (low : f < bound)
+      (new : RowsView) (at : ℕ) (bare : Bool) (is : new ≡ record r { marks = map.insert r.marks f (marking epoch at bare) }) (len : map.len new.marks ≡ map.len r.marks) where
     many : map.len (map.insert r.marks f (marking epoch at bare)) ≡ map.len r.marks
-    many = sym (ap (λ (r : Rowed). map.len r.marks) is) ∙ len
+    many = sym (ap (λ (r : RowsView). map.len r.marks) is) ∙ len
 
     spared : is_grey now f ≡ false
     spared = (white-known now f (due-white due)).1
@@ -81,13 +81,13 @@ module _ (epoch bound : ℕ) (r : Rowed) (f : ℕ) where
     visit-few = left.0
 
     -- A file that holds nothing is black at once.
-    pub visit-bare : bare ≡ true → AreFiled new waiting room names next epoch grey most embryos bound (white - 1)
+    pub visit-bare : bare ≡ true → FilesInvariant new waiting room names next epoch grey most embryos bound (white - 1)
     visit-bare e =
         filed-marked r new _ _ _ _ _ _ _ h _ grey most is
         (listed-bare r.marks _ epoch grey most h.listed f (marking epoch at bare) refl refl many (ap (λ b. if b then Black else Grey) e) spared) (white - 1) left.1
 
     -- Another is to be scanned.
-    pub visit-grey : bare ≡ false → (length grey < most) × ((gs : List ℕ) (wide : ℕ) → gs ≡ grey ++ f ∷ [] → most ≤ wide → AreFiled new waiting room names next epoch gs wide embryos bound (white - 1))
+    pub visit-grey : bare ≡ false → (length grey < most) × ((gs : List ℕ) (wide : ℕ) → gs ≡ grey ++ f ∷ [] → most ≤ wide → FilesInvariant new waiting room names next epoch gs wide embryos bound (white - 1))
     visit-grey e =
         let listed = listed-grey r.marks _ epoch grey most h.listed f (marking epoch at bare) refl refl many (ap (λ b. if b then Black else Grey) e) spared in
         (listed.0, λ gs wide same more. filed-marked r new _ _ _ _ _ _ _ h _ gs wide is (listed-same (map.insert r.marks f (marking epoch at bare)) _ epoch (grey ++ f ∷ []) most listed.1 gs wide refl same more) (white - 1) left.1)

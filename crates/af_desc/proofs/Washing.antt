@@ -23,7 +23,7 @@ module _ (m : Map Mark) (n : ℕ) where
     ]
   ]
 
-  -- Who has a mark has one then.
+  -- A file with a mark keeps one.
   pub washed_known : IsTrue (map.contains_key m n) → (f : ℕ) → map.contains_key (map.insert m n unmarked) f ≡ map.contains_key m f
   washed_known there f = elim (same_or_not f n) [
     | inl e ↦ ap is_some (ap (map.get (map.insert m n unmarked)) e ∙ insert-here m n unmarked) ∙ sym (ap (map.contains_key m) e ∙ there)

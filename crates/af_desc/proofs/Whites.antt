@@ -13,9 +13,9 @@ use Rattle.af_mark.specs.declared.color.Color.TheVariants.{Black, Grey, White}
 use Rattle.af_mark.specs.declared.mark.Mark.{Mark}
 use Rattle.af_mark.proofs.Colors.{color_after, color_get, color_white}
 use Rattle.af_mark.proofs.Whites.{adds-grey, adds-white, none-bound, white-beyond, white-mark, whites-gone, whites-most, whites-put}
-use Rattle.af_order.proofs.Parts.{part_many}
-use Rattle.af_desc.specs.Filed.{AreWhite}
-use Rattle.af_desc.specs.Rowed.{is_white_in}
+use Rattle.ordered_slab.proofs.Parts.{part_many}
+use Rattle.af_desc.specs.FilesView.{AreWhite}
+use Rattle.af_desc.specs.RowsView.{is_white_in}
 
 module _ (m n : Map Mark) (epoch bound next white : ℕ) (h : AreWhite m epoch bound next white) where
   abbrev old : Marked
@@ -55,7 +55,7 @@ module _ (m n : Map Mark) (epoch bound next white : ℕ) (h : AreWhite m epoch b
         let same = ap (λ cs. white_count (record { colors = cs; bound = bound })) (color_after epoch m n f x Black is black) in
         (h.0, omega (arith, few, whites-put old f Black, adds-grey old f was, white-mark bound f Black refl, same))
 
-  -- A file goes: one less is still to be marked, if it was.
+  -- A file is freed: one less is still to be marked, if it was.
   pub white-gone : (f x n : ℕ) (b : Bool) → x ≡ f → b ≡ is_white_in epoch m f → n ≡ from_bool (nat_lt x bound && b)
       → (n ≤ white) × (white_count (record { colors = map.remove (colors_in epoch m) f; bound = bound }) ≤ white - n)
   white-gone f x n b same is many = (omega (arith, few, gone), omega (arith, few, gone)) where
@@ -78,14 +78,14 @@ module _ (m n : Map Mark) (epoch bound next white : ℕ) (h : AreWhite m epoch b
     gone : left + n ≡ white_count old
     gone = ap (λ k. left + k) (many ∙ (λ i. from_bool (nat_lt (same i) bound && is i)) ∙ by (map.get m f) ∙ sym (ap adds (color_get epoch m f))) ∙ whites-gone old f
 
--- What a pass has still to mark, by the marks and by what is seen of them.
+-- The number of files that a pass has still to mark, by the marks and by their view.
 pub white-seen : (m : Map Mark) (epoch f : ℕ) → is_white_in epoch m f ≡ is_white (record { colors = colors_in epoch m; bound = 0 }) f
 white-seen m epoch f = by (map.get m f) ∙ sym (ap (λ o. is_some o && not (option_map_or is_mark o false)) (color_get epoch m f)) where
   by : (o : Option Mark) → option_map_or (λ x. not (is_mark (color_in epoch x))) o false ≡ (is_some (option_map (color_in epoch) o) && not (option_map_or is_mark (option_map (color_in epoch) o) false))
   by None = refl
   by (Some x) = refl
 
--- A pass begins: no more are to be marked than there are.
+-- A pass begins: at most all files are to be marked.
 pub white-begun : (m : Map Mark) (epoch next n : ℕ) → n ≡ map.len m → AreWhite m epoch next next n
 white-begun m epoch next n is = (omega arith, omega (arith, is, whites-most (record { colors = colors_in epoch m; bound = next }), part_many (color_in epoch) m))
 

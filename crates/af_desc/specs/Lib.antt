@@ -1,5 +1,5 @@
 -- Files under numbers, and the representation that is seen so.
-pub mod Filed
-pub mod Lined
-pub mod Rowed
+pub mod FilesView
+pub mod LinesView
+pub mod RowsView
 pub mod Told

@@ -2,16 +2,16 @@
 ghost use Rattle.std.specs.Prelude.{◌≡◌, ℕ, false, true, IfSome, IfNone, IsTrue};
 ghost use Rattle.std.specs.FinMap as map;
 ghost use Rattle.af_ledger.specs.Counted.{places_in, IsCountable, IsCounted};
-ghost use Rattle.af_ledger.specs.Kept.{count_in_map, is_waiting};
-ghost use Rattle.af_desc.specs.Filed.{lowered, raised, with_embryo, without_embryo};
+ghost use Rattle.af_ledger.specs.Tally.{count_in_map, is_waiting};
+ghost use Rattle.af_desc.specs.FilesView.{lowered, raised, with_embryo, without_embryo};
 
 use crate::files::Files;
-use af_base::file_list::unlist;
+use af_base::file_list::swap_remove_file;
 use af_base::names::{FileRef, Ino};
 use af_ledger::{Count, Place};
 
 impl Files {
-    /// The counts of a file; all are 0 where no place holds it.
+    /// Returns the counts of a file; all are 0 if no place holds it.
     #[inline(always)]
     fn count_at(&self, file: &FileRef) -> Count
         ensures { result ≡ count_in_map self.now.counts file.now }
@@ -22,7 +22,7 @@ impl Files {
         }
     }
 
-    /// The same of the file of this number, by a binary search.
+    /// Returns the same for the file of this number, by a binary search.
     fn count(&self, ino: Ino) -> Count
         ensures { result ≡ count_in_map self.now.counts ino }
     {
@@ -32,21 +32,21 @@ impl Files {
         }
     }
 
-    /// How many places hold a file: none holds a stranger.
+    /// Returns how many places hold a file; 0 for an unknown one.
     pub fn refs(&self, ino: Ino) -> u64
         ensures { result ≡ places_in (count_in_map self.now.counts ino) }
     {
         self.count(ino).places()
     }
 
-    /// How many places hold the file that stands there: none holds a stranger.
+    /// Returns how many places hold the file of this reference; 0 for an unknown one.
     pub fn refs_at(&self, file: &FileRef) -> u64
         ensures { result ≡ places_in (count_in_map self.now.counts file.now) }
     {
         self.count_at(file).places()
     }
 
-    /// How many numbers of all tables stand for a file.
+    /// Returns how many descriptors refer to a file.
     #[inline(always)]
     pub fn tabled(&self, file: &FileRef) -> u64
         ensures { result ≡ (count_in_map self.now.counts file.now).tabled }
@@ -54,14 +54,14 @@ impl Files {
         u64::from(self.count_at(file).tabled)
     }
 
-    /// How many places in queues hold a file.
+    /// Returns how many places in queues hold a file.
     pub fn inflight(&self, ino: Ino) -> u64
         ensures { result ≡ (count_in_map self.now.counts ino).inflight }
     {
         u64::from(self.count(ino).inflight)
     }
 
-    /// How many places in queues hold the file that stands there.
+    /// Returns how many places in queues hold the file of this reference.
     pub fn inflight_at(&self, file: &FileRef) -> u64
         ensures { result ≡ (count_in_map self.now.counts file.now).inflight }
     {
@@ -76,20 +76,20 @@ impl Files {
         self.embryos > 0
     }
 
-    /// A file that no place holds, if there is one.
+    /// Returns a file that no place holds, if there is one.
     #[inline(always)]
     pub fn next_waiting(&self) -> Option<FileRef>
         ensures some { IfSome result (λ f. is_waiting self.now.counts f ≡ true) }
         ensures none { IfNone result ((f : ℕ) → is_waiting self.now.counts f ≡ false) }
     {
         let file = self.waiting.last()?;
-        Some(file.again())
+        Some(file.duplicate())
     }
 
-    /// One place more holds a file, which is there. If it waited, it does so no more. It takes no
-    /// memory.
+    /// Adds one place that holds a file, which is known. The file is no longer unreferenced. Takes
+    /// no memory.
     #[inline(always)]
-    pub fn raise(&mut self, place: &Place, file: &FileRef)
+    pub fn hold(&mut self, place: &Place, file: &FileRef)
         requires known { IsTrue (map.contains_key self.old.counts file.now) }
         requires countable { IsCountable place.now (count_in_map self.old.counts file.now) }
         ensures { self.new ≡ raised place.now file.now self.old }
@@ -97,29 +97,30 @@ impl Files {
         let first = self.rows.add_place(place, file);
         self.embryos = with_embryo(self.embryos, place);
         if first {
-            // Where several wait, who waits no more is mostly the one that came first.
-            unlist(&mut self.waiting, file.ino(), 0);
+            // Of several unreferenced files, mostly the first gains a reference.
+            swap_remove_file(&mut self.waiting, file.ino(), 0);
         }
     }
 
-    /// One place less holds a file: there is such a place. If that was the last, the file waits. It
-    /// takes no memory.
+    /// Drops one place of a file, which has it. Without another, the file becomes unreferenced.
+    /// Takes no memory.
     #[inline(always)]
-    pub fn lower(&mut self, place: &Place, file: &FileRef)
+    pub fn drop_one(&mut self, place: &Place, file: &FileRef)
         requires { IsCounted place.now (count_in_map self.old.counts file.now) }
         ensures { self.new ≡ lowered place.now file.now self.old }
     {
         let last = self.rows.sub_place(place, file);
         self.embryos = without_embryo(self.embryos, place);
         if last {
-            self.waiting.push_reserved(file.again());
+            self.waiting.push_reserved(file.duplicate());
         }
     }
 }
 
-/// Returns the number of embryos with one place of this kind more. At its largest it stands still.
+/// Returns the number of embryos with one place of this kind more. At its largest it does not
+/// change.
 #[inline(always)]
-fn with_embryo(embryos: u64, place: &Place) -> u64
+pub fn with_embryo(embryos: u64, place: &Place) -> u64
     ensures { result ≡ with_embryo place.now embryos }
 {
     match place {
@@ -128,7 +129,8 @@ fn with_embryo(embryos: u64, place: &Place) -> u64
     }
 }
 
-/// Returns the number of embryos with one place of this kind less. At its largest it stands still.
+/// Returns the number of embryos with one place of this kind less. At its largest it does not
+/// change.
 #[inline(always)]
 fn without_embryo(embryos: u64, place: &Place) -> u64
     ensures { result ≡ without_embryo place.now embryos }

@@ -9,27 +9,27 @@ ghost use Rattle.af_base.specs.Refusals.{room_of};
 ghost use Rattle.af_base.specs.Steps.{connected_socket, idle_socket};
 ghost use Rattle.af_base.specs.Whole.{IsMessageWithin};
 ghost use Rattle.af_base.specs.World.{untold};
-ghost use Rattle.af_ledger.specs.Kept.{AreWaiting};
 ghost use Rattle.af_mark.specs.Marked.{is_grey, is_unmarked};
-ghost use Rattle.af_desc.specs.Rowed.{file_of, with_row};
+ghost use Rattle.af_desc.specs.RowsView.{file_of};
 ghost use Rattle.af_base.specs.Told.{AreChanged, AreReleased};
-ghost use Rattle.af_desc.specs.Filed.{AreNamed, changed, changed_queue, entered, hung_up, is_full, is_live, is_unmarked_socket, name_of, paired, popped, received_from, received_of, socket_in, state_in, without};
+ghost use Rattle.af_desc.specs.FilesView.{AreNamed, changed, changed_queue, entered, hung_up, is_full, is_live, is_unmarked_socket, name_of, paired, popped, received_from, received_of, socket_in, state_in, without};
 
+use crate::counts::with_embryo;
 use crate::rows::Rows;
 use crate::socket::{Endpoint, Socket};
 use af_base::events::{SockType, State};
-use af_base::file_list::unlist;
+use af_base::file_list::swap_remove_file;
 use af_base::items::Items;
 use af_base::limits::{MAX_FILES, MAX_INO, MAX_MESSAGES};
 use af_base::names::{FileRef, Ino};
+use af_ledger::Place;
 use af_listen::Names;
 use af_queue::{Msg, Taken};
 use std::alloc::{AllocError, Global};
 use std::marker::Model;
 
-/// The files, each under a number that is never used again, with how many places hold it and what a
-/// pass of the collector has marked, and the names of those that have one. A `FileRef` that was handed
-/// out has a hint where its file stands.
+/// The files, each under a number that is never used again, with its count, its mark in a pass, and
+/// its name, if it has one. A `FileRef` has a hint of the key of its row.
 #[derive(Drop)]
 pub struct Files {
     pub(crate) alloc: Global,
@@ -44,7 +44,7 @@ pub struct Files {
     pub(crate) bound: u64,
     pub(crate) next: u64,
     pub(crate) names: Names,
-    /// The number of places in backlogs. At its largest it stands still.
+    /// The number of places in backlogs. At its largest it does not change.
     pub(crate) embryos: u64,
     /// The number of files that the pass has still to mark.
     pub(crate) white: usize,
@@ -55,19 +55,19 @@ impl Model for Files {
     ghost use Rattle.std.specs.Coded.{codes};
     ghost use Rattle.std.specs.Prelude.{vec_capacity};
     ghost use Rattle.af_mark.specs.Grey.{colors_in};
-    ghost use Rattle.af_desc.specs.Filed.{AreFiled, Filed};
+    ghost use Rattle.af_desc.specs.FilesView.{FilesInvariant, FilesView};
 
-    ghost Value = { Filed };
+    ghost Value = { FilesView };
 
     ghost coded = { Prim.hlevel (codes, map.code) };
 
     ghost view = { λ a. record { files = a.rows.files; counts = a.rows.counts; marks = record { colors = colors_in a.epoch a.rows.marks; bound = a.bound }; since = a.rows.since; next = a.next; message_room = a.rows.message_room } };
 
-    ghost invariant = { λ a. AreFiled a.rows a.waiting.items (vec_capacity a.waiting) a.names a.next a.epoch a.grey.items (vec_capacity a.grey) a.embryos a.bound a.white };
+    ghost invariant = { λ a. FilesInvariant a.rows a.waiting.items (vec_capacity a.waiting) a.names a.next a.epoch a.grey.items (vec_capacity a.grey) a.embryos a.bound a.white };
 }
 
 impl Files {
-    /// No file; numbers begin at 1. It takes no memory.
+    /// Makes an empty table of files; numbers begin at 1. Takes no memory.
     #[tactic(auto, using(crate::proofs::Begun::begun))]
     pub fn new(alloc: Global) -> Files
         ensures files { result.files ≡ map.empty }
@@ -90,7 +90,7 @@ impl Files {
         }
     }
 
-    /// How many files there are.
+    /// Returns how many files there are.
     #[inline(always)]
     pub fn live(&self) -> usize
         ensures { result ≡ map.len self.now.files }
@@ -98,14 +98,15 @@ impl Files {
         self.rows.len()
     }
 
-    /// The number that the next file gets.
+    /// Returns the number that the next file gets.
     pub fn next_ino(&self) -> Ino
         ensures { result ≡ self.now.next }
     {
         Ino(self.next)
     }
 
-    /// Whether so many files more are too many, or have no numbers left (ENFILE, open(2)).
+    /// Returns whether this many more files are too many, or have no numbers left (ENFILE,
+    /// open(2)).
     #[inline(always)]
     pub fn is_full(&self, more: usize) -> bool
         ensures { result ≡ is_full self.now more }
@@ -114,8 +115,7 @@ impl Files {
             || self.next.saturating_add(more as u64) > MAX_INO + 1
     }
 
-    /// The file of that number, where it stands now; nothing of a stranger. A search: who has a
-    /// `FileRef` needs none.
+    /// Returns the file of that number, if it is known, by a search. A `FileRef` needs none.
     pub fn find(&self, ino: Ino) -> Option<FileRef>
         ensures there { IfSome result (λ f. (f ≡ ino) × IsTrue (is_live self.now ino)) }
         ensures none { IfNone result (is_live self.now ino ≡ false) }
@@ -123,7 +123,7 @@ impl Files {
         self.rows.find(ino)
     }
 
-    /// The socket that the file is; a plain file and a stranger are none.
+    /// Returns the socket that the file is; `None` for a plain or unknown file.
     #[inline(always)]
     pub fn socket(&self, file: &FileRef) -> Option<Socket<'_>>
         ensures { result ≡ socket_in self.now.files file.now }
@@ -131,16 +131,17 @@ impl Files {
         self.rows.socket(file)
     }
 
-    /// The socket of this abstract name, if there is one (unix(7)): one look-up, however many have one.
-    pub fn named(&self, name: &Items<u8>) -> Option<FileRef>
+    /// Returns the socket of this abstract name, if there is one (unix(7)): one look-up, for any
+    /// number of names.
+    pub fn named(&self, name: &[u8]) -> Option<FileRef>
         ensures { result ≡ named self.now.files name.now }
     {
         self.names.find(name)
     }
 
-    /// The file with the least number above this one, if there is one, and where it stands in the
-    /// order; from 0 on, the least of all. This one need not be a file's. A walk hands in what it was
-    /// answered last, and needs no search; where a file stands is a hint.
+    /// Returns the file with the least number above this one, if there is one, and its position in
+    /// the order; from 0 on, the least of all. This number need not be a file's. A walk passes the
+    /// last answer, and needs no search; the position is a hint.
     #[inline(always)]
     pub fn next_after(&self, ino: Ino, at: usize) -> Option<(FileRef, usize)>
         ensures above { IfSome result (λ n. ino < n.0) }
@@ -152,69 +153,78 @@ impl Files {
         self.rows.next_after(ino, at)
     }
 
-    /// A file more, under the next number. Room comes first, so that on an error nothing has changed.
+    /// Makes a file, under the next number, with this place as its first reference. Reserves room
+    /// first, so that on an error nothing has changed.
     #[inline(always)]
     #[tactic(auto, using(crate::proofs::Begun::begun))]
-    fn make(&mut self, endpoint: Option<Endpoint>) -> Result<FileRef, AllocError>
+    fn make(&mut self, endpoint: Option<Endpoint>, place: &Place) -> Result<FileRef, AllocError>
         requires number { self.old.next < MAX_INO + 1 }
         requires nameless { name_of (file_of endpoint) ≡ None }
         ensures ino { IfOk result (λ ino. ino ≡ self.old.next) }
-        ensures ok { OnOk result (self.new ≡ entered (file_of endpoint) self.old) }
+        ensures ok { OnOk result (self.new ≡ entered place.now (file_of endpoint) self.old) }
         ensures err { OnErr result (self.new ≡ self.old) }
     {
         reserve(&mut self.rows, &mut self.waiting, &mut self.grey, 1)?;
-        let file = enter(&mut self.rows, &mut self.waiting, Ino(self.next), endpoint);
+        let file = self.rows.push(Ino(self.next), endpoint, place);
+        self.embryos = with_embryo(self.embryos, place);
         self.next += 1;
         Ok(file)
     }
 
-    /// A plain file more, under the next number, where `is_full(1)` is false. On an error nothing has
-    /// changed.
-    pub fn make_plain(&mut self) -> Result<FileRef, AllocError>
+    /// Makes a plain file, under the next number, with this place as its first reference, if
+    /// `is_full(1)` is false. On an error nothing has changed.
+    pub fn make_plain(&mut self, place: &Place) -> Result<FileRef, AllocError>
         requires room { is_full self.old 1 ≡ false }
         ensures ino { IfOk result (λ ino. ino ≡ self.old.next) }
-        ensures ok { OnOk result (self.new ≡ entered world.Plain self.old) }
+        ensures ok { OnOk result (self.new ≡ entered place.now world.Plain self.old) }
         ensures err { OnErr result (self.new ≡ self.old) }
     {
-        self.make(None)
+        self.make(None, place)
     }
 
-    /// A socket more that was never connected, under the next number, where `is_full(1)` is false. On
-    /// an error nothing has changed.
-    pub fn make_sock(&mut self, kind: SockType) -> Result<FileRef, AllocError>
+    /// Makes a socket that was never connected, under the next number, with this place as its first
+    /// reference, if `is_full(1)` is false. On an error nothing has changed.
+    pub fn make_sock(&mut self, kind: SockType, place: &Place) -> Result<FileRef, AllocError>
         requires room { is_full self.old 1 ≡ false }
         ensures ino { IfOk result (λ ino. ino ≡ self.old.next) }
-        ensures ok { OnOk result (self.new ≡ entered (world.AsSocket (idle_socket kind)) self.old) }
+        ensures ok { OnOk result (self.new ≡ entered place.now (world.AsSocket (idle_socket kind)) self.old) }
         ensures err { OnErr result (self.new ≡ self.old) }
     {
-        self.make(Some(Endpoint::idle(kind)))
+        self.make(Some(Endpoint::idle(kind)), place)
     }
 
-    /// Two sockets more, connected to each other (socketpair(2)), under the next two numbers, where
-    /// `is_full(2)` is false: both or, on an error, none.
+    /// Makes two sockets that are connected to each other (socketpair(2)), under the next two
+    /// numbers, each with such a place as its first reference, if `is_full(2)` is false; on an
+    /// error it makes none.
     #[tactic(auto, using(crate::proofs::Begun::begun))]
-    pub fn make_two(&mut self, kind: SockType) -> Result<(FileRef, FileRef), AllocError>
+    pub fn make_two(
+        &mut self,
+        kind: SockType,
+        place: &Place,
+    ) -> Result<(FileRef, FileRef), AllocError>
         requires room { is_full self.old 2 ≡ false }
         ensures first { IfOk result (λ inos. inos.0 ≡ self.old.next) }
         ensures second { IfOk result (λ inos. inos.1 ≡ self.old.next + 1) }
-        ensures ok { OnOk result (self.new ≡ paired kind self.old) }
+        ensures ok { OnOk result (self.new ≡ paired place.now kind self.old) }
         ensures err { OnErr result (self.new ≡ self.old) }
     {
         reserve(&mut self.rows, &mut self.waiting, &mut self.grey, 2)?;
         let (lower, higher) = (Ino(self.next), Ino(self.next + 1));
-        // Where the second will stand is told once it stands there.
+        // The key of the second is noted once its row exists.
         let endpoint = Endpoint::connected(kind, &FileRef::new(higher, 0));
-        let first = enter(&mut self.rows, &mut self.waiting, lower, Some(endpoint));
+        let first = self.rows.push(lower, Some(endpoint), place);
+        self.embryos = with_embryo(self.embryos, place);
         let endpoint = Endpoint::connected(kind, &first);
-        let second = enter(&mut self.rows, &mut self.waiting, higher, Some(endpoint));
+        let second = self.rows.push(higher, Some(endpoint), place);
+        self.embryos = with_embryo(self.embryos, place);
         self.rows.point(&first, &second);
         self.next += 2;
         Ok((first, second))
     }
 
-    /// The file, which has nothing to receive, goes; of a stranger nothing. Its number is never given
-    /// again, and its name is free. Answers to whom it was connected, and whether it was a socket
-    /// that the pass had still to mark. It takes no memory.
+    /// Removes a file whose queue is empty; ignores an unknown file. Its number is never used
+    /// again, and its name is free. Returns its peer, and whether it was a socket that the pass had
+    /// still to mark. Takes no memory.
     #[inline(always)]
     #[tactic(auto, using(af_mark::proofs::Listed::gone))]
     pub fn remove(&mut self, file: &FileRef) -> (Option<FileRef>, bool)
@@ -224,7 +234,7 @@ impl Files {
         ensures unmarked { result.1 ≡ is_unmarked_socket self.old.files self.old.marks file.now }
         ensures gone { self.new ≡ without file.now self.old }
     {
-        self.scanned(file);
+        self.blacken(file);
         let (endpoint, unmarked) = self.take_out(file);
         match endpoint {
             Some(endpoint) => (endpoint.peer(), unmarked),
@@ -232,8 +242,8 @@ impl Files {
         }
     }
 
-    /// A file that is not grey goes, and the socket that it was is handed on. Whether the pass had
-    /// still to mark it.
+    /// Removes a file that is not grey, and returns its socket, and whether the pass had still to
+    /// mark it.
     #[inline(always)]
     #[tactic(auto, using(crate::proofs::Begun::begun))]
     fn take_out(&mut self, file: &FileRef) -> (Option<Endpoint>, bool)
@@ -246,13 +256,12 @@ impl Files {
         let (endpoint, white) = self.rows.remove(file, self.epoch);
         let unmarked = (file.ino().0 < self.bound) & white;
         self.white -= usize::from(unmarked);
-        unlist(&mut self.waiting, file.ino(), 0);
+        swap_remove_file(&mut self.waiting, file.ino(), 0);
         free_name(&mut self.names, &endpoint);
         (endpoint, unmarked)
     }
 
-    /// The peer of that socket is gone from now on. A plain file or a stranger stays as it is. It
-    /// takes no memory.
+    /// Marks the peer of that socket as gone. Ignores a plain or unknown file. Takes no memory.
     #[inline(always)]
     pub fn hang_up(&mut self, file: &FileRef)
         ensures { self.new ≡ changed hung_up file.now self.old }
@@ -270,8 +279,8 @@ impl Files {
         self.rows.room_for_message()
     }
 
-    /// Appends a message to the queue of that socket, which is not full. A plain file or a stranger has
-    /// no queue, and there the message is dropped. It cannot fail, since there is room.
+    /// Appends a message to the queue of that socket, which is not full. For a plain or unknown
+    /// file it drops the message. Cannot fail, since there is room.
     pub fn push(&mut self, file: &FileRef, message: Msg)
         requires few { length (queue_in self.old.files file.now) < MAX_MESSAGES }
         requires within { IsMessageWithin message }
@@ -281,8 +290,8 @@ impl Files {
         self.rows.push_message(file, message);
     }
 
-    /// A copy of what a receive of at most so many bytes would take out of the queue of that socket
-    /// (recvmsg(2), MSG_PEEK): nothing, where it is a plain file or a stranger.
+    /// Copies what a receive of at most this many bytes would take from the queue of that socket
+    /// (recvmsg(2), MSG_PEEK); nothing for a plain or unknown file.
     pub fn peek(&self, file: &FileRef, max: usize) -> Result<Taken, AllocError>
         requires { 0 < max }
         ensures { IfOk result (λ t. t ≡ received_of (socket_in self.now.files file.now) max) }
@@ -293,8 +302,8 @@ impl Files {
         }
     }
 
-    /// What a receive of at most so many bytes takes out of the queue of that socket (recvmsg(2)):
-    /// nothing, where it is a plain file or a stranger. On an error nothing has changed.
+    /// Takes from the queue of that socket what a receive of at most this many bytes gives
+    /// (recvmsg(2)); nothing for a plain or unknown file. On an error nothing has changed.
     pub fn take(&mut self, file: &FileRef, max: usize) -> Result<Taken, AllocError>
         requires { 0 < max }
         ensures taken { IfOk result (λ t. t ≡ received_of (socket_in self.old.files file.now) max) }
@@ -304,7 +313,7 @@ impl Files {
         self.rows.take(file, self.alloc, max)
     }
 
-    /// The first message out of the queue of that socket, if there is one. It takes no memory.
+    /// Removes the first message from the queue of that socket, if there is one. Takes no memory.
     #[inline(always)]
     pub fn pop(&mut self, file: &FileRef) -> Option<Msg>
         ensures some { IfSome result (λ m. queue_in self.old.files file.now ≡ m ∷ drop 1 (queue_in self.old.files file.now)) }
@@ -314,31 +323,36 @@ impl Files {
         self.rows.pop_message(file)
     }
 
-    /// A socket more, connected to that client, which is connected to it in turn: an embryo, under
-    /// the next number, where `is_full(1)` is false. On an error nothing has changed.
+    /// Makes an embryo: a socket that is connected to that client, and the client to it, under the
+    /// next number, with this place as its first reference, if `is_full(1)` is false. On an error
+    /// nothing has changed.
     #[tactic(auto, using(crate::proofs::Begun::begun))]
-    pub fn make_embryo(&mut self, kind: SockType, client: &FileRef) -> Result<FileRef, AllocError>
+    pub fn make_embryo(
+        &mut self,
+        kind: SockType,
+        client: &FileRef,
+        place: &Place,
+    ) -> Result<FileRef, AllocError>
         requires room { is_full self.old 1 ≡ false }
         ensures ino { IfOk result (λ ino. ino ≡ self.old.next) }
-        ensures ok { OnOk result (self.new ≡ changed (connected self.old.next) client.now (entered (world.AsSocket (connected_socket kind client.now)) self.old)) }
+        ensures ok { OnOk result (self.new ≡ changed (connected self.old.next) client.now (entered place.now (world.AsSocket (connected_socket kind client.now)) self.old)) }
         ensures err { OnErr result (self.new ≡ self.old) }
     {
-        let embryo = self.make(Some(Endpoint::connected(kind, client)))?;
+        let embryo = self.make(Some(Endpoint::connected(kind, client)), place)?;
         self.connect(client, &embryo);
         Ok(embryo)
     }
 
-    /// That socket is connected to this peer from now on. A plain file or a stranger stays as it is.
-    /// It takes no memory.
+    /// Connects that socket to this peer. Ignores a plain or unknown file. Takes no memory.
     fn connect(&mut self, file: &FileRef, peer: &FileRef)
         ensures { self.new ≡ changed (connected peer.now) file.now self.old }
     {
         self.rows.connect(file, peer);
     }
 
-    /// That socket, which has no name, has this one from now on, which is nobody's (bind(2)). A plain
-    /// file or a stranger stays as it is. On an error nothing has changed.
-    pub fn bind(&mut self, file: &FileRef, name: &Items<u8>) -> Result<(), AllocError>
+    /// Gives that socket, which has no name, this one, which is free (bind(2)). Ignores a plain or
+    /// unknown file. On an error nothing has changed.
+    pub fn bind(&mut self, file: &FileRef, name: &[u8]) -> Result<(), AllocError>
         requires nameless { IfSome (socket_in self.old.files file.now) (λ s. s.name ≡ None) }
         requires free { named self.old.files name.now ≡ None }
         ensures ok { OnOk result (self.new ≡ changed (bound name.now) file.now self.old) }
@@ -347,9 +361,9 @@ impl Files {
         if self.socket(file).is_none() {
             return Ok(());
         }
-        let own = Items::of(name.as_slice().to_vec(self.alloc)?);
-        let listed = Items::of(name.as_slice().to_vec(self.alloc)?);
-        self.names.bind(listed, file.again())?;
+        let own = Items::of(name.to_vec(self.alloc)?);
+        let listed = name.to_vec(self.alloc)?;
+        self.names.bind(listed, file.duplicate())?;
         if let Err(refused) = self.rows.bind(file, self.alloc, own) {
             self.names.unbind(name);
             return Err(refused);
@@ -357,8 +371,8 @@ impl Files {
         Ok(())
     }
 
-    /// That socket, which has a name and no embryos, waits for connections from now on, so many at
-    /// most (listen(2)). A plain file or a stranger stays as it is. On an error nothing has changed.
+    /// Makes that socket, which has a name and no embryos, a listener with this backlog
+    /// (listen(2)). Ignores a plain or unknown file. On an error nothing has changed.
     pub fn listen(&mut self, file: &FileRef, most: u32) -> Result<(), AllocError>
         requires named { IfSome (socket_in self.old.files file.now) (λ s. is_none s.name ≡ false) }
         requires nobody { IfSome (socket_in self.old.files file.now) (λ s. s.backlog ≡ []) }
@@ -368,8 +382,8 @@ impl Files {
         self.rows.listen(file, self.alloc, most)
     }
 
-    /// An embryo more waits at that listener, last, for which its backlog has room. A plain file or a
-    /// stranger stays as it is. It takes no memory.
+    /// Appends an embryo to the backlog of that listener, which has room for it. Ignores a plain or
+    /// unknown file. Takes no memory.
     pub fn enqueue(&mut self, file: &FileRef, embryo: FileRef)
         requires { IfSome (socket_in self.old.files file.now) (λ s. length s.backlog < room_of s.state) }
         ensures { self.new ≡ changed (queued embryo) file.now self.old }
@@ -377,7 +391,7 @@ impl Files {
         self.rows.enqueue(file, embryo);
     }
 
-    /// The first embryo of that listener waits no more, if one does. It takes no memory.
+    /// Removes the first embryo of that listener, if there is one. Takes no memory.
     #[inline(always)]
     pub fn dequeue(&mut self, file: &FileRef) -> Option<FileRef>
         ensures some { IfSome result (λ f. backlog_in self.old.files file.now ≡ f ∷ drop 1 (backlog_in self.old.files file.now)) }
@@ -407,16 +421,16 @@ impl Files {
         self.rows.tell_changed()
     }
 
-    /// Returns the numbers of the files that were freed since the lists were emptied last, each once,
-    /// where that is told.
+    /// Returns the numbers of the files that were freed since the lists were last emptied, each
+    /// once, if that list is kept.
     pub fn released(&self) -> &[Ino]
         ensures { self.now.since.released ≡ true → AreReleased self.now.files self.now.next self.now.since result.now }
     {
         self.rows.released()
     }
 
-    /// Returns the sockets whose readiness may have changed since the lists were emptied last, each
-    /// once, where that is told.
+    /// Returns the sockets whose readiness may have changed since the lists were last emptied, each
+    /// once, if that list is kept.
     pub fn changed(&self) -> &[FileRef]
         ensures { self.now.since.changed ≡ true → AreChanged self.now.files self.now.since result.now }
     {
@@ -431,8 +445,8 @@ impl Files {
     }
 }
 
-/// Room for so many further files, and for all files to wait, and to be grey, at once. Nothing else
-/// changes, also on an error.
+/// Reserves room for this many further files, and for all files to be unreferenced, and to be grey,
+/// at once. Nothing else changes, also on an error.
 #[inline(always)]
 fn reserve(
     rows: &mut Rows,
@@ -455,7 +469,7 @@ fn reserve(
     widen(grey, all)
 }
 
-/// Room for so many files in a list. Nothing else changes, also on an error.
+/// Reserves room for this many files in a list. Nothing else changes, also on an error.
 #[inline(always)]
 fn widen(list: &mut Vec<FileRef>, files: usize) -> Result<(), AllocError>
     ensures items { list.new.items ≡ list.old.items }
@@ -477,34 +491,6 @@ fn free_name(names: &mut Names, gone: &Option<Endpoint>)
         return;
     };
     if let Some(name) = endpoint.name() {
-        names.unbind(name);
+        names.unbind(name.as_slice());
     }
-}
-
-/// A file more, under the number after the last, which waits for its first place. There is room for
-/// it. It takes no memory.
-#[inline(always)]
-fn enter(
-    rows: &mut Rows,
-    waiting: &mut Vec<FileRef>,
-    ino: Ino,
-    endpoint: Option<Endpoint>,
-) -> FileRef
-    requires room { 0 < rows.old.room }
-    requires next { ino ≡ rows.old.last + 1 }
-    requires fits { map.len rows.old.counts < vec_capacity waiting.old }
-    requires waiting { AreWaiting rows.old.counts waiting.old.items }
-    ensures file { result ≡ ino }
-    ensures entered { rows.new ≡ with_row ino (file_of endpoint) rows.new.room rows.old }
-    ensures new { map.contains_key rows.old.files ino ≡ false }
-    ensures unmarked { map.contains_key rows.old.marks ino ≡ false }
-    ensures room { rows.old.room ≤ rows.new.room + 1 }
-    ensures len { map.len rows.new.counts ≤ map.len rows.old.counts + 1 }
-    ensures more { map.len rows.new.marks ≤ map.len rows.old.marks + 1 }
-    ensures waiting { AreWaiting rows.new.counts waiting.new.items }
-    ensures capacity { vec_capacity waiting.new ≡ vec_capacity waiting.old }
-{
-    let file = rows.push(ino, endpoint);
-    waiting.push_reserved(file.again());
-    file
 }

@@ -7,10 +7,10 @@ ghost use Rattle.af_base.specs.Places.{backlog_in, held_in, queue_in};
 ghost use Rattle.af_base.specs.Refusals.{room_of};
 ghost use Rattle.af_base.specs.Whole.{IsMessageWithin};
 ghost use Rattle.af_ledger.specs.Counted.{fewer, more, places_in, IsCountable, IsCounted};
-ghost use Rattle.af_ledger.specs.Kept.{count_in_map};
-ghost use Rattle.af_desc.specs.Filed.{hung_up, popped, received_from, received_of, socket_in};
-ghost use Rattle.af_desc.specs.Lined.{with_line, without_line};
-ghost use Rattle.af_desc.specs.Rowed.{file_of, is_due, is_white_in, marking};
+ghost use Rattle.af_ledger.specs.Tally.{count_in_map};
+ghost use Rattle.af_desc.specs.FilesView.{hung_up, popped, received_from, received_of, socket_in};
+ghost use Rattle.af_desc.specs.LinesView.{with_line, without_line};
+ghost use Rattle.af_desc.specs.RowsView.{file_of, is_due, is_white_in, marking};
 
 use crate::row::Row;
 use crate::socket::{Endpoint, Socket};
@@ -19,18 +19,17 @@ use af_base::limits::MAX_MESSAGES;
 use af_base::names::{FileRef, Ino};
 use af_ledger::{Count, Place};
 use af_mark::{Color, Mark};
-use af_order::Keyed;
 use af_queue::{Chain, Msg, Node, Queue, Taken, pool};
+use ordered_slab::OrderedSlab;
 use slab::Slab;
 use std::alloc::{AllocError, Global};
 use std::marker::Model;
 
-/// A row for each file: what it is, what it has to receive, how many places hold it, its mark, and
-/// whether it is noted. They come and go together, and stand in one table, and all messages in
-/// another; a contract sees them as four maps.
+/// A row for each file: what it is, its queue, its count, its mark, and whether it is noted. All
+/// rows are in one table, and all messages in another; a contract sees them as four maps.
 #[derive(Drop)]
 pub struct Lines {
-    rows: Keyed<Row>,
+    rows: OrderedSlab<Row>,
     /// The messages of all queues.
     nodes: Slab<Node>,
 }
@@ -39,10 +38,10 @@ impl Model for Lines {
     ghost use Rattle.std.specs.FinMap as map;
     ghost use Rattle.std.specs.Coded.{codes};
     ghost use Rattle.af_queue.specs.Chains.{has_room};
-    ghost use Rattle.af_desc.specs.Lined.{Lined, noted_of};
-    ghost use Rattle.af_desc.specs.Rowed.{counts_of, files_of, marks_of, AreChained};
+    ghost use Rattle.af_desc.specs.LinesView.{LinesView, noted_of};
+    ghost use Rattle.af_desc.specs.RowsView.{counts_of, files_of, marks_of, AreChained};
 
-    ghost Value = { Lined };
+    ghost Value = { LinesView };
 
     ghost coded = { Prim.hlevel (codes, map.code) };
 
@@ -52,8 +51,8 @@ impl Model for Lines {
 }
 
 impl Lines {
-    /// No row. It takes no memory.
-    #[tactic(auto, using(crate::proofs::Rowed::chains, af_order::proofs::Parts::parts))]
+    /// Makes an empty table. Takes no memory.
+    #[tactic(auto, using(crate::proofs::RowsView::chains, ordered_slab::proofs::Parts::parts))]
     pub fn new(alloc: Global) -> Lines
         ensures files { result.files ≡ map.empty }
         ensures counts { result.counts ≡ map.empty }
@@ -62,14 +61,14 @@ impl Lines {
         ensures last { result.last ≡ 0 }
     {
         Lines {
-            rows: Keyed::new(alloc),
+            rows: OrderedSlab::new(alloc),
             nodes: Slab::new(alloc),
         }
     }
 
-    /// How many rows there are.
+    /// Returns how many rows there are.
     #[inline(always)]
-    #[tactic(auto, using(crate::proofs::Rowed::chains, af_order::proofs::Parts::parts))]
+    #[tactic(auto, using(crate::proofs::RowsView::chains, ordered_slab::proofs::Parts::parts))]
     pub fn len(&self) -> usize
         ensures files { result ≡ map.len self.now.files }
         ensures counts { result ≡ map.len self.now.counts }
@@ -79,10 +78,10 @@ impl Lines {
         self.rows.len()
     }
 
-    /// Room for so many rows more: then `push` needs no memory for them, and no other call ever does.
-    /// Nothing else changes, also on an error.
+    /// Reserves room for this many rows more: then `push` needs no memory for them, and no other
+    /// call ever does. Nothing else changes, also on an error.
     #[inline(always)]
-    #[tactic(auto, using(crate::proofs::Rowed::chains))]
+    #[tactic(auto, using(crate::proofs::RowsView::chains))]
     pub fn reserve(&mut self, rows: usize) -> Result<(), AllocError>
         ensures same { self.new ≡ record self.old { room = self.new.room } }
         ensures ok { OnOk result (rows ≤ self.new.room) }
@@ -92,15 +91,15 @@ impl Lines {
         self.rows.reserve(rows)
     }
 
-    /// A file more, under a number above all others that there were, which has nothing to receive, no
-    /// place holds yet, and no pass has marked. There is room for it.
+    /// Adds a file, under a number above all earlier ones, with an empty queue, unmarked, and with
+    /// this place as its first reference. There is room for it.
     #[inline(always)]
-    #[tactic(auto, using(crate::proofs::Rowed::chains, af_order::proofs::Parts::parts))]
-    pub fn push(&mut self, ino: Ino, endpoint: Option<Endpoint>) -> FileRef
+    #[tactic(auto, using(crate::proofs::RowsView::chains, ordered_slab::proofs::Parts::parts))]
+    pub fn push(&mut self, ino: Ino, endpoint: Option<Endpoint>, place: &Place) -> FileRef
         requires room { 0 < self.old.room }
         requires above { self.old.last < ino }
         ensures file { result ≡ ino }
-        ensures pushed { self.new ≡ with_line ino (file_of endpoint) self.new.room self.old }
+        ensures pushed { self.new ≡ with_line ino (file_of endpoint) place.now self.new.room self.old }
         ensures new { map.contains_key self.old.files ino ≡ false }
         ensures uncounted { map.contains_key self.old.counts ino ≡ false }
         ensures unmarked { map.contains_key self.old.marks ino ≡ false }
@@ -108,12 +107,14 @@ impl Lines {
         ensures room { self.old.room ≤ self.new.room + 1 }
     {
         if let Some(endpoint) = &endpoint {
-            endpoint.is_silent();
+            endpoint.lemma_is_silent();
         }
+        let mut count = Count::none();
+        count.add(place);
         let row = Row {
             endpoint,
             chain: Chain::empty(),
-            count: Count::none(),
+            count,
             mark: Mark::none(),
             noted: false,
             place: 0,
@@ -121,11 +122,10 @@ impl Lines {
         self.rows.push(ino, row)
     }
 
-    /// A file that has nothing to receive goes, and the socket that it was is handed on; a plain file
-    /// and a stranger were none. Whether it was there, and is not marked in this pass. It takes no
-    /// memory.
+    /// Removes a file whose queue is empty, and returns its socket, if it was one. Returns also
+    /// whether it was known, and unmarked in this pass. Takes no memory.
     #[inline(always)]
-    #[tactic(auto, using(crate::proofs::Rowed::chains, af_order::proofs::Parts::parts))]
+    #[tactic(auto, using(crate::proofs::RowsView::chains, ordered_slab::proofs::Parts::parts))]
     pub fn remove(&mut self, file: &FileRef, epoch: u64) -> (Option<Endpoint>, bool)
         requires silent { queue_in self.old.files file.now ≡ [] }
         ensures socket { result.0 ≡ socket_in self.old.files file.now }
@@ -137,13 +137,13 @@ impl Lines {
             return (None, false);
         };
         if let Some(endpoint) = &row.endpoint {
-            endpoint.is_silent();
+            endpoint.lemma_is_silent();
         }
         let white = matches!(row.mark.color_in(epoch), Color::White);
         (row.endpoint, white)
     }
 
-    /// The socket that a file is; a plain file and a stranger are none.
+    /// Returns the socket that a file is; `None` for a plain or unknown file.
     #[inline(always)]
     pub fn socket(&self, file: &FileRef) -> Option<Socket<'_>>
         ensures { result ≡ socket_in self.now.files file.now }
@@ -153,9 +153,9 @@ impl Lines {
         Some(Socket::of(endpoint, Queue::of(&self.nodes, &row.chain)))
     }
 
-    /// How many places hold a file; nothing of a stranger.
+    /// Returns how many places hold a file; 0 for an unknown one.
     #[inline(always)]
-    #[tactic(auto, using(crate::proofs::Rowed::chains, af_order::proofs::Parts::parts))]
+    #[tactic(auto, using(crate::proofs::RowsView::chains, ordered_slab::proofs::Parts::parts))]
     pub fn count(&self, file: &FileRef) -> Option<&Count>
         ensures { option_copied result ≡ map.get self.now.counts file.now }
     {
@@ -163,9 +163,9 @@ impl Lines {
         Some(&row.count)
     }
 
-    /// A new socket is told where its peer stands: a hint.
+    /// Sets the hint of a new socket to the key of its peer.
     #[inline(always)]
-    #[tactic(auto, using(crate::proofs::Rowed::rows, af_order::proofs::Parts::parts))]
+    #[tactic(auto, using(crate::proofs::RowsView::rows, ordered_slab::proofs::Parts::parts))]
     pub fn point(&mut self, file: &FileRef, peer: &FileRef)
         ensures { self.new ≡ self.old }
     {
@@ -178,9 +178,9 @@ impl Lines {
         endpoint.point(peer);
     }
 
-    /// The peer of that socket is gone from now on.
+    /// Marks the peer of that socket as gone.
     #[inline(always)]
-    #[tactic(auto, using(crate::proofs::Rowed::rows, af_order::proofs::Parts::parts))]
+    #[tactic(auto, using(crate::proofs::RowsView::rows, ordered_slab::proofs::Parts::parts))]
     pub fn hang_up(&mut self, file: &FileRef)
         ensures { self.new ≡ record self.old { files = change_socket_at hung_up self.old.files file.now } }
     {
@@ -193,9 +193,9 @@ impl Lines {
         endpoint.hang_up();
     }
 
-    /// That socket is connected to this peer from now on.
+    /// Connects that socket to this peer.
     #[inline(always)]
-    #[tactic(auto, using(crate::proofs::Rowed::rows, af_order::proofs::Parts::parts))]
+    #[tactic(auto, using(crate::proofs::RowsView::rows, ordered_slab::proofs::Parts::parts))]
     pub fn connect(&mut self, file: &FileRef, peer: &FileRef)
         ensures { self.new ≡ record self.old { files = change_socket_at (connected peer.now) self.old.files file.now } }
     {
@@ -208,9 +208,9 @@ impl Lines {
         endpoint.connect(peer);
     }
 
-    /// That socket, which has no name, has this one from now on. On an error nothing has changed.
+    /// Gives that socket, which has no name, this one. On an error nothing has changed.
     #[inline(always)]
-    #[tactic(auto, using(crate::proofs::Rowed::rows, af_order::proofs::Parts::parts))]
+    #[tactic(auto, using(crate::proofs::RowsView::rows, ordered_slab::proofs::Parts::parts))]
     pub fn bind(&mut self, file: &FileRef, alloc: Global, name: Items<u8>) -> Result<(), AllocError>
         requires { IfSome (socket_in self.old.files file.now) (λ s. s.name ≡ None) }
         ensures ok { OnOk result (self.new ≡ record self.old { files = change_socket_at (bound name) self.old.files file.now }) }
@@ -225,10 +225,10 @@ impl Lines {
         endpoint.bind(alloc, name)
     }
 
-    /// That socket, which has a name and no embryos, waits for connections from now on, so many at
-    /// most. On an error nothing has changed.
+    /// Makes that socket, which has a name and no embryos, a listener with this backlog. On an
+    /// error nothing has changed.
     #[inline(always)]
-    #[tactic(auto, using(crate::proofs::Rowed::rows, af_order::proofs::Parts::parts))]
+    #[tactic(auto, using(crate::proofs::RowsView::rows, ordered_slab::proofs::Parts::parts))]
     pub fn listen(&mut self, file: &FileRef, alloc: Global, most: u32) -> Result<(), AllocError>
         requires named { IfSome (socket_in self.old.files file.now) (λ s. is_none s.name ≡ false) }
         requires nobody { IfSome (socket_in self.old.files file.now) (λ s. s.backlog ≡ []) }
@@ -244,9 +244,9 @@ impl Lines {
         endpoint.listen(alloc, most)
     }
 
-    /// An embryo more waits at that listener, last, for which its backlog has room.
+    /// Appends an embryo to the backlog of that listener, which has room for it.
     #[inline(always)]
-    #[tactic(auto, using(crate::proofs::Rowed::rows, af_order::proofs::Parts::parts))]
+    #[tactic(auto, using(crate::proofs::RowsView::rows, ordered_slab::proofs::Parts::parts))]
     pub fn enqueue(&mut self, file: &FileRef, embryo: FileRef)
         requires { IfSome (socket_in self.old.files file.now) (λ s. length s.backlog < room_of s.state) }
         ensures { self.new ≡ record self.old { files = change_socket_at (queued embryo) self.old.files file.now } }
@@ -260,9 +260,9 @@ impl Lines {
         endpoint.enqueue(embryo);
     }
 
-    /// The first embryo of that listener waits no more, if one does.
+    /// Removes the first embryo of that listener, if there is one.
     #[inline(always)]
-    #[tactic(auto, using(crate::proofs::Rowed::rows, af_order::proofs::Parts::parts))]
+    #[tactic(auto, using(crate::proofs::RowsView::rows, ordered_slab::proofs::Parts::parts))]
     pub fn dequeue(&mut self, file: &FileRef) -> Option<FileRef>
         ensures some { IfSome result (λ f. backlog_in self.old.files file.now ≡ f ∷ drop 1 (backlog_in self.old.files file.now)) }
         ensures none { IfNone result (backlog_in self.old.files file.now ≡ []) }
@@ -286,10 +286,10 @@ impl Lines {
         pool::room(&mut self.nodes)
     }
 
-    /// Appends a message to the queue of that socket, which is not full. A plain file or a stranger has
-    /// none, and the message is dropped. It cannot fail, since there is room.
+    /// Appends a message to the queue of that socket, which is not full. For a plain or unknown
+    /// file it drops the message. Cannot fail, since there is room.
     #[inline(always)]
-    #[tactic(auto, using(crate::proofs::Rowed::messages, af_order::proofs::Parts::parts))]
+    #[tactic(auto, using(crate::proofs::RowsView::messages, ordered_slab::proofs::Parts::parts))]
     pub fn push_message(&mut self, file: &FileRef, message: Msg)
         requires few { length (queue_in self.old.files file.now) < MAX_MESSAGES }
         requires within { IsMessageWithin message }
@@ -301,9 +301,9 @@ impl Lines {
         }
     }
 
-    /// The first message out of the queue of that socket, if there is one. It takes no memory.
+    /// Removes the first message from the queue of that socket, if there is one. Takes no memory.
     #[inline(always)]
-    #[tactic(auto, using(crate::proofs::Rowed::messages, af_order::proofs::Parts::parts))]
+    #[tactic(auto, using(crate::proofs::RowsView::messages, ordered_slab::proofs::Parts::parts))]
     pub fn pop_message(&mut self, file: &FileRef) -> Option<Msg>
         ensures some { IfSome result (λ m. queue_in self.old.files file.now ≡ m ∷ drop 1 (queue_in self.old.files file.now)) }
         ensures none { IfNone result (queue_in self.old.files file.now ≡ []) }
@@ -313,10 +313,10 @@ impl Lines {
         row.pop(&mut self.nodes, file.ino())
     }
 
-    /// What a receive of at most so many bytes takes out of the queue of that socket (recvmsg(2)):
-    /// nothing, where it is a plain file or a stranger. On an error nothing has changed.
+    /// Takes from the queue of that socket what a receive of at most this many bytes gives
+    /// (recvmsg(2)); nothing for a plain or unknown file. On an error nothing has changed.
     #[inline(always)]
-    #[tactic(auto, using(crate::proofs::Rowed::messages, af_order::proofs::Parts::parts))]
+    #[tactic(auto, using(crate::proofs::RowsView::messages, ordered_slab::proofs::Parts::parts))]
     pub fn take(&mut self, file: &FileRef, alloc: Global, max: usize) -> Result<Taken, AllocError>
         requires { 0 < max }
         ensures taken { IfOk result (λ t. t ≡ received_of (socket_in self.old.files file.now) max) }
@@ -329,9 +329,9 @@ impl Lines {
         row.take(&mut self.nodes, file.ino(), alloc, max)
     }
 
-    /// One place more of a file, which is there. Whether it had none. It takes no memory.
+    /// Adds one place of a file, which is known. Returns whether it had none. Takes no memory.
     #[inline(always)]
-    #[tactic(auto, using(crate::proofs::Rowed::chains, af_order::proofs::Parts::parts, af_order::proofs::Values::lent, af_ledger::proofs::Waiting::counted))]
+    #[tactic(auto, using(crate::proofs::RowsView::chains, ordered_slab::proofs::Parts::parts, ordered_slab::proofs::Values::lent, af_ledger::proofs::Waiting::counted))]
     pub fn add_place(&mut self, place: &Place, file: &FileRef) -> bool
         requires known { IsTrue (map.contains_key self.old.counts file.now) }
         requires countable { IsCountable place.now (count_in_map self.old.counts file.now) }
@@ -345,9 +345,9 @@ impl Lines {
         first
     }
 
-    /// One place less of a file, which has one. Whether it was the last. It takes no memory.
+    /// Drops one place of a file, which has one. Returns whether it was the last. Takes no memory.
     #[inline(always)]
-    #[tactic(auto, using(crate::proofs::Rowed::chains, af_order::proofs::Parts::parts, af_order::proofs::Values::lent, af_ledger::proofs::Waiting::counted))]
+    #[tactic(auto, using(crate::proofs::RowsView::chains, ordered_slab::proofs::Parts::parts, ordered_slab::proofs::Values::lent, af_ledger::proofs::Waiting::counted))]
     pub fn sub_place(&mut self, place: &Place, file: &FileRef) -> bool
         requires { IsCounted place.now (count_in_map self.old.counts file.now) }
         ensures counts { self.new ≡ record self.old { counts = map.insert self.old.counts file.now (fewer place.now (count_in_map self.old.counts file.now)) } }
@@ -359,9 +359,9 @@ impl Lines {
         row.count.is_none()
     }
 
-    /// The mark of a file; nothing of a stranger.
+    /// Returns the mark of a file, if it is known.
     #[inline(always)]
-    #[tactic(auto, using(crate::proofs::Rowed::chains, af_order::proofs::Parts::parts))]
+    #[tactic(auto, using(crate::proofs::RowsView::chains, ordered_slab::proofs::Parts::parts))]
     pub fn mark(&self, file: &FileRef) -> Option<Mark>
         ensures { result ≡ map.get self.now.marks file.now }
     {
@@ -369,9 +369,9 @@ impl Lines {
         Some(row.mark)
     }
 
-    /// A file, which is there, gets this mark. It takes no memory.
+    /// Sets the mark of a file, which is known. Takes no memory.
     #[inline(always)]
-    #[tactic(auto, using(crate::proofs::Rowed::chains, af_order::proofs::Parts::parts, af_order::proofs::Values::lent))]
+    #[tactic(auto, using(crate::proofs::RowsView::chains, ordered_slab::proofs::Parts::parts, ordered_slab::proofs::Values::lent))]
     pub fn set_mark(&mut self, file: &FileRef, mark: Mark)
         requires { IsTrue (map.contains_key self.old.marks file.now) }
         ensures set { self.new ≡ record self.old { marks = map.insert self.old.marks file.now mark } }
@@ -385,7 +385,7 @@ impl Lines {
     /// in the list, or black at once, if it holds nothing and may be scanned. Returns whether it is
     /// black, and nothing where it was not marked now.
     #[inline(always)]
-    #[tactic(auto, using(crate::proofs::Rowed::chains, af_order::proofs::Parts::parts, af_order::proofs::Values::lent))]
+    #[tactic(auto, using(crate::proofs::RowsView::chains, ordered_slab::proofs::Parts::parts, ordered_slab::proofs::Values::lent))]
     pub fn visit(&mut self, file: &FileRef, epoch: u64, at: u32, may_scan: bool) -> Option<bool>
         ensures due { is_some result ≡ is_due epoch self.old.counts self.old.marks file.now }
         ensures marked { IfSome result (λ black. self.new ≡ record self.old { marks = map.insert self.old.marks file.now (marking epoch at black) }) }
@@ -406,9 +406,9 @@ impl Lines {
         Some(black)
     }
 
-    /// Returns whether a file is noted; nothing of a stranger.
+    /// Returns whether a file is noted, if it is known.
     #[inline(always)]
-    #[tactic(auto, using(crate::proofs::Rowed::chains, af_order::proofs::Parts::parts))]
+    #[tactic(auto, using(crate::proofs::RowsView::chains, ordered_slab::proofs::Parts::parts))]
     pub fn noted(&self, file: &FileRef) -> Option<bool>
         ensures { result ≡ map.get self.now.noted file.now }
     {
@@ -416,7 +416,7 @@ impl Lines {
         Some(row.noted)
     }
 
-    /// Returns whether a file is noted; a stranger is not.
+    /// Returns whether a file is noted; an unknown one is not.
     #[inline(always)]
     pub fn is_noted(&self, file: &FileRef) -> bool
         ensures { result ≡ option_map_or (λ b. b) (map.get self.now.noted file.now) false }
@@ -424,7 +424,7 @@ impl Lines {
         matches!(self.noted(file), Some(true))
     }
 
-    /// Returns where a file stands in the list of those that are noted: a hint.
+    /// Returns the position of a file in the list of noted ones: a hint.
     #[inline(always)]
     pub fn place(&self, file: &FileRef) -> usize {
         match self.rows.get(file) {
@@ -433,10 +433,9 @@ impl Lines {
         }
     }
 
-    /// Keeps where a file stands in that list from now on: a hint. Nothing that a contract sees
-    /// changes.
+    /// Keeps the position of a file in that list: a hint, which no contract sees.
     #[inline(always)]
-    #[tactic(auto, using(crate::proofs::Rowed::rows, af_order::proofs::Parts::parts))]
+    #[tactic(auto, using(crate::proofs::RowsView::rows, ordered_slab::proofs::Parts::parts))]
     pub fn put_place(&mut self, file: &FileRef, place: u32)
         ensures { self.new ≡ self.old }
     {
@@ -448,7 +447,7 @@ impl Lines {
 
     /// Notes a file, which is there, or strikes its note. It takes no memory.
     #[inline(always)]
-    #[tactic(auto, using(crate::proofs::Rowed::chains, af_order::proofs::Parts::parts, af_order::proofs::Values::lent))]
+    #[tactic(auto, using(crate::proofs::RowsView::chains, ordered_slab::proofs::Parts::parts, ordered_slab::proofs::Values::lent))]
     pub fn set_noted(&mut self, file: &FileRef, noted: bool)
         requires { IsTrue (map.contains_key self.old.noted file.now) }
         ensures set { self.new ≡ record self.old { noted = map.insert self.old.noted file.now noted } }
@@ -458,9 +457,9 @@ impl Lines {
         row.noted = noted;
     }
 
-    /// Nothing at run time: it says that what is kept of a file comes and goes together.
-    #[tactic(auto, using(crate::proofs::Rowed::chains, af_order::proofs::Parts::parts))]
-    pub fn are_one(&self)
+    /// Does nothing at run time. Shows that all parts of a file come and go together.
+    #[tactic(auto, using(crate::proofs::RowsView::chains, ordered_slab::proofs::Parts::parts))]
+    pub fn lemma_are_one(&self)
         ensures marks { (f : ℕ) → map.contains_key self.now.marks f ≡ map.contains_key self.now.files f }
         ensures counts { (f : ℕ) → map.contains_key self.now.counts f ≡ map.contains_key self.now.files f }
         ensures noted { (f : ℕ) → map.contains_key self.now.noted f ≡ map.contains_key self.now.files f }
@@ -469,9 +468,9 @@ impl Lines {
         let _rows = &self.rows;
     }
 
-    /// Where the row of a number stands; nothing of a stranger. A search: who has a `FileRef` needs
+    /// Returns the key of the row of a number, if there is one, by a search. A `FileRef` needs
     /// none.
-    #[tactic(auto, using(crate::proofs::Rowed::chains, af_order::proofs::Parts::parts))]
+    #[tactic(auto, using(crate::proofs::RowsView::chains, ordered_slab::proofs::Parts::parts))]
     pub fn find(&self, ino: Ino) -> Option<FileRef>
         ensures there { IfSome result (λ f. (f ≡ ino) × IsTrue (map.contains_key self.now.files ino)) }
         ensures none { IfNone result (map.contains_key self.now.files ino ≡ false) }
@@ -480,10 +479,10 @@ impl Lines {
         self.rows.find(ino)
     }
 
-    /// The least number above this one that has a row, if there is one, and where it stands in the
-    /// order; this one need not have one. No search behind what was answered last.
+    /// Returns the least number above this one that has a row, if there is one, and its position in
+    /// the order. This number need not have a row. Behind the last answer it needs no search.
     #[inline(always)]
-    #[tactic(auto, using(crate::proofs::Rowed::chains, af_order::proofs::Parts::parts))]
+    #[tactic(auto, using(crate::proofs::RowsView::chains, ordered_slab::proofs::Parts::parts))]
     pub fn next_after(&self, ino: Ino, at: usize) -> Option<(FileRef, usize)>
         ensures above { IfSome result (λ n. ino < n.0) }
         ensures there { IfSome result (λ n. IsTrue (map.contains_key self.now.files n.0)) }

@@ -5,21 +5,21 @@ ghost use Rattle.std.specs.FinMap as map;
 ghost use Rattle.af_base.specs.Counts.{count_in};
 ghost use Rattle.af_base.specs.Changes.{change_at};
 ghost use Rattle.af_base.specs.Places.{held_in};
-ghost use Rattle.af_ledger.specs.Kept.{count_in_map};
+ghost use Rattle.af_ledger.specs.Tally.{count_in_map};
 ghost use Rattle.af_mark.specs.Grey.{AreUpTo, colors_in, placed};
 ghost use Rattle.af_mark.specs.Marked.{blackened, is_grey, is_marked, is_white, knows, shaded, visited};
 ghost use Rattle.af_mark.specs.declared.color.Color.TheVariants.{Black, Grey, White};
 
 use crate::files::Files;
 use crate::rows::Rows;
-use af_base::file_list::unlist;
+use af_base::file_list::swap_remove_file;
 use af_base::names::{FileRef, Ino};
 use af_mark::{Color, Mark, noted};
 
 impl Files {
-    /// A pass begins, over the files that are there: none is marked. It costs the same however many
-    /// there are, but for one time in 2^64.
-    pub fn unmark(&mut self)
+    /// Begins a pass over the present files: none is marked. Costs the same for any number of
+    /// files, but for one time in 2^64.
+    pub fn start_epoch(&mut self)
         ensures unmarked { (f : ℕ) → is_marked self.new.marks f ≡ false }
         ensures known { (f : ℕ) → knows self.new.marks f ≡ knows self.old.marks f }
         ensures bound { self.new.marks.bound ≡ self.old.next }
@@ -51,14 +51,14 @@ impl Files {
         self.white == 0
     }
 
-    /// The bound of the pass: files from this number on were born since it began.
+    /// Returns the bound of the pass: files from this number on were born since it began.
     pub fn bound(&self) -> Ino
         ensures { result ≡ self.now.marks.bound }
     {
         Ino(self.bound)
     }
 
-    /// A file is marked, and is to be scanned, if it was born before the pass and is not marked.
+    /// Marks a file grey, if it was born before the pass and is not marked.
     #[inline(always)]
     pub fn shade(&mut self, file: &FileRef)
         ensures { self.new ≡ record self.old { marks = shaded file.now self.old.marks } }
@@ -88,12 +88,12 @@ impl Files {
         };
         self.white -= 1;
         if !scanned {
-            self.grey.push_reserved(file.again());
+            self.grey.push_reserved(file.duplicate());
         }
         scanned
     }
 
-    /// A white file is marked, and is to be scanned.
+    /// Marks a white file grey.
     #[inline(always)]
     fn push_grey(&mut self, file: &FileRef)
         requires white { is_white self.old.marks file.now ≡ true }
@@ -108,22 +108,22 @@ impl Files {
         };
         self.rows.set_mark(file, mark);
         self.white -= 1;
-        self.grey.push_reserved(file.again());
+        self.grey.push_reserved(file.duplicate());
     }
 
-    /// A file that is to be scanned, if there is one. It stays so until it is `scanned`.
+    /// Returns a grey file, if there is one. It stays grey until `blacken`.
     #[inline(always)]
     pub fn next_grey(&self) -> Option<FileRef>
         ensures some { IfSome result (λ f. is_grey self.now.marks f ≡ true) }
         ensures none { IfNone result ((f : ℕ) → is_grey self.now.marks f ≡ false) }
     {
         let file = self.grey.last()?;
-        Some(file.again())
+        Some(file.duplicate())
     }
 
-    /// A file that was to be scanned is so no more, and stays marked.
+    /// Makes a grey file black.
     #[inline(always)]
-    pub fn scanned(&mut self, file: &FileRef)
+    pub fn blacken(&mut self, file: &FileRef)
         ensures { self.new ≡ record self.old { marks = blackened file.now self.old.marks } }
     {
         // While no pass marks nothing is grey, and there is nothing to look up.
@@ -138,7 +138,7 @@ impl Files {
         }
     }
 
-    /// A grey file is scanned. Its place in the list is a hint.
+    /// Makes a grey file black. Its position in the list is a hint.
     #[inline(always)]
     fn take_grey(&mut self, file: &FileRef, at: usize)
         requires { is_grey self.old.marks file.now ≡ true }
@@ -151,10 +151,10 @@ impl Files {
             at: 0,
         };
         self.rows.set_mark(file, mark);
-        strike(&mut self.rows, &mut self.grey, file.ino(), at);
+        remove_listed(&mut self.rows, &mut self.grey, file.ino(), at);
     }
 
-    /// The colour of a file, if it is known.
+    /// Returns the colour of a file, if it is known.
     #[inline(always)]
     fn color(&self, file: &FileRef) -> Option<Color>
         ensures { result ≡ map.get self.now.marks.colors file.now }
@@ -163,7 +163,7 @@ impl Files {
         Some(mark.color_in(self.epoch))
     }
 
-    /// Whether a file is known, and not marked.
+    /// Returns whether a file is known, and not marked.
     #[inline(always)]
     fn is_white(&self, file: &FileRef) -> bool
         ensures { result ≡ is_white self.now.marks file.now }
@@ -171,7 +171,7 @@ impl Files {
         matches!(self.color(file), Some(Color::White))
     }
 
-    /// Whether a file is marked. A stranger is not.
+    /// Returns whether a file is marked; an unknown one is not.
     #[inline(always)]
     pub fn is_marked(&self, file: &FileRef) -> bool
         ensures { result ≡ is_marked self.now.marks file.now }
@@ -183,10 +183,10 @@ impl Files {
     }
 }
 
-/// The file is in the list of the grey files once less, if it was there. The last takes its place,
+/// Removes the file from the list of the grey files once, if it is there. The last takes its place,
 /// which is noted beside that one's mark.
 #[inline(always)]
-fn strike(rows: &mut Rows, grey: &mut Vec<FileRef>, ino: Ino, at: usize)
+fn remove_listed(rows: &mut Rows, grey: &mut Vec<FileRef>, ino: Ino, at: usize)
     ensures each { (f : ℕ) → count_in f grey.new.items ≡ count_in f grey.old.items - cond (nat_eq f ino) 1 0 }
     ensures capacity { vec_capacity grey.new ≡ vec_capacity grey.old }
     ensures colors { (epoch : ℕ) → colors_in epoch rows.new.marks ≡ colors_in epoch rows.old.marks }
@@ -194,14 +194,14 @@ fn strike(rows: &mut Rows, grey: &mut Vec<FileRef>, ino: Ino, at: usize)
     ensures len { map.len rows.new.marks ≡ map.len rows.old.marks }
     ensures rest { rows.new ≡ record rows.old { marks = rows.new.marks } }
 {
-    if let Some(at) = unlist(grey, ino, at)
+    if let Some(at) = swap_remove_file(grey, ino, at)
         && let Some(moved) = grey.get(at)
     {
         note(rows, moved, noted(at));
     }
 }
 
-/// A place in the list is noted beside a file's mark.
+/// Notes a position in the list beside a file's mark.
 #[inline(always)]
 fn note(rows: &mut Rows, file: &FileRef, at: u32)
     ensures { rows.new ≡ record rows.old { marks = change_at (placed at) rows.old.marks file.now } }
@@ -212,7 +212,7 @@ fn note(rows: &mut Rows, file: &FileRef, at: u32)
     }
 }
 
-/// The pass after this one: what any earlier one marked is not marked in it.
+/// Returns the pass after this one: marks of earlier passes are none of it.
 fn next_epoch(rows: &mut Rows, epoch: u64) -> u64
     requires upto { AreUpTo epoch rows.old.marks }
     requires begins { map.contains_key rows.old.files 0 ≡ false }
@@ -226,13 +226,13 @@ fn next_epoch(rows: &mut Rows, epoch: u64) -> u64
         return epoch + 1;
     }
     // Once in 2^64 passes.
-    wash(rows);
+    clear_all_marks(rows);
     1
 }
 
-/// No file has a mark of any pass.
+/// Clears the marks of all files.
 #[cold]
-fn wash(rows: &mut Rows)
+fn clear_all_marks(rows: &mut Rows)
     requires begins { map.contains_key rows.old.files 0 ≡ false }
     ensures marks { AreUpTo 0 rows.new.marks }
     ensures known { (f : ℕ) → map.contains_key rows.new.marks f ≡ map.contains_key rows.old.marks f }
@@ -242,12 +242,12 @@ fn wash(rows: &mut Rows)
     let mut last = Ino(0);
     let mut near = 0;
     while let Some((file, at)) = rows.next_after(last, near) {
-        // Who is a file has a mark.
-        rows.are_one();
+        // Each file has a mark.
+        rows.lemma_are_one();
         rows.set_mark(&file, Mark::none());
         last = file.ino();
         near = at;
     }
     // And nobody else has one.
-    rows.are_one();
+    rows.lemma_are_one();
 }

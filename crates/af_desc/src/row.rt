@@ -1,12 +1,12 @@
-//! What is kept of one file.
+//! The row of one file.
 ghost use Rattle.std.specs.Prelude.{◌≡◌, ◌<◌, ◌∷◌, [], IfSome, IfNone, IfOk, OnOk, OnErr, drop, length, true};
 ghost use Rattle.af_base.specs.Changes.{file_with, pushed};
 ghost use Rattle.af_base.specs.Places.{contents, queue_of};
 ghost use Rattle.af_base.specs.Refusals.{socket_of};
 ghost use Rattle.af_base.specs.Whole.{IsMessageWithin};
 ghost use Rattle.af_queue.specs.Chains.{has_room, IsChain, SameElsewhere};
-ghost use Rattle.af_desc.specs.Filed.{popped, received_from, received_of};
-ghost use Rattle.af_desc.specs.Rowed.{file_in};
+ghost use Rattle.af_desc.specs.FilesView.{popped, received_from, received_of};
+ghost use Rattle.af_desc.specs.RowsView.{file_in};
 
 use crate::socket::Endpoint;
 use af_base::limits::MAX_MESSAGES;
@@ -17,21 +17,20 @@ use af_queue::{Chain, Msg, Node, Taken, pool};
 use slab::Slab;
 use std::alloc::{AllocError, Global};
 
-/// What is kept of one file: what it is, what it has to receive, how many places hold it, its mark, and
-/// whether it is noted.
+/// The row of one file: what it is, its queue, its count, its mark, and whether it is noted.
 #[derive(Drop)]
 pub struct Row {
     /// The socket that it is, but for its queue; nothing is known of a plain file.
     pub endpoint: Option<Endpoint>,
-    /// Where what it has to receive stands.
+    /// The messages of its queue.
     pub chain: Chain,
     /// How many places hold it.
     pub count: Count,
-    /// What a pass of the collector knows of it.
+    /// Its colour in a pass of the collector.
     pub mark: Mark,
     /// Whether it is in the list of those whose readiness may have changed.
     pub noted: bool,
-    /// Where in that list it stands: a hint.
+    /// Its position in that list: a hint.
     pub place: u32,
 }
 
@@ -68,7 +67,7 @@ impl Row {
         }
     }
 
-    /// The first message out of its queue, if there is one. It takes no memory.
+    /// Removes the first message from its queue, if there is one. Takes no memory.
     #[inline(always)]
     pub fn pop(&mut self, nodes: &mut Slab<Node>, owner: Ino) -> Option<Msg>
         requires chain { IsChain nodes.old self.old.chain owner }
@@ -85,8 +84,8 @@ impl Row {
         pool::pop(nodes, &mut self.chain, owner)
     }
 
-    /// What a receive of at most so many bytes takes out of its queue (recvmsg(2)): nothing of a plain
-    /// file. On an error nothing has changed.
+    /// Takes from its queue what a receive of at most this many bytes gives (recvmsg(2)); nothing
+    /// for a plain file. On an error nothing has changed.
     #[inline(always)]
     pub fn take(
         &mut self,

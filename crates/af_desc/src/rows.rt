@@ -1,4 +1,4 @@
-//! The rows of all files, and beside them the lists of what is told.
+//! The rows of all files, and beside them the lists of freed files and changed sockets.
 ghost use Rattle.std.specs.Prelude.{◌≡◌, ℕ, ◌+◌, ◌≤◌, ◌<◌, ◌∷◌, [], true, false, None, IsTrue, IsOk, IfSome, IfNone, IfErr, IfOk, OnOk, OnErr, drop, is_none, is_some, length, nat_eq, option_copied, vec_capacity, cond};
 ghost use Rattle.std.specs.FinMap as map;
 ghost use Rattle.af_base.specs.Changes.{bound, change_socket_at, connected, dequeued, listening, pushed, queued};
@@ -8,15 +8,15 @@ ghost use Rattle.af_base.specs.Refusals.{room_of};
 ghost use Rattle.af_base.specs.Whole.{IsMessageWithin};
 ghost use Rattle.af_base.specs.World.{untold};
 ghost use Rattle.af_ledger.specs.Counted.{fewer, more, places_in, IsCountable, IsCounted};
-ghost use Rattle.af_ledger.specs.Kept.{count_in_map};
-ghost use Rattle.af_desc.specs.Filed.{hung_up, popped, received_from, received_of, socket_in};
-ghost use Rattle.af_desc.specs.Rowed.{file_of, is_due, is_white_in, marking, with_row, without_row};
+ghost use Rattle.af_ledger.specs.Tally.{count_in_map};
+ghost use Rattle.af_desc.specs.FilesView.{hung_up, popped, received_from, received_of, socket_in};
+ghost use Rattle.af_desc.specs.RowsView.{file_of, is_due, is_white_in, marking, with_row, without_row};
 ghost use Rattle.af_base.specs.Told.{AreChanged, AreReleased};
 ghost use Rattle.af_desc.specs.Told.{AreListed, Notes};
 
 use crate::lines::Lines;
 use crate::socket::{Endpoint, Socket};
-use af_base::file_list::unlist;
+use af_base::file_list::swap_remove_file;
 use af_base::items::Items;
 use af_base::limits::MAX_MESSAGES;
 use af_base::names::{FileRef, Ino};
@@ -33,11 +33,11 @@ use std::snapshot::Snapshot;
 #[derive(Drop)]
 pub struct Rows {
     lines: Lines,
-    /// Whether readiness is told.
+    /// Whether the list of changed sockets is kept.
     tells_changed: bool,
     /// The files that are noted.
     changed: Vec<FileRef>,
-    /// Whether freed files are told.
+    /// Whether the list of freed files is kept.
     tells_released: bool,
     /// The numbers of those that were freed.
     released: Vec<Ino>,
@@ -50,9 +50,9 @@ impl Model for Rows {
     ghost use Rattle.std.specs.Coded.{codes};
     ghost use Rattle.std.specs.Prelude.{◌+◌, length, vec_capacity};
     ghost use Rattle.af_desc.specs.Told.{AreTold, room_in, since_of};
-    ghost use Rattle.af_desc.specs.Rowed.{Rowed};
+    ghost use Rattle.af_desc.specs.RowsView.{RowsView};
 
-    ghost Value = { Rowed };
+    ghost Value = { RowsView };
 
     ghost coded = { Prim.hlevel (codes, map.code) };
 
@@ -62,7 +62,7 @@ impl Model for Rows {
 }
 
 impl Rows {
-    /// No row. It takes no memory.
+    /// Makes an empty table. Takes no memory.
     pub fn new(alloc: Global) -> Rows
         ensures files { result.files ≡ map.empty }
         ensures counts { result.counts ≡ map.empty }
@@ -82,7 +82,7 @@ impl Rows {
         }
     }
 
-    /// How many rows there are.
+    /// Returns how many rows there are.
     #[inline(always)]
     pub fn len(&self) -> usize
         ensures files { result ≡ map.len self.now.files }
@@ -92,8 +92,8 @@ impl Rows {
         self.lines.len()
     }
 
-    /// Room for so many rows more: then `push` needs no memory for them, and no other call ever does.
-    /// Nothing else changes, also on an error.
+    /// Reserves room for this many rows more: then `push` needs no memory for them, and no other
+    /// call ever does. Nothing else changes, also on an error.
     #[inline(always)]
     pub fn reserve(&mut self, rows: usize) -> Result<(), AllocError>
         ensures same { self.new ≡ record self.old { room = self.new.room } }
@@ -114,20 +114,20 @@ impl Rows {
         Ok(())
     }
 
-    /// A file more, under the number after the last, which has nothing to receive, no
-    /// place holds yet, and no pass has marked. There is room for it.
+    /// Adds a file, under the number after the last, with an empty queue, unmarked, and with this
+    /// place as its first reference. There is room for it.
     #[inline(always)]
-    pub fn push(&mut self, ino: Ino, endpoint: Option<Endpoint>) -> FileRef
+    pub fn push(&mut self, ino: Ino, endpoint: Option<Endpoint>, place: &Place) -> FileRef
         requires room { 0 < self.old.room }
         requires next { ino ≡ self.old.last + 1 }
         ensures file { result ≡ ino }
-        ensures pushed { self.new ≡ with_row ino (file_of endpoint) self.new.room self.old }
+        ensures pushed { self.new ≡ with_row ino (file_of endpoint) place.now self.new.room self.old }
         ensures new { map.contains_key self.old.files ino ≡ false }
         ensures uncounted { map.contains_key self.old.counts ino ≡ false }
         ensures unmarked { map.contains_key self.old.marks ino ≡ false }
         ensures room { self.old.room ≤ self.new.room + 1 }
     {
-        let file = self.lines.push(ino, endpoint);
+        let file = self.lines.push(ino, endpoint, place);
         note(
             self.tells_changed,
             &mut self.lines,
@@ -137,9 +137,8 @@ impl Rows {
         file
     }
 
-    /// A file that has nothing to receive goes, and the socket that it was is handed on; a plain file
-    /// and a stranger were none. Whether it was there, and is not marked in this pass. It takes no
-    /// memory.
+    /// Removes a file whose queue is empty, and returns its socket, if it was one. Returns also
+    /// whether it was known, and unmarked in this pass. Takes no memory.
     #[inline(always)]
     pub fn remove(&mut self, file: &FileRef, epoch: u64) -> (Option<Endpoint>, bool)
         requires silent { queue_in self.old.files file.now ≡ [] }
@@ -149,11 +148,11 @@ impl Rows {
         ensures room { self.old.room ≤ self.new.room }
     {
         tell_released(self.tells_released, &self.lines, &mut self.released, file);
-        strike(&mut self.lines, &mut self.changed, file);
+        remove_listed(&mut self.lines, &mut self.changed, file);
         self.lines.remove(file, epoch)
     }
 
-    /// The socket that a file is; a plain file and a stranger are none.
+    /// Returns the socket that a file is; `None` for a plain or unknown file.
     #[inline(always)]
     pub fn socket(&self, file: &FileRef) -> Option<Socket<'_>>
         ensures { result ≡ socket_in self.now.files file.now }
@@ -161,7 +160,7 @@ impl Rows {
         self.lines.socket(file)
     }
 
-    /// How many places hold a file; nothing of a stranger.
+    /// Returns how many places hold a file; 0 for an unknown one.
     #[inline(always)]
     pub fn count(&self, file: &FileRef) -> Option<&Count>
         ensures { option_copied result ≡ map.get self.now.counts file.now }
@@ -169,7 +168,7 @@ impl Rows {
         self.lines.count(file)
     }
 
-    /// A new socket is told where its peer stands: a hint.
+    /// Sets the hint of a new socket to the key of its peer.
     #[inline(always)]
     pub fn point(&mut self, file: &FileRef, peer: &FileRef)
         ensures { self.new ≡ self.old }
@@ -177,7 +176,7 @@ impl Rows {
         self.lines.point(file, peer);
     }
 
-    /// The peer of that socket is gone from now on.
+    /// Marks the peer of that socket as gone.
     #[inline(always)]
     pub fn hang_up(&mut self, file: &FileRef)
         ensures { self.new ≡ record self.old { files = change_socket_at hung_up self.old.files file.now } }
@@ -186,7 +185,7 @@ impl Rows {
         self.lines.hang_up(file);
     }
 
-    /// That socket is connected to this peer from now on.
+    /// Connects that socket to this peer.
     #[inline(always)]
     pub fn connect(&mut self, file: &FileRef, peer: &FileRef)
         ensures { self.new ≡ record self.old { files = change_socket_at (connected peer.now) self.old.files file.now } }
@@ -195,7 +194,7 @@ impl Rows {
         self.lines.connect(file, peer);
     }
 
-    /// That socket, which has no name, has this one from now on. On an error nothing has changed.
+    /// Gives that socket, which has no name, this one. On an error nothing has changed.
     #[inline(always)]
     pub fn bind(&mut self, file: &FileRef, alloc: Global, name: Items<u8>) -> Result<(), AllocError>
         requires { IfSome (socket_in self.old.files file.now) (λ s. s.name ≡ None) }
@@ -205,8 +204,8 @@ impl Rows {
         self.lines.bind(file, alloc, name)
     }
 
-    /// That socket, which has a name and no embryos, waits for connections from now on, so many at
-    /// most. On an error nothing has changed.
+    /// Makes that socket, which has a name and no embryos, a listener with this backlog. On an
+    /// error nothing has changed.
     #[inline(always)]
     pub fn listen(&mut self, file: &FileRef, alloc: Global, most: u32) -> Result<(), AllocError>
         requires named { IfSome (socket_in self.old.files file.now) (λ s. is_none s.name ≡ false) }
@@ -219,7 +218,7 @@ impl Rows {
         Ok(())
     }
 
-    /// An embryo more waits at that listener, last, for which its backlog has room.
+    /// Appends an embryo to the backlog of that listener, which has room for it.
     #[inline(always)]
     pub fn enqueue(&mut self, file: &FileRef, embryo: FileRef)
         requires { IfSome (socket_in self.old.files file.now) (λ s. length s.backlog < room_of s.state) }
@@ -229,7 +228,7 @@ impl Rows {
         self.lines.enqueue(file, embryo);
     }
 
-    /// The first embryo of that listener waits no more, if one does.
+    /// Removes the first embryo of that listener, if there is one.
     #[inline(always)]
     pub fn dequeue(&mut self, file: &FileRef) -> Option<FileRef>
         ensures some { IfSome result (λ f. backlog_in self.old.files file.now ≡ f ∷ drop 1 (backlog_in self.old.files file.now)) }
@@ -250,8 +249,8 @@ impl Rows {
         self.lines.room_for_message()
     }
 
-    /// Appends a message to the queue of that socket, which is not full. A plain file or a stranger has
-    /// none, and the message is dropped. It cannot fail, since there is room.
+    /// Appends a message to the queue of that socket, which is not full. For a plain or unknown
+    /// file it drops the message. Cannot fail, since there is room.
     #[inline(always)]
     pub fn push_message(&mut self, file: &FileRef, message: Msg)
         requires few { length (queue_in self.old.files file.now) < MAX_MESSAGES }
@@ -263,7 +262,7 @@ impl Rows {
         self.lines.push_message(file, message);
     }
 
-    /// The first message out of the queue of that socket, if there is one. It takes no memory.
+    /// Removes the first message from the queue of that socket, if there is one. Takes no memory.
     #[inline(always)]
     pub fn pop_message(&mut self, file: &FileRef) -> Option<Msg>
         ensures some { IfSome result (λ m. queue_in self.old.files file.now ≡ m ∷ drop 1 (queue_in self.old.files file.now)) }
@@ -275,8 +274,8 @@ impl Rows {
         Some(message)
     }
 
-    /// What a receive of at most so many bytes takes out of the queue of that socket (recvmsg(2)):
-    /// nothing, where it is a plain file or a stranger. On an error nothing has changed.
+    /// Takes from the queue of that socket what a receive of at most this many bytes gives
+    /// (recvmsg(2)); nothing for a plain or unknown file. On an error nothing has changed.
     #[inline(always)]
     pub fn take(&mut self, file: &FileRef, alloc: Global, max: usize) -> Result<Taken, AllocError>
         requires { 0 < max }
@@ -289,7 +288,7 @@ impl Rows {
         Ok(taken)
     }
 
-    /// One place more of a file, which is there. Whether it had none. It takes no memory.
+    /// Adds one place of a file, which is known. Returns whether it had none. Takes no memory.
     #[inline(always)]
     pub fn add_place(&mut self, place: &Place, file: &FileRef) -> bool
         requires known { IsTrue (map.contains_key self.old.counts file.now) }
@@ -301,7 +300,7 @@ impl Rows {
         self.lines.add_place(place, file)
     }
 
-    /// One place less of a file, which has one. Whether it was the last. It takes no memory.
+    /// Drops one place of a file, which has one. Returns whether it was the last. Takes no memory.
     #[inline(always)]
     pub fn sub_place(&mut self, place: &Place, file: &FileRef) -> bool
         requires { IsCounted place.now (count_in_map self.old.counts file.now) }
@@ -312,7 +311,7 @@ impl Rows {
         self.lines.sub_place(place, file)
     }
 
-    /// The mark of a file; nothing of a stranger.
+    /// Returns the mark of a file, if it is known.
     #[inline(always)]
     pub fn mark(&self, file: &FileRef) -> Option<Mark>
         ensures { result ≡ map.get self.now.marks file.now }
@@ -320,7 +319,7 @@ impl Rows {
         self.lines.mark(file)
     }
 
-    /// A file, which is there, gets this mark. It takes no memory.
+    /// Sets the mark of a file, which is known. Takes no memory.
     #[inline(always)]
     pub fn set_mark(&mut self, file: &FileRef, mark: Mark)
         requires { IsTrue (map.contains_key self.old.marks file.now) }
@@ -345,14 +344,14 @@ impl Rows {
         self.lines.visit(file, epoch, at, may_scan)
     }
 
-    /// Nothing at run time: it says that what is kept of a file comes and goes together.
-    pub fn are_one(&self)
+    /// Does nothing at run time. Shows that all parts of a file come and go together.
+    pub fn lemma_are_one(&self)
         ensures { (f : ℕ) → map.contains_key self.now.marks f ≡ map.contains_key self.now.files f }
     {
-        self.lines.are_one();
+        self.lines.lemma_are_one();
     }
 
-    /// Where the row of a number stands; nothing of a stranger. A search: who has a `FileRef` needs
+    /// Returns the key of the row of a number, if there is one, by a search. A `FileRef` needs
     /// none.
     pub fn find(&self, ino: Ino) -> Option<FileRef>
         ensures there { IfSome result (λ f. (f ≡ ino) × IsTrue (map.contains_key self.now.files ino)) }
@@ -362,8 +361,8 @@ impl Rows {
         self.lines.find(ino)
     }
 
-    /// The least number above this one that has a row, if there is one, and where it stands in the
-    /// order; this one need not have one. No search behind what was answered last.
+    /// Returns the least number above this one that has a row, if there is one, and its position in
+    /// the order. This number need not have a row. Behind the last answer it needs no search.
     #[inline(always)]
     pub fn next_after(&self, ino: Ino, at: usize) -> Option<(FileRef, usize)>
         ensures above { IfSome result (λ n. ino < n.0) }
@@ -381,7 +380,7 @@ impl Rows {
         ensures err { OnErr result (self.new ≡ record self.old { room = self.new.room }) }
     {
         widen(&mut self.released, self.lines.len())?;
-        self.lines.are_one();
+        self.lines.lemma_are_one();
         unnote(&mut self.lines, &mut self.changed);
         self.released.clear();
         self.since = Snapshot::of(&self.lines);
@@ -396,7 +395,7 @@ impl Rows {
         ensures err { OnErr result (self.new ≡ record self.old { room = self.new.room }) }
     {
         widen(&mut self.changed, self.lines.len())?;
-        self.lines.are_one();
+        self.lines.lemma_are_one();
         unnote(&mut self.lines, &mut self.changed);
         self.released.clear();
         self.since = Snapshot::of(&self.lines);
@@ -404,21 +403,21 @@ impl Rows {
         Ok(())
     }
 
-    /// Returns the numbers of the files that were freed since the lists were emptied last, each once,
-    /// where that is told.
+    /// Returns the numbers of the files that were freed since the lists were last emptied, each
+    /// once, if that list is kept.
     pub fn released(&self) -> &[Ino]
         ensures { self.now.since.released ≡ true → AreReleased self.now.files (self.now.last + 1) self.now.since result.now }
     {
-        self.lines.are_one();
+        self.lines.lemma_are_one();
         self.released.as_slice()
     }
 
-    /// Returns the sockets whose readiness may have changed since the lists were emptied last, each
-    /// once, where that is told.
+    /// Returns the sockets whose readiness may have changed since the lists were last emptied, each
+    /// once, if that list is kept.
     pub fn changed(&self) -> &[FileRef]
         ensures { self.now.since.changed ≡ true → AreChanged self.now.files self.now.since result.now }
     {
-        self.lines.are_one();
+        self.lines.lemma_are_one();
         self.changed.as_slice()
     }
 
@@ -426,14 +425,14 @@ impl Rows {
     pub fn clear_told(&mut self)
         ensures { self.new ≡ record self.old { since = record self.old.since { files = self.old.files; next = self.old.last + 1 }; room = self.new.room } }
     {
-        self.lines.are_one();
+        self.lines.lemma_are_one();
         unnote(&mut self.lines, &mut self.changed);
         self.released.clear();
         self.since = Snapshot::of(&self.lines);
     }
 }
 
-/// Makes room for so many in a list. Nothing else changes, also on an error.
+/// Reserves room for this many files in a list. Nothing else changes, also on an error.
 #[inline(always)]
 fn widen<T>(list: &mut Vec<T>, files: usize) -> Result<(), AllocError>
     ensures items { list.new.items ≡ list.old.items }
@@ -447,8 +446,7 @@ fn widen<T>(list: &mut Vec<T>, files: usize) -> Result<(), AllocError>
     list.reserve(files - list.len())
 }
 
-/// Notes a socket, where readiness is told: it is in the list from now on, which has room for it. It
-/// takes no memory.
+/// Notes a socket in the list of changed ones, if that list is kept; it has room. Takes no memory.
 #[inline(always)]
 fn note(asked: bool, lines: &mut Lines, changed: &mut Vec<FileRef>, file: &FileRef)
     requires fits { asked ≡ true → map.len lines.old.noted ≤ vec_capacity changed.old }
@@ -468,11 +466,11 @@ fn note(asked: bool, lines: &mut Lines, changed: &mut Vec<FileRef>, file: &FileR
     }
     lines.set_noted(file, true);
     lines.put_place(file, noted(changed.len()));
-    changed.push_reserved(file.again());
+    changed.push_reserved(file.duplicate());
 }
 
-/// Lists a file that goes, if it is there and freed files are told. The list has room for it. It takes
-/// no memory.
+/// Adds a file that is freed to the list of freed ones, if that list is kept; it has room. Ignores
+/// an unknown file. Takes no memory.
 #[inline(always)]
 fn tell_released(asked: bool, lines: &Lines, released: &mut Vec<Ino>, file: &FileRef)
     requires fits { asked ≡ true → length released.old.items + map.len lines.now.counts ≤ vec_capacity released.old }
@@ -486,9 +484,9 @@ fn tell_released(asked: bool, lines: &Lines, released: &mut Vec<Ino>, file: &Fil
     }
 }
 
-/// Strikes a file that goes off the list of those that are noted.
+/// Removes a freed file from the list of noted ones.
 #[inline(always)]
-fn strike(lines: &mut Lines, changed: &mut Vec<FileRef>, file: &FileRef)
+fn remove_listed(lines: &mut Lines, changed: &mut Vec<FileRef>, file: &FileRef)
     requires listed { AreListed lines.old.noted changed.old.items }
     ensures listed { AreListed (map.remove lines.old.noted file.now) changed.new.items }
     ensures lines { lines.new ≡ lines.old }
@@ -500,11 +498,11 @@ fn strike(lines: &mut Lines, changed: &mut Vec<FileRef>, file: &FileRef)
     if !lines.is_noted(file) {
         return;
     }
-    let at = unlist(changed, file.ino(), lines.place(file));
+    let at = swap_remove_file(changed, file.ino(), lines.place(file));
     place_moved(lines, changed.as_slice(), at);
 }
 
-/// Keeps where in the list the file stands that took that place: a hint.
+/// Keeps the position of the file that took that place in the list: a hint.
 fn place_moved(lines: &mut Lines, changed: &[FileRef], at: Option<usize>)
     ensures { lines.new ≡ lines.old }
 {

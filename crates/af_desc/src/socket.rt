@@ -3,7 +3,7 @@ ghost use Rattle.std.specs.Prelude.{◌≡◌, ℕ, ◌∷◌, [], ◌<◌, OnOk
 ghost use Rattle.af_base.specs.Changes.{bound, connected, dequeued, listening, queued};
 ghost use Rattle.af_base.specs.Refusals.{room_of};
 ghost use Rattle.af_base.specs.Steps.{connected_socket, idle_socket};
-ghost use Rattle.af_desc.specs.Filed.{hung_up};
+ghost use Rattle.af_desc.specs.FilesView.{hung_up};
 
 use af_base::events::{SockType, State};
 use af_base::items::Items;
@@ -13,14 +13,14 @@ use af_queue::Queue;
 use std::alloc::{AllocError, Global};
 use std::marker::Model;
 
-/// What a socket is, but for its queue. A contract sees it as a socket that has nothing to receive.
+/// A socket but for its queue. A contract sees it as a socket with an empty queue.
 #[derive(Drop)]
 pub struct Endpoint {
     kind: SockType,
     state: State,
-    /// Where the peer stands, if there is one: a hint.
+    /// The key of the peer's row, if there is a peer: a hint.
     peer_key: usize,
-    /// What a socket with a name has besides; most have none.
+    /// The parts that only a socket with a name has; most have none.
     bound: Option<Box<Bound>>,
 }
 
@@ -45,7 +45,7 @@ impl Model for Endpoint {
 }
 
 impl Endpoint {
-    /// That of a new socket that was never connected.
+    /// Makes the endpoint of a new socket that was never connected.
     pub fn idle(kind: SockType) -> Endpoint
         ensures { result ≡ idle_socket kind }
     {
@@ -57,7 +57,7 @@ impl Endpoint {
         }
     }
 
-    /// That of a new socket that is connected to that one.
+    /// Makes the endpoint of a new socket that is connected to that one.
     pub fn connected(kind: SockType, peer: &FileRef) -> Endpoint
         ensures { result ≡ connected_socket kind peer.now }
     {
@@ -69,8 +69,8 @@ impl Endpoint {
         }
     }
 
-    /// Nothing at run time: it says that there is nothing to receive here.
-    pub fn is_silent(&self)
+    /// Does nothing at run time. Shows that the queue here is empty.
+    pub fn lemma_is_silent(&self)
         ensures { self.now.queue ≡ [] }
     {
         // The view says it: it is enough to look at a field.
@@ -85,14 +85,14 @@ impl Endpoint {
         self.bound.is_none()
     }
 
-    /// Its type.
+    /// Returns its type.
     pub fn kind(&self) -> SockType
         ensures { result ≡ self.now.kind }
     {
         self.kind
     }
 
-    /// To whom it is connected; nobody where it was never connected, or the peer is gone.
+    /// Returns its peer, if it is connected and the peer is live.
     pub fn peer(&self) -> Option<FileRef>
         ensures some { IfSome result (λ peer. self.now.state ≡ State.Connected peer) }
         ensures none { IfNone result ((peer : ℕ) → ¬ (self.now.state ≡ State.Connected peer)) }
@@ -103,7 +103,7 @@ impl Endpoint {
         }
     }
 
-    /// Its abstract name, if it has one (unix(7)).
+    /// Returns its abstract name, if it has one (unix(7)).
     pub fn name(&self) -> Option<&Items<u8>>
         ensures { option_copied result ≡ self.now.name }
     {
@@ -113,7 +113,7 @@ impl Endpoint {
         }
     }
 
-    /// It has this name from now on. On an error nothing has changed.
+    /// Sets its name. On an error nothing has changed.
     pub fn bind(&mut self, alloc: Global, name: Items<u8>) -> Result<(), AllocError>
         requires { self.old.name ≡ None }
         ensures ok { OnOk result (self.new ≡ bound name self.old) }
@@ -127,8 +127,8 @@ impl Endpoint {
         Ok(())
     }
 
-    /// It waits for connections from now on, so many at most; it has a name, and nobody waits yet. On
-    /// an error nothing has changed.
+    /// Makes it a listener with this backlog; it has a name and no embryos. On an error nothing has
+    /// changed.
     pub fn listen(&mut self, alloc: Global, most: u32) -> Result<(), AllocError>
         requires named { is_none self.old.name ≡ false }
         requires nobody { self.old.backlog ≡ [] }
@@ -144,7 +144,7 @@ impl Endpoint {
         Ok(())
     }
 
-    /// It is connected to that socket from now on. It takes no memory.
+    /// Connects it to that socket. Takes no memory.
     pub fn connect(&mut self, peer: &FileRef)
         ensures { self.new ≡ connected peer.now self.old }
     {
@@ -152,7 +152,7 @@ impl Endpoint {
         self.peer_key = peer.key();
     }
 
-    /// An embryo more waits, last. It takes no memory.
+    /// Appends an embryo. Takes no memory.
     pub fn enqueue(&mut self, embryo: FileRef)
         requires { length self.old.backlog < room_of self.old.state }
         ensures { self.new ≡ queued embryo self.old }
@@ -163,7 +163,7 @@ impl Endpoint {
         bound.backlog.enqueue(embryo);
     }
 
-    /// The first embryo waits no more, if one does. It takes no memory.
+    /// Removes the first embryo, if there is one. Takes no memory.
     pub fn dequeue(&mut self) -> Option<FileRef>
         ensures some { IfSome result (λ f. self.old.backlog ≡ f ∷ drop 1 self.old.backlog) }
         ensures none { IfNone result (self.old.backlog ≡ []) }
@@ -173,14 +173,14 @@ impl Endpoint {
         bound.backlog.dequeue()
     }
 
-    /// The peer stands where this says: a hint. Nothing that a contract sees changes.
+    /// Sets the hint of the peer's key. No contract sees it.
     pub fn point(&mut self, peer: &FileRef)
         ensures { self.new ≡ self.old }
     {
         self.peer_key = peer.key();
     }
 
-    /// The peer is gone from now on.
+    /// Marks the peer as gone.
     pub fn hang_up(&mut self)
         ensures { self.new ≡ hung_up self.old }
     {
@@ -204,7 +204,7 @@ impl<'a> Model for Socket<'a> {
 }
 
 impl<'a> Socket<'a> {
-    /// These two.
+    /// Makes a socket of these two.
     #[inline(always)]
     pub(crate) fn of(endpoint: &'a Endpoint, queue: Queue<'a>) -> Socket<'a>
         ensures { result ≡ record endpoint.now { queue = queue.entry } }
@@ -212,7 +212,7 @@ impl<'a> Socket<'a> {
         Socket { endpoint, queue }
     }
 
-    /// Its type.
+    /// Returns its type.
     #[inline(always)]
     pub fn kind(&self) -> SockType
         ensures { result ≡ self.now.kind }
@@ -220,7 +220,7 @@ impl<'a> Socket<'a> {
         self.endpoint.kind()
     }
 
-    /// Whom it can talk to.
+    /// Returns its connection state.
     #[inline(always)]
     pub fn state(&self) -> State
         ensures { result ≡ self.now.state }
@@ -229,7 +229,7 @@ impl<'a> Socket<'a> {
         endpoint.state
     }
 
-    /// To whom it is connected; nobody where it was never connected, or the peer is gone.
+    /// Returns its peer, if it is connected and the peer is live.
     #[inline(always)]
     pub fn peer(&self) -> Option<FileRef>
         ensures some { IfSome result (λ peer. self.now.state ≡ State.Connected peer) }
@@ -238,7 +238,7 @@ impl<'a> Socket<'a> {
         self.endpoint.peer()
     }
 
-    /// What it has to receive.
+    /// Returns its queue.
     #[inline(always)]
     pub fn queue(&self) -> &Queue<'a>
         ensures { result.now ≡ self.now.queue }
@@ -246,7 +246,7 @@ impl<'a> Socket<'a> {
         &self.queue
     }
 
-    /// Its abstract name, if it has one (unix(7)).
+    /// Returns its abstract name, if it has one (unix(7)).
     #[inline(always)]
     pub fn name(&self) -> Option<&'a Items<u8>>
         ensures { option_copied result ≡ self.now.name }
@@ -254,7 +254,7 @@ impl<'a> Socket<'a> {
         self.endpoint.name()
     }
 
-    /// The embryos that wait to be accepted, if it has a name; without one none wait.
+    /// Returns its backlog, if it has a name; without one it has none.
     #[inline(always)]
     pub fn backlog(&self) -> Option<&'a Backlog>
         ensures some { IfSome result (λ b. b.now.waiting ≡ self.now.backlog) }
@@ -267,7 +267,7 @@ impl<'a> Socket<'a> {
         }
     }
 
-    /// How many embryos wait to be accepted.
+    /// Returns how many embryos wait to be accepted.
     #[inline(always)]
     pub fn embryos(&self) -> usize
         ensures { result ≡ length self.now.backlog }

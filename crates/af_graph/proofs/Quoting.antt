@@ -1,4 +1,4 @@
--- What is written of a name.
+-- The text of a quoted name.
 use Rattle.std.proofs.Common.{◌≡◌, ◌<◌, ◌/◌, ◌%◌, ℕ, suc, Bool, true, false, cond, List, [], ◌∷◌, refl, ap, arith}
 use Rattle.std.specs.List.{All, list_all}
 use Rattle.std.specs.Cmp.{first_so, second_so}

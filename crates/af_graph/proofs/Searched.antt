@@ -1,4 +1,4 @@
--- What a binary search finds among numbers that rise.
+-- The result of a binary search among rising numbers.
 use Rattle.std.proofs.Common.{◌≡◌, ◌≤◌, ◌<◌, ℕ, inl, inr, List, length, get_or, sym, arith}
 use Rattle.std.specs.Prelude.{Result, Ok, Err, is_ok, nat_eq}
 use Rattle.std.specs.List.Sorted.{IsBinarySearchResult, IsStrictlyIncreasing}

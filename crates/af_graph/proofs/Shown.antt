@@ -1,4 +1,4 @@
--- What a view or a listing shows, and what the picture says of it.
+-- The picture says what a view or a listing shows.
 use Rattle.std.proofs.Common.{◌≡◌, ℕ, List, [], ◌++◌, map, refl, sym, ap, ◌∙◌}
 use Rattle.std.specs.Prelude.{Some, None}
 use Rattle.std.specs.List.{flat_map}
@@ -56,12 +56,12 @@ processes-listed w seen tables shows value ordered =
 
 -- ---- what waits
 
--- What waits at a file waits at it when it is bare.
+-- The contents of a bare file are those of the file.
 waiting-bare : (f : ℕ) (x : File) → waiting_text f (bare_file x) ≡ waiting_text f x
 waiting-bare f Plain = refl
 waiting-bare f (AsSocket s) = ap (λ text. text ++ flat_map (embryo_text f) s.backlog) (flat_map-map (message_text f) bare_message s.queue)
 
--- What waits at a file that is listed: nothing at a plain one.
+-- The contents of a listed file: a plain one has none.
 pub plain-listed : (x : ListedFile) → x.socket ≡ None → waiting_text x.ino (file_of x) ≡ []
 plain-listed x is = ap (λ o. waiting_text x.ino (option_map_or (λ s. AsSocket (socket_of s)) o Plain)) is
 
@@ -72,7 +72,7 @@ socket-listed x s is =
     ap (λ o. waiting_text x.ino (option_map_or (λ s. AsSocket (socket_of s)) o Plain)) is
     ∙ ap (λ text. text ++ flat_map (embryo_text x.ino) s.backlog.items) (flat_map-map (message_text x.ino) message_of s.queue.items)
 
--- What waits at all files of a world that is listed bare.
+-- The contents of all files of a world that is listed bare.
 pub waiting-listed : (w seen : World) (files : List ListedFile) → seen ≡ bare w → seen.files ≡ files_of files → AreFiles files
     → flat_map (λ x. waiting_text x.ino (file_of x)) files ≡ flat_map (λ e. waiting_text e.0 e.1) (finmap.entries w.files)
 waiting-listed w seen files shows value ordered =

@@ -1,4 +1,4 @@
--- The text of a picture: a world in the language of Graphviz.
+-- The text of a picture: a world in the language of Graphviz. Definitions that name no manual page are of this project's profile (docs/PROFILE.md).
 use Rattle.std.specs.Prelude.{◌≡◌, ℕ, Bool, true, false, List, [], ◌++◌, Option, Some, None, codes, nat_eq}
 use Rattle.std.specs.List.{flat_map, list_any}
 use Rattle.std.specs.FinMap as map
@@ -13,9 +13,9 @@ use Rattle.af_plain.specs.Marking.{IsListOf}
 use Rattle.af_report.specs.Table.{state_word, type_word}
 use Rattle.af_graph.specs.Quoted.{quoted}
 
--- ---- processes (this project's profile)
+-- ---- processes
 
--- A number of a process: an edge to the file that it stands for (open(2)).
+-- A descriptor of a process: an edge to its file (open(2)).
 abbrev pub number_text : ℕ → ℕ → ℕ → List ℕ
 number_text p n f = codes "p" ++ (decimal p ++ (codes " -> f" ++ (decimal f ++ (codes " [label=\"" ++ (decimal n ++ codes "\"]\n")))))
 
@@ -27,13 +27,13 @@ box_text p = codes "p" ++ (decimal p ++ (codes " [shape=box, label=\"process " +
 abbrev pub process_text : ℕ → Process → List ℕ
 process_text p q = box_text p ++ flat_map (λ e. number_text p e.0 e.1) (map.entries q.table)
 
--- ---- files (this project's profile)
+-- ---- files
 
 -- An edge from one file to another, and its look.
 abbrev pub edge_text : ℕ → ℕ → List ℕ → List ℕ
 edge_text f g look = codes "f" ++ (decimal f ++ (codes " -> f" ++ (decimal g ++ look)))
 
--- What a file is, and whom it can talk to, if it is a socket.
+-- The kind of a file, and its state, if it is a socket.
 abbrev pub kind_text : File → List ℕ
 kind_text Plain = codes "plain"
 kind_text (AsSocket s) = type_word s.kind ++ (codes " " ++ state_word s.state)
@@ -79,7 +79,7 @@ peer_of f (AsSocket s) = peer_text f s.state
 abbrev pub file_text : World → Bool → ℕ → File → List ℕ
 file_text w lost f x = node_text w lost f x ++ peer_of f x
 
--- ---- what waits at files (this project's profile)
+-- ---- what waits at files
 
 -- A file that travels with a message: an edge with the user who is charged for it (unix(7), SCM_RIGHTS).
 abbrev pub attached_text : ℕ → ℕ → ℕ → List ℕ
@@ -93,11 +93,11 @@ message_text f m = flat_map (attached_text f m.user) m.attached
 abbrev pub embryo_text : ℕ → ℕ → List ℕ
 embryo_text f g = edge_text f g (codes " [style=dashed, label=embryo]\n")
 
--- What waits at a file: what travels with its messages, and its embryos.
+-- The contents of a file: the files attached to its messages, and its embryos.
 abbrev pub waiting_text : ℕ → File → List ℕ
 waiting_text f x = flat_map (message_text f) (queue_of x) ++ flat_map (embryo_text f) (backlog_of x)
 
--- ---- the whole (this project's profile)
+-- ---- the whole
 
 -- Whether the number is in the list.
 abbrev pub is_in : List ℕ → ℕ → Bool

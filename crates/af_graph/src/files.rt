@@ -86,7 +86,7 @@ fn push_node(
     Ok(())
 }
 
-/// Whether the file is in the list, which rises.
+/// Returns whether the file is in the list, which rises.
 fn is_in(inos: &[Ino], ino: Ino) -> bool
     requires { IsStrictlyIncreasing inos.now }
     ensures { result ≡ is_in inos.now ino }
@@ -101,14 +101,14 @@ pub fn push_files(text: &mut String, engine: &Engine, lost: &[Ino]) -> Result<()
     ensures { OnOk result (string_bytes text.new ≡ string_bytes text.old ++ files_text engine.now.world lost.now) }
 {
     // No file has the number 0: that is what a sound world says of it.
-    engine.is_sound();
+    engine.lemma_is_sound();
     let mut last = Ino(0);
-    let mut near = 0;
-    while let Some((file, at)) = engine.next_file(last, near) {
+    let mut order_hint = 0;
+    while let Some((file, at)) = engine.next_file(last, order_hint) {
         push_node(text, engine, &file, is_in(lost, file.ino()))?;
         push_peer(text, engine, &file)?;
         last = file.ino();
-        near = at;
+        order_hint = at;
     }
     Ok(())
 }

@@ -1,8 +1,7 @@
-//! A picture of an engine: its processes, its files, and who holds whom, as a text in the language of
-//! Graphviz.
+//! A picture of an engine: its processes, its files, and who holds which, as a text in the language
+//! of Graphviz.
 //!
-//! A text is made whole, and speaks of the engine as it stands. An error says that memory for it was
-//! refused.
+//! A text is made whole, of the engine at the call. Fails only if memory for it is refused.
 #![tactic(auto)]
 
 mod files;

@@ -4,17 +4,16 @@ ghost use Rattle.af_base.specs.Names.{is_name_byte};
 ghost use Rattle.af_graph.specs.Graph.{name_text};
 ghost use Rattle.af_graph.specs.Quoted.{hex_digit, quoted, quoted_byte};
 
-use af_base::items::Items;
 use std::alloc::AllocError;
 
-/// Whether names may have the byte: it is written as itself.
+/// Returns whether names may have the byte: it is written as itself.
 fn is_name_byte(byte: u8) -> bool
     ensures { result ≡ is_name_byte byte }
 {
     matches!(byte, b'0'..=b'9' | b'A'..=b'Z' | b'a'..=b'z' | b'_' | b'-' | b'.')
 }
 
-/// A capital hexadecimal digit.
+/// Returns a capital hexadecimal digit.
 fn hex_digit(value: u8) -> u8
     requires { value < 16 }
     ensures digit { result ≡ hex_digit value }
@@ -58,12 +57,12 @@ fn push_quoted(text: &mut String, name: &[u8]) -> Result<(), AllocError>
 }
 
 /// Appends a name on a line of its own, behind `@`; nothing where there is none.
-pub fn push_name(text: &mut String, name: Option<&Items<u8>>) -> Result<(), AllocError>
+pub fn push_name(text: &mut String, name: Option<&[u8]>) -> Result<(), AllocError>
     ensures { OnOk result (string_bytes text.new ≡ string_bytes text.old ++ name_text (option_copied name.entry)) }
 {
     let Some(name) = name else {
         return Ok(());
     };
     text.push_str("\\n@")?;
-    push_quoted(text, name.as_slice())
+    push_quoted(text, name)
 }

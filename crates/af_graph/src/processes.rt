@@ -1,4 +1,4 @@
-//! Processes, and what their numbers stand for.
+//! Processes, and the files of their descriptors.
 ghost use Rattle.std.specs.Prelude.{◌≡◌, ◌++◌, OnOk, string_bytes};
 ghost use Rattle.std.specs.List.{All, flat_map};
 ghost use Rattle.af_base.specs.Listing.{IsRisingTable, process_of};
@@ -8,7 +8,7 @@ use af_base::listing::{ListedNumber, ListedTable};
 use af_base::names::Pid;
 use std::alloc::AllocError;
 
-/// Appends an edge from a process to what one of its numbers stands for.
+/// Appends an edge from a process to the file of one of its descriptors.
 fn push_number(text: &mut String, pid: Pid, number: ListedNumber) -> Result<(), AllocError>
     ensures { OnOk result (string_bytes text.new ≡ string_bytes text.old ++ number_text pid number.fd number.ino) }
 {

@@ -1,4 +1,4 @@
-//! What waits at files: what travels with messages, and embryos.
+//! The contents of files: files attached to messages, and embryos.
 ghost use Rattle.std.specs.Prelude.{◌≡◌, ◌++◌, OnOk, string_bytes};
 ghost use Rattle.std.specs.List.{flat_map};
 ghost use Rattle.af_base.specs.Listing.{file_of, message_of};

@@ -9,7 +9,7 @@ use Rattle.af_base.specs.Places.{backlog_at}
 use Rattle.af_base.specs.Changes.{dequeued, install, with_socket}
 use Rattle.af_base.proofs.Connections.{live-embryo}
 use Rattle.af_base.proofs.Elements.{Contains-first}
-use Rattle.af_ledger.specs.Kept.{CanDrop, Kept, dropped, held}
+use Rattle.af_ledger.specs.Tally.{CanDrop, Tally, dropped, held}
 use Rattle.af_ledger.specs.declared.place.Place.TheVariants.{Backlog, Table}
 use Rattle.af_hold.specs.Agreement.{IsExact}
 use Rattle.af_hold.proofs.Agreement.{agrees-install}
@@ -21,7 +21,7 @@ use Rattle.af_hold.proofs.Losing.{first-embryo}
 pub embryo-taken : (w : World) (s f : ℕ) (o : Option ℕ) → o ≡ Some f → IfSome o (λ g. backlog_at w s ≡ g ∷ drop 1 (backlog_at w s)) → (x : Socket) × (map.get w.files s ≡ Some (AsSocket x)) × (x.backlog ≡ f ∷ drop 1 x.backlog)
 embryo-taken w s f o is some = first-embryo w s f (subst (λ o. IfSome o (λ g. backlog_at w s ≡ g ∷ drop 1 (backlog_at w s))) is some)
 
-module _ (w : World) (s f : ℕ) (x : Socket) (k : Kept) (at : map.get w.files s ≡ Some (AsSocket x)) (first : x.backlog ≡ f ∷ drop 1 x.backlog) (h : IsExact w k) where
+module _ (w : World) (s f : ℕ) (x : Socket) (k : Tally) (at : map.get w.files s ≡ Some (AsSocket x)) (first : x.backlog ≡ f ∷ drop 1 x.backlog) (h : IsExact w k) where
   -- The first embryo is live.
   pub live-first : IsLive w f
   live-first = live-embryo w s f x h.whole at (subst (λ xs. Contains xs f) (sym first) (Contains-first f (drop 1 x.backlog)))

@@ -24,7 +24,7 @@ use Rattle.af_base.proofs.Places.{inflight-left, inflight-push}
 use Rattle.af_base.proofs.Totals.{total-most}
 use Rattle.af_base.proofs.Within.{total-left, total-push}
 use Rattle.af_ledger.specs.Counted.{uncounted}
-use Rattle.af_ledger.specs.Kept.{CanDropAll, Kept, count_in_map, count_of, dropped, dropped_all, has_count, held, held_all, is_user, refs_of, with_user}
+use Rattle.af_ledger.specs.Tally.{CanDropAll, Tally, count_in_map, count_of, dropped, dropped_all, has_count, held, held_all, is_user, refs_of, with_user}
 use Rattle.af_ledger.specs.declared.count.Count.{Count}
 use Rattle.af_ledger.specs.declared.place.Place.TheVariants.{Backlog, Queue, Table}
 use Rattle.af_ledger.proofs.HeldAll.{charge-dropped_all, charge-held_all, inflight-dropped_all, inflight-held_all, one-itself, same-user, tabled-dropped_all, tabled-held_all, total-dropped_all, total-held_all, users-dropped_all, users-held_all, waiting-dropped_all, waiting-held_all}
@@ -54,7 +54,7 @@ known-kept : (w : World) (us vs : List (ℕ × ℕ)) → ((u : ℕ) → IsTrue (
 known-kept w us vs stay known p q is = stay q.user (known p q is)
 
 -- A free number that is taken into use is a place more in a table.
-pub agrees-install : (w : World) (p n f : ℕ) (q : Process) (k : Kept) → map.get w.processes p ≡ Some q → map.get q.table n ≡ None → Agrees w k → Agrees (install w p n f) (held Table f k)
+pub agrees-install : (w : World) (p n f : ℕ) (q : Process) (k : Tally) → map.get w.processes p ≡ Some q → map.get q.table n ≡ None → Agrees w k → Agrees (install w p n f) (held Table f k)
 agrees-install w p n f q k at free a = record {
   tabled = λ g. omega (arith, tabled-tabled f g k, tabled-install w p n f g q at free, a.tabled g);
   inflight = λ g. inflight-tabled f g k ∙ a.inflight g;
@@ -65,7 +65,7 @@ agrees-install w p n f q k at free a = record {
 }
 
 -- A number that is given up is a place less in a table.
-pub agrees-uninstall : (w : World) (p n f : ℕ) (k : Kept) → table_at w p n ≡ Some f → Agrees w k → Agrees (uninstall w p n) (dropped Table f k)
+pub agrees-uninstall : (w : World) (p n f : ℕ) (k : Tally) → table_at w p n ≡ Some f → Agrees w k → Agrees (uninstall w p n) (dropped Table f k)
 agrees-uninstall w p n f k is a =
     let at = table-there w p n f is in
     let some : 0 < (count_of k f).tabled = omega (arith, tabled-InTable w f (p, n, is), a.tabled f) in
@@ -79,7 +79,7 @@ agrees-uninstall w p n f k is a =
     }
 
 -- A message put into a queue is a place more there for each file that it carries.
-pub agrees-push : (w : World) (s : ℕ) (m : Message) (x : Socket) (k : Kept) → map.get w.files s ≡ Some (AsSocket x) → IsTrue (is_user m.user k.users) → Agrees w k → Agrees (push_message w s m) (held_all (Queue m.user) m.attached k)
+pub agrees-push : (w : World) (s : ℕ) (m : Message) (x : Socket) (k : Tally) → map.get w.files s ≡ Some (AsSocket x) → IsTrue (is_user m.user k.users) → Agrees w k → Agrees (push_message w s m) (held_all (Queue m.user) m.attached k)
 agrees-push w s m x k at there a = record {
   tabled = λ g. tabled-held_all m.user g m.attached k ∙ a.tabled g;
   inflight = λ g. omega (arith, inflight-held_all m.user g m.attached k, inflight-push w s m g x at, a.inflight g);
@@ -90,7 +90,7 @@ agrees-push w s m x k at there a = record {
 }
 
 -- A message taken out of a queue is a place less there for each file that it carries.
-pub agrees-shed : (w : World) (s : ℕ) (m : Message) (rest : List Message) (x : Socket) (k : Kept) → map.get w.files s ≡ Some (AsSocket x) → Sheds x.queue m rest → CanDropAll m.user m.attached k → Agrees w k → Agrees (with_queue w s rest) (dropped_all (Queue m.user) m.attached k)
+pub agrees-shed : (w : World) (s : ℕ) (m : Message) (rest : List Message) (x : Socket) (k : Tally) → map.get w.files s ≡ Some (AsSocket x) → Sheds x.queue m rest → CanDropAll m.user m.attached k → Agrees w k → Agrees (with_queue w s rest) (dropped_all (Queue m.user) m.attached k)
 agrees-shed w s m rest x k at shed can a = record {
   tabled = λ g. tabled-dropped_all m.user g m.attached k ∙ a.tabled g;
   inflight = λ g. omega (arith, inflight-dropped_all m.user g m.attached k can, inflight-left w s m.attached rest g x at shed.leaves.carried, a.inflight g);
@@ -101,7 +101,7 @@ agrees-shed w s m rest x k at shed can a = record {
 }
 
 -- The first embryo that leaves a backlog is a place less there.
-pub agrees-dequeued : (w : World) (s f : ℕ) (x : Socket) (k : Kept) → map.get w.files s ≡ Some (AsSocket x) → x.backlog ≡ f ∷ drop 1 x.backlog → Agrees w k → Agrees (with_socket w s dequeued) (dropped Backlog f k)
+pub agrees-dequeued : (w : World) (s f : ℕ) (x : Socket) (k : Tally) → map.get w.files s ≡ Some (AsSocket x) → x.backlog ≡ f ∷ drop 1 x.backlog → Agrees w k → Agrees (with_socket w s dequeued) (dropped Backlog f k)
 agrees-dequeued w s f x k at first a =
     let fewer : (g : ℕ) → waiting (with_socket w s dequeued) g + one g f ≡ waiting w g = λ g. waiting-dequeued w s f g x at first in
     let some : 0 < (count_of k f).waiting = let mine = one-itself f in omega (arith, mine, fewer f, a.waiting f) in
@@ -119,8 +119,8 @@ backlog-bare : (x : File) → contents x ≡ [] → queue_of x ≡ [] → backlo
 backlog-bare Plain bare silent = refl
 backlog-bare (AsSocket x) bare silent = sym (ap (λ q. carried q ++ x.backlog) silent) ∙ bare
 
--- A file that holds nothing goes.
-pub agrees-gone : (w : World) (f : ℕ) (x : File) (k : Kept) → map.get w.files f ≡ Some x → contents x ≡ [] → queue_of x ≡ [] → Agrees w k → Agrees (without (nat_eq f) w) k
+-- An empty file is freed.
+pub agrees-gone : (w : World) (f : ℕ) (x : File) (k : Tally) → map.get w.files f ≡ Some x → contents x ≡ [] → queue_of x ≡ [] → Agrees w k → Agrees (without (nat_eq f) w) k
 agrees-gone w f x k is bare silent a = record {
   tabled = a.tabled;
   inflight = λ g. omega (arith, gone (λ q. count_in g (carried q)) refl, a.inflight g);
@@ -135,11 +135,11 @@ agrees-gone w f x k is bare silent a = record {
       omega (arith, nothing, total-without (λ y. G (queue_of y)) (λ h y. ap G (same_queue h y)) w f x is)
 
 -- The kept references are the recounts too: they are the sum of the three.
-pub agrees-refs : (w : World) (k : Kept) → Agrees w k → (f : ℕ) → refs_of k f ≡ refs w f
+pub agrees-refs : (w : World) (k : Tally) → Agrees w k → (f : ℕ) → refs_of k f ≡ refs w f
 agrees-refs w k a f = omega (arith, a.tabled f, a.inflight f, a.waiting f, refs-add_up w f)
 
 -- Other entries with the same numbers for each file.
-agrees-counts : (w : World) (m : Map Count) (k : Kept) → ((f : ℕ) → count_in_map m f ≡ count_of k f) → Agrees w k → Agrees w (record k { counts = m })
+agrees-counts : (w : World) (m : Map Count) (k : Tally) → ((f : ℕ) → count_in_map m f ≡ count_of k f) → Agrees w k → Agrees w (record k { counts = m })
 agrees-counts w m k same a = record {
   tabled = λ f. ap (λ c. c.tabled) (same f) ∙ a.tabled f;
   inflight = λ f. ap (λ c. c.inflight) (same f) ∙ a.inflight f;
@@ -150,15 +150,15 @@ agrees-counts w m k same a = record {
 }
 
 -- The numbers of a file without a place are struck out.
-pub agrees-struck : (w : World) (f : ℕ) (k : Kept) → refs_of k f ≡ 0 → Agrees w k → Agrees w (record k { counts = map.remove k.counts f })
+pub agrees-struck : (w : World) (f : ℕ) (k : Tally) → refs_of k f ≡ 0 → Agrees w k → Agrees w (record k { counts = map.remove k.counts f })
 agrees-struck w f k none = agrees-counts w (map.remove k.counts f) k (λ g. count-struck k f g none)
 
--- A file is entered, of which no place is counted yet.
-pub agrees-entered : (w : World) (f : ℕ) (k : Kept) → has_count k f ≡ false → Agrees w k → Agrees w (record k { counts = map.insert k.counts f uncounted })
+-- A file is entered, and no place of it is counted yet.
+pub agrees-entered : (w : World) (f : ℕ) (k : Tally) → has_count k f ≡ false → Agrees w k → Agrees w (record k { counts = map.insert k.counts f uncounted })
 agrees-entered w f k new = agrees-counts w (map.insert k.counts f uncounted) k (λ g. count-entered k f g new)
 
 -- A file whose number is new, and that holds nothing, has no place and adds none.
-pub agrees-new_file : (w : World) (x : File) (k : Kept) → map.get w.files w.next_ino ≡ None → contents x ≡ [] → queue_of x ≡ [] → Agrees w k → Agrees (add_file w x) k
+pub agrees-new_file : (w : World) (x : File) (k : Tally) → map.get w.files w.next_ino ≡ None → contents x ≡ [] → queue_of x ≡ [] → Agrees w k → Agrees (add_file w x) k
 agrees-new_file w x k new empty silent a = record {
   tabled = a.tabled;
   inflight = λ g. omega (arith, added (λ q. count_in g (carried q)) refl, a.inflight g);
@@ -171,7 +171,7 @@ agrees-new_file w x k new empty silent a = record {
   added G none = let nothing : G (queue_of x) ≡ 0 = ap G silent ∙ none in omega (arith, nothing, total-new (λ y. G (queue_of y)) w.files w.next_ino x new)
 
 -- A new process with an empty table and a user that is kept adds no place.
-pub agrees-add_process : (w : World) (q : Process) (k : Kept) → IsWhole w → q.table ≡ map.empty → IsTrue (is_user q.user k.users) → Agrees w k → Agrees (add_process w q) k
+pub agrees-add_process : (w : World) (q : Process) (k : Tally) → IsWhole w → q.table ≡ map.empty → IsTrue (is_user q.user k.users) → Agrees w k → Agrees (add_process w q) k
 agrees-add_process w q k whole empty there a = record {
   tabled = λ g. omega (arith, nothing g, total-new (λ r. total_of (one g) r.table) w.processes w.next_pid q new, a.tabled g);
   inflight = a.inflight;
@@ -190,7 +190,7 @@ agrees-add_process w q k whole empty there a = record {
   nothing g = ap (total_of (one g)) empty ∙ total-empty (one g)
 
 -- A user more that is kept is charged nothing.
-agrees-with_user : (w : World) (u : ℕ) (k : Kept) → Agrees w k → Agrees w (record k { users = with_user u k.users })
+agrees-with_user : (w : World) (u : ℕ) (k : Tally) → Agrees w k → Agrees w (record k { users = with_user u k.users })
 agrees-with_user w u k a = record {
   tabled = a.tabled;
   inflight = a.inflight;
@@ -201,19 +201,19 @@ agrees-with_user w u k a = record {
 }
 
 -- The list of users of the world says nothing of the numbers.
-agrees-add_user : (w : World) (u : ℕ) (k : Kept) → Agrees w k → Agrees (add_user w u) k
+agrees-add_user : (w : World) (u : ℕ) (k : Tally) → Agrees w k → Agrees (add_user w u) k
 agrees-add_user w u k a = by (list_any (nat_eq u) w.users) where
   by : (b : Bool) → Agrees (cond b w (record w { users = w.users ++ u ∷ [] })) k
   by true = a
   by false = record { tabled = a.tabled; inflight = a.inflight; waiting = a.waiting; charged = a.charged; total = a.total; known = a.known }
 
 -- A process that starts has a user that is kept, and no place.
-pub agrees-spawned : (w : World) (uid nofile : ℕ) (privileged : Bool) (k : Kept) → IsWhole w → Agrees w k → Agrees (spawned w uid nofile privileged) (record k { users = with_user uid k.users })
+pub agrees-spawned : (w : World) (uid nofile : ℕ) (privileged : Bool) (k : Tally) → IsWhole w → Agrees w k → Agrees (spawned w uid nofile privileged) (record k { users = with_user uid k.users })
 agrees-spawned w uid nofile privileged k whole a =
     agrees-add_user _ uid _ (agrees-add_process w _ (record k { users = with_user uid k.users }) whole refl (user-added uid k.users) (agrees-with_user w uid k a))
 
 -- Another limit of a process changes no place.
-pub agrees-limited : (w : World) (p n : ℕ) (k : Kept) → Agrees w k → Agrees (set_limit w p n) k
+pub agrees-limited : (w : World) (p n : ℕ) (k : Tally) → Agrees w k → Agrees (set_limit w p n) k
 agrees-limited w p n k a = record {
   tabled = λ f. a.tabled f ∙ sym (count-limited w p n f);
   inflight = a.inflight;
@@ -223,8 +223,8 @@ agrees-limited w p n k a = record {
   known = known-changed w p (limited n) k.users (λ q. refl) a.known;
 }
 
--- A process that goes with an empty table takes no place along.
-pub agrees-remove_process : (w : World) (p : ℕ) (k : Kept) → ((n : ℕ) → table_at w p n ≡ None) → Agrees w k → Agrees (remove_process w p) k
+-- A process that ends with an empty table loses no place.
+pub agrees-remove_process : (w : World) (p : ℕ) (k : Tally) → ((n : ℕ) → table_at w p n ≡ None) → Agrees w k → Agrees (remove_process w p) k
 agrees-remove_process w p k empty a = record {
   tabled = λ g. omega (arith, same g, a.tabled g);
   inflight = a.inflight;
@@ -245,7 +245,7 @@ agrees-remove_process w p k empty a = record {
   same g = total-weightless (λ q. total_of (one g) q.table) w.processes p (light g)
 
 -- A ledger of nothing agrees with the world of nothing.
-pub agrees-empty : (k : Kept) → k.counts ≡ map.empty → k.users ≡ [] → k.total ≡ 0 → Agrees empty_world k
+pub agrees-empty : (k : Tally) → k.counts ≡ map.empty → k.users ≡ [] → k.total ≡ 0 → Agrees empty_world k
 agrees-empty k counts users total = record {
   tabled = λ f. let none = ap (λ c. c.tabled) (uncounted_here f) in omega (arith, none, tables f);
   inflight = λ f. let none = ap (λ c. c.inflight) (uncounted_here f) in omega (arith, none, total-empty (λ (x : File). count_in f (carried (queue_of x))));

@@ -23,12 +23,12 @@ use Rattle.af_base.proofs.Named.{named-none}
 use Rattle.af_base.proofs.Opened.{blank-idle, whole-blank, within-blank}
 use Rattle.af_base.proofs.Trees.{insert_same}
 use Rattle.af_ledger.specs.Counted.{uncounted}
-use Rattle.af_ledger.specs.Kept.{Kept}
+use Rattle.af_ledger.specs.Tally.{Tally}
 use Rattle.af_hold.specs.Agreement.{Agrees, IsExact}
 use Rattle.af_hold.proofs.Exact.{exact-made}
 
 -- A socket more that was never connected, which waits.
-pub exact-idle : (w : World) (kind : SockType) (k : Kept) → is_full w 1 ≡ false → IsExact w k
+pub exact-idle : (w : World) (kind : SockType) (k : Tally) → is_full w 1 ≡ false → IsExact w k
     → IsExact (add_file w (AsSocket (idle_socket kind))) (record k { counts = map.insert k.counts w.next_ino uncounted })
 exact-idle w kind k fits h = exact-made w (AsSocket (idle_socket kind)) k refl refl (whole-blank w (AsSocket (idle_socket kind)) (blank-idle kind) refl h.whole) (within-blank w (idle_socket kind) h.within fits refl refl refl refl) h
 
@@ -39,8 +39,8 @@ module _ (w : World) (s : ℕ) (g : Socket → Socket) where
   found o = record w { files = option_map_or (λ y. map.insert w.files s (file_with g y)) o w.files }
 
   -- It leaves the queue and the backlog as they are.
-  module _ (queue : (x : Socket) → (g x).queue ≡ x.queue) (backlog : (x : Socket) → (g x).backlog ≡ x.backlog) (k : Kept) where
-    -- What queues add up to stays.
+  module _ (queue : (x : Socket) → (g x).queue ≡ x.queue) (backlog : (x : Socket) → (g x).backlog ≡ x.backlog) (k : Tally) where
+    -- Sums over queues stay.
     same_queues : (F : List Message → ℕ) → total_of (λ y. F (queue_of y)) (with_socket w s g).files ≡ total_of (λ y. F (queue_of y)) w.files
     same_queues F = total-changed (λ y. F (queue_of y)) w s g (λ x. ap F (queue x))
 
@@ -70,16 +70,16 @@ module _ (w : World) (s : ℕ) (g : Socket → Socket) where
             counted = λ f. h.counted f ∙ sym (live-changed w s g f);
           }
 
--- What is said of the socket of a number is said of the one that stands there.
+-- The socket of a number is the one of its row.
 if-there : (P : Socket → Type 0) (w : World) (s : ℕ) (x : Socket) → map.get w.files s ≡ Some (AsSocket x) → IfSome (socket_at w s) P → P x
 if-there P w s x at h = subst (λ o. IfSome (option_and_then socket_of o) P) at h
 
 -- A socket that got a name that nobody had.
-pub exact-bound : (w : World) (s : ℕ) (name : List ℕ) (k : Kept) → is_name name ≡ true → named w.files name ≡ None → IsExact w k → IsExact (with_socket w s (bound name)) k
+pub exact-bound : (w : World) (s : ℕ) (name : List ℕ) (k : Tally) → is_name name ≡ true → named w.files name ≡ None → IsExact w k → IsExact (with_socket w s (bound name)) k
 exact-bound w s name k fits free h = exact-altered w s (bound name) (λ x. refl) (λ x. refl) k (λ x at. (whole-bound w s name (named-none w name free) h.whole, within-bound w s name x h.within at fits)) h
 
 -- A socket that was never connected, and listens now.
-pub exact-listening : (w : World) (s b : ℕ) (k : Kept) → IfSome (socket_at w s) (λ x. x.state ≡ state.Idle) → 1 ≤ b → b ≤ MAX_BACKLOG → IsExact w k → IsExact (with_socket w s (listening b)) k
+pub exact-listening : (w : World) (s b : ℕ) (k : Tally) → IfSome (socket_at w s) (λ x. x.state ≡ state.Idle) → 1 ≤ b → b ≤ MAX_BACKLOG → IsExact w k → IsExact (with_socket w s (listening b)) k
 exact-listening w s b k idle some few h = exact-altered w s (listening b) (λ x. refl) (λ x. refl) k (λ x at.
     let alone = if-there (λ y. y.state ≡ state.Idle) w s x at idle in
     (whole-listening w s b x at alone h.whole, within-listening w s b x h.within at alone some few)) h

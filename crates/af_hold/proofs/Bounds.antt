@@ -1,4 +1,4 @@
--- What a place more and a place less ask for, where the numbers that are kept are the recounts.
+-- The requirements of one place more and one place less, if the kept counts are the recounts.
 use Rattle.std.proofs.Common.{◌≡◌, ◌<◌, ◌≤◌, ℕ, zero, suc, ◌+◌, ◌*◌, Bool, true, false, inl, inr, List, [], ◌∷◌, drop, length, refl, sym, ap, ◌∙◌, cond, nat_eq, arith}
 use Rattle.std.specs.Prelude.{Option, Some, None, IsTrue, is_some}
 use Rattle.std.specs.List.{Contains, sum_by}
@@ -17,7 +17,7 @@ use Rattle.af_base.proofs.Places.{inflight-left}
 use Rattle.af_base.proofs.Sums.{total-remove}
 use Rattle.af_base.proofs.Totals.{total-below, total-most}
 use Rattle.af_base.proofs.Within.{total-left}
-use Rattle.af_ledger.specs.Kept.{CanDrop, CanDropAll, CanHold, CanHoldAll, Kept, count_of, has_count, is_user}
+use Rattle.af_ledger.specs.Tally.{CanDrop, CanDropAll, CanHold, CanHoldAll, Tally, count_of, has_count, is_user}
 use Rattle.af_ledger.specs.declared.place.Place.TheVariants.{Backlog, Table}
 use Rattle.af_ledger.proofs.HeldAll.{one-itself}
 use Rattle.af_hold.specs.Agreement.{Agrees}
@@ -28,7 +28,7 @@ use Rattle.af_hold.proofs.Sheds.{Sheds}
 abbrev AreBelow : ℕ → Map ℕ → Type 0
 AreBelow n m = (i x : ℕ) → map.get m i ≡ Some x → i < n
 
--- What is said of maps with numbers below n is said of those with n too, with one more.
+-- A fact of maps with numbers below n, and with one number more.
 low_step : (F : ℕ → ℕ) → ((x : ℕ) → F x ≤ 1) → (n : ℕ) → ((m : Map ℕ) → AreBelow n m → total_of F m ≤ n) → (m : Map ℕ) → AreBelow (suc n) m → total_of F m ≤ suc n
 low_step F few n rest m low = by (map.get m n) refl where
   below : (i : ℕ) → ¬ (i ≡ n) → i < suc n → i < n
@@ -52,8 +52,8 @@ total-low F few zero m low =
     omega (arith, most)
 total-low F few (suc n) m low = low_step F few n (λ m low. total-low F few n m low) m low
 
--- All tables together have few numbers that stand for a file.
-pub tabled-most : (w : World) (f : ℕ) (k : Kept) → IsWithin w → Agrees w k → (count_of k f).tabled ≤ MAX_PROCESSES * MAX_NOFILE
+-- All tables together have few descriptors of a file.
+pub tabled-most : (w : World) (f : ℕ) (k : Tally) → IsWithin w → Agrees w k → (count_of k f).tabled ≤ MAX_PROCESSES * MAX_NOFILE
 tabled-most w f k within agrees =
     let most : tabled w f ≤ map.len w.processes * MAX_NOFILE = total-most (λ q. total_of (one f) q.table) MAX_NOFILE w.processes each in
     let few = within.process_count in
@@ -65,7 +65,7 @@ tabled-most w f k within agrees =
           total-low (one f) (one-most f) MAX_NOFILE q.table (λ i x is. fits.numbers i (ap is_some is))
 
 -- A number of a table more of f can be counted.
-pub can-hold-table : (w : World) (f : ℕ) (k : Kept) → IsWithin w → Agrees w k → CanHold Table f k
+pub can-hold-table : (w : World) (f : ℕ) (k : Tally) → IsWithin w → Agrees w k → CanHold Table f k
 can-hold-table w f k within agrees = (let most = tabled-most w f k within agrees in omega (arith, most), tt)
 
 -- A queue charges a user for at most as many places as it has.
@@ -81,7 +81,7 @@ charged-total : (w : World) (u : ℕ) → charged w u ≤ total w
 charged-total w u = total-below (λ x. sum_by (charge u) (queue_of x)) (λ x. sum_by (λ m. length m.attached) (queue_of x)) w.files w.files (λ i x is. (x, is, charge-most u (queue_of x)))
 
 -- A message that all queues have room for can be counted and charged.
-pub can-hold-all : (w : World) (m : Message) (k : Kept) → IsWithin w → total w + length m.attached ≤ MAX_INFLIGHT → IsTrue (is_user m.user k.users) → ((f : ℕ) → Contains m.attached f → IsTrue (has_count k f)) → Agrees w k → CanHoldAll m.user m.attached k
+pub can-hold-all : (w : World) (m : Message) (k : Tally) → IsWithin w → total w + length m.attached ≤ MAX_INFLIGHT → IsTrue (is_user m.user k.users) → ((f : ℕ) → Contains m.attached f → IsTrue (has_count k f)) → Agrees w k → CanHoldAll m.user m.attached k
 can-hold-all w m k within room user known agrees = record {
   known = known;
   countable = λ f. let same = agrees.inflight f in omega (arith, room, same, inflight-total w f);
@@ -90,22 +90,22 @@ can-hold-all w m k within room user known agrees = record {
   total = let same = agrees.total in omega (arith, room, same);
 }
 
--- A number of a table that stands for f is counted.
-pub can-drop-table : (w : World) (p n f : ℕ) (k : Kept) → table_at w p n ≡ Some f → Agrees w k → CanDrop Table f k
+-- A descriptor of f is counted.
+pub can-drop-table : (w : World) (p n f : ℕ) (k : Tally) → table_at w p n ≡ Some f → Agrees w k → CanDrop Table f k
 can-drop-table w p n f k is agrees =
     let some = tabled-InTable w f (p, n, is) in
     let same = agrees.tabled f in
     (omega (arith, some, same), tt)
 
 -- The first embryo of a backlog is counted.
-pub can-drop-backlog : (w : World) (s f : ℕ) (x : Socket) (k : Kept) → map.get w.files s ≡ Some (AsSocket x) → x.backlog ≡ f ∷ drop 1 x.backlog → Agrees w k → CanDrop Backlog f k
+pub can-drop-backlog : (w : World) (s f : ℕ) (x : Socket) (k : Tally) → map.get w.files s ≡ Some (AsSocket x) → x.backlog ≡ f ∷ drop 1 x.backlog → Agrees w k → CanDrop Backlog f k
 can-drop-backlog w s f x k at first agrees =
     let same = agrees.waiting f in
     let mine = one-itself f in
     (omega (arith, same, mine, waiting-dequeued w s f f x at first), tt)
 
 -- A message taken of a queue is counted and charged.
-pub can-drop-all : (w : World) (s : ℕ) (m : Message) (rest : List Message) (x : Socket) (k : Kept) → map.get w.files s ≡ Some (AsSocket x) → Sheds x.queue m rest → Agrees w k → CanDropAll m.user m.attached k
+pub can-drop-all : (w : World) (s : ℕ) (m : Message) (rest : List Message) (x : Socket) (k : Tally) → map.get w.files s ≡ Some (AsSocket x) → Sheds x.queue m rest → Agrees w k → CanDropAll m.user m.attached k
 can-drop-all w s m rest x k at shed agrees = record {
   counted = λ f. let same = agrees.inflight f in omega (arith, same, inflight-left w s m.attached rest f x at shed.leaves.carried);
   charge =

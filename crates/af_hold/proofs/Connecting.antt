@@ -16,7 +16,7 @@ use Rattle.af_base.proofs.Connections.{whole-made, whole-queued, within-made, wi
 use Rattle.af_base.proofs.Embryos.{waiting-queued}
 use Rattle.af_base.proofs.Moved.{live-changed, total-changed}
 use Rattle.af_ledger.specs.Counted.{uncounted}
-use Rattle.af_ledger.specs.Kept.{Kept, held}
+use Rattle.af_ledger.specs.Tally.{Tally, held}
 use Rattle.af_ledger.specs.declared.place.Place.TheVariants.{Backlog}
 use Rattle.af_ledger.proofs.Laws.{has-entered, has-held, inflight-backlogged, tabled-backlogged, waiting-backlogged}
 use Rattle.af_hold.specs.Agreement.{Agrees, IsExact}
@@ -25,13 +25,13 @@ use Rattle.af_hold.proofs.Altered.{agrees-altered}
 use Rattle.af_hold.proofs.Exact.{live-added, next-new}
 
 -- An embryo more, which waits for its place in a backlog, and the client that is connected to it.
-pub exact-embryo : (w : World) (c : ℕ) (kind : SockType) (x : Socket) (k : Kept) → map.get w.files c ≡ Some (AsSocket x) → x.state ≡ state.Idle → is_full w 1 ≡ false → IsExact w k
+pub exact-embryo : (w : World) (c : ℕ) (kind : SockType) (x : Socket) (k : Tally) → map.get w.files c ≡ Some (AsSocket x) → x.state ≡ state.Idle → is_full w 1 ≡ false → IsExact w k
     → IsExact (with_socket (add_file w (AsSocket (connected_socket kind c))) c (connected w.next_ino)) (record k { counts = map.insert k.counts w.next_ino uncounted })
 exact-embryo w c kind x k at idle fits h =
     let n = w.next_ino in
     let embryo = AsSocket (connected_socket kind c) in
     let base = add_file w embryo in
-    let grown : Kept = record k { counts = map.insert k.counts n uncounted } in
+    let grown : Tally = record k { counts = map.insert k.counts n uncounted } in
     let stranger = next-new w k n h (omega arith) in
     let more = agrees-new_file w embryo k (fresh_file w n h.whole (omega arith)) refl refl h.agrees in
     record {
@@ -42,7 +42,7 @@ exact-embryo w c kind x k at idle fits h =
     }
 
 -- An embryo more in a backlog is a place more there.
-agrees-queued : (w : World) (s n : ℕ) (x : Socket) (k : Kept) → map.get w.files s ≡ Some (AsSocket x) → Agrees w k → Agrees (with_socket w s (queued n)) (held Backlog n k)
+agrees-queued : (w : World) (s n : ℕ) (x : Socket) (k : Tally) → map.get w.files s ≡ Some (AsSocket x) → Agrees w k → Agrees (with_socket w s (queued n)) (held Backlog n k)
 agrees-queued w s n x k at a = record {
   tabled = λ g. tabled-backlogged n g k ∙ a.tabled g;
   inflight = λ g. inflight-backlogged n g k ∙ a.inflight g ∙ sym (total-changed (λ y. count_in g (carried (queue_of y))) w s (queued n) (λ y. refl));
@@ -53,7 +53,7 @@ agrees-queued w s n x k at a = record {
 }
 
 -- A live file that waits nowhere comes into a backlog that has room for it.
-pub exact-queued : (w : World) (s n : ℕ) (x : Socket) (k : Kept) → map.get w.files s ≡ Some (AsSocket x) → IsLive w n → waiting w n ≡ 0 → length x.backlog < room_of x.state → IsExact w k → IsExact (with_socket w s (queued n)) (held Backlog n k)
+pub exact-queued : (w : World) (s n : ℕ) (x : Socket) (k : Tally) → map.get w.files s ≡ Some (AsSocket x) → IsLive w n → waiting w n ≡ 0 → length x.backlog < room_of x.state → IsExact w k → IsExact (with_socket w s (queued n)) (held Backlog n k)
 exact-queued w s n x k at live none room h = record {
   whole = whole-queued w s n x at live none h.whole;
   within = within-queued w s n x h.within at room;

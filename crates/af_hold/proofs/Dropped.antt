@@ -1,4 +1,4 @@
--- A file goes: what the code does to the map of files is what the world without it is.
+-- A file is freed: the code's map of files becomes that of the world without it.
 use Rattle.std.proofs.Common.{◌≡◌, ℕ, Bool, refl, sym, ap, ◌∙◌, nat_eq}
 use Rattle.std.specs.Prelude.{Some}
 use Rattle.std.specs.FinMap as map

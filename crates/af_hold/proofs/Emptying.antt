@@ -18,7 +18,7 @@ use Rattle.af_base.proofs.Stepping.{get-change_at}
 turned : (a b : ℕ) → nat_eq a b ≡ nat_eq b a
 turned a b = both_ways (nat_eq a b) (nat_eq b a) (λ e. eq-eqb b a (sym (eqb-true a b e))) (λ e. eq-eqb a b (sym (eqb-true b a e)))
 
--- A file that is emptied need not lose before what goes then.
+-- An emptied file may keep the files that are freed later.
 pub emptied-changed : (w : World) (s : ℕ) (cut : Socket → Socket) → ((x : Socket) → empty_file (AsSocket (cut x)) ≡ empty_file (AsSocket x)) → emptied (nat_eq s) (with_socket w s cut) ≡ emptied (nat_eq s) w
 emptied-changed w s cut goes = ap (λ fs. record w { files = fs }) (map.same_map nat_cmp_total nat_cmp-IsAntisymmetric _ _ (λ f.
     get-emptied (nat_eq s) (with_socket w s cut) f ∙ ap (option_map (λ x. if nat_eq s f then empty_file x else x)) (get-change_at (file_with cut) w.files s f) ∙ each f (nat_eq s f) (turned s f ∙ sym (unsigned_tied f s)) (map.get w.files f) ∙ sym (get-emptied (nat_eq s) w f))) where

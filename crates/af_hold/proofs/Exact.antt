@@ -14,7 +14,7 @@ use Rattle.af_base.specs.World.{AsSocket, File, IsLive, Map, Message, Plain, Pro
 use Rattle.af_base.specs.Places.{contents, queue_of, table_at}
 use Rattle.af_base.specs.Counts.{refs, total}
 use Rattle.af_base.specs.Changes.{add_file, add_process, add_user, dequeued, install, install_all, push_message, pushed, remove_process, set_limit, uninstall, with_queue, with_socket}
-use Rattle.af_base.specs.Refusals.{is_crowded, is_full}
+use Rattle.af_base.specs.Refusals.{is_at_process_limit, is_full}
 use Rattle.af_base.specs.Steps.{connected_socket, spawned, with_pair}
 use Rattle.af_base.specs.Unheld.{without}
 use Rattle.af_base.specs.Whole.{IsMessageWithin, IsSound, IsWhole, IsWithin}
@@ -34,13 +34,13 @@ use Rattle.af_base.proofs.Sound.{fresh_sound}
 use Rattle.af_base.proofs.Whole.{whole-install, whole-left, whole-push, whole-uninstall, whole-unheld}
 use Rattle.af_base.proofs.Within.{below-most, within-install, within-left, within-pair, within-push, within-spawned, within-uninstall, within-without}
 use Rattle.af_ledger.specs.Counted.{places_in, uncounted}
-use Rattle.af_ledger.specs.Kept.{Kept, dropped, dropped_all, has_count, held, held_all, is_user, is_waiting, with_user}
+use Rattle.af_ledger.specs.Tally.{Tally, dropped, dropped_all, has_count, held, held_all, is_user, is_waiting, with_user}
 use Rattle.af_ledger.specs.declared.count.Count.{Count}
 use Rattle.af_ledger.specs.declared.place.Place.TheVariants.{Backlog, Queue, Table}
 use Rattle.af_ledger.proofs.HeldAll.{has-dropped_all, has-held_all}
 use Rattle.af_ledger.proofs.Laws.{has-dropped, has-entered, has-held, has-struck, users-held}
 use Rattle.af_hold.specs.Agreement.{IsExact}
-use Rattle.af_hold.specs.Stored.{filled}
+use Rattle.af_hold.specs.HoldingsView.{filled}
 use Rattle.af_hold.proofs.Agreement.{agrees-dequeued, agrees-empty, agrees-entered, agrees-gone, agrees-install, agrees-limited, agrees-new_file, agrees-push, agrees-refs, agrees-remove_process, agrees-shed, agrees-spawned, agrees-struck, agrees-uninstall}
 use Rattle.af_hold.proofs.Bounds.{can-drop-all}
 use Rattle.af_hold.proofs.Sheds.{Sheds}
@@ -49,8 +49,8 @@ use Rattle.af_hold.proofs.Sheds.{Sheds}
 pub world-is : (v w : World) → v.processes ≡ w.processes → v.files ≡ w.files → v.next_ino ≡ w.next_ino → v.next_pid ≡ w.next_pid → v.users ≡ w.users → v ≡ w
 world-is v w processes files next_ino next_pid users = λ i. record { processes = processes i; files = files i; next_ino = next_ino i; next_pid = next_pid i; users = users i }
 
--- What is said of a world and of numbers is said of their equals.
-pub exact-same : (v w : World) (k l : Kept) → v ≡ w → k ≡ l → IsExact w l → IsExact v k
+-- A fact of a world and of counts is one of their equals.
+pub exact-same : (v w : World) (k l : Tally) → v ≡ w → k ≡ l → IsExact w l → IsExact v k
 exact-same v w k l world numbers h = subst (λ x. IsExact x k) (sym world) (subst (IsExact w) (sym numbers) h)
 
 -- The world with a process more, whose table is empty.
@@ -58,7 +58,7 @@ abbrev started : World → ℕ → ℕ → Bool → World
 started w uid nofile privileged = add_process w (record { user = uid; limit = nofile; privileged = privileged; table = finmap.empty })
 
 -- A process that starts.
-pub exact-spawned : (w : World) (uid nofile : ℕ) (privileged : Bool) (k : Kept) → is_crowded w ≡ false → nofile ≤ MAX_NOFILE → IsExact w k → IsExact (spawned w uid nofile privileged) (record k { users = with_user uid k.users })
+pub exact-spawned : (w : World) (uid nofile : ℕ) (privileged : Bool) (k : Tally) → is_at_process_limit w ≡ false → nofile ≤ MAX_NOFILE → IsExact w k → IsExact (spawned w uid nofile privileged) (record k { users = with_user uid k.users })
 exact-spawned w uid nofile privileged k room low h = record {
   whole = whole-spawned w uid nofile privileged h.whole;
   within = within-spawned w uid nofile privileged h.within room low;
@@ -70,7 +70,7 @@ exact-spawned w uid nofile privileged k room low h = record {
   by f false = refl
 
 -- A process with another limit.
-pub exact-limited : (w : World) (p n : ℕ) (k : Kept) → n ≤ MAX_NOFILE → IsExact w k → IsExact (set_limit w p n) k
+pub exact-limited : (w : World) (p n : ℕ) (k : Tally) → n ≤ MAX_NOFILE → IsExact w k → IsExact (set_limit w p n) k
 exact-limited w p n k low h = record {
   whole = whole-limited w p n h.whole;
   within = within-limited w p n h.within low;
@@ -78,8 +78,8 @@ exact-limited w p n k low h = record {
   counted = h.counted;
 }
 
--- A process that goes with an empty table.
-pub exact-removed : (w : World) (p : ℕ) (k : Kept) → ((n : ℕ) → table_at w p n ≡ None) → IsExact w k → IsExact (remove_process w p) k
+-- A process that ends with an empty table.
+pub exact-removed : (w : World) (p : ℕ) (k : Tally) → ((n : ℕ) → table_at w p n ≡ None) → IsExact w k → IsExact (remove_process w p) k
 exact-removed w p k empty h = record {
   whole = whole-remove_process w p h.whole;
   within = within-remove_process w p h.within;
@@ -88,7 +88,7 @@ exact-removed w p k empty h = record {
 }
 
 -- A free number taken into use for a live file.
-pub exact-install : (w : World) (p n f : ℕ) (q : Process) (k : Kept) → finmap.get w.processes p ≡ Some q → finmap.get q.table n ≡ None → n < MAX_NOFILE → IsLive w f → IsExact w k → IsExact (install w p n f) (held Table f k)
+pub exact-install : (w : World) (p n f : ℕ) (q : Process) (k : Tally) → finmap.get w.processes p ≡ Some q → finmap.get q.table n ≡ None → n < MAX_NOFILE → IsLive w f → IsExact w k → IsExact (install w p n f) (held Table f k)
 exact-install w p n f q k at free low live h = record {
   whole = whole-install w p n f h.whole live;
   within = within-install w p n f h.within low;
@@ -97,7 +97,7 @@ exact-install w p n f q k at free low live h = record {
 }
 
 -- A number given up.
-pub exact-uninstall : (w : World) (p n f : ℕ) (k : Kept) → table_at w p n ≡ Some f → IsExact w k → IsExact (uninstall w p n) (dropped Table f k)
+pub exact-uninstall : (w : World) (p n f : ℕ) (k : Tally) → table_at w p n ≡ Some f → IsExact w k → IsExact (uninstall w p n) (dropped Table f k)
 exact-uninstall w p n f k is h = record {
   whole = whole-uninstall w p n h.whole;
   within = within-uninstall w p n h.within;
@@ -106,7 +106,7 @@ exact-uninstall w p n f k is h = record {
 }
 
 -- A message put into a queue.
-pub exact-push : (w : World) (s : ℕ) (m : Message) (x : Socket) (k : Kept) → finmap.get w.files s ≡ Some (AsSocket x) → IsTrue (is_user m.user k.users) → ((f : ℕ) → Contains m.attached f → IsLive w f) → IsMessageWithin m → length x.queue < MAX_MESSAGES
+pub exact-push : (w : World) (s : ℕ) (m : Message) (x : Socket) (k : Tally) → finmap.get w.files s ≡ Some (AsSocket x) → IsTrue (is_user m.user k.users) → ((f : ℕ) → Contains m.attached f → IsLive w f) → IsMessageWithin m → length x.queue < MAX_MESSAGES
     → total w + length m.attached ≤ MAX_INFLIGHT → IsExact w k → IsExact (push_message w s m) (held_all (Queue m.user) m.attached k)
 exact-push w s m x k at user live fits room flying h = record {
   whole = whole-push w s m h.whole live;
@@ -116,7 +116,7 @@ exact-push w s m x k at user live fits room flying h = record {
 }
 
 -- A message is taken out of a queue.
-pub exact-shed : (w : World) (s : ℕ) (m : Message) (rest : List Message) (x : Socket) (k : Kept) → finmap.get w.files s ≡ Some (AsSocket x) → Sheds x.queue m rest → IsExact w k → IsExact (with_queue w s rest) (dropped_all (Queue m.user) m.attached k)
+pub exact-shed : (w : World) (s : ℕ) (m : Message) (rest : List Message) (x : Socket) (k : Tally) → finmap.get w.files s ≡ Some (AsSocket x) → Sheds x.queue m rest → IsExact w k → IsExact (with_queue w s rest) (dropped_all (Queue m.user) m.attached k)
 exact-shed w s m rest x k at shed h =
     let can = can-drop-all w s m rest x k at shed h.agrees in
     record {
@@ -127,7 +127,7 @@ exact-shed w s m rest x k at shed h =
     }
 
 -- The first embryo leaves a backlog.
-pub exact-dequeued : (w : World) (s f : ℕ) (x : Socket) (k : Kept) → finmap.get w.files s ≡ Some (AsSocket x) → x.backlog ≡ f ∷ drop 1 x.backlog → IsExact w k → IsExact (with_socket w s dequeued) (dropped Backlog f k)
+pub exact-dequeued : (w : World) (s f : ℕ) (x : Socket) (k : Tally) → finmap.get w.files s ≡ Some (AsSocket x) → x.backlog ≡ f ∷ drop 1 x.backlog → IsExact w k → IsExact (with_socket w s dequeued) (dropped Backlog f k)
 exact-dequeued w s f x k at first h =
     let live = live-embryo w s f x h.whole at (subst (λ xs. Contains xs f) (sym first) (Contains-first f (drop 1 x.backlog))) in
     record {
@@ -137,8 +137,8 @@ exact-dequeued w s f x k at first h =
       counted = λ g. has-dropped Backlog f g k (h.counted f ∙ live) ∙ h.counted g ∙ sym (live-changed w s dequeued g);
     }
 
--- A file that nothing holds, and that holds nothing, goes.
-pub exact-gone : (w : World) (f : ℕ) (x : File) (k : Kept) → finmap.get w.files f ≡ Some x → contents x ≡ [] → queue_of x ≡ [] → refs w f ≡ 0 → IsExact w k → IsExact (without (nat_eq f) w) (record k { counts = finmap.remove k.counts f })
+-- An unheld and empty file is freed.
+pub exact-gone : (w : World) (f : ℕ) (x : File) (k : Tally) → finmap.get w.files f ≡ Some x → contents x ≡ [] → queue_of x ≡ [] → refs w f ≡ 0 → IsExact w k → IsExact (without (nat_eq f) w) (record k { counts = finmap.remove k.counts f })
 exact-gone w f x k is bare silent none h = record {
   whole = whole-unheld w f none h.whole;
   within = within-without w f h.within;
@@ -149,7 +149,7 @@ exact-gone w f x k is bare silent none h = record {
   by g true e = sym (ap (λ c. cond (not c) (is_live w g) false) (ap (nat_eq f) (eqb-true g f e) ∙ itself f))
   by g false e = h.counted g ∙ sym (ap (λ c. cond (not c) (is_live w g) false) (told_apart f g (λ same. not_same g f e (sym same))))
 
--- What is live with a file more.
+-- The live files with one more.
 pub live-added : (w : World) (x : File) (g : ℕ) → is_live (add_file w x) g ≡ cond (nat_eq g w.next_ino) true (is_live w g)
 live-added w x g = ap is_some (finmap.get-insert nat_cmp_total w.files w.next_ino x g ∙ ap (λ b. cond b (Some x) (finmap.get w.files g)) (unsigned_tied g w.next_ino)) ∙ by (nat_eq g w.next_ino) where
   by : (b : Bool) → is_some (cond b (Some x) (finmap.get w.files g)) ≡ cond b true (is_live w g)
@@ -157,11 +157,11 @@ live-added w x g = ap is_some (finmap.get-insert nat_cmp_total w.files w.next_in
   by false = refl
 
 -- A file with the next number is new to the ledger.
-pub next-new : (w : World) (k : Kept) (f : ℕ) → IsExact w k → w.next_ino ≤ f → has_count k f ≡ false
+pub next-new : (w : World) (k : Tally) (f : ℕ) → IsExact w k → w.next_ino ≤ f → has_count k f ≡ false
 next-new w k f h low = h.counted f ∙ ap is_some (fresh_file w f h.whole low)
 
 -- A file more that holds nothing, which waits.
-pub exact-made : (w : World) (x : File) (k : Kept) → contents x ≡ [] → queue_of x ≡ [] → IsWhole (add_file w x) → IsWithin (add_file w x) → IsExact w k
+pub exact-made : (w : World) (x : File) (k : Tally) → contents x ≡ [] → queue_of x ≡ [] → IsWhole (add_file w x) → IsWithin (add_file w x) → IsExact w k
     → IsExact (add_file w x) (record k { counts = finmap.insert k.counts w.next_ino uncounted })
 exact-made w x k empty silent whole within h = record {
   whole = whole;
@@ -171,16 +171,16 @@ exact-made w x k empty silent whole within h = record {
 }
 
 -- A plain file more, which waits.
-pub exact-plain : (w : World) (k : Kept) → is_full w 1 ≡ false → IsExact w k → IsExact (add_file w Plain) (record k { counts = finmap.insert k.counts w.next_ino uncounted })
+pub exact-plain : (w : World) (k : Tally) → is_full w 1 ≡ false → IsExact w k → IsExact (add_file w Plain) (record k { counts = finmap.insert k.counts w.next_ino uncounted })
 exact-plain w k fits h = exact-made w Plain k refl refl (whole-plain w h.whole) (within-plain w h.within fits) h
 
 -- The second of two files with the next numbers is new to the ledger when the first was entered.
-second-stranger : (w : World) (k : Kept) → IsExact w k → has_count (record k { counts = finmap.insert k.counts w.next_ino uncounted }) (w.next_ino + 1) ≡ false
+second-stranger : (w : World) (k : Tally) → IsExact w k → has_count (record k { counts = finmap.insert k.counts w.next_ino uncounted }) (w.next_ino + 1) ≡ false
 second-stranger w k h =
     has-entered k w.next_ino (w.next_ino + 1) ∙ ap (λ c. cond c true (has_count k (w.next_ino + 1))) (told_apart (w.next_ino + 1) w.next_ino (λ e. omega (arith, e))) ∙ next-new w k (w.next_ino + 1) h (omega arith)
 
 -- Two sockets more, connected to each other, which wait.
-pub exact-pair : (w : World) (kind : SockType) (k : Kept) → is_full w 2 ≡ false → IsExact w k
+pub exact-pair : (w : World) (kind : SockType) (k : Tally) → is_full w 2 ≡ false → IsExact w k
     → IsExact (with_pair w kind) (record k { counts = finmap.insert (finmap.insert k.counts w.next_ino uncounted) (w.next_ino + 1) uncounted })
 exact-pair w kind k fits h =
     let a = w.next_ino in
@@ -189,7 +189,7 @@ exact-pair w kind k fits h =
     let second = AsSocket (connected_socket kind a) in
     let new : finmap.get w.files a ≡ None = fresh_file w a h.whole (omega arith) in
     let other : finmap.get (add_file w first).files b ≡ None = insert-other w.files a first b (told_apart b a (λ e. omega (arith, e))) ∙ fresh_file w b h.whole (omega arith) in
-    let one : Kept = record k { counts = finmap.insert k.counts a uncounted } in
+    let one : Tally = record k { counts = finmap.insert k.counts a uncounted } in
     let both = agrees-new_file (add_file w first) second k other refl refl (agrees-new_file w first k new refl refl h.agrees) in
     record {
       whole = whole-pair w kind h.whole;
@@ -200,7 +200,7 @@ exact-pair w kind k fits h =
     }
 
 -- Free numbers taken into use for live files, one after the other.
-pub exact-install_all : (w : World) (p : ℕ) (q : Process) (ns fs : List ℕ) (k : Kept) → finmap.get w.processes p ≡ Some q → AreFree q ns → ((f : ℕ) → Contains fs f → IsLive w f) → IsExact w k
+pub exact-install_all : (w : World) (p : ℕ) (q : Process) (ns fs : List ℕ) (k : Tally) → finmap.get w.processes p ≡ Some q → AreFree q ns → ((f : ℕ) → Contains fs f → IsLive w f) → IsExact w k
     → IsExact (install_all w p (zip ns fs)) (held_all Table (map (λ e. e.1) (zip ns fs)) k)
 exact-install_all w p q [] fs k at free live h = h
 exact-install_all w p q (n ∷ ns) [] k at free live h = h
@@ -214,21 +214,21 @@ install-filled w p [] = refl
 install-filled w p (e ∷ es) = install-filled (install w p e.0 e.1) p es
 
 -- The same, said of the processes.
-pub exact-filled : (w : World) (p : ℕ) (q : Process) (ns fs : List ℕ) (k : Kept) → finmap.get w.processes p ≡ Some q → AreFree q ns → ((f : ℕ) → Contains fs f → IsLive w f) → IsExact w k
+pub exact-filled : (w : World) (p : ℕ) (q : Process) (ns fs : List ℕ) (k : Tally) → finmap.get w.processes p ≡ Some q → AreFree q ns → ((f : ℕ) → Contains fs f → IsLive w f) → IsExact w k
     → IsExact (record w { processes = filled w.processes p (zip ns fs) }) (held_all Table (map (λ e. e.1) (zip ns fs)) k)
 exact-filled w p q ns fs k at free live h = subst (λ v. IsExact v (held_all Table (map (λ e. e.1) (zip ns fs)) k)) (install-filled w p (zip ns fs)) (exact-install_all w p q ns fs k at free live h)
 
 -- Files that are put into a table leave the users.
-pub users-filled : (fs : List ℕ) (k : Kept) → keys_of (held_all Table fs k).users ≡ keys_of k.users
+pub users-filled : (fs : List ℕ) (k : Tally) → keys_of (held_all Table fs k).users ≡ keys_of k.users
 users-filled [] k = refl
 users-filled (f ∷ fs) k = users-filled fs (held Table f k) ∙ users-held Table f k
 
 -- A store whose live files all have a place is sound.
-pub exact-sound : (w : World) (k : Kept) → IsExact w k → ((f : ℕ) → IsLive w f → 0 < refs w f) → IsSound w
+pub exact-sound : (w : World) (k : Tally) → IsExact w k → ((f : ℕ) → IsLive w f → 0 < refs w f) → IsSound w
 exact-sound w k h some = record { whole = h.whole; within = h.within; settled = settled-counted w some }
 
 -- A store that has nothing.
-pub exact-empty : (k : Kept) → k.counts ≡ finmap.empty → k.users ≡ [] → k.total ≡ 0 → IsExact empty_world k
+pub exact-empty : (k : Tally) → k.counts ≡ finmap.empty → k.users ≡ [] → k.total ≡ 0 → IsExact empty_world k
 exact-empty k counts users total = record {
   whole = fresh_sound.whole;
   within = fresh_sound.within;
@@ -244,7 +244,7 @@ add-user-is w u us e = by (list_any (nat_eq u) w.users) e where
   by false more = ap (λ l. record w { users = l }) more
 
 -- A file that waits is live, and no place holds it.
-pub waits-unheld : (w : World) (k : Kept) (f : ℕ) → IsExact w k → is_waiting k.counts f ≡ true → IsLive w f × (refs w f ≡ 0)
+pub waits-unheld : (w : World) (k : Tally) (f : ℕ) → IsExact w k → is_waiting k.counts f ≡ true → IsLive w f × (refs w f ≡ 0)
 waits-unheld w k f h waits =
     let told = by (finmap.get k.counts f) waits in
     (sym (h.counted f) ∙ told.0, sym (agrees-refs w k h.agrees f) ∙ told.1) where
@@ -253,7 +253,7 @@ waits-unheld w k f h waits =
       by (Some c) e = (refl, eqb-true (places_in c) 0 e)
 
 -- Where none waits, all is sound.
-pub none-waits : (w : World) (k : Kept) → IsExact w k → ((f : ℕ) → is_waiting k.counts f ≡ false) → IsSound w
+pub none-waits : (w : World) (k : Tally) → IsExact w k → ((f : ℕ) → is_waiting k.counts f ≡ false) → IsSound w
 none-waits w k h none = exact-sound w k h (λ f live.
     let some = by f (finmap.get k.counts f) (h.counted f ∙ live) (none f) in
     let same = agrees-refs w k h.agrees f in
@@ -266,7 +266,7 @@ none-waits w k h none = exact-sound w k h (λ f live.
       by f None e d = absurd (false≢true e)
       by f (Some c) e d = positive (places_in c) d
 
--- What is said of a file that was found is said by what it follows from.
+-- A fact of a file that was found follows.
 pub on-some : {X : Type 0} (o : Option X) {P Q : X → Type 0} → ((x : X) → P x → Q x) → IfSome o P → IfSome o Q
 on-some (Some x) f p = f x p
 on-some None f p = tt

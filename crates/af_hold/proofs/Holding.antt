@@ -10,7 +10,7 @@ use Rattle.af_base.specs.Refusals.{socket_of}
 use Rattle.af_base.specs.Whole.{IsWithin}
 use Rattle.af_hold.proofs.Dropped.{socket_is}
 
--- The socket that a file is stands there.
+-- A file that is a socket has a row with it.
 pub socket-stands : (files : Map File) (s : ℕ) (x : Socket) → option_and_then socket_of (map.get files s) ≡ Some x → map.get files s ≡ Some (AsSocket x)
 socket-stands files s x is = option_and_then_some socket_of (map.get files s) x is (λ y at same. at ∙ ap Some (socket_is y x same))
 

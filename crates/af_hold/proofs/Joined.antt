@@ -9,7 +9,7 @@ use Rattle.std.specs.FinMap.{nat_cmp-IsAntisymmetric}
 use Rattle.std.proofs.lemmas.Bool.{cases_lt, false≢true}
 use Rattle.af_base.specs.World.{Map, Process, World}
 use Rattle.af_base.specs.Places.{table_at}
-use Rattle.af_base.specs.Refusals.{is_crowded, process_at}
+use Rattle.af_base.specs.Refusals.{is_at_process_limit, process_at}
 use Rattle.af_base.specs.Changes.{add_process, change_at, install, remove_process, uninstall}
 use Rattle.af_base.proofs.Born.{whole-add_process}
 use Rattle.af_base.proofs.Lookups.{insert-here, insert-other, itself, none_some, not_same, remove-here, remove-other, same_or_not, told_apart}
@@ -17,7 +17,7 @@ use Rattle.af_base.proofs.Moved.{there-table}
 use Rattle.af_base.proofs.Stepping.{get-change_at}
 use Rattle.af_base.proofs.Stepped.{process-there}
 use Rattle.af_base.proofs.Within.{within-add_process}
-use Rattle.af_ledger.specs.Kept.{CanDrop, CanHold, Kept, dropped, held}
+use Rattle.af_ledger.specs.Tally.{CanDrop, CanHold, Tally, dropped, held}
 use Rattle.af_ledger.specs.declared.place.Place.TheVariants.{Table}
 use Rattle.af_hold.specs.Agreement.{IsExact, Joins}
 use Rattle.af_hold.proofs.Agreement.{agrees-add_process}
@@ -43,7 +43,7 @@ install-added w q n f =
     ∙ ap (λ m. record (add_process w q) { processes = m }) (insert_twice w.processes w.next_pid q (record q { table = map.insert q.table n f }))
 
 -- The process q has joined the world w with what it has at the numbers below `from`, and each is counted.
-pub record Joining (w : World) (q : Process) (from : ℕ) (k : Kept) : Type 0 where
+pub record Joining (w : World) (q : Process) (from : ℕ) (k : Tally) : Type 0 where
   pub table : Map ℕ
   pub below : (n : ℕ) → n < from → map.get table n ≡ map.get q.table n
   pub above : (n : ℕ) → from ≤ n → map.get table n ≡ None
@@ -51,7 +51,7 @@ pub record Joining (w : World) (q : Process) (from : ℕ) (k : Kept) : Type 0 wh
 
 module _ (w : World) (q : Process) where
   -- It has joined with no number yet.
-  pub joining-none : (k : Kept) → Joins w q k → Joining w q 0 k
+  pub joining-none : (k : Tally) → Joins w q k → Joining w q 0 k
   joining-none k j =
       let bare : Process = record q { table = map.empty } in
       let none : (n f : ℕ) → map.get {X = ℕ} {R = nat_cmp} map.empty n ≡ Some f → ⊥ = λ n f is. none_some f (sym (map.get-empty nat_cmp n) ∙ is) in
@@ -70,35 +70,42 @@ module _ (w : World) (q : Process) where
         };
       }
 
-  module _ (from : ℕ) (k : Kept) (c : Joining w q from k) where
+  module _ (from : ℕ) (k : Tally) (c : Joining w q from k) where
     -- It has joined with all its numbers.
     pub joining-done : ((n : ℕ) → from ≤ n → map.get q.table n ≡ None) → IsExact (add_process w q) k
     joining-done none = subst (λ t. IsExact (add_process w (record q { table = t })) k) (same-parts c.table q.table from c.below (λ n over. c.above n over ∙ sym (none n over))) c.exact
 
-    module _ (old : Kept) (j : Joins w q old) (n f : ℕ) (is : map.get q.table n ≡ Some f) where
-      -- One place more of what its next number stands for can be counted.
+    -- Numbers that stand for nothing are passed over.
+    pub joining-past : (n : ℕ) → from ≤ n → ((m : ℕ) → from ≤ m → m < n → map.get q.table m ≡ None) → Joining w q n k
+    joining-past n past between = record {
+      table = c.table;
+      below = λ m low. elim (cases_lt m from) [ inl under ↦ c.below m under | inr over ↦ c.above m over ∙ sym (between m over low) ];
+      above = λ m over. c.above m (omega (arith, over, past));
+      exact = c.exact;
+    }
+
+    module _ (old : Tally) (j : Joins w q old) (f : ℕ) (is : map.get q.table from ≡ Some f) where
+      -- One place more of the file of the next descriptor can be counted.
       pub joining-fits : CanHold Table f k
       joining-fits = can-hold-table (add_process w (record q { table = c.table })) f k c.exact.within c.exact.agrees
 
       -- It has joined with one number more.
-      pub joining-more : from ≤ n → ((m : ℕ) → from ≤ m → m < n → map.get q.table m ≡ None) → Joining w q (n + 1) (held Table f k)
-      joining-more past between =
+      pub joining-more : Joining w q (from + 1) (held Table f k)
+      joining-more =
           let part : Process = record q { table = c.table } in
+          let free = c.above from (omega arith) in
           record {
-            table = map.insert c.table n f;
-            below = λ m low. elim (same_or_not m n) [
-              | inl e ↦ ap (map.get (map.insert c.table n f)) e ∙ insert-here c.table n f ∙ sym (ap (map.get q.table) e ∙ is)
-              | inr a ↦ insert-other c.table n f m a ∙ elim (cases_lt m from) [
-                | inl under ↦ c.below m under
-                | inr over ↦ c.above m over ∙ sym (between m over (let apart = not_same m n a in elim (cases_lt m n) [ inl l ↦ l | inr g ↦ absurd (apart (omega (arith, low, g))) ]))
-              ]
+            table = map.insert c.table from f;
+            below = λ m low. elim (same_or_not m from) [
+              | inl e ↦ ap (map.get (map.insert c.table from f)) e ∙ insert-here c.table from f ∙ sym (ap (map.get q.table) e ∙ is)
+              | inr a ↦ insert-other c.table from f m a ∙ c.below m (let apart = not_same m from a in elim (cases_lt m from) [ inl l ↦ l | inr g ↦ absurd (apart (omega (arith, low, g))) ])
             ];
-            above = λ m over. insert-other c.table n f m (told_apart m n (λ e. omega (arith, e, over))) ∙ c.above m (omega (arith, over, past));
-            exact = subst (λ v. IsExact v (held Table f k)) (install-added w part n f)
-                (exact-install (add_process w part) w.next_pid n f part k (insert-here w.processes w.next_pid part) (c.above n past) (j.within.numbers n (ap is_some is)) (j.live n f is) c.exact);
+            above = λ m over. insert-other c.table from f m (told_apart m from (λ e. omega (arith, e, over))) ∙ c.above m (omega (arith, over));
+            exact = subst (λ v. IsExact v (held Table f k)) (install-added w part from f)
+                (exact-install (add_process w part) w.next_pid from f part k (insert-here w.processes w.next_pid part) free (j.within.numbers from (ap is_some is)) (j.live from f is) c.exact);
           }
 
--- What the numbers of a process stand for, after one was given up.
+-- The files of a process's descriptors after one was closed.
 pub table-uninstall : (w : World) (p n m : ℕ) → table_at (uninstall w p n) p m ≡ cond (nat_eq m n) None (table_at w p m)
 table-uninstall w p n m =
     ap (λ (o : Option Process). option_map_or (λ q. map.get q.table m) o None) (get-change_at less w.processes p p)
@@ -131,7 +138,7 @@ removed-uninstall w p n = ap (λ m. record w { processes = m }) (map.same_map na
   kept (Some q) = refl
 
 -- From w the process p, which was q, gave up its numbers below `from`, and each is counted no longer.
-pub record Leaving (w : World) (p : ℕ) (q : Process) (from : ℕ) (k : Kept) : Type 0 where
+pub record Leaving (w : World) (p : ℕ) (q : Process) (from : ℕ) (k : Tally) : Type 0 where
   pub world : World
   pub rest : remove_process world p ≡ remove_process w p
   pub below : (n : ℕ) → n < from → table_at world p n ≡ None
@@ -139,7 +146,7 @@ pub record Leaving (w : World) (p : ℕ) (q : Process) (from : ℕ) (k : Kept) :
   pub exact : IsExact world k
 
 -- It gave up no number yet.
-pub leaving-none : (w : World) (p : ℕ) (q : Process) (k : Kept) → map.get w.processes p ≡ Some q → IsExact w k → Leaving w p q 0 k
+pub leaving-none : (w : World) (p : ℕ) (q : Process) (k : Tally) → map.get w.processes p ≡ Some q → IsExact w k → Leaving w p q 0 k
 leaving-none w p q k at exact = record {
   world = w;
   rest = refl;
@@ -148,34 +155,44 @@ leaving-none w p q k at exact = record {
   exact = exact;
 }
 
-module _ (w : World) (p : ℕ) (q : Process) (from : ℕ) (k : Kept) (c : Leaving w p q from k) where
-  -- It gave up all its numbers, and goes.
+module _ (w : World) (p : ℕ) (q : Process) (from : ℕ) (k : Tally) (c : Leaving w p q from k) where
+  -- It closed all its descriptors, and ends.
   pub leaving-done : ((n : ℕ) → from ≤ n → map.get q.table n ≡ None) → IsExact (remove_process w p) k
   leaving-done none = subst (λ v. IsExact v k) c.rest (exact-removed c.world p k (λ n. elim (cases_lt n from) [ inl under ↦ c.below n under | inr over ↦ c.above n over ∙ none n over ]) c.exact)
 
-  module _ (n f : ℕ) (is : map.get q.table n ≡ Some f) (past : from ≤ n) where
+  -- Numbers that stand for nothing are passed over.
+  pub leaving-past : (n : ℕ) → from ≤ n → ((m : ℕ) → from ≤ m → m < n → map.get q.table m ≡ None) → Leaving w p q n k
+  leaving-past n past between = record {
+    world = c.world;
+    rest = c.rest;
+    below = λ m low. elim (cases_lt m from) [ inl under ↦ c.below m under | inr over ↦ c.above m over ∙ between m over low ];
+    above = λ m over. c.above m (omega (arith, over, past));
+    exact = c.exact;
+  }
+
+  module _ (f : ℕ) (is : map.get q.table from ≡ Some f) where
+    here : table_at c.world p from ≡ Some f
+    here = c.above from (omega arith) ∙ is
+
     -- Its next number is counted.
     pub leaving-counted : CanDrop Table f k
-    leaving-counted = can-drop-table c.world p n f k (c.above n past ∙ is) c.exact.agrees
+    leaving-counted = can-drop-table c.world p from f k here c.exact.agrees
 
     -- It gave up one number more.
-    pub leaving-more : ((m : ℕ) → from ≤ m → m < n → map.get q.table m ≡ None) → Leaving w p q (n + 1) (dropped Table f k)
-    leaving-more between = record {
-      world = uninstall c.world p n;
-      rest = removed-uninstall c.world p n ∙ c.rest;
-      below = λ m low. table-uninstall c.world p n m ∙ lower m low (nat_eq m n) refl;
-      above = λ m over. table-uninstall c.world p n m ∙ ap (λ b. cond b None (table_at c.world p m)) (told_apart m n (λ e. omega (arith, e, over))) ∙ c.above m (omega (arith, over, past));
-      exact = exact-uninstall c.world p n f k (c.above n past ∙ is) c.exact;
+    pub leaving-more : Leaving w p q (from + 1) (dropped Table f k)
+    leaving-more = record {
+      world = uninstall c.world p from;
+      rest = removed-uninstall c.world p from ∙ c.rest;
+      below = λ m low. table-uninstall c.world p from m ∙ lower m low (nat_eq m from) refl;
+      above = λ m over. table-uninstall c.world p from m ∙ ap (λ b. cond b None (table_at c.world p m)) (told_apart m from (λ e. omega (arith, e, over))) ∙ c.above m (omega (arith, over));
+      exact = exact-uninstall c.world p from f k here c.exact;
     } where
-      lower : (m : ℕ) → m < n + 1 → (b : Bool) → nat_eq m n ≡ b → cond b None (table_at c.world p m) ≡ None
+      lower : (m : ℕ) → m < from + 1 → (b : Bool) → nat_eq m from ≡ b → cond b None (table_at c.world p m) ≡ None
       lower m low true e = refl
-      lower m low false e = elim (cases_lt m from) [
-        | inl under ↦ c.below m under
-        | inr over ↦ c.above m over ∙ between m over (elim (cases_lt m n) [ inl under ↦ under | inr high ↦ absurd (not_same m n e (omega (arith, low, high))) ])
-      ]
+      lower m low false e = elim (cases_lt m from) [ inl under ↦ c.below m under | inr high ↦ absurd (not_same m from e (omega (arith, low, high))) ]
 
 -- A child with the open numbers of its parent can join.
-pub joins-child : (w : World) (p : ℕ) (q : Process) (k : Kept) → is_crowded w ≡ false → map.get w.processes p ≡ Some q → IsExact w k → Joins w q k
+pub joins-child : (w : World) (p : ℕ) (q : Process) (k : Tally) → is_at_process_limit w ≡ false → map.get w.processes p ≡ Some q → IsExact w k → Joins w q k
 joins-child w p q k room at h = record {
   exact = h;
   room = room;
@@ -185,5 +202,5 @@ joins-child w p q k room at h = record {
 }
 
 -- So can a copy of a process that is there.
-pub joins-copy : (w : World) (p : ℕ) (q : Process) (k : Kept) → is_crowded w ≡ false → IsTrue (map.contains_key w.processes p) → q ≡ process_at w p → IsExact w k → Joins w q k
+pub joins-copy : (w : World) (p : ℕ) (q : Process) (k : Tally) → is_at_process_limit w ≡ false → IsTrue (map.contains_key w.processes p) → q ≡ process_at w p → IsExact w k → Joins w q k
 joins-copy w p q k room there is h = subst (λ r. Joins w r k) (sym is) (joins-child w p (process_at w p) k room (process-there w p (ap not there)) h)

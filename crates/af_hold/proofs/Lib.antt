@@ -12,6 +12,7 @@ pub mod Putting
 pub mod Receiving
 pub mod Filling
 pub mod Joined
+pub mod Replaced
 pub mod Losing
 pub mod Holding
 pub mod Altered

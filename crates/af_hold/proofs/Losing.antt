@@ -23,11 +23,11 @@ use Rattle.af_hold.specs.Losing.{places_at, without_place}
 use Rattle.af_hold.proofs.Emptying.{emptied-changed, emptied-popped}
 use Rattle.af_hold.proofs.Shedding.{burden, burden-less, settles-popped, settles-shed}
 
--- With messages, the first of them goes.
+-- With messages, it loses the first of them.
 pub lost-message : (w : World) (s : ℕ) → 0 < length (queue_at w s) → without_place w s ≡ with_queue w s (drop 1 (queue_at w s))
 lost-message w s some = ap (λ b. if b then with_socket w s dequeued else with_queue w s (drop 1 (queue_at w s))) (told_apart (length (queue_at w s)) 0 (λ e. omega (arith, e, some)))
 
--- Without, the first embryo goes.
+-- Without, it loses the first embryo.
 pub lost-embryo : (w : World) (s : ℕ) → queue_at w s ≡ [] → without_place w s ≡ with_socket w s dequeued
 lost-embryo w s silent = ap (λ n. if nat_eq n 0 then with_socket w s dequeued else with_queue w s (drop 1 (queue_at w s))) (ap length silent)
 

@@ -12,14 +12,14 @@ use Rattle.af_base.specs.Counts.{total}
 use Rattle.af_base.specs.Places.{queue_at, queue_of}
 use Rattle.af_base.specs.Refusals.{no_socket, socket_at, socket_of}
 use Rattle.af_base.specs.Whole.{IsMessageWithin}
-use Rattle.af_ledger.specs.Kept.{CanHoldAll, Kept, held_all, is_user}
+use Rattle.af_ledger.specs.Tally.{CanHoldAll, Tally, held_all, is_user}
 use Rattle.af_ledger.specs.declared.place.Place.TheVariants.{Queue}
 use Rattle.af_hold.specs.Agreement.{Agrees, IsExact}
 use Rattle.af_hold.specs.Limits.{IsOfProcess}
 use Rattle.af_hold.proofs.Bounds.{can-hold-all}
 use Rattle.af_hold.proofs.Exact.{exact-push}
 
--- What is no stranger and no plain file is a socket.
+-- A file that is known and not plain is a socket.
 pub is-socket : (w : World) (s : ℕ) → is_none (socket_at w s) ≡ false → map.get w.files s ≡ Some (AsSocket (unwrap_or (socket_at w s) no_socket))
 is-socket w s = by (map.get w.files s) refl where
   by : (o : Option File) → map.get w.files s ≡ o → is_none (option_and_then socket_of o) ≡ false → map.get w.files s ≡ Some (AsSocket (unwrap_or (socket_at w s) no_socket))
@@ -28,11 +28,11 @@ is-socket w s = by (map.get w.files s) refl where
   by (Some (AsSocket x)) e d = e ∙ sym (ap (λ o. Some (AsSocket (unwrap_or (option_and_then socket_of o) no_socket))) e)
 
 -- The user of a process is kept.
-known-sender : (w : World) (u : ℕ) (k : Kept) → IsOfProcess w u → Agrees w k → IsTrue (is_user u k.users)
+known-sender : (w : World) (u : ℕ) (k : Tally) → IsOfProcess w u → Agrees w k → IsTrue (is_user u k.users)
 known-sender w u k sender agrees = subst (λ v. IsTrue (is_user v k.users)) (sym sender.2) (agrees.known sender.0 _ sender.1)
 
 -- A message that may be put, by what is said of the world that is shown.
-module _ (w v : World) (same : w ≡ v) (k : Kept) (m : Message) (h : IsExact w k) (user : IsOfProcess v m.user) (flying : total v + length m.attached ≤ MAX_INFLIGHT) (live : (f : ℕ) → Contains m.attached f → IsLive v f) where
+module _ (w v : World) (same : w ≡ v) (k : Tally) (m : Message) (h : IsExact w k) (user : IsOfProcess v m.user) (flying : total v + length m.attached ≤ MAX_INFLIGHT) (live : (f : ℕ) → Contains m.attached f → IsLive v f) where
   flies : total w + length m.attached ≤ MAX_INFLIGHT
   flies = subst (λ x. total x + length m.attached ≤ MAX_INFLIGHT) (sym same) flying
 

@@ -10,12 +10,12 @@ use Rattle.af_base.specs.Table.{lowest_free}
 use Rattle.af_base.proofs.Free.{AreFree, free-lowest_free}
 use Rattle.af_base.proofs.Stepped.{process-there}
 use Rattle.af_base.proofs.Whole.{live-taken}
-use Rattle.af_desc.specs.Filed.{received_of}
-use Rattle.af_ledger.specs.Kept.{CanDropAll, Kept, dropped_all, held_all}
+use Rattle.af_desc.specs.FilesView.{received_of}
+use Rattle.af_ledger.specs.Tally.{CanDropAll, Tally, dropped_all, held_all}
 use Rattle.af_ledger.specs.declared.place.Place.TheVariants.{Queue, Table}
 use Rattle.af_hold.specs.Agreement.{IsExact}
 use Rattle.af_hold.specs.Receiving.{taken_at}
-use Rattle.af_hold.specs.Stored.{filled}
+use Rattle.af_hold.specs.HoldingsView.{filled}
 use Rattle.af_hold.proofs.Bounds.{can-drop-all}
 use Rattle.af_hold.proofs.Exact.{exact-filled, exact-shed}
 use Rattle.af_hold.proofs.Putting.{is-socket}
@@ -29,10 +29,10 @@ received_at w s n = (received_of (socket_at w s) n).message
 abbrev pub tabled : World → ℕ → List ℕ → List ℕ → World
 tabled w p ns fs = record w { processes = filled w.processes p (zip ns fs) }
 
-abbrev pub counted : Kept → List ℕ → List ℕ → Kept
+abbrev pub counted : Tally → List ℕ → List ℕ → Tally
 counted k ns fs = held_all Table (map (λ e. e.1) (zip ns fs)) k
 
-module _ (w : World) (s n : ℕ) (k : Kept) (h : IsExact w k) (some : 0 < n) (socket : is_none (socket_at w s) ≡ false) where
+module _ (w : World) (s n : ℕ) (k : Tally) (h : IsExact w k) (some : 0 < n) (socket : is_none (socket_at w s) ≡ false) where
   abbrev from : Socket
   from = unwrap_or (socket_at w s) no_socket
 

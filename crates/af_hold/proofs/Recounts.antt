@@ -1,4 +1,4 @@
--- What each change of a world does to a single recount of it.
+-- How each change of a world changes a single recount.
 use Rattle.std.proofs.Common.{◌≡◌, ℕ, ◌+◌, inl, inr, List, [], ◌∷◌, ◌++◌, drop, refl, sym, ap, ◌∙◌, arith}
 use Rattle.std.specs.Prelude.{Option, Some, None}
 use Rattle.std.specs.Option.{option_map_or}
@@ -16,11 +16,11 @@ use Rattle.af_base.proofs.Sums.{total-change_at, total-insert, total-remove}
 use Rattle.af_base.proofs.Totals.{total-same}
 use Rattle.af_hold.proofs.Sheds.{Sheds}
 
--- A number taken into use stands for one file more.
+-- A new descriptor is one reference more.
 pub tabled-install : (w : World) (p n g f : ℕ) (q : Process) → map.get w.processes p ≡ Some q → map.get q.table n ≡ None → tabled (install w p n g) f ≡ tabled w f + one f g
 tabled-install w p n g f q at free = omega (arith, refs-install w p n g f q at free)
 
--- A number given up stands for one file less.
+-- A closed descriptor is one reference less.
 pub tabled-uninstall : (w : World) (p n g f : ℕ) (q : Process) → map.get w.processes p ≡ Some q → map.get q.table n ≡ Some g → tabled (uninstall w p n) f + one f g ≡ tabled w f
 tabled-uninstall w p n g f q at is = omega (arith, refs-uninstall w p n g f q at is)
 
@@ -49,7 +49,7 @@ total-new F m k v none =
     let before : option_map_or F (map.get m k) 0 ≡ 0 = ap (λ o. option_map_or F o 0) none in
     omega (arith, before, total-insert F m k v)
 
--- A key taken out takes nothing along, where what stands there weighs nothing.
+-- Removing a key keeps a sum to which its value adds nothing.
 pub total-weightless : {X : Type 0} (F : X → ℕ) (m : Map X) (k : ℕ) → ((x : X) → map.get m k ≡ Some x → F x ≡ 0) → total_of F (map.remove m k) ≡ total_of F m
 total-weightless {X = X} F m k light = by (map.get m k) refl where
   by : (o : Option X) → map.get m k ≡ o → total_of F (map.remove m k) ≡ total_of F m

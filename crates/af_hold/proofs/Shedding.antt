@@ -1,4 +1,4 @@
--- What is let go on the way changes nothing of the outcome.
+-- A loss on the way keeps the outcome.
 use Rattle.std.proofs.Common.{◌≡◌, ◌<◌, ℕ, ◌+◌, Bool, true, false, not, ◌⊎◌, inl, inr, List, [], ◌∷◌, ◌++◌, length, append_assoc, refl, sym, ap, ◌∙◌, subst, cond, nat_eq, arith, drop}
 use Rattle.std.specs.Prelude.{Option, Some, None, option_map}
 use Rattle.std.specs.Cmp.{nat_cmp_total}
@@ -37,14 +37,14 @@ module _ (w : World) (s : ℕ) (g : Socket → Socket) (live : IsLive w s) (none
   others : (q : ℕ) → nat_eq q s ≡ false → held_by after q ≡ held_by w q
   others q apart = ap (λ o. option_map_or contents o []) (others-changed w s g q apart)
 
-  -- What is held was held.
+  -- A held file was held.
   held-before : (q f : ℕ) → Holds after q f → Holds w q f
   held-before q f h = elim (same_or_not q s) [
     | inl same ↦ subst (λ z. Holds w z f) (sym same) (fewer f (subst (λ z. Holds after z f) same h))
     | inr apart ↦ subst (λ fs. Contains fs f) (others q apart) h
   ]
 
-  -- It goes.
+  -- It is freed.
   goes-before : Unheld w s
   goes-before = let no = held_by_none w s none in Goes s live no.0 (λ q h. absurd (no.1 q h))
 
@@ -52,11 +52,11 @@ module _ (w : World) (s : ℕ) (g : Socket → Socket) (live : IsLive w s) (none
   goes-after : Unheld after s
   goes-after = let no = held_by_none w s none in Goes s (live-changed w s g s ∙ live) no.0 (λ q h. absurd (no.1 q (held-before q s h)))
 
-  -- What went goes still.
+  -- A freed file stays freed.
   still-goes : (f : ℕ) → Unheld w f → Unheld after f
   still-goes _ (Goes f l no_table hs) = Goes f (live-changed w s g f ∙ l) no_table (λ q h. still-goes q (hs q (held-before q f h)))
 
-  -- What goes went.
+  -- A file that is freed was to be freed.
   went-before : (f : ℕ) → Unheld after f → Unheld w f
   went-before _ (Goes f l no_table hs) = Goes f (sym (live-changed w s g f) ∙ l) no_table (λ q h. elim (same_or_not q s) [
     | inl same ↦ subst (Unheld w) (sym same) goes-before
@@ -148,7 +148,7 @@ burden-gone w f live =
 pub none-popped : (w : World) (s : ℕ) → queue_at w s ≡ [] → with_queue w s (drop 1 (queue_at w s)) ≡ w
 none-popped w s empty = ap (λ q. with_queue w s (drop 1 q)) empty ∙ emptied-same w s empty
 
--- Where the first message of a file that nothing holds went, the outcome is the same.
+-- When an unheld file has lost its first message, the outcome is the same.
 pub settles-popped : (w v : World) (s : ℕ) → v ≡ with_queue w s (drop 1 (queue_at w s)) → IsLive w s → refs w s ≡ 0 → 0 < length (queue_at w s) → (end : World) → Settles v end → Settles w end
 settles-popped w v s is live none some end h =
     let first = queue-first (queue_at w s) some in

@@ -1,4 +1,4 @@
--- What is left of a queue of which a message was taken.
+-- The rest of a queue after a message was taken.
 use Rattle.std.proofs.Common.{◌≡◌, ◌<◌, ℕ, ◌+◌, List, ◌∷◌, sym, ap, ◌∙◌}
 use Rattle.std.specs.List.{sum_by}
 use Rattle.std.proofs.lemmas.List.Sums.{sum_by-cons}
@@ -10,7 +10,7 @@ use Rattle.af_base.proofs.Takes.{AreWithin, Leaves, have-bytes, leaves-first, le
 use Rattle.af_queue.specs.Received.{received}
 use Rattle.af_queue.proofs.Charges.{charges-taken}
 
--- A message was taken out of a queue, and this is left: what it carries, and what its user is charged for that, is in the queue no more.
+-- A message was taken out of a queue: its files, and their charge, have left the queue.
 pub record Sheds (q : List Message) (m : Message) (rest : List Message) : Type 0 where
   pub leaves : Leaves q m.attached rest
   pub charged : (u : ℕ) → charge u m + sum_by (charge u) rest ≡ sum_by (charge u) q
@@ -22,7 +22,7 @@ sheds-first q m rest k is = record {
   charged = λ u. sym (ap (sum_by (charge u)) is ∙ sum_by-cons (charge u) m rest);
 }
 
--- What a receive takes.
+-- The result of a receive.
 pub sheds-taken : (kind : SockType) (q : List Message) (n : ℕ) → 0 < n → AreWithin q → Sheds q (received kind q n).message (take_from kind q n).rest
 sheds-taken kind q n some k = record {
   leaves = leaves-taken kind q n k;

@@ -1,4 +1,4 @@
--- What is taken out of a queue leaves its rest in place.
+-- Taking from a queue leaves its rest in place.
 use Rattle.std.proofs.Common.{◌≡◌, ℕ, List, [], refl, sym, ap, ◌∙◌}
 use Rattle.std.specs.Prelude.{Option, Some, None, drop, unwrap_or}
 use Rattle.std.specs.Option.{option_and_then, option_map_or}
@@ -8,7 +8,7 @@ use Rattle.af_base.specs.Places.{queue_at, queue_of}
 use Rattle.af_base.specs.Changes.{file_with, with_queue, with_socket}
 use Rattle.af_base.specs.Refusals.{no_socket, socket_of}
 use Rattle.af_base.specs.Take.{take_from}
-use Rattle.af_desc.specs.Filed.{received_from}
+use Rattle.af_desc.specs.FilesView.{received_from}
 use Rattle.af_hold.specs.Receiving.{taken_at}
 
 -- To change a queue is to put in place what comes of it.

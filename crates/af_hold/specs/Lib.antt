@@ -1,6 +1,6 @@
--- What holdings show, and when the numbers that it keeps are the recounts.
+-- The view of holdings, and when their counts are the recounts.
 pub mod Limits
-pub mod Stored
+pub mod HoldingsView
 pub mod Agreement
 pub mod Receiving
 pub mod Losing

@@ -1,13 +1,13 @@
-//! Numbers of a process as places, many at once: what is received comes into its table, and all that is
-//! open in it is counted where it comes, and dropped where it goes.
+//! Descriptors of a process as places, many at once: a receive installs its files, and all open
+//! descriptors are counted when a process joins, and dropped when it ends.
 ghost use Rattle.std.specs.Prelude.{◌≡◌, ◌<◌, ◌+◌, ◌^◌, ℕ, IsTrue, Some, length, map as mapped};
 ghost use Rattle.std.specs.List.{All, Contains, zip};
 ghost use Rattle.std.specs.FinMap as map;
 ghost use Rattle.af_base.specs.Changes.{add_process, remove_process};
 ghost use Rattle.af_base.specs.World.{World};
-ghost use Rattle.af_ledger.specs.Kept.{Charged, count_in_map, held_all, kept_of};
+ghost use Rattle.af_ledger.specs.Tally.{Charged, count_in_map, held_all, kept_of};
 ghost use Rattle.af_hold.specs.Agreement.{IsExact, Joins};
-ghost use Rattle.af_hold.specs.Stored.{filled};
+ghost use Rattle.af_hold.specs.HoldingsView.{filled};
 ghost use Rattle.af_table.specs.Procs.{row_in};
 
 use af_base::names::{Fd, FileRef, Pid};
@@ -15,8 +15,8 @@ use af_desc::Files;
 use af_ledger::Place;
 use af_table::{Process, Procs};
 
-/// Files into the table of a process, at these numbers one after the other, as long as there are
-/// both: each number has room, and counts are kept of each file.
+/// Installs files at these descriptors of a process, in order, as long as there are both. Each
+/// descriptor has room, and each file has counts.
 pub fn table_in_all(
     procs: &mut Procs,
     files: &mut Files,
@@ -34,35 +34,43 @@ pub fn table_in_all(
     ensures rest { files.new ≡ record files.old { counts = files.new.counts } }
 {
     for (fd, file) in fds.iter().zip(attached) {
-        files.raise(&Place::Table, file);
-        procs.install(pid, *fd, file.again());
+        files.hold(&Place::Table, file);
+        procs.install(pid, *fd, file.duplicate());
     }
 }
 
-/// Each open number of a process that joins the world is a place more of what it stands for. It takes
-/// no memory.
-pub fn hold_numbers(files: &mut Files, process: &Process)
+/// Adds a reference for each open descriptor of a process that joins the world. Takes no memory.
+pub fn ref_table(files: &mut Files, process: &Process)
     requires { (w : World) × (c : Charged) × Joins w process.now.process (kept_of files.old.counts c) }
     ensures exact { (w : World) (c : Charged) → Joins w process.now.process (kept_of files.old.counts c) → IsExact (add_process w process.now.process) (kept_of files.new.counts c) }
     ensures rest { files.new ≡ record files.old { counts = files.new.counts } }
 {
-    let mut from = Fd(0);
+    // Most tables have no gaps.
+    let front = process.run_from(Fd(0));
+    for file in front {
+        files.hold(&Place::Table, file);
+    }
+    let mut from = Fd(front.len() as u32);
     while let Some((fd, file)) = process.next_open(from) {
-        files.raise(&Place::Table, &file);
+        files.hold(&Place::Table, &file);
         from = Fd(fd.0 + 1);
     }
 }
 
-/// Each open number of a process that left the world is a place less of what it stood for. It takes
-/// no memory.
-pub fn drop_numbers(files: &mut Files, process: &Process)
+/// Drops a reference for each open descriptor of a process that left the world. Takes no memory.
+pub fn unref_table(files: &mut Files, process: &Process)
     requires { (w : World) × (c : Charged) × (pid : ℕ) × (map.get w.processes pid ≡ Some process.now.process) × IsExact w (kept_of files.old.counts c) }
     ensures exact { (w : World) (c : Charged) (pid : ℕ) → map.get w.processes pid ≡ Some process.now.process → IsExact w (kept_of files.old.counts c) → IsExact (remove_process w pid) (kept_of files.new.counts c) }
     ensures rest { files.new ≡ record files.old { counts = files.new.counts } }
 {
-    let mut from = Fd(0);
+    // Most tables have no gaps.
+    let front = process.run_from(Fd(0));
+    for file in front {
+        files.drop_one(&Place::Table, file);
+    }
+    let mut from = Fd(front.len() as u32);
     while let Some((fd, file)) = process.next_open(from) {
-        files.lower(&Place::Table, &file);
+        files.drop_one(&Place::Table, &file);
         from = Fd(fd.0 + 1);
     }
 }

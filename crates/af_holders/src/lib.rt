@@ -1,5 +1,5 @@
-//! Who holds each file of an engine: the processes with their descriptors, the queues and the
-//! backlogs that it stands in, as a text.
+//! The holders of each file of an engine, as a text: processes with their descriptors, queues, and
+//! backlogs.
 #![tactic(auto)]
 
 mod holder;

@@ -47,9 +47,9 @@ fn push_file(text: &mut String, ino: Ino, lost: &[Ino]) -> Result<(), AllocError
 /// Lists the files of the engine's world by rising number, a line for each: its number, whether it
 /// is garbage, which no process can come to, and each place that holds it.
 ///
-/// A place is a descriptor of a process, the queue of a socket, where the file travels with a
-/// message, or the backlog of a listener, where it waits as an embryo. A file stands there once for
-/// each place. The error says that memory for the text was refused.
+/// A place is a descriptor of a process, the queue of a socket that carries the file, or the
+/// backlog of a listener, if the file is an embryo. A file is listed once for each place. Fails
+/// only if memory for the text is refused.
 pub fn holders(alloc: Global, engine: &Engine) -> Result<Vec<u8>, AllocError> {
     let listing = engine.listing()?;
     let lost = garbage(alloc, &listing)?;

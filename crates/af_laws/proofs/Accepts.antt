@@ -143,7 +143,7 @@ module _ (w : World) (p n : ℕ) (name : List ℕ) (sound : IsSound w) (fits : r
     grounded = omega (arith, none_before, references_add_up w e, queues_now (λ q. count_in e (carried q)) refl);
   }
 
--- What a connect that is answered leaves is its effect.
+-- The world after a connect that is answered is its effect.
 module _ (old new : World) (p n : ℕ) (name : List ℕ) (sound : IsSound old) (h : ProcessStep old p (step.Connect n name) reply.Ok new) where
   answered : (refusal old p (step.Connect n name) ≡ None) × (new ≡ effect old p (step.Connect n name))
   answered =
@@ -218,7 +218,7 @@ module _ (w : World) (p n : ℕ) (sound : IsSound w) (fits : refusal w p (step.A
     accepted_settled : IsSettled accepted
     accepted_settled = settled_alike w accepted (live-changed w s dequeued) same_refs sound.settled
 
--- What an accept that is answered leaves is its effect.
+-- The world after an accept that is answered is its effect.
 module _ (old new : World) (p n m : ℕ) (sound : IsSound old) (h : ProcessStep old p (step.Accept n) (reply.Fd m) new) where
   abbrev tests : Type 0
   tests = NoneFits ((not (map.contains_key old.processes p), ESRCH) ∷ step_row old p (step.Accept n))

@@ -70,7 +70,7 @@ no_holder s h = by (eq_by_cmp nat_cmp s 2) (eq_by_cmp nat_cmp s 1) (subst (λ o.
   by false true h = none_in 1 h
   by false false h = none_in 1 h
 
--- and it goes, and the other hangs up
+-- and it is freed, and the other hangs up
 first_gone : without (nat_eq 1) drained ≡ collected
 first_gone = ap (λ fs. record collected { files = fs }) (map.same_map nat_cmp_total nat_cmp-IsAntisymmetric _ _ (λ q.
     get-without (nat_eq 1) drained q ∙ ap (λ o. cond (not (nat_eq 1 q)) (option_map (file_without (nat_eq 1)) o) None) (file_at [] q)

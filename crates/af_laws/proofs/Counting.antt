@@ -154,14 +154,14 @@ module _ (F : Message → ℕ) (w : World) (s : ℕ) (m : Message) (x : Socket) 
         sum_by-cons F m rest,
       )
 
--- What a message charges to the user that it names, and to another.
+-- A message's charge to the user that it names, and to another.
 charge-named : (m : Message) → charge m.user m ≡ length m.attached
 charge-named m = ap (λ b. cond b (length m.attached) 0) (eq-eqb m.user m.user refl)
 
 charge-other : (u : ℕ) (m : Message) → u ≢ m.user → charge u m ≡ 0
 charge-other u m apart = ap (λ b. cond b (length m.attached) 0) (told_apart u m.user apart)
 
--- What a message more charges to a user.
+-- The charges with one message more.
 pub charged-push : (w : World) (s u : ℕ) (m : Message) (x : Socket) → map.get w.files s ≡ Some (AsSocket x) → charged (push_message w s m) u ≡ charged w u + charge u m
 charged-push w s u m x there = queues-push (charge u) w s m x there
 

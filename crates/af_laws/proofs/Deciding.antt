@@ -1,4 +1,4 @@
--- What is reached can be found: from what tables hold, one file more at a time.
+-- Reachability is decidable: a search from the tables adds one file at a time.
 use Rattle.std.proofs.Common.{◌≡◌, ◌⊎◌, inl, inr, ◌<◌, ◌≤◌, ℕ, zero, suc, Bool, true, false, not, ◌&&◌, ◌||◌, List, [], ◌∷◌, refl, sym, ap, ◌∙◌, subst, arith, nat_eq}
 use Rattle.std.specs.Prelude.{◌↔◌}
 use Rattle.std.specs.List.{Contains, count_by}
@@ -130,11 +130,11 @@ in_table_fair w = record {
   some : (f : ℕ) → not (nat_eq (tabled w f) 0) ≡ true → 0 < tabled w f
   some f e = elim (none_or_some (tabled w f)) [ inl none ↦ absurd (false≢true (sym (ap (λ n. not (nat_eq n 0)) none) ∙ e)) | inr held ↦ held ]
 
--- What is reached can be told from what is not.
+-- A file is reachable or not.
 pub reached_decided : (w : World) → IsWhole w → (r : ℕ → Bool) × ((f : ℕ) → (r f ≡ true) ↔ Reached w f)
 reached_decided w whole = decides_within (count_by (left_out w (in_table w)) (map.keys w.files)) w (in_table w) (map.keys w.files) whole (among_keys w) (in_table_fair w) (omega arith)
 
--- What is live and not reached is garbage.
+-- A live file that is not reachable is garbage.
 told : (w : World) (r : ℕ → Bool) → ((f : ℕ) → (r f ≡ true) ↔ Reached w f) → (f : ℕ) → ((is_live w f && not (r f)) ≡ true) ↔ Garbage w f
 told w r is f = (
   λ e. let parts = both _ _ e in (parts.0, λ g. absurd (false≢true (sym (ap not ((is f).1 g)) ∙ parts.1))),

@@ -1,4 +1,4 @@
--- What is garbage once is never reached again.
+-- Garbage is never reached again.
 use Rattle.std.proofs.Common.{◌≡◌, inl, inr, ◌<◌, ◌≤◌, ℕ, Bool, true, false, List, [], ◌∷◌, refl, ap, subst, arith}
 use Rattle.std.specs.Prelude.{Option, Some, None}
 use Rattle.af_base.specs.declared.errno.Errno.{Errno}

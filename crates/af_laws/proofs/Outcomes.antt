@@ -1,4 +1,4 @@
--- What settles is settled, and a file that nothing holds may go first.
+-- The settled world is settled, and an unheld file may be freed first.
 use Rattle.std.proofs.Common.{◌≡◌, inl, inr, ℕ, Bool, true, false, not, ◌||◌, ◌&&◌, refl, sym, ap, ◌∙◌, subst, nat_eq}
 use Rattle.std.proofs.lemmas.Bool.{false≢true, eqb-true}
 use Rattle.af_base.specs.World.{World, IsLive}
@@ -49,7 +49,7 @@ module _ (w new : World) (f : ℕ) (live : IsLive w f) (no_table : ¬ (InTable w
   abbrev rest : World
   rest = without (nat_eq f) w
 
-  -- what goes of the rest: all that goes but f
+  -- the files freed from the rest: all that are freed but f
   abbrev gone : ℕ → Bool
   gone g = s.0 g && not (nat_eq f g)
 

@@ -49,7 +49,7 @@ same-files : (w : World) (p : ℕ) (es : List (ℕ × ℕ)) → (install_all w p
 same-files w p [] = refl
 same-files w p (e ∷ es) = same-files (install w p e.0 e.1) p es
 
--- An open number stands for what it stood for.
+-- An open descriptor refers to the same file as before.
 open-install_all : (w : World) (p m g : ℕ) (q : Process) (ns fs : List ℕ) → map.get w.processes p ≡ Some q → map.get q.table m ≡ Some g → AreFree q ns → table_at (install_all w p (zip ns fs)) p m ≡ Some g
 open-install_all w p m g q [] fs at is free = there-table w p m q at ∙ is
 open-install_all w p m g q (n ∷ ns) [] at is free = there-table w p m q at ∙ is
@@ -77,14 +77,14 @@ module _ (w : World) (p n max_bytes max_fds : ℕ) where
   peeked-files : (r : Reply) (new : World) → IsSettled w → ProcessStep w p (step.Peek n max_bytes max_fds) r new → new.files ≡ w.files
   peeked-files r new s out = leads (λ v. v.files ≡ w.files) (refusal w p (step.Peek n max_bytes max_fds)) false _ (effect w p (step.Peek n max_bytes max_fds)) w r new refl (λ none. (peeked-settled s none, same-files w p given)) out
 
-  -- The number still stands for its file.
+  -- The descriptor still refers to its file.
   peeked-number : refusal w p (step.Peek n max_bytes max_fds) ≡ None → table_at (effect w p (step.Peek n max_bytes max_fds)) p n ≡ table_at w p n
   peeked-number none = by (table_at w p n) refl (none-fits ((not (map.contains_key w.processes p), ESRCH) ∷ recv_row w p n max_bytes) none).rest.here where
     by : (o : Option ℕ) → table_at w p n ≡ o → is_none o ≡ false → table_at (effect w p (step.Peek n max_bytes max_fds)) p n ≡ o
     by None e d = absurd (false≢true (sym d))
     by (Some g) e d = open-install_all w p n g (process_at w p) (got_at w p n max_bytes max_fds) (taken_on w p n max_bytes).attached (there none) (sym (there-table w p n (process_at w p) (there none)) ∙ e) free
 
-  -- What is to be received is the same, where the files are and the number stands for the same.
+  -- The result of a receive is the same, if the files are and the descriptor refers to the same one.
   same-taken : (v : World) (asked : ℕ) → v.files ≡ w.files → table_at v p n ≡ table_at w p n → taken_on v p n asked ≡ taken_on w p n asked
   same-taken v asked files number = λ i.
       let s = unwrap_or (option_and_then (λ f. option_and_then socket_of (map.get (files i) f)) (number i)) no_socket in

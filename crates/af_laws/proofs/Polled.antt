@@ -1,4 +1,4 @@
--- What a file is ready for is what steps find.
+-- The readiness of a file is what steps find.
 use Rattle.std.proofs.Common.{◌≡◌, ℕ, ◌+◌, true, false, not, ◌||◌, [], ◌∷◌, ◌++◌, refl, sym, ap, ◌∙◌, arith}
 use Rattle.std.specs.Prelude.{Option, Some, None, is_none, is_some, nat_lt, option_map, unwrap_or}
 use Rattle.std.specs.Option.{option_and_then, option_map_or}
@@ -30,7 +30,7 @@ module _ (w : World) (p n f : ℕ) (s : Socket) (sound : IsSound w) (stands : ta
   socket-is : socket_on w p n ≡ s
   socket-is = ap (λ o. unwrap_or (option_and_then (socket_at w) o) no_socket) stands ∙ ap (λ o. unwrap_or o no_socket) is
 
-  -- What is left of a row that asks for the socket.
+  -- The rest of a row that looks up the socket.
   left : (rest : Socket → Row)
       → first_fit ((not (map.contains_key w.processes p), ESRCH) ∷ (is_none (table_at w p n), EBADF) ∷ (is_none (socket_at w (ino_on w p n)), ENOTSOCK) ∷ rest (socket_on w p n)) ≡ first_fit (rest s)
   left rest = λ i. first_fit ((not (there i), ESRCH) ∷ (is_none (stands i), EBADF) ∷ (is_none (socket-there i), ENOTSOCK) ∷ rest (socket-is i))

@@ -1,4 +1,4 @@
--- Emptying some and then others, each with what then goes, is emptying all of them at once.
+-- Emptying some sockets and then others, and settling each time, equals emptying all at once.
 use Rattle.std.proofs.Common.{◌≡◌, Bool, true, false, ◌||◌, refl, sym, subst}
 use Rattle.std.proofs.Math.Bool.{or-true}
 use Rattle.af_base.specs.Pass.{Purges, emptied}

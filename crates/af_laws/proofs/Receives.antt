@@ -1,4 +1,4 @@
--- What receives take together, one after the other.
+-- The result of several receives, one after the other.
 use Rattle.std.proofs.Common.{◌≡◌, ◌⊎◌, ◌<◌, ◌≤◌, ℕ, zero, suc, ◌+◌, ◌-◌, Bool, true, false, inl, inr, List, [], ◌∷◌, ◌++◌, length, take, drop, refl, sym, ap, ◌∙◌, cond, arith, min, append-nil}
 use Rattle.std.specs.Prelude.{Option, Some, None, nat_le, nat_lt, replicate}
 use Rattle.std.specs.Option.{option_map_or}
@@ -23,7 +23,7 @@ receives_keep_bytes (n ∷ ns) q =
     let others = takes Stream ns first.rest in
     append_assoc first.bytes others.bytes (joined others.rest) ∙ ap (λ xs. first.bytes ++ xs) (receives_keep_bytes ns first.rest) ∙ stream_keeps_bytes q n
 
--- What a cut leaves has a byte in each message.
+-- A message that is left by a cut has a byte.
 have-cut : (c : ℕ) (q : List Message) → HaveBytes q → HaveBytes (cut c q)
 have-cut c [] h = tt
 have-cut c (m ∷ q) h = by (have-cut (c - length m.bytes) q h.1) (nat_le (length m.bytes) c) refl (nat_lt 0 c) where

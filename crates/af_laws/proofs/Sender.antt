@@ -1,4 +1,4 @@
--- Whom a send that nothing refuses is charged to.
+-- The user who is charged for a send that is not refused.
 use Rattle.std.proofs.Common.{◌≡◌, ℕ, ◌+◌, false, not, ◌||◌, List, [], ◌∷◌, length, refl, sym, ap, ◌∙◌, cond, arith}
 use Rattle.std.specs.Prelude.{Option, Some, None, is_none, filter_map, nat_eq}
 use Rattle.std.specs.List.{cons_option, list_any}
@@ -17,7 +17,7 @@ use Rattle.af_base.proofs.Stepped.{connected-socket, connected-to, none-fits, so
 use Rattle.af_laws.proofs.Counting.{charged-push}
 use Rattle.af_laws.specs.Stepping.{SendIsChargedToItsSender}
 
--- As many files as numbers, where each stands for one.
+-- There are as many files as descriptors, if each is open.
 attached-all : (w : World) (p : ℕ) (ns : List ℕ) → list_any (λ m. is_none (table_at w p m)) ns ≡ false → length (filter_map (table_at w p) ns) ≡ length ns
 attached-all w p [] none = refl
 attached-all w p (n ∷ ns) none = by (table_at w p n) none (λ k. attached-all w p ns k) where

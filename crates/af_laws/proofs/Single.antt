@@ -1,4 +1,4 @@
--- What single steps of a process answer and change.
+-- The replies and effects of single steps of a process.
 use Rattle.std.proofs.Common.{◌≡◌, ◌≢◌, inl, inr, ℕ, suc, Bool, true, false, ◌∷◌, refl, sym, ap, ◌∙◌, cond, arith}
 use Rattle.std.specs.Prelude.{Option, Some, None, if◌then◌else◌, is_none, is_some, nat_eq, not}
 use Rattle.std.specs.Option.{option_map_or}

@@ -37,7 +37,7 @@ use Rattle.af_laws.specs.Purging.{IsSlice, PassHasOneOutcome, PassIsOneSlice, Sl
 done_refused : (pass count : ℕ) (e : Errno) → reply.Done pass count ≡ reply.Refused e → ⊥
 done_refused pass count e d = cc
 
--- nor is who goes on done
+-- nor is a pass done that has work left
 done_working : (pass count : ℕ) → reply.Done pass count ≡ reply.Working → ⊥
 done_working pass count d = cc
 
@@ -206,7 +206,7 @@ all_left P t passes (x ∷ xs) = by (all_left P t passes xs) (t x) refl where
   by rest true e = All-cons P x (filter t xs) (passes x e) rest
   by rest false e = rest
 
--- no more is left of the keys than there are entries
+-- no more keys are left than there are entries
 few_left : (t : ℕ → Bool) (es : List (ℕ × File)) → length (filter t (each (λ e. e.0) es)) ≤ length es
 few_left t [] = omega arith
 few_left t (e ∷ es) = by (t e.0) (few_left t es) where

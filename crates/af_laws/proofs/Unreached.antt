@@ -1,4 +1,4 @@
--- What a step leads to was reached before, or is new.
+-- A file that is reachable after a step was reachable before, or is new.
 use Rattle.std.proofs.Common.{◌≡◌, ◌⊎◌, inl, inr, ◌<◌, ◌≤◌, ℕ, Bool, true, false, refl, subst, arith}
 use Rattle.std.specs.Prelude.{Option, Some, None}
 use Rattle.af_base.specs.declared.errno.Errno.{Errno}

@@ -44,7 +44,7 @@ BindChangesNoCount = (old new : World) (p n : ℕ) (name : List ℕ) (r : Reply)
 abbrev pub ListenChangesNoCount : Type 0
 ListenChangesNoCount = (old new : World) (p n b : ℕ) (r : Reply) → IsSettled old → ProcessStep old p (step.Listen n b) r new → SameCounts old new
 
--- A connect makes a live embryo of the listener, of which the backlog is the only place (connect(2); the embryo is this project's own).
+-- A connect makes a live embryo; the listener's backlog is its only place (connect(2); the embryo is this project's own).
 abbrev pub ConnectMakesAnEmbryo : Type 0
 ConnectMakesAnEmbryo = (old new : World) (p n : ℕ) (name : List ℕ) → IsSound old → ProcessStep old p (step.Connect n name) reply.Ok new → IsEmbryoOf new (ino_named old name) old.next_ino
 
@@ -61,11 +61,11 @@ ConnectChargesNobody = (old new : World) (p n u : ℕ) (name : List ℕ) → IsS
 abbrev pub AcceptKeepsReferences : Type 0
 AcceptKeepsReferences = (old new : World) (p n m f : ℕ) → IsSound old → ProcessStep old p (step.Accept n) (reply.Fd m) new → refs new f ≡ refs old f
 
--- The first embryo of a listener waits no more once it is accepted, and all others wait as before.
+-- An accept removes the first embryo from the backlog, and keeps the others in order.
 abbrev pub AcceptTakesTheFirstEmbryo : Type 0
 AcceptTakesTheFirstEmbryo = (old new : World) (p n m f : ℕ) → IsSound old → ProcessStep old p (step.Accept n) (reply.Fd m) new → waiting new f + one f (first_embryo old p n) ≡ waiting old f
 
--- The number that is answered stands for it.
+-- The new descriptor refers to it.
 abbrev pub AcceptedNumberIsTheEmbryo : Type 0
 AcceptedNumberIsTheEmbryo = (old new : World) (p n m : ℕ) → IsSound old → ProcessStep old p (step.Accept n) (reply.Fd m) new → table_at new p m ≡ Some (first_embryo old p n)
 

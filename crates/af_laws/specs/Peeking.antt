@@ -1,4 +1,4 @@
--- Laws of a peek, and of a changed limit.
+-- Laws of a peek, and of a changed limit. The definition that names no manual page is of this project's profile (docs/PROFILE.md).
 use Rattle.std.specs.Prelude.{◌≡◌, ℕ}
 use Rattle.af_base.specs.declared.events.Reply.{Reply}
 use Rattle.af_base.specs.declared.events.Step.TheVariants as step
@@ -12,18 +12,18 @@ use Rattle.af_base.specs.Steps.{ProcessStep, taken_on}
 abbrev pub PeekChangesNoQueue : Type 0
 PeekChangesNoQueue = (old new : World) (p n max_bytes max_fds : ℕ) (r : Reply) → IsSettled old → ProcessStep old p (step.Peek n max_bytes max_fds) r new → (s : ℕ) → queue_at new s ≡ queue_at old s
 
--- It charges nobody and frees nobody of a charge (this project's profile).
+-- It charges nobody and frees nobody of a charge.
 abbrev pub PeekChangesNoCharge : Type 0
 PeekChangesNoCharge = (old new : World) (p n max_bytes max_fds : ℕ) (r : Reply) → IsSettled old → ProcessStep old p (step.Peek n max_bytes max_fds) r new → (u : ℕ) → charged new u ≡ charged old u
 
--- What is in flight stays in flight, and nothing else is (unix(7): until it is accepted by a receive).
+-- A peek keeps the set of files in flight (unix(7): until it is accepted by a receive).
 abbrev pub PeekChangesNoFlight : Type 0
 PeekChangesNoFlight = (old new : World) (p n max_bytes max_fds : ℕ) (r : Reply) → IsSettled old → ProcessStep old p (step.Peek n max_bytes max_fds) r new → (f : ℕ) → inflight new f ≡ inflight old f
 
--- What a receive takes after a peek, and so a second peek, is what it would have taken before: the same bytes and files (recvmsg(2), MSG_PEEK).
+-- After a peek, a receive or another peek gives what it would have given before: the same bytes and files (recvmsg(2), MSG_PEEK).
 abbrev pub PeekSeesWhatIsReceived : Type 0
 PeekSeesWhatIsReceived = (old new : World) (p n max_bytes max_fds : ℕ) (r : Reply) → IsSettled old → ProcessStep old p (step.Peek n max_bytes max_fds) r new → (asked : ℕ) → taken_on new p n asked ≡ taken_on old p n asked
 
--- A changed limit closes nothing: each number stands for what it stood for, whatever the answer (setrlimit(2), RLIMIT_NOFILE).
+-- A changed limit closes nothing: each descriptor refers to the same file, whatever the reply (setrlimit(2), RLIMIT_NOFILE).
 abbrev pub LimitClosesNothing : Type 0
 LimitClosesNothing = (old new : World) (p limit : ℕ) (r : Reply) → IsSettled old → ProcessStep old p (step.Limit limit) r new → (q n : ℕ) → table_at new q n ≡ table_at old q n

@@ -1,4 +1,4 @@
--- Laws of places and of their counts.
+-- Laws of places and of their counts. The definition that names no manual page is of this project's profile (docs/PROFILE.md).
 use Rattle.std.specs.Prelude.{◌≡◌, ◌≢◌, ◌⊎◌, ◌↔◌, ℕ, ◌+◌, IsTrue, List, ◌∷◌, length, Some, None}
 use Rattle.std.specs.FinMap as map
 use Rattle.af_base.specs.World.{World, Process, Message, Socket, AsSocket}
@@ -9,7 +9,7 @@ use Rattle.af_base.specs.Changes.{install, uninstall, push_message, with_queue, 
 use Rattle.af_base.specs.Whole.{IsWhole}
 use Rattle.af_laws.specs.Settling.{IsHeld}
 
--- What a socket holds is in its queue or in its backlog.
+-- A file held by a socket is in its queue or in its backlog.
 abbrev pub HoldsInQueueOrBacklog : Type 0
 HoldsInQueueOrBacklog = (w : World) (s f : ℕ) → Holds w s f ↔ (InQueue w s f ⊎ InBacklog w s f)
 
@@ -41,7 +41,7 @@ InstallCounts = (w : World) (p n g f : ℕ) → IsTrue (map.contains_key w.proce
 abbrev pub UninstallCounts : Type 0
 UninstallCounts = (w : World) (p n g f : ℕ) → table_at w p n ≡ Some g → refs (uninstall w p n) f + one f g ≡ refs w f
 
--- A number that stands for another file than before is one reference less to the old and one more to the new, and none to any other (dup2(2)).
+-- A dup2 to an open descriptor lowers the count of the old file by one, raises that of the new one by one, and keeps all others (dup2(2)).
 abbrev pub ReplaceCounts : Type 0
 ReplaceCounts = (w : World) (p n g h f : ℕ) → table_at w p n ≡ Some h → refs (install w p n g) f + one f h ≡ refs w f + one f g
 
@@ -53,7 +53,7 @@ ForkCounts = (w : World) (f : ℕ) (q : Process) → IsWhole w → refs (add_pro
 abbrev pub ExitCounts : Type 0
 ExitCounts = (w : World) (p f : ℕ) (q : Process) → map.get w.processes p ≡ Some q → refs (remove_process w p) f + total_of (one f) q.table ≡ refs w f
 
--- What it sent stays charged to its user while it waits in a queue (this project's profile).
+-- An exit keeps the charges of messages that are still queued.
 abbrev pub ExitKeepsCharges : Type 0
 ExitKeepsCharges = (w : World) (p u : ℕ) → charged (remove_process w p) u ≡ charged w u
 
@@ -72,7 +72,7 @@ abbrev pub SendCharges : Type 0
 SendCharges = (w : World) (s u : ℕ) (m : Message) (x : Socket) → map.get w.files s ≡ Some (AsSocket x)
     → (charged (push_message w s m) m.user ≡ charged w m.user + length m.attached) × (u ≢ m.user → charged (push_message w s m) u ≡ charged w u) × (total (push_message w s m) ≡ total w + length m.attached)
 
--- A message that is received whole is charged no more to the user that it names, whoever receives it, and nobody else's charge changes.
+-- A whole receive ends the message's charge to the user that it names, whoever receives it, and keeps all other charges.
 abbrev pub ReceiveDischarges : Type 0
 ReceiveDischarges = (w : World) (s u : ℕ) (m : Message) (rest : List Message) (x : Socket) → map.get w.files s ≡ Some (AsSocket x) → x.queue ≡ m ∷ rest
     → (charged (with_queue w s rest) m.user + length m.attached ≡ charged w m.user) × (u ≢ m.user → charged (with_queue w s rest) u ≡ charged w u) × (total (with_queue w s rest) + length m.attached ≡ total w)

@@ -19,7 +19,7 @@ ReadyIsWhatStepsFind = (w : World) (p n f : ℕ) (s : Socket) → IsSound w → 
 abbrev pub StepLeavesReady : Type 0
 StepLeavesReady = (old new : World) (p : ℕ) (s : Step) (r : Reply) → IsWhole old → ProcessStep old p s r new → (f : ℕ) → IsLive old f → IsLive new f → IsLeftAlone old new (touched old p s) f → ready new f ≡ ready old f
 
--- What a slice or a pass purges of some files leaves what another is ready for, where its peer is none of them and stays (poll(2)).
+-- A slice or a pass that empties some files keeps the readiness of each other file whose peer is not among them and stays (poll(2)).
 abbrev pub PurgeLeavesReady : Type 0
 PurgeLeavesReady =
     (old new : World) (test : ℕ → Bool) → IsWhole old → Purges test old new → (f : ℕ) → IsLive old f → IsLive new f → test f ≡ false

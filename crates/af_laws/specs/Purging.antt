@@ -1,4 +1,4 @@
--- Laws of purging: queues emptied, and then what goes.
+-- Laws of purging: queues are emptied, and then files are freed.
 use Rattle.std.specs.Prelude.{◌≡◌, ℕ, Bool, ◌||◌, List, [], ◌∷◌, ◌++◌}
 use Rattle.std.specs.List.{All}
 use Rattle.std.specs.Option.{option_map_or}

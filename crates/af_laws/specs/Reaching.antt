@@ -18,7 +18,7 @@ use Rattle.af_base.specs.Whole.{IsSound, IsWhole}
 abbrev pub HasPlacesOf : World → World → Type 0
 HasPlacesOf new old = ((f : ℕ) → InTable old f → InTable new f) × ((s f : ℕ) → Holds old s f → Holds new s f)
 
--- What is reached stays reached where no place is lost.
+-- A reachable file stays reachable if no place is lost.
 abbrev pub PlacesKeepReached : Type 0
 PlacesKeepReached = (old new : World) → HasPlacesOf new old → (f : ℕ) → Reached old f → Reached new f
 
@@ -30,7 +30,7 @@ InstallKeepsReached = (w : World) (p n g f : ℕ) → table_at w p n ≡ None �
 abbrev pub SendKeepsReached : Type 0
 SendKeepsReached = (w : World) (s : ℕ) (m : Message) (f : ℕ) → Reached w f → Reached (push_message w s m) f
 
--- What is reached is never unheld.
+-- A reachable file is never unheld.
 abbrev pub ReachedIsHeld : Type 0
 ReachedIsHeld = (w : World) (f : ℕ) → Reached w f → ¬ (Unheld w f)
 
@@ -62,6 +62,6 @@ StepReachesNoGarbage = (old new : World) (p : ℕ) (s : Step) (r : Reply) → Is
 abbrev pub GarbageStaysOutOfReach : Type 0
 GarbageStaysOutOfReach = (old new : Machine) (e : Event) (r : Reply) → IsWhole old.world → MachineStep old e r new → (f : ℕ) → Garbage old.world f → ¬ (Reached new.world f)
 
--- No run reaches what was garbage at its beginning, whatever goes and whatever is made.
+-- No run reaches a file that was garbage at its beginning, whatever files are freed or made.
 abbrev pub GarbageIsNeverReached : Type 0
 GarbageIsNeverReached = (old new : Machine) (log : List Entry) → IsSound old.world → Run old log new → (f : ℕ) → Garbage old.world f → ¬ (Reached new.world f)

@@ -19,7 +19,7 @@ use Rattle.af_base.specs.Run.{Entry, Run, Step, fresh}
 abbrev pub bcd : Message
 bcd = record { bytes = 98 ∷ 99 ∷ 100 ∷ []; attached = 2 ∷ []; user = 1000 }
 
--- What is left of it after its first byte was taken: the file went with that byte.
+-- The rest of it after its first byte was taken: the file was taken with that byte.
 abbrev pub cd : Message
 cd = record { bytes = 99 ∷ 100 ∷ []; attached = []; user = 1000 }
 

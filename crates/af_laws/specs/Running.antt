@@ -1,4 +1,4 @@
--- Laws of steps and of runs.
+-- Laws of steps and of runs. Definitions that name no manual page are of this project's profile (docs/PROFILE.md).
 use Rattle.std.specs.Prelude.{◌≡◌, ◌≤◌, ◌⊎◌, ◌↔◌, ◌+◌, ◌*◌, ◌||◌, ℕ, IsTrue, List, ◌++◌, nat_eq, nat_lt}
 use Rattle.std.specs.List.{All}
 use Rattle.std.specs.FinMap as map
@@ -13,12 +13,12 @@ use Rattle.af_base.specs.Run.{Entry, Run, Step, fresh}
 use Rattle.af_base.specs.Whole.{IsSound}
 use Rattle.af_base.specs.World.{empty_world}
 
--- A slice of this budget is refused, or may go on: no pass runs, or the budget is out of range, or with it the budgets are within three times the files of the begin (this project's profile).
+-- A slice of this budget is refused, or may go on: no pass runs, or the budget is out of range, or with it the budgets are within three times the files of the begin.
 abbrev pub HasBudget : Pass → ℕ → Type 0
 HasBudget Idle b = Unit {0}
 HasBudget (Running begun spent) b = IsTrue (nat_eq b 0 || nat_lt MAX_BUDGET b) ⊎ (spent + b ≤ 3 * map.len begun.files)
 
--- The event is no slice whose budgets are spent: such a slice is done or has no reply, since a collector that wasted the slices before may have garbage left (this project's profile).
+-- The event is no slice whose budgets are spent: such a slice is done or has no reply, since a collector that wasted the slices before may have garbage left.
 abbrev pub IsAnswered : Pass → Event → Type 0
 IsAnswered p (event.Spawn uid nofile privileged) = Unit {0}
 IsAnswered p (event.Proc pid s) = Unit {0}
@@ -30,7 +30,7 @@ IsAnswered p event.Pass = Unit {0}
 abbrev pub EventsHaveReplies : Type 0
 EventsHaveReplies = (old : Machine) (e : Event) → IsSound old.world → IsAnswered old.pass e → (r : Reply) × (new : Machine) × Step old e r new
 
--- The event, with its reply, leaves nothing to choose. A slice of a pass does: which files it empties, and when the pass is done, is the collector's choice (this project's profile).
+-- The event, with its reply, leaves nothing to choose. A slice of a pass does: which files it empties, and when the pass is done, is the collector's choice.
 abbrev pub LeavesNoChoice : Event → Type 0
 LeavesNoChoice (event.Spawn uid nofile privileged) = Unit {0}
 LeavesNoChoice (event.Proc p s) = Unit {0}
@@ -46,7 +46,7 @@ RepliesDetermine = (old a b : Machine) (e : Event) (r : Reply) → LeavesNoChoic
 abbrev pub LogDetermines : Type 0
 LogDetermines = (old a b : Machine) (log : List Entry) → All (λ e. LeavesNoChoice e.0) log → Run old log a → Run old log b → a ≡ b
 
--- What is refused changes nothing.
+-- A refused event changes nothing.
 abbrev pub RefusedChangesNothing : Type 0
 RefusedChangesNothing = (old new : Machine) (e : Event) (error : Errno) → Step old e (reply.Refused error) new → new ≡ old
 

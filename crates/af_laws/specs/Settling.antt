@@ -1,4 +1,4 @@
--- Laws of settling: what goes when nothing holds it.
+-- Laws of settling: unheld files are freed.
 use Rattle.std.specs.Prelude.{◌≡◌, ◌⊎◌, ◌↔◌, ℕ, Bool, true, nat_eq}
 use Rattle.af_base.specs.World.{World, IsLive}
 use Rattle.af_base.specs.Places.{InTable, Holds}
@@ -16,7 +16,7 @@ SettlesToSome = (w : World) → (new : World) × Settles w new
 abbrev pub SettledStays : Type 0
 SettledStays = (w new : World) → IsSettled w → Settles w new ↔ (new ≡ w)
 
--- What settles is settled.
+-- The settled world is settled.
 abbrev pub SettlingSettles : Type 0
 SettlingSettles = (w v : World) → Settles w v → IsSettled v
 

@@ -1,4 +1,4 @@
--- Laws of single steps of a process.
+-- Laws of single steps of a process. The definition that names no manual page is of this project's profile (docs/PROFILE.md).
 use Rattle.std.specs.Prelude.{◌≡◌, ◌≢◌, ℕ, ◌+◌, IsTrue, List, length, Some, None, nat_eq, if◌then◌else◌}
 use Rattle.std.specs.FinMap as map
 use Rattle.af_base.specs.declared.events.Reply.{Reply}
@@ -16,7 +16,7 @@ use Rattle.af_base.specs.Whole.{IsWhole}
 abbrev pub ForkCopies : Type 0
 ForkCopies = (old new : World) (p child : ℕ) → ProcessStep old p step.Fork (reply.Pid child) new → map.get new.processes child ≡ map.get old.processes p
 
--- Who exits is gone, and every other process is as it was (_exit(2)).
+-- An exit removes the process, and keeps each other process (_exit(2)).
 abbrev pub ExitTakesOneTable : Type 0
 ExitTakesOneTable = (old new : World) (p : ℕ) → ProcessStep old p step.Exit reply.Ok new
     → (map.get new.processes p ≡ None) × ((q : ℕ) → q ≢ p → map.get new.processes q ≡ map.get old.processes q)
@@ -25,7 +25,7 @@ ExitTakesOneTable = (old new : World) (p : ℕ) → ProcessStep old p step.Exit 
 abbrev pub ExitNeverFails : Type 0
 ExitNeverFails = (old new : World) (p : ℕ) (r : Reply) → IsTrue (map.contains_key old.processes p) → ProcessStep old p step.Exit r new → r ≡ reply.Ok
 
--- An open number can always be closed: there is no other answer (this project's profile).
+-- An open number can always be closed: there is no other answer.
 abbrev pub CloseNeverFails : Type 0
 CloseNeverFails = (old new : World) (p n f : ℕ) (r : Reply) → table_at old p n ≡ Some f → ProcessStep old p (step.Close n) r new → r ≡ reply.Ok
 

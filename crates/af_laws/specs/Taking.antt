@@ -11,7 +11,7 @@ use Rattle.af_base.specs.Take.{has_files, joined, take_from, take_seqpacket, tak
 abbrev pub HaveBytes : List Message → Type 0
 HaveBytes q = All (λ m. 1 ≤ length m.bytes) q
 
--- How many bytes stand before the first message with files.
+-- The number of bytes before the first message with files.
 abbrev pub bytes_before_files : List Message → ℕ
 bytes_before_files q = length (joined (take_while (λ m. not (has_files m)) q))
 
@@ -43,7 +43,7 @@ StreamKeepsFiles = (q : List Message) (n : ℕ) → HaveBytes q →
     let taken = take_stream q n in
     taken.attached ++ carried taken.rest ≡ carried q
 
--- It takes no more bytes than it was asked for.
+-- It takes at most as many bytes as it was asked for.
 abbrev pub StreamTakesAtMost : Type 0
 StreamTakesAtMost = (q : List Message) (n : ℕ) → length (take_stream q n).bytes ≤ n
 
@@ -61,13 +61,13 @@ FilesComeWithFirstByte = (q : List Message) (n : ℕ) (m : Message) → find has
 abbrev pub NoFilesFromNone : Type 0
 NoFilesFromNone = (q : List Message) (n : ℕ) → find has_files q ≡ None → (take_stream q n).attached ≡ []
 
--- What some receives took together: all their bytes, all their files, and the queue that they left.
+-- The result of several receives: all their bytes, all their files, and the queue that is left.
 pub record Together : Type 0 where
   pub bytes : List ℕ
   pub attached : List ℕ
   pub rest : List Message
 
--- What receives of at most these numbers of bytes take together, one after the other.
+-- The joint result of receives of at most these numbers of bytes.
 abbrev pub takes : SockType → List ℕ → List Message → Together
 takes kind [] q = record { bytes = []; attached = []; rest = q }
 takes kind (n ∷ ns) q =
@@ -87,7 +87,7 @@ ReceivesKeepFiles = (kind : SockType) (ns : List ℕ) (q : List Message) → Hav
     let all = takes kind ns q in
     all.attached ++ carried all.rest ≡ carried q
 
--- What one receive takes of a stream comes just so one byte at a time, where each message has a byte: as many receives of one byte as it took bytes take together the same bytes and files, and leave the same queue.
+-- If each message of a stream has a byte, one receive equals as many receives of one byte as it took bytes: they give the same bytes and files, and leave the same queue.
 abbrev pub OneByteAtATime : Type 0
 OneByteAtATime = (q : List Message) (n : ℕ) → HaveBytes q →
     let taken = take_stream q n in

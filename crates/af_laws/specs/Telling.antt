@@ -1,9 +1,9 @@
--- Laws of what is told.
+-- Laws of the lists of freed files.
 use Rattle.std.specs.Prelude.{◌≤◌, ◌++◌, ℕ, List}
 use Rattle.af_base.specs.Told.{AreReleased}
 use Rattle.af_base.specs.World.{Since, World}
 
--- What two periods tell of freed files, one after the other, accounts for both: each number that was live at the begin of the first, or was given out since, is live at the end of the second or was told, once.
+-- Two periods of a list, one after the other, join to one: each number that was live at the begin of the first, or was given out since, is live at the end of the second or was listed, once.
 abbrev pub PeriodsJoin : Type 0
 PeriodsJoin =
     (since : Since) (mid new : World) (first second : List ℕ) → since.next ≤ mid.next_ino → mid.next_ino ≤ new.next_ino

@@ -23,7 +23,7 @@ pub fn listen_changes_no_count()
     ensures { ListenChangesNoCount }
 {}
 
-/// A connect makes a live embryo, of which the listener's backlog is the only place.
+/// A connect makes a live embryo, and the listener's backlog is its only place.
 pub fn connect_makes_an_embryo()
     ensures { ConnectMakesAnEmbryo }
 {}
@@ -43,12 +43,12 @@ pub fn accept_keeps_references()
     ensures { AcceptKeepsReferences }
 {}
 
-/// The first embryo waits no more once it is accepted, and all others wait as before.
+/// An accept removes the first embryo from the backlog, and keeps the others in order.
 pub fn accept_takes_the_first_embryo()
     ensures { AcceptTakesTheFirstEmbryo }
 {}
 
-/// The number that an accept answers stands for the first embryo.
+/// The descriptor that an accept answers refers to the first embryo.
 pub fn accepted_number_is_the_embryo()
     ensures { AcceptedNumberIsTheEmbryo }
 {}

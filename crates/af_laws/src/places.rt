@@ -2,7 +2,7 @@
 ghost use Rattle.af_laws.specs.Places.{HoldsInQueueOrBacklog, NoneWhereUnplaced, NoneWhereUntabled, NoneWhereNotInFlight, NoneWhereNotWaiting, ReferencesAddUp};
 ghost use Rattle.af_laws.specs.Places.{InstallCounts, UninstallCounts, ReplaceCounts, ForkCounts, ExitCounts, ExitKeepsCharges, SendCounts, ReceiveCounts, SendCharges, ReceiveDischarges, GarbageCountsOnce};
 
-/// What a socket holds is in its queue or in its backlog.
+/// A file held by a socket is in its queue or in its backlog.
 pub fn holds_in_queue_or_backlog()
     ensures { HoldsInQueueOrBacklog }
 {}
@@ -42,7 +42,7 @@ pub fn uninstall_counts()
     ensures { UninstallCounts }
 {}
 
-/// A number that stands for another file is one reference less to the old, and one more to the new.
+/// A dup2 moves one reference from the old file to the new one.
 pub fn replace_counts()
     ensures { ReplaceCounts }
 {}
@@ -57,7 +57,7 @@ pub fn exit_counts()
     ensures { ExitCounts }
 {}
 
-/// What a process sent stays charged to its user when it is gone.
+/// An exit keeps the charges of the messages that the process sent.
 pub fn exit_keeps_charges()
     ensures { ExitKeepsCharges }
 {}
@@ -77,7 +77,7 @@ pub fn send_charges()
     ensures { SendCharges }
 {}
 
-/// A message that is received whole is charged no more to the user that it names.
+/// A whole receive ends the message's charge to the user that it names.
 pub fn receive_discharges()
     ensures { ReceiveDischarges }
 {}

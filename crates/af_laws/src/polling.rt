@@ -1,7 +1,7 @@
 //! Laws of what files are ready for.
 ghost use Rattle.af_laws.specs.Polling.{ReadyIsWhatStepsFind, StepLeavesReady, PurgeLeavesReady};
 
-/// What a socket is ready for is what steps of each process find that has it at a number.
+/// A socket's readiness is what steps find, for each process with a descriptor of it.
 pub fn ready_is_what_steps_find()
     ensures { ReadyIsWhatStepsFind }
 {}

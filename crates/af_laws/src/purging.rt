@@ -1,4 +1,4 @@
-//! Laws of purging: queues emptied, and then what goes.
+//! Laws of purging: queues are emptied, and then files are freed.
 ghost use Rattle.af_laws.specs.Purging.{PurgesBoth, PurgesInAnyOrder, PassSparesTheReached, PassLeavesNoGarbage, PassReleasesItsGarbage, PassHasOneOutcome, PassWithoutProcessesLeavesNothing};
 ghost use Rattle.af_laws.specs.Purging.{SlicesAreAPass, PassIsOneSlice, SlicesSpareTheReached, BegunGarbageIsNeverReached};
 

@@ -3,28 +3,27 @@ ghost use Rattle.af_laws.specs.Reaching.{PlacesKeepReached, GroupsOfTheirOwnAreG
 ghost use Rattle.af_laws.specs.Reaching.{NothingInFlightIsNoGarbage};
 ghost use Rattle.af_laws.specs.Reaching.{SettlingKeepsReached, PurgingKeepsReached, SpawnReachesNoGarbage, StepReachesNoGarbage, GarbageStaysOutOfReach, GarbageIsNeverReached};
 
-/// What is reached stays reached where no place is lost.
+/// A reachable file stays reachable if no place is lost.
 pub fn places_keep_reached()
     ensures { PlacesKeepReached }
 {}
 
-/// What is reached stays reached where a free number is taken into use.
+/// An install at a free descriptor keeps files reachable.
 pub fn install_keeps_reached()
     ensures { InstallKeepsReached }
 {}
 
-/// What is reached stays reached where a message is sent.
+/// A send keeps files reachable.
 pub fn send_keeps_reached()
     ensures { SendKeepsReached }
 {}
 
-/// What is reached is never unheld.
+/// A reachable file is never unheld.
 pub fn reached_is_held()
     ensures { ReachedIsHeld }
 {}
 
-/// What no table holds, and nothing else but itself, is garbage, as a listener in the queue of its
-/// own embryo.
+/// A file that only itself holds is garbage, as a listener in the queue of its own embryo.
 pub fn groups_of_their_own_are_garbage()
     ensures { GroupsOfTheirOwnAreGarbage }
 {}
@@ -55,12 +54,12 @@ pub fn step_reaches_no_garbage()
     ensures { StepReachesNoGarbage }
 {}
 
-/// What is garbage is out of reach after any event, whatever the answer.
+/// Garbage is unreachable after any event, whatever the reply.
 pub fn garbage_stays_out_of_reach()
     ensures { GarbageStaysOutOfReach }
 {}
 
-/// No run reaches what was garbage at its beginning, whatever goes and whatever is made.
+/// No run reaches a file that was garbage at its beginning, whatever files are freed or made.
 pub fn garbage_is_never_reached()
     ensures { GarbageIsNeverReached }
 {}

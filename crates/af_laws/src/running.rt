@@ -17,7 +17,7 @@ pub fn log_determines()
     ensures { LogDetermines }
 {}
 
-/// What is refused changes nothing.
+/// A refused event changes nothing.
 pub fn refused_changes_nothing()
     ensures { RefusedChangesNothing }
 {}

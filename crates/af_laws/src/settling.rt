@@ -1,4 +1,4 @@
-//! Laws of settling: what goes when nothing holds it.
+//! Laws of settling: unheld files are freed.
 ghost use Rattle.af_laws.specs.Settling.{SettlesToOne, SettlesToSome, SettledStays, SettlingSettles, SettlingTwiceIsOnce};
 ghost use Rattle.af_laws.specs.Settling.{HeldWorldIsSettled, CyclesStay, UnplacedIsUnheld, UnplacedGoesFirst};
 
@@ -17,7 +17,7 @@ pub fn settled_stays()
     ensures { SettledStays }
 {}
 
-/// What settles is settled.
+/// The settled world is settled.
 pub fn settling_settles()
     ensures { SettlingSettles }
 {}

@@ -1,7 +1,7 @@
 //! Laws of single steps of a process.
 ghost use Rattle.af_laws.specs.Stepping.{ForkCopies, ExitTakesOneTable, ExitNeverFails, CloseNeverFails, Dup2ToItselfChangesNothing, SendIsChargedToItsSender};
 
-/// A child is what its parent was, and has what its parent's numbers stood for.
+/// A fork copies the parent, with the files of its descriptors.
 pub fn fork_copies()
     ensures { ForkCopies }
 {}

@@ -28,7 +28,7 @@ pub fn stream_keeps_files()
     ensures { StreamKeepsFiles }
 {}
 
-/// A stream takes no more bytes than it was asked for.
+/// A receive from a stream takes at most as many bytes as it was asked for.
 pub fn stream_takes_at_most()
     ensures { StreamTakesAtMost }
 {}

@@ -1,9 +1,8 @@
-//! Laws of what is told.
+//! Laws of the lists of freed files.
 ghost use Rattle.af_laws.specs.Telling.{PeriodsJoin};
 
-/// What is told of freed files before the lists are emptied, and what is told after, is what would be
-/// told if they were not emptied in between: so over a whole run each file is told once, when it is
-/// gone.
+/// The files listed before the lists are emptied, and those listed after, are those of one longer
+/// period. So over a whole run each file is listed once, when it is freed.
 pub fn periods_join()
     ensures { PeriodsJoin }
 {}

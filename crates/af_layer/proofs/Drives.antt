@@ -1,4 +1,4 @@
--- What a drive leaves, by what its workers did.
+-- The result of a drive, from the results of its workers.
 use Rattle.std.proofs.Common.{◌≡◌, ◌<◌, ◌≤◌, ℕ, zero, suc, List, [], ◌∷◌, length, inl, inr, refl, sym, ap, ◌∙◌, subst, arith, append-nil, slice_index_or, map, ◌+◌, Global, length-append}
 use Rattle.std.specs.Prelude.{Option, Some, None, IfSome, Vec, slice_get}
 use Rattle.std.proofs.lemmas.List.{get_or-map, length-map}
@@ -41,11 +41,11 @@ jobs-at (s ∷ seats) [] (suc i) other lt = jobs-at seats [] i other (omega (ari
 jobs-at (s ∷ seats) (work ∷ works) zero other lt = refl
 jobs-at (s ∷ seats) (work ∷ works) (suc i) other lt = jobs-at seats works i other (omega (arith, lt))
 
--- Who works where nobody does.
+-- The workers, if there are none.
 idle : Job
 idle = job nobody None
 
--- What a worker without a fault did, and what one with a fault.
+-- The results of workers with and without a fault.
 made-or-short : (work : Option Work) (old : List Pair) (f : Option CallError) (new : List Pair) → Ends work old f new → Part work old new
 made-or-short work old None new ends = inl ends
 made-or-short work old (Some e) new ends = inr ends
@@ -74,13 +74,13 @@ module _ (seats : List Seated) (works : List Work) (jobs done : List Job) (after
   unfolding done-at
   seat-at i lt = ap (λ l. slice_index_or l i nobody) back ∙ get_or-map (λ (j : Job). j.seat) done i idle nobody (omega (arith, lt, done-count))
 
-  -- What its worker did, where it was stopped by this or by nothing.
+  -- The result of its worker, which stopped at this fault or at none.
   ends-at : (f : Option CallError) (i : ℕ) → i < length seats → (done-at i).fault ≡ f → Ends (slice_get works i) (list_at seats i) f (list_at after i)
   ends-at f i lt stopped =
       subst (λ (s : Seated). Ends (slice_get works i) (list_at seats i) f s.list) (sym (seat-at i lt))
       (subst (λ g. Ends (slice_get works i) (list_at seats i) g (done-at i).seat.list) stopped (worked-at i lt).list)
 
-  -- What is so of each list is so of the drive.
+  -- A fact of each list is one of the drive.
   driven : (R : Option Work → List Pair → List Pair → Type 0) → ((i : ℕ) → i < length seats → R (slice_get works i) (list_at seats i) (list_at after i)) → Driven R seats works after
   driven R each = record {
     count = ap length back ∙ length-map done (λ j. j.seat) ∙ done-count;

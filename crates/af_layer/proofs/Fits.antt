@@ -31,7 +31,7 @@ use Rattle.af_base.proofs.Stepped.{NoneFits, none-fits, socket-there}
 use Rattle.af_base.proofs.Takes.{AreWithin, before, find-here, find-later, up_to}
 use Rattle.af_layer.specs.Room.{HasRoomFor, Room, most_bytes, most_fds}
 
--- A take has no more bytes than were asked for.
+-- A receive takes at most as many bytes as were asked for.
 few_bytes : (kind : SockType) (q : List Message) (n : ℕ) → length (take_from kind q n).bytes ≤ n
 few_bytes Seqpacket [] n = omega arith
 few_bytes Seqpacket (m ∷ q) n = omega (arith, length-take n m.bytes)
@@ -78,7 +78,7 @@ module _ (room : Room) where
     | inr y ↦ subst (HasRoomFor room) (sym y.0) tt
   ]
 
-  -- What a receive or a peek answers.
+  -- The reply of a receive or a peek.
   fits-recv : (w : World) (p n max_bytes max_fds : ℕ) → IsSound w → min MAX_BYTES max_bytes ≤ room.bytes → min SCM_MAX_FD max_fds ≤ room.fds → NoneFits (recv_row w p n max_bytes) → HasRoomFor room (received w p n max_bytes max_fds)
   fits-recv w p n max_bytes max_fds sound bytes fds row = by (nat_eq (length (socket_on w p n).queue) 0) where
     within : AreWithin (socket_on w p n).queue
@@ -100,7 +100,7 @@ module _ (room : Room) where
     by true = tt
     by false = (few_took, few_got)
 
-  -- What a step of a process answers.
+  -- The reply of a step of a process.
   fits-answer : (w : World) (p : ℕ) (s : Step) → IsSound w → most_bytes (event.Proc p s) ≤ room.bytes → most_fds (event.Proc p s) ≤ room.fds → refusal w p s ≡ None → HasRoomFor room (answer w p s)
   fits-answer w p (step.Recv n max_bytes max_fds) sound bytes fds none =
       fits-recv w p n max_bytes max_fds sound bytes fds (none-fits ((not (map.contains_key w.processes p), ESRCH) ∷ recv_row w p n max_bytes) none).rest
@@ -108,7 +108,7 @@ module _ (room : Room) where
       fits-recv w p n max_bytes max_fds sound bytes fds (none-fits ((not (map.contains_key w.processes p), ESRCH) ∷ recv_row w p n max_bytes) none).rest
   fits-answer w p s sound bytes fds none = tt
 
-  -- What the collector answers needs no room.
+  -- A reply of the collector needs no room.
   fits-begin : (pass : Pass) (old : Machine) (r : Reply) (new : Machine) → Begins pass old r new → HasRoomFor room r
   fits-begin Idle old r new s = subst (HasRoomFor room) (sym s.0) tt
   fits-begin (Running begun spent) old r new s = subst (HasRoomFor room) (sym s.0) tt

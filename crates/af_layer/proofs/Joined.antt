@@ -12,11 +12,11 @@ use Rattle.af_layer.specs.Log.{IsLegalFrom, Pair, of_seat, pair_of}
 use Rattle.af_layer.specs.Taken.{TakenLogsAreOne, TakenPartsAreOne, put_together}
 
 -- A log that is empty is legal from its machine on.
-legal-empty : (a : Machine) (n : ℕ) → 1 ≤ n → n ≤ MAX_SEATS → IsLegalFrom a n a []
+pub legal-empty : (a : Machine) (n : ℕ) → 1 ≤ n → n ≤ MAX_SEATS → IsLegalFrom a n a []
 legal-empty a n some few = record { some_seat = some; few_seats = few; of_seats = All-nil (λ e. (1 ≤ e.seat) × (e.seat ≤ n)); run = refl }
 
 -- Two legal logs, one after the other, are one.
-legal-append : (a b c : Machine) (n : ℕ) (xs ys : List Entry) → IsLegalFrom a n b xs → IsLegalFrom b n c ys → IsLegalFrom a n c (xs ++ ys)
+pub legal-append : (a b c : Machine) (n : ℕ) (xs ys : List Entry) → IsLegalFrom a n b xs → IsLegalFrom b n c ys → IsLegalFrom a n c (xs ++ ys)
 legal-append a b c n xs ys first second = record {
   some_seat = first.some_seat;
   few_seats = first.few_seats;
@@ -31,7 +31,7 @@ taken_logs_are_one a c n (log ∷ logs) some few follow =
     legal-append a follow.0 c n log (put_together logs) follow.1 (taken_logs_are_one follow.0 c n logs some few follow.2)
 
 -- A seat's part of two logs, one after the other, is its two parts.
-part-append : (k : ℕ) (xs ys : List Entry) → of_seat k (xs ++ ys) ≡ of_seat k xs ++ of_seat k ys
+pub part-append : (k : ℕ) (xs ys : List Entry) → of_seat k (xs ++ ys) ≡ of_seat k xs ++ of_seat k ys
 part-append k [] ys = refl
 part-append k (e ∷ xs) ys = by (nat_eq e.seat k) (part-append k xs ys) where
   by : (b : Bool) → of_seat k (xs ++ ys) ≡ of_seat k xs ++ of_seat k ys → (if b then pair_of e ∷ of_seat k (xs ++ ys) else of_seat k (xs ++ ys)) ≡ (if b then pair_of e ∷ of_seat k xs else of_seat k xs) ++ of_seat k ys

@@ -4,6 +4,7 @@ pub mod Fits
 pub mod Joined
 pub mod Logs
 pub mod Opening
+pub mod Origins
 pub mod Placing
 pub mod Replies
 pub mod Scripts

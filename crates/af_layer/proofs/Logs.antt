@@ -11,7 +11,7 @@ use Rattle.af_layer.specs.declared.book.Entry.{Entry}
 use Rattle.af_layer.specs.Calls.{Answers}
 use Rattle.af_layer.specs.Log.{IsLegalFrom, pair_of}
 
--- An entry whose event and reply are one step goes last.
+-- An entry whose event and reply are one step is appended.
 pub logged : (n : ℕ) (a b c : Machine) (log room more : List Entry) (e : Entry) → room ≡ log → more ≡ room ++ e ∷ [] → 1 ≤ e.seat → e.seat ≤ n → IsLegalFrom a n b log → Step b e.event e.reply c → IsLegalFrom a n c more
 logged n a b c log room more e same is low high legal step =
     subst (λ l. IsLegalFrom a n c l) (sym is) (subst (λ l. IsLegalFrom a n c (l ++ e ∷ [])) (sym same) (record {

@@ -1,4 +1,4 @@
--- Where the seat of each number stands.
+-- The position of each seat.
 use Rattle.std.proofs.Common.{◌≡◌, ◌<◌, ◌≤◌, ◌+◌, ℕ, true, List, length, inl, inr, sym, ap, ◌∙◌, subst, arith, slice_index, slice_set}
 use Rattle.std.proofs.lemmas.Bool.{cases_eq}
 use Rattle.std.proofs.lemmas.List.{get_or-set_other, get_or-set_same, length-set}

@@ -1,4 +1,4 @@
--- What came of a call of a sound engine tells a reply of some sound machine.
+-- The outcome of a call of a sound engine is the reply of some sound machine.
 use Rattle.std.proofs.Common.{◌≡◌, ℕ, Bool, false, ap, inr, refl, sym, subst}
 use Rattle.std.specs.Prelude.{Option, Some, None, Result, Ok, Err, IfErr, IfOk, OnOk}
 use Rattle.af_base.specs.declared.errno.Errno.{Errno}
@@ -25,7 +25,7 @@ module _ (held old new : Machine) (sound : IsSound held.world) (same : old ≡ h
   begins_sound : IsSound old.world
   begins_sound = subst (λ (m : Machine). IsSound m.world) (sym same) sound
 
-  -- What a step answers.
+  -- The reply of a step.
   pub tells_event : (e : Event) (r : Reply) → run.Step old e r new → IsReplyTo e r
   tells_event e r step = (old, new, begins_sound, step)
 

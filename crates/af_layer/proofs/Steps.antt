@@ -1,4 +1,4 @@
--- What holds of all numbers to n, and of the next.
+-- A fact of all numbers up to n, and of the next.
 use Rattle.std.proofs.Common.{◌≤◌, ◌+◌, ℕ, inl, inr, sym, subst, arith}
 use Rattle.std.proofs.lemmas.Bool.{cases_eq}
 

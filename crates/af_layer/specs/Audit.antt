@@ -1,4 +1,4 @@
--- What an audit finds.
+-- The result of an audit.
 use Rattle.std.specs.Prelude.{◌≡◌, ◌≢◌, ◌⊎◌, ◌<◌, ◌≤◌, ℕ, List, [], length, slice_index_or, true, false}
 use Rattle.af_layer.specs.declared.book.Entry.{Entry}
 use Rattle.af_layer.specs.declared.audit.CloseFault.{CloseFault}
@@ -7,7 +7,7 @@ use Rattle.af_layer.specs.Calls.{is_seat}
 use Rattle.af_layer.specs.Log.{Logged, Pair, of_seat}
 use Rattle.af_layer.specs.Seats.{Seated}
 
--- Who stands where no seat does.
+-- The seat at a position without one.
 abbrev pub nobody : Seated
 nobody = record { number = 0; list = [] }
 
@@ -15,7 +15,7 @@ nobody = record { number = 0; list = [] }
 abbrev pub number_at : List Seated → ℕ → ℕ
 number_at seats i = (slice_index_or seats i nobody).number
 
--- What was asked from it and answered.
+-- The events asked from it, with their replies.
 abbrev pub list_at : List Seated → ℕ → List Pair
 list_at seats i = (slice_index_or seats i nobody).list
 
@@ -45,7 +45,7 @@ NoneMissing n seats = (k : ℕ) → 1 ≤ k → k ≤ n → Has seats k
 abbrev pub IsMissing : ℕ → List Seated → ℕ → Type 0
 IsMissing n seats k = (1 ≤ k) × (k ≤ n) × ((i : ℕ) → i < length seats → number_at seats i ≢ k) × ((j : ℕ) → 1 ≤ j → j < k → Has seats j)
 
--- What the seats of the number k hold is their part of the log.
+-- The seats of the number k hold their part of the log.
 abbrev pub IsAudited : List Entry → List Seated → ℕ → Type 0
 IsAudited log seats k = (i : ℕ) → i < length seats → number_at seats i ≡ k → list_at seats i ≡ of_seat k log
 

@@ -1,4 +1,4 @@
--- What a call does, and when it does nothing.
+-- The effect of a call, and when it does nothing. The definition that names no manual page is of this project's profile (docs/PROFILE.md).
 use Rattle.std.specs.Prelude.{◌≡◌, ◌++◌, ◌∷◌, [], ◌&&◌, Bool, if◌then◌else◌, ℕ, Option, Some, None, Result, Err, IfErr, length, nat_le}
 use Rattle.af_base.specs.declared.events.Event.{Event}
 use Rattle.af_base.specs.declared.events.Reply.{Reply}
@@ -8,11 +8,11 @@ use Rattle.af_layer.specs.declared.book.CallError.{CallError}
 use Rattle.af_layer.specs.declared.book.CallError.TheVariants as fault
 use Rattle.af_layer.specs.Log.{Logged}
 
--- The number is one of so many seats, from 1.
+-- The number is that of a seat, counted from 1.
 abbrev pub is_seat : ℕ → ℕ → Bool
 is_seat seats k = nat_le 1 k && nat_le k seats
 
--- Why a call does nothing, but for want of memory, in this order: there is no such seat, or the log is full (this project's profile).
+-- Why a call does nothing, but for out of memory, in this order: there is no such seat, or the log is full.
 abbrev pub refusal : Logged → ℕ → Option CallError
 refusal b k = if is_seat b.seats k then (if nat_le MAX_LOG (length b.log) then Some fault.LogFull else None) else Some fault.NoSeat
 
@@ -21,7 +21,7 @@ abbrev pub Answers : {R : Type 0} → Option CallError → Result R CallError �
 Answers (Some e) r = r ≡ Err e
 Answers None r = IfErr r (λ e. e ≡ fault.NoRoom)
 
--- A call: the book goes on by one step of the machine, and by the entry of this seat with the event and its reply.
+-- A call: the machine does one step, and the book appends the entry of this seat with the event and its reply.
 pub record Calls (old : Logged) (seat : ℕ) (e : Event) (r : Reply) (new : Logged) : Type 0 where
   pub log : new.log ≡ old.log ++ record { seat = seat; event = e; reply = r } ∷ []
   pub step : Step old.machine e r new.machine

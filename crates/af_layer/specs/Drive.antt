@@ -1,4 +1,4 @@
--- What a drive does to its seats.
+-- The effect of a drive on its seats.
 use Rattle.std.specs.Prelude.{◌≡◌, ◌<◌, ◌⊎◌, ◌+◌, ◌-◌, ◌++◌, ◌∷◌, ℕ, List, [], map, length, slice_get, Option, Some, None, Vec}
 use Rattle.std.proofs.Common.{Global}
 use Rattle.af_base.specs.declared.events.Event.{Event}
@@ -16,15 +16,15 @@ use Rattle.af_layer.specs.Seats.{Seated}
 abbrev pub events_of : List Pair → List Event
 events_of pairs = map (λ p. p.0) pairs
 
--- A list went on by pairs with just these events, each with some reply.
+-- A list was extended by pairs of just these events, each with some reply.
 abbrev pub WentOn : List Pair → List Event → List Pair → Type 0
 WentOn old events new = (more : List Pair) × (new ≡ old ++ more) × (events_of more ≡ events)
 
--- A list went on by a beginning of these events, and not by all.
+-- A list was extended by a beginning of these events, and not by all.
 abbrev pub FellShort : List Pair → List Event → List Pair → Type 0
 FellShort old events new = (done : List Event) × (next : Event) × (rest : List Event) × (events ≡ done ++ next ∷ rest) × WentOn old done new
 
--- The collector's event after this reply: it goes on with a pass that it began.
+-- The collector's event after this reply: it continues a pass that it began.
 abbrev pub turn_after : ℕ → Option Pair → Event
 turn_after budget (Some (e, reply.Started pass)) = event.Slice budget
 turn_after budget (Some (e, reply.Working)) = event.Slice budget
@@ -39,7 +39,7 @@ pub data Turned (budget : ℕ) (old : List Pair) : ℕ → List Pair → Type 0 
   NoTurn : Turned budget old 0 old
   OneMore : (n : ℕ) → (list : List Pair) → (r : Reply) → Turned budget old n list → Turned budget old (n + 1) (list ++ (next_turn budget list, r) ∷ [])
 
--- What is to be done from a seat: a script, or so many turns of a collector.
+-- The work of a seat: a script, or a number of turns of a collector.
 pub data Work : Type 0 where
   Script : (events : List Event) → Work
   Collects : (turns : ℕ) → (budget : ℕ) → Work
@@ -69,7 +69,7 @@ turns_of (Some t) = Collects t.turns t.budget ∷ []
 abbrev pub works_of : List (Vec Event Global) → Option Turns → List Work
 works_of scripts collector = map (λ v. Script v.items) scripts ++ turns_of collector
 
--- All seats are there in their order, with their numbers; the list of the i-th went on as R says of the i-th work, and for the seats behind these of none.
+-- All seats are there in their order, with their numbers; R holds between the list of the i-th and the i-th work, and the other seats have none.
 pub record Driven (R : Option Work → List Pair → List Pair → Type 0) (seats : List Seated) (works : List Work) (after : List Seated) : Type 0 where
   pub count : length after ≡ length seats
   pub numbers : (i : ℕ) → i < length seats → number_at after i ≡ number_at seats i
@@ -80,7 +80,7 @@ pub record IsFirstShort (k : ℕ) (seats : List Seated) (works : List Work) (aft
   pub short : (i : ℕ) × (i < length seats) × (number_at seats i ≡ k) × Short (slice_get works i) (list_at seats i) (list_at after i)
   pub below : (i : ℕ) → i < length seats → number_at seats i < k → Made (slice_get works i) (list_at seats i) (list_at after i)
 
--- What a fault says: the seat that is named is the least whose list falls short; with the other faults nothing was started.
+-- The meaning of a fault: the named seat is the least whose list falls short; with the other faults nothing was started.
 abbrev pub AtFault : List Seated → List Work → DriveFault → List Seated → Type 0
 AtFault seats works (fault.Call k e) after = IsFirstShort k seats works after
 AtFault seats works other after = after ≡ seats

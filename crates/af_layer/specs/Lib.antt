@@ -1,4 +1,4 @@
--- What a log holds, what a call does, what an audit finds, and what a drive does to its seats.
+-- Logs, calls, audits and drives of a layer.
 pub mod Audit
 pub mod Calls
 pub mod Drive

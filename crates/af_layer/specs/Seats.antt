@@ -1,4 +1,4 @@
--- What a seat shows.
+-- The view of a seat.
 use Rattle.std.specs.Prelude.{◌++◌, ◌∷◌, [], ℕ, List}
 use Rattle.af_base.specs.declared.events.Event.{Event}
 use Rattle.af_base.specs.declared.events.Reply.{Reply}

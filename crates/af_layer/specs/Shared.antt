@@ -1,4 +1,4 @@
--- What is told of a call under a lock.
+-- The reports about a call under a lock. Definitions that name no manual page are this project's own.
 use Rattle.std.specs.Prelude.{ℕ, Result, Ok, Err}
 use Rattle.af_base.specs.declared.errno.Errno.{Errno}
 use Rattle.af_base.specs.declared.events.Event.{Event}
@@ -10,11 +10,11 @@ use Rattle.af_base.specs.Pass.{Machine}
 use Rattle.af_base.specs.Run as run
 use Rattle.af_base.specs.Whole.{IsSound}
 
--- A reply to the event: some sound machine makes one step that gives it (this project's own).
+-- A reply to the event: some sound machine makes one step that gives it.
 abbrev pub IsReplyTo : Event → Reply → Type 0
 IsReplyTo e r = (old : Machine) × (new : Machine) × IsSound old.world × run.Step old e r new
 
--- What a call came to tells a reply to the event: its value by this function, its error as a refusal (this project's own).
+-- The outcome of a call as a reply to the event: its value by this function, its error as a refusal.
 abbrev pub TellsReply : {T : Type 0} → Event → (T → Reply) → Result T Errno → Type 0
 TellsReply e tells (Ok a) = IsReplyTo e (tells a)
 TellsReply e tells (Err error) = IsReplyTo e (reply.Refused error)

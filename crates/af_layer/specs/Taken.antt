@@ -1,4 +1,4 @@
--- What logs are that were taken one after the other.
+-- Logs that were taken one after the other.
 use Rattle.std.specs.Prelude.{◌≡◌, ◌≤◌, ◌∷◌, ℕ, List, []}
 use Rattle.std.specs.List.{flat_map}
 use Rattle.af_base.specs.declared.limits.TheConstants.{MAX_SEATS}

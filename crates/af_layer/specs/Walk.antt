@@ -6,7 +6,7 @@ use Rattle.af_layer.specs.Log.{Pair, of_seat}
 use Rattle.af_layer.specs.Seats.{Seated}
 use Rattle.af_layer.specs.Audit.{list_at, number_at}
 
--- The places of the first i seats stand under their numbers, and none is past the list.
+-- The positions of the first i seats are kept under their numbers, and each is in the list.
 pub record ArePlacesOf (i : ℕ) (seats : List Seated) (places : List ℕ) : Type 0 where
   pub count : length places ≡ MAX_SEATS + 1
   pub within : (k : ℕ) → k < length places → slice_index places k < length seats
@@ -22,7 +22,7 @@ pub record ArePlaces (n : ℕ) (seats : List Seated) (places : List ℕ) : Type 
 abbrev pub Leaves : List Entry → ℕ → List Pair → ℕ → List Pair → Type 0
 Leaves log k list i rest = (list ≡ of_seat k log) ↔ (rest ≡ of_seat k (drop i log))
 
--- After i entries there is no cursor, and the list is another; or so much of the list was in the log.
+-- After i entries there is no cursor, and the list differs; or this much of the list was in the log.
 abbrev pub Tracks : List Entry → List Pair → ℕ → ℕ → Option ℕ → Type 0
 Tracks log list k i None = list ≢ of_seat k log
 Tracks log list k i (Some cursor) = (cursor ≤ length list) × Leaves log k list i (drop cursor list)

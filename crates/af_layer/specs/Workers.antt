@@ -1,4 +1,4 @@
--- What a worker is to do, and what it did.
+-- The task of a worker, and its result.
 use Rattle.std.specs.Prelude.{◌≡◌, ◌<◌, ◌≤◌, ◌++◌, ◌∷◌, ℕ, List, [], map, length, slice_index_or, Option, Some, None, IfSome}
 use Rattle.af_base.specs.declared.events.Event.{Event}
 use Rattle.af_layer.specs.declared.book.CallError.{CallError}
@@ -8,7 +8,7 @@ use Rattle.af_layer.specs.Drive.{Collects, Made, Script, Short, WentOn, Work}
 use Rattle.af_layer.specs.Log.{Pair}
 use Rattle.af_layer.specs.Seats.{Seated}
 
--- What a task asks for.
+-- The events of a task.
 abbrev pub work_of : Task → Work
 work_of (task.Script v) = Script v.items
 work_of (task.Collect t) = Collects t.turns t.budget
@@ -47,7 +47,7 @@ jobs_of (s ∷ seats) (work ∷ works) = job s (Some work) ∷ jobs_of seats wor
 abbrev pub seats_of : List Job → List Seated
 seats_of jobs = map (λ j. j.seat) jobs
 
--- What stopped the least seat among the first n jobs, if one was stopped.
+-- The fault of the least seat among the first n jobs, if one stopped.
 abbrev pub LeastBelow : List Job → ℕ → Option (ℕ × CallError) → Type 0
 LeastBelow jobs n None = (i : ℕ) (other : Job) → i < n → (slice_index_or jobs i other).fault ≡ None
 LeastBelow jobs n (Some f) =

@@ -1,5 +1,4 @@
-//! The audit: each seat's list is its part of the log. It takes no memory, and goes over the log
-//! once.
+//! The audit: each seat's list is its part of the log. It takes no memory, and reads the log once.
 ghost use Rattle.std.specs.Prelude.{◌≡◌, ◌≢◌, ◌↔◌, ◌<◌, ◌≤◌, ◌+◌, ◌∷◌, ℕ, All, IsTrue, List, MatchBool, MatchOption, drop, length, slice_index};
 ghost use Rattle.af_layer.specs.declared.book.Entry.{Entry as LogEntry};
 ghost use Rattle.af_layer.specs.Audit.{HasFault, IsAudited, IsMissing, IsStranger, IsWhole, IsWrong, NoStranger, NoneMissing, number_at};
@@ -12,28 +11,28 @@ use af_base::equality::{events_equal, replies_equal};
 use af_base::events::{Event, Reply};
 use af_base::limits::MAX_SEATS;
 
-/// What an audit finds, in the order in which it looks.
+/// The fault that an audit finds, in the order in which it looks.
 #[derive(Clone, Copy, Debug, PartialEq, Eq)]
 pub enum CloseFault {
     /// The number of the first seat that the layer does not have, or that came before in the list.
     Stranger(u32),
-    /// The least number without a seat.
+    /// Returns the least number without a seat.
     Missing(u32),
-    /// The least number of a seat whose list is not its part of the log.
+    /// Returns the least number of a seat whose list is not its part of the log.
     Audit(u32),
 }
 
 /// One more than the largest number of a seat.
 const NUMBERS: usize = MAX_SEATS as usize + 1;
 
-/// Whether the entry has this event and this reply.
+/// Returns whether the entry has this event and this reply.
 fn is_pair(pair: &(Event, Reply), entry: &Entry) -> bool
     ensures { IsTrue result ↔ (pair.now ≡ pair_of entry.now) }
 {
     events_equal(&pair.0, &entry.event) && replies_equal(&pair.1, &entry.reply)
 }
 
-/// Whether one of the seats before this place has the number.
+/// Returns whether one of the seats before this position has the number.
 fn is_before(seats: &[Seat], end: usize, number: u32) -> bool
     requires { end ≤ length seats.now }
     ensures { MatchBool result
@@ -49,7 +48,7 @@ fn is_before(seats: &[Seat], end: usize, number: u32) -> bool
     false
 }
 
-/// The number of the first seat that is out of range or came before.
+/// Returns the number of the first seat that is out of range or came before.
 fn stranger(seats: &[Seat], count: u32) -> Option<u32>
     ensures { MatchOption result (NoStranger count seats.now) (IsStranger count seats.now) }
 {
@@ -63,7 +62,7 @@ fn stranger(seats: &[Seat], count: u32) -> Option<u32>
     None
 }
 
-/// The least number without a seat.
+/// Returns the least number without a seat.
 fn missing(seats: &[Seat], count: u32) -> Option<u32>
     ensures { MatchOption result (NoneMissing count seats.now) (IsMissing count seats.now) }
 {
@@ -76,7 +75,7 @@ fn missing(seats: &[Seat], count: u32) -> Option<u32>
     None
 }
 
-/// Where the seat of each number stands in the list.
+/// Returns the position of the seat of each number in the list.
 fn places(seats: &[Seat], count: u32) -> [usize; NUMBERS]
     requires range { (1 ≤ count) × (count ≤ MAX_SEATS) }
     requires known { NoStranger count seats.now }
@@ -91,8 +90,8 @@ fn places(seats: &[Seat], count: u32) -> [usize; NUMBERS]
     places
 }
 
-/// How much of a list was in the log, after one entry more of its seat; nothing, where the list has
-/// something else.
+/// Returns how much of a list was in the log, after one entry more of its seat; `None` if the list
+/// differs.
 fn advance(list: &[(Event, Reply)], cursor: Option<usize>, entry: &Entry) -> Option<usize>
     ensures { (log : List LogEntry) (i : ℕ) → drop i log ≡ entry.now ∷ drop (i + 1) log
         → Tracks log list.now entry.now.seat i cursor
@@ -107,7 +106,7 @@ fn advance(list: &[(Event, Reply)], cursor: Option<usize>, entry: &Entry) -> Opt
     }
 }
 
-/// Goes over the log once, and moves for each entry the cursor of its seat.
+/// Reads the log once, and moves for each entry the cursor of its seat.
 fn walk(log: &[Entry], seats: &[Seat], places: &[usize], cursors: &mut [Option<usize>])
     requires cursors { length cursors.old ≡ length places.now }
     requires places { (k : ℕ) → k < length places.now
@@ -123,7 +122,7 @@ fn walk(log: &[Entry], seats: &[Seat], places: &[usize], cursors: &mut [Option<u
     }
 }
 
-/// The least number of a seat whose list is not its part of the log.
+/// Returns the least number of a seat whose list is not its part of the log.
 fn wrong(log: &[Entry], seats: &[Seat], count: u32) -> Option<u32>
     requires range { (1 ≤ count) × (count ≤ MAX_SEATS) }
     requires log { All (λ e. (1 ≤ e.seat) × (e.seat ≤ count)) log.now }
@@ -146,7 +145,7 @@ fn wrong(log: &[Entry], seats: &[Seat], count: u32) -> Option<u32>
     None
 }
 
-/// What is wrong with the seats of a book, if anything is.
+/// Returns the fault in the seats of a book, if there is one.
 pub fn audit(book: &Book, seats: &[Seat]) -> Option<CloseFault>
     ensures { MatchOption result (IsWhole book.now seats.now) (HasFault book.now seats.now) }
 {

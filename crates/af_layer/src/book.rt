@@ -23,7 +23,7 @@ pub struct Entry {
     pub seat: u32,
     /// The event.
     pub event: Event,
-    /// What was answered.
+    /// The reply.
     pub reply: Reply,
 }
 
@@ -71,8 +71,7 @@ impl Model for Book {
 }
 
 impl Book {
-    /// Makes a book for so many seats, 1 to 64, in which nothing was done. The error says that
-    /// memory was refused.
+    /// Makes an empty book for this many seats, 1 to 64. Fails only if memory is refused.
     pub fn new(alloc: Global, seats: u32) -> Result<Book, AllocError>
         requires { (1 ≤ seats) × (seats ≤ MAX_SEATS) }
         ensures { IfOk result (λ book.
@@ -121,7 +120,7 @@ impl Book {
         mem::replace(&mut self.log, Vec::new(self.alloc))
     }
 
-    /// Lends the engine as it stands.
+    /// Lends the engine.
     pub fn engine(&self) -> &Engine
         ensures { result.now ≡ self.now.machine }
     {
@@ -130,16 +129,16 @@ impl Book {
 
     /// Does one event for the seat of this number, and puts it with its reply into the log.
     ///
-    /// Room for the entry is had before the step, so that a step that was done is logged. Want of
-    /// memory in the step itself is a reply, and is logged.
+    /// Room for the entry is reserved before the step, so that each step is logged. Out of memory
+    /// in the step itself is a reply, and is logged.
     pub fn call(&mut self, seat: u32, event: Event) -> Result<Reply, CallError>
         ensures done { IfOk result (λ reply. Calls self.old seat event reply self.new) }
         ensures refused { Answers (refusal self.old seat) result }
         ensures same { OnErr result (self.new ≡ self.old) }
     {
         let room = room_for(self.alloc, self.seats, &mut self.log, seat, &event)?;
-        // What a sound world answers is no longer than the room.
-        self.engine.is_sound();
+        // The reply of a sound world fits in the room.
+        self.engine.lemma_is_sound();
         let reply = self.engine.step(&event);
         let logged = room.copy(&reply);
         self.log.push_reserved(Entry {
@@ -151,8 +150,8 @@ impl Book {
     }
 }
 
-/// Room in the log of so many seats for an entry of this one, and for a copy of the reply to its
-/// event; or why the call does nothing. The log stays as it is.
+/// Reserves room in the log of this many seats for an entry of this one, and for a copy of the
+/// reply to its event; or returns why the call does nothing. The log is unchanged.
 fn room_for(
     alloc: Global,
     seats: u32,

@@ -5,6 +5,7 @@ ghost use Rattle.af_layer.specs.Workers.{LeastBelow, jobs_of, seats_of};
 
 use crate::book::CallError;
 use crate::layer::Layer;
+use crate::origin::Origin;
 use crate::seat::Seat;
 use crate::workers::{Gate, Task, Turns, Worker, run};
 use af_base::events::Event;
@@ -36,7 +37,7 @@ pub struct DriveError {
     pub seats: Vec<Seat>,
 }
 
-/// Whether each script has a seat, and the collector another one.
+/// Returns whether each script has a seat, and the collector another one.
 #[tactic(auto, using(crate::proofs::Drives::works_count))]
 fn are_enough(seats: &[Seat], scripts: &[Vec<Event>], collector: Option<Turns>) -> bool
     ensures { IsTrue result ↔ (length (works_of scripts.now collector) ≤ length seats.now) }
@@ -47,7 +48,7 @@ fn are_enough(seats: &[Seat], scripts: &[Vec<Event>], collector: Option<Turns>) 
     }
 }
 
-/// Room for so many workers, and for as many seats.
+/// Reserves room for this many workers, and for as many seats.
 fn rooms(alloc: Global, count: usize) -> Result<(Vec<Worker>, Vec<Seat>), AllocError>
     ensures empty { IfOk result (λ rooms. (rooms.0.items ≡ []) × (rooms.1.items ≡ [])) }
     ensures room { IfOk result (λ rooms.
@@ -59,7 +60,7 @@ fn rooms(alloc: Global, count: usize) -> Result<(Vec<Worker>, Vec<Seat>), AllocE
     ))
 }
 
-/// Script i goes to the i-th seat, the collector's turns to the next, and nothing to the others.
+/// Gives script i to the i-th seat, the collector's turns to the next, and nothing to the others.
 fn hand_out(
     mut workers: Vec<Worker>,
     seats: Vec<Seat>,
@@ -87,7 +88,7 @@ fn hand_out(
     workers
 }
 
-/// What stopped the least seat that was stopped.
+/// Returns the fault of the least seat that stopped.
 fn least_fault(workers: &[Worker]) -> Option<(u32, CallError)>
     ensures { LeastBelow workers.now (length workers.now) result }
 {
@@ -105,7 +106,7 @@ fn least_fault(workers: &[Worker]) -> Option<(u32, CallError)>
     least
 }
 
-/// The seats of the workers, in order.
+/// Returns the seats of the workers, in order.
 fn take_back(mut seats: Vec<Seat>, workers: Vec<Worker>) -> Vec<Seat>
     requires empty { seats.items ≡ [] }
     requires room { vec_len workers ≤ vec_capacity seats }
@@ -125,9 +126,9 @@ fn take_back(mut seats: Vec<Seat>, workers: Vec<Worker>) -> Vec<Seat>
 ///
 /// A worker stops at the first call that is refused; the others go on to their ends. All seats come
 /// back either way, in their order.
-pub fn drive<R: Threads + Wait + Sync, G: Gate + Sync>(
+pub fn drive<R: Threads + Wait + Sync, O: Origin + Send, G: Gate + Sync>(
     rt: &R,
-    layer: &Layer,
+    layer: &Layer<O>,
     seats: Vec<Seat>,
     scripts: Vec<Vec<Event>>,
     collector: Option<Turns>,

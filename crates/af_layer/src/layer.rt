@@ -1,59 +1,29 @@
 //! The layer: its lock, and the audit that closes it.
 ghost use Rattle.std.specs.Prelude.{◌≡◌, ◌+◌, ◌<◌, ℕ, [], Err, IfErr, IfOk, MatchBool, OnErr, OnOk, slice_index_or, vec_len};
 ghost use Rattle.af_base.specs.declared.events.Reply.{Reply as Answer};
-ghost use Rattle.af_layer.specs.Audit.{HasFault, IsWhole};
+ghost use Rattle.af_layer.specs.Audit.{AreEmptied, HasFault, IsWhole};
 ghost use Rattle.af_layer.specs.Calls.{is_seat};
-ghost use Rattle.af_layer.specs.Log.{IsLegal};
+ghost use Rattle.af_layer.specs.Log.{HasLegalLog, IsLegal, IsLegalFrom, Logged};
 ghost use Rattle.af_layer.specs.Seats.{Seated, grown};
 
 use crate::audit::{CloseFault, audit};
-use crate::book::{Book, CallError};
+use crate::book::{Book, CallError, Entry};
+use crate::origin::{BookFrom, Fresh, Origin, Reached};
 use crate::seat::Seat;
 use af_base::events::Event;
 use af_base::limits::MAX_SEATS;
 use std::alloc::Global;
-use std::marker::Model;
+use std::marker::PhantomData;
 use std::sync::{Mutex, Wait};
 use thiserror::Error;
 
 /// A book that threads share: one lock, and under it one call at a time.
-#[derive(Drop)]
-pub struct Layer {
-    book: Mutex<UntakenBook>,
-}
-
-/// A book whose log was never taken: it has all that was ever done.
 ///
-/// A contract knows of a locked value only what its type says, so the type says this.
+/// Its parameter says where its log begins. With `Fresh` it has all that was ever done; with
+/// `Reached` it can be taken ([`Layer::checkpoint`]).
 #[derive(Drop)]
-struct UntakenBook {
-    book: Book,
-}
-
-impl Model for UntakenBook {
-    ghost use Rattle.std.specs.FinMap as map;
-    ghost use Rattle.std.specs.Coded.{codes};
-    ghost use Rattle.std.specs.Prelude.{◌≡◌};
-    ghost use Rattle.af_base.specs.Run.{fresh};
-    ghost use Rattle.af_layer.specs.Log.{Logged};
-
-    ghost Value = { Logged };
-
-    ghost coded = { Prim.hlevel (codes, map.code) };
-
-    ghost view = { λ b. b.book };
-
-    ghost invariant = { λ b. b.book.start ≡ fresh };
-}
-
-impl UntakenBook {
-    /// Does one event from this seat.
-    fn call_from(&mut self, seat: &mut Seat, event: Event) -> Result<(), CallError>
-        ensures done { OnOk result ((reply : Answer) × (seat.new ≡ grown seat.old event reply)) }
-        ensures same { OnErr result (seat.new ≡ seat.old) }
-    {
-        seat.call_in(&mut self.book, event)
-    }
+pub struct Layer<O: Origin = Fresh> {
+    book: Mutex<BookFrom<O>>,
 }
 
 /// Why no layer was opened.
@@ -77,7 +47,7 @@ pub struct Closed {
 /// A layer that was closed with a fault, and all that it had.
 #[derive(Drop)]
 pub struct CloseError {
-    /// What the audit found.
+    /// The fault that the audit found.
     pub fault: CloseFault,
     /// The engine and the log.
     pub book: Book,
@@ -86,9 +56,9 @@ pub struct CloseError {
 }
 
 impl Layer {
-    /// Opens a layer in which nothing was done, with so many seats, numbered from 1.
+    /// Opens an empty layer with this many seats, numbered from 1.
     ///
-    /// The error is `BadCount` for fewer than 1 and more than 64, and else that memory was refused.
+    /// Fails with `BadCount` for fewer than 1 and more than 64, and else only if memory is refused.
     pub fn open(alloc: Global, seats: u32) -> Result<(Layer, Vec<Seat>), OpenError>
         ensures count { IfOk result (λ opened. vec_len opened.1 ≡ seats) }
         ensures seats { IfOk result (λ opened. (i : ℕ) (other : Seated) → i < seats
@@ -109,19 +79,7 @@ impl Layer {
         for before in 0..seats {
             list.push_reserved(Seat::new(alloc, before + 1));
         }
-        let book = Mutex::new(UntakenBook { book });
-        Ok((Layer { book }, list))
-    }
-
-    /// Waits for the lock, and does one event from this seat. Nothing else stands under the lock.
-    ///
-    /// The errors are those of [`Seat::call_in`]. Of the log nothing can be said here, since other
-    /// threads call too: [`Layer::close`] does.
-    pub fn call<R: Wait>(&self, rt: &R, seat: &mut Seat, event: Event) -> Result<(), CallError>
-        ensures done { OnOk result ((reply : Answer) × (seat.new ≡ grown seat.old event reply)) }
-        ensures same { OnErr result (seat.new ≡ seat.old) }
-    {
-        self.book.lock(rt).call_from(seat, event)
+        Ok((Layer::of(book), list))
     }
 
     /// Ends the layer with an audit: each number has one seat, and its list is its part of the log,
@@ -136,13 +94,74 @@ impl Layer {
         ensures seats { IfErr result (λ e. e.seats.items ≡ seats.items) }
         ensures untaken { IfErr result (λ e. IsLegal e.book.seats e.book.machine e.book.log) }
     {
-        let Layer { book } = self;
-        let UntakenBook { book } = book.into_inner();
-        // The invariant of the book, which says where its log begins and ends.
-        book.log();
+        let book = self.into_book();
         match audit(&book, seats.as_slice()) {
             None => Ok(Closed { book }),
             Some(fault) => Err(CloseError { fault, book, seats }),
         }
+    }
+}
+
+impl<O: Origin> Layer<O> {
+    /// Makes a layer round a book that is there.
+    pub fn of(book: Book) -> Layer<O>
+        requires { O.begins book.seats book.start }
+    {
+        let book = BookFrom {
+            book,
+            origin: PhantomData,
+        };
+        Layer {
+            book: Mutex::new(book),
+        }
+    }
+
+    /// Waits for the lock, and does one event from this seat. No other work is done under the lock.
+    ///
+    /// The errors are those of [`Seat::call_in`]. Of the log nothing can be said here, since other
+    /// threads call too: [`Layer::close`] does.
+    pub fn call<R: Wait>(&self, rt: &R, seat: &mut Seat, event: Event) -> Result<(), CallError>
+        ensures done { OnOk result ((reply : Answer) × (seat.new ≡ grown seat.old event reply)) }
+        ensures same { OnErr result (seat.new ≡ seat.old) }
+    {
+        self.book.lock(rt).call_from(seat, event)
+    }
+
+    /// Ends the layer without an audit, and gives its book back. It waits for nobody.
+    pub fn into_book(self) -> Book
+        ensures origin { O.begins result.seats result.start }
+        ensures legal { IsLegalFrom result.start result.seats result.machine result.log }
+    {
+        let Layer { book } = self;
+        let BookFrom { book, .. } = book.into_inner();
+        // The invariant of the book, which says where its log begins and ends.
+        book.log();
+        book
+    }
+}
+
+impl Layer {
+    /// Lets the log be taken from now on.
+    pub fn allow_checkpoints(self) -> Layer<Reached> {
+        Layer::of(self.into_book())
+    }
+}
+
+impl Layer<Reached> {
+    /// Waits for the lock, audits the seats as [`Layer::close`] does, hands over the log and empties
+    /// the list of each seat. The log begins where the last checkpoint ended.
+    ///
+    /// The error is what the audit found, and nothing has changed then. A seat that is not at hand is
+    /// missing, so no other thread calls meanwhile. It takes no memory. Its cost is linear in the log
+    /// and in the lists.
+    pub fn checkpoint<R: Wait>(&self, rt: &R, seats: &mut [Seat]) -> Result<Vec<Entry>, CloseFault>
+        ensures taken { IfOk result (λ log. (book : Logged)
+            × HasLegalLog book × (log.items ≡ book.log) × IsWhole book seats.old) }
+        ensures seats { OnOk result (AreEmptied seats.old seats.new) }
+        ensures fault { IfErr result (λ fault. (book : Logged)
+            × HasLegalLog book × HasFault book seats.old fault) }
+        ensures same { OnErr result (seats.new ≡ seats.old) }
+    {
+        self.book.lock(rt).checkpoint(seats)
     }
 }

@@ -9,7 +9,7 @@ use af_base::names::Fd;
 use std::alloc::{AllocError, Global};
 use std::marker::Model;
 
-/// Room for so many bytes and so many numbers. It is empty.
+/// Empty room for this many bytes and descriptors.
 #[derive(Drop)]
 pub struct ReplyRoom {
     bytes: Vec<u8>,
@@ -27,7 +27,7 @@ impl Model for ReplyRoom {
     ghost invariant = { λ r. (r.bytes.items ≡ []) × (r.fds.items ≡ []) };
 }
 
-/// The most bytes and numbers that the answer to an event has.
+/// Returns the most bytes and descriptors of the reply to an event.
 fn most_of(event: &Event) -> (usize, usize)
     ensures bytes { result.0 ≡ most_bytes event.now }
     ensures fds { result.1 ≡ most_fds event.now }
@@ -54,7 +54,7 @@ fn most_of(event: &Event) -> (usize, usize)
 }
 
 impl ReplyRoom {
-    /// Reserves room for the reply to an event, whichever it will be, and no more than that.
+    /// Reserves room for the reply to an event, whichever it will be, and for no other.
     pub fn for_event(alloc: Global, event: &Event) -> Result<ReplyRoom, AllocError>
         ensures bytes { IfOk result (λ room. room.bytes ≡ most_bytes event.now) }
         ensures fds { IfOk result (λ room. room.fds ≡ most_fds event.now) }
@@ -66,7 +66,7 @@ impl ReplyRoom {
         })
     }
 
-    /// A copy of a reply for which there is room. It takes no memory.
+    /// Copies a reply for which there is room. Takes no memory.
     pub fn copy(self, reply: &Reply) -> Reply
         requires { HasRoomFor self reply.now }
         ensures { result ≡ reply.now }

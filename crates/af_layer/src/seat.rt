@@ -9,7 +9,7 @@ use af_base::events::{Event, Reply};
 use std::alloc::{AllocError, Global};
 use std::marker::Model;
 
-/// Who calls, with all that it asked for and was answered.
+/// A caller, with all its events and their replies.
 #[derive(Drop)]
 pub struct Seat {
     number: u32,
@@ -25,7 +25,7 @@ impl Model for Seat {
 }
 
 impl Seat {
-    /// The seat of this number, from which nothing was asked.
+    /// Makes the seat of this number, with an empty list.
     pub(crate) fn new(alloc: Global, number: u32) -> Seat
         ensures { result ≡ record { number = number; list = [] } }
     {
@@ -58,9 +58,9 @@ impl Seat {
 
     /// Does one event on a book, under this seat's number, and keeps it with its reply.
     ///
-    /// Room for the pair is had first, and where it is refused the error is `NoRoom`; else the
+    /// Room for the pair is reserved first; if it is refused, the error is `NoRoom`. The other
     /// errors are those of [`Book::call`]. After an error the book and the seat are as they were,
-    /// and the event is given up.
+    /// and the event is dropped.
     pub fn call_in(&mut self, book: &mut Book, event: Event) -> Result<(), CallError>
         ensures done { OnOk result ((reply : Answer) × (self.new ≡ grown self.old event reply)
             × Calls book.old self.old.number event reply book.new) }
@@ -77,7 +77,7 @@ impl Seat {
     }
 }
 
-/// A copy of an event for this list, which has room for it then. The list stays as it is.
+/// Copies an event for this list, which has room for it then. The list is unchanged.
 fn copy_for(list: &mut Vec<(Event, Reply)>, event: &Event) -> Result<Event, CallError>
     ensures copy { IfOk result (λ copy. copy ≡ event.now) }
     ensures room { OnOk result (vec_len list.new < vec_capacity list.new) }
@@ -93,7 +93,7 @@ fn copy_for(list: &mut Vec<(Event, Reply)>, event: &Event) -> Result<Event, Call
     Ok(copy)
 }
 
-/// A copy of an event.
+/// Copies an event.
 fn copy_of(event: &Event) -> Result<Event, AllocError>
     ensures { IfOk result (λ copy. copy ≡ event.now) }
 {

@@ -42,7 +42,7 @@ impl Shared {
         ensures { IsSound (mutex_guard_value result).world }
     {
         let engine = self.engine.lock(rt);
-        engine.is_sound();
+        engine.lemma_is_sound();
         engine
     }
 
@@ -52,7 +52,7 @@ impl Shared {
     {
         let Shared { engine } = self;
         let engine = engine.into_inner();
-        engine.is_sound();
+        engine.lemma_is_sound();
         engine
     }
 
@@ -159,7 +159,7 @@ impl Shared {
     }
 
     /// Gives a socket an abstract name: [`Engine::bind`] under the lock.
-    pub fn bind<R: Wait>(&self, rt: &R, pid: Pid, on: Fd, name: &Items<u8>) -> Result<(), Errno>
+    pub fn bind<R: Wait>(&self, rt: &R, pid: Pid, on: Fd, name: &[u8]) -> Result<(), Errno>
         ensures { TellsStep pid (Step.Bind on name.now) (λ done. Reply.Ok) result }
     {
         let mut engine = self.lock(rt);
@@ -175,7 +175,7 @@ impl Shared {
     }
 
     /// Connects a socket to the listener of this name: [`Engine::connect`] under the lock.
-    pub fn connect<R: Wait>(&self, rt: &R, pid: Pid, on: Fd, name: &Items<u8>) -> Result<(), Errno>
+    pub fn connect<R: Wait>(&self, rt: &R, pid: Pid, on: Fd, name: &[u8]) -> Result<(), Errno>
         ensures { TellsStep pid (Step.Connect on name.now) (λ done. Reply.Ok) result }
     {
         let mut engine = self.lock(rt);

@@ -7,6 +7,7 @@ ghost use Rattle.af_layer.specs.Workers.{AllWorked, Worked};
 
 use crate::book::CallError;
 use crate::layer::Layer;
+use crate::origin::Origin;
 use crate::seat::Seat;
 use af_base::events::{Event, Reply};
 use std::marker::Model;
@@ -14,13 +15,13 @@ use std::sync::Wait;
 use std::thread;
 use std::thread::Threads;
 
-/// What is called round each call of a drive: with the seat's number, and the number of the seat's
-/// call in this drive, from 1. No lock is held then.
+/// A hook around each call of a drive: with the seat's number, and the number of the seat's call in
+/// this drive, from 1. It runs without the lock.
 pub trait Gate {
-    /// Is told that a call comes. The call is not made before this returns.
+    /// Runs before a call, which is not made before this returns.
     fn before(&self, seat: u32, nth: u32);
 
-    /// Is told that a call has returned, done or refused.
+    /// Runs after a call has returned, done or refused.
     fn after(&self, seat: u32, nth: u32);
 }
 
@@ -43,7 +44,7 @@ pub struct Turns {
     pub budget: u32,
 }
 
-/// What is to be done from a seat.
+/// The work of a seat.
 #[derive(Drop)]
 pub enum Task {
     /// These events, in order.
@@ -73,10 +74,10 @@ impl Model for Worker {
     } };
 }
 
-/// One call, with the gate before and after it.
-fn call_through<R: Wait, G: Gate>(
+/// Makes one call, with the gate before and after it.
+fn call_through<R: Wait, O: Origin, G: Gate>(
     rt: &R,
-    layer: &Layer,
+    layer: &Layer<O>,
     seat: &mut Seat,
     event: Event,
     gate: &G,
@@ -93,9 +94,9 @@ fn call_through<R: Wait, G: Gate>(
 }
 
 /// Does a script from this seat, up to the first call that is refused.
-fn play<R: Wait, G: Gate>(
+fn play<R: Wait, O: Origin, G: Gate>(
     rt: &R,
-    layer: &Layer,
+    layer: &Layer<O>,
     seat: &mut Seat,
     script: Vec<Event>,
     gate: &G,
@@ -113,7 +114,7 @@ fn play<R: Wait, G: Gate>(
     Ok(())
 }
 
-/// The collector's next event from this seat: it goes on with a pass that it began.
+/// Returns the collector's next event from this seat: it continues a pass that it began.
 fn next_event(seat: &Seat, budget: u32) -> Event
     ensures { result ≡ next_turn budget seat.now.list }
 {
@@ -124,9 +125,9 @@ fn next_event(seat: &Seat, budget: u32) -> Event
 }
 
 /// Makes the collector's turns from this seat, up to the first call that is refused.
-fn collect<R: Wait, G: Gate>(
+fn collect<R: Wait, O: Origin, G: Gate>(
     rt: &R,
-    layer: &Layer,
+    layer: &Layer<O>,
     seat: &mut Seat,
     turns: Turns,
     gate: &G,
@@ -146,7 +147,7 @@ fn collect<R: Wait, G: Gate>(
 
 impl Worker {
     /// Does what is to be done, up to the first call that is refused.
-    fn work<R: Wait, G: Gate>(&mut self, rt: &R, layer: &Layer, gate: &G)
+    fn work<R: Wait, O: Origin, G: Gate>(&mut self, rt: &R, layer: &Layer<O>, gate: &G)
         ensures { Worked self.old self.new }
     {
         let done = match self.task.take() {
@@ -159,9 +160,9 @@ impl Worker {
 }
 
 /// Lets each worker work in a thread of its own.
-fn work_all<R: Threads + Wait + Sync, G: Gate + Sync>(
+fn work_all<R: Threads + Wait + Sync, O: Origin + Send, G: Gate + Sync>(
     rt: &R,
-    layer: &Layer,
+    layer: &Layer<O>,
     workers: &mut [Worker],
     gate: &G,
 )
@@ -179,10 +180,10 @@ fn work_all<R: Threads + Wait + Sync, G: Gate + Sync>(
     );
 }
 
-/// The workers, when all have worked.
-pub fn run<R: Threads + Wait + Sync, G: Gate + Sync>(
+/// Runs the workers, and returns them when all have worked.
+pub fn run<R: Threads + Wait + Sync, O: Origin + Send, G: Gate + Sync>(
     rt: &R,
-    layer: &Layer,
+    layer: &Layer<O>,
     mut workers: Vec<Worker>,
     gate: &G,
 ) -> Vec<Worker>

@@ -16,14 +16,14 @@ use Rattle.af_base.specs.Counts.{count_in, one}
 use Rattle.af_base.proofs.Elements.{Contains-first, Contains-later}
 use Rattle.af_base.proofs.Held.{count-cons, count-length}
 use Rattle.af_base.proofs.Lookups.{itself, some_is}
-use Rattle.af_ledger.specs.Kept.{CanDrop, CanDropAll, CanHold, CanHoldAll, Kept, charge_of, charged_by, count_of, dropped, dropped_all, freed_by, has_count, held, held_all, is_user, recharged}
+use Rattle.af_ledger.specs.Tally.{CanDrop, CanDropAll, CanHold, CanHoldAll, Tally, charge_of, charged_by, count_of, dropped, dropped_all, freed_by, has_count, held, held_all, is_user, recharged}
 use Rattle.af_ledger.specs.Counted.{uncounted}
 use Rattle.af_ledger.specs.declared.count.Count.{Count}
 use Rattle.af_ledger.specs.declared.place.Place.{Place}
 use Rattle.af_ledger.specs.declared.place.Place.TheVariants.{Queue}
 use Rattle.af_ledger.proofs.Laws.{charge-queued, charge-unqueued, counted-there, has-dropped, has-held, inflight-queued, inflight-unqueued, tabled-queued, tabled-unqueued, total-queued, total-unqueued, users-dropped, users-held, waiting-queued, waiting-unqueued}
 
--- Who is a user is one among the same users.
+-- The list of users stays a list of users.
 pub same-user : (u : ℕ) (us vs : List (ℕ × ℕ)) → keys_of vs ≡ keys_of us → IsTrue (is_user u us) → IsTrue (is_user u vs)
 same-user u us vs e h = subst (λ ks. IsTrue (list_any (nat_eq u) ks)) (sym e) h
 
@@ -42,57 +42,57 @@ pub one-itself : (f : ℕ) → one f f ≡ 1
 one-itself f = ap {B = ℕ} (λ b. cond b 1 0) (itself f)
 
 -- One more is held after the others.
-pub held-last : (p : Place) (fs : List ℕ) (f : ℕ) (k : Kept) → held_all p (fs ++ f ∷ []) k ≡ held p f (held_all p fs k)
+pub held-last : (p : Place) (fs : List ℕ) (f : ℕ) (k : Tally) → held_all p (fs ++ f ∷ []) k ≡ held p f (held_all p fs k)
 held-last p [] f k = refl
 held-last p (g ∷ fs) f k = held-last p fs f (held p g k)
 
 -- One more is dropped after the others.
-pub dropped-last : (p : Place) (fs : List ℕ) (f : ℕ) (k : Kept) → dropped_all p (fs ++ f ∷ []) k ≡ dropped p f (dropped_all p fs k)
+pub dropped-last : (p : Place) (fs : List ℕ) (f : ℕ) (k : Tally) → dropped_all p (fs ++ f ∷ []) k ≡ dropped p f (dropped_all p fs k)
 dropped-last p [] f k = refl
 dropped-last p (g ∷ fs) f k = dropped-last p fs f (dropped p g k)
 
 module _ (u : ℕ) where
   -- None has a number of a table more.
-  pub tabled-held_all : (g : ℕ) (fs : List ℕ) (k : Kept) → (count_of (held_all (Queue u) fs k) g).tabled ≡ (count_of k g).tabled
+  pub tabled-held_all : (g : ℕ) (fs : List ℕ) (k : Tally) → (count_of (held_all (Queue u) fs k) g).tabled ≡ (count_of k g).tabled
   tabled-held_all g [] k = refl
   tabled-held_all g (f ∷ fs) k = tabled-held_all g fs (held (Queue u) f k) ∙ tabled-queued u f g k
 
   -- Nor a place in a backlog more.
-  pub waiting-held_all : (g : ℕ) (fs : List ℕ) (k : Kept) → (count_of (held_all (Queue u) fs k) g).waiting ≡ (count_of k g).waiting
+  pub waiting-held_all : (g : ℕ) (fs : List ℕ) (k : Tally) → (count_of (held_all (Queue u) fs k) g).waiting ≡ (count_of k g).waiting
   waiting-held_all g [] k = refl
   waiting-held_all g (f ∷ fs) k = waiting-held_all g fs (held (Queue u) f k) ∙ waiting-queued u f g k
 
   -- Each has as many places more in flight.
-  pub inflight-held_all : (g : ℕ) (fs : List ℕ) (k : Kept) → (count_of (held_all (Queue u) fs k) g).inflight ≡ (count_of k g).inflight + count_in g fs
+  pub inflight-held_all : (g : ℕ) (fs : List ℕ) (k : Tally) → (count_of (held_all (Queue u) fs k) g).inflight ≡ (count_of k g).inflight + count_in g fs
   inflight-held_all g [] k = omega arith
   inflight-held_all g (f ∷ fs) k = omega (arith, inflight-held_all g fs (held (Queue u) f k), inflight-queued u f g k, count-cons g f fs)
 
   -- The users stay.
-  pub users-held_all : (fs : List ℕ) (k : Kept) → keys_of (held_all (Queue u) fs k).users ≡ keys_of k.users
+  pub users-held_all : (fs : List ℕ) (k : Tally) → keys_of (held_all (Queue u) fs k).users ≡ keys_of k.users
   users-held_all [] k = refl
   users-held_all (f ∷ fs) k = users-held_all fs (held (Queue u) f k) ∙ users-held (Queue u) f k
 
   -- The user is charged a unit for each, and nobody else is.
-  pub charge-held_all : (v : ℕ) (fs : List ℕ) (k : Kept) → IsTrue (is_user u k.users) → charge_of (held_all (Queue u) fs k) v ≡ charge_of k v + cond (nat_eq v u) (length fs) 0
+  pub charge-held_all : (v : ℕ) (fs : List ℕ) (k : Tally) → IsTrue (is_user u k.users) → charge_of (held_all (Queue u) fs k) v ≡ charge_of k v + cond (nat_eq v u) (length fs) 0
   charge-held_all v [] k there = omega (arith, charge-nothing (nat_eq v u))
   charge-held_all v (f ∷ fs) k there =
       let after = same-user u k.users (held (Queue u) f k).users (users-held (Queue u) f k) there in
       omega (arith, charge-held_all v fs (held (Queue u) f k) after, charge-queued u f v k there, charge-longer (nat_eq v u) f fs)
 
   -- All together are charged a unit for each.
-  pub total-held_all : (fs : List ℕ) (k : Kept) → (held_all (Queue u) fs k).total ≡ k.total + length fs
+  pub total-held_all : (fs : List ℕ) (k : Tally) → (held_all (Queue u) fs k).total ≡ k.total + length fs
   total-held_all [] k = omega arith
   total-held_all (f ∷ fs) k = omega (arith, total-held_all fs (held (Queue u) f k), total-queued u f k)
 
   -- The same files have numbers.
-  pub has-held_all : (g : ℕ) (fs : List ℕ) (k : Kept) → ((f : ℕ) → Contains fs f → IsTrue (has_count k f)) → has_count (held_all (Queue u) fs k) g ≡ has_count k g
+  pub has-held_all : (g : ℕ) (fs : List ℕ) (k : Tally) → ((f : ℕ) → Contains fs f → IsTrue (has_count k f)) → has_count (held_all (Queue u) fs k) g ≡ has_count k g
   has-held_all g [] k known = refl
   has-held_all g (f ∷ fs) k known =
       let first = known f (Contains-first f fs) in
       has-held_all g fs (held (Queue u) f k) (λ h c. has-held (Queue u) f h k first ∙ known h (Contains-later f fs h c)) ∙ has-held (Queue u) f g k first
 
   -- The next of several files can be held when those before are.
-  pub can-hold-next : (done rest : List ℕ) (f : ℕ) (k : Kept) → CanHoldAll u (done ++ f ∷ rest) k → length done < length (done ++ f ∷ rest) → ((g : ℕ) → Contains done g → IsTrue (has_count k g)) → CanHold (Queue u) f (held_all (Queue u) done k)
+  pub can-hold-next : (done rest : List ℕ) (f : ℕ) (k : Tally) → CanHoldAll u (done ++ f ∷ rest) k → length done < length (done ++ f ∷ rest) → ((g : ℕ) → Contains done g → IsTrue (has_count k g)) → CanHold (Queue u) f (held_all (Queue u) done k)
   can-hold-next done rest f k h short known =
       let places = h.countable f in
       let charges = h.charge in
@@ -105,8 +105,8 @@ module _ (u : ℕ) where
         ),
       )
 
-  -- What can be dropped when the first of several was.
-  can-drop-rest : (f : ℕ) (fs : List ℕ) (k : Kept) → CanDropAll u (f ∷ fs) k → (0 < (count_of k f).inflight) × (0 < charge_of k u) × (0 < k.total) × CanDropAll u fs (dropped (Queue u) f k)
+  -- The counts that can be lowered after the first of several was.
+  can-drop-rest : (f : ℕ) (fs : List ℕ) (k : Tally) → CanDropAll u (f ∷ fs) k → (0 < (count_of k f).inflight) × (0 < charge_of k u) × (0 < k.total) × CanDropAll u fs (dropped (Queue u) f k)
   can-drop-rest f fs k h =
       let counted = h.counted f in
       let charge = h.charge in
@@ -125,43 +125,43 @@ module _ (u : ℕ) where
       )
 
   -- None has a number of a table less.
-  pub tabled-dropped_all : (g : ℕ) (fs : List ℕ) (k : Kept) → (count_of (dropped_all (Queue u) fs k) g).tabled ≡ (count_of k g).tabled
+  pub tabled-dropped_all : (g : ℕ) (fs : List ℕ) (k : Tally) → (count_of (dropped_all (Queue u) fs k) g).tabled ≡ (count_of k g).tabled
   tabled-dropped_all g [] k = refl
   tabled-dropped_all g (f ∷ fs) k = tabled-dropped_all g fs (dropped (Queue u) f k) ∙ tabled-unqueued u f g k
 
   -- Nor a place in a backlog less.
-  pub waiting-dropped_all : (g : ℕ) (fs : List ℕ) (k : Kept) → (count_of (dropped_all (Queue u) fs k) g).waiting ≡ (count_of k g).waiting
+  pub waiting-dropped_all : (g : ℕ) (fs : List ℕ) (k : Tally) → (count_of (dropped_all (Queue u) fs k) g).waiting ≡ (count_of k g).waiting
   waiting-dropped_all g [] k = refl
   waiting-dropped_all g (f ∷ fs) k = waiting-dropped_all g fs (dropped (Queue u) f k) ∙ waiting-unqueued u f g k
 
   -- Each has as many places less in flight.
-  pub inflight-dropped_all : (g : ℕ) (fs : List ℕ) (k : Kept) → CanDropAll u fs k → (count_of (dropped_all (Queue u) fs k) g).inflight + count_in g fs ≡ (count_of k g).inflight
+  pub inflight-dropped_all : (g : ℕ) (fs : List ℕ) (k : Tally) → CanDropAll u fs k → (count_of (dropped_all (Queue u) fs k) g).inflight + count_in g fs ≡ (count_of k g).inflight
   inflight-dropped_all g [] k h = omega arith
   inflight-dropped_all g (f ∷ fs) k h =
       let rest = can-drop-rest f fs k h in
       omega (arith, inflight-dropped_all g fs (dropped (Queue u) f k) rest.3, inflight-unqueued u f g k rest.0, count-cons g f fs)
 
   -- The users stay.
-  pub users-dropped_all : (fs : List ℕ) (k : Kept) → keys_of (dropped_all (Queue u) fs k).users ≡ keys_of k.users
+  pub users-dropped_all : (fs : List ℕ) (k : Tally) → keys_of (dropped_all (Queue u) fs k).users ≡ keys_of k.users
   users-dropped_all [] k = refl
   users-dropped_all (f ∷ fs) k = users-dropped_all fs (dropped (Queue u) f k) ∙ users-dropped (Queue u) f k
 
   -- The user is charged a unit less for each, and nobody else is.
-  pub charge-dropped_all : (v : ℕ) (fs : List ℕ) (k : Kept) → CanDropAll u fs k → charge_of (dropped_all (Queue u) fs k) v + cond (nat_eq v u) (length fs) 0 ≡ charge_of k v
+  pub charge-dropped_all : (v : ℕ) (fs : List ℕ) (k : Tally) → CanDropAll u fs k → charge_of (dropped_all (Queue u) fs k) v + cond (nat_eq v u) (length fs) 0 ≡ charge_of k v
   charge-dropped_all v [] k h = omega (arith, charge-nothing (nat_eq v u))
   charge-dropped_all v (f ∷ fs) k h =
       let rest = can-drop-rest f fs k h in
       omega (arith, charge-dropped_all v fs (dropped (Queue u) f k) rest.3, charge-unqueued u f v k rest.1, charge-longer (nat_eq v u) f fs)
 
   -- All together are charged a unit less for each.
-  pub total-dropped_all : (fs : List ℕ) (k : Kept) → CanDropAll u fs k → (dropped_all (Queue u) fs k).total + length fs ≡ k.total
+  pub total-dropped_all : (fs : List ℕ) (k : Tally) → CanDropAll u fs k → (dropped_all (Queue u) fs k).total + length fs ≡ k.total
   total-dropped_all [] k h = omega arith
   total-dropped_all (f ∷ fs) k h =
       let rest = can-drop-rest f fs k h in
       omega (arith, total-dropped_all fs (dropped (Queue u) f k) rest.3, total-unqueued u f k rest.2)
 
   -- The same files have numbers.
-  pub has-dropped_all : (g : ℕ) (fs : List ℕ) (k : Kept) → CanDropAll u fs k → has_count (dropped_all (Queue u) fs k) g ≡ has_count k g
+  pub has-dropped_all : (g : ℕ) (fs : List ℕ) (k : Tally) → CanDropAll u fs k → has_count (dropped_all (Queue u) fs k) g ≡ has_count k g
   has-dropped_all g [] k h = refl
   has-dropped_all g (f ∷ fs) k h =
       let rest = can-drop-rest f fs k h in
@@ -169,7 +169,7 @@ module _ (u : ℕ) where
       has-dropped_all g fs (dropped (Queue u) f k) rest.3 ∙ has-dropped (Queue u) f g k (counted-there k f (omega (arith, some)))
 
   -- The next of several files can be dropped when those before are.
-  pub can-drop-next : (done rest : List ℕ) (f : ℕ) (k : Kept) → CanDropAll u (done ++ f ∷ rest) k → CanDrop (Queue u) f (dropped_all (Queue u) done k)
+  pub can-drop-next : (done rest : List ℕ) (f : ℕ) (k : Tally) → CanDropAll u (done ++ f ∷ rest) k → CanDrop (Queue u) f (dropped_all (Queue u) done k)
   can-drop-next [] rest f k h = let first = can-drop-rest f rest k h in (first.0, (first.1, first.2))
   can-drop-next (g ∷ done) rest f k h = can-drop-next done rest f (dropped (Queue u) g k) (can-drop-rest g (done ++ f ∷ rest) k h).3
 
@@ -182,7 +182,7 @@ module _ (u : ℕ) where
     at true same rest = ap (λ b. cond b ((e.0, w) ∷ es) ((e.0, v) ∷ set_value (nat_eq u) es w)) same
     at false apart rest = ap (λ b. cond b ((e.0, w) ∷ set_value (nat_eq u) es v) (e ∷ set_value (nat_eq u) (set_value (nat_eq u) es v) w)) apart ∙ ap (λ xs. e ∷ xs) rest
 
-  -- What was set is found.
+  -- A value that was set is found.
   set-found : (es : List (ℕ × ℕ)) (n v : ℕ) → lookup (nat_eq u) es ≡ Some n → lookup (nat_eq u) (set_value (nat_eq u) es v) ≡ Some v
   set-found es n v e = lookup-set_value nat_eq_equiv (nat_eq u) (λ x y same. ap (λ z. nat_eq z y) (eqb-true u x same)) u v es (some_is _ n e) ∙ ap (λ b. cond b (Some v) (lookup (nat_eq u) es)) (itself u)
 
@@ -205,7 +205,7 @@ module _ (u : ℕ) where
   recharged-by g h us same = λ i. recharged (λ n. same n i) u us
 
   -- Holding each of several files charges the user by their number, and leaves the rest but for the counts.
-  pub charged-held_all : (fs : List ℕ) (k : Kept) → record (charged_by (length fs) u k) { counts = (held_all (Queue u) fs k).counts } ≡ held_all (Queue u) fs k
+  pub charged-held_all : (fs : List ℕ) (k : Tally) → record (charged_by (length fs) u k) { counts = (held_all (Queue u) fs k).counts } ≡ held_all (Queue u) fs k
   charged-held_all [] k =
       let total : k.total + 0 ≡ k.total = omega arith in
       λ i. record k { users = recharged-same (λ n. n + 0) k.users (λ n. omega arith) i; total = total i }
@@ -216,7 +216,7 @@ module _ (u : ℕ) where
       (λ i. record k { counts = (held_all (Queue u) (f ∷ fs) k).counts; users = users i; total = total i }) ∙ charged-held_all fs (held (Queue u) f k)
 
   -- And dropping each frees as many.
-  pub freed-dropped_all : (fs : List ℕ) (k : Kept) → record (freed_by (length fs) u k) { counts = (dropped_all (Queue u) fs k).counts } ≡ dropped_all (Queue u) fs k
+  pub freed-dropped_all : (fs : List ℕ) (k : Tally) → record (freed_by (length fs) u k) { counts = (dropped_all (Queue u) fs k).counts } ≡ dropped_all (Queue u) fs k
   freed-dropped_all [] k =
       let total : k.total - 0 ≡ k.total = omega arith in
       λ i. record k { users = recharged-same (λ n. n - 0) k.users (λ n. omega arith) i; total = total i }
@@ -233,15 +233,15 @@ at-place xs i x low read =
     sym (take-append-drop i xs) ∙ ap (λ ys. take i xs ++ ys) rest
 
 -- One more is held than the first i.
-pub held-more : (p : Place) (xs : List ℕ) (i x : ℕ) (k : Kept) → i < length xs → x ≡ slice_index_or xs i x → held_all p (take (i + 1) xs) k ≡ held p x (held_all p (take i xs) k)
+pub held-more : (p : Place) (xs : List ℕ) (i x : ℕ) (k : Tally) → i < length xs → x ≡ slice_index_or xs i x → held_all p (take (i + 1) xs) k ≡ held p x (held_all p (take i xs) k)
 held-more p xs i x k low read = ap (λ ys. held_all p ys k) (take_more xs i x low ∙ ap (λ y. take i xs ++ y ∷ []) (sym read)) ∙ held-last p (take i xs) x k
 
 -- One more is dropped than the first i.
-pub dropped-more : (p : Place) (xs : List ℕ) (i x : ℕ) (k : Kept) → i < length xs → x ≡ slice_index_or xs i x → dropped_all p (take (i + 1) xs) k ≡ dropped p x (dropped_all p (take i xs) k)
+pub dropped-more : (p : Place) (xs : List ℕ) (i x : ℕ) (k : Tally) → i < length xs → x ≡ slice_index_or xs i x → dropped_all p (take (i + 1) xs) k ≡ dropped p x (dropped_all p (take i xs) k)
 dropped-more p xs i x k low read = ap (λ ys. dropped_all p ys k) (take_more xs i x low ∙ ap (λ y. take i xs ++ y ∷ []) (sym read)) ∙ dropped-last p (take i xs) x k
 
 -- The next is known and can be held when the first i are.
-pub hold-next : (u : ℕ) (xs : List ℕ) (i x : ℕ) (k : Kept) → CanHoldAll u xs k → i < length xs → x ≡ slice_index_or xs i x → IsTrue (has_count (held_all (Queue u) (take i xs) k) x) × CanHold (Queue u) x (held_all (Queue u) (take i xs) k)
+pub hold-next : (u : ℕ) (xs : List ℕ) (i x : ℕ) (k : Tally) → CanHoldAll u xs k → i < length xs → x ≡ slice_index_or xs i x → IsTrue (has_count (held_all (Queue u) (take i xs) k) x) × CanHold (Queue u) x (held_all (Queue u) (take i xs) k)
 hold-next u xs i x k h low read =
     let whole = at-place xs i x low read in
     let all : CanHoldAll u (take i xs ++ x ∷ drop (i + 1) xs) k = subst (λ ys. CanHoldAll u ys k) whole h in
@@ -251,5 +251,5 @@ hold-next u xs i x k h low read =
     )
 
 -- The next can be dropped when the first i are.
-pub drop-next : (u : ℕ) (xs : List ℕ) (i x : ℕ) (k : Kept) → CanDropAll u xs k → i < length xs → x ≡ slice_index_or xs i x → CanDrop (Queue u) x (dropped_all (Queue u) (take i xs) k)
+pub drop-next : (u : ℕ) (xs : List ℕ) (i x : ℕ) (k : Tally) → CanDropAll u xs k → i < length xs → x ≡ slice_index_or xs i x → CanDrop (Queue u) x (dropped_all (Queue u) (take i xs) k)
 drop-next u xs i x k h low read = can-drop-next u (take i xs) (drop (i + 1) xs) x k (subst (λ ys. CanDropAll u ys k) (at-place xs i x low read) h)

@@ -1,4 +1,4 @@
--- What a place more and a place less do to each number: the laws that a crate above cites.
+-- How each count changes with one place more or less: the laws that other crates cite.
 use Rattle.std.proofs.Common.{◌≡◌, ℕ, ◌+◌, ◌<◌, Bool, true, false, cond, List, ◌++◌, ◌∷◌, [], ◌-◌, refl, sym, ap, ◌∙◌, subst, arith, rules}
 use Rattle.std.specs.Prelude.{Option, Some, None, nat_eq, unwrap_or, is_some, IsSome, IsTrue, if◌then◌else◌}
 use Rattle.std.specs.Cmp.{nat_cmp_total, unsigned_tied, nat_eq_equiv}
@@ -14,7 +14,7 @@ use Rattle.std.proofs.lemmas.List.{map-append}
 use Rattle.af_base.specs.World.{Map}
 use Rattle.af_base.specs.Counts.{one}
 use Rattle.af_ledger.specs.Counted.{uncounted, places_in, more, fewer}
-use Rattle.af_ledger.specs.Kept.{Kept, count_in_map, count_of, has_count, refs_of, charge_in, charge_of, recharged, is_user, with_user, held, dropped}
+use Rattle.af_ledger.specs.Tally.{Tally, count_in_map, count_of, has_count, refs_of, charge_in, charge_of, recharged, is_user, with_user, held, dropped}
 use Rattle.af_ledger.specs.declared.count.Count.{Count}
 use Rattle.af_ledger.specs.declared.place.Place.{Place}
 use Rattle.af_ledger.specs.declared.place.Place.TheVariants.{Table, Queue, Backlog}
@@ -47,75 +47,75 @@ falls F m f g c h = ap (λ x. F x + one g f) (looked m f g c) ∙ by (nat_eq g f
   by false e = omega arith
 
 -- A number of a table more.
-pub tabled-tabled : (f g : ℕ) (k : Kept) → (count_of (held Table f k) g).tabled ≡ (count_of k g).tabled + one g f
+pub tabled-tabled : (f g : ℕ) (k : Tally) → (count_of (held Table f k) g).tabled ≡ (count_of k g).tabled + one g f
 tabled-tabled f g k = rises (λ c. c.tabled) k.counts f g (more Table (count_of k f)) refl
 
 -- A number of a table more is no place in a queue.
-pub inflight-tabled : (f g : ℕ) (k : Kept) → (count_of (held Table f k) g).inflight ≡ (count_of k g).inflight
+pub inflight-tabled : (f g : ℕ) (k : Tally) → (count_of (held Table f k) g).inflight ≡ (count_of k g).inflight
 inflight-tabled f g k = stays (λ c. c.inflight) k.counts f g (more Table (count_of k f)) refl
 
 -- Nor a place in a backlog.
-pub waiting-tabled : (f g : ℕ) (k : Kept) → (count_of (held Table f k) g).waiting ≡ (count_of k g).waiting
+pub waiting-tabled : (f g : ℕ) (k : Tally) → (count_of (held Table f k) g).waiting ≡ (count_of k g).waiting
 waiting-tabled f g k = stays (λ c. c.waiting) k.counts f g (more Table (count_of k f)) refl
 
 -- A place in a queue more is no number of a table.
-pub tabled-queued : (u f g : ℕ) (k : Kept) → (count_of (held (Queue u) f k) g).tabled ≡ (count_of k g).tabled
+pub tabled-queued : (u f g : ℕ) (k : Tally) → (count_of (held (Queue u) f k) g).tabled ≡ (count_of k g).tabled
 tabled-queued u f g k = stays (λ c. c.tabled) k.counts f g (more (Queue u) (count_of k f)) refl
 
 -- A place in a queue more.
-pub inflight-queued : (u f g : ℕ) (k : Kept) → (count_of (held (Queue u) f k) g).inflight ≡ (count_of k g).inflight + one g f
+pub inflight-queued : (u f g : ℕ) (k : Tally) → (count_of (held (Queue u) f k) g).inflight ≡ (count_of k g).inflight + one g f
 inflight-queued u f g k = rises (λ c. c.inflight) k.counts f g (more (Queue u) (count_of k f)) refl
 
 -- A place in a queue more is no place in a backlog.
-pub waiting-queued : (u f g : ℕ) (k : Kept) → (count_of (held (Queue u) f k) g).waiting ≡ (count_of k g).waiting
+pub waiting-queued : (u f g : ℕ) (k : Tally) → (count_of (held (Queue u) f k) g).waiting ≡ (count_of k g).waiting
 waiting-queued u f g k = stays (λ c. c.waiting) k.counts f g (more (Queue u) (count_of k f)) refl
 
 -- A place in a backlog more is no number of a table.
-pub tabled-backlogged : (f g : ℕ) (k : Kept) → (count_of (held Backlog f k) g).tabled ≡ (count_of k g).tabled
+pub tabled-backlogged : (f g : ℕ) (k : Tally) → (count_of (held Backlog f k) g).tabled ≡ (count_of k g).tabled
 tabled-backlogged f g k = stays (λ c. c.tabled) k.counts f g (more Backlog (count_of k f)) refl
 
 -- Nor a place in a queue.
-pub inflight-backlogged : (f g : ℕ) (k : Kept) → (count_of (held Backlog f k) g).inflight ≡ (count_of k g).inflight
+pub inflight-backlogged : (f g : ℕ) (k : Tally) → (count_of (held Backlog f k) g).inflight ≡ (count_of k g).inflight
 inflight-backlogged f g k = stays (λ c. c.inflight) k.counts f g (more Backlog (count_of k f)) refl
 
 -- A place in a backlog more.
-pub waiting-backlogged : (f g : ℕ) (k : Kept) → (count_of (held Backlog f k) g).waiting ≡ (count_of k g).waiting + one g f
+pub waiting-backlogged : (f g : ℕ) (k : Tally) → (count_of (held Backlog f k) g).waiting ≡ (count_of k g).waiting + one g f
 waiting-backlogged f g k = rises (λ c. c.waiting) k.counts f g (more Backlog (count_of k f)) refl
 
 -- A number of a table less.
-pub tabled-untabled : (f g : ℕ) (k : Kept) → 0 < (count_of k f).tabled → (count_of (dropped Table f k) g).tabled + one g f ≡ (count_of k g).tabled
+pub tabled-untabled : (f g : ℕ) (k : Tally) → 0 < (count_of k f).tabled → (count_of (dropped Table f k) g).tabled + one g f ≡ (count_of k g).tabled
 tabled-untabled f g k some = falls (λ c. c.tabled) k.counts f g (fewer Table (count_of k f)) (omega arith)
 
 -- A number of a table less is no place in a queue.
-pub inflight-untabled : (f g : ℕ) (k : Kept) → (count_of (dropped Table f k) g).inflight ≡ (count_of k g).inflight
+pub inflight-untabled : (f g : ℕ) (k : Tally) → (count_of (dropped Table f k) g).inflight ≡ (count_of k g).inflight
 inflight-untabled f g k = stays (λ c. c.inflight) k.counts f g (fewer Table (count_of k f)) refl
 
 -- Nor a place in a backlog.
-pub waiting-untabled : (f g : ℕ) (k : Kept) → (count_of (dropped Table f k) g).waiting ≡ (count_of k g).waiting
+pub waiting-untabled : (f g : ℕ) (k : Tally) → (count_of (dropped Table f k) g).waiting ≡ (count_of k g).waiting
 waiting-untabled f g k = stays (λ c. c.waiting) k.counts f g (fewer Table (count_of k f)) refl
 
 -- A place in a queue less is no number of a table.
-pub tabled-unqueued : (u f g : ℕ) (k : Kept) → (count_of (dropped (Queue u) f k) g).tabled ≡ (count_of k g).tabled
+pub tabled-unqueued : (u f g : ℕ) (k : Tally) → (count_of (dropped (Queue u) f k) g).tabled ≡ (count_of k g).tabled
 tabled-unqueued u f g k = stays (λ c. c.tabled) k.counts f g (fewer (Queue u) (count_of k f)) refl
 
 -- A place in a queue less.
-pub inflight-unqueued : (u f g : ℕ) (k : Kept) → 0 < (count_of k f).inflight → (count_of (dropped (Queue u) f k) g).inflight + one g f ≡ (count_of k g).inflight
+pub inflight-unqueued : (u f g : ℕ) (k : Tally) → 0 < (count_of k f).inflight → (count_of (dropped (Queue u) f k) g).inflight + one g f ≡ (count_of k g).inflight
 inflight-unqueued u f g k some = falls (λ c. c.inflight) k.counts f g (fewer (Queue u) (count_of k f)) (omega arith)
 
 -- A place in a queue less is no place in a backlog.
-pub waiting-unqueued : (u f g : ℕ) (k : Kept) → (count_of (dropped (Queue u) f k) g).waiting ≡ (count_of k g).waiting
+pub waiting-unqueued : (u f g : ℕ) (k : Tally) → (count_of (dropped (Queue u) f k) g).waiting ≡ (count_of k g).waiting
 waiting-unqueued u f g k = stays (λ c. c.waiting) k.counts f g (fewer (Queue u) (count_of k f)) refl
 
 -- A place in a backlog less is no number of a table.
-pub tabled-unbacklogged : (f g : ℕ) (k : Kept) → (count_of (dropped Backlog f k) g).tabled ≡ (count_of k g).tabled
+pub tabled-unbacklogged : (f g : ℕ) (k : Tally) → (count_of (dropped Backlog f k) g).tabled ≡ (count_of k g).tabled
 tabled-unbacklogged f g k = stays (λ c. c.tabled) k.counts f g (fewer Backlog (count_of k f)) refl
 
 -- Nor a place in a queue.
-pub inflight-unbacklogged : (f g : ℕ) (k : Kept) → (count_of (dropped Backlog f k) g).inflight ≡ (count_of k g).inflight
+pub inflight-unbacklogged : (f g : ℕ) (k : Tally) → (count_of (dropped Backlog f k) g).inflight ≡ (count_of k g).inflight
 inflight-unbacklogged f g k = stays (λ c. c.inflight) k.counts f g (fewer Backlog (count_of k f)) refl
 
 -- A place in a backlog less.
-pub waiting-unbacklogged : (f g : ℕ) (k : Kept) → 0 < (count_of k f).waiting → (count_of (dropped Backlog f k) g).waiting + one g f ≡ (count_of k g).waiting
+pub waiting-unbacklogged : (f g : ℕ) (k : Tally) → 0 < (count_of k f).waiting → (count_of (dropped Backlog f k) g).waiting + one g f ≡ (count_of k g).waiting
 waiting-unbacklogged f g k some = falls (λ c. c.waiting) k.counts f g (fewer Backlog (count_of k f)) (omega arith)
 
 charge_set : (us : List (ℕ × ℕ)) (u v n m : ℕ) → lookup (nat_eq u) us ≡ Some n → charge_in (set_value (nat_eq u) us m) v ≡ cond (nat_eq u v) m (charge_in us v)
@@ -126,7 +126,7 @@ charge_set us u v n m e =
       by false = refl
 
 -- A place in a queue more is a unit more to its user, and to no other.
-pub charge-queued : (u f v : ℕ) (k : Kept) → IsTrue (is_user u k.users) → charge_of (held (Queue u) f k) v ≡ charge_of k v + one v u
+pub charge-queued : (u f v : ℕ) (k : Tally) → IsTrue (is_user u k.users) → charge_of (held (Queue u) f k) v ≡ charge_of k v + one v u
 charge-queued u f v k there = by (lookup (nat_eq u) k.users) refl where
   by : (o : Option ℕ) → lookup (nat_eq u) k.users ≡ o → charge_in (option_map_or (λ n. set_value (nat_eq u) k.users (n + 1)) o k.users) v ≡ charge_of k v + one v u
   by None e = absurd (false≢true (subst IsTrue (sym (is_some-lookup (nat_eq u) k.users) ∙ ap is_some e) there))
@@ -136,7 +136,7 @@ charge-queued u f v k there = by (lookup (nat_eq u) k.users) refl where
     at false s = omega arith
 
 -- A place in a queue less is a unit less to its user, and to no other.
-pub charge-unqueued : (u f v : ℕ) (k : Kept) → 0 < charge_of k u → charge_of (dropped (Queue u) f k) v + one v u ≡ charge_of k v
+pub charge-unqueued : (u f v : ℕ) (k : Tally) → 0 < charge_of k u → charge_of (dropped (Queue u) f k) v + one v u ≡ charge_of k v
 charge-unqueued u f v k some = by (lookup (nat_eq u) k.users) refl where
   by : (o : Option ℕ) → lookup (nat_eq u) k.users ≡ o → charge_in (option_map_or (λ n. set_value (nat_eq u) k.users (n - 1)) o k.users) v + one v u ≡ charge_of k v
   by None e = let none : charge_of k u ≡ 0 = ap (λ o. unwrap_or o 0) e in absurd (omega arith)
@@ -147,11 +147,11 @@ charge-unqueued u f v k some = by (lookup (nat_eq u) k.users) refl where
         at is true s = let same : charge_of k v ≡ charge_of k u = ap (charge_of k) (eqb-true v u s) in omega arith
         at is false s = omega arith
 
--- All that is charged goes by places in queues.
-pub total-queued : (u f : ℕ) (k : Kept) → (held (Queue u) f k).total ≡ k.total + 1
+-- The total charge is the number of places in queues.
+pub total-queued : (u f : ℕ) (k : Tally) → (held (Queue u) f k).total ≡ k.total + 1
 total-queued u f k = refl
 
-pub total-unqueued : (u f : ℕ) (k : Kept) → 0 < k.total → (dropped (Queue u) f k).total + 1 ≡ k.total
+pub total-unqueued : (u f : ℕ) (k : Tally) → 0 < k.total → (dropped (Queue u) f k).total + 1 ≡ k.total
 total-unqueued u f k some = omega arith
 
 keys-recharged : (g : ℕ → ℕ) (u : ℕ) (us : List (ℕ × ℕ)) → keys_of (recharged g u us) ≡ keys_of us
@@ -161,17 +161,17 @@ keys-recharged g u us = by (lookup (nat_eq u) us) where
   by (Some n) = keys-set_value (nat_eq u) us (g n)
 
 -- The users stay, and their order.
-pub users-held : (p : Place) (f : ℕ) (k : Kept) → keys_of (held p f k).users ≡ keys_of k.users
+pub users-held : (p : Place) (f : ℕ) (k : Tally) → keys_of (held p f k).users ≡ keys_of k.users
 users-held Table f k = refl
 users-held (Queue u) f k = keys-recharged (λ n. n + 1) u k.users
 users-held Backlog f k = refl
 
-pub users-dropped : (p : Place) (f : ℕ) (k : Kept) → keys_of (dropped p f k).users ≡ keys_of k.users
+pub users-dropped : (p : Place) (f : ℕ) (k : Tally) → keys_of (dropped p f k).users ≡ keys_of k.users
 users-dropped Table f k = refl
 users-dropped (Queue u) f k = keys-recharged (λ n. n - 1) u k.users
 users-dropped Backlog f k = refl
 
--- A user more goes last, if it is new.
+-- A new user is added at the end.
 pub users-added : (u : ℕ) (us : List (ℕ × ℕ)) → keys_of (with_user u us) ≡ (if list_any (nat_eq u) (keys_of us) then keys_of us else keys_of us ++ u ∷ [])
 users-added u us = by (is_user u us) where
   by : (b : Bool) → keys_of (cond b us (us ++ (u, 0) ∷ [])) ≡ cond b (keys_of us) (keys_of us ++ u ∷ [])
@@ -189,14 +189,14 @@ charge_last (e ∷ us) u v = by (nat_eq v e.0) (charge_last us u v) where
   by false h = h
 
 -- And is charged nothing yet; the others are charged as before.
-pub charge-added : (u v : ℕ) (k : Kept) → charge_of (record k { users = with_user u k.users }) v ≡ charge_of k v
+pub charge-added : (u v : ℕ) (k : Tally) → charge_of (record k { users = with_user u k.users }) v ≡ charge_of k v
 charge-added u v k = by (is_user u k.users) where
   by : (b : Bool) → charge_in (cond b k.users (k.users ++ (u, 0) ∷ [])) v ≡ charge_of k v
   by true = refl
   by false = charge_last k.users u v
 
 -- The numbers of f are kept where there is one.
-pub counted-there : (k : Kept) (f : ℕ) → 0 < refs_of k f → IsTrue (has_count k f)
+pub counted-there : (k : Tally) (f : ℕ) → 0 < refs_of k f → IsTrue (has_count k f)
 counted-there k f = by (map.get k.counts f) where
   by : (o : Option Count) → 0 < places_in (unwrap_or o uncounted) → is_some o ≡ true
   by (Some c) h = refl
@@ -210,19 +210,19 @@ has-change m f g c there = ap is_some (get-insert nat_cmp_total m f c g ∙ ap (
   by false e = refl
 
 -- A place more changes nothing of whose numbers are kept.
-pub has-held : (p : Place) (f g : ℕ) (k : Kept) → IsTrue (has_count k f) → has_count (held p f k) g ≡ has_count k g
+pub has-held : (p : Place) (f g : ℕ) (k : Tally) → IsTrue (has_count k f) → has_count (held p f k) g ≡ has_count k g
 has-held Table f g k there = has-change k.counts f g _ there
 has-held (Queue u) f g k there = has-change k.counts f g _ there
 has-held Backlog f g k there = has-change k.counts f g _ there
 
 -- Nor does a place less.
-pub has-dropped : (p : Place) (f g : ℕ) (k : Kept) → IsTrue (has_count k f) → has_count (dropped p f k) g ≡ has_count k g
+pub has-dropped : (p : Place) (f g : ℕ) (k : Tally) → IsTrue (has_count k f) → has_count (dropped p f k) g ≡ has_count k g
 has-dropped Table f g k there = has-change k.counts f g _ there
 has-dropped (Queue u) f g k there = has-change k.counts f g _ there
 has-dropped Backlog f g k there = has-change k.counts f g _ there
 
--- What a number is when f is entered: none had it before.
-pub count-entered : (k : Kept) (f g : ℕ) → has_count k f ≡ false → count_of (record k { counts = map.insert k.counts f uncounted }) g ≡ count_of k g
+-- The counts after f is entered: it had none before.
+pub count-entered : (k : Tally) (f g : ℕ) → has_count k f ≡ false → count_of (record k { counts = map.insert k.counts f uncounted }) g ≡ count_of k g
 count-entered k f g new = looked k.counts f g uncounted ∙ by (nat_eq g f) refl where
   stranger : (o : Option Count) → is_some o ≡ false → unwrap_or o uncounted ≡ uncounted
   stranger None e = refl
@@ -232,15 +232,15 @@ count-entered k f g new = looked k.counts f g uncounted ∙ by (nat_eq g f) refl
   by true e = sym (ap (count_of k) (eqb-true g f e) ∙ stranger (map.get k.counts f) new)
   by false e = refl
 
--- Whose numbers are kept when f is entered.
-pub has-entered : (k : Kept) (f g : ℕ) → has_count (record k { counts = map.insert k.counts f uncounted }) g ≡ cond (nat_eq g f) true (has_count k g)
+-- The files whose counts are kept after f is entered.
+pub has-entered : (k : Tally) (f g : ℕ) → has_count (record k { counts = map.insert k.counts f uncounted }) g ≡ cond (nat_eq g f) true (has_count k g)
 has-entered k f g = ap is_some (get-insert nat_cmp_total k.counts f uncounted g ∙ ap (λ b. cond b (Some uncounted) (map.get k.counts g)) (unsigned_tied g f)) ∙ by (nat_eq g f) where
   by : (b : Bool) → is_some (cond b (Some uncounted) (map.get k.counts g)) ≡ cond b true (has_count k g)
   by true = refl
   by false = refl
 
--- What a number is when f, which has no place, is struck out.
-pub count-struck : (k : Kept) (f g : ℕ) → refs_of k f ≡ 0 → count_of (record k { counts = map.remove k.counts f }) g ≡ count_of k g
+-- The counts after f, which has no place, is removed.
+pub count-struck : (k : Tally) (f g : ℕ) → refs_of k f ≡ 0 → count_of (record k { counts = map.remove k.counts f }) g ≡ count_of k g
 count-struck k f g none = ap (λ o. unwrap_or o uncounted) (get-remove nat_cmp_total k.counts f g ∙ ap (λ b. cond b None (map.get k.counts g)) (unsigned_tied g f)) ∙ by (nat_eq g f) refl where
   bare : (c : Count) → places_in c ≡ 0 → uncounted ≡ c
   bare c e =
@@ -253,8 +253,8 @@ count-struck k f g none = ap (λ o. unwrap_or o uncounted) (get-remove nat_cmp_t
   by true e = bare (count_of k f) none ∙ sym (ap (count_of k) (eqb-true g f e))
   by false e = refl
 
--- Whose numbers are kept when f is struck out.
-pub has-struck : (k : Kept) (f g : ℕ) → has_count (record k { counts = map.remove k.counts f }) g ≡ cond (nat_eq g f) false (has_count k g)
+-- The files whose counts are kept after f is removed.
+pub has-struck : (k : Tally) (f g : ℕ) → has_count (record k { counts = map.remove k.counts f }) g ≡ cond (nat_eq g f) false (has_count k g)
 has-struck k f g = ap is_some (get-remove nat_cmp_total k.counts f g ∙ ap (λ b. cond b None (map.get k.counts g)) (unsigned_tied g f)) ∙ by (nat_eq g f) where
   by : (b : Bool) → is_some (cond b None (map.get k.counts g)) ≡ cond b false (has_count k g)
   by true = refl

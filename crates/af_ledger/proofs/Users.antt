@@ -1,4 +1,4 @@
--- What changes of the hash map of the users do to their list.
+-- How the list of users changes with the hash map.
 use Rattle.std.proofs.Common.{◌≡◌, ℕ, ◌+◌, ◌-◌, ◌≤◌, Bool, true, false, ◌||◌, List, [], ◌∷◌, ◌++◌, refl, sym, ap, ◌∙◌, subst, cond}
 use Rattle.std.specs.Prelude.{Some, None, nat_eq, unwrap_or, is_some, IsTrue}
 use Rattle.std.specs.List.{list_any}
@@ -10,7 +10,7 @@ use Rattle.indexmap.specs.IndexMap.{IndexMap, get, insert_entry}
 use Rattle.indexmap.proofs.CallerLemmas.{insert_entry-new}
 use Rattle.std.proofs.lemmas.Map.Made.{is_some-lookup}
 use Rattle.af_base.proofs.Lookups.{itself}
-use Rattle.af_ledger.specs.Kept.{recharged, is_user, with_user}
+use Rattle.af_ledger.specs.Tally.{recharged, is_user, with_user}
 use Rattle.af_ledger.proofs.Laws.{users-added}
 
 -- A charge that was looked up is low where the user's is.
@@ -29,11 +29,11 @@ raised us new u n units e h = h ∙ ap (λ o. option_map_or (λ n. set_value (na
 pub lowered : (us new : List (ℕ × ℕ)) (u n units : ℕ) → Some n ≡ lookup (nat_eq u) us → new ≡ set_value (nat_eq u) us (n - units) → new ≡ recharged (λ n. n - units) u us
 lowered us new u n units e h = h ∙ ap (λ o. option_map_or (λ n. set_value (nat_eq u) us (n - units)) o us) e
 
--- A stranger's charge is not changed.
+-- The charge of an unknown user does not change.
 pub stays : (g : ℕ → ℕ) (us : List (ℕ × ℕ)) (u : ℕ) → lookup (nat_eq u) us ≡ None → us ≡ recharged g u us
 stays g us u e = ap (λ o. option_map_or (λ n. set_value (nat_eq u) us (g n)) o us) (sym e)
 
--- Who is looked up is a user.
+-- A user that a look-up finds is in the list.
 pub user_found : (us : List (ℕ × ℕ)) (u : ℕ) (b : Bool) → is_some (lookup (nat_eq u) us) ≡ b → is_user u us ≡ b
 user_found us u b e = sym (is_some-lookup (nat_eq u) us) ∙ e
 
@@ -41,22 +41,22 @@ user_found us u b e = sym (is_some-lookup (nat_eq u) us) ∙ e
 pub user_kept : (us : List (ℕ × ℕ)) (u : ℕ) → is_some (lookup (nat_eq u) us) ≡ true → us ≡ with_user u us
 user_kept us u e = ap (λ b. cond b us (us ++ (u, 0) ∷ [])) (sym (user_found us u true e))
 
--- A new user goes last.
+-- A new user is added at the end.
 pub user_added : {S : Type 0} (m : IndexMap ℕ ℕ S) (new : List (ℕ × ℕ)) (u : ℕ) → get nat_eq m u ≡ None → new ≡ insert_entry nat_eq m.entries u 0 → new ≡ with_user u m.entries
 user_added m new u none e =
     e ∙ insert_entry-new nat_eq m u 0 none ∙ ap (λ b. cond b m.entries (m.entries ++ (u, 0) ∷ [])) (sym (user_found m.entries u false (ap is_some none)))
 
--- What changes of the hash map do to the list.
+-- The list after changes of the hash map.
 pub ruleset user_changes = (found_below, found_above, raised, lowered, stays, user_kept, user_added)
 
--- Who is a user is one where a user is added.
+-- A known user stays one when another is added.
 pub user-stays : (u v : ℕ) (us : List (ℕ × ℕ)) → IsTrue (is_user u us) → IsTrue (is_user u (with_user v us))
 user-stays u v us h = ap (list_any (nat_eq u)) (users-added v us) ∙ by (list_any (nat_eq v) (keys_of us)) where
   by : (b : Bool) → list_any (nat_eq u) (cond b (keys_of us) (keys_of us ++ v ∷ [])) ≡ true
   by true = h
   by false = list_any-append (nat_eq u) (keys_of us) (v ∷ []) ∙ ap (λ b. b || list_any (nat_eq u) (v ∷ [])) h
 
--- Who is added is a user.
+-- An added user is known.
 pub user-added : (u : ℕ) (us : List (ℕ × ℕ)) → IsTrue (is_user u (with_user u us))
 user-added u us = ap (list_any (nat_eq u)) (users-added u us) ∙ by (list_any (nat_eq u) (keys_of us)) refl where
   by : (b : Bool) → list_any (nat_eq u) (keys_of us) ≡ b → list_any (nat_eq u) (cond b (keys_of us) (keys_of us ++ u ∷ [])) ≡ true

@@ -9,19 +9,19 @@ use Rattle.af_base.specs.World.{Map}
 use Rattle.af_base.proofs.Just.{just-pushed, just-same, just-struck}
 use Rattle.af_base.proofs.Lookups.{not_same, told_apart}
 use Rattle.af_ledger.specs.Counted.{IsCounted, fewer, more, places_in, uncounted}
-use Rattle.af_ledger.specs.Kept.{AreWaiting, count_in_map, is_waiting}
+use Rattle.af_ledger.specs.Tally.{AreWaiting, count_in_map, is_waiting}
 use Rattle.af_ledger.specs.declared.count.Count.{Count}
 use Rattle.af_ledger.specs.declared.place.Place.{Place}
 use Rattle.af_ledger.specs.declared.place.Place.TheVariants.{Backlog, Queue, Table}
 
--- Who has a place does not wait.
+-- A file with a place is not unreferenced.
 pub not-waiting : (m : Map Count) (k : ℕ) → nat_eq (places_in (count_in_map m k)) 0 ≡ false → is_waiting m k ≡ false
 not-waiting m k = by (map.get m k) where
   by : (o : Option Count) → nat_eq (places_in (unwrap_or o uncounted)) 0 ≡ false → option_map_or (λ c. nat_eq (places_in c) 0) o false ≡ false
   by (Some c) e = e
   by None e = refl
 
--- Who has a place more has one.
+-- A file with one place more has a place.
 more-some : (p : Place) (c : Count) → nat_eq (places_in (more p c)) 0 ≡ false
 more-some Table c = told_apart (c.tabled + 1 + c.inflight + c.waiting) 0 (λ e. omega (arith, e))
 more-some (Queue u) c = told_apart (c.tabled + (c.inflight + 1) + c.waiting) 0 (λ e. omega (arith, e))
@@ -34,7 +34,7 @@ fewer-one (Queue u) c h = omega arith
 fewer-one Backlog c h = omega arith
 
 module _ (m n : Map Count) (fs : List ℕ) (k : ℕ) (h : AreWaiting m fs) where
-  -- A stranger that is entered waits, and there is room for it.
+  -- An unknown file that is entered is unreferenced, and there is room for it.
   pub entered-pushed : n ≡ map.insert m k uncounted → map.contains_key m k ≡ false → AreWaiting n (fs ++ k ∷ []) × (length fs < map.len n)
   entered-pushed is new = just-pushed (λ c. nat_eq (places_in c) 0) m n fs k h uncounted is refl (by (map.get m k) new) where
     by : (o : Option Count) → is_some o ≡ false → option_map_or (λ c. nat_eq (places_in c) 0) o false ≡ false
@@ -43,7 +43,7 @@ module _ (m n : Map Count) (fs : List ℕ) (k : ℕ) (h : AreWaiting m fs) where
 
   module _ (p : Place) where
     module _ (is : n ≡ map.insert m k (more p (count_in_map m k))) where
-      -- With its first place a file waits no more.
+      -- With its first place a file is no longer unreferenced.
       pub raised-off : (gs : List ℕ) → ((f : ℕ) → count_in f gs ≡ count_in f fs - one f k) → AreWaiting n gs
       raised-off gs = just-struck (λ c. nat_eq (places_in c) 0) m n fs k h (more p (count_in_map m k)) is gs (more-some p (count_in_map m k))
 
@@ -68,11 +68,11 @@ module _ (m n : Map Count) (fs : List ℕ) (k : ℕ) (h : AreWaiting m fs) where
       lowered-pushed last = just-pushed (λ c. nat_eq (places_in c) 0) m n fs k h (fewer p (count_in_map m k)) is
           (eq-eqb (places_in (fewer p (count_in_map m k))) 0 (omega (arith, one-less, eqb-true (places_in (count_in_map m k)) 1 last))) had
 
--- The numbers of a file that stands in the map.
+-- The counts of a file of the map.
 pub counted-here : (m : Map Count) (f : ℕ) (c : Count) → map.get m f ≡ Some c → count_in_map m f ≡ c
 counted-here m f c at = ap (λ o. unwrap_or o uncounted) at
 
--- Who has a place has numbers.
+-- A file with a place has counts.
 pub counted-known : (p : Place) (m : Map Count) (f : ℕ) → IsCounted p (count_in_map m f) → IsSome (map.get m f)
 counted-known p m f = by p (map.get m f) where
   by : (p : Place) (o : Option Count) → IsCounted p (unwrap_or o uncounted) → IsSome o

@@ -1,4 +1,4 @@
--- What a ledger keeps, and how a place more or less changes it.
+-- The content of a ledger, and how one place more or less changes it.
 pub mod Counted
-pub mod Kept
+pub mod Tally
 pub mod Sending

@@ -1,4 +1,4 @@
-//! What is kept of one file.
+//! The counts of one file.
 ghost use Rattle.std.specs.Prelude.{◌≡◌, ◌+◌, nat_eq};
 ghost use Rattle.af_ledger.specs.Counted.{uncounted, more, fewer, places_in, IsCountable, IsCounted};
 
@@ -8,7 +8,7 @@ use crate::place::Place;
 /// 2^31 places at once, so that the numbers are short.
 #[derive(Clone, Copy, Debug, PartialEq, Eq)]
 pub struct Count {
-    /// Numbers of tables that stand for it.
+    /// The number of descriptors that refer to it.
     pub tabled: u32,
     /// Places in queues that hold it.
     pub inflight: u32,
@@ -17,7 +17,7 @@ pub struct Count {
 }
 
 impl Count {
-    /// No place.
+    /// Returns the counts of a file without places.
     #[inline(always)]
     pub fn none() -> Count
         ensures { result ≡ uncounted }
@@ -29,7 +29,7 @@ impl Count {
         }
     }
 
-    /// All places.
+    /// Returns the number of all places.
     #[inline(always)]
     pub fn places(self) -> u64
         ensures { result ≡ places_in self }
@@ -37,7 +37,7 @@ impl Count {
         u64::from(self.tabled) + u64::from(self.inflight) + u64::from(self.waiting)
     }
 
-    /// Whether there is no place.
+    /// Returns whether there is no place.
     #[inline(always)]
     pub fn is_none(self) -> bool
         ensures { result ≡ nat_eq (places_in self) 0 }
@@ -45,7 +45,7 @@ impl Count {
         self.tabled == 0 && self.inflight == 0 && self.waiting == 0
     }
 
-    /// One place more.
+    /// Adds one place.
     #[inline(always)]
     pub fn add(&mut self, place: &Place)
         requires { IsCountable place.now self.old }
@@ -58,7 +58,7 @@ impl Count {
         }
     }
 
-    /// One place less.
+    /// Removes one place.
     #[inline(always)]
     pub fn sub(&mut self, place: &Place)
         requires { IsCounted place.now self.old }

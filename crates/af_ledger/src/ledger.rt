@@ -1,7 +1,7 @@
-//! What users are charged.
+//! The charges of users.
 ghost use Rattle.std.specs.Prelude.{◌≡◌, ℕ, ◌+◌, ◌≤◌, ◌-◌, ◌^◌, [], None, Some, IsTrue, IsOk, IfErr, OnOk, OnErr, length, slice_get};
 ghost use Rattle.std.specs.Map.{keys_of};
-ghost use Rattle.af_ledger.specs.Kept.{charge_in, is_user, recharged, with_user};
+ghost use Rattle.af_ledger.specs.Tally.{charge_in, is_user, recharged, with_user};
 ghost use Rattle.af_ledger.specs.Sending.{send_refusal};
 
 use af_base::errno::Errno;
@@ -21,7 +21,7 @@ pub struct Ledger {
 
 impl Model for Ledger {
     ghost use Rattle.std.specs.Coded.{codes};
-    ghost use Rattle.af_ledger.specs.Kept.{Charged};
+    ghost use Rattle.af_ledger.specs.Tally.{Charged};
 
     ghost Value = { Charged };
 
@@ -31,7 +31,7 @@ impl Model for Ledger {
 }
 
 impl Ledger {
-    /// No user. It takes no memory.
+    /// Makes a ledger without users. Takes no memory.
     pub fn new(alloc: Global) -> Ledger
         ensures users { result.users ≡ [] }
         ensures total { result.total ≡ 0 }
@@ -42,28 +42,29 @@ impl Ledger {
         }
     }
 
-    /// What a user is charged: one unit for each place in a queue. A stranger is charged nothing.
+    /// Returns the charge of a user: one unit for each place in a queue, and 0 for an unknown user.
     pub fn charged(&self, uid: Uid) -> u64
         ensures { result ≡ charge_in self.now.users uid }
     {
         self.users.get(&uid).copied().unwrap_or(0)
     }
 
-    /// What all users together are charged, in the same units.
+    /// Returns the charge of all users together, in the same units.
     pub fn total(&self) -> u64
         ensures { result ≡ self.now.total }
     {
         self.total
     }
 
-    /// How many users there are.
+    /// Returns how many users there are.
     pub fn users(&self) -> usize
         ensures { result ≡ length (keys_of self.now.users) }
     {
         self.users.len()
     }
 
-    /// The i-th user, counted from 0 in the order in which they came, if there are so many.
+    /// Returns the i-th user, counted from 0 in the order in which they were added, if there is
+    /// one.
     pub fn user_at(&self, i: usize) -> Option<Uid>
         ensures { result ≡ slice_get (keys_of self.now.users) i }
     {
@@ -71,10 +72,10 @@ impl Ledger {
         Some(*uid)
     }
 
-    /// Whether a user may send so many files by a process of this limit and privilege. It is refused
-    /// with ETOOMANYREFS where the user, without privilege, is charged more than the limit already,
-    /// and else with ENOBUFS where there would be too many in flight (unix(7)). A message without
-    /// files is never ETOOMANYREFS.
+    /// Returns whether a user may send this many files by a process of this limit and privilege.
+    /// Fails with ETOOMANYREFS if the user, without privilege, is charged more than the limit
+    /// already, and else with ENOBUFS if too many would be in flight (unix(7)). A message without
+    /// files never fails with ETOOMANYREFS.
     pub fn may_send(
         &self,
         uid: Uid,
@@ -94,8 +95,8 @@ impl Ledger {
         Ok(())
     }
 
-    /// A user, last if it is new, and then charged nothing. A user that is there needs no memory.
-    /// On an error nothing has changed.
+    /// Adds a user at the end, with no charge, if it is new. A known user needs no memory. On an
+    /// error nothing has changed.
     #[tactic(auto, using(crate::proofs::Users::user_changes))]
     pub fn add_user(&mut self, uid: Uid) -> Result<(), AllocError>
         ensures ok { OnOk result (self.new ≡ record self.old { users = with_user uid self.old.users }) }
@@ -109,7 +110,7 @@ impl Ledger {
         Ok(())
     }
 
-    /// So many units of charge more for a user who was added. It takes no memory.
+    /// Raises the charge of a known user by this many units. Takes no memory.
     #[inline(always)]
     #[tactic(auto, using(crate::proofs::Users::user_changes))]
     pub fn charge(&mut self, uid: Uid, units: u64)
@@ -124,10 +125,10 @@ impl Ledger {
         *charge += units;
     }
 
-    /// So many units of charge less for a user, who is charged so many. It takes no memory.
+    /// Lowers the charge of a user by this many units, which it has. Takes no memory.
     #[inline(always)]
     #[tactic(auto, using(crate::proofs::Users::user_changes))]
-    pub fn free(&mut self, uid: Uid, units: u64)
+    pub fn uncharge(&mut self, uid: Uid, units: u64)
         requires charge { units ≤ charge_in self.old.users uid }
         requires total { units ≤ self.old.total }
         ensures { self.new ≡ record { users = recharged (λ n. n - units) uid self.old.users; total = self.old.total - units } }

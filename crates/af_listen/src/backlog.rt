@@ -27,7 +27,7 @@ impl Model for Backlog {
 }
 
 impl Backlog {
-    /// Nobody waits yet, and at most so many ever will (listen(2)). This takes all the memory that
+    /// Makes an empty backlog for at most this many embryos (listen(2)). Takes all the memory that
     /// it ever needs.
     pub fn new(alloc: Global, most: u32) -> Result<Backlog, AllocError>
         ensures { IfOk result (λ b. b ≡ record { waiting = []; most = most }) }
@@ -36,7 +36,7 @@ impl Backlog {
         Ok(Backlog { waiting, most })
     }
 
-    /// Nobody waits, and nobody ever will. It takes no memory.
+    /// Makes a backlog of 0. Takes no memory.
     pub fn none(alloc: Global) -> Backlog
         ensures { result ≡ record { waiting = []; most = 0 } }
     {
@@ -46,7 +46,7 @@ impl Backlog {
         }
     }
 
-    /// How many wait.
+    /// Returns how many embryos wait.
     pub fn len(&self) -> usize
         ensures value { result ≡ length self.now.waiting }
         ensures bound { result ≤ self.now.most }
@@ -54,14 +54,14 @@ impl Backlog {
         self.waiting.len()
     }
 
-    /// How many may wait.
+    /// Returns how many embryos may wait.
     pub fn most(&self) -> u32
         ensures { result ≡ self.now.most }
     {
         self.most
     }
 
-    /// All who wait, in order.
+    /// Returns all embryos, in order.
     pub fn files(&self) -> &VecDeque<FileRef>
         ensures value { result.now.items ≡ self.now.waiting }
         ensures bound { length result.now.items ≤ self.now.most }
@@ -69,7 +69,7 @@ impl Backlog {
         &self.waiting
     }
 
-    /// Who waits longest.
+    /// Returns the embryo that waits longest.
     pub fn first(&self) -> Option<&FileRef>
         ensures some { IfSome result (λ f. slice_get self.now.waiting 0 ≡ Some f.now) }
         ensures none { IfNone result (self.now.waiting ≡ []) }
@@ -77,7 +77,7 @@ impl Backlog {
         self.waiting.front()
     }
 
-    /// One more waits, last. It takes no memory.
+    /// Appends an embryo. Takes no memory.
     pub fn enqueue(&mut self, file: FileRef)
         requires room { length self.old.waiting < self.old.most }
         ensures waiting { self.new.waiting ≡ self.old.waiting ++ file ∷ [] }
@@ -86,7 +86,7 @@ impl Backlog {
         self.waiting.push_back_reserved(file);
     }
 
-    /// Who waits longest waits no more, if somebody waits. It takes no memory, and leaves room for
+    /// Removes the embryo that waits longest, if there is one. Takes no memory, and leaves room for
     /// another.
     pub fn dequeue(&mut self) -> Option<FileRef>
         ensures some { IfSome result (λ f. self.old.waiting ≡ f ∷ drop 1 self.old.waiting) }

@@ -1,5 +1,5 @@
-//! What listeners need: who has which name, and the embryos that wait to be accepted (unix(7),
-//! listen(2)).
+//! Names and backlogs of listeners: which socket has which name, and the embryos to be accepted
+//! (unix(7), listen(2)).
 #![tactic(auto)]
 
 mod backlog;

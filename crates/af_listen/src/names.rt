@@ -2,7 +2,6 @@
 ghost use Rattle.std.specs.Prelude.{◌≡◌, None, OnOk, OnErr};
 ghost use Rattle.std.specs.FinMap as map;
 
-use af_base::items::Items;
 use af_base::names::FileRef;
 use indexmap::IndexMap;
 use std::alloc::{AllocError, Global};
@@ -11,23 +10,23 @@ use std::marker::Model;
 /// Which file has which name.
 #[derive(Drop)]
 pub struct Names {
-    files: IndexMap<Items<u8>, FileRef>,
+    files: IndexMap<Vec<u8>, FileRef>,
 }
 
 impl Model for Names {
     ghost use Rattle.std.specs.FinMap as map;
     ghost use Rattle.std.specs.Coded.{codes};
-    ghost use Rattle.af_listen.specs.Named.{Named};
+    ghost use Rattle.af_listen.specs.Named.{Named, named};
 
     ghost Value = { Named };
 
     ghost coded = { Prim.hlevel (codes, map.code) };
 
-    ghost view = { λ a. map.from_entries a.files.entries };
+    ghost view = { λ a. named a.files.entries };
 }
 
 impl Names {
-    /// No name. It takes no memory.
+    /// Makes an empty set of names. Takes no memory.
     pub fn new(alloc: Global) -> Names
         ensures { result ≡ map.empty }
     {
@@ -36,29 +35,29 @@ impl Names {
         }
     }
 
-    /// The file that has the name, if there is one.
+    /// Returns the file that has the name, if there is one.
     #[tactic(auto, using(crate::proofs::Named::name_changes))]
-    pub fn find(&self, name: &Items<u8>) -> Option<FileRef>
+    pub fn find(&self, name: &[u8]) -> Option<FileRef>
         ensures { result ≡ map.get self.now name.now }
     {
         let file = self.files.get(name)?;
-        Some(file.again())
+        Some(file.duplicate())
     }
 
-    /// The file has the name, which was nobody's. On an error nothing has changed.
+    /// Gives the file the name, which is free. On an error nothing has changed.
     #[tactic(auto, using(crate::proofs::Named::name_changes))]
-    pub fn bind(&mut self, name: Items<u8>, file: FileRef) -> Result<(), AllocError>
-        requires free { map.get self.old name ≡ None }
-        ensures ok { OnOk result (self.new ≡ map.insert self.old name file) }
+    pub fn bind(&mut self, name: Vec<u8>, file: FileRef) -> Result<(), AllocError>
+        requires free { map.get self.old name.items ≡ None }
+        ensures ok { OnOk result (self.new ≡ map.insert self.old name.items file) }
         ensures err { OnErr result (self.new ≡ self.old) }
     {
         self.files.insert(name, file)?;
         Ok(())
     }
 
-    /// The name is nobody's from now on; nothing changes where it was so before. It takes no memory.
+    /// Frees the name; nothing changes if it is free. Takes no memory.
     #[tactic(auto, using(crate::proofs::Named::name_changes))]
-    pub fn unbind(&mut self, name: &Items<u8>)
+    pub fn unbind(&mut self, name: &[u8])
         ensures { self.new ≡ map.remove self.old name.now }
     {
         self.files.swap_remove(name);

@@ -10,7 +10,7 @@ use Rattle.af_base.specs.Changes.{change_at}
 use Rattle.af_base.specs.World.{Map}
 use Rattle.af_base.proofs.Lookups.{none_some, some_same, told_apart}
 use Rattle.af_base.proofs.Stepping.{get-change_at}
-use Rattle.af_order.proofs.Parts.{part_get, part_known, part_put, part_taken}
+use Rattle.ordered_slab.proofs.Parts.{part_get, part_known, part_put, part_taken}
 use Rattle.af_mark.specs.Grey.{AreUpTo, color_in, colors_in, placed}
 use Rattle.af_mark.specs.Marked.{Marked}
 use Rattle.af_mark.specs.declared.color.Color.{Color}
@@ -22,7 +22,7 @@ module _ (e : ℕ) where
   pub color_get : (m : Map Mark) (q : ℕ) → finmap.get (colors_in e m) q ≡ option_map (color_in e) (finmap.get m q)
   color_get m q = part_get (color_in e) m q
 
-  -- Who has a mark has a colour.
+  -- A file with a mark has a colour.
   pub color_known : (m : Map Mark) (q : ℕ) → finmap.contains_key (colors_in e m) q ≡ finmap.contains_key m q
   color_known m q = part_known (color_in e) m q
 

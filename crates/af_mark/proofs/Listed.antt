@@ -1,4 +1,4 @@
--- That marks and list stay right, whatever comes, goes or changes.
+-- Marks and list stay consistent, whatever files are made, freed or marked.
 use Rattle.std.proofs.Common.{◌≡◌, ◌≤◌, ◌<◌, ◌-◌, ℕ, Bool, true, false, cond, List, [], ◌∷◌, ◌++◌, length, refl, ap, ◌∙◌, subst, sym, arith}
 use Rattle.std.specs.Prelude.{Option, Some, None, IsSome, ◌&&◌, if◌then◌else◌, is_some, nat_lt, not}
 use Rattle.std.specs.Cmp.{nat_cmp_total}
@@ -11,8 +11,8 @@ use Rattle.af_base.specs.Counts.{count_in, one}
 use Rattle.af_base.proofs.Just.{just-pushed, just-same, just-struck, just-without}
 use Rattle.af_base.proofs.Lookups.{insert-here}
 use Rattle.af_base.specs.World.{Map}
-use Rattle.af_order.proofs.Parts.{part_many}
-use Rattle.af_order.proofs.Values.{gone_few}
+use Rattle.ordered_slab.proofs.Parts.{part_many}
+use Rattle.ordered_slab.proofs.Values.{gone_few}
 use Rattle.af_mark.specs.Grey.{AreGrey, AreListed, AreUpTo, color_in, colors_in, unmarked}
 use Rattle.af_mark.specs.Marked.{Marked, blackened, forgotten, is_grey, is_grey_color, is_mark, is_unmarked, is_white}
 use Rattle.af_mark.specs.declared.color.Color.{Color}
@@ -24,14 +24,14 @@ use Rattle.af_mark.proofs.Colors.{color_after, color_known, color_now, color_whi
 abbrev grey_by : ℕ → Map Mark → ℕ → Bool
 grey_by e m f = option_map_or is_grey_color (map.get (colors_in e m) f) false
 
--- Who is grey is known.
+-- A grey file is known.
 pub grey-known : (m : Marked) (f : ℕ) → is_grey m f ≡ true → IsSome (map.get m.colors f)
 grey-known m f = by (map.get m.colors f) where
   by : (o : Option Color) → option_map_or is_grey_color o false ≡ true → IsSome o
   by None e = absurd (false≢true e)
   by (Some c) e = refl
 
--- Who is white is known, and is not grey.
+-- A white file is known, and not grey.
 pub white-known : (m : Marked) (f : ℕ) → is_white m f ≡ true → IsSome (map.get m.colors f) × (is_grey m f ≡ false)
 white-known m f = by (map.get m.colors f) where
   by : (o : Option Color) → (is_some o && not (option_map_or is_mark o false)) ≡ true → IsSome o × (option_map_or is_grey_color o false ≡ false)
@@ -83,7 +83,7 @@ module _ (m n : Map Mark) (e : ℕ) (fs : List ℕ) (room : ℕ) (h : AreListed 
           (subst (AreUpTo e) (sym is) (upto_put e m f x (omega (arith, now)) h.0), pushed.0, omega (arith, fits, many)),
         )
 
-    -- A white file is black at once, and never in the list.
+    -- A white file becomes black at once, and is never in the list.
     pub listed-bare : x.color ≡ Black → grey_by e m f ≡ false → AreListed n e fs room
     listed-bare black white = let fits = h.2 in (
       subst (AreUpTo e) (sym is) (upto_put e m f x (omega (arith, now)) h.0),
@@ -91,7 +91,7 @@ module _ (m n : Map Mark) (e : ℕ) (fs : List ℕ) (room : ℕ) (h : AreListed 
       omega (arith, fits, many),
     )
 
-    -- A file is black, and in the list no more.
+    -- A file becomes black, and leaves the list.
     pub listed-black : (gs : List ℕ) (most : ℕ) → x.color ≡ Black → ((g : ℕ) → count_in g gs ≡ count_in g fs - one g f) → room ≤ most → AreListed n e gs most
     listed-black gs most black less more = let fits = h.2 in (
       subst (AreUpTo e) (sym is) (upto_put e m f x (omega (arith, now)) h.0),
@@ -99,14 +99,14 @@ module _ (m n : Map Mark) (e : ℕ) (fs : List ℕ) (room : ℕ) (h : AreListed 
       omega (arith, fits, many, more),
     )
 
--- Who is black is not grey.
+-- A black file is not grey.
 pub black-spared : (f : ℕ) (m : Marked) → is_grey (blackened f m) f ≡ false
 black-spared f m = by (is_grey m f) refl where
   by : (b : Bool) → is_grey m f ≡ b → is_grey (if b then record m { colors = map.insert m.colors f Black } else m) f ≡ false
   by true e = ap (λ o. option_map_or is_grey_color o false) (insert-here m.colors f Black)
   by false e = e
 
--- Who is scanned and then forgotten is forgotten.
+-- A file that is scanned and then forgotten is forgotten.
 pub black-forgotten : (f : ℕ) (m : Marked) → forgotten f (blackened f m) ≡ forgotten f m
 black-forgotten f m = by (is_grey m f) where
   by : (b : Bool) → forgotten f (if b then record m { colors = map.insert m.colors f Black } else m) ≡ forgotten f m
@@ -117,14 +117,14 @@ black-forgotten f m = by (is_grey m f) where
         at q false = refl
   by false = refl
 
--- Who is grey is known and marked, so not white.
+-- A grey file is known and marked, so not white.
 grey-unmarked : (o : Option Color) → option_map_or is_grey_color o false ≡ true → (is_some o && not (option_map_or is_mark o false)) ≡ false
 grey-unmarked None e = absurd (false≢true e)
 grey-unmarked (Some White) e = absurd (false≢true e)
 grey-unmarked (Some Grey) e = refl
 grey-unmarked (Some Black) e = absurd (false≢true e)
 
--- Who is scanned is unmarked as before.
+-- A scanned file stays marked or unmarked.
 pub black-unmarked : (f : ℕ) (m : Marked) → is_unmarked (blackened f m) f ≡ is_unmarked m f
 black-unmarked f m = by (is_grey m f) refl where
   by : (b : Bool) → is_grey m f ≡ b → is_unmarked (if b then record m { colors = map.insert m.colors f Black } else m) f ≡ is_unmarked m f

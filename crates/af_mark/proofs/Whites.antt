@@ -66,11 +66,11 @@ module _ {X : Type 0} (F : ℕ × X → ℕ) where
         map.get-insert nat_cmp_total (map.remove m k) k x q ∙ ap (cond (eq_by_cmp nat_cmp q k) (Some x)) (map.get-remove nat_cmp_total m k q) ∙ put_back x is q (nat_cmp q k) refl) in
         omega (arith, sum_insert (map.remove m k) k x, ap (at k) gone, ap (λ n. sum_by F (map.entries n)) back)
 
--- What one file adds.
+-- The part of one file.
 abbrev white : ℕ → ℕ × Color → ℕ
 white bound e = cond (white_at bound e.0 e.1) 1 0
 
--- What a file with this colour adds, and one that is not known.
+-- The part of a file with this colour, and of an unknown one.
 abbrev adds : Marked → ℕ → ℕ
 adds m f = option_map_or (λ c. white m.bound (f, c)) (map.get m.colors f) 0
 
@@ -79,7 +79,7 @@ module _ (m : Marked) (f : ℕ) where
   pub whites-put : (c : Color) → white_count (record m { colors = map.insert m.colors f c }) + adds m f ≡ white_count m + white m.bound (f, c)
   whites-put c = sum_insert (white m.bound) m.colors f c
 
-  -- A file goes.
+  -- A file is freed.
   pub whites-gone : white_count (record m { colors = map.remove m.colors f }) + adds m f ≡ white_count m
   whites-gone = sum_remove (white m.bound) m.colors f
 
@@ -117,7 +117,7 @@ none-bound m is = all (map.entries m.colors) where
   all [] = refl
   all (e ∷ es) = omega (arith, sum_by-cons (white m.bound) e es, white-beyond m.bound e.0 e.1 (omega (arith, is)), all es)
 
--- There are no more of them than known files.
+-- There are at most as many white files as known ones.
 pub whites-most : (m : Marked) → white_count m ≤ map.len m.colors
 whites-most m = subst (λ n. white_count m ≤ n) (sym (map.len-entries m.colors)) (count_by-le-length (λ e. white_at m.bound e.0 e.1) (map.entries m.colors))
 

@@ -1,3 +1,3 @@
--- What is known of each file's mark.
+-- The marks of files.
 pub mod Grey
 pub mod Marked

@@ -1,5 +1,5 @@
-//! What a pass of the collector keeps of each file: its mark; and when these fit the list of the
-//! files that are marked and still to be scanned.
+//! The mark of each file in a pass of the collector, and whether marks agree with the list of files
+//! that are marked and still to be scanned.
 #![tactic(auto)]
 
 mod color;

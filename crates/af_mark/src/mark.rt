@@ -5,7 +5,7 @@ ghost use Rattle.af_mark.specs.Marked.{is_grey_color};
 
 use crate::color::Color;
 
-/// A place in the list of the grey files, as far as a mark can tell it.
+/// Clamps a position in the list of grey files to what a mark can keep.
 #[inline(always)]
 pub fn noted(at: usize) -> u32 {
     at.min(u32::MAX as usize) as u32
@@ -23,7 +23,7 @@ pub struct Mark {
 }
 
 impl Mark {
-    /// A mark of no pass.
+    /// Makes a mark of no pass.
     #[inline(always)]
     pub fn none() -> Mark
         ensures { result ≡ unmarked }
@@ -35,7 +35,7 @@ impl Mark {
         }
     }
 
-    /// The colour in this pass.
+    /// Returns the colour in this pass.
     #[inline(always)]
     pub fn color_in(&self, epoch: u64) -> Color
         ensures { result ≡ color_in epoch self.now }
@@ -47,7 +47,7 @@ impl Mark {
         }
     }
 
-    /// Whether it is grey in this pass.
+    /// Returns whether it is grey in this pass.
     #[inline(always)]
     pub fn is_grey_in(&self, epoch: u64) -> bool
         ensures { result ≡ is_grey_color (color_in epoch self.now) }

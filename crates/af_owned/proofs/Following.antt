@@ -83,7 +83,7 @@ abbrev pub is_open : Step → Bool
 is_open step.Open = true
 is_open s = false
 
--- What a step changes but an open.
+-- The change of a step other than an open.
 grows-effect : (w : World) (p : ℕ) (s : Step) → is_open s ≡ false → Grows w (effect w p s)
 grows-effect w p step.Open e = absurd cc
 grows-effect w p (step.Dup n) e = grows-same w (effect w p (step.Dup n)) refl refl
@@ -132,7 +132,7 @@ grows-spawned w uid nofile privileged = by (list_any (nat_eq uid) w.users) where
   by true = grows-same w v refl refl
   by false = grows-same w (record v { users = v.users ++ uid ∷ [] }) refl refl
 
--- What settles keeps what it is, or goes.
+-- A file of the settled world is unchanged, or is freed.
 pub settled-kind : (mid new : World) → Settles mid new → (f : ℕ) → (kind new f ≡ None) ⊎ (kind new f ≡ kind mid f)
 settled-kind mid new s f = elim (each (s.0 f) (map.get mid.files f)) [
   | inl none ↦ inl (is ∙ none)

@@ -1,4 +1,4 @@
--- What an event, an open and a value that is handed back do to the values.
+-- How an event, an open and a returned value change the values.
 use Rattle.std.proofs.Common.{◌≡◌, ◌≤◌, ◌<◌, ℕ, ◌+◌, Bool, true, false, not, cond, inl, inr, List, nat_eq, nat_lt, refl, sym, ap, ◌∙◌, subst, arith}
 use Rattle.std.specs.Prelude.{Err, IfErr, IfOk, IsTrue, None, Ok, Option, Result, Some, if◌then◌else◌, is_some, option_map}
 use Rattle.std.specs.Ordering.{nat_cmp}
@@ -32,7 +32,7 @@ given-rises since a b f more = by (nat_lt f since.next) where
   by true e = e
   by false e = let low = ltb-true f a e in lt-ltb f b (omega (arith, low, more))
 
--- Who is live is of some kind.
+-- A live file has a kind.
 live-kind : (w : World) (f : ℕ) (b : Bool) → kind w f ≡ Some b → IsLive w f
 live-kind w f b = by (map.get w.files f) where
   by : (o : Option File) → option_map is_socket o ≡ Some b → is_some o ≡ true
@@ -69,7 +69,7 @@ module _ {T : Type 0} (m n : Machine) (values : Map T) (last : ℕ) (h : AreOwne
 owned-same : {T : Type 0} (m n : Machine) (values : Map T) (last : ℕ) → AreOwned m values last → n ≡ m → AreOwned n values last
 owned-same m n values last h is = subst (λ x. AreOwned x values last) (sym is) h
 
--- What a call comes to.
+-- The outcome of a call.
 pub owned-call : {T : Type 0} (m n : Machine) (values : Map T) (last : ℕ) → AreOwned m values last → (p : ℕ) (s : Step) → is_open s ≡ false
     → {X : Type 0} (o : Result X Errno) (tells : X → Reply) → IfOk o (λ x. Does m p s (tells x) n) → IfErr o (λ e. Refuses m p s e n) → AreOwned n values last
 owned-call m n values last h p s closed (Ok x) tells done refused = owned-follows m n values last h done.3.2 (follows-step m.world n.world p s closed done.2)
@@ -122,7 +122,7 @@ module _ {T : Type 0} (m n : Machine) (values : Map T) (last p fd : ℕ) (h : Ar
   other : (g : ℕ) → nat_eq g m.world.next_ino ≡ false → map.contains_key (map.insert values m.world.next_ino v) g ≡ map.contains_key values g
   other g apart = ap is_some (insert-other values m.world.next_ino v g apart)
 
-  -- What is so of the new number, and of those that carried a value, is so of all.
+  -- A fact of the new number, and of those that carried a value, is one of all.
   each : (P : ℕ → Type 0) → P m.world.next_ino → ((g : ℕ) → IsTrue (map.contains_key values g) → P g) → (g : ℕ) → IsTrue (map.contains_key (map.insert values m.world.next_ino v) g) → P g
   each P first rest g there = elim (same_or_not g m.world.next_ino) [
     | inl same ↦ subst P (sym same) first
@@ -138,7 +138,7 @@ module _ {T : Type 0} (m n : Machine) (values : Map T) (last p fd : ℕ) (h : Ar
       ap (λ b. cond b (map.contains_key m.since.files m.world.next_ino) (nat_lt m.world.next_ino n.world.next_ino)) (le-ltb m.world.next_ino m.since.next low)
       ∙ lt-ltb m.world.next_ino n.world.next_ino (omega (arith, next))
 
-  -- What a file is after it.
+  -- A file after it.
   kind-mid : (g : ℕ) → nat_eq g m.world.next_ino ≡ false → kind (add_file m.world Plain) g ≡ kind m.world g
   kind-mid g apart = ap (option_map is_socket) (insert-other m.world.files m.world.next_ino Plain g apart)
 
@@ -226,7 +226,7 @@ owned-cleared m n values last h is live = subst (λ x. AreOwned x values last) (
   carried = h.carried;
 })
 
--- A file that is told is gone.
+-- A listed file is freed.
 pub listed-gone : (m : Machine) (told : List ℕ) → m.since.released ≡ true → TellsReleased m.world m.since told → (f : ℕ) → 0 < count_in f told → is_live m.world f ≡ false
 listed-gone m told asked tells f some = by (is_live m.world f) (was_given m.since m.world.next_ino f) (tells asked f) where
   by : (a b : Bool) → count_in f told + (if a then 1 else 0) ≡ (if b then 1 else 0) → a ≡ false
@@ -234,7 +234,7 @@ listed-gone m told asked tells f some = by (is_live m.world f) (was_given m.sinc
   by true false e = absurd (omega (arith, e, some))
   by false b e = refl
 
--- Who carries a value and is not told is live.
+-- A file that carries a value and is not listed is live.
 pub unlisted-live : {T : Type 0} (m : Machine) (values : Map T) (last : ℕ) (told : List ℕ) → AreOwned m values last → TellsReleased m.world m.since told
     → (f : ℕ) → IsTrue (map.contains_key values f) → count_in f told ≡ 0 → IsLive m.world f
 unlisted-live m values last told h tells f there none = by (is_live m.world f) (was_given m.since m.world.next_ino f) (h.given f there) (tells h.asked f) where

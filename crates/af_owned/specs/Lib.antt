@@ -1,3 +1,3 @@
--- What plain files carry.
+-- The values of plain files.
 pub mod Lending
 pub mod Owning

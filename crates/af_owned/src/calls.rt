@@ -62,7 +62,7 @@ impl<T> Owned<T> {
         self.engine.fork(pid)
     }
 
-    /// Sets the limit on descriptors (setrlimit(2), RLIMIT_NOFILE). What is open stays open. It
+    /// Sets the limit on descriptors (setrlimit(2), RLIMIT_NOFILE). Open descriptors stay open. It
     /// needs no memory. Refused, in this order: ESRCH, ERANGE (the limit is over 1,024).
     pub fn limit(&mut self, pid: Pid, nofile: u32) -> Result<(), Errno>
         ensures done { OnOk result (Does self.old.machine pid (Step.Limit nofile) Reply.Ok self.new.machine) }
@@ -104,7 +104,7 @@ impl<T> Owned<T> {
 
     /// Gives a socket an abstract name (bind(2); unix(7)). Refused, in this order: ESRCH, EBADF,
     /// ENOTSOCK, EINVAL, EADDRINUSE, ENOMEM.
-    pub fn bind(&mut self, pid: Pid, on: Fd, name: &Items<u8>) -> Result<(), Errno>
+    pub fn bind(&mut self, pid: Pid, on: Fd, name: &[u8]) -> Result<(), Errno>
         ensures done { OnOk result (Does self.old.machine pid (Step.Bind on name.now) Reply.Ok self.new.machine) }
         ensures refused { IfErr result (λ e. Refuses self.old.machine pid (Step.Bind on name.now) e self.new.machine) }
         ensures values { self.new.values ≡ self.old.values }
@@ -112,8 +112,8 @@ impl<T> Owned<T> {
         self.engine.bind(pid, on, name)
     }
 
-    /// Lets a socket wait for connections, so many at most (listen(2)). Refused, in this order:
-    /// ESRCH, EBADF, ENOTSOCK, EINVAL (also where the backlog is not 1 to 128), ENOMEM.
+    /// Makes a socket a listener with this backlog (listen(2)). Refused, in this order: ESRCH,
+    /// EBADF, ENOTSOCK, EINVAL (also where the backlog is not 1 to 128), ENOMEM.
     pub fn listen(&mut self, pid: Pid, on: Fd, backlog: u32) -> Result<(), Errno>
         ensures done { OnOk result (Does self.old.machine pid (Step.Listen on backlog) Reply.Ok self.new.machine) }
         ensures refused { IfErr result (λ e. Refuses self.old.machine pid (Step.Listen on backlog) e self.new.machine) }
@@ -125,7 +125,7 @@ impl<T> Owned<T> {
     /// Connects a socket to the listener of this name (connect(2)): to an embryo, which waits
     /// there to be accepted. Refused, in this order: ESRCH, EBADF, ENOTSOCK, EINVAL, EISCONN,
     /// ECONNREFUSED, EPROTOTYPE, EAGAIN, ENFILE, ENOMEM.
-    pub fn connect(&mut self, pid: Pid, on: Fd, name: &Items<u8>) -> Result<(), Errno>
+    pub fn connect(&mut self, pid: Pid, on: Fd, name: &[u8]) -> Result<(), Errno>
         ensures done { OnOk result (Does self.old.machine pid (Step.Connect on name.now) Reply.Ok self.new.machine) }
         ensures refused { IfErr result (λ e. Refuses self.old.machine pid (Step.Connect on name.now) e self.new.machine) }
         ensures values { self.new.values ≡ self.old.values }
@@ -170,7 +170,7 @@ impl<T> Owned<T> {
         self.engine.send_owned(pid, on, bytes, attach)
     }
 
-    /// Receives at most so many bytes and descriptors (recvmsg(2)). A file whose descriptor is
+    /// Receives at most this many bytes and descriptors (recvmsg(2)). A file whose descriptor is
     /// dropped may be freed, and its value is then to be taken. The refusals are those of
     /// `Engine::recv`.
     pub fn recv(
@@ -213,9 +213,9 @@ impl<T> Owned<T> {
         self.engine.begin()
     }
 
-    /// Continues the pass that runs, by at most so many units: each visits, scans or sweeps one
-    /// file. It needs no memory. Refused with EIDLE where none runs, and else with EINVAL where
-    /// the budget is not 1 to 65,536.
+    /// Continues the running pass, by at most this many units: each visits, scans or sweeps one
+    /// file. It needs no memory. Refused with EIDLE where none runs, and else with EINVAL where the
+    /// budget is not 1 to 65,536.
     pub fn slice(&mut self, budget: u32) -> Result<Progress, Errno>
         ensures done { IfOk result (λ progress. GoesOn self.old.machine.pass self.old.machine budget (progress_reply progress) self.new.machine) }
         ensures refused { IfErr result (λ e. GoesOn self.old.machine.pass self.old.machine budget (Reply.Refused e) self.new.machine) }

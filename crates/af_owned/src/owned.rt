@@ -15,8 +15,8 @@ ghost use Rattle.af_owned.specs.Owning.{AreCarried, HandsBack};
 use af_base::errno::Errno;
 use af_base::events::{Reply, Step};
 use af_base::names::{Fd, FileRef, Ino, Pid};
-use af_order::Keyed;
 use af_steps::Engine;
+use ordered_slab::OrderedSlab;
 use std::alloc::{AllocError, Global};
 use std::marker::Model;
 
@@ -25,8 +25,8 @@ use std::marker::Model;
 #[derive(Drop)]
 pub struct Owned<T> {
     pub(crate) engine: Engine,
-    values: Keyed<T>,
-    /// Where the search for a freed file with a value goes on. It is a hint.
+    values: OrderedSlab<T>,
+    /// The position where the search for a freed file with a value continues. It is a hint.
     next: usize,
 }
 
@@ -56,7 +56,7 @@ impl<T> Owned<T> {
         engine.tell_released()?;
         Ok(Owned {
             engine,
-            values: Keyed::new(alloc),
+            values: OrderedSlab::new(alloc),
             next: 0,
         })
     }
@@ -73,7 +73,7 @@ impl<T> Owned<T> {
         engine.tell_changed()?;
         Ok(Owned {
             engine,
-            values: Keyed::new(alloc),
+            values: OrderedSlab::new(alloc),
             next: 0,
         })
     }
@@ -88,11 +88,11 @@ impl<T> Owned<T> {
 
     /// Does nothing at run time. It says that the world is sound, that each live plain file
     /// carries a value, and that no live socket does.
-    pub fn is_sound(&self)
+    pub fn lemma_is_sound(&self)
         ensures sound { IsSound self.now.machine.world }
         ensures carried { AreCarried self.now.machine.world self.now.values }
     {
-        self.engine.is_sound();
+        self.engine.lemma_is_sound();
     }
 
     /// Opens a plain file, which carries this value (open(2)). Returns its descriptor, the lowest
@@ -143,8 +143,8 @@ impl<T> Owned<T> {
     }
 
     /// Returns the sockets whose readiness may have changed since `take_released` last returned
-    /// nothing, each once, where that is told. A socket that is not among them, and whose peer is
-    /// not, answers `poll` as it did then. No search.
+    /// nothing, each once, if that list is kept. If neither a socket nor its peer is listed, `poll`
+    /// answers as it did then. No search.
     pub fn changed(&self) -> &[FileRef]
         ensures { TellsChanged self.now.machine.world self.now.machine.since result.now }
     {
@@ -172,7 +172,7 @@ impl<T> Owned<T> {
         self.values.remove(&file)
     }
 
-    /// Returns a freed file that carries a value, and where it stands in the list of freed files.
+    /// Returns a freed file that carries a value, and its position in the list of freed files.
     fn next_released(&self) -> Option<(usize, FileRef)>
         ensures some { IfSome result (λ found. IsTrue (map.contains_key self.now.values found.1) × (is_live self.now.machine.world found.1 ≡ false)) }
         ensures none { IfNone result ((f : ℕ) → IsTrue (map.contains_key self.now.values f) → IsLive self.now.machine.world f) }
@@ -181,9 +181,9 @@ impl<T> Owned<T> {
     }
 }
 
-/// Returns a file among these that carries a value, and where it stands: the first from that
-/// place on, or else the first of all.
-fn first_from<T>(values: &Keyed<T>, files: &[Ino], place: usize) -> Option<(usize, FileRef)>
+/// Returns a file among these that carries a value, and its position: the first from that position
+/// on, or else the first of all.
+fn first_from<T>(values: &OrderedSlab<T>, files: &[Ino], place: usize) -> Option<(usize, FileRef)>
     ensures some { IfSome result (λ found. IsTrue (map.contains_key values.now.values found.1)) }
     ensures listed { IfSome result (λ found. 0 < count_in found.1 files.now) }
     ensures none { IfNone result ((f : ℕ) → IsTrue (map.contains_key values.now.values f) → count_in f files.now ≡ 0) }
@@ -196,8 +196,8 @@ fn first_from<T>(values: &Keyed<T>, files: &[Ino], place: usize) -> Option<(usiz
     first_with(values, before)
 }
 
-/// Returns the first of these files that carries a value, and where it stands.
-fn first_with<T>(values: &Keyed<T>, files: &[Ino]) -> Option<(usize, FileRef)>
+/// Returns the first of these files that carries a value, and its position.
+fn first_with<T>(values: &OrderedSlab<T>, files: &[Ino]) -> Option<(usize, FileRef)>
     ensures some { IfSome result (λ found. IsTrue (map.contains_key values.now.values found.1)) }
     ensures listed { IfSome result (λ found. 0 < count_in found.1 files.now) }
     ensures none { IfNone result ((f : ℕ) → IsTrue (map.contains_key values.now.values f) → count_in f files.now ≡ 0) }

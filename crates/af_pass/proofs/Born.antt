@@ -20,11 +20,11 @@ abbrev pub AreFilesBelow : World → ℕ → Type 0
 AreFilesBelow w n = (f : ℕ) → IsLive w f → f < n
 
 module _ (w : World) (x : File) where
-  -- A number is that of the new file, or stands for what it stood for.
+  -- A descriptor refers to the new file, or to the same file as before.
   new_or_same : (q : ℕ) → (q ≡ w.next_ino) ⊎ (map.get (add_file w x).files q ≡ map.get w.files q)
   new_or_same q = elim (same_or_not q w.next_ino) [ inl e ↦ inl e | inr e ↦ inr (insert-other w.files w.next_ino x q e) ]
 
-  -- What has a lower number stands as it stood.
+  -- A file with a lower number is unchanged.
   lower_same : (q : ℕ) → q < w.next_ino → map.get (add_file w x).files q ≡ map.get w.files q
   lower_same q low = elim (new_or_same q) [ inl e ↦ absurd (omega (arith, e, low)) | inr e ↦ e ]
 

@@ -32,7 +32,7 @@ module _ {begun now : World} {marked grey visited : ℕ → Bool} (bound : ℕ) 
   pub exact : (f : ℕ) → IsLive begun f → IsLive now f → (marked f ≡ false) ↔ Garbage begun f
   exact f was live = (λ e. (was, λ r. false≢true (sym e ∙ reached_marked f r live)), λ g. m.only_reached f g)
 
--- What three tests say together.
+-- Three tests together.
 all_three : (a b c : Bool) → (a && (b && not c)) ≡ true → (a ≡ true) × (b ≡ true) × (c ≡ false)
 all_three true true false e = (refl, refl, refl)
 all_three true true true e = absurd (false≢true e)

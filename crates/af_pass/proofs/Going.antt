@@ -1,4 +1,4 @@
--- A file that nothing holds goes: what is kept while a pass runs.
+-- The invariant of a running pass when an unheld file is freed.
 use Rattle.std.proofs.Common.{◌≡◌, ◌≤◌, ℕ, ◌+◌, Bool, true, false, not, ◌&&◌, inl, inr, refl, sym, ap, ◌∙◌, subst, cond, nat_eq, arith}
 use Rattle.std.specs.Prelude.{Option, Some, None, option_map, is_some, if◌then◌else◌}
 use Rattle.std.specs.Option.{option_map_or}
@@ -15,7 +15,7 @@ use Rattle.af_pass.specs.Since.{AreCounted, IsMarking, IsSince, IsSweeping, but,
 use Rattle.af_pass.proofs.Shading.{but_other}
 use Rattle.af_pass.proofs.Tallies.{count_le, count_one, count_same}
 
--- What holds something is live.
+-- A file that holds another is live.
 pub holder_live : (w : World) (s f : ℕ) → Holds w s f → IsLive w s
 holder_live w s f h = ap is_some (holds-there w s f h).1
 
@@ -23,7 +23,7 @@ module _ {begun old : World} (bound : ℕ) (s : IsSince begun old bound) (marked
   goes : (f : ℕ) → Unheld old f → Garbage begun f → Unheld begun f
   goes _ (Goes f l t hs) g = Goes f g.0 (λ t. g.1 (ByTable f t)) (λ q h. goes q (hs q (i.queues q f g h)) (holder_live begun q f h, λ r. g.1 (BySocket q f r h)))
 
-  -- What has no place while marking goes on is no garbage of the begin: it would have had none then either.
+  -- While marking, an unheld file is no garbage of the begin: it would have been unheld then too.
   pub never_garbage : (x : ℕ) → IsLive old x → ¬ (InTable old x) → ((q : ℕ) → ¬ (Holds old q x)) → ¬ (Garbage begun x)
   never_garbage x l t hs g = s.sound.settled x (goes x (Goes x l t (λ q h. absurd (hs q h))) g)
 
@@ -47,7 +47,7 @@ module _ (begun old : World) (x : ℕ) where
     each (Some Plain) = refl
     each (Some (AsSocket s)) = refl
 
-  -- Whether x is counted as it goes while sweeping goes on: it is an unmarked socket of the begin.
+  -- Whether freeing x is counted while sweeping: it is an unmarked socket of the begin.
   abbrev pub is_reclaimed : (ℕ → Bool) → Bool
   is_reclaimed marked = is_socket_at old x && (is_live begun x && not (marked x))
 
@@ -62,7 +62,7 @@ module _ (begun old : World) (x : ℕ) where
       stray = record { queues = λ q f h g. s.stray.queues q f (from_without (nat_eq x) old q f h).1 g; tables = s.stray.tables };
     }
 
-    -- Marking goes on, where x is no garbage of the begin and what it held is marked.
+    -- Marking continues, if x is no garbage of the begin and the files that it held are marked.
     pub marking_drop : (marked grey visited : ℕ → Bool) → ¬ (Garbage begun x) → ((f : ℕ) → IsLive begun f → Holds old x f → marked f ≡ true)
         → IsMarking begun old marked grey visited → IsMarking begun rest (but marked x) (but grey x) visited
     marking_drop marked grey visited reached held i = record {
@@ -130,7 +130,7 @@ module _ (begun old : World) (x : ℕ) where
             ]) in
             omega (arith, n)
 
-      -- Sweeping goes on, with x counted where it is an unmarked socket of the begin.
+      -- Sweeping continues, and x is counted if it is an unmarked socket of the begin.
       pub sweeping_drop : (swept : ℕ → Bool) (reclaimed : ℕ) → IsLive old x → IsSweeping begun old marked swept reclaimed → IsSweeping begun rest (but marked x) swept (reclaimed + (if is_reclaimed marked then 1 else 0))
       sweeping_drop swept reclaimed l i = record {
         unmarked = λ f b c e. let at = live_was f c in i.unmarked f b at.1 (sym (but_other marked x f at.0) ∙ e);

@@ -21,7 +21,7 @@ use Rattle.af_pass.specs.declared.Stage.{Stage}
 use Rattle.af_pass.specs.declared.Stage.TheVariants.{Marking, Resting, Sweeping}
 use Rattle.af_pass.specs.declared.Progress.{Progress}
 use Rattle.af_pass.specs.Since.{AreCounted, Covers, IsMarking, IsSince, IsSweeping, Moves, is_scanned, is_socket_at}
-use Rattle.af_pass.specs.Keeping.{AreKnown, IsInMarking, IsInSweeping, IsKept, IsRunning, IsStage, below, counted, is_counted, is_due, is_marking, is_running, is_sweeping, shaded_all, units_of}
+use Rattle.af_pass.specs.Keeping.{AreKnown, IsInMarking, IsInSweeping, PassInvariant, IsRunning, IsStage, below, counted, is_counted, is_due, is_marking, is_running, is_sweeping, shaded_all, units_of}
 use Rattle.af_pass.proofs.Going.{counted_drop, is_reclaimed, marking_drop, never_garbage, since_drop, sweeping_drop}
 use Rattle.af_pass.proofs.Known.{known_gone, known_marks, known_world}
 use Rattle.af_pass.proofs.Marked.{bound_blackened, bound_shaded, grey_blackened, grey_forgotten, grey_marked, grey_shaded, knows_blackened, knows_shaded, marked_blackened, marked_forgotten, marked_known, marked_shaded, shaded_beyond, shaded_black, shaded_grey}
@@ -30,7 +30,7 @@ use Rattle.af_pass.proofs.Shaded.{all_marked, itself_marked, stays_grey_all}
 use Rattle.af_pass.proofs.Shading.{scan_counted, scan_marking, shade_counted, shade_marking, skip_counted, skip_marking, sweep_counted, visit_counted, visit_marking}
 use Rattle.af_pass.proofs.Sweeping.{counted_begin, marking_begin, moves_sweep, none_left, reclaimed_all, reclaimed_none, since_begin, sweeping_begin, sweeping_marked, sweeping_sweep}
 
--- Marking goes on in one stage only.
+-- Marking continues in one stage only.
 pub marking_only : (s : Stage) → is_marking s ≡ true → s ≡ Marking
 marking_only Resting e = absurd (false≢true e)
 marking_only Marking e = refl
@@ -48,7 +48,7 @@ lt_same f a b x y = lt-ltb f a x ∙ sym (lt-ltb f b y)
 ge_same : (f a b : ℕ) → a ≤ f → b ≤ f → nat_lt f a ≡ nat_lt f b
 ge_same f a b x y = le-ltb f a x ∙ sym (le-ltb f b y)
 
--- A pass that goes on over x, where nothing live is passed by, goes over no other live file.
+-- A pass that continues over x, and passes by no live file, looks at no other live file.
 past_one : (w : World) (x from : ℕ) → from ≤ x → ((f : ℕ) → from ≤ f → f < x → is_live w f ≡ false) → (f : ℕ) → IsLive w f → nat_eq x f ≡ false → below from f ≡ below (x + 1) f
 past_one w x from le none f l apart = elim (cases_lt f from) [
   | inl b ↦ lt_same f from (x + 1) b (omega (arith, b, le))
@@ -71,7 +71,7 @@ running_of {w = w} {begun = begun} n d is waits same since old counted low = rec
   low = omega (arith, same, low);
 }
 
--- Marking goes on with tests that are the same.
+-- Marking continues with equal tests.
 marking_of : {begun now : World} {a a' b b' : ℕ → Bool} (visited : ℕ → Bool) → a' ≡ a → b' ≡ b → IsMarking begun now a b visited → IsMarking begun now a' b' visited
 marking_of {begun = begun} {now = now} visited is waits i = subst (λ t. t) (λ j. IsMarking begun now (sym is j) (sym waits j) visited) i
 
@@ -79,7 +79,7 @@ module _ {w w' begun : World} where
   -- Where files are made and places change, what is kept is kept, by marks that mark the same.
   pub kept_born : (m m' : Marked) (c : Progress) → AreKnown w' m' → is_marked m' ≡ is_marked m → is_grey m' ≡ is_grey m → m'.bound ≡ m.bound
       → w.next_ino ≤ w'.next_ino → ((f : ℕ) → IsLive w' f → f < w.next_ino → IsLive w f)
-      → (is_running c.stage ≡ true → Moves begun w w') → (is_marking c.stage ≡ true → Covers begun w w' (is_marked m) (below c.visited)) → IsKept w begun m c → IsKept w' begun m' c
+      → (is_running c.stage ≡ true → Moves begun w w') → (is_marking c.stage ≡ true → Covers begun w w' (is_marked m) (below c.visited)) → PassInvariant w begun m c → PassInvariant w' begun m' c
   kept_born m m' c known is waits same next old moves covers k = record { known = known; stage = by c.stage refl k.stage } where
     running : Moves begun w w' → IsRunning w begun m c → IsRunning w' begun m' c
     running v r =
@@ -104,30 +104,30 @@ module _ {w w' begun : World} where
 
   -- A change of places keeps what is kept.
   pub kept_moves : (m : Marked) (c : Progress) → w.next_ino ≤ w'.next_ino → ((f : ℕ) → is_live w' f ≡ is_live w f)
-      → (is_running c.stage ≡ true → Moves begun w w') → (is_marking c.stage ≡ true → Covers begun w w' (is_marked m) (below c.visited)) → IsKept w begun m c → IsKept w' begun m c
+      → (is_running c.stage ≡ true → Moves begun w w') → (is_marking c.stage ≡ true → Covers begun w w' (is_marked m) (below c.visited)) → PassInvariant w begun m c → PassInvariant w' begun m c
   kept_moves m c next same moves covers k = kept_born m m c (known_world w' w m same k.known) refl refl refl next (λ f l _. sym (same f) ∙ l) moves covers k
 
 module _ {w begun : World} where
-  -- What is kept while marking goes on.
-  pub in_marking : {m : Marked} {c : Progress} → c.stage ≡ Marking → IsKept w begun m c → IsInMarking w begun m c
+  -- The invariant while marking.
+  pub in_marking : {m : Marked} {c : Progress} → c.stage ≡ Marking → PassInvariant w begun m c → IsInMarking w begun m c
   in_marking {m = m} {c = c} e k = subst (λ s. IsStage s w begun m c) e k.stage
 
-  -- What is kept while sweeping goes on.
-  pub in_sweeping : {m : Marked} {c : Progress} → c.stage ≡ Sweeping → IsKept w begun m c → IsInSweeping w begun m c
+  -- The invariant while sweeping.
+  pub in_sweeping : {m : Marked} {c : Progress} → c.stage ≡ Sweeping → PassInvariant w begun m c → IsInSweeping w begun m c
   in_sweeping {m = m} {c = c} e k = subst (λ s. IsStage s w begun m c) e k.stage
 
   -- A grey file is no garbage of the begin.
-  pub grey_spared : {m : Marked} {c : Progress} (x : ℕ) → c.stage ≡ Marking → is_grey m x ≡ true → IsKept w begun m c → ¬ (Garbage begun x)
+  pub grey_spared : {m : Marked} {c : Progress} (x : ℕ) → c.stage ≡ Marking → is_grey m x ≡ true → PassInvariant w begun m c → ¬ (Garbage begun x)
   grey_spared {m = m} x e grey k g = false≢true (sym ((in_marking e k).marking.marks.only_reached x g) ∙ grey_marked m x grey)
 
-  -- What a file that is no garbage of the begin holds is live, and no garbage of it.
+  -- The files held by a file that is no garbage of the begin are live, and no garbage of it.
   held_kept : {m : Marked} {c : Progress} (x : ℕ) → IsWhole w → IsRunning w begun m c → ¬ (Garbage begun x) → (f : ℕ) → Holds w x f → IsLive w f × (¬ (Garbage begun f))
   held_kept x whole r spared f h = (whole.queues_live x f h, λ g. spared (r.since.stray.queues x f h g))
 
   -- A live file that is no garbage of the begin is shaded.
-  pub kept_shaded : (m : Marked) (c : Progress) (x : ℕ) → is_marking c.stage ≡ true → IsLive w x → ¬ (Garbage begun x) → IsKept w begun m c → IsKept w begun (shaded x m) c
+  pub kept_shaded : (m : Marked) (c : Progress) (x : ℕ) → is_marking c.stage ≡ true → IsLive w x → ¬ (Garbage begun x) → PassInvariant w begun m c → PassInvariant w begun (shaded x m) c
   kept_shaded m c x t l spared k = elim (cases_lt x m.bound) [
-    | inr high ↦ subst (λ n. IsKept w begun n c) (sym (shaded_beyond m x high)) k
+    | inr high ↦ subst (λ n. PassInvariant w begun n c) (sym (shaded_beyond m x high)) k
     | inl low ↦
         let e = marking_only c.stage t in
         let p = in_marking e k in
@@ -148,14 +148,14 @@ module _ {w begun : World} where
   ]
 
   -- Live files that are no garbage of the begin are shaded.
-  pub kept_shaded_all : (fs : List ℕ) (m : Marked) (c : Progress) → is_marking c.stage ≡ true → ((f : ℕ) → Contains fs f → IsLive w f × (¬ (Garbage begun f))) → IsKept w begun m c → IsKept w begun (shaded_all fs m) c
+  pub kept_shaded_all : (fs : List ℕ) (m : Marked) (c : Progress) → is_marking c.stage ≡ true → ((f : ℕ) → Contains fs f → IsLive w f × (¬ (Garbage begun f))) → PassInvariant w begun m c → PassInvariant w begun (shaded_all fs m) c
   kept_shaded_all [] m c t each k = k
   kept_shaded_all (x ∷ fs) m c t each k =
       let at = each x (Contains-first x fs) in
       kept_shaded_all fs (shaded x m) c t (λ f h. each f (Contains-later x fs f h)) (kept_shaded m c x t at.0 at.1 k)
 
   -- A grey file is scanned, where all that it holds is marked.
-  scan_held : (m : Marked) (c : Progress) (x : ℕ) → c.stage ≡ Marking → is_grey m x ≡ true → ((f : ℕ) → IsLive begun f → Holds w x f → is_marked m f ≡ true) → IsKept w begun m c → IsKept w begun (blackened x m) (record c { looked = c.looked + 1 })
+  scan_held : (m : Marked) (c : Progress) (x : ℕ) → c.stage ≡ Marking → is_grey m x ≡ true → ((f : ℕ) → IsLive begun f → Holds w x f → is_marked m f ≡ true) → PassInvariant w begun m c → PassInvariant w begun (blackened x m) (record c { looked = c.looked + 1 })
   scan_held m c x e grey held k =
       let p = in_marking e k in
       let r = p.running in
@@ -173,8 +173,8 @@ module _ {w begun : World} where
       } in
       record { known = known_marks w m (blackened x m) (knows_blackened m x) k.known; stage = subst (λ s. IsStage s w begun (blackened x m) d) (sym e) q }
 
-  -- A grey file is scanned: what it holds is shaded, and it is grey no more.
-  pub kept_scan : (m : Marked) (c : Progress) (x : ℕ) → IsWhole w → c.stage ≡ Marking → is_grey m x ≡ true → IsKept w begun m c → IsKept w begun (blackened x (shaded_all (held_by w x) m)) (record c { looked = c.looked + 1 })
+  -- A grey file is scanned: the files that it holds are shaded, and it becomes black.
+  pub kept_scan : (m : Marked) (c : Progress) (x : ℕ) → IsWhole w → c.stage ≡ Marking → is_grey m x ≡ true → PassInvariant w begun m c → PassInvariant w begun (blackened x (shaded_all (held_by w x) m)) (record c { looked = c.looked + 1 })
   kept_scan m c x whole e grey k =
       let r = (in_marking e k).running in
       scan_held (shaded_all (held_by w x) m) c x e (stays_grey_all (held_by w x) m x grey)
@@ -183,7 +183,7 @@ module _ {w begun : World} where
 
   -- A live file is visited, which is marked if a table holds it.
   visit_tabled : (m : Marked) (c : Progress) (x : ℕ) → IsWhole w → c.stage ≡ Marking → IsLive w x → c.visited ≤ x → x < m.bound → ((g : ℕ) → c.visited ≤ g → g < x → is_live w g ≡ false) → (InTable w x → is_marked m x ≡ true)
-      → IsKept w begun m c → IsKept w begun m (record c { visited = x + 1; looked = c.looked + 1 })
+      → PassInvariant w begun m c → PassInvariant w begun m (record c { visited = x + 1; looked = c.looked + 1 })
   visit_tabled m c x whole e l from low none is k =
       let p = in_marking e k in
       let r = p.running in
@@ -205,43 +205,43 @@ module _ {w begun : World} where
 
   -- The next live file is visited: it is marked if a table holds it. If it was not marked and holds nothing, it may be scanned in the same look, which then counts as two.
   pub kept_visit : (scanned : Bool) (m : Marked) (c : Progress) (x : ℕ) → (scanned ≡ true → (held_by w x ≡ []) × (is_due w m x ≡ true)) → IsWhole w → c.stage ≡ Marking → IsLive w x → c.visited ≤ x → x < m.bound → ((g : ℕ) → c.visited ≤ g → g < x → is_live w g ≡ false)
-      → IsKept w begun m c → IsKept w begun (visited scanned (tabled w x) x m) (record c { visited = x + 1; looked = c.looked + units_of scanned })
+      → PassInvariant w begun m c → PassInvariant w begun (visited scanned (tabled w x) x m) (record c { visited = x + 1; looked = c.looked + units_of scanned })
   kept_visit scanned m c x bare whole e l from low none k = by scanned refl where
     known : knows m x ≡ true
     known = k.known x ∙ l
 
-    grey : InTable w x → IsKept w begun (shaded x m) c
+    grey : InTable w x → PassInvariant w begun (shaded x m) c
     grey t = kept_shaded m c x (ap is_marking e) l (λ g. (in_marking e k).running.since.stray.tables x g t) k
 
-    here : (n : Marked) (d : Progress) → d.stage ≡ Marking → d.visited ≤ x → ((g : ℕ) → d.visited ≤ g → g < x → is_live w g ≡ false) → n.bound ≡ m.bound → (InTable w x → is_marked n x ≡ true) → IsKept w begun n d → IsKept w begun n (record d { visited = x + 1; looked = d.looked + 1 })
+    here : (n : Marked) (d : Progress) → d.stage ≡ Marking → d.visited ≤ x → ((g : ℕ) → d.visited ≤ g → g < x → is_live w g ≡ false) → n.bound ≡ m.bound → (InTable w x → is_marked n x ≡ true) → PassInvariant w begun n d → PassInvariant w begun n (record d { visited = x + 1; looked = d.looked + 1 })
     here n d y f g same is i = visit_tabled n d x whole y l f (subst (λ b. x < b) (sym same) low) g is i
 
-    marks : IsKept w begun (visited false (tabled w x) x m) (record c { visited = x + 1; looked = c.looked + 1 })
+    marks : PassInvariant w begun (visited false (tabled w x) x m) (record c { visited = x + 1; looked = c.looked + 1 })
     marks = cases (nat_lt 0 (tabled w x)) refl where
-      cases : (b : Bool) → nat_lt 0 (tabled w x) ≡ b → IsKept w begun (if b then shaded x m else m) (record c { visited = x + 1; looked = c.looked + 1 })
+      cases : (b : Bool) → nat_lt 0 (tabled w x) ≡ b → PassInvariant w begun (if b then shaded x m else m) (record c { visited = x + 1; looked = c.looked + 1 })
       cases true d = here (shaded x m) c e from none (bound_shaded m x) (λ _. itself_marked m x known low) (grey (InTable-tabled w x (ltb-true 0 (tabled w x) d)))
       cases false d =
           let untabled = ltb-false 0 (tabled w x) d in
           here m c e from none refl (λ t. let some = tabled-InTable w x t in absurd (omega (arith, untabled, some))) k
 
-    scans : (held_by w x ≡ []) × (is_due w m x ≡ true) → IsKept w begun (visited true (tabled w x) x m) (record c { visited = x + 1; looked = c.looked + 2 })
+    scans : (held_by w x ≡ []) × (is_due w m x ≡ true) → PassInvariant w begun (visited true (tabled w x) x m) (record c { visited = x + 1; looked = c.looked + 2 })
     scans h =
         let due = and_parts (nat_lt 0 (tabled w x)) (nat_lt x m.bound && is_white m x) h.1 in
         let t = InTable-tabled w x (ltb-true 0 (tabled w x) due.0) in
         let d : Progress = record c { looked = c.looked + 1 } in
-        let black : IsKept w begun (blackened x (shaded x m)) d = subst (λ fs. IsKept w begun (blackened x (shaded_all fs (shaded x m))) d) h.0 (kept_scan (shaded x m) c x whole e (shaded_grey m x due.1) (grey t)) in
+        let black : PassInvariant w begun (blackened x (shaded x m)) d = subst (λ fs. PassInvariant w begun (blackened x (shaded_all fs (shaded x m))) d) h.0 (kept_scan (shaded x m) c x whole e (shaded_grey m x due.1) (grey t)) in
         let past = here (blackened x (shaded x m)) d e from none (bound_blackened (shaded x m) x ∙ bound_shaded m x) (λ _. ap (λ t. t x) (marked_blackened (shaded x m) x) ∙ itself_marked m x known low) black in
         let is : blackened x (shaded x m) ≡ visited true (tabled w x) x m = shaded_black m x due.1 ∙ sym (λ i. if due.0 i then (if due.1 i then record m { colors = map.insert m.colors x Black } else m) else m) in
         let counts : c.looked + 1 + 1 ≡ c.looked + 2 = omega arith in
-        subst (λ n. IsKept w begun (visited true (tabled w x) x m) (record c { visited = x + 1; looked = n })) counts (subst (λ n. IsKept w begun n (record c { visited = x + 1; looked = c.looked + 1 + 1 })) is past)
+        subst (λ n. PassInvariant w begun (visited true (tabled w x) x m) (record c { visited = x + 1; looked = n })) counts (subst (λ n. PassInvariant w begun n (record c { visited = x + 1; looked = c.looked + 1 + 1 })) is past)
 
-    by : (s : Bool) → scanned ≡ s → IsKept w begun (visited s (tabled w x) x m) (record c { visited = x + 1; looked = c.looked + units_of s })
+    by : (s : Bool) → scanned ≡ s → PassInvariant w begun (visited s (tabled w x) x m) (record c { visited = x + 1; looked = c.looked + units_of s })
     by true y = scans (bare y)
     by false y = marks
 
   -- Marking ends, where all are visited and none is grey.
   pub kept_finish : (m : Marked) (c : Progress) → IsWhole w → c.stage ≡ Marking → ((f : ℕ) → c.visited ≤ f → f < m.bound → is_live w f ≡ false) → ((f : ℕ) → is_grey m f ≡ false)
-      → IsKept w begun m c → IsKept w begun m (record c { stage = Sweeping; visited = m.bound })
+      → PassInvariant w begun m c → PassInvariant w begun m (record c { stage = Sweeping; visited = m.bound })
   kept_finish m c whole e none greys k =
       let p = in_marking e k in
       let r = p.running in
@@ -275,7 +275,7 @@ module _ {w begun : World} where
 
   -- The next live file is swept, where it is marked: it stays as it is.
   pub kept_swept_marked : (m : Marked) (c : Progress) (x : ℕ) → c.stage ≡ Sweeping → IsLive w x → c.swept ≤ x → x < m.bound → ((g : ℕ) → c.swept ≤ g → g < x → is_live w g ≡ false) → is_marked m x ≡ true
-      → IsKept w begun m c → IsKept w begun m (record c { swept = x + 1; looked = c.looked + 1 })
+      → PassInvariant w begun m c → PassInvariant w begun m (record c { swept = x + 1; looked = c.looked + 1 })
   kept_swept_marked m c x e l from low none is k =
       let p = in_sweeping e k in
       let r = p.running in
@@ -289,7 +289,7 @@ module _ {w begun : World} where
 
   -- The next live file is swept: it is emptied.
   pub kept_swept : (m : Marked) (c : Progress) (x : ℕ) → c.stage ≡ Sweeping → IsLive w x → c.swept ≤ x → x < m.bound → ((g : ℕ) → c.swept ≤ g → g < x → is_live w g ≡ false)
-      → IsKept w begun m c → IsKept (emptied (nat_eq x) w) begun m (record c { swept = x + 1; looked = c.looked + 1 })
+      → PassInvariant w begun m c → PassInvariant (emptied (nat_eq x) w) begun m (record c { swept = x + 1; looked = c.looked + 1 })
   kept_swept m c x e l from low none k =
       let p = in_sweeping e k in
       let r = p.running in
@@ -306,14 +306,14 @@ module _ {w begun : World} where
       } in
       record { known = known_world (emptied (nat_eq x) w) w m (live-emptied (nat_eq x) w) k.known; stage = subst (λ s. IsStage s (emptied (nat_eq x) w) begun m d) (sym e) q }
 
-  -- A live file of the begin that is not marked while sweeping goes on is garbage of the begin.
-  pub swept_garbage : (m : Marked) (c : Progress) (x : ℕ) → c.stage ≡ Sweeping → IsLive w x → x < m.bound → is_marked m x ≡ false → IsKept w begun m c → Garbage begun x
+  -- While sweeping, a live unmarked file of the begin is garbage of the begin.
+  pub swept_garbage : (m : Marked) (c : Progress) (x : ℕ) → c.stage ≡ Sweeping → IsLive w x → x < m.bound → is_marked m x ≡ false → PassInvariant w begun m c → Garbage begun x
   swept_garbage m c x e l low unmarked k =
       let p = in_sweeping e k in
       p.sweeping.unmarked x (p.running.since.old x l low) l unmarked
 
   -- Where no garbage of the begin is live, the sockets of it were counted.
-  pub counted_all : {m : Marked} {c : Progress} → is_running c.stage ≡ true → ((f : ℕ) → Garbage begun f → ¬ (IsLive w f)) → IsKept w begun m c → IsGarbageCount begun c.reclaimed
+  pub counted_all : {m : Marked} {c : Progress} → is_running c.stage ≡ true → ((f : ℕ) → Garbage begun f → ¬ (IsLive w f)) → PassInvariant w begun m c → IsGarbageCount begun c.reclaimed
   counted_all {m = m} {c = c} t none k = by c.stage refl k.stage where
     by : (s : Stage) → c.stage ≡ s → IsStage s w begun m c → IsGarbageCount begun c.reclaimed
     by Resting e p = absurd (false≢true (sym (ap is_running e) ∙ t))
@@ -321,7 +321,7 @@ module _ {w begun : World} where
     by Sweeping e p = reclaimed_all none (is_marked m) (below c.swept) c.reclaimed p.sweeping
 
   -- Where a table holds each live file, no garbage of the begin is live.
-  pub none_tabled : {m : Marked} {c : Progress} → is_running c.stage ≡ true → ((f : ℕ) → IsLive w f → InTable w f) → IsKept w begun m c → (f : ℕ) → Garbage begun f → ¬ (IsLive w f)
+  pub none_tabled : {m : Marked} {c : Progress} → is_running c.stage ≡ true → ((f : ℕ) → IsLive w f → InTable w f) → PassInvariant w begun m c → (f : ℕ) → Garbage begun f → ¬ (IsLive w f)
   none_tabled {m = m} {c = c} t tabled k f g l = by c.stage t k.stage where
     by : (s : Stage) → is_running s ≡ true → IsStage s w begun m c → ⊥
     by Resting e p = false≢true e
@@ -329,7 +329,7 @@ module _ {w begun : World} where
     by Sweeping e p = p.running.since.stray.tables f g (tabled f l)
 
   -- Where each live file of the begin is marked, no garbage of the begin is live.
-  pub none_marked : {m : Marked} {c : Progress} → is_running c.stage ≡ true → ((f : ℕ) → knows m f ≡ true → f < m.bound → is_marked m f ≡ true) → IsKept w begun m c → (f : ℕ) → Garbage begun f → ¬ (IsLive w f)
+  pub none_marked : {m : Marked} {c : Progress} → is_running c.stage ≡ true → ((f : ℕ) → knows m f ≡ true → f < m.bound → is_marked m f ≡ true) → PassInvariant w begun m c → (f : ℕ) → Garbage begun f → ¬ (IsLive w f)
   none_marked {m = m} {c = c} t marked k f g l = by c.stage t k.stage where
     by : (s : Stage) → is_running s ≡ true → IsStage s w begun m c → ⊥
     by Resting e p = false≢true e
@@ -337,7 +337,7 @@ module _ {w begun : World} where
     by Sweeping e p = false≢true (sym (p.sweeping.only_reached f g) ∙ marked f (k.known f ∙ l) (p.running.since.below f g.0))
 
   -- Where all are swept in a settled world, no garbage of the begin is live.
-  pub kept_over : (m : Marked) (c : Progress) → c.stage ≡ Sweeping → IsSettled w → ((f : ℕ) → c.swept ≤ f → f < m.bound → is_live w f ≡ false) → IsKept w begun m c → (f : ℕ) → Garbage begun f → ¬ (IsLive w f)
+  pub kept_over : (m : Marked) (c : Progress) → c.stage ≡ Sweeping → IsSettled w → ((f : ℕ) → c.swept ≤ f → f < m.bound → is_live w f ≡ false) → PassInvariant w begun m c → (f : ℕ) → Garbage begun f → ¬ (IsLive w f)
   kept_over m c e settled none k =
       let p = in_sweeping e k in
       let r = p.running in
@@ -353,8 +353,8 @@ module _ (w begun : World) (m : Marked) (c : Progress) (x : ℕ) (l : IsLive w x
       running_of (forgotten x m) (counted w m x c) (marked_forgotten m x) (grey_forgotten m x) refl (since_drop begun w x m.bound r.since)
       (λ f e. r.marked f (and_parts (is_marked m f) (not (nat_eq x f)) e).0) (counted_drop begun w x (is_marked m) (is_grey m) (below c.visited) (below c.swept) c.looked r.counted) r.low
 
-  -- A file that has no place and holds nothing goes: it is forgotten, and counted where it is an unmarked socket of the begin that sweeping goes on for.
-  pub kept_gone : IsKept w begun m c → IsKept (without (nat_eq x) w) begun (forgotten x m) (counted w m x c)
+  -- An unheld and empty file is freed: it is forgotten, and counted if sweeping and it is an unmarked socket of the begin.
+  pub kept_gone : PassInvariant w begun m c → PassInvariant (without (nat_eq x) w) begun (forgotten x m) (counted w m x c)
   kept_gone k = record { known = known_gone w x m k.known; stage = by c.stage refl k.stage } where
     by : (s : Stage) → c.stage ≡ s → IsStage s w begun m c → IsStage s (without (nat_eq x) w) begun (forgotten x m) (counted w m x c)
     by Resting e p = tt
@@ -385,8 +385,8 @@ module _ (w begun : World) (m : Marked) (c : Progress) (x : ℕ) (l : IsLive w x
 
 -- A pass begins in a sound world, with no file marked.
 pub kept_begin : (w : World) (m n : Marked) (d : Progress) → IsSound w → AreKnown w m → ((f : ℕ) → is_marked n f ≡ false) → ((f : ℕ) → knows n f ≡ knows m f) → n.bound ≡ w.next_ino
-    → d ≡ record { stage = Marking; visited = 0; swept = 0; looked = 0; reclaimed = 0 } → IsKept w w n d
-kept_begin w m n d sound known unmarked same bound is = subst (λ d. IsKept w w n d) (sym is) (record {
+    → d ≡ record { stage = Marking; visited = 0; swept = 0; looked = 0; reclaimed = 0 } → PassInvariant w w n d
+kept_begin w m n d sound known unmarked same bound is = subst (λ d. PassInvariant w w n d) (sym is) (record {
   known = known_marks w m n same known;
   stage = record {
     running = record {

@@ -1,4 +1,4 @@
--- What is kept while a pass runs, and what each change owes to it.
+-- The invariant of a running pass, and what each change owes to it.
 pub mod Tallies
 pub mod Marked
 pub mod Shaded

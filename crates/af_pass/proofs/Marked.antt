@@ -20,7 +20,7 @@ use Rattle.af_pass.specs.Since.{also, also_grey, but}
 pub turned : (x f : ℕ) → nat_eq x f ≡ nat_eq f x
 turned x f = both_ways (nat_eq x f) (nat_eq f x) (λ e. eq-eqb f x (sym (eqb-true x f e))) (λ e. eq-eqb x f (sym (eqb-true f x e)))
 
--- What is grey is marked.
+-- A grey file is marked.
 pub grey_marked : (m : Marked) (f : ℕ) → is_grey m f ≡ true → is_marked m f ≡ true
 grey_marked m f = by (map.get m.colors f) where
   by : (o : Option Color) → option_map_or is_grey_color o false ≡ true → option_map_or is_mark o false ≡ true
@@ -29,7 +29,7 @@ grey_marked m f = by (map.get m.colors f) where
   by (Some Grey) e = e
   by (Some Black) e = refl
 
--- What is marked is known.
+-- A marked file is known.
 pub marked_known : (m : Marked) (f : ℕ) → is_marked m f ≡ true → knows m f ≡ true
 marked_known m f = by (map.get m.colors f) where
   by : (o : Option Color) → option_map_or is_mark o false ≡ true → is_some o ≡ true
@@ -37,21 +37,21 @@ marked_known m f = by (map.get m.colors f) where
   by (Some c) e = refl
 
 module _ (t : Color → Bool) (cs : Map Color) (x : ℕ) where
-  -- What a test says of a colour that was put in.
+  -- A test on the colour that was put in.
   seen_put : (c : Color) (f : ℕ) → option_map_or t (map.get (map.insert cs x c) f) false ≡ cond (nat_eq x f) (t c) (option_map_or t (map.get cs f) false)
   seen_put c f = ap (λ o. option_map_or t o false) (map.get-insert nat_cmp_total cs x c f ∙ ap (λ b. cond b (Some c) (map.get cs f)) (unsigned_tied f x ∙ turned f x)) ∙ by (nat_eq x f) where
     by : (b : Bool) → option_map_or t (cond b (Some c) (map.get cs f)) false ≡ cond b (t c) (option_map_or t (map.get cs f) false)
     by true = refl
     by false = refl
 
-  -- What a test says of the colours without one.
+  -- A test on the colours without one.
   seen_taken : (f : ℕ) → option_map_or t (map.get (map.remove cs x) f) false ≡ (option_map_or t (map.get cs f) false && not (nat_eq x f))
   seen_taken f = ap (λ o. option_map_or t o false) (map.get-remove nat_cmp_total cs x f ∙ ap (λ b. cond b None (map.get cs f)) (unsigned_tied f x ∙ turned f x)) ∙ by (nat_eq x f) where
     by : (b : Bool) → option_map_or t (cond b None (map.get cs f)) false ≡ (option_map_or t (map.get cs f) false && not b)
     by true = sym (and-false _)
     by false = sym (and-true _)
 
--- What is put in over a known one is known as before.
+-- A colour put in over a known one keeps the file known.
 there_put : (cs : Map Color) (x : ℕ) (c : Color) (f : ℕ) → map.contains_key cs x ≡ true → map.contains_key (map.insert cs x c) f ≡ map.contains_key cs f
 there_put cs x c f known = ap is_some (map.get-insert nat_cmp_total cs x c f ∙ ap (λ b. cond b (Some c) (map.get cs f)) (unsigned_tied f x)) ∙ by (nat_eq f x) refl where
   by : (b : Bool) → nat_eq f x ≡ b → is_some (cond b (Some c) (map.get cs f)) ≡ map.contains_key cs f
@@ -67,14 +67,14 @@ module _ (m : Marked) (x : ℕ) where
   pub shaded_beyond : m.bound ≤ x → shaded x m ≡ m
   shaded_beyond high = ap (λ b. cond (b && is_white m x) (put m x Grey) m) (le-ltb x m.bound high)
 
-  -- What is marked stays as it is where it is shaded.
+  -- A marked file stays as it is when shaded.
   shaded_marked : is_marked m x ≡ true → shaded x m ≡ m
   shaded_marked e =
       ap (λ b. cond (nat_lt x m.bound && (knows m x && not b)) (put m x Grey) m) e
       ∙ ap (λ b. cond (nat_lt x m.bound && b) (put m x Grey) m) (and-false (knows m x))
       ∙ ap (λ b. cond b (put m x Grey) m) (and-false (nat_lt x m.bound))
 
-  -- What is known and not marked is grey where it is shaded.
+  -- A known, unmarked file becomes grey when shaded.
   shaded_white : knows m x ≡ true → x < m.bound → is_marked m x ≡ false → shaded x m ≡ put m x Grey
   shaded_white known low e = λ i. cond (lt-ltb x m.bound low i && (known i && not (e i))) (put m x Grey) m
 
@@ -122,7 +122,7 @@ module _ (m : Marked) (x : ℕ) where
     by true = refl
     by false = refl
 
-  -- A scanned file is grey no more.
+  -- A scanned file is no longer grey.
   pub grey_blackened : is_grey (blackened x m) ≡ but (is_grey m) x
   grey_blackened = λ i f. at f (is_grey m x) refl i where
     less : (b c : Bool) → cond b false c ≡ (c && not b)
@@ -182,15 +182,15 @@ module _ (m : Marked) (x : ℕ) where
 
 -- x is forgotten
 module _ (m : Marked) (x : ℕ) where
-  -- A forgotten file is marked no more.
+  -- A forgotten file is no longer marked.
   pub marked_forgotten : is_marked (forgotten x m) ≡ but (is_marked m) x
   marked_forgotten = λ i f. seen_taken is_mark m.colors x f i
 
-  -- A forgotten file is grey no more.
+  -- A forgotten file is no longer grey.
   pub grey_forgotten : is_grey (forgotten x m) ≡ but (is_grey m) x
   grey_forgotten = λ i f. seen_taken is_grey_color m.colors x f i
 
-  -- A forgotten file is known no more.
+  -- A forgotten file is no longer known.
   pub knows_forgotten : (f : ℕ) → knows (forgotten x m) f ≡ (knows m f && not (nat_eq x f))
   knows_forgotten f = ap is_some (map.get-remove nat_cmp_total m.colors x f ∙ ap (λ b. cond b None (map.get m.colors f)) (unsigned_tied f x ∙ turned f x)) ∙ by (nat_eq x f) where
     by : (b : Bool) → is_some (cond b None (map.get m.colors f)) ≡ (knows m f && not b)
@@ -199,7 +199,7 @@ module _ (m : Marked) (x : ℕ) where
 
 -- x is born
 module _ (m : Marked) (x : ℕ) (stranger : knows m x ≡ false) where
-  -- A test that no white file passes, and no stranger.
+  -- A test that no white file passes, and no unknown one.
   same_test : (t : Color → Bool) → t White ≡ false → (f : ℕ) → option_map_or t (map.get (map.insert m.colors x White) f) false ≡ option_map_or t (map.get m.colors f) false
   same_test t white f = seen_put t m.colors x White f ∙ by (nat_eq x f) refl where
     unseen : (o : Option Color) → is_some o ≡ false → option_map_or t o false ≡ false

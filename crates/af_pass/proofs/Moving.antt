@@ -7,7 +7,7 @@ use Rattle.af_base.specs.Whole.{IsWhole}
 use Rattle.af_pass.specs.Since.{AreCounted, Covers, IsMarking, IsSince, IsSweeping, Moves, left_count, live_count}
 use Rattle.af_pass.proofs.Tallies.{count_same}
 
--- What is one or is no garbage is one where it is garbage.
+-- A file that is chosen or is no garbage is chosen if it is garbage.
 stray_in : {A G : Type 0} → A ⊎ (¬ G) → G → A
 stray_in (inl a) g = a
 stray_in (inr n) g = absurd (n g)
@@ -29,7 +29,7 @@ module _ {begun old new : World} (m : Moves begun old new) where
     };
   }
 
-  -- Marking goes on, where what loses a place is marked.
+  -- Marking continues, if files that lose a place are marked.
   pub marking_moves : (marked grey visited : ℕ → Bool) → IsWhole begun → Covers begun old new marked visited → IsMarking begun old marked grey visited → IsMarking begun new marked grey visited
   marking_moves marked grey visited whole c i = record {
     marks = record {
@@ -62,7 +62,7 @@ module _ {begun old new : World} (m : Moves begun old new) where
   left_count_same marked =
       count_same begun.files (λ e. is_socket e.1 && (is_live new e.0 && not (marked e.0))) (λ e. is_socket e.1 && (is_live old e.0 && not (marked e.0))) (λ k v is. ap (λ b. is_socket v && (b && not (marked k))) (m.live_same k (ap is_some is)))
 
-  -- Sweeping goes on.
+  -- Sweeping continues.
   pub sweeping_moves : (marked swept : ℕ → Bool) (reclaimed : ℕ) → IsSweeping begun old marked swept reclaimed → IsSweeping begun new marked swept reclaimed
   sweeping_moves marked swept reclaimed i = record {
     unmarked = λ f b l e. i.unmarked f b (back f b l) e;

@@ -78,7 +78,7 @@ covers_tables begun old new marked visited same lose = record {
   tables_lose = λ f l v t. lose f l t;
 }
 
--- What stood in a map before one key was changed stands there as it was, or changed at that key.
+-- A value of a map after one key was changed is unchanged, or at that key.
 pub changed-then : {X : Type 0} (g : X → X) (m : Map X) (k q : ℕ) (x : X) → map.get m q ≡ Some x → ((q ≡ k) × (map.get (change_at g m k) q ≡ Some (g x))) ⊎ (map.get (change_at g m k) q ≡ Some x)
 changed-then {X = X} g m k q x at = elim (same_or_not q k) [
   | inl same ↦ inl (same, found true (eq-eqb q k same))
@@ -87,7 +87,7 @@ changed-then {X = X} g m k q x at = elim (same_or_not q k) [
   found : (b : Bool) → nat_eq q k ≡ b → map.get (change_at g m k) q ≡ Some (cond b (g x) x)
   found b e = get-change_at g m k q ∙ ap (option_map (λ y. cond (eq_by_cmp nat_cmp q k) (g y) y)) at ∙ ap (λ c. Some (cond c (g x) x)) (unsigned_tied q k ∙ e)
 
--- What a table had before a change it has after, or the change took it out.
+-- A file in a table before a change is in it after, or the change removed it.
 tabled-left : {A : Type 0} (w : World) (p : ℕ) (g : Map ℕ → Map ℕ) (f : ℕ)
     → ((r : Process) (n : ℕ) → map.get w.processes p ≡ Some r → map.get r.table n ≡ Some f → (map.get (g r.table) n ≡ Some f) ⊎ A) → InTable w f → InTable (with_table w p g) f ⊎ A
 tabled-left w p g f lose t =
@@ -197,7 +197,7 @@ pub moves_install_all : (begun w : World) (p : ℕ) (es : List (ℕ × ℕ)) →
 moves_install_all begun w p [] spared = moves_itself begun w
 moves_install_all begun w p (e ∷ es) spared = moves_then (moves_install begun w p e.0 e.1 (spared e (Contains-first e es))) (moves_install_all begun (install w p e.0 e.1) p es (λ d h. spared d (Contains-later e es d h)))
 
--- What comes with a number is among the files.
+-- A file that comes with a number is among the files.
 file-zipped : (ns fs : List ℕ) (e : ℕ × ℕ) → Contains (zip ns fs) e → Contains fs e.1
 file-zipped [] fs e h = absurd (Contains-none e h)
 file-zipped (n ∷ ns) [] e h = absurd (Contains-none e h)

@@ -1,4 +1,4 @@
--- What slices purge, one after the other.
+-- The sockets that slices empty, one after the other.
 use Rattle.std.proofs.Common.{◌≡◌, ◌≤◌, ◌+◌, ◌↔◌, ℕ, zero, suc, Bool, true, false, ◌||◌, [], ◌∷◌, ◌++◌, refl, sym, ap, ◌∙◌, subst, nat_eq, arith, length-append}
 use Rattle.std.specs.Prelude.{Option, Some, None, is_some, option_map, if◌then◌else◌}
 use Rattle.std.specs.List.{list_any, All}
@@ -56,7 +56,7 @@ module _ {begun : World} where
     same : (f : ℕ) → nat_eq x f ≡ list_any (nat_eq f) (x ∷ [])
     same f = turned x f ∙ sym (or-false (nat_eq f x))
 
-  -- What was purged one after the other was purged at once.
+  -- Sockets emptied one after the other are as if emptied at once.
   pub purged_join : (a b c : World) (n k : ℕ) → ArePurged begun a b n → ArePurged begun b c k → ArePurged begun a c (n + k)
   purged_join a b c n k p q = record {
     files = p.files ++ q.files;
@@ -66,7 +66,7 @@ module _ {begun : World} where
         (purges_both (λ f. list_any (nat_eq f) p.files) (λ f. list_any (nat_eq f) q.files) a b c p.purged q.purged);
   }
 
-  -- What was at most so many is at most more.
+  -- A bound is below a larger bound.
   pub purged_more : (a b : World) (n k : ℕ) → n ≤ k → ArePurged begun a b n → ArePurged begun a b k
   purged_more a b n k l p = record { files = p.files; few = let x = p.few in omega (arith, l, x); of_garbage = p.of_garbage; purged = p.purged }
 

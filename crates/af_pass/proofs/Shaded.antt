@@ -13,7 +13,7 @@ use Rattle.af_pass.specs.Keeping.{shaded_all}
 use Rattle.af_pass.proofs.Marked.{bound_shaded, grey_shaded, knows_shaded, marked_shaded, shaded_beyond}
 
 module _ (m : Marked) (x : ℕ) where
-  -- A stranger is not shaded.
+  -- An unknown file is not shaded.
   shaded_stranger : knows m x ≡ false → shaded x m ≡ m
   shaded_stranger e =
       ap (λ b. cond (nat_lt x m.bound && (b && not (is_marked m x))) (record m { colors = map.insert m.colors x Grey }) m) e
@@ -26,14 +26,14 @@ module _ (m : Marked) (x : ℕ) where
     | inr high ↦ inl (shaded_beyond m x high)
   ]
 
-  -- What was marked stays marked where a file is shaded.
+  -- A marked file stays marked when a file is shaded.
   pub stays_marked : (f : ℕ) → is_marked m f ≡ true → is_marked (shaded x m) f ≡ true
   stays_marked f e = elim shaded_either [
     | inl same ↦ ap (λ n. is_marked n f) same ∙ e
     | inr is ↦ ap (λ t. t f) (marked_shaded m x is.0 is.1) ∙ ap (λ b. b || nat_eq x f) e
   ]
 
-  -- What was grey stays grey where a file is shaded.
+  -- A grey file stays grey when a file is shaded.
   pub stays_grey : (f : ℕ) → is_grey m f ≡ true → is_grey (shaded x m) f ≡ true
   stays_grey f e = elim shaded_either [
     | inl same ↦ ap (λ n. is_grey n f) same ∙ e
@@ -44,12 +44,12 @@ module _ (m : Marked) (x : ℕ) where
   pub itself_marked : knows m x ≡ true → x < m.bound → is_marked (shaded x m) x ≡ true
   itself_marked known low = ap (λ t. t x) (marked_shaded m x known low) ∙ ap (λ b. is_marked m x || b) (itself x) ∙ or-true (is_marked m x)
 
--- What was marked stays marked where files are shaded.
+-- A marked file stays marked when files are shaded.
 pub stays_marked_all : (fs : List ℕ) (m : Marked) (f : ℕ) → is_marked m f ≡ true → is_marked (shaded_all fs m) f ≡ true
 stays_marked_all [] m f e = e
 stays_marked_all (x ∷ fs) m f e = stays_marked_all fs (shaded x m) f (stays_marked m x f e)
 
--- What was grey stays grey where files are shaded.
+-- A grey file stays grey when files are shaded.
 pub stays_grey_all : (fs : List ℕ) (m : Marked) (f : ℕ) → is_grey m f ≡ true → is_grey (shaded_all fs m) f ≡ true
 stays_grey_all [] m f e = e
 stays_grey_all (x ∷ fs) m f e = stays_grey_all fs (shaded x m) f (stays_grey m x f e)

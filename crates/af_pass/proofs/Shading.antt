@@ -30,7 +30,7 @@ scanned_other : (marked grey : ℕ → Bool) (x f : ℕ) → nat_eq x f ≡ fals
 scanned_other marked grey x f e = ap (λ b. marked f && not b) (but_other grey x f e)
 
 module _ {begun now : World} (marked grey visited : ℕ → Bool) (x : ℕ) where
-  -- Marking goes on where x is marked too, and x is no garbage of the begin.
+  -- Marking continues when x is marked too, and x is no garbage of the begin.
   pub shade_marking : ¬ (Garbage begun x) → IsMarking begun now marked grey visited → IsMarking begun now (also marked x) (also_grey marked grey x) visited
   shade_marking reached i = record {
     marks = record {
@@ -55,7 +55,7 @@ module _ {begun now : World} (marked grey visited : ℕ → Bool) (x : ℕ) wher
   pub shade_counted : (swept : ℕ → Bool) (looked : ℕ) → AreCounted begun now visited (is_scanned marked grey) swept looked → AreCounted begun now visited (is_scanned (also marked x) (also_grey marked grey x)) swept looked
   shade_counted swept looked a = subst (λ s. AreCounted begun now visited s swept looked) (λ i f. sym (scanned_also marked grey x f) i) a
 
-  -- Marking goes on where x is scanned, after all that it holds was marked.
+  -- Marking continues when x is scanned, after all that it holds was marked.
   pub scan_marking : IsWhole begun → ((f : ℕ) → IsLive begun f → Holds now x f → marked f ≡ true) → IsMarking begun now marked grey visited → IsMarking begun now marked (but grey x) visited
   scan_marking whole held i = record {
     marks = record {
@@ -106,7 +106,7 @@ module _ {begun now : World} (marked grey visited visited' : ℕ → Bool) where
     queues = i.queues;
   }
 
-  -- Marking goes on where x is visited, which is marked if a table holds it.
+  -- Marking continues when x is visited, which is marked if a table holds it.
   pub visit_marking : (x : ℕ) → IsWhole now → (InTable now x → marked x ≡ true) → ((f : ℕ) → IsLive now f → nat_eq x f ≡ false → visited f ≡ visited' f)
       → IsMarking begun now marked grey visited → IsMarking begun now marked grey visited'
   visit_marking x whole tabled same i = visits (λ f e t. elim (same_or_not x f) [
@@ -114,7 +114,7 @@ module _ {begun now : World} (marked grey visited visited' : ℕ → Bool) where
     | inr a ↦ inr (sym (same f (whole.tables_live f t) a) ∙ e)
   ]) i
 
-  -- Marking goes on where the visits go past files that are gone.
+  -- Marking continues when the visits pass files that were freed.
   pub skip_marking : IsWhole now → ((f : ℕ) → IsLive now f → visited f ≡ visited' f) → IsMarking begun now marked grey visited → IsMarking begun now marked grey visited'
   skip_marking whole same i = visits (λ f e t. inr (sym (same f (whole.tables_live f t)) ∙ e)) i
 

@@ -20,14 +20,14 @@ use Rattle.af_base.proofs.Takes.{AreWithin, leaves-taken}
 use Rattle.af_pass.specs.Since.{Covers, Moves, is_socket_at}
 use Rattle.af_pass.proofs.Placing.{changed-then}
 
--- What is in two lists together is in two others, or else something holds, where that is so of each of them.
+-- An element common to two lists is common to two others, or else a fact holds, if so for each of them.
 pairwise : {A : Type 0} (xs ys us vs : List ℕ) (f : ℕ) → (Contains xs f → Contains us f ⊎ A) → (Contains ys f → Contains vs f ⊎ A) → Contains (xs ++ ys) f → Contains (us ++ vs) f ⊎ A
 pairwise xs ys us vs f left right h = elim (Contains-append_cases xs ys f h) [
   | inl y ↦ elim (left y) [ inl z ↦ inl (Contains-append_left us vs f z) | inr z ↦ inr z ]
   | inr y ↦ elim (right y) [ inl z ↦ inl (Contains-append_right us vs f z) | inr z ↦ inr z ]
 ]
 
--- What is in a list is in it without its first, or is the first.
+-- An element of a list is in it without its first, or is the first.
 first_or_later : (xs : List ℕ) (f : ℕ) → Contains xs f → Contains (drop 1 xs) f ⊎ (slice_get xs 0 ≡ Some f)
 first_or_later [] f h = inl h
 first_or_later (x ∷ xs) f h = by h.0 h.1 h.2 where
@@ -45,7 +45,7 @@ module _ (w : World) (s : ℕ) (g : Socket → Socket) where
     each true (Some (AsSocket x)) = refl
     each false (Some x) = refl
 
-  -- What was held before a socket's change is held after it, or the change took it out.
+  -- A file that was held before a socket's change is held after it, or the change removed it.
   pub held-left : {A : Type 0} (q f : ℕ)
       → ((x : Socket) → map.get w.files s ≡ Some (AsSocket x) → Contains (contents (AsSocket x)) f → Contains (contents (AsSocket (g x))) f ⊎ A) → Holds w q f → Holds (with_socket w s g) q f ⊎ A
   held-left {A = A} q f lose h =
@@ -71,7 +71,7 @@ module _ (w : World) (s : ℕ) (g : Socket → Socket) where
     tables_gain = λ f t. inl t;
   }
 
-  -- A socket changed, where what goes out of it is no garbage, and is marked, if it is of the begin.
+  -- A change of a socket, if each file that leaves it is no garbage, and is marked, if it is of the begin.
   pub covers_sock : (begun : World) (marked visited : ℕ → Bool)
       → ((x : Socket) (f : ℕ) → map.get w.files s ≡ Some (AsSocket x) → Contains (contents (AsSocket x)) f → Contains (contents (AsSocket (g x))) f ⊎ ((IsLive begun f → marked f ≡ true) × (¬ (Garbage begun f)))) → Covers begun w (with_socket w s g) marked visited
   covers_sock begun marked visited lose = record {
@@ -156,14 +156,14 @@ module _ (begun w : World) (s : ℕ) where
     by (m ∷ q) e = covers_left q m.attached marked visited (sym (ap carried e)) (λ f h. was m f (ap (λ q. slice_get q 0) e) h)
 
   module _ (x : Socket) (max : ℕ) (at : map.get w.files s ≡ Some (AsSocket x)) (within : AreWithin x.queue) where
-    -- What a receive takes and what it leaves are the files that were in the queue.
+    -- The files taken by a receive and those left are those of the queue.
     parted : (take_from x.kind x.queue max).attached ++ carried (take_from x.kind x.queue max).rest ≡ carried (queue_at w s)
     parted = (leaves-taken x.kind x.queue max within).carried ∙ sym (ap (λ o. carried (option_map_or queue_of o [])) at)
 
-    -- What a receive leaves of a queue.
+    -- The queue after a receive.
     pub moves_receive : Moves begun w (with_queue w s (take_from x.kind x.queue max).rest)
     moves_receive = moves_left (take_from x.kind x.queue max).rest (take_from x.kind x.queue max).attached parted
 
-    -- What a receive leaves of a queue, where what it takes is no garbage, and is marked, if it is of the begin.
+    -- The queue after a receive, if each taken file is no garbage, and is marked, if it is of the begin.
     pub covers_receive : (marked visited : ℕ → Bool) → ((f : ℕ) → Contains (take_from x.kind x.queue max).attached f → (IsLive begun f → marked f ≡ true) × (¬ (Garbage begun f))) → Covers begun w (with_queue w s (take_from x.kind x.queue max).rest) marked visited
     covers_receive marked visited was = covers_left (take_from x.kind x.queue max).rest (take_from x.kind x.queue max).attached marked visited parted was

@@ -146,7 +146,7 @@ module _ {begun now : World} (bound : ℕ) (s : IsSince begun now bound) (marked
 
 -- no garbage of the begin is live
 module _ {begun now : World} (none : (f : ℕ) → Garbage begun f → ¬ (IsLive now f)) where
-  -- Where sweeping goes on, the sockets that were counted are the garbage of the begin.
+  -- While sweeping, the sockets that were counted are the garbage of the begin.
   pub reclaimed_all : (marked swept : ℕ → Bool) (reclaimed : ℕ) → IsSweeping begun now marked swept reclaimed → IsGarbageCount begun reclaimed
   reclaimed_all marked swept reclaimed i =
       let none_left : left_count begun now marked ≡ 0 = count_same begun.files (λ e. is_socket e.1 && (is_live now e.0 && not (marked e.0))) (λ _. false) each ∙ count_none (map.entries begun.files) in
@@ -159,7 +159,7 @@ module _ {begun now : World} (none : (f : ℕ) → Garbage begun f → ¬ (IsLiv
           by true e true d = ap (λ b. is_socket v && (b && not (marked k))) e ∙ ap (λ b. is_socket v && not b) d ∙ and-false (is_socket v)
           by true e false d = absurd (none k (i.unmarked k (ap is_some is) e d) e)
 
-  -- Where marking goes on, there was none.
+  -- While marking, none was counted.
   pub reclaimed_none : (marked grey visited : ℕ → Bool) → IsMarking begun now marked grey visited → IsGarbageCount begun 0
   reclaimed_none marked grey visited i = (
     λ _. false,

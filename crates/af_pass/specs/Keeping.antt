@@ -1,4 +1,4 @@
--- The whole of what is kept: the world, and beside it the marks and how far the pass is.
+-- The whole of what is kept: the world, and beside it the marks and how far the pass is. Definitions that name no manual page are of this project's profile (docs/PROFILE.md).
 use Rattle.std.specs.Prelude.{◌≡◌, ◌≤◌, ◌+◌, ◌&&◌, ℕ, Bool, true, false, not, nat_eq, nat_lt, List, [], ◌∷◌, length, take, if◌then◌else◌}
 use Rattle.af_base.specs.World.{World, IsLive, is_live}
 use Rattle.af_base.specs.Counts.{tabled}
@@ -11,7 +11,7 @@ use Rattle.af_pass.specs.declared.Stage.TheVariants.{Marking, Resting, Sweeping}
 use Rattle.af_pass.specs.declared.Progress.{Progress}
 use Rattle.af_pass.specs.Since.{AreCounted, IsMarking, IsSince, IsSweeping, is_scanned, is_socket_at}
 
--- The marks know just the live files (this project's profile).
+-- The marks know just the live files.
 abbrev pub AreKnown : World → Marked → Type 0
 AreKnown w m = (f : ℕ) → knows m f ≡ is_live w f
 
@@ -19,14 +19,14 @@ AreKnown w m = (f : ℕ) → knows m f ≡ is_live w f
 abbrev pub below : ℕ → ℕ → Bool
 below n f = nat_lt f n
 
--- A pass runs: the world is one since its begin, only files of the begin are marked, and each unit is counted (this project's profile).
+-- A pass runs: the world is one since its begin, only files of the begin are marked, and each unit is counted.
 pub record IsRunning (w begun : World) (m : Marked) (c : Progress) : Type 0 where
   pub since : IsSince begun w m.bound
   pub marked : (f : ℕ) → is_marked m f ≡ true → IsLive begun f
   pub counted : AreCounted begun w (below c.visited) (is_scanned (is_marked m) (is_grey m)) (below c.swept) c.looked
   pub low : m.bound ≤ w.next_ino
 
--- It marks (this project's profile).
+-- It marks.
 pub record IsInMarking (w begun : World) (m : Marked) (c : Progress) : Type 0 where
   pub running : IsRunning w begun m c
   pub marking : IsMarking begun w (is_marked m) (is_grey m) (below c.visited)
@@ -34,19 +34,19 @@ pub record IsInMarking (w begun : World) (m : Marked) (c : Progress) : Type 0 wh
   pub none_reclaimed : c.reclaimed ≡ 0
   pub visited_low : c.visited ≤ m.bound
 
--- It sweeps (this project's profile).
+-- It sweeps.
 pub record IsInSweeping (w begun : World) (m : Marked) (c : Progress) : Type 0 where
   pub running : IsRunning w begun m c
   pub sweeping : IsSweeping begun w (is_marked m) (below c.swept) c.reclaimed
 
--- What is kept in each stage; where no pass runs, nothing.
+-- The invariant of each stage; without a pass, nothing.
 abbrev pub IsStage : Stage → World → World → Marked → Progress → Type 0
 IsStage Resting w begun m c = Unit {0}
 IsStage Marking w begun m c = IsInMarking w begun m c
 IsStage Sweeping w begun m c = IsInSweeping w begun m c
 
--- All that is kept, between any two changes (this project's profile).
-pub record IsKept (w begun : World) (m : Marked) (c : Progress) : Type 0 where
+-- All that is kept, between any two changes.
+pub record PassInvariant (w begun : World) (m : Marked) (c : Progress) : Type 0 where
   pub known : AreKnown w m
   pub stage : IsStage c.stage w begun m c
 
@@ -56,13 +56,13 @@ pass_of Resting begun spent = Idle
 pass_of Marking begun spent = Running begun spent
 pass_of Sweeping begun spent = Running begun spent
 
--- Whether marking goes on.
+-- Whether marking continues.
 abbrev pub is_marking : Stage → Bool
 is_marking Marking = true
 is_marking Resting = false
 is_marking Sweeping = false
 
--- Whether sweeping goes on.
+-- Whether sweeping continues.
 abbrev pub is_sweeping : Stage → Bool
 is_sweeping Sweeping = true
 is_sweeping Resting = false
@@ -79,7 +79,7 @@ abbrev pub runs : Pass → Bool
 runs Idle = false
 runs (Running begun spent) = true
 
--- The file is no garbage of the begin of a pass that runs: it can be put into a place, and its places can be taken (this project's profile).
+-- The file is no garbage of the begin of a pass that runs: it can be put into a place, and its places can be taken.
 abbrev pub Spares : Pass → ℕ → Type 0
 Spares Idle f = Unit {0}
 Spares (Running begun spent) f = ¬ (Garbage begun f)
@@ -89,7 +89,7 @@ abbrev pub shaded_all : List ℕ → Marked → Marked
 shaded_all [] m = m
 shaded_all (f ∷ fs) m = shaded_all fs (shaded f m)
 
--- The same, where marking goes on.
+-- The same, while marking.
 abbrev pub shaded_in : Stage → List ℕ → Marked → Marked
 shaded_in stage fs m = if is_marking stage then shaded_all fs m else m
 
@@ -102,11 +102,11 @@ abbrev pub units_of : Bool → ℕ
 units_of false = 1
 units_of true = 2
 
--- What a file would lose first: what its first message carries, or, where it has none, its first embryo.
+-- The files that a file would lose first: those of its first message, or else its first embryo.
 abbrev pub first_held : World → ℕ → List ℕ
 first_held w s = if nat_eq (length (queue_at w s)) 0 then take 1 (backlog_at w s) else carried (take 1 (queue_at w s))
 
--- Whether the file is counted as it goes: while sweeping goes on, and it is an unmarked socket of the begin.
+-- Whether freeing the file is counted: while sweeping, if it is an unmarked socket of the begin.
 abbrev pub is_counted : World → Marked → Progress → ℕ → Bool
 is_counted w m c f = is_sweeping c.stage && (is_socket_at w f && (nat_lt f m.bound && not (is_marked m f)))
 

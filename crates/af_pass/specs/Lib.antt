@@ -1,4 +1,4 @@
--- What is kept while a pass runs.
+-- The invariant of a running pass.
 pub mod Since
 pub mod Keeping
 pub mod Purged

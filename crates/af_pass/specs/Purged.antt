@@ -1,4 +1,4 @@
--- What some units of a slice emptied.
+-- The sockets that some units of a slice emptied.
 use Rattle.std.specs.Prelude.{◌≤◌, ℕ, List, length, nat_eq}
 use Rattle.std.specs.List.{list_any, All}
 use Rattle.af_base.specs.World.{World}

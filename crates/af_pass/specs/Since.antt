@@ -1,4 +1,4 @@
--- What is kept while a pass runs, of the world at its begin and of the world now.
+-- The invariant of a running pass, over the world at its begin and the world now. Definitions that name no manual page are of this project's profile (docs/PROFILE.md).
 use Rattle.std.specs.Prelude.{◌≡◌, ◌≤◌, ◌<◌, ◌+◌, ◌*◌, ℕ, Bool, true, false, not, ◌&&◌, ◌||◌, nat_eq, ◌⊎◌}
 use Rattle.std.specs.List.{count_by}
 use Rattle.std.specs.Option.{option_map_or}
@@ -12,15 +12,15 @@ use Rattle.af_base.specs.Whole.{IsSound}
 abbrev pub is_socket_at : World → ℕ → Bool
 is_socket_at w f = option_map_or is_socket (map.get w.files f) false
 
--- How many files of the begin are live now and pass the test (this project's profile).
+-- How many files of the begin are live now and pass the test.
 abbrev pub live_count : World → World → (ℕ → Bool) → ℕ
 live_count begun now test = count_by (λ e. is_live now e.0 && test e.0) (map.entries begun.files)
 
--- How many sockets of the begin are live now and not marked (this project's profile).
+-- How many sockets of the begin are live now and not marked.
 abbrev pub left_count : World → World → (ℕ → Bool) → ℕ
 left_count begun now marked = count_by (λ e. is_socket e.1 && (is_live now e.0 && not (marked e.0))) (map.entries begun.files)
 
--- What holds garbage of the begin is garbage of the begin, and no table does: none strays to where somebody could come to it (net/unix/garbage.c: garbage stays out of reach).
+-- A holder of garbage of the begin is garbage of the begin, and no table holds any: none strays to where a process could reach it (net/unix/garbage.c: garbage stays out of reach).
 pub record NoneStray (begun now : World) : Type 0 where
   pub queues : (s f : ℕ) → Holds now s f → Garbage begun f → Garbage begun s
   pub tables : (f : ℕ) → Garbage begun f → ¬ (InTable now f)
@@ -37,19 +37,19 @@ pub record IsSince (begun now : World) (bound : ℕ) : Type 0 where
 abbrev pub is_scanned : (ℕ → Bool) → (ℕ → Bool) → ℕ → Bool
 is_scanned marked grey f = marked f && not (grey f)
 
--- What a reached file of the begin held is marked, or gone, or its holder is live, not scanned, and holds it still; what a table held is marked, or gone, or not visited and in a table; no garbage is marked (net/unix/garbage.c: from the tables on).
+-- A file that a reached file of the begin held is marked, or freed, or its holder is live, not scanned, and holds it still; a file that a table held is marked, or freed, or not visited and in a table; no garbage is marked (net/unix/garbage.c: from the tables on).
 pub record AreMarks (begun now : World) (marked grey visited : ℕ → Bool) : Type 0 where
   pub queues : (s f : ℕ) → Reached begun s → Holds begun s f → (marked f ≡ true) ⊎ ((is_live now f ≡ false) ⊎ ((is_live now s ≡ true) × (is_scanned marked grey s ≡ false) × Holds now s f))
   pub tables : (f : ℕ) → InTable begun f → (marked f ≡ true) ⊎ ((is_live now f ≡ false) ⊎ ((visited f ≡ false) × InTable now f))
   pub only_reached : (f : ℕ) → Garbage begun f → marked f ≡ false
 
--- Marking goes on: the marks are as they should be, and the garbage of the begin is live and keeps the places that it had (this project's profile).
+-- Marking continues: the marks are as they should be, and the garbage of the begin is live and keeps its places.
 pub record IsMarking (begun now : World) (marked grey visited : ℕ → Bool) : Type 0 where
   pub marks : AreMarks begun now marked grey visited
   pub live : (f : ℕ) → Garbage begun f → IsLive now f
   pub queues : (s f : ℕ) → Garbage begun f → Holds begun s f → Holds now s f
 
--- Marking has ended: what is not marked is garbage of the begin, the swept hold none of it, and the sockets of it that went were counted (this project's profile).
+-- Marking has ended: each unmarked file is garbage of the begin, the swept ones hold none of it, and the freed sockets of it were counted.
 pub record IsSweeping (begun now : World) (marked swept : ℕ → Bool) (reclaimed : ℕ) : Type 0 where
   pub unmarked : (f : ℕ) → IsLive begun f → IsLive now f → marked f ≡ false → Garbage begun f
   pub only_reached : (f : ℕ) → Garbage begun f → marked f ≡ false
@@ -61,7 +61,7 @@ pub record AreCounted (begun now : World) (visited scanned swept : ℕ → Bool)
   pub at_least : live_count begun now visited + live_count begun now scanned + live_count begun now swept ≤ looked
   pub at_most : looked + live_count begun now (λ f. not (visited f)) + live_count begun now (λ f. not (scanned f)) + live_count begun now (λ f. not (swept f)) ≤ 3 * map.len begun.files
 
--- A change of places, or a file more: the files of the begin stay as they were, and no garbage of the begin is in a new place (this project's profile).
+-- A change of places, or a file more: the files of the begin stay as they were, and no garbage of the begin is in a new place.
 pub record Moves (begun old new : World) : Type 0 where
   pub live_same : (f : ℕ) → IsLive begun f → is_live new f ≡ is_live old f
   pub live_stay : (f : ℕ) → IsLive old f → IsLive new f
@@ -69,7 +69,7 @@ pub record Moves (begun old new : World) : Type 0 where
   pub queues_gain : (s f : ℕ) → Holds new s f → Holds old s f ⊎ (¬ (Garbage begun f))
   pub tables_gain : (f : ℕ) → InTable new f → InTable old f ⊎ (¬ (Garbage begun f))
 
--- What loses a place while marking goes on is marked, and is no garbage of the begin (this project's profile).
+-- A file that loses a place while marking is marked, and is no garbage of the begin.
 pub record Covers (begun old new : World) (marked visited : ℕ → Bool) : Type 0 where
   pub queues_keep : (s f : ℕ) → Garbage begun f → Holds old s f → Holds new s f
   pub queues_lose : (s f : ℕ) → IsLive begun f → Holds old s f → Holds new s f ⊎ (marked f ≡ true)

@@ -1,7 +1,7 @@
 //! How far a pass of the collector is, and, in `specs/` and `proofs/`, what is kept while it runs.
 #![tactic(auto)]
 
-/// What a pass does next.
+/// The next work of a pass.
 #[derive(Clone, Copy, Debug)]
 pub enum Stage {
     /// No pass runs.
@@ -12,8 +12,8 @@ pub enum Stage {
     Sweeping,
 }
 
-/// How far a pass is. It goes over the files by rising number, up to those that were born since it
-/// began: once to visit them, and once to sweep them.
+/// The progress of a pass. It walks over the files by rising number, up to those that are newer
+/// than its begin: once to visit them, and once to sweep them.
 #[derive(Clone, Copy, Debug)]
 pub struct Progress {
     pub stage: Stage,

@@ -7,7 +7,7 @@ use Rattle.std.proofs.lemmas.List.{take_all}
 use Rattle.std.proofs.lemmas.List.Elements.{All-get_or, All-more}
 
 module _ {X : Type 0} (P : X → Type 0) (xs : List X) (i : ℕ) where
-  -- The item x, which stands at i, passes.
+  -- The item x at position i passes.
   pub one_more : (x : X) (b : Bool) → i < length xs → x ≡ get_or xs i x → b ≡ true → IsTrue b ↔ P x → All P (take i xs) → All P (take (i + 1) xs)
   one_more x b l is passed says so_far = All-more P xs i x l so_far (subst P is (says.0 passed))
 

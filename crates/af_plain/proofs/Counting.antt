@@ -1,4 +1,4 @@
--- How often a list that rises has a number: as many as stand between where the lower ones end and where the higher ones begin.
+-- The count of a number in a rising list is the distance between the end of the lower ones and the begin of the higher ones.
 use Rattle.std.proofs.Common.{◌≡◌, ◌≤◌, ℕ, zero, suc, ◌+◌, Bool, true, false, List, [], ◌∷◌, length, refl, ap, arith, cond, nat_eq, leb}
 use Rattle.std.specs.List.{count_by}
 use Rattle.std.specs.List.Sorted.{IsPartitionPoint}
@@ -7,7 +7,7 @@ use Rattle.std.proofs.lemmas.List.Sums.{sum_by-cons}
 use Rattle.af_base.specs.Counts.{count_in}
 use lib.Dec.{ltb}
 
--- As many pass a test as stand before the first that fails it.
+-- The items that pass a test are those before the first that fails it.
 passing : (p : ℕ → Bool) (xs : List ℕ) (i : ℕ) → i ≤ length xs → IsPartitionPoint (λ y. p y ≡ true) (λ y. p y ≡ false) xs i → count_by p xs ≡ i
 passing p [] i l parted = omega (arith, l)
 passing p (x ∷ xs) zero l parted =
@@ -19,7 +19,7 @@ passing p (x ∷ xs) (suc i) l parted =
     let here : cond {A = ℕ} (p x) 1 0 ≡ 1 = ap {B = ℕ} (λ b. cond b 1 0) (parted.0 0 x (omega arith) (omega arith)) in
     omega (arith, here, rest, sum_by-cons (λ y. cond (p y) 1 0) x xs)
 
--- What is not above a number is below it or equal.
+-- A number that is not above another is below it or equal.
 below_or_equal : (n y : ℕ) → cond (ltb y n) 1 0 + cond (nat_eq n y) 1 0 ≡ cond (leb y n) 1 0
 below_or_equal n y = grind (arith, nat_tests)
 
@@ -28,7 +28,7 @@ split : (n : ℕ) (xs : List ℕ) → count_by (λ y. ltb y n) xs + count_in n x
 split n [] = refl
 split n (x ∷ xs) = omega (arith, below_or_equal n x, split n xs, sum_by-cons (λ y. cond (ltb y n) 1 0) x xs, sum_by-cons (λ y. cond (nat_eq n y) 1 0) x xs, sum_by-cons (λ y. cond (leb y n) 1 0) x xs)
 
--- What stands between the two ends is the number.
+-- The items between the two ends are the number.
 pub between : (n : ℕ) (xs : List ℕ) (from to : ℕ) → from ≤ length xs → to ≤ length xs
     → IsPartitionPoint (λ y. ltb y n ≡ true) (λ y. ltb y n ≡ false) xs from → IsPartitionPoint (λ y. leb y n ≡ true) (λ y. leb y n ≡ false) xs to → from + count_in n xs ≡ to
 between n xs from to low high below up_to = omega (arith, passing (λ y. ltb y n) xs from low below, passing (λ y. leb y n) xs to high up_to, split n xs)

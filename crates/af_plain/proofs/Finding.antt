@@ -1,4 +1,4 @@
--- What a binary search finds among items whose numbers rise is what a walk finds first.
+-- A binary search over items with rising numbers finds the first one that a walk finds.
 use Rattle.std.proofs.Common.{◌≡◌, ◌<◌, ℕ, suc, false, inl, inr, List, [], ◌∷◌, length, get_or, map, refl, sym, ap, ◌∙◌, arith, cond, nat_eq}
 use Rattle.std.specs.Prelude.{Some, None, Err}
 use Rattle.std.specs.List.{find, slice_get}

@@ -1,4 +1,4 @@
--- What a search keeps, file by file.
+-- The invariant of a search, file by file.
 use Rattle.std.proofs.Common.{◌≡◌, ◌<◌, ◌≤◌, ℕ, ◌+◌, Bool, true, false, inl, inr, List, [], ◌∷◌, ◌++◌, length, take, get_or, refl, sym, ap, ◌∙◌, subst, cond, nat_eq, arith, length-append, append-nil}
 use Rattle.std.specs.Prelude.{not}
 use Rattle.std.specs.List.{Contains, count_by, flat_map}
@@ -15,7 +15,7 @@ use Rattle.af_base.proofs.Lookups.{same_or_not}
 use Rattle.af_plain.specs.Marking.{Marks}
 use Rattle.af_plain.specs.declared.reach.Marking.{Marking}
 
--- What is in a list of one.
+-- An element of a list of one.
 only_one : (x f : ℕ) → Contains (x ∷ []) f → f ≡ x
 only_one x f h = elim (same_or_not f x) [
   | inl e ↦ e
@@ -27,14 +27,14 @@ abbrev weight : Bool → ℕ
 weight b = cond (not b) 1 0
 
 module _ (s n : ℕ → Bool) (x : ℕ) (more : (q : ℕ) → n q ≡ cond (nat_eq x q) true (s q)) where
-  -- At one number no more is left.
+  -- A number leaves at most as many.
   one-le : (y : ℕ) → weight (n y) ≤ weight (s y)
   one-le y = subst (λ t. weight t ≤ weight (s y)) (sym (more y)) (either (nat_eq x y) (s y)) where
     either : (b t : Bool) → weight (cond b true t) ≤ weight t
     either true t = omega arith
     either false t = omega arith
 
-  -- In a list no more are left.
+  -- A list leaves at most as many.
   left-le : (xs : List ℕ) → count_by (λ y. not (n y)) xs ≤ count_by (λ y. not (s y)) xs
   left-le [] = omega arith
   left-le (y ∷ ys) = omega (arith, one-le y, left-le ys, sum_by-cons (λ z. weight (n z)) y ys, sum_by-cons (λ z. weight (s z)) y ys)
@@ -52,7 +52,7 @@ module _ (s n : ℕ → Bool) (x : ℕ) (more : (q : ℕ) → n q ≡ cond (nat_
         omega (arith, one-le y, rest, sum_by-cons (λ z. weight (n z)) y ys, sum_by-cons (λ z. weight (s z)) y ys)
   ]
 
--- What a failed look-up was told of.
+-- The state after a failed look-up.
 pub was_new : (a b : Bool) → a ≡ not b → a ≡ true → b ≡ false
 was_new a true e t = absurd (false≢true (sym e ∙ t))
 was_new a false e t = refl
@@ -123,13 +123,13 @@ marks-new a b x was updates ahead = record {
   ]
 
 module _ {A : Type 0} (h : A → List ℕ) (xs : List A) (i : ℕ) where
-  -- What came with one item more.
+  -- The files found with one item more.
   pub marks-more : (a b c : Marking) (x : A) → i < length xs → x ≡ get_or xs i x → Marks a b (flat_map h (take i xs)) → Marks b c (h x) → Marks a c (flat_map h (take (i + 1) xs))
   marks-more a b c x l is so_far one =
       let step : flat_map h (take (i + 1) xs) ≡ flat_map h (take i xs) ++ h x =
       ap (flat_map h) (take_more xs i x l) ∙ flat_map-append h (take i xs) (get_or xs i x ∷ []) ∙ ap (λ ys. flat_map h (take i xs) ++ ys) (append-nil (h (get_or xs i x)) ∙ ap h (sym is)) in
       subst (Marks a c) (sym step) (marks-both a b c (flat_map h (take i xs)) (h x) so_far one)
 
-  -- What came with all.
+  -- The files found with all items.
   pub marks-end : (a b : Marking) → length xs ≤ i → Marks a b (flat_map h (take i xs)) → Marks a b (flat_map h xs)
   marks-end a b end so_far = subst (λ ys. Marks a b (flat_map h ys)) (take_all i xs end) so_far

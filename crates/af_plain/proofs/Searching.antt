@@ -30,7 +30,7 @@ use Rattle.af_base.proofs.Gathered.{count_tabled}
 use Rattle.af_plain.specs.Marking.{IsListOf, Marks, held_in}
 use Rattle.af_plain.specs.declared.reach.Marking.{Marking}
 
--- What the tables of a list hold is what tables of its world hold.
+-- The files held by the tables of a list are those held by the tables of its world.
 pub tabled_listed : (w : World) (tables : List ListedTable) → w.processes ≡ processes_of tables → AreTables tables → (f : ℕ) → Contains (flat_map inos_of tables) f ↔ InTable w f
 tabled_listed w tables is ordered f =
     let counted : count_in f (flat_map inos_of tables) ≡ tabled w f = count_tabled tables [] ordered f ∙ sym (ap (total_of (λ p. total_of (λ g. one f g) p.table)) is) in
@@ -40,7 +40,7 @@ tabled_listed w tables is ordered f =
 abbrev pub all_held : List ListedFile → List ℕ
 all_held files = flat_map (λ x. contents (file_of x)) files
 
--- What one of them holds, as a walk finds it.
+-- The files held by one of them, as a walk finds it.
 pub held_found : (files : List ListedFile) (s : ℕ) → held_in files s ≡ option_map_or contents (option_map file_of (find (λ x. nat_eq s x.ino) files)) []
 held_found files s = ap (λ o. option_map_or contents o []) (keyed-get (λ x. x.ino) file_of files s)
 
@@ -74,7 +74,7 @@ searches-begin w old new held none nothing tabled m = record {
   empty : (f : ℕ) → tree.contains nat_cmp old.marked f ≡ true → ⊥
   empty f e = false≢true (sym (ap (λ ks. tree.contains nat_cmp (record { keys = ks }) f) none) ∙ e)
 
--- It goes on with what one file holds.
+-- The search continues with the files that one file holds.
 pub searches-step : (w : World) (old popped new : Marking) (s : ℕ) → popped.marked ≡ old.marked → old.ahead.items ≡ popped.ahead.items ++ s ∷ [] → Searches w old → Marks popped new (held_by w s) → Searches w new
 searches-step w old popped new s same ahead h m = record {
   sound = λ f e. elim (m.only f e) [
@@ -139,7 +139,7 @@ listed-live files f = (there files, found files) where
     | inr d ↦ Contains-later x.ino (map (λ y. y.ino) xs) f (found xs (sym (ap (λ b. is_some (option_map file_of (cond b (Some x) (find (λ y. nat_eq f y.ino) xs)))) d) ∙ e))
   ]
 
--- What passes a test and is in a list is in what it keeps.
+-- An element of a list that passes a test is in the filtered list.
 kept-passes : (test : ℕ → Bool) (xs : List ℕ) (f : ℕ) → test f ≡ true → Contains xs f → Contains (filter test xs) f
 kept-passes test [] f t h = h
 kept-passes test (x ∷ xs) f t h = elim (same_or_not x f) [
@@ -152,7 +152,7 @@ kept-passes test (x ∷ xs) f t h = elim (same_or_not x f) [
   either true h = Contains-later x (filter test xs) f h
   either false h = h
 
--- What a test keeps of the files with one file more.
+-- The filtered files, with one file more.
 pub kept-more : (test : ℕ → Bool) (files : List ListedFile) (i : ℕ) (x : ListedFile) (old new : List ℕ) → i < length files → x ≡ get_or files i x
     → old ≡ filter test (map (λ y. y.ino) (take i files)) → new ≡ old ++ filter test (x.ino ∷ []) → new ≡ filter test (map (λ y. y.ino) (take (i + 1) files))
 kept-more test files i x old new l is so_far one =
@@ -185,7 +185,7 @@ module _ (w : World) (files : List ListedFile) (s : BTreeSet ℕ) (is : w.files 
   at : (f : ℕ) → is_live w f ≡ is_some (option_map file_of (find (λ x. nat_eq f x.ino) files))
   at f = ap (λ m. is_some (finmap.get m f)) is ∙ ap is_some (keyed-get (λ x. x.ino) file_of files f)
 
-  -- What a test of not being reached keeps of the files is the garbage.
+  -- The files that are filtered as unreachable are the garbage.
   pub garbage_listed : AreFiles files → ((f : ℕ) → (tree.contains nat_cmp s f ≡ true) ↔ Reached w f) → IsListOf (Garbage w) (filter unmarked inos)
   garbage_listed ordered marked = (
     IsStrictlyIncreasing-filter unmarked inos ordered.inos,

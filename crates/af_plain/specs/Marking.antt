@@ -1,4 +1,4 @@
--- How far a search is, and what its list is of.
+-- How far a search is, and what its list is of. Definitions that name no manual page are of this project's profile (docs/PROFILE.md).
 use Rattle.std.specs.Prelude.{◌≡◌, ◌≤◌, ◌⊎◌, ◌↔◌, ℕ, ◌+◌, true, not, List, [], length}
 use Rattle.std.specs.List.{Contains, count_by}
 use Rattle.std.specs.List.Sorted.{IsStrictlyIncreasing}
@@ -12,11 +12,11 @@ use Rattle.af_base.specs.Places.{contents}
 use Rattle.af_base.specs.declared.listing.ListedFile.{ListedFile}
 use Rattle.af_plain.specs.declared.reach.Marking.{Marking}
 
--- The numbers of the list are those that P is true of, each once, rising (this project's profile).
+-- The numbers of the list are those that P is true of, each once, rising.
 abbrev pub IsListOf : (ℕ → Type 0) → List ℕ → Type 0
 IsListOf P xs = IsStrictlyIncreasing xs × ((f : ℕ) → Contains xs f ↔ P f)
 
--- What the file s of a list holds (this project's profile).
+-- The files that the file s of a list holds.
 abbrev pub held_in : List ListedFile → ℕ → List ℕ
 held_in files s = option_map_or contents (finmap.get (files_of files) s) []
 
@@ -24,7 +24,7 @@ held_in files s = option_map_or contents (finmap.get (files_of files) s) []
 abbrev pub left : BTreeSet ℕ → List ℕ → ℕ
 left s xs = count_by (λ x. not (tree.contains nat_cmp s x)) xs
 
--- The search went on by these files: they and no others were added, and whichever was new is to be looked at (this project's profile).
+-- A search step over these files: it adds just these, and each new one is to be looked at.
 pub record Marks (old new : Marking) (found : List ℕ) : Type 0 where
   pub marked : (f : ℕ) → Contains found f → tree.contains nat_cmp new.marked f ≡ true
   pub kept : (f : ℕ) → tree.contains nat_cmp old.marked f ≡ true → tree.contains nat_cmp new.marked f ≡ true

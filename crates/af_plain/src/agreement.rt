@@ -38,7 +38,7 @@ pub struct Kept {
     pub total: u64,
 }
 
-/// Whether the numbers that are kept of the file are its recounts.
+/// Returns whether the numbers that are kept of the file are its recounts.
 fn file_agrees(listing: &Listing, kept: &KeptFile) -> bool
     ensures { IsTrue result ↔ IsFileRecount listing.now kept.now }
 {
@@ -46,14 +46,14 @@ fn file_agrees(listing: &Listing, kept: &KeptFile) -> bool
         && recount_inflight(listing, kept.ino) == kept.inflight
 }
 
-/// Whether the number that is kept of the user is its recount.
+/// Returns whether the number that is kept of the user is its recount.
 fn user_agrees(listing: &Listing, kept: &KeptUser) -> bool
     ensures { IsTrue result ↔ IsUserRecount listing.now kept.now }
 {
     recount_user(listing, kept.user) == kept.charged
 }
 
-/// Whether all numbers that are kept of files are their recounts.
+/// Returns whether all numbers that are kept of files are their recounts.
 fn files_agree(listing: &Listing, kept: &[KeptFile]) -> bool
     ensures { IsTrue result ↔ All (IsFileRecount listing.now) kept.now }
 {
@@ -65,7 +65,7 @@ fn files_agree(listing: &Listing, kept: &[KeptFile]) -> bool
     true
 }
 
-/// Whether all numbers that are kept of users are their recounts.
+/// Returns whether all numbers that are kept of users are their recounts.
 fn users_agree(listing: &Listing, kept: &[KeptUser]) -> bool
     ensures { IsTrue result ↔ All (IsUserRecount listing.now) kept.now }
 {
@@ -77,7 +77,7 @@ fn users_agree(listing: &Listing, kept: &[KeptUser]) -> bool
     true
 }
 
-/// Whether each number that is kept is the recount over the listing. It takes no memory.
+/// Returns whether each kept count is its recount over the listing. Takes no memory.
 pub fn agrees(listing: &Listing, kept: &Kept) -> bool
     ensures { IsTrue result ↔ AreRecounts listing.now kept.now }
 {

@@ -1,5 +1,5 @@
-//! The recounts over a whole listing: binary searches in its sorted places, and how many these are.
-//! None takes memory, and a stranger's number is 0.
+//! The recounts over a whole listing, each by a binary search in its sorted places. None takes
+//! memory, and an unknown number is counted 0 times.
 ghost use Rattle.std.specs.Prelude.{◌≡◌};
 ghost use Rattle.std.specs.List.Sorted.{IsNonDecreasing};
 ghost use Rattle.af_base.specs.Counts.{refs, inflight, charged, total, count_in};
@@ -7,7 +7,7 @@ ghost use Rattle.af_base.specs.Counts.{refs, inflight, charged, total, count_in}
 use af_base::listing::Listing;
 use af_base::names::{Ino, Uid};
 
-/// How often the file is in the list, which rises.
+/// Returns how often the file is in the list, which rises.
 fn times(sorted: &[Ino], ino: Ino) -> u64
     requires { IsNonDecreasing sorted.now }
     ensures { result ≡ count_in ino sorted.now }
@@ -18,7 +18,7 @@ fn times(sorted: &[Ino], ino: Ino) -> u64
     (to - from) as u64
 }
 
-/// How often the user is in the list, which rises.
+/// Returns how often the user is in the list, which rises.
 fn times_charged(sorted: &[Uid], user: Uid) -> u64
     requires { IsNonDecreasing sorted.now }
     ensures { result ≡ count_in user sorted.now }
@@ -29,28 +29,28 @@ fn times_charged(sorted: &[Uid], user: Uid) -> u64
     (to - from) as u64
 }
 
-/// How many places hold the file, in tables, queues and backlogs: its reference count.
+/// Returns how many places hold the file, in tables, queues and backlogs: its reference count.
 pub fn recount_refs(listing: &Listing, ino: Ino) -> u64
     ensures { result ≡ refs listing.now ino }
 {
     times(listing.held(), ino)
 }
 
-/// How many places of all queues hold the file: its in-flight count.
+/// Returns how many places of all queues hold the file: its in-flight count.
 pub fn recount_inflight(listing: &Listing, ino: Ino) -> u64
     ensures { result ≡ inflight listing.now ino }
 {
     times(listing.queued(), ino)
 }
 
-/// How many places of all queues are in messages of the user: what it is charged.
+/// Returns how many places of all queues are in messages of the user: its charge.
 pub fn recount_user(listing: &Listing, user: Uid) -> u64
     ensures { result ≡ charged listing.now user }
 {
     times_charged(listing.payers(), user)
 }
 
-/// How many places all queues have: the charge of all users together.
+/// Returns how many places all queues have: the charge of all users together.
 pub fn recount_total(listing: &Listing) -> u64
     ensures { result ≡ total listing.now }
 {

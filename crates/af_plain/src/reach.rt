@@ -1,5 +1,5 @@
-//! What a chain of places that begins in a table leads to: a list of files to look at, and the
-//! set of those that were found. There is no recursion.
+//! A search for the reachable files: a list of files to look at, and the set of those found. There
+//! is no recursion.
 ghost use Rattle.std.specs.Prelude.{◌≡◌, ◌↔◌, ◌∷◌, ◌++◌, [], not, ℕ, List, map, IfOk, OnOk, true, nat_eq};
 ghost use Rattle.std.specs.List.{Contains, filter, find};
 ghost use Rattle.std.specs.Ordering.{nat_cmp};
@@ -23,7 +23,7 @@ struct Marking {
 }
 
 impl Marking {
-    /// The file is found: it is to be looked at, if it is new.
+    /// Adds the file, which is to be looked at if it is new.
     fn mark(&mut self, ino: Ino) -> Result<(), AllocError>
         ensures { OnOk result (Marks self.old self.new (ino ∷ [])) }
     {
@@ -33,7 +33,7 @@ impl Marking {
         Ok(())
     }
 
-    /// These files are found.
+    /// Adds these files.
     fn mark_all(&mut self, inos: &[Ino]) -> Result<(), AllocError>
         ensures { OnOk result (Marks self.old self.new inos.now) }
     {
@@ -43,7 +43,7 @@ impl Marking {
         Ok(())
     }
 
-    /// What the numbers of the table stand for is found.
+    /// Adds the files of the table's descriptors.
     fn mark_numbers(&mut self, table: &ListedTable) -> Result<(), AllocError>
         ensures { OnOk result (Marks self.old self.new (map (λ n. n.ino) table.now.numbers.items)) }
     {
@@ -53,7 +53,7 @@ impl Marking {
         Ok(())
     }
 
-    /// What tables hold is found.
+    /// Adds the files that tables hold.
     fn mark_tables(&mut self, listing: &Listing) -> Result<(), AllocError>
         ensures { OnOk result ((held : List ℕ) × ((f : ℕ) → Contains held f ↔ InTable listing.now f) × Marks self.old self.new held) }
     {
@@ -63,7 +63,7 @@ impl Marking {
         Ok(())
     }
 
-    /// What the file holds is found.
+    /// Adds the files that the file holds.
     fn mark_held(&mut self, file: &ListedFile) -> Result<(), AllocError>
         ensures { OnOk result (Marks self.old self.new (contents (file_of file.now))) }
     {
@@ -76,7 +76,7 @@ impl Marking {
         self.mark_all(socket.backlog.as_slice())
     }
 
-    /// The file is looked at: what it holds is found.
+    /// Looks at the file: adds the files that it holds.
     fn look_at(&mut self, files: &[ListedFile], ino: Ino) -> Result<(), AllocError>
         requires { AreFiles files.now }
         ensures { OnOk result (Marks self.old self.new (held_in files.now ino)) }
@@ -88,7 +88,7 @@ impl Marking {
     }
 }
 
-/// The file of that number.
+/// Returns the file of that number.
 fn listed_at(files: &[ListedFile], ino: Ino) -> Option<&ListedFile>
     requires { AreFiles files.now }
     ensures { option_copied result ≡ find (λ x. nat_eq ino x.ino) files.now }
@@ -99,7 +99,7 @@ fn listed_at(files: &[ListedFile], ino: Ino) -> Option<&ListedFile>
     }
 }
 
-/// All files that a chain of places leads to.
+/// Returns all files that a chain of places from a table reaches.
 fn mark_reached(alloc: Global, listing: &Listing) -> Result<BTreeSet<Ino>, AllocError>
     ensures marked { IfOk result (λ s. (f : ℕ) → (tree.contains nat_cmp s f ≡ true) ↔ Reached listing.now f) }
     ensures ordered { IfOk result (tree.IsOrdered nat_cmp) }
@@ -119,8 +119,8 @@ fn mark_reached(alloc: Global, listing: &Listing) -> Result<BTreeSet<Ino>, Alloc
     Ok(marked)
 }
 
-/// The files that a chain of places leads to, the first place in a table, each later one in the
-/// queue or backlog of the socket before; by rising inode number.
+/// Returns the files that a chain of places reaches, by rising inode number. The first place is in
+/// a table, each later one in the queue or backlog of the socket before.
 pub fn reached(alloc: Global, listing: &Listing) -> Result<Vec<Ino>, AllocError>
     ensures { IfOk result (λ xs. IsListOf (Reached listing.now) xs.items) }
 {
@@ -128,7 +128,7 @@ pub fn reached(alloc: Global, listing: &Listing) -> Result<Vec<Ino>, AllocError>
     marked.iter().copied().collect(alloc)
 }
 
-/// The file goes last, unless it is marked.
+/// Appends the file, unless it is marked.
 fn push_unmarked(found: &mut Vec<Ino>, marked: &BTreeSet<Ino>, ino: Ino) -> Result<(), AllocError>
     ensures { OnOk result (found.new.items ≡ found.old.items ++ filter (λ f. not (tree.contains nat_cmp marked.now f)) (ino ∷ [])) }
 {
@@ -139,8 +139,8 @@ fn push_unmarked(found: &mut Vec<Ino>, marked: &BTreeSet<Ino>, ino: Ino) -> Resu
     Ok(())
 }
 
-/// The live files, plain ones too, that no chain of places from a table leads to; by rising inode
-/// number.
+/// Returns the live files, plain ones too, that no chain of places from a table reaches, by rising
+/// inode number.
 pub fn garbage(alloc: Global, listing: &Listing) -> Result<Vec<Ino>, AllocError>
     ensures { IfOk result (λ xs. IsListOf (Garbage listing.now) xs.items) }
 {

@@ -38,7 +38,7 @@ behind q k ks h = by (nat_eq q k) where
   by false = h
 
 module _ (s t : Slab Node) (f l : ℕ) where
-  -- What is kept of a path is kept of the rest of it.
+  -- An invariant of a path is one of the rest of it.
   rest_kept : (k n : ℕ) (x : Node) → slots.get s k ≡ Some x → KeepsKeys s t (keys_from s k (suc n)) → KeepsKeys s t (keys_from s x.next n)
   rest_kept k n x at keeps q h = keeps q (behind q k (keys_from s (next_at s k) n) (ap (λ z. list_any (nat_eq q) (keys_from s z n)) (next_there s k x at) ∙ h))
 
@@ -103,7 +103,7 @@ last_in s f l k (suc n) p =
       by true h = refl
       by false h = h
 
--- Behind the last node of a path stands one more now, and its key is noted there.
+-- Behind the last node of a path there is one more now, and its key is noted there.
 module _ (s u : Slab Node) (f l key : ℕ) (node : Node)
     (vacant : slots.get s key ≡ None) (put : slots.get u key ≡ Some node) (own : node.owner ≡ f) (within : IsMessageWithin node.message)
     (linked : (x : Node) → slots.get s l ≡ Some x → slots.get u l ≡ Some (record x { next = key }))
@@ -210,7 +210,7 @@ module _ (s t u : Slab Node) (f l key : ℕ) (node : Node) (vacant : slots.get s
     not_last : q ≢ l
     not_last e = other (owner_last s f l k n p x (ap (slots.get s) (sym e) ∙ at))
 
--- The first node of a path goes.
+-- The first node of a path is removed.
 module _ (s t : Slab Node) (f l k n : ℕ) (p : IsPath s f l k (suc n)) (update : Updates s t k None) where
   rest_stays : KeepsKeys s t (keys_from s p.0.next n)
   rest_stays q h = update.others q (λ e. true≢false (sym h ∙ ap (λ z. list_any (nat_eq z) (keys_from s p.0.next n)) e ∙ p.1.2))
@@ -221,7 +221,7 @@ module _ (s t : Slab Node) (f l k n : ℕ) (p : IsPath s f l k (suc n)) (update 
   pub messages_popped : messages_from s k (suc n) ≡ p.0.message ∷ messages_from t p.0.next n
   messages_popped = first_there s k n p.0 p.1.0 ∙ ap (λ ms. p.0.message ∷ ms) (sym (messages_kept s t f l p.0.next n p.1.5 rest_stays))
 
-  -- The node that went was the first.
+  -- The removed node was the first.
   pub popped_at : (node : Node) → slots.get s k ≡ Some node → IsPath t f l node.next (suc n - 1) × (messages_from s k (suc n) ≡ node.message ∷ messages_from t node.next (suc n - 1))
   popped_at node at =
       subst (λ y. IsPath t f l y.next (suc n - 1) × (messages_from s k (suc n) ≡ y.message ∷ messages_from t y.next (suc n - 1))) (some_same p.0 node (sym p.1.0 ∙ at))

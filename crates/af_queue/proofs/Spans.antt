@@ -11,7 +11,7 @@ use Rattle.af_base.specs.Take.{cut, has_files, joined, take_stream}
 use Rattle.af_base.specs.Whole.{IsMessageWithin}
 use Rattle.af_base.proofs.Takes.{HaveBytes, before, before-here, before-later, cut_none, find-here, find-later, no_files, up_to}
 use Rattle.af_queue.specs.Received.{message_at, received, sender_at}
-use Rattle.af_queue.specs.Streams.{files_in, span}
+use Rattle.af_queue.specs.Streams.{files_in, stream_cut}
 
 -- Where the first message with files ends, or all bytes do.
 abbrev end_of : List Message → Option Message → ℕ
@@ -34,13 +34,13 @@ module _ (m : Message) (q : List Message) where
     by None = before-later m q t
     by (Some x) = omega (arith, before-later m q t)
 
-  -- What stands at the front ends it, or the rest does.
+  -- The front ends it, or the rest does.
   module _ (n : ℕ) where
-    pub span-front : has_files m || nat_le n (length m.bytes) ≡ true → span n (m ∷ q) ≡ min n (length m.bytes)
-    span-front e = ap (λ b. cond b (min n (length m.bytes)) (length m.bytes + span (n - length m.bytes) q)) e
+    pub stream_cut-front : has_files m || nat_le n (length m.bytes) ≡ true → stream_cut n (m ∷ q) ≡ min n (length m.bytes)
+    stream_cut-front e = ap (λ b. cond b (min n (length m.bytes)) (length m.bytes + stream_cut (n - length m.bytes) q)) e
 
-    pub span-rest : has_files m || nat_le n (length m.bytes) ≡ false → span n (m ∷ q) ≡ length m.bytes + span (n - length m.bytes) q
-    span-rest e = ap (λ b. cond b (min n (length m.bytes)) (length m.bytes + span (n - length m.bytes) q)) e
+    pub stream_cut-rest : has_files m || nat_le n (length m.bytes) ≡ false → stream_cut n (m ∷ q) ≡ length m.bytes + stream_cut (n - length m.bytes) q
+    stream_cut-rest e = ap (λ b. cond b (min n (length m.bytes)) (length m.bytes + stream_cut (n - length m.bytes) q)) e
 
     pub files-front : has_files m || nat_le n (length m.bytes) ≡ true → files_in n (m ∷ q) ≡ m.attached
     files-front e = ap (λ b. cond b m.attached (files_in (n - length m.bytes) q)) e
@@ -78,54 +78,54 @@ pub either : (a b : Bool) → a || b ≡ true → ¬ (a ≡ true) → b ≡ true
 either true b e n = absurd (n refl)
 either false b e n = e
 
-span-is : (n : ℕ) (q : List Message) → span n q ≡ min n (end q)
-span-is n [] = omega arith
-span-is n (m ∷ q) = by (span-is (n - length m.bytes) q) (has_files m) refl (nat_le n (length m.bytes)) refl where
-  by : span (n - length m.bytes) q ≡ min (n - length m.bytes) (end q) → (a : Bool) → has_files m ≡ a → (b : Bool) → nat_le n (length m.bytes) ≡ b → span n (m ∷ q) ≡ min n (end (m ∷ q))
-  by rest true t b d = span-front m q n (ap (λ a. a || nat_le n (length m.bytes)) t) ∙ ap (min n) (sym (end-here m q t))
-  by rest false t true d = span-front m q n (ap (λ a. a || nat_le n (length m.bytes)) t ∙ d) ∙ (let low = leb-true _ _ d in omega (arith, low, end-later m q t))
-  by rest false t false d = span-rest m q n (ap (λ a. a || nat_le n (length m.bytes)) t ∙ d) ∙ (let high = leb-false _ _ d in omega (arith, rest, high, end-later m q t))
+stream_cut-is : (n : ℕ) (q : List Message) → stream_cut n q ≡ min n (end q)
+stream_cut-is n [] = omega arith
+stream_cut-is n (m ∷ q) = by (stream_cut-is (n - length m.bytes) q) (has_files m) refl (nat_le n (length m.bytes)) refl where
+  by : stream_cut (n - length m.bytes) q ≡ min (n - length m.bytes) (end q) → (a : Bool) → has_files m ≡ a → (b : Bool) → nat_le n (length m.bytes) ≡ b → stream_cut n (m ∷ q) ≡ min n (end (m ∷ q))
+  by rest true t b d = stream_cut-front m q n (ap (λ a. a || nat_le n (length m.bytes)) t) ∙ ap (min n) (sym (end-here m q t))
+  by rest false t true d = stream_cut-front m q n (ap (λ a. a || nat_le n (length m.bytes)) t ∙ d) ∙ (let low = leb-true _ _ d in omega (arith, low, end-later m q t))
+  by rest false t false d = stream_cut-rest m q n (ap (λ a. a || nat_le n (length m.bytes)) t ∙ d) ∙ (let high = leb-false _ _ d in omega (arith, rest, high, end-later m q t))
 
--- It takes no more than there is.
-pub span-most : (n : ℕ) (q : List Message) → span n q ≤ length (joined q)
-span-most n [] = omega arith
-span-most n (m ∷ q) = by (span-most (n - length m.bytes) q) (has_files m || nat_le n (length m.bytes)) refl where
-  by : span (n - length m.bytes) q ≤ length (joined q) → (b : Bool) → (has_files m || nat_le n (length m.bytes)) ≡ b → span n (m ∷ q) ≤ length (m.bytes ++ joined q)
-  by rest true e = omega (arith, span-front m q n e, length-append m.bytes (joined q))
-  by rest false e = omega (arith, rest, span-rest m q n e, length-append m.bytes (joined q))
+-- It takes at most all that is there.
+pub stream_cut-most : (n : ℕ) (q : List Message) → stream_cut n q ≤ length (joined q)
+stream_cut-most n [] = omega arith
+stream_cut-most n (m ∷ q) = by (stream_cut-most (n - length m.bytes) q) (has_files m || nat_le n (length m.bytes)) refl where
+  by : stream_cut (n - length m.bytes) q ≤ length (joined q) → (b : Bool) → (has_files m || nat_le n (length m.bytes)) ≡ b → stream_cut n (m ∷ q) ≤ length (m.bytes ++ joined q)
+  by rest true e = omega (arith, stream_cut-front m q n e, length-append m.bytes (joined q))
+  by rest false e = omega (arith, rest, stream_cut-rest m q n e, length-append m.bytes (joined q))
 
 -- Something is taken where something is.
-pub span-some : (n : ℕ) (m : Message) (q : List Message) → 0 < n → HaveBytes (m ∷ q) → 0 < span n (m ∷ q)
-span-some n m q some have = by (has_files m || nat_le n (length m.bytes)) refl where
-  by : (b : Bool) → (has_files m || nat_le n (length m.bytes)) ≡ b → 0 < span n (m ∷ q)
-  by true e = omega (arith, span-front m q n e, some, have.0)
-  by false e = omega (arith, span-rest m q n e, have.0)
+pub stream_cut-some : (n : ℕ) (m : Message) (q : List Message) → 0 < n → HaveBytes (m ∷ q) → 0 < stream_cut n (m ∷ q)
+stream_cut-some n m q some have = by (has_files m || nat_le n (length m.bytes)) refl where
+  by : (b : Bool) → (has_files m || nat_le n (length m.bytes)) ≡ b → 0 < stream_cut n (m ∷ q)
+  by true e = omega (arith, stream_cut-front m q n e, some, have.0)
+  by false e = omega (arith, stream_cut-rest m q n e, have.0)
 
 -- The message with which it ends has the last byte.
-pub files-at : (n : ℕ) (q : List Message) → 0 < n → HaveBytes q → option_map_or (λ m. m.attached) (message_at (span n q) q) [] ≡ files_in n q
+pub files-at : (n : ℕ) (q : List Message) → 0 < n → HaveBytes q → option_map_or (λ m. m.attached) (message_at (stream_cut n q) q) [] ≡ files_in n q
 files-at n [] some have = refl
 files-at n (m ∷ []) some have = by (has_files m || nat_le n (length m.bytes)) refl where
-  by : (b : Bool) → (has_files m || nat_le n (length m.bytes)) ≡ b → option_map_or (λ m. m.attached) (message_at (span n (m ∷ [])) (m ∷ [])) [] ≡ files_in n (m ∷ [])
-  by true e = ap (λ o. option_map_or (λ m. m.attached) o []) (at-front m [] (span n (m ∷ [])) (omega (arith, span-front m [] n e))) ∙ sym (files-front m [] n e)
+  by : (b : Bool) → (has_files m || nat_le n (length m.bytes)) ≡ b → option_map_or (λ m. m.attached) (message_at (stream_cut n (m ∷ [])) (m ∷ [])) [] ≡ files_in n (m ∷ [])
+  by true e = ap (λ o. option_map_or (λ m. m.attached) o []) (at-front m [] (stream_cut n (m ∷ [])) (omega (arith, stream_cut-front m [] n e))) ∙ sym (files-front m [] n e)
   by false e =
       let no = neither (has_files m) (nat_le n (length m.bytes)) e in
-      ap (λ o. option_map_or (λ m. m.attached) o []) (at-front m [] (span n (m ∷ [])) (omega (arith, span-rest m [] n e))) ∙ no_files m.attached no.0 ∙ sym (files-rest m [] n e)
+      ap (λ o. option_map_or (λ m. m.attached) o []) (at-front m [] (stream_cut n (m ∷ [])) (omega (arith, stream_cut-rest m [] n e))) ∙ no_files m.attached no.0 ∙ sym (files-rest m [] n e)
 files-at n (m ∷ x ∷ q) some have = by (λ more. files-at (n - length m.bytes) (x ∷ q) more have.1) (has_files m || nat_le n (length m.bytes)) refl where
-  by : (0 < n - length m.bytes → option_map_or (λ m. m.attached) (message_at (span (n - length m.bytes) (x ∷ q)) (x ∷ q)) [] ≡ files_in (n - length m.bytes) (x ∷ q)) → (b : Bool) → (has_files m || nat_le n (length m.bytes)) ≡ b
-      → option_map_or (λ m. m.attached) (message_at (span n (m ∷ x ∷ q)) (m ∷ x ∷ q)) [] ≡ files_in n (m ∷ x ∷ q)
-  by rest true e = ap (λ o. option_map_or (λ m. m.attached) o []) (at-front m (x ∷ q) (span n (m ∷ x ∷ q)) (omega (arith, span-front m (x ∷ q) n e))) ∙ sym (files-front m (x ∷ q) n e)
+  by : (0 < n - length m.bytes → option_map_or (λ m. m.attached) (message_at (stream_cut (n - length m.bytes) (x ∷ q)) (x ∷ q)) [] ≡ files_in (n - length m.bytes) (x ∷ q)) → (b : Bool) → (has_files m || nat_le n (length m.bytes)) ≡ b
+      → option_map_or (λ m. m.attached) (message_at (stream_cut n (m ∷ x ∷ q)) (m ∷ x ∷ q)) [] ≡ files_in n (m ∷ x ∷ q)
+  by rest true e = ap (λ o. option_map_or (λ m. m.attached) o []) (at-front m (x ∷ q) (stream_cut n (m ∷ x ∷ q)) (omega (arith, stream_cut-front m (x ∷ q) n e))) ∙ sym (files-front m (x ∷ q) n e)
   by rest false e =
       let no = neither (has_files m) (nat_le n (length m.bytes)) e in
       let high = leb-false _ _ no.1 in
       let more : 0 < n - length m.bytes = omega (arith, high) in
-      let long = span-rest m (x ∷ q) n e in
-      let on = span-some (n - length m.bytes) x q more have.1 in
-      ap (λ o. option_map_or (λ m. m.attached) o []) (at-rest m (x ∷ q) (span n (m ∷ x ∷ q)) (omega (arith, long, on)) ∙ ap (λ k. message_at k (x ∷ q)) (omega (arith, long)))
+      let long = stream_cut-rest m (x ∷ q) n e in
+      let on = stream_cut-some (n - length m.bytes) x q more have.1 in
+      ap (λ o. option_map_or (λ m. m.attached) o []) (at-rest m (x ∷ q) (stream_cut n (m ∷ x ∷ q)) (omega (arith, long, on)) ∙ ap (λ k. message_at k (x ∷ q)) (omega (arith, long)))
       ∙ rest more ∙ sym (files-rest m (x ∷ q) n e)
 
 -- They are the files of the first message that has some, where a byte of it is taken.
-files-of : (n : ℕ) (q : List Message) → 0 < n → HaveBytes q → cond (nat_lt (before q) (span n q)) (first_files q) [] ≡ files_in n q
-files-of n [] some have = by (nat_lt (before []) (span n [])) where
+files-of : (n : ℕ) (q : List Message) → 0 < n → HaveBytes q → cond (nat_lt (before q) (stream_cut n q)) (first_files q) [] ≡ files_in n q
+files-of n [] some have = by (nat_lt (before []) (stream_cut n [])) where
   by : (b : Bool) → cond {A = List ℕ} b [] [] ≡ []
   by true = refl
   by false = refl
@@ -136,80 +136,80 @@ files-of n (m ∷ q) some have = by (λ more. files-of (n - length m.bytes) q mo
     | inr t ↦ (let h = ltb-false b c t in le-ltb (a + b) (a + c) (omega (arith, h))) ∙ sym t
   ]
 
-  by : (0 < n - length m.bytes → cond (nat_lt (before q) (span (n - length m.bytes) q)) (first_files q) [] ≡ files_in (n - length m.bytes) q) → (a : Bool) → has_files m ≡ a → (b : Bool) → nat_le n (length m.bytes) ≡ b
-      → cond (nat_lt (before (m ∷ q)) (span n (m ∷ q))) (first_files (m ∷ q)) [] ≡ files_in n (m ∷ q)
+  by : (0 < n - length m.bytes → cond (nat_lt (before q) (stream_cut (n - length m.bytes) q)) (first_files q) [] ≡ files_in (n - length m.bytes) q) → (a : Bool) → has_files m ≡ a → (b : Bool) → nat_le n (length m.bytes) ≡ b
+      → cond (nat_lt (before (m ∷ q)) (stream_cut n (m ∷ q))) (first_files (m ∷ q)) [] ≡ files_in n (m ∷ q)
   by rest true t b d =
       let e = ap (λ a. a || nat_le n (length m.bytes)) t in
-      ap (λ b. cond b (first_files (m ∷ q)) []) (lt-ltb (before (m ∷ q)) (span n (m ∷ q)) (omega (arith, before-here m q t, span-front m q n e, some, have.0)))
+      ap (λ b. cond b (first_files (m ∷ q)) []) (lt-ltb (before (m ∷ q)) (stream_cut n (m ∷ q)) (omega (arith, before-here m q t, stream_cut-front m q n e, some, have.0)))
       ∙ ap (λ o. option_map_or (λ m. m.attached) o []) (find-here m q t) ∙ sym (files-front m q n e)
   by rest false t true d =
       let e = ap (λ a. a || nat_le n (length m.bytes)) t ∙ d in
-      ap (λ b. cond b (first_files (m ∷ q)) []) (le-ltb (before (m ∷ q)) (span n (m ∷ q)) (omega (arith, before-later m q t, span-front m q n e)))
+      ap (λ b. cond b (first_files (m ∷ q)) []) (le-ltb (before (m ∷ q)) (stream_cut n (m ∷ q)) (omega (arith, before-later m q t, stream_cut-front m q n e)))
       ∙ sym (no_files m.attached t) ∙ sym (files-front m q n e)
   by rest false t false d =
       let e = ap (λ a. a || nat_le n (length m.bytes)) t ∙ d in
       let high = leb-false _ _ d in
-      (λ i. cond (nat_lt (before-later m q t i) (span-rest m q n e i)) (option_map_or (λ m. m.attached) (find-later m q t i) []) [])
-      ∙ ap (λ b. cond b (first_files q) []) (same (length m.bytes) (before q) (span (n - length m.bytes) q))
+      (λ i. cond (nat_lt (before-later m q t i) (stream_cut-rest m q n e i)) (option_map_or (λ m. m.attached) (find-later m q t i) []) [])
+      ∙ ap (λ b. cond b (first_files q) []) (same (length m.bytes) (before q) (stream_cut (n - length m.bytes) q))
       ∙ rest (omega (arith, high)) ∙ sym (files-rest m q n e)
 
--- What is taken up to a place, part by part.
+-- The part up to a position, part by part.
 parts : (q : List Message) (n : ℕ) (o : Option Message) → up_to q n o ≡ record { bytes = take (min n (end_of q o)) (joined q); attached = cond (nat_lt (before q) (min n (end_of q o))) (option_map_or (λ m. m.attached) o []) []; trunc = false; rest = cut (min n (end_of q o)) q }
 parts q n None = refl
 parts q n (Some m) = refl
 
 -- A stream's receive by its span.
-pub stream-is : (q : List Message) (n : ℕ) → 0 < n → HaveBytes q → take_stream q n ≡ record { bytes = take (span n q) (joined q); attached = files_in n q; trunc = false; rest = cut (span n q) q }
+pub stream-is : (q : List Message) (n : ℕ) → 0 < n → HaveBytes q → take_stream q n ≡ record { bytes = take (stream_cut n q) (joined q); attached = files_in n q; trunc = false; rest = cut (stream_cut n q) q }
 stream-is q n some have =
     parts q n (find has_files q)
-    ∙ (λ i. record { bytes = take (sym (span-is n q) i) (joined q); attached = cond (nat_lt (before q) (sym (span-is n q) i)) (first_files q) []; trunc = false; rest = cut (sym (span-is n q) i) q })
-    ∙ (λ i. record { bytes = take (span n q) (joined q); attached = files-of n q some have i; trunc = false; rest = cut (span n q) q })
+    ∙ (λ i. record { bytes = take (sym (stream_cut-is n q) i) (joined q); attached = cond (nat_lt (before q) (sym (stream_cut-is n q) i)) (first_files q) []; trunc = false; rest = cut (sym (stream_cut-is n q) i) q })
+    ∙ (λ i. record { bytes = take (stream_cut n q) (joined q); attached = files-of n q some have i; trunc = false; rest = cut (stream_cut n q) q })
 
 -- Its bytes are as many.
-span-long : (n : ℕ) (q : List Message) → length (take (span n q) (joined q)) ≡ span n q
-span-long n q = let most = span-most n q in omega (arith, most, length-take (span n q) (joined q))
+stream_cut-long : (n : ℕ) (q : List Message) → length (take (stream_cut n q) (joined q)) ≡ stream_cut n q
+stream_cut-long n q = let most = stream_cut-most n q in omega (arith, most, length-take (stream_cut n q) (joined q))
 
--- What is received of a stream.
+-- The result of a receive from a stream.
 pub stream-received : (q : List Message) (n : ℕ) → 0 < n → HaveBytes q
-    → received Stream q n ≡ record { message = record { bytes = take (span n q) (joined q); attached = files_in n q; user = sender_at (span n q) q }; trunc = false }
+    → received Stream q n ≡ record { message = record { bytes = take (stream_cut n q) (joined q); attached = files_in n q; user = sender_at (stream_cut n q) q }; trunc = false }
 stream-received q n some have =
     (λ i.
     let taken = stream-is q n some have i in
     record { message = record { bytes = taken.bytes; attached = taken.attached; user = sender_at (length taken.bytes) q }; trunc = taken.trunc })
-    ∙ ap (λ k. record { message = record { bytes = take (span n q) (joined q); attached = files_in n q; user = sender_at k q }; trunc = false }) (span-long n q)
+    ∙ ap (λ k. record { message = record { bytes = take (stream_cut n q) (joined q); attached = files_in n q; user = sender_at k q }; trunc = false }) (stream_cut-long n q)
 
 -- All messages within the limits have bytes.
 pub have-bytes : (q : List Message) → AllByRecursion IsMessageWithin q → HaveBytes q
 have-bytes [] h = tt
 have-bytes (m ∷ q) h = (h.0.some, have-bytes q h.1)
 
--- What a message that is taken whole gives as a packet it gives as a part of a stream.
-pub whole-received : (q : List Message) (n : ℕ) → 0 < n → HaveBytes q → option_map_or (λ m. length m.bytes) (slice_get q 0) 0 ≡ span n q → received Seqpacket q (span n q) ≡ received Stream q n
+-- A message that is taken whole gives the same as a packet and as a part of a stream.
+pub whole-received : (q : List Message) (n : ℕ) → 0 < n → HaveBytes q → option_map_or (λ m. length m.bytes) (slice_get q 0) 0 ≡ stream_cut n q → received Seqpacket q (stream_cut n q) ≡ received Stream q n
 whole-received [] n some have e = sym (stream-received [] n some have)
 whole-received (m ∷ q) n some have e =
-    let long : length (take (span n (m ∷ q)) m.bytes) ≡ span n (m ∷ q) = omega (arith, e, length-take (span n (m ∷ q)) m.bytes) in
-    let bytes : take (span n (m ∷ q)) m.bytes ≡ take (span n (m ∷ q)) (m.bytes ++ joined q) = sym (take-append-le (span n (m ∷ q)) m.bytes (joined q) (omega (arith, e))) in
-    let files : m.attached ≡ files_in n (m ∷ q) = sym (ap (λ o. option_map_or (λ m. m.attached) o []) (at-front m q (span n (m ∷ q)) (omega (arith, e)))) ∙ files-at n (m ∷ q) some have in
-    let whole : nat_lt (span n (m ∷ q)) (length m.bytes) ≡ false = le-ltb (span n (m ∷ q)) (length m.bytes) (omega (arith, e)) in
+    let long : length (take (stream_cut n (m ∷ q)) m.bytes) ≡ stream_cut n (m ∷ q) = omega (arith, e, length-take (stream_cut n (m ∷ q)) m.bytes) in
+    let bytes : take (stream_cut n (m ∷ q)) m.bytes ≡ take (stream_cut n (m ∷ q)) (m.bytes ++ joined q) = sym (take-append-le (stream_cut n (m ∷ q)) m.bytes (joined q) (omega (arith, e))) in
+    let files : m.attached ≡ files_in n (m ∷ q) = sym (ap (λ o. option_map_or (λ m. m.attached) o []) (at-front m q (stream_cut n (m ∷ q)) (omega (arith, e)))) ∙ files-at n (m ∷ q) some have in
+    let whole : nat_lt (stream_cut n (m ∷ q)) (length m.bytes) ≡ false = le-ltb (stream_cut n (m ∷ q)) (length m.bytes) (omega (arith, e)) in
     (λ i. record { message = record { bytes = bytes i; attached = files i; user = sender_at (long i) (m ∷ q) }; trunc = whole i }) ∙ sym (stream-received (m ∷ q) n some have)
 
 -- And it leaves the others.
-pub whole-rest : (q : List Message) (n : ℕ) → 0 < n → HaveBytes q → option_map_or (λ m. length m.bytes) (slice_get q 0) 0 ≡ span n q → drop 1 q ≡ (take_stream q n).rest
+pub whole-rest : (q : List Message) (n : ℕ) → 0 < n → HaveBytes q → option_map_or (λ m. length m.bytes) (slice_get q 0) 0 ≡ stream_cut n q → drop 1 q ≡ (take_stream q n).rest
 whole-rest [] n some have e = sym (ap (λ t. t.rest) (stream-is [] n some have))
-whole-rest (m ∷ q) n some have e = sym (ap (λ t. t.rest) (stream-is (m ∷ q) n some have) ∙ cut-whole m q (span n (m ∷ q)) have.1 (sym e))
+whole-rest (m ∷ q) n some have e = sym (ap (λ t. t.rest) (stream-is (m ∷ q) n some have) ∙ cut-whole m q (stream_cut n (m ∷ q)) have.1 (sym e))
 
 -- Where it is not so, something is taken.
-pub part-some : (q : List Message) (n : ℕ) → 0 < n → HaveBytes q → ¬ (option_map_or (λ m. length m.bytes) (slice_get q 0) 0 ≡ span n q) → 0 < span n q
+pub part-some : (q : List Message) (n : ℕ) → 0 < n → HaveBytes q → ¬ (option_map_or (λ m. length m.bytes) (slice_get q 0) 0 ≡ stream_cut n q) → 0 < stream_cut n q
 part-some [] n some have other = absurd (other refl)
-part-some (m ∷ q) n some have other = span-some n m q some have
+part-some (m ∷ q) n some have other = stream_cut-some n m q some have
 
--- What is copied and cut is what is received.
-pub part-received : (q : List Message) (n k : ℕ) (bytes files : List ℕ) (user : ℕ) → 0 < n → HaveBytes q → k ≡ span n q → bytes ≡ take k (joined q) → files ≡ option_map_or (λ m. m.attached) (message_at k q) [] → user ≡ sender_at k q
+-- The copied and cut bytes are those received.
+pub part-received : (q : List Message) (n k : ℕ) (bytes files : List ℕ) (user : ℕ) → 0 < n → HaveBytes q → k ≡ stream_cut n q → bytes ≡ take k (joined q) → files ≡ option_map_or (λ m. m.attached) (message_at k q) [] → user ≡ sender_at k q
     → record { message = record { bytes = bytes; attached = files; user = user }; trunc = false } ≡ received Stream q n
 part-received q n k bytes files user some have is copied taken sent =
     (λ i. record { message = record { bytes = copied i; attached = taken i; user = sent i }; trunc = false })
     ∙ (λ i. record { message = record { bytes = take (is i) (joined q); attached = option_map_or (λ m. m.attached) (message_at (is i) q) []; user = sender_at (is i) q }; trunc = false })
-    ∙ ap (λ fs. record { message = record { bytes = take (span n q) (joined q); attached = fs; user = sender_at (span n q) q }; trunc = false }) (files-at n q some have) ∙ sym (stream-received q n some have)
+    ∙ ap (λ fs. record { message = record { bytes = take (stream_cut n q) (joined q); attached = fs; user = sender_at (stream_cut n q) q }; trunc = false }) (files-at n q some have) ∙ sym (stream-received q n some have)
 
 -- How many files come.
 pub stream-files : (q : List Message) (n : ℕ) → 0 < n → HaveBytes q → length (files_in n q) ≡ length (take_stream q n).attached

@@ -1,10 +1,10 @@
-//! A message in a table of messages, and where those of one queue stand.
+//! A message in a table of messages, and the chain of one queue.
 ghost use Rattle.std.specs.Prelude.{◌≡◌};
 
 use crate::message::Msg;
 use af_base::names::Ino;
 
-/// A message, the file in whose queue it stands, and the key of the one behind it.
+/// A message, the file of its queue, and the key of the next message.
 #[derive(Drop)]
 pub struct Node {
     pub message: Msg,
@@ -12,7 +12,7 @@ pub struct Node {
     pub next: u32,
 }
 
-/// Where the messages of one queue stand: the first, the last, and how many they are.
+/// The messages of one queue: the keys of the first and the last, and their number.
 #[derive(Clone, Copy)]
 pub struct Chain {
     pub first: u32,
@@ -21,7 +21,7 @@ pub struct Chain {
 }
 
 impl Chain {
-    /// No message: the queue of any file.
+    /// Makes the chain of an empty queue, of any file.
     pub fn empty() -> Chain
         ensures { result.len ≡ 0 }
     {

@@ -37,7 +37,7 @@ impl Model for Msg {
 }
 
 impl Msg {
-    /// A message of these parts, at most 65,536 bytes and 253 files. It takes no memory.
+    /// Makes a message of these parts, at most 65,536 bytes and 253 files. Takes no memory.
     #[inline(always)]
     pub fn new(bytes: Vec<u8>, attached: Attached, user: Uid) -> Msg
         requires long { length bytes.items ≤ MAX_BYTES }
@@ -52,7 +52,7 @@ impl Msg {
         }
     }
 
-    /// The bytes of it that were not received yet.
+    /// Returns its bytes that were not received yet.
     #[inline(always)]
     pub fn bytes(&self) -> &[u8]
         ensures { result.now ≡ self.now.bytes }
@@ -60,7 +60,7 @@ impl Msg {
         &self.bytes[self.begin as usize..]
     }
 
-    /// How many they are.
+    /// Returns how many bytes those are.
     #[inline(always)]
     pub fn len(&self) -> usize
         ensures { result ≡ length self.now.bytes }
@@ -68,7 +68,7 @@ impl Msg {
         self.bytes.len() - self.begin as usize
     }
 
-    /// The files that travel with it.
+    /// Returns its attached files.
     #[inline(always)]
     pub fn attached(&self) -> &[FileRef]
         ensures value { result.now ≡ self.now.attached }
@@ -77,7 +77,7 @@ impl Msg {
         self.attached.as_slice()
     }
 
-    /// The user who is charged for the files that travel with it.
+    /// Returns the user who is charged for its attached files.
     #[inline(always)]
     pub fn user(&self) -> Uid
         ensures { result ≡ self.now.user }
@@ -85,7 +85,7 @@ impl Msg {
         self.user
     }
 
-    /// Its first bytes are gone, and its files with them, which are handed on. It takes no memory.
+    /// Removes its first bytes, and its files, which it returns. Takes no memory.
     pub(crate) fn shorten(&mut self, alloc: Global, bytes: usize) -> Attached
         requires { bytes ≤ length self.old.bytes }
         ensures files { result.items ≡ self.old.attached }
@@ -97,19 +97,19 @@ impl Msg {
         mem::replace(&mut self.attached, SmallVec::new(alloc))
     }
 
-    /// The files that travel with it, once more. One needs no memory.
+    /// Copies its attached files. One needs no memory.
     pub(crate) fn copy_attached(&self, alloc: Global) -> Result<Attached, AllocError>
         ensures value { IfOk result (λ files. files.items ≡ self.now.attached) }
         ensures bound { IfOk result (λ files. small_vec_len files ≤ SCM_MAX_FD) }
     {
         let mut files = SmallVec::with_capacity(alloc, self.attached().len())?;
         for file in self.attached() {
-            files.push(file.again())?;
+            files.push(file.duplicate())?;
         }
         Ok(files)
     }
 
-    /// The files that travel with it, and the user who is charged for them. It takes no memory.
+    /// Returns its attached files, and the user who is charged for them. Takes no memory.
     pub(crate) fn into_parts(self) -> (Attached, Uid)
         ensures files { result.0.items ≡ self.attached }
         ensures bound { small_vec_len result.0 ≤ SCM_MAX_FD }
@@ -118,7 +118,7 @@ impl Msg {
         (self.attached, self.user)
     }
 
-    /// A copy of what a receive of at most so many bytes takes of it as a packet.
+    /// Copies what a receive of at most this many bytes takes of it as a packet.
     pub(crate) fn peek(&self, alloc: Global, max: usize) -> Result<Taken, AllocError>
         ensures { IfOk result (λ t. t ≡ record { message = record self.now { bytes = take max self.now.bytes }; trunc = nat_lt max (length self.now.bytes) }) }
     {
@@ -127,7 +127,7 @@ impl Msg {
         Ok(Taken::new(bytes, attached, self.user(), self.len() > max))
     }
 
-    /// What a receive of at most so many bytes takes of it as a packet. It takes no memory.
+    /// Returns what a receive of at most this many bytes takes of it as a packet. Takes no memory.
     #[inline(always)]
     pub(crate) fn into_taken(self, max: usize) -> Taken
         ensures { result ≡ record { message = record self { bytes = take max self.bytes }; trunc = nat_lt max (length self.bytes) } }

@@ -65,7 +65,7 @@ pub fn push(nodes: &mut Slab<Node>, chain: &mut Chain, owner: Ino, message: Msg)
     chain.len += 1;
 }
 
-/// The node at this key has that one behind it from now on.
+/// Links the node at this key to the next one.
 #[inline(always)]
 fn link(nodes: &mut Slab<Node>, key: u32, next: u32)
     ensures linked { (x : Node) → slots.get nodes.old key ≡ Some x → slots.get nodes.new key ≡ Some (record x { next = next }) }
@@ -77,7 +77,7 @@ fn link(nodes: &mut Slab<Node>, key: u32, next: u32)
     }
 }
 
-/// The first message of this chain, which is that file's, if there is one. It takes no memory.
+/// Removes the first message of this chain, which is that file's, if there is one. Takes no memory.
 #[inline(always)]
 pub fn pop(nodes: &mut Slab<Node>, chain: &mut Chain, owner: Ino) -> Option<Msg>
     requires chain { IsChain nodes.old chain.old owner }
@@ -98,10 +98,10 @@ pub fn pop(nodes: &mut Slab<Node>, chain: &mut Chain, owner: Ino) -> Option<Msg>
     Some(node.message)
 }
 
-/// What a receive of at most so many bytes takes of this chain, which is that file's (recvmsg(2)). Of
-/// packets (SOCK_SEQPACKET) it is the first one, and it takes no memory; of a stream (SOCK_STREAM) the
-/// bytes up to the end of the first message with files, over the borders of messages. On an error
-/// nothing has changed.
+/// Takes what a receive of at most this many bytes gives of this chain, which is that file's
+/// (recvmsg(2)). Of packets (SOCK_SEQPACKET) it is the first one, and takes no memory; of a stream
+/// (SOCK_STREAM) the bytes up to the end of the first message with files, over the borders of
+/// messages. On an error nothing has changed.
 #[inline(always)]
 pub fn take(
     nodes: &mut Slab<Node>,
@@ -127,7 +127,7 @@ pub fn take(
     }
 }
 
-/// A packet: the first message, cut to so many bytes.
+/// Takes a packet: the first message, cut to this many bytes.
 #[inline(always)]
 fn take_packet(
     nodes: &mut Slab<Node>,
@@ -149,7 +149,7 @@ fn take_packet(
     }
 }
 
-/// Bytes of a stream. Those of a message that is taken whole and alone are not copied.
+/// Takes bytes of a stream. Those of a message that is taken whole and alone are not copied.
 fn take_stream(
     nodes: &mut Slab<Node>,
     chain: &mut Chain,
@@ -168,7 +168,7 @@ fn take_stream(
     ensures unchanged { OnErr result (nodes.new ≡ nodes.old) }
 {
     let queue = Queue::of(nodes, chain);
-    let (count, _) = queue.span(max);
+    let (count, _) = queue.stream_cut(max);
     if queue.front_len() == count {
         return Ok(take_packet(nodes, chain, owner, alloc, count));
     }
@@ -177,8 +177,8 @@ fn take_stream(
     Ok(Taken::new(bytes, attached, user, false))
 }
 
-/// So many of the first bytes go, and the files of the message that has the last of them, which are
-/// handed on with the user who sent it.
+/// Removes this many of the first bytes, and the files of the message that has the last of them.
+/// Returns these files with the user who sent them.
 fn cut(
     nodes: &mut Slab<Node>,
     chain: &mut Chain,
@@ -203,7 +203,7 @@ fn cut(
     cut_first(nodes, chain, owner, alloc, left)
 }
 
-/// The first message goes, where it has fewer bytes than so many: how many are left to go then.
+/// Removes the first message, if it has fewer bytes than this. Returns how many are left to remove.
 fn drop_shorter(
     nodes: &mut Slab<Node>,
     chain: &mut Chain,
@@ -230,8 +230,8 @@ fn drop_shorter(
     Some(count - size)
 }
 
-/// So many bytes of the first message of this chain go, which has no fewer, and its files, which are
-/// handed on with the user who sent it; where it has no more, it goes.
+/// Removes this many bytes of the first message of this chain, which has at least as many, and its
+/// files. Returns them with the user who sent it. Removes an empty message.
 fn cut_first(
     nodes: &mut Slab<Node>,
     chain: &mut Chain,
@@ -259,8 +259,8 @@ fn cut_first(
     }
 }
 
-/// So many bytes of the first message of this chain go, which has more, and its files, which are handed
-/// on with the user who sent it. It takes no memory.
+/// Removes this many bytes of the first message of this chain, which has more, and its files.
+/// Returns them with the user who sent it. Takes no memory.
 fn shorten_first(
     nodes: &mut Slab<Node>,
     chain: &Chain,

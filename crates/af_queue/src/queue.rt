@@ -6,7 +6,7 @@ ghost use Rattle.af_base.specs.Take.{joined, take_from};
 ghost use Rattle.af_queue.specs.Chains.{messages_of, IsChain};
 ghost use Rattle.af_queue.specs.Queued.{AreWithin};
 ghost use Rattle.af_queue.specs.Received.{message_at, received};
-ghost use Rattle.af_queue.specs.Streams.{files_in, span};
+ghost use Rattle.af_queue.specs.Streams.{files_in, stream_cut};
 
 use crate::chain::{Chain, Node};
 use crate::message::Msg;
@@ -46,7 +46,7 @@ impl<'a> Model for Queue<'a> {
 }
 
 impl<'a> Queue<'a> {
-    /// The messages of this chain, which is some file's.
+    /// Lends the messages of this chain, which is some file's.
     #[inline(always)]
     pub fn of(nodes: &'a Slab<Node>, chain: &Chain) -> Queue<'a>
         requires chain { (owner : ℕ) × IsChain nodes.now chain.now owner }
@@ -59,7 +59,7 @@ impl<'a> Queue<'a> {
         }
     }
 
-    /// How many messages it has.
+    /// Returns how many messages it has.
     #[inline(always)]
     pub fn len(&self) -> usize
         ensures value { result ≡ length self.now }
@@ -68,9 +68,9 @@ impl<'a> Queue<'a> {
         self.len as usize
     }
 
-    /// The same once more.
+    /// Returns another view of the same queue.
     #[inline(always)]
-    pub fn again(&self) -> Queue<'a>
+    pub fn duplicate(&self) -> Queue<'a>
         ensures { result ≡ self.now }
     {
         Queue {
@@ -80,7 +80,7 @@ impl<'a> Queue<'a> {
         }
     }
 
-    /// The first message, if there is one, and those behind it.
+    /// Returns the first message, if there is one, and those behind it.
     #[inline(always)]
     pub fn split_first(&self) -> Option<(&'a Msg, Queue<'a>)>
         ensures some { IfSome result (λ r. self.now ≡ r.0.now ∷ r.1) }
@@ -98,7 +98,7 @@ impl<'a> Queue<'a> {
         Some((&node.message, rest))
     }
 
-    /// The first message, if there is one.
+    /// Returns the first message, if there is one.
     #[inline(always)]
     pub fn first(&self) -> Option<&'a Msg>
         ensures { option_copied result ≡ slice_get self.now 0 }
@@ -107,8 +107,8 @@ impl<'a> Queue<'a> {
         Some(message)
     }
 
-    /// The files that travel with its messages, from this one on, 16 at most: who cannot keep the queue
-    /// while it looks at them takes some steps for each. It takes no memory.
+    /// Returns the files that its messages carry, from this one on, 16 at most: a caller that
+    /// cannot keep the queue while it looks at them takes some steps for each. Takes no memory.
     pub fn carried(&self, from: usize) -> ArrayVec<FileRef, BATCH>
         ensures files { result.items ≡ take BATCH (drop from (carried self.now)) }
         ensures few { length (carried self.now) ≤ MAX_MESSAGES * SCM_MAX_FD }
@@ -117,7 +117,7 @@ impl<'a> Queue<'a> {
         let _len = self.len;
         let mut files = ArrayVec::new();
         let mut skip = from;
-        let mut queue = self.again();
+        let mut queue = self.duplicate();
         while let Some((message, rest)) = queue.split_first() {
             let attached = message.attached();
             if skip < attached.len() {
@@ -134,22 +134,22 @@ impl<'a> Queue<'a> {
         files
     }
 
-    /// How many files a receive of at most so many bytes takes: those of one message at most. It
-    /// looks at no message but those that the receive takes bytes of.
+    /// Returns how many files a receive of at most this many bytes takes: those of one message at
+    /// most. Looks only at messages that the receive takes bytes of.
     #[inline(always)]
-    pub fn reach(&self, kind: SockType, max: usize) -> usize
+    pub fn files_in_receive(&self, kind: SockType, max: usize) -> usize
         requires { 0 < max }
         ensures value { result ≡ length (take_from kind self.now max).attached }
         ensures bound { result ≤ SCM_MAX_FD }
     {
         match kind {
-            SockType::Stream => self.span(max).1,
+            SockType::Stream => self.stream_cut(max).1,
             SockType::Seqpacket => self.front_files(),
         }
     }
 
-    /// A copy of what a receive of at most so many bytes would take (recvmsg(2), MSG_PEEK); the queue
-    /// stays as it is. The copy is all that it takes memory for.
+    /// Copies what a receive of at most this many bytes would take (recvmsg(2), MSG_PEEK); the
+    /// queue stays as it is. Takes memory for the copy alone.
     pub fn peek(&self, alloc: Global, kind: SockType, max: usize) -> Result<Taken, AllocError>
         requires { 0 < max }
         ensures { IfOk result (λ t. t ≡ received kind self.now max) }
@@ -160,7 +160,7 @@ impl<'a> Queue<'a> {
         }
     }
 
-    /// A copy of the first message, cut to so many bytes.
+    /// Copies the first message, cut to this many bytes.
     fn peek_packet(&self, alloc: Global, max: usize) -> Result<Taken, AllocError>
         ensures { IfOk result (λ t. t ≡ received SockType.Seqpacket self.now max) }
     {
@@ -170,12 +170,12 @@ impl<'a> Queue<'a> {
         }
     }
 
-    /// A copy of the bytes that a receive takes of a stream, and of the files that come with the last.
+    /// Copies the bytes that a receive takes of a stream, and the files that come with the last.
     fn peek_stream(&self, alloc: Global, max: usize) -> Result<Taken, AllocError>
         requires { 0 < max }
         ensures { IfOk result (λ t. t ≡ received SockType.Stream self.now max) }
     {
-        let (count, _) = self.span(max);
+        let (count, _) = self.stream_cut(max);
         let bytes = self.copy(alloc, count)?;
         let (attached, user) = match self.message_with(count) {
             Some(last) => (last.copy_attached(alloc)?, last.user()),
@@ -184,12 +184,12 @@ impl<'a> Queue<'a> {
         Ok(Taken::new(bytes, attached, user, false))
     }
 
-    /// The message that has this byte, counted from 1.
+    /// Returns the message that has this byte, counted from 1.
     fn message_with(&self, byte: usize) -> Option<&'a Msg>
         ensures { option_copied result ≡ message_at byte self.now }
     {
         let mut left = byte;
-        let mut queue = self.again();
+        let mut queue = self.duplicate();
         while let Some((message, rest)) = queue.split_first() {
             if left <= message.len() {
                 return Some(message);
@@ -200,7 +200,7 @@ impl<'a> Queue<'a> {
         None
     }
 
-    /// How many bytes the first message has; none, where there is no message.
+    /// Returns how many bytes the first message has; 0 without a message.
     pub(crate) fn front_len(&self) -> usize
         ensures { result ≡ option_map_or (λ m. length m.bytes) (slice_get self.now 0) 0 }
     {
@@ -210,7 +210,7 @@ impl<'a> Queue<'a> {
         }
     }
 
-    /// How many files the first message has.
+    /// Returns how many files the first message has.
     #[inline(always)]
     fn front_files(&self) -> usize
         ensures value { result ≡ option_map_or (λ m. length m.attached) (slice_get self.now 0) 0 }
@@ -222,16 +222,16 @@ impl<'a> Queue<'a> {
         }
     }
 
-    /// How many bytes a receive of at most so many takes of a stream, and how many files come with
-    /// the last of them.
-    pub(crate) fn span(&self, max: usize) -> (usize, usize)
-        ensures bytes { result.0 ≡ span max self.now }
+    /// Returns how many bytes a receive of at most this many takes of a stream, and how many files
+    /// come with the last of them.
+    pub(crate) fn stream_cut(&self, max: usize) -> (usize, usize)
+        ensures bytes { result.0 ≡ stream_cut max self.now }
         ensures within { AreWithin self.now }
         ensures files { result.1 ≡ length (files_in max self.now) }
         ensures bound { result.1 ≤ SCM_MAX_FD }
     {
         let mut bytes = 0;
-        let mut queue = self.again();
+        let mut queue = self.duplicate();
         while let Some((message, rest)) = queue.split_first() {
             let left = max - bytes;
             let files = message.attached().len();
@@ -244,12 +244,12 @@ impl<'a> Queue<'a> {
         (bytes, 0)
     }
 
-    /// So many of the first bytes.
+    /// Copies this many of the first bytes.
     pub(crate) fn copy(&self, alloc: Global, count: usize) -> Result<Vec<u8>, AllocError>
         ensures { IfOk result (λ v. v.items ≡ take count (joined self.now)) }
     {
         let mut bytes = Vec::with_capacity(alloc, count)?;
-        let mut queue = self.again();
+        let mut queue = self.duplicate();
         while let Some((message, rest)) = queue.split_first() {
             let left = count - bytes.len();
             if left == 0 {
@@ -262,7 +262,7 @@ impl<'a> Queue<'a> {
     }
 }
 
-/// As many of these files as fit, behind those that are there.
+/// Appends as many of these files as fit.
 fn fill(files: &mut ArrayVec<FileRef, BATCH>, attached: &[FileRef])
     requires { length files.old.items ≤ BATCH }
     ensures fits { length files.new.items ≤ BATCH }
@@ -272,6 +272,6 @@ fn fill(files: &mut ArrayVec<FileRef, BATCH>, attached: &[FileRef])
         if files.is_full() {
             return;
         }
-        files.push(file.again());
+        files.push(file.duplicate());
     }
 }

@@ -1,4 +1,4 @@
-//! What a receive takes.
+//! The result of a receive.
 ghost use Rattle.std.specs.Prelude.{◌≡◌, ◌≤◌, length};
 ghost use Rattle.smallvec.specs.SmallVec.{small_vec_len};
 ghost use Rattle.af_queue.specs.Received.{nothing_received};
@@ -10,7 +10,7 @@ use smallvec::SmallVec;
 use std::alloc::Global;
 use std::marker::Model;
 
-/// What a receive takes: a message of its own, and whether bytes were dropped.
+/// The result of a receive: a message of its own, and whether bytes were dropped.
 #[derive(Drop)]
 pub struct Taken {
     bytes: Vec<u8>,
@@ -33,7 +33,7 @@ impl Model for Taken {
 }
 
 impl Taken {
-    /// These parts.
+    /// Makes a result of these parts.
     #[inline(always)]
     pub(crate) fn new(bytes: Vec<u8>, attached: Attached, user: Uid, trunc: bool) -> Taken
         requires few { small_vec_len attached ≤ SCM_MAX_FD }
@@ -47,14 +47,14 @@ impl Taken {
         }
     }
 
-    /// Nothing at all. It takes no memory.
+    /// Makes an empty result. Takes no memory.
     pub fn nothing(alloc: Global) -> Taken
         ensures { result ≡ nothing_received }
     {
         Taken::new(Vec::new(alloc), SmallVec::new(alloc), Uid(0), false)
     }
 
-    /// The files that came.
+    /// Returns the received files.
     #[inline(always)]
     pub fn attached(&self) -> &[FileRef]
         ensures value { result.now ≡ self.now.message.attached }
@@ -63,7 +63,7 @@ impl Taken {
         self.attached.as_slice()
     }
 
-    /// The user who was charged for them.
+    /// Returns the user who was charged for them.
     #[inline(always)]
     pub fn user(&self) -> Uid
         ensures { result ≡ self.now.message.user }
@@ -71,7 +71,7 @@ impl Taken {
         self.user
     }
 
-    /// Whether bytes were dropped (recvmsg(2), MSG_TRUNC).
+    /// Returns whether bytes were dropped (recvmsg(2), MSG_TRUNC).
     #[inline(always)]
     pub fn trunc(&self) -> bool
         ensures { result ≡ self.now.trunc }
@@ -79,7 +79,7 @@ impl Taken {
         self.trunc
     }
 
-    /// The bytes that came.
+    /// Returns the received bytes.
     #[inline(always)]
     pub fn into_bytes(self) -> Vec<u8>
         ensures { result.items ≡ self.message.bytes }

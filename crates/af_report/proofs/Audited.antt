@@ -1,4 +1,4 @@
--- What a recount of the bare world says of the whole one.
+-- A recount of the bare world is one of the whole world.
 use Rattle.std.proofs.Common.{ℕ, List, sym, ◌∙◌}
 use Rattle.af_base.specs.World.{World}
 use Rattle.af_base.specs.Bare.{bare}

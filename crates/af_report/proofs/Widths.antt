@@ -1,4 +1,4 @@
--- What the library's widths write.
+-- The text that the library's widths write.
 use Rattle.std.proofs.Common.{◌≡◌, ◌≤◌, ◌<◌, ◌^◌, ℕ, zero, suc, ◌-◌, Bool, true, false, ◌&&◌, cond, List, [], ◌∷◌, length, replicate, refl, ap, ◌∙◌, append-nil, arith}
 use Rattle.std.specs.List.{repeat}
 use Rattle.std.specs.Fmt.{char_count, decimal, format_spec, is_char_start, padded, padded_integral, styled_decimal, styled_text, take_chars}
@@ -15,7 +15,7 @@ no_character : char_count [] ≡ 0
 unfolding char_count
 no_character = refl
 
--- A number goes to the right.
+-- A number is right-aligned.
 pub right_written : (width n : ℕ) → padded_integral (format_spec 32 3 0 width (2 ^ 64 - 1)) false [] (decimal n) ≡ right width n
 unfolding padded_integral lib.Utf8.encode
 right_written width n =
@@ -36,7 +36,7 @@ uncut n (b ∷ text) short = same_both (is_char_start b) _ _ _
     (ap (λ t. cond t [] (b ∷ take_chars (n - 1) text)) (ne_eqb n 0 (λ e. omega (arith, e))) ∙ ap (λ rest. b ∷ rest) (uncut (n - 1) text (omega arith)))
     (ap (λ rest. b ∷ rest) (uncut n text (omega arith)))
 
--- A word goes to the left.
+-- A word is left-aligned.
 pub left_written : (width : ℕ) (word : List ℕ) → length word ≤ 2 ^ 64 - 1 → padded (format_spec 32 1 0 width (2 ^ 64 - 1)) word ≡ left width word
 unfolding padded lib.Utf8.encode
 left_written width word short =
@@ -44,7 +44,7 @@ left_written width word short =
     rw (uncut (2 ^ 64 - 1) word short, all, repeat_space (width - char_count word)) refl
 
 module _ (width : ℕ) (some : 0 < width) where
-  -- What a hole with such options writes of a number.
+  -- The text of a number by a hole with such options.
   pub number_written : (n : ℕ) → styled_decimal (format_spec 32 3 0 width (2 ^ 64 - 1)) n ≡ right width n
   number_written n = ap (λ b. cond (b && true && true) (decimal n) (padded_integral (format_spec 32 3 0 width (2 ^ 64 - 1)) false [] (decimal n))) (ne_eqb width 0 (λ e. omega (arith, e, some))) ∙ right_written width n
 

@@ -1,4 +1,4 @@
--- The text of a check: what an independent recount says.
+-- The text of a check: what an independent recount says. Definitions that name no manual page are of this project's profile (docs/PROFILE.md).
 use Rattle.std.specs.Prelude.{◌≡◌, ℕ, List, [], ◌∷◌, ◌++◌, length, codes}
 use Rattle.std.specs.Fmt.{decimal}
 use Rattle.std.specs.FinMap as map
@@ -6,14 +6,14 @@ use Rattle.af_base.specs.World.{World}
 use Rattle.af_base.specs.Reached.{Garbage}
 use Rattle.af_plain.specs.Marking.{IsListOf}
 
--- How many files are live, and how many of them are garbage (this project's profile).
+-- How many files are live, and how many of them are garbage.
 abbrev pub check_text : ℕ → ℕ → List ℕ
 check_text live lost = codes "check ok live " ++ (decimal live ++ (codes " garbage " ++ (decimal lost ++ 10 ∷ [])))
 
--- So many files are live, and a list that has each garbage file once has so many (this project's profile).
+-- The number of live files, and the length of a list that has each garbage file once.
 abbrev pub IsChecked : World → ℕ → ℕ → Type 0
 IsChecked w live garbage = (live ≡ map.len w.files) × ((lost : List ℕ) × IsListOf (Garbage w) lost × (garbage ≡ length lost))
 
--- The text of a check: the live files are counted, and a list that has each garbage file once (this project's profile).
+-- The text of a check: the live files are counted, and a list that has each garbage file once.
 abbrev pub IsCheckText : World → List ℕ → Type 0
 IsCheckText w text = (lost : List ℕ) × IsListOf (Garbage w) lost × (text ≡ check_text (map.len w.files) (length lost))

@@ -1,4 +1,4 @@
--- The text of a table: a header, and a line for each live file.
+-- The text of a table: a header, and a line for each live file. Definitions that name no manual page are of this project's profile (docs/PROFILE.md).
 use Rattle.std.specs.Prelude.{ℕ, ◌-◌, List, [], ◌∷◌, ◌++◌, Option, Some, None, codes, length, replicate}
 use Rattle.std.specs.List.{flat_map}
 use Rattle.std.specs.FinMap as map
@@ -11,7 +11,7 @@ use Rattle.af_base.specs.declared.events.SockType.TheVariants.{Seqpacket, Stream
 use Rattle.af_base.specs.declared.events.State.{State}
 use Rattle.af_base.specs.declared.events.State.TheVariants as state
 
--- ---- columns (this project's profile)
+-- ---- columns
 
 -- A number at the right of its column, in full where it is wider.
 abbrev pub right : ℕ → ℕ → List ℕ
@@ -27,7 +27,7 @@ joined [] = []
 joined (column ∷ []) = column
 joined (column ∷ next ∷ others) = column ++ 32 ∷ joined (next ∷ others)
 
--- ---- what they say of a file (this project's profile)
+-- ---- what they say of a file
 
 -- The word for a type of sockets.
 abbrev pub type_word : SockType → List ℕ
@@ -48,12 +48,12 @@ peer_number (state.Listening most) = 0
 peer_number (state.Connected peer) = peer
 peer_number state.HungUp = 0
 
--- What a file is.
+-- The kind of a file.
 abbrev pub kind_of : File → List ℕ
 kind_of Plain = codes "plain"
 kind_of (AsSocket s) = type_word s.kind
 
--- Whom it can talk to, if it is a socket.
+-- The state of a file, if it is a socket.
 abbrev pub state_of : File → List ℕ
 state_of Plain = codes "-"
 state_of (AsSocket s) = state_word s.state
@@ -75,7 +75,7 @@ name_of (AsSocket s) = name_text s.name
 
 -- ---- lines
 
--- The columns of a file: its number, its two counts, what it is, whom it can talk to, how many messages and embryos wait, its peer and its name (this project's profile).
+-- The columns of a file: its number, its two counts, what it is, whom it can talk to, how many messages and embryos wait, its peer and its name.
 abbrev pub columns : World → ℕ → File → List (List ℕ)
 columns w f x =
     right 8 f ∷ right 7 (refs w f) ∷ right 7 (inflight w f) ∷ left 9 (kind_of x) ∷ left 9 (state_of x)
@@ -85,7 +85,7 @@ columns w f x =
 abbrev pub file_line : World → ℕ → File → List ℕ
 file_line w f x = joined (columns w f x) ++ 10 ∷ []
 
--- The line above all others (this project's profile).
+-- The line above all others.
 abbrev pub header : List ℕ
 header = codes "   inode    refs     fly kind      state     msgs wait     peer name" ++ 10 ∷ []
 

@@ -34,7 +34,7 @@ impl Agreed {
         })
     }
 
-    /// How many files were compared.
+    /// Returns how many files were compared.
     pub fn files(&self) -> usize
         ensures { result ≡ self.now }
     {

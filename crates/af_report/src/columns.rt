@@ -7,7 +7,6 @@ ghost use Rattle.af_report.specs.Table.{joined, kind_of, left, name_text, peer_n
 ghost use Rattle.af_steps.specs.Shown.{shown_of};
 
 use af_base::events::{SockType, State};
-use af_base::items::Items;
 use af_base::names::{FileRef, Ino};
 use af_steps::{Engine, FileInfo};
 use std::alloc::AllocError;
@@ -38,7 +37,7 @@ pub fn push_counts(text: &mut String, ino: Ino, refs: u64, inflight: u64) -> Res
     Ok(())
 }
 
-/// The word for a type of sockets (socket(2)).
+/// Returns the word for a type of sockets (socket(2)).
 pub fn type_word(kind: SockType) -> &'static str
     ensures { result.now ≡ type_word kind }
 {
@@ -48,7 +47,7 @@ pub fn type_word(kind: SockType) -> &'static str
     }
 }
 
-/// The word for whom a socket can talk to.
+/// Returns the word for the state of a socket.
 pub fn state_word(state: &State) -> &'static str
     ensures { result.now ≡ state_word state.now }
 {
@@ -60,7 +59,7 @@ pub fn state_word(state: &State) -> &'static str
     }
 }
 
-/// The number of a socket's live peer, or 0.
+/// Returns the number of a socket's live peer, or 0.
 fn peer_number(state: &State) -> u64
     ensures { result ≡ peer_number state.now }
 {
@@ -118,7 +117,7 @@ pub fn push_file(text: &mut String, engine: &Engine, file: &FileRef) -> Result<(
 }
 
 /// Appends `@` and a name, or `-` where there is none.
-pub fn push_name(text: &mut Vec<u8>, name: Option<&Items<u8>>) -> Result<(), AllocError>
+pub fn push_name(text: &mut Vec<u8>, name: Option<&[u8]>) -> Result<(), AllocError>
     ensures { OnOk result (text.new.items ≡ text.old.items ++ name_text (option_copied name.entry)) }
 {
     let Some(name) = name else {
@@ -126,5 +125,5 @@ pub fn push_name(text: &mut Vec<u8>, name: Option<&Items<u8>>) -> Result<(), All
         return Ok(());
     };
     text.push(b'@')?;
-    text.extend_from_slice(name.as_slice())
+    text.extend_from_slice(name)
 }

@@ -12,7 +12,7 @@ use std::alloc::{AllocError, Global};
 /// The line above all others.
 const HEADER: &[u8] = b"   inode    refs     fly kind      state     msgs wait     peer name\n";
 
-/// Appends the line of a live file. What stands in `columns` before goes.
+/// Appends the line of a live file. Replaces the text in `columns`.
 fn push_line(
     text: &mut Vec<u8>,
     columns: &mut String,
@@ -32,22 +32,22 @@ fn push_line(
     Ok(())
 }
 
-/// The table: a header, and a line for each live file by rising inode number. It says how many places
-/// hold the file and how many of these are in queues, what it is, whom it can talk to, how many
+/// Writes the table: a header, and a line for each live file by rising inode number. It says how
+/// many places hold the file and how many of these are in queues, its kind and state, how many
 /// messages and embryos wait at it, its live peer, and its abstract name (unix(7)).
 pub fn table(alloc: Global, engine: &Engine) -> Result<Vec<u8>, AllocError>
     ensures { IfOk result (λ text. text.items ≡ table_text engine.now.world) }
 {
     // No file has the number 0: that is what a sound world says of it.
-    engine.is_sound();
+    engine.lemma_is_sound();
     let mut text = HEADER.to_vec(alloc)?;
     let mut columns = String::new(alloc);
     let mut last = Ino(0);
-    let mut near = 0;
-    while let Some((file, at)) = engine.next_file(last, near) {
+    let mut order_hint = 0;
+    while let Some((file, at)) = engine.next_file(last, order_hint) {
         push_line(&mut text, &mut columns, engine, &file)?;
         last = file.ino();
-        near = at;
+        order_hint = at;
     }
     Ok(text)
 }

@@ -1,7 +1,7 @@
-//! The text of reports: what an engine holds, whom it charges, and what a recount says of it.
+//! The text of reports: the files of an engine, the charges of its users, and a recount of it.
 //!
-//! A report is made whole, and speaks of the engine as it stands; `count` gives the numbers of a check
-//! without a text. The error of each says that memory for it was refused.
+//! A report is made whole, of the engine at the call; `count` gives the numbers of a check without
+//! a text. Each fails only if memory is refused.
 #![tactic(auto)]
 
 mod agreed;

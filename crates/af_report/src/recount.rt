@@ -1,4 +1,4 @@
-//! What an independent recount of everything says of an engine.
+//! An independent recount of an engine.
 ghost use Rattle.std.specs.Prelude.{◌≡◌, IfOk, IfSome, IsSome, string_bytes};
 ghost use Rattle.std.specs.List.{All};
 ghost use Rattle.std.specs.Prelude as list;
@@ -13,29 +13,29 @@ use af_steps::Engine;
 use std::alloc::{AllocError, Global};
 use std::marker::Model;
 
-/// The numbers that the engine keeps of each live file, by rising inode number.
+/// Returns the numbers that the engine keeps of each live file, by rising inode number.
 fn kept_files(alloc: Global, engine: &Engine) -> Result<Vec<KeptFile>, AllocError>
     ensures recounts { IfOk result (λ files. All (IsFileRecount engine.now.world) files.items) }
     ensures all { IfOk result (λ files. list.map (λ k. k.ino) files.items ≡ map.keys engine.now.world.files) }
 {
     // No file has the number 0: that is what a sound world says of it.
-    engine.is_sound();
+    engine.lemma_is_sound();
     let mut files = Vec::new(alloc);
     let mut last = Ino(0);
-    let mut near = 0;
-    while let Some((file, at)) = engine.next_file(last, near) {
+    let mut order_hint = 0;
+    while let Some((file, at)) = engine.next_file(last, order_hint) {
         files.push(KeptFile {
             ino: file.ino(),
             refs: engine.refs_at(&file),
             inflight: engine.inflight_at(&file),
         })?;
         last = file.ino();
-        near = at;
+        order_hint = at;
     }
     Ok(files)
 }
 
-/// The number that the engine keeps of each user, in the order of their first process.
+/// Returns the number that the engine keeps of each user, in the order of their first process.
 fn kept_users(alloc: Global, engine: &Engine) -> Result<Vec<KeptUser>, AllocError>
     ensures recounts { IfOk result (λ users. All (IsUserRecount engine.now.world) users.items) }
     ensures all { IfOk result (λ users. list.map (λ k. k.user) users.items ≡ engine.now.world.users) }
@@ -51,7 +51,7 @@ fn kept_users(alloc: Global, engine: &Engine) -> Result<Vec<KeptUser>, AllocErro
     Ok(users)
 }
 
-/// All numbers that the engine keeps.
+/// Returns all counts that the engine keeps.
 fn kept(alloc: Global, engine: &Engine) -> Result<Kept, AllocError>
     ensures recounts { IfOk result (AreRecounts engine.now.world) }
     ensures files { IfOk result (λ k. list.map (λ f. f.ino) k.files.items ≡ map.keys engine.now.world.files) }
@@ -64,7 +64,7 @@ fn kept(alloc: Global, engine: &Engine) -> Result<Kept, AllocError>
     })
 }
 
-/// What a check found. It is seen as the number of live files and the number of garbage files.
+/// The result of a check. It is seen as the number of live files and the number of garbage files.
 #[derive(Drop)]
 pub struct Checked {
     agreed: Agreed,
@@ -80,14 +80,14 @@ impl Model for Checked {
 }
 
 impl Checked {
-    /// How many files are live.
+    /// Returns how many files are live.
     pub fn live(&self) -> usize
         ensures { result ≡ self.now.0 }
     {
         self.agreed.files()
     }
 
-    /// How many of them no chain of places reaches from any table.
+    /// Returns how many of them no chain of places reaches from any table.
     pub fn garbage(&self) -> usize
         ensures { result ≡ self.now.1 }
     {
@@ -114,7 +114,7 @@ pub fn count(alloc: Global, engine: &Engine) -> Result<Option<Checked>, AllocErr
     }))
 }
 
-/// The line of a check.
+/// Writes the line of a check.
 fn line_of(alloc: Global, checked: &Checked) -> Result<String, AllocError>
     ensures { IfOk result (λ line. string_bytes line ≡ check_text checked.now.0 checked.now.1) }
 {
@@ -125,9 +125,9 @@ fn line_of(alloc: Global, checked: &Checked) -> Result<String, AllocError>
     Ok(line)
 }
 
-/// The line of a check: how many files are live, and how many of them no chain of places reaches from
-/// any table. Where a number that the engine keeps is no recount, which no engine comes to, it says
-/// `check failed`.
+/// Writes the line of a check: how many files are live, and how many of them no chain of places
+/// reaches from any table. If a kept count is no recount, which never happens, it says `check
+/// failed`.
 pub fn check(alloc: Global, engine: &Engine) -> Result<Vec<u8>, AllocError>
     ensures { IfOk result (λ text. IsCheckText engine.now.world text.items) }
 {

@@ -13,8 +13,8 @@ fn push_user(text: &mut String, user: Uid, charged: u64) -> Result<(), AllocErro
     writeln!(text, "user {user} inflight {charged}")
 }
 
-/// The totals: how many descriptors in flight are charged to each user (unix(7), ETOOMANYREFS), in
-/// the order of their first process.
+/// Writes the totals: how many descriptors in flight are charged to each user (unix(7),
+/// ETOOMANYREFS), in the order of their first process.
 pub fn totals(alloc: Global, engine: &Engine) -> Result<Vec<u8>, AllocError>
     ensures { IfOk result (λ text. text.items ≡ totals_text engine.now.world) }
 {

@@ -1,4 +1,4 @@
--- What a call comes to, an answer or an error, is a step of the machine.
+-- The outcome of a call, an answer or an error, is a step of the machine.
 use Rattle.std.proofs.Common.{◌≡◌, ℕ, Bool, true, false, inr, refl, sym, ap, ◌∙◌, subst}
 use Rattle.std.specs.Prelude.{Option, Some, None, Result, Ok, Err, IfOk, IfErr, IsOkAnd, MatchResult}
 use Rattle.af_base.specs.declared.errno.Errno.{Errno}
@@ -35,7 +35,7 @@ module _ (old : Machine) (p : ℕ) (s : Step) (new : Machine) where
       let kept = stays (refusal w p s) (needs_no_memory s) (answer w p s) (effect w p s) w e d.0 in
       subst (λ (m : Machine). ProcessStep w p s (reply.Refused e) m.world × SamePass old m) (sym d.1) (kept, (refl, refl, refl))
 
-  -- What a call comes to is a step with the reply that tells it.
+  -- The outcome of a call is a step with its reply.
   pub answers_step : (t : Step) → t ≡ s → {T : Type 0} (o : Result T Errno) (tells : T → Reply) (r : Reply) → IfOk o (λ t. Does old p s (tells t) new) → IfErr o (λ e. Refuses old p s e new) → IfOk o (λ t. r ≡ tells t) → IfErr o (λ e. r ≡ reply.Refused e) → Answers old p t r new
   answers_step t is (Ok a) tells r done refused ok err = subst (λ x. Answers old p x r new) (sym is) (subst (λ x. Answers old p s x new) (sym ok) (does-step (tells a) done))
   answers_step t is (Err e) tells r done refused ok err = subst (λ x. Answers old p x r new) (sym is) (subst (λ x. Answers old p s x new) (sym err) (refuses-step e refused))

@@ -1,4 +1,4 @@
--- What of its row is left when an event has looked up what it needs.
+-- The rest of an event's row after its look-ups.
 use Rattle.std.proofs.Common.{◌≡◌, ◌<◌, ◌≤◌, ℕ, [], ◌++◌, sym, ap, ◌∙◌, subst, arith}
 use Rattle.std.specs.Prelude.{Option, Some, None, IsTrue, is_some, unwrap_or}
 use Rattle.std.specs.FinMap as map
@@ -19,15 +19,15 @@ pub no-socket : (w : World) (p n : ℕ) (rest : Row) (e : Errno) → first_fit (
 no-socket w p n rest e is = goes-on (on_process (map.get w.processes p) ++ at_socket w p n) rest e is
 
 module _ {w : World} {p : ℕ} {q : Process} (has : HasProcess w p q) where
-  -- The number of the process stands for it.
+  -- The descriptor of the process refers to it.
   pub is_process : process_at w p ≡ q
   is_process = ap {B = Process} (λ o. unwrap_or o no_process) has.there
 
-  -- What numbers stand for, by its table.
+  -- The files of descriptors, by their table.
   pub looks : table_at w p ≡ map.get q.table
   looks = λ i n. there-table w p n q has.there i
 
-  -- What is left of a row where the process was found.
+  -- The rest of a row after the process was found.
   pub after-process : (rest : Process → (ℕ → Option ℕ) → Row) → first_fit (on_process (map.get w.processes p) ++ rest (process_at w p) (table_at w p)) ≡ first_fit (rest q (map.get q.table))
   after-process rest = λ i. first_fit (on_process (has.there i) ++ rest (is_process i) (looks i))
 
@@ -56,7 +56,7 @@ module _ {w : World} {p : ℕ} {q : Process} (has : HasProcess w p q) where
   room-below n room low most = let same = ap (λ (x : Process). x.limit) is_process in omega (arith, low, most, same)
 
 module _ {w : World} {p : ℕ} {q : Process} {n f : ℕ} (has : HasNumber w p q n f) where
-  -- The number stands for the file.
+  -- The descriptor refers to the file.
   pub tabled : table_at w p n ≡ Some f
   tabled = (λ i. looks has.process i n) ∙ has.stands
 
@@ -68,7 +68,7 @@ module _ {w : World} {p : ℕ} {q : Process} {n f : ℕ} (has : HasNumber w p q 
   pub ino-is : ino_on w p n ≡ f
   ino-is = ap (λ o. unwrap_or o 0) tabled
 
-  -- What is left of a row where the number was found too.
+  -- The rest of a row after the descriptor was found too.
   pub after-number : (rest : Process → Row) → first_fit (on_process (map.get w.processes p) ++ (on_number (table_at w p n) ++ rest (process_at w p))) ≡ first_fit (rest q)
   after-number rest = λ i. first_fit (on_process (has.process.there i) ++ (on_number (tabled i) ++ rest (is_process has.process i)))
 
@@ -77,7 +77,7 @@ module _ {w : World} {p : ℕ} {q : Process} {n f : ℕ} {x : Socket} (has : Has
   pub socket-is : socket_on w p n ≡ x
   socket-is = ap (λ o. unwrap_or (option_and_then (socket_at w) o) no_socket) (tabled has.number) ∙ ap (λ o. unwrap_or o no_socket) has.found
 
-  -- What is left of a row where the socket was found too.
+  -- The rest of a row after the socket was found too.
   pub after-socket : (rest : Process → (ℕ → Option ℕ) → Socket → Row)
       → first_fit (on_process (map.get w.processes p) ++ (at_socket w p n ++ rest (process_at w p) (table_at w p) (socket_on w p n))) ≡ first_fit (rest q (map.get q.table) x)
   after-socket rest =

@@ -4,6 +4,5 @@ pub mod Found
 pub mod Numbers
 pub mod Receiving
 pub mod Sent
-pub mod Made
-pub mod Untabled
 pub mod Connected
+pub mod Crosses

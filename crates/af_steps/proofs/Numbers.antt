@@ -17,7 +17,7 @@ use Rattle.af_steps.proofs.Found.{is_process}
 pub record IsLowest (q : Process) (n : ℕ) : Type 0 where
   pub read : slice_get (free_numbers q) 0 ≡ Some n
 
--- What a list begins with: it is the first one of it, it is at 0, and it is at least one.
+-- The first element of a list is at 0, and the list is not empty.
 begins : (xs : List ℕ) (n : ℕ) → slice_get xs 0 ≡ Some n → (take 1 xs ≡ n ∷ []) × (slice_index xs 0 ≡ n) × (nat_lt (length xs) 1 ≡ false)
 begins [] n e = absurd (none_some n e)
 begins (x ∷ xs) n e = (ap (λ y. y ∷ []) (some_same x n e), some_same x n e, le-ltb (length (x ∷ xs)) 1 (omega arith))

@@ -45,7 +45,7 @@ module _ {inside old : Machine} (shown : inside ≡ old) (p : ℕ) (s : Step) wh
     pub starves : answered ≡ Err ENOMEM → refusal w p s ≡ None → needs_no_memory s ≡ false → IfErr answered (λ e. Refuses old p s e new)
     starves is fits may = by-error ENOMEM is (ap (λ o. error_of o (needs_no_memory s)) fits ∙ ap (error_of None) may)
 
--- What an error was made into is answered.
+-- The mapped error is the reply.
 pub answered-is : {X : Type 0} (answered : Result X Errno) (e : Errno) → IsErrAnd answered (λ x. x ≡ e) → answered ≡ Err e
 answered-is (Ok x) e is = absurd is
 answered-is (Err x) e is = ap Err is
@@ -56,7 +56,7 @@ module _ {inside old : Machine} (shown : inside ≡ old) (p : ℕ) (s : Step) {X
   pub turned-down : refusal inside.world p s ≡ Some e → IfErr answered (λ x. Refuses old p s x old)
   turned-down fits = refuses shown p s old answered refl e (answered-is answered e is) fits
 
--- Where an error stands for what is missing, it is missing, and that is the error.
+-- If an error replaces a missing row, the row is missing, and that is the error.
 pub missing : {A : Type 0} (o : Option A) (d e : Errno) → Err e ≡ ok_or o d → (o ≡ None) × (e ≡ d)
 missing None d e is = (refl, cc)
 missing (Some x) d e is = absurd cc

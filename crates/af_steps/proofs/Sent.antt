@@ -64,11 +64,11 @@ module _ {w : World} {p n f : ℕ} {q : Process} {x : Socket} (has : HasSocket w
   sent = record { bytes = bytes; attached = filter_map (map.get q.table) attach; user = q.user }
 
   module _ (m : Message) (is : m ≡ sent) where
-    -- What it carries is what the numbers stand for.
+    -- It carries the files of the descriptors.
     carries : m.attached ≡ filter_map (table_at w p) attach
     carries = ap (λ (x : Message). x.attached) is ∙ (λ i. filter_map (sym (looks has.number.process) i) attach)
 
-    -- They stand in the table of who sends them.
+    -- They are in the table of the sender.
     pub sent-tabled : (g : ℕ) → Contains m.attached g → InTable w g
     sent-tabled g h = let tabled = attached-tabled w p attach g (subst (λ fs. Contains fs g) carries h) in (p, tabled.0, tabled.1)
 

@@ -1,4 +1,4 @@
--- What an event has looked up.
+-- The results of an event's look-ups.
 use Rattle.std.specs.Prelude.{◌≡◌, ℕ, Some}
 use Rattle.std.specs.FinMap as map
 use Rattle.af_base.specs.Refusals.{socket_at}
@@ -8,7 +8,7 @@ use Rattle.af_base.specs.World.{Process, Socket, World}
 pub record HasProcess (w : World) (p : ℕ) (q : Process) : Type 0 where
   pub there : map.get w.processes p ≡ Some q
 
--- And its number n stands for this file.
+-- And its descriptor n refers to this file.
 pub record HasNumber (w : World) (p : ℕ) (q : Process) (n f : ℕ) : Type 0 where
   pub process : HasProcess w p q
   pub stands : map.get q.table n ≡ Some f

@@ -1,10 +1,10 @@
--- What a view shows of a file.
+-- The view of a file. The definition that names no manual page is of this project's profile (docs/PROFILE.md).
 use Rattle.std.specs.Prelude.{Option, Some, None, length}
 use Rattle.af_base.specs.World.{File, Plain, AsSocket}
 use Rattle.af_steps.specs.declared.views.FileInfo.{FileInfo}
 use Rattle.af_steps.specs.declared.views.FileInfo.TheVariants as shown
 
--- A plain file shows that it is plain; a socket its type, its state, and how many messages and embryos it has; a stranger shows nothing (this project's profile).
+-- The view of a plain file says that it is plain; that of a socket its type, its state, and its numbers of messages and embryos; an unknown file has none.
 abbrev pub shown_of : Option File → Option FileInfo
 shown_of None = None
 shown_of (Some Plain) = Some shown.Plain

@@ -61,7 +61,7 @@ pub struct RunStopped {
 impl Engine {
     ghost use Rattle.af_base.specs.Whole.{IsSound};
 
-    /// An engine to which nothing has happened.
+    /// Makes an engine in the fresh machine.
     pub fn new(alloc: Global) -> Result<Engine, AllocError>
         ensures { IfOk result (λ e. e ≡ fresh) }
     {
@@ -92,8 +92,8 @@ impl Engine {
         }
     }
 
-    /// The same of an event that the caller gives away: the bytes of a send are moved into the message,
-    /// and not copied.
+    /// Does the same for an event that the caller gives away: the bytes of a send are moved into
+    /// the message, and not copied.
     pub fn step_owned(&mut self, event: Event) -> Reply
         ensures { Step self.old event result self.new }
     {
@@ -103,7 +103,7 @@ impl Engine {
         }
     }
 
-    /// A step of a process.
+    /// Does a step of a process.
     #[inline(always)]
     fn step_of(&mut self, pid: Pid, step: &events::Step) -> Reply
         ensures { Answers self.old pid step.now result self.new }
@@ -117,9 +117,9 @@ impl Engine {
             events::Step::Exit => reply_of(self.exit(pid)),
             events::Step::Pair(kind) => reply_of(self.pair(pid, *kind)),
             events::Step::Socket(kind) => reply_of(self.socket(pid, *kind)),
-            events::Step::Bind { on, name } => reply_of(self.bind(pid, *on, name)),
+            events::Step::Bind { on, name } => reply_of(self.bind(pid, *on, name.as_slice())),
             events::Step::Listen { on, backlog } => reply_of(self.listen(pid, *on, *backlog)),
-            events::Step::Connect { on, name } => reply_of(self.connect(pid, *on, name)),
+            events::Step::Connect { on, name } => reply_of(self.connect(pid, *on, name.as_slice())),
             events::Step::Accept(on) => reply_of(self.accept(pid, *on)),
             events::Step::Send { on, bytes, attach } => {
                 let sent = self.send(pid, *on, bytes.as_slice(), attach.as_slice());
@@ -139,7 +139,8 @@ impl Engine {
         }
     }
 
-    /// A receive. It is apart, so that no other step clears room on the stack for what it gives.
+    /// Does a receive. It is a function of its own, so that no other step clears room on the stack
+    /// for its result.
     #[inline(always)]
     fn recv_reply(&mut self, pid: Pid, on: Fd, max_bytes: u32, max_fds: u32) -> Reply
         ensures { Answers self.old pid (Recv on max_bytes max_fds) result self.new }
@@ -147,7 +148,7 @@ impl Engine {
         reply_of(self.recv(pid, on, max_bytes, max_fds))
     }
 
-    /// A peek, apart for the same reason.
+    /// Does a peek, in a function of its own for the same reason.
     #[inline(always)]
     fn peek_reply(&mut self, pid: Pid, on: Fd, max_bytes: u32, max_fds: u32) -> Reply
         ensures { Answers self.old pid (Peek on max_bytes max_fds) result self.new }
@@ -155,7 +156,7 @@ impl Engine {
         reply_of(self.peek(pid, on, max_bytes, max_fds))
     }
 
-    /// The same of a step that is given away.
+    /// Does the same for a step that is given away.
     #[inline(always)]
     fn step_of_owned(&mut self, pid: Pid, step: events::Step) -> Reply
         ensures { Answers self.old pid step result self.new }
@@ -187,9 +188,9 @@ impl Engine {
         Ok(done)
     }
 
-    /// Nothing at run time: it says that what the engine shows is whole, within all limits, and
-    /// settled, whatever happened before.
-    pub fn is_sound(&self)
+    /// Does nothing at run time. Shows that the engine's world is well-formed, within all limits,
+    /// and settled, whatever happened before.
+    pub fn lemma_is_sound(&self)
         ensures { IsSound self.now.world }
     {
         // The invariant says it: it is enough to look at a field.
@@ -197,7 +198,7 @@ impl Engine {
     }
 }
 
-/// The reply that tells what a call answered, or its error as a refusal.
+/// Returns the reply of a call's answer, or its error as a refusal.
 #[inline(always)]
 fn reply_of<T: Into<Reply>>(outcome: Result<T, Errno>) -> Reply
     ensures ok { IfOk outcome (λ answer. T.converts answer result) }

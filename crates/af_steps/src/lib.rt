@@ -1,7 +1,7 @@
 //! The engine: one event after another, each with its reply.
 //!
-//! What is there stands in a store (`af_collect`), whose place changes keep all counts; here are the
-//! events. Each looks up, is refused in order, makes room, changes places, releases, and answers.
+//! The state is in a store (`af_collect`), whose place changes keep all counts; the events are
+//! here. Each looks up, is refused in order, makes room, changes places, releases, and answers.
 #![tactic(auto)]
 
 mod engine;

@@ -1,4 +1,4 @@
-//! What an event looks up before its own tests.
+//! The look-ups of an event, before its own tests.
 ghost use Rattle.std.specs.Prelude.{◌≡◌, ◌++◌, None, Some, false, IfErr, IfOk, OnOk, slice_get};
 ghost use Rattle.std.specs.FinMap as map;
 ghost use Rattle.af_base.specs.Refusals.{at_socket, first_fit, is_full, on_process, process_at, refusal, socket_at};
@@ -12,7 +12,7 @@ use af_collect::Store;
 use af_desc::Socket;
 use af_table::Process;
 
-/// The lowest free number of the process, which a file more is to have; or why there is none.
+/// Returns the lowest free descriptor of the process, for a new file; or why there is none.
 #[inline(always)]
 pub fn place_for_file(store: &Store, pid: Pid) -> Result<Fd, Errno>
     ensures there { OnOk result (HasProcess store.now.world pid (process_at store.now.world pid)) }
@@ -29,7 +29,8 @@ pub fn place_for_file(store: &Store, pid: Pid) -> Result<Fd, Errno>
     Ok(fd)
 }
 
-/// The process, what its number stands for, and the socket that this is; or why there is none.
+/// Returns the process, the file of its descriptor, and the socket that this is; or why there is
+/// none.
 #[inline(always)]
 pub fn socket_on(store: &Store, pid: Pid, on: Fd) -> Result<(&Process, FileRef, Socket<'_>), Errno>
     ensures found { IfOk result (λ found. HasSocket store.now.world pid found.0.now.process on found.1 found.2) }
@@ -41,7 +42,7 @@ pub fn socket_on(store: &Store, pid: Pid, on: Fd) -> Result<(&Process, FileRef, 
     Ok((process, file, socket))
 }
 
-/// The socket; a plain file and a stranger are none.
+/// Returns the socket; `None` for a plain or unknown file.
 #[inline(always)]
 pub fn socket_at<'a>(store: &'a Store, file: &FileRef) -> Option<Socket<'a>>
     ensures { result ≡ socket_at store.now.world file.now }

@@ -23,7 +23,7 @@ use af_table::Process;
 use smallvec::SmallVec;
 use std::alloc::{AllocError, Global};
 
-/// What a receive or a peek gives (recvmsg(2)).
+/// The result of a receive or a peek (recvmsg(2)).
 #[derive(Debug, PartialEq, Eq, Drop)]
 pub enum Received {
     /// Bytes, and the numbers at which descriptors were installed.
@@ -61,7 +61,7 @@ impl From<Received> for Reply {
     }
 }
 
-/// A message without its bytes, and whose queue it goes to.
+/// A message without its bytes, and the socket whose queue it joins.
 #[derive(Drop)]
 struct Envelope {
     peer: FileRef,
@@ -70,23 +70,22 @@ struct Envelope {
 }
 
 impl Engine {
-    /// A process sends bytes, and with them what these numbers stand for (sendmsg(2)): the step
-    /// `Send` of that process, for a caller whose bytes and numbers stand elsewhere. They are
-    /// copied once. Answers how many bytes were sent. Refused, in this order: ESRCH, EBADF,
-    /// ENOTSOCK, EINVAL (no byte, or over 253 numbers), EMSGSIZE (over 65,536 bytes), EBADF of an
-    /// attached number, ENOTCONN, EPIPE, ETOOMANYREFS, ENOBUFS, EAGAIN, ENOMEM.
+    /// Sends bytes from a process, with the files of these descriptors (sendmsg(2)): the step
+    /// `Send` of that process, for a caller that keeps the bytes and descriptors. They are copied
+    /// once. Answers how many bytes were sent. Refused, in this order: ESRCH, EBADF, ENOTSOCK,
+    /// EINVAL (no byte, or over 253 numbers), EMSGSIZE (over 65,536 bytes), EBADF of an attached
+    /// number, ENOTCONN, EPIPE, ETOOMANYREFS, ENOBUFS, EAGAIN, ENOMEM.
     pub fn send(&mut self, pid: Pid, on: Fd, bytes: &[u8], attach: &[Fd]) -> Result<u32, Errno>
         ensures done { IfOk result (λ count. Does self.old pid (Step.Send on bytes.now attach.now) (Reply.Sent count) self.new) }
         ensures refused { IfErr result (λ e. Refuses self.old pid (Step.Send on bytes.now attach.now) e self.new) }
     {
-        let envelope = self.envelope(pid, on, bytes, attach)?;
+        let envelope = self.prepare_send(pid, on, bytes, attach)?;
         let bytes = bytes.to_vec(self.alloc)?;
-        self.post(envelope, bytes)
+        self.commit_send(envelope, bytes)
     }
 
-    /// The same of bytes that the caller gives away: they are not copied, and take no memory but
-    /// what they stand in. That stays with the message, with what room it has to spare. A refusal
-    /// drops them. The refusals are those of `send`.
+    /// Sends likewise bytes that the caller gives away: they are not copied, and the message keeps
+    /// their memory, with its spare room. A refusal drops them. The refusals are those of `send`.
     pub fn send_owned(
         &mut self,
         pid: Pid,
@@ -97,13 +96,13 @@ impl Engine {
         ensures done { IfOk result (λ count. Does self.old pid (Step.Send on bytes attach.now) (Reply.Sent count) self.new) }
         ensures refused { IfErr result (λ e. Refuses self.old pid (Step.Send on bytes attach.now) e self.new) }
     {
-        let envelope = self.envelope(pid, on, bytes.as_slice(), attach)?;
-        self.post(envelope, bytes.into_vec())
+        let envelope = self.prepare_send(pid, on, bytes.as_slice(), attach)?;
+        self.commit_send(envelope, bytes.into_vec())
     }
 
-    /// Whose queue the bytes go to, with which files and at whose charge, or why they cannot be sent.
+    /// Returns the queue, the files and the charge of the message, or why it cannot be sent.
     #[inline(always)]
-    fn envelope(&self, pid: Pid, on: Fd, bytes: &[u8], attach: &[Fd]) -> Result<Envelope, Errno>
+    fn prepare_send(&self, pid: Pid, on: Fd, bytes: &[u8], attach: &[Fd]) -> Result<Envelope, Errno>
         ensures fits { OnOk result (refusal self.now.world pid (Step.Send on bytes.now attach.now) ≡ None) }
         ensures leads { IfOk result (λ e. effect self.now.world pid (Step.Send on bytes.now attach.now) ≡ push_message self.now.world e.peer (message_in e bytes.now)) }
         ensures room { IfOk result (λ e. HasRoom self.now.world e.peer (message_in e bytes.now)) }
@@ -128,10 +127,10 @@ impl Engine {
         })
     }
 
-    /// The bytes come into the queue that the envelope names: how many they are. Where memory is
-    /// refused, nothing has changed.
+    /// Appends the bytes to the queue that the envelope names, and returns how many they are. If
+    /// memory is refused, nothing has changed.
     #[inline(always)]
-    fn post(&mut self, envelope: Envelope, bytes: Vec<u8>) -> Result<u32, Errno>
+    fn commit_send(&mut self, envelope: Envelope, bytes: Vec<u8>) -> Result<u32, Errno>
         requires { HasRoom self.old.world envelope.peer (message_in envelope bytes.items) }
         ensures count { IfOk result (λ count. count ≡ length bytes.items) }
         ensures settles { OnOk result (Settles (push_message self.old.world envelope.peer (message_in envelope bytes.items)) self.new.world) }
@@ -140,17 +139,17 @@ impl Engine {
     {
         let count = bytes.len() as u32;
         let message = Msg::new(bytes, envelope.attached, envelope.user);
-        // What tables hold is no garbage of a pass that runs.
-        self.store.is_spared();
+        // A file in a table is no garbage of a running pass.
+        self.store.lemma_is_spared();
         self.store.room_for_message()?;
         self.store.put_msg(&envelope.peer, message);
         self.store.release();
         Ok(count)
     }
 
-    /// A process receives at most so many bytes and so many descriptors (recvmsg(2)). A packet's
-    /// bytes beyond `max_bytes` are dropped (recvmsg(2), MSG_TRUNC); a stream's wait for the next
-    /// receive. Descriptors beyond `max_fds` or the free numbers are closed (unix(7), SCM_RIGHTS;
+    /// Receives at most this many bytes and descriptors (recvmsg(2)). A packet's bytes beyond
+    /// `max_bytes` are dropped (recvmsg(2), MSG_TRUNC); a stream's wait for the next receive.
+    /// Descriptors beyond `max_fds` or the free numbers are closed (unix(7), SCM_RIGHTS;
     /// MSG_CTRUNC). Refused, in this order: ESRCH, EBADF, ENOTSOCK, EINVAL (`max_bytes` is not 1 to
     /// 65,536), ENOTCONN, EAGAIN, ENOMEM.
     // Apart, so that no other step clears room on the stack for what it gives.
@@ -171,20 +170,20 @@ impl Engine {
             return Ok(Received::End);
         }
         let max = max_bytes as usize;
-        let files = socket.queue().reach(socket.kind(), max);
+        let files = socket.queue().files_in_receive(socket.kind(), max);
         let fds = process.lowest_free(self.alloc, files.min(max_fds as usize))?;
-        // What tables hold is no garbage of a pass that runs.
-        self.store.is_spared();
+        // A file in a table is no garbage of a running pass.
+        self.store.lemma_is_spared();
         self.store.room_for(pid, fds.len())?;
         let taken = self.store.take_msg(&file, max, pid, &fds)?;
         self.store.release();
         Ok(got(taken, fds))
     }
 
-    /// A process sees what a receive would take, which stays in the queue (recvmsg(2), MSG_PEEK).
-    /// Descriptors that are installed stand in a table and in the queue then, and the others in the
-    /// queue alone. A second peek sees the same. Refused, in this order: ESRCH, EBADF, ENOTSOCK,
-    /// EINVAL (`max_bytes` is not 1 to 65,536), ENOTCONN, EAGAIN, ENOMEM.
+    /// Returns what a receive would take, which stays in the queue (recvmsg(2), MSG_PEEK).
+    /// Installed descriptors refer to files that are then in a table and in the queue; the others
+    /// are in the queue alone. A second peek sees the same. Refused, in this order: ESRCH, EBADF,
+    /// ENOTSOCK, EINVAL (`max_bytes` is not 1 to 65,536), ENOTCONN, EAGAIN, ENOMEM.
     // Apart for the same reason.
     #[inline(never)]
     pub fn peek(
@@ -205,11 +204,11 @@ impl Engine {
         let max = max_bytes as usize;
         let count = socket
             .queue()
-            .reach(socket.kind(), max)
+            .files_in_receive(socket.kind(), max)
             .min(max_fds as usize);
         let fds = process.lowest_free(self.alloc, count)?;
-        // What tables hold is no garbage of a pass that runs.
-        self.store.is_spared();
+        // A file in a table is no garbage of a running pass.
+        self.store.lemma_is_spared();
         self.store.room_for(pid, fds.len())?;
         let seen = self.store.peek_msg(&file, max, pid, &fds)?;
         self.store.release();
@@ -217,7 +216,7 @@ impl Engine {
     }
 }
 
-/// Whether a process may send these bytes with these numbers, or why not.
+/// Returns whether a process may send these bytes with these descriptors, or why not.
 fn check_parts(process: &Process, bytes: &[u8], attach: &[Fd]) -> Result<(), Errno>
     ensures ok { OnOk result (first_fit (on_parts (map.get process.now.process.table) bytes.now attach.now) ≡ None) }
     ensures err { IfErr result (λ e. first_fit (on_parts (map.get process.now.process.table) bytes.now attach.now) ≡ Some e) }
@@ -234,14 +233,14 @@ fn check_parts(process: &Process, bytes: &[u8], attach: &[Fd]) -> Result<(), Err
     Ok(())
 }
 
-/// Whether one of these numbers of the process is free.
+/// Returns whether one of these descriptors of the process is free.
 fn any_free(process: &Process, fds: &[Fd]) -> bool
     ensures { result ≡ list_any (λ n. is_none (map.get process.now.process.table n)) fds.now }
 {
     fds.iter().any(|fd| process.lookup(*fd).is_none())
 }
 
-/// Whom a socket sends to, or why it cannot.
+/// Returns the peer that a socket sends to, or why it cannot.
 fn peer_of(socket: &Socket) -> Result<FileRef, Errno>
     ensures ok { OnOk result (first_fit (on_peer socket.now) ≡ None) }
     ensures peer { IfOk result (λ peer. peer ≡ peer_of socket.now.state) }
@@ -256,7 +255,7 @@ fn peer_of(socket: &Socket) -> Result<FileRef, Errno>
     }
 }
 
-/// Whether so many bytes can be received from the socket, or why not.
+/// Returns whether this many bytes can be received from the socket, or why not.
 #[inline(always)]
 pub(crate) fn check_receive(socket: &Socket, max_bytes: u32) -> Result<(), Errno>
     ensures ok { OnOk result (first_fit (on_receive socket.now max_bytes) ≡ None) }
@@ -272,7 +271,7 @@ pub(crate) fn check_receive(socket: &Socket, max_bytes: u32) -> Result<(), Errno
     }
 }
 
-/// What these numbers of the process stand for; those that are free are left out.
+/// Returns the files of these descriptors of the process, without those that are free.
 fn files_at(alloc: Global, process: &Process, fds: &[Fd]) -> Result<Attached, AllocError>
     ensures value { IfOk result (λ files. files.items ≡ filter_map (map.get process.now.process.table) fds.now) }
     ensures bound { IfOk result (λ files. length files.items ≤ length fds.now) }
@@ -287,7 +286,8 @@ fn files_at(alloc: Global, process: &Process, fds: &[Fd]) -> Result<Attached, Al
     Ok(files)
 }
 
-/// The answer to a receive or a peek of this, whose first files were installed at these numbers.
+/// Returns the answer to a receive or a peek, whose first files were installed at these
+/// descriptors.
 #[inline(always)]
 fn got(taken: Taken, fds: Vec<Fd>) -> Received
     ensures { result ≡ Received.Got taken.message.bytes fds.items taken.trunc (nat_lt (length fds.items) (length taken.message.attached)) }

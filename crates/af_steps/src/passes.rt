@@ -20,7 +20,7 @@ pub struct Finished {
 /// Where a pass is after a slice.
 #[derive(Clone, Copy, Debug, PartialEq, Eq)]
 pub enum Progress {
-    /// It goes on.
+    /// The pass has work left.
     Working,
     /// It is over.
     Done(Finished),
@@ -49,8 +49,8 @@ impl From<Progress> for Reply {
 }
 
 impl Engine {
-    /// A pass begins, over the files that are there. It costs the same however many there are.
-    /// Answers its number. Refused with EBUSY while a pass runs.
+    /// Begins a pass over the present files. It costs the same for any number of files. Answers its
+    /// number. Refused with EBUSY while a pass runs.
     pub fn begin(&mut self) -> Result<u64, Errno>
         ensures done { IfOk result (λ number. Begins self.old.pass self.old (Reply.Started number) self.new) }
         ensures refused { IfErr result (λ e. Begins self.old.pass self.old (Reply.Refused e) self.new) }
@@ -63,8 +63,8 @@ impl Engine {
         Ok(self.last_pass)
     }
 
-    /// The pass that runs goes on, by at most so many units: each visits, scans or sweeps one file.
-    /// Refused with EIDLE where none runs, and else with EINVAL where the budget is not 1 to
+    /// Continues the running pass, by at most this many units: each visits, scans or sweeps one
+    /// file. Refused with EIDLE where none runs, and else with EINVAL where the budget is not 1 to
     /// 65,536.
     pub fn slice(&mut self, budget: u32) -> Result<Progress, Errno>
         ensures done { IfOk result (λ progress. GoesOn self.old.pass self.old budget (progress_reply progress) self.new) }
@@ -85,8 +85,8 @@ impl Engine {
         })
     }
 
-    /// A whole pass: all garbage goes, with what nothing but garbage held. Refused with EBUSY while
-    /// a pass runs.
+    /// Runs a whole pass: frees all garbage, and the files that only garbage held. Refused with
+    /// EBUSY while a pass runs.
     pub fn pass(&mut self) -> Result<Finished, Errno>
         ensures done { IfOk result (λ finished. PassesWhole self.old.pass self.old (finished_reply finished) self.new) }
         ensures refused { IfErr result (λ e. PassesWhole self.old.pass self.old (Reply.Refused e) self.new) }
@@ -103,7 +103,8 @@ impl Engine {
     }
 }
 
-/// The number of the next pass: one more than the last one's, up to the largest, which stays.
+/// Returns the number of the next pass: one more than the last one's, up to the largest, which
+/// stays.
 fn next_pass(last: u64) -> u64
     requires { last ≤ MAX_PASS }
     ensures { result ≡ next_pass last }

@@ -1,4 +1,4 @@
-//! What files are ready for (poll(2)).
+//! The readiness of files (poll(2)).
 ghost use Rattle.std.specs.Prelude.{◌≡◌, ◌++◌, Some, IfErr, IfOk, length, nat_lt};
 ghost use Rattle.std.specs.FinMap as map;
 ghost use Rattle.af_base.specs.Places.{queue_at, table_at};
@@ -30,7 +30,7 @@ impl Engine {
         Ok(self.ready_at(&file))
     }
 
-    /// Returns what the file that stands there is ready for, which is live. No search.
+    /// Returns the readiness of the file of this reference, which is live. No search.
     pub fn ready_at(&self, file: &FileRef) -> Ready
         requires { IsLive self.now.world file.now }
         ensures { ready self.now.world file.now ≡ Some result }
@@ -50,14 +50,14 @@ impl Engine {
     }
 }
 
-/// Whether a receive of a byte from the socket, or an accept at it, is not refused.
+/// Returns whether a receive of a byte from the socket, or an accept at it, is not refused.
 fn reads(socket: &Socket) -> bool
     ensures { result ≡ reads socket.now }
 {
     check_receive(socket, 1).is_ok() || check_accept(socket).is_ok()
 }
 
-/// Whether the socket has a peer, and room there.
+/// Returns whether the socket has a peer, and room there.
 fn writes(store: &Store, socket: &Socket) -> bool
     ensures { result ≡ writes socket.now (queue_at store.now.world (peer_of socket.now.state)) }
 {
@@ -67,7 +67,7 @@ fn writes(store: &Store, socket: &Socket) -> bool
     }
 }
 
-/// Whether the queue of a file has room for a message more.
+/// Returns whether the queue of a file has room for a message more.
 fn has_room(store: &Store, file: &FileRef) -> bool
     ensures { result ≡ nat_lt (length (queue_at store.now.world file.now)) MAX_MESSAGES }
 {
@@ -77,7 +77,7 @@ fn has_room(store: &Store, file: &FileRef) -> bool
     }
 }
 
-/// Whether the peer of the socket is gone.
+/// Returns whether the peer of the socket is gone.
 fn is_hung_up(socket: &Socket) -> bool
     ensures { result ≡ is_hung_up socket.now.state }
 {

@@ -9,14 +9,13 @@ use crate::engine::Engine;
 use crate::lookups::{place_for_file, socket_at, socket_on};
 use af_base::errno::Errno;
 use af_base::events::{Reply, SockType, State, Step};
-use af_base::items::Items;
 use af_base::limits::{MAX_BACKLOG, MAX_NAME};
 use af_base::names::{Fd, Pid};
 use af_desc::Socket;
 
 impl Engine {
-    /// A process makes two sockets that are connected to each other (socketpair(2)). Answers the
-    /// two lowest free numbers, rising. Refused, in this order: ESRCH, EMFILE, ENFILE, ENOMEM.
+    /// Makes two sockets that are connected to each other (socketpair(2)). Answers the two lowest
+    /// free numbers, rising. Refused, in this order: ESRCH, EMFILE, ENFILE, ENOMEM.
     pub fn pair(&mut self, pid: Pid, kind: SockType) -> Result<(Fd, Fd), Errno>
         ensures done { IfOk result (λ fds. Does self.old pid (Step.Pair kind) (Reply.Fds fds.0 fds.1) self.new) }
         ensures refused { IfErr result (λ e. Refuses self.old pid (Step.Pair kind) e self.new) }
@@ -27,35 +26,32 @@ impl Engine {
             return Err(Errno::ENFILE);
         }
         self.store.room_for(pid, 2)?;
-        let (first, second) = self.store.make_two(kind)?;
-        self.store.table_in(pid, lower, first);
-        self.store.table_in(pid, higher, second);
+        self.store.make_two(kind, pid, lower, higher)?;
         self.store.release();
         Ok((lower, higher))
     }
 
-    /// A process makes a socket (socket(2)). Answers its lowest free number. Refused, in this
-    /// order: ESRCH, EMFILE, ENFILE, ENOMEM.
+    /// Makes a socket (socket(2)). Answers its lowest free number. Refused, in this order: ESRCH,
+    /// EMFILE, ENFILE, ENOMEM.
     pub fn socket(&mut self, pid: Pid, kind: SockType) -> Result<Fd, Errno>
         ensures done { IfOk result (λ fd. Does self.old pid (Step.Socket kind) (Reply.Fd fd) self.new) }
         ensures refused { IfErr result (λ e. Refuses self.old pid (Step.Socket kind) e self.new) }
     {
         let fd = place_for_file(&self.store, pid)?;
         self.store.room_for(pid, 1)?;
-        let file = self.store.make_sock(kind)?;
-        self.store.table_in(pid, fd, file);
+        self.store.make_sock(kind, pid, fd)?;
         self.store.release();
         Ok(fd)
     }
 
-    /// A process gives a socket an abstract name (bind(2); unix(7)). Refused, in this order: ESRCH,
-    /// EBADF, ENOTSOCK, EINVAL, EADDRINUSE, ENOMEM.
-    pub fn bind(&mut self, pid: Pid, on: Fd, name: &Items<u8>) -> Result<(), Errno>
+    /// Gives a socket an abstract name (bind(2); unix(7)). Refused, in this order: ESRCH, EBADF,
+    /// ENOTSOCK, EINVAL, EADDRINUSE, ENOMEM.
+    pub fn bind(&mut self, pid: Pid, on: Fd, name: &[u8]) -> Result<(), Errno>
         ensures done { OnOk result (Does self.old pid (Step.Bind on name.now) Reply.Ok self.new) }
         ensures refused { IfErr result (λ e. Refuses self.old pid (Step.Bind on name.now) e self.new) }
     {
         let (_, file, socket) = socket_on(&self.store, pid, on)?;
-        check_bind(&socket, name.as_slice())?;
+        check_bind(&socket, name)?;
         if self.store.holdings().files().named(name).is_some() {
             return Err(Errno::EADDRINUSE);
         }
@@ -64,8 +60,8 @@ impl Engine {
         Ok(())
     }
 
-    /// A process lets a socket wait for connections, so many at most (listen(2)). Refused, in this
-    /// order: ESRCH, EBADF, ENOTSOCK, EINVAL (also where the backlog is not 1 to 128), ENOMEM.
+    /// Makes a socket a listener with this backlog (listen(2)). Refused, in this order: ESRCH,
+    /// EBADF, ENOTSOCK, EINVAL (also where the backlog is not 1 to 128), ENOMEM.
     pub fn listen(&mut self, pid: Pid, on: Fd, backlog: u32) -> Result<(), Errno>
         ensures done { OnOk result (Does self.old pid (Step.Listen on backlog) Reply.Ok self.new) }
         ensures refused { IfErr result (λ e. Refuses self.old pid (Step.Listen on backlog) e self.new) }
@@ -77,10 +73,10 @@ impl Engine {
         Ok(())
     }
 
-    /// A process connects a socket to the listener of this name: to an embryo, which waits there to
-    /// be accepted (connect(2)). Refused, in this order: ESRCH, EBADF, ENOTSOCK, EINVAL, EISCONN,
+    /// Connects a socket to the listener of this name: to an embryo, which waits there to be
+    /// accepted (connect(2)). Refused, in this order: ESRCH, EBADF, ENOTSOCK, EINVAL, EISCONN,
     /// ECONNREFUSED, EPROTOTYPE, EAGAIN, ENFILE, ENOMEM.
-    pub fn connect(&mut self, pid: Pid, on: Fd, name: &Items<u8>) -> Result<(), Errno>
+    pub fn connect(&mut self, pid: Pid, on: Fd, name: &[u8]) -> Result<(), Errno>
         ensures done { OnOk result (Does self.old pid (Step.Connect on name.now) Reply.Ok self.new) }
         ensures refused { IfErr result (λ e. Refuses self.old pid (Step.Connect on name.now) e self.new) }
     {
@@ -97,13 +93,12 @@ impl Engine {
         if self.store.holdings().files().is_full(1) {
             return Err(Errno::ENFILE);
         }
-        let embryo = self.store.make_embryo(kind, &file)?;
-        self.store.put_embryo(&listener, embryo);
+        self.store.make_embryo(kind, &file, &listener)?;
         self.store.release();
         Ok(())
     }
 
-    /// A process accepts the embryo that waits longest at a listener (accept(2)). Answers its
+    /// Accepts the embryo that waits longest at a listener (accept(2)). Answers the process's
     /// lowest free number, which the embryo gets. Refused, in this order: ESRCH, EBADF, ENOTSOCK,
     /// EINVAL, EAGAIN, EMFILE, ENOMEM.
     pub fn accept(&mut self, pid: Pid, on: Fd) -> Result<Fd, Errno>
@@ -113,8 +108,8 @@ impl Engine {
         let (process, file, socket) = socket_on(&self.store, pid, on)?;
         check_accept(&socket)?;
         let fd = process.lowest().ok_or(Errno::EMFILE)?;
-        // What tables hold is no garbage of a pass that runs.
-        self.store.is_spared();
+        // A file in a table is no garbage of a running pass.
+        self.store.lemma_is_spared();
         self.store.room_for(pid, 1)?;
         self.store.take_embryo(&file, pid, fd);
         self.store.release();
@@ -122,7 +117,7 @@ impl Engine {
     }
 }
 
-/// Whether the socket can have this name, or why not.
+/// Returns whether the socket can have this name, or why not.
 fn check_bind(socket: &Socket, name: &[u8]) -> Result<(), Errno>
     ensures ok { OnOk result (first_fit (on_bind socket.now name.now) ≡ None) }
     ensures err { IfErr result (λ e. first_fit (on_bind socket.now name.now) ≡ Some e) }
@@ -133,7 +128,7 @@ fn check_bind(socket: &Socket, name: &[u8]) -> Result<(), Errno>
     Ok(())
 }
 
-/// Whether the socket can wait for so many connections, or why not.
+/// Returns whether the socket can become a listener with this backlog, or why not.
 fn check_listen(socket: &Socket, backlog: u32) -> Result<(), Errno>
     ensures ok { OnOk result (first_fit (on_listen socket.now backlog) ≡ None) }
     ensures err { IfErr result (λ e. first_fit (on_listen socket.now backlog) ≡ Some e) }
@@ -144,7 +139,7 @@ fn check_listen(socket: &Socket, backlog: u32) -> Result<(), Errno>
     Ok(())
 }
 
-/// Whether the socket can connect, or why not.
+/// Returns whether the socket can connect, or why not.
 fn check_client(socket: &Socket) -> Result<(), Errno>
     ensures ok { OnOk result (first_fit (on_client socket.now.state) ≡ None) }
     ensures err { IfErr result (λ e. first_fit (on_client socket.now.state) ≡ Some e) }
@@ -156,7 +151,7 @@ fn check_client(socket: &Socket) -> Result<(), Errno>
     }
 }
 
-/// Whether a socket of this type can connect to that one, or why not.
+/// Returns whether a socket of this type can connect to that one, or why not.
 fn check_listener(socket: &Socket, kind: SockType) -> Result<(), Errno>
     ensures ok { OnOk result (first_fit (on_listener socket.now kind) ≡ None) }
     ensures err { IfErr result (λ e. first_fit (on_listener socket.now kind) ≡ Some e) }
@@ -173,7 +168,7 @@ fn check_listener(socket: &Socket, kind: SockType) -> Result<(), Errno>
     Ok(())
 }
 
-/// Whether somebody waits at the socket to be accepted, or why not.
+/// Returns whether an embryo waits at the socket to be accepted, or why not.
 pub(crate) fn check_accept(socket: &Socket) -> Result<(), Errno>
     ensures ok { OnOk result (first_fit (on_accept socket.now) ≡ None) }
     ensures err { IfErr result (λ e. first_fit (on_accept socket.now) ≡ Some e) }
@@ -187,28 +182,29 @@ pub(crate) fn check_accept(socket: &Socket) -> Result<(), Errno>
     Ok(())
 }
 
-/// Whether it was never connected and does not listen.
+/// Returns whether it was never connected and does not listen.
 fn is_idle(socket: &Socket) -> bool
     ensures { IsTrue result ↔ (socket.now.state ≡ State.Idle) }
 {
     matches!(socket.state(), State::Idle)
 }
 
-/// Whether these bytes are a name: 1 to 107 digits, letters, `-`, `.` and `_` (unix(7), sun_path).
+/// Returns whether these bytes are a name: 1 to 107 digits, letters, `-`, `.` and `_` (unix(7),
+/// sun_path).
 fn is_name(bytes: &[u8]) -> bool
     ensures { result ≡ is_name bytes.now }
 {
     !bytes.is_empty() && bytes.len() <= MAX_NAME && are_name_bytes(bytes)
 }
 
-/// Whether a name may have each of these bytes.
+/// Returns whether a name may have each of these bytes.
 fn are_name_bytes(bytes: &[u8]) -> bool
     ensures { result ≡ list_all is_name_byte bytes.now }
 {
     bytes.iter().all(|byte| is_name_byte(*byte))
 }
 
-/// Whether a name may have this byte.
+/// Returns whether a name may have this byte.
 fn is_name_byte(byte: u8) -> bool
     ensures { result ≡ is_name_byte byte }
 {

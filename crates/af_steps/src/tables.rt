@@ -1,7 +1,5 @@
 //! Steps that start and end processes, and those that change only tables.
-ghost use Rattle.std.specs.Prelude.{◌≡◌, IfErr, IfOk, OnOk, is_none, not};
-ghost use Rattle.af_base.specs.Changes.{uninstall};
-ghost use Rattle.af_base.specs.Places.{table_at};
+ghost use Rattle.std.specs.Prelude.{◌≡◌, IfErr, IfOk, OnOk};
 ghost use Rattle.af_steps.specs.Outcome.{Does, Refuses, RefusesStart, Starts};
 
 use crate::engine::Engine;
@@ -10,10 +8,9 @@ use af_base::errno::Errno;
 use af_base::events::{Reply, Step};
 use af_base::limits::MAX_NOFILE;
 use af_base::names::{Fd, Pid, Uid};
-use af_collect::Store;
 
 impl Engine {
-    /// A process starts, as after fork(2) and setuid(2), with an empty table. A privileged one is
+    /// Starts a process, as after fork(2) and setuid(2), with an empty table. A privileged one is
     /// not held to its user's share of descriptors in flight (unix(7), CAP_SYS_RESOURCE). Answers
     /// its pid. Refused, in this order: ERANGE (the limit is over 1,024), EAGAIN, ENOMEM.
     pub fn spawn(&mut self, uid: Uid, nofile: u32, privileged: bool) -> Result<Pid, Errno>
@@ -23,7 +20,7 @@ impl Engine {
         if nofile > MAX_NOFILE {
             return Err(Errno::ERANGE);
         }
-        if self.store.holdings().is_crowded() {
+        if self.store.holdings().is_at_process_limit() {
             return Err(Errno::EAGAIN);
         }
         let pid = self.store.spawn(uid, nofile, privileged)?;
@@ -31,7 +28,7 @@ impl Engine {
         Ok(pid)
     }
 
-    /// A process opens a plain file (open(2)). Answers its lowest free number. Refused, in this
+    /// Opens a plain file (open(2)). Answers the process's lowest free number. Refused, in this
     /// order: ESRCH, EMFILE, ENFILE, ENOMEM.
     pub fn open(&mut self, pid: Pid) -> Result<Fd, Errno>
         ensures done { IfOk result (λ fd. Does self.old pid Step.Open (Reply.Fd fd) self.new) }
@@ -39,14 +36,13 @@ impl Engine {
     {
         let fd = place_for_file(&self.store, pid)?;
         self.store.room_for(pid, 1)?;
-        let file = self.store.make_plain()?;
-        self.store.table_in(pid, fd, file);
+        self.store.make_plain(pid, fd)?;
         self.store.release();
         Ok(fd)
     }
 
-    /// A process has a description at its lowest free number too (dup(2)). Refused, in this order:
-    /// ESRCH, EBADF, EMFILE, ENOMEM.
+    /// Duplicates a descriptor to the process's lowest free number (dup(2)). Refused, in this
+    /// order: ESRCH, EBADF, EMFILE, ENOMEM.
     pub fn dup(&mut self, pid: Pid, from: Fd) -> Result<Fd, Errno>
         ensures done { IfOk result (λ fd. Does self.old pid (Step.Dup from) (Reply.Fd fd) self.new) }
         ensures refused { IfErr result (λ e. Refuses self.old pid (Step.Dup from) e self.new) }
@@ -54,17 +50,17 @@ impl Engine {
         let process = self.store.holdings().procs().find(pid).ok_or(Errno::ESRCH)?;
         let file = process.lookup(from).ok_or(Errno::EBADF)?;
         let fd = process.lowest().ok_or(Errno::EMFILE)?;
-        // What tables hold is no garbage of a pass that runs.
-        self.store.is_spared();
+        // A file in a table is no garbage of a running pass.
+        self.store.lemma_is_spared();
         self.store.room_for(pid, 1)?;
         self.store.table_in(pid, fd, file);
         self.store.release();
         Ok(fd)
     }
 
-    /// A process has a description at another number too, in place of what that stood for
-    /// (dup2(2)). A number in place of itself asks for no memory. Refused, in this order: ESRCH,
-    /// EBADF, ENOMEM.
+    /// Sets another descriptor to the file of this one, and closes it first if it is open
+    /// (dup2(2)). A descriptor in place of itself asks for no memory. Refused, in this order:
+    /// ESRCH, EBADF, ENOMEM.
     pub fn dup2(&mut self, pid: Pid, from: Fd, to: Fd) -> Result<Fd, Errno>
         ensures done { IfOk result (λ fd. Does self.old pid (Step.Dup2 from to) (Reply.Fd fd) self.new) }
         ensures refused { IfErr result (λ e. Refuses self.old pid (Step.Dup2 from to) e self.new) }
@@ -77,18 +73,16 @@ impl Engine {
         if to.0 >= process.limit() {
             return Err(Errno::EBADF);
         }
-        let taken = process.lookup(to).is_some();
-        // What tables hold is no garbage of a pass that runs.
-        self.store.is_spared();
+        // A file in a table is no garbage of a running pass.
+        self.store.lemma_is_spared();
         self.store.room_for(pid, 1)?;
-        vacate(&mut self.store, pid, to, taken);
-        self.store.table_in(pid, to, file);
+        self.store.replace(pid, to, file);
         self.store.release();
         Ok(to)
     }
 
-    /// A process closes a number (close(2)). It takes no memory. Refused, in this order: ESRCH,
-    /// EBADF.
+    /// Closes a descriptor of a process (close(2)). It takes no memory. Refused, in this order:
+    /// ESRCH, EBADF.
     pub fn close(&mut self, pid: Pid, fd: Fd) -> Result<(), Errno>
         ensures done { OnOk result (Does self.old pid (Step.Close fd) Reply.Ok self.new) }
         ensures refused { IfErr result (λ e. Refuses self.old pid (Step.Close fd) e self.new) }
@@ -100,14 +94,14 @@ impl Engine {
         Ok(())
     }
 
-    /// A process makes a child with a copy of its table (fork(2)). Answers the child's pid.
+    /// Makes a child with a copy of the process's table (fork(2)). Answers the child's pid.
     /// Refused, in this order: ESRCH, EAGAIN, ENOMEM.
     pub fn fork(&mut self, pid: Pid) -> Result<Pid, Errno>
         ensures done { IfOk result (λ child. Does self.old pid Step.Fork (Reply.Pid child) self.new) }
         ensures refused { IfErr result (λ e. Refuses self.old pid Step.Fork e self.new) }
     {
         self.store.holdings().procs().find(pid).ok_or(Errno::ESRCH)?;
-        if self.store.holdings().is_crowded() {
+        if self.store.holdings().is_at_process_limit() {
             return Err(Errno::EAGAIN);
         }
         let child = self.store.copy_for_fork(pid)?;
@@ -115,9 +109,9 @@ impl Engine {
         Ok(child)
     }
 
-    /// A process has another limit on its descriptors (setrlimit(2), RLIMIT_NOFILE). What is open
-    /// stays open, also at or above the limit. It takes no memory. Refused, in this order: ESRCH,
-    /// ERANGE (the limit is over 1,024).
+    /// Sets the process's limit on descriptors (setrlimit(2), RLIMIT_NOFILE). Open descriptors stay
+    /// open, also at or above the limit. It takes no memory. Refused, in this order: ESRCH, ERANGE
+    /// (the limit is over 1,024).
     pub fn limit(&mut self, pid: Pid, nofile: u32) -> Result<(), Errno>
         ensures done { OnOk result (Does self.old pid (Step.Limit nofile) Reply.Ok self.new) }
         ensures refused { IfErr result (λ e. Refuses self.old pid (Step.Limit nofile) e self.new) }
@@ -131,7 +125,7 @@ impl Engine {
         Ok(())
     }
 
-    /// A process ends, and all its numbers are closed (_exit(2)). It takes no memory. Refused with
+    /// Ends a process, and closes all its descriptors (_exit(2)). It takes no memory. Refused with
     /// ESRCH alone.
     pub fn exit(&mut self, pid: Pid) -> Result<(), Errno>
         ensures done { OnOk result (Does self.old pid Step.Exit Reply.Ok self.new) }
@@ -141,16 +135,5 @@ impl Engine {
         self.store.remove_process(pid);
         self.store.release();
         Ok(())
-    }
-}
-
-/// The number of the process is free from now on. `taken` says whether it was open.
-#[inline(always)]
-fn vacate(store: &mut Store, pid: Pid, fd: Fd, taken: bool)
-    requires { is_none (table_at store.old.world pid fd) ≡ not taken }
-    ensures { store.new ≡ record store.old { world = uninstall store.old.world pid fd; marks = store.new.marks } }
-{
-    if taken {
-        store.table_out(pid, fd);
     }
 }

@@ -27,17 +27,18 @@ impl Engine {
         self.store.tell_changed()
     }
 
-    /// Returns the inode numbers of the files that were freed since the lists were emptied last, each
-    /// once, where that is told: what a program keeps for such a file can go. No search.
+    /// Returns the inode numbers of the files that were freed since the lists were last emptied,
+    /// each once, if that list is kept. The program can drop what it keeps for such a file. No
+    /// search.
     pub fn released(&self) -> &[Ino]
         ensures { TellsReleased self.now.world self.now.since result.now }
     {
         self.store.released()
     }
 
-    /// Returns the sockets whose readiness may have changed since the lists were emptied last, each
-    /// once, where that is told. A socket that is not among them, and whose peer is not, answers
-    /// `poll` as it did then. A plain file is never among them: it is always ready. No search.
+    /// Returns the sockets whose readiness may have changed since the lists were last emptied, each
+    /// once, if that list is kept. If neither a socket nor its peer is listed, `poll` answers as it
+    /// did then. A plain file is never listed: it is always ready. No search.
     pub fn changed(&self) -> &[FileRef]
         ensures { TellsChanged self.now.world self.now.since result.now }
     {

@@ -1,4 +1,4 @@
-//! What can be seen of an engine. No view takes memory, but for the plain lists.
+//! The views of an engine. None takes memory, but for the plain lists.
 ghost use Rattle.std.specs.Prelude.{◌≡◌, ◌<◌, ◌≤◌, ℕ, None, Some, false, IfErr, IfOk, IfSome, IfNone, OnOk, length, option_copied, slice_get};
 ghost use Rattle.std.specs.FinMap as map;
 ghost use Rattle.af_base.specs.World.{is_live, IsLive};
@@ -13,15 +13,14 @@ use crate::engine::Engine;
 use crate::lookups::place_for_file;
 use af_base::errno::Errno;
 use af_base::events::{SockType, State, Step};
-use af_base::items::Items;
 use af_base::listing::Listing;
 use af_base::names::{Fd, FileRef, Ino, Pid, Uid};
 use std::alloc::AllocError;
 
-/// What a file is.
+/// The kind and state of a file.
 #[derive(Clone, Copy, Debug, PartialEq, Eq)]
 pub enum FileInfo {
-    /// A plain file, of which nothing is known.
+    /// A plain file, without any content.
     Plain,
     /// A socket: its type, whom it can talk to, how many messages it has to receive, and how many
     /// embryos wait to be accepted.
@@ -34,59 +33,59 @@ pub enum FileInfo {
 }
 
 impl Engine {
-    /// How many places hold the file: its reference count, which goes to 0 with the last close(2). A
-    /// stranger's is 0.
+    /// Returns how many places hold the file: its reference count, which is 0 after the last
+    /// close(2). 0 for an unknown file.
     pub fn refs(&self, ino: Ino) -> u64
         ensures { result ≡ refs self.now.world ino }
     {
         self.store.holdings().refs(ino)
     }
 
-    /// How often the file is in flight (unix(7), SCM_RIGHTS): how many places in queues hold it,
-    /// repeats included. A stranger's is 0.
+    /// Returns how often the file is in flight (unix(7), SCM_RIGHTS): how many places in queues
+    /// hold it, repeats included. 0 for an unknown file.
     pub fn inflight(&self, ino: Ino) -> u64
         ensures { result ≡ inflight self.now.world ino }
     {
         self.store.holdings().inflight(ino)
     }
 
-    /// How many places hold the file that stands there. No search.
+    /// Returns how many places hold the file of this reference. No search.
     pub fn refs_at(&self, file: &FileRef) -> u64
         ensures { result ≡ refs self.now.world file.now }
     {
         self.store.holdings().refs_at(file)
     }
 
-    /// How often the file that stands there is in flight. No search.
+    /// Returns how often the file of this reference is in flight. No search.
     pub fn inflight_at(&self, file: &FileRef) -> u64
         ensures { result ≡ inflight self.now.world file.now }
     {
         self.store.holdings().inflight_at(file)
     }
 
-    /// How many descriptors in flight are charged to the user, repeats included (unix(7),
-    /// ETOOMANYREFS). A stranger's are 0.
+    /// Returns how many descriptors in flight are charged to the user, repeats included (unix(7),
+    /// ETOOMANYREFS). 0 for an unknown user.
     pub fn charged(&self, user: Uid) -> u64
         ensures { result ≡ charged self.now.world user }
     {
         self.store.holdings().charged(user)
     }
 
-    /// How many descriptors are in flight, repeats included.
+    /// Returns how many descriptors are in flight, repeats included.
     pub fn total(&self) -> u64
         ensures { result ≡ total self.now.world }
     {
         self.store.holdings().total()
     }
 
-    /// How many files are live.
+    /// Returns how many files are live.
     pub fn live(&self) -> usize
         ensures { result ≡ map.len self.now.world.files }
     {
         self.store.holdings().files().live()
     }
 
-    /// The least live file above that number; nothing where none is above it.
+    /// Returns the least live file above that number, if there is one.
     pub fn next_after(&self, ino: Ino) -> Option<Ino>
         ensures above { IfSome result (λ n. ino < n) }
         ensures live { IfSome result (IsLive self.now.world) }
@@ -97,15 +96,15 @@ impl Engine {
         Some(next.ino())
     }
 
-    /// The same, with where it stands, and its place in the order. A walk hands in what it was
-    /// answered last, and needs no search; where a file stands is a hint.
-    pub fn next_file(&self, ino: Ino, near: usize) -> Option<(FileRef, usize)>
+    /// Returns the same as a reference, with its position in the order. A walk passes the last
+    /// answer, and needs no search; the position is a hint.
+    pub fn next_file(&self, ino: Ino, order_hint: usize) -> Option<(FileRef, usize)>
         ensures above { IfSome result (λ n. ino < n.0) }
         ensures live { IfSome result (λ n. IsLive self.now.world n.0) }
         ensures least { IfSome result (λ n. (q : ℕ) → ino < q → q < n.0 → is_live self.now.world q ≡ false) }
         ensures none { IfNone result ((q : ℕ) → ino < q → is_live self.now.world q ≡ false) }
     {
-        self.store.holdings().files().next_after(ino, near)
+        self.store.holdings().files().next_after(ino, order_hint)
     }
 
     /// Returns the file that a descriptor of a process refers to; nothing where the descriptor is not
@@ -117,7 +116,7 @@ impl Engine {
         Some(file.ino())
     }
 
-    /// The same, with where the file stands: for `refs_at`, `inflight_at`, `file_at`, `name_at` and
+    /// Returns the same as a reference: for `refs_at`, `inflight_at`, `file_at`, `name_at` and
     /// `ready_at`, which then need no search.
     pub fn file_on(&self, pid: Pid, fd: Fd) -> Option<FileRef>
         ensures { result ≡ table_at self.now.world pid fd }
@@ -125,8 +124,8 @@ impl Engine {
         self.store.holdings().procs().lookup(pid, fd)
     }
 
-    /// Tests whether `open` may succeed: if so, it is refused for want of memory alone. Refused, in
-    /// this order: ESRCH, EMFILE, ENFILE. It needs no memory.
+    /// Tests whether `open` may succeed: if so, it is refused only if memory is. Refused, in this
+    /// order: ESRCH, EMFILE, ENFILE. It needs no memory.
     pub fn check_open(&self, pid: Pid) -> Result<(), Errno>
         ensures ok { OnOk result (refusal self.now.world pid Step.Open ≡ None) }
         ensures refused { IfErr result (λ e. refusal self.now.world pid Step.Open ≡ Some e) }
@@ -146,35 +145,35 @@ impl Engine {
         self.store.holdings().procs().next_open(pid, from)
     }
 
-    /// The inode number that the next file gets.
+    /// Returns the inode number that the next file gets.
     pub fn next_ino(&self) -> Ino
         ensures { result ≡ self.now.world.next_ino }
     {
         self.store.holdings().files().next_ino()
     }
 
-    /// The pid that the next process gets.
+    /// Returns the pid that the next process gets.
     pub fn next_pid(&self) -> Pid
         ensures { result ≡ self.now.world.next_pid }
     {
         self.store.holdings().procs().next_pid()
     }
 
-    /// The i-th user, from 0, in the order of their first process; nothing past the last.
+    /// Returns the i-th user, from 0, in the order of their first process, if there is one.
     pub fn user_at(&self, i: usize) -> Option<Uid>
         ensures { result ≡ slice_get self.now.world.users i }
     {
         self.store.holdings().user_at(i)
     }
 
-    /// How many users there are: a user stays when its last process is gone.
+    /// Returns how many users there are: a user stays after its last process ended.
     pub fn users(&self) -> usize
         ensures { result ≡ length self.now.world.users }
     {
         self.store.holdings().users()
     }
 
-    /// What the file is; nothing for a stranger.
+    /// Returns the kind and state of the file; `None` for an unknown one.
     pub fn file(&self, ino: Ino) -> Option<FileInfo>
         ensures { result ≡ shown_of (map.get self.now.world.files ino) }
     {
@@ -182,7 +181,7 @@ impl Engine {
         Some(self.file_at(&file))
     }
 
-    /// What the file is that stands there, which is live. No search.
+    /// Returns the kind and state of the file of this reference, which is live. No search.
     pub fn file_at(&self, file: &FileRef) -> FileInfo
         requires { IsLive self.now.world file.now }
         ensures { Some result ≡ shown_of (map.get self.now.world.files file.now) }
@@ -198,23 +197,24 @@ impl Engine {
         }
     }
 
-    /// The abstract name of the socket (unix(7)); nothing where it has none, or is no socket.
-    pub fn name(&self, ino: Ino) -> Option<&Items<u8>>
+    /// Returns the abstract name of the socket (unix(7)), if it is one and has one.
+    pub fn name(&self, ino: Ino) -> Option<&[u8]>
         ensures { option_copied result ≡ name_at self.now.world ino }
     {
         let file = self.store.holdings().files().find(ino)?;
         self.name_at(&file)
     }
 
-    /// The same of the file that stands there. No search.
-    pub fn name_at(&self, file: &FileRef) -> Option<&Items<u8>>
+    /// Returns the name of the file of this reference. No search.
+    pub fn name_at(&self, file: &FileRef) -> Option<&[u8]>
         ensures { option_copied result ≡ name_at self.now.world file.now }
     {
-        self.store.holdings().files().socket(file)?.name()
+        let name = self.store.holdings().files().socket(file)?.name()?;
+        Some(name.as_slice())
     }
 
-    /// Plain lists of the tables, queues and backlogs as they stand, and whom each message is charged
-    /// to; no bytes, states, names or limits. The error says that memory was refused.
+    /// Returns plain lists of the tables, queues and backlogs, and the user charged for each
+    /// message; no bytes, states, names or limits. Fails only if memory is refused.
     pub fn listing(&self) -> Result<Listing, AllocError>
         ensures { IfOk result (λ l. l ≡ bare self.now.world) }
     {

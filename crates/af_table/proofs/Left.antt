@@ -80,7 +80,7 @@ free_pushed p ns k n all next = append_assoc ns (n ∷ []) (free_from (n + 1) p)
 pub free_enough : (p : Process) (ns : List ℕ) (k count : ℕ) → ns ++ free_from k p ≡ free_numbers p → length ns ≡ count → ns ≡ lowest_free count p
 free_enough p ns k count all full = sym (ap (take count) (sym all) ∙ take-append-le count ns (free_from k p) (omega arith) ∙ take_all count ns (omega arith))
 
--- all, where there are no more
+-- all, if there are no others
 pub free_short : (p : Process) (ns : List ℕ) (k count : ℕ) → ns ++ free_from k p ≡ free_numbers p → free_from k p ≡ [] → length ns ≤ count → ns ≡ lowest_free count p
 free_short p ns k count all none fits = sym (ap (take count) (sym all ∙ ap (λ l. ns ++ l) none ∙ append-nil ns) ∙ take_all count ns fits)
 

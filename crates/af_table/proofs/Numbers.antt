@@ -72,6 +72,6 @@ module _ {A : Type 0} (key value : A → ℕ) (xs : List A) (words slots : List 
       let keys : map key xs ≡ keys_of (taken_from words 0 slots) = sym (map-map (λ e. e.0) (entry key value) xs) ∙ ap (map (λ e. e.0)) all_taken in
       IsStrictlyIncreasing-from_sorted (map key xs) (subst (IsStrictlySortedBy nat_cmp) (sym keys) (taken_sorted words slots 0))
 
-  -- There are no more of them than slots.
+  -- There are at most as many of them as slots.
   pub numbers-le : length xs ≤ length slots
   numbers-le = omega (arith, taken-le words slots 0, sym (length-map xs (entry key value)) ∙ ap length all_taken)

@@ -1,4 +1,4 @@
--- What the parts of a hash map's entries are as maps, and what a change of the hash map does to them.
+-- The parts of a hash map's entries as maps, and how they change with the hash map.
 use Rattle.std.proofs.Common.{◌≡◌, ℕ, ◌+◌, ◌≤◌, List, [], ◌∷◌, length, refl, sym, ap, subst, ◌∙◌, Bool, true, false, cond, arith}
 use Rattle.std.specs.Prelude.{Option, Some, None, is_some, unwrap_or, nat_eq}
 use Rattle.std.specs.Ordering.{nat_cmp, eq_by_cmp}
@@ -85,7 +85,7 @@ module _ {X Y S : Type 0} (f : X → Y) where
         by q false apart = refl
 
 module _ {S : Type 0} where
-  -- what stands at each pid
+  -- the value at each pid
   pub process_at_key : (m : HashMap ℕ Roomed S) (q : ℕ) → map.get (processes_of m.entries) q ≡ option_map (λ h. h.process) (hash.get nat_eq m q)
   unfolding processes_of
   process_at_key m q = part_at (λ h. h.process) m.entries q

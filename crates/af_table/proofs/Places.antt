@@ -1,4 +1,4 @@
--- What stands at an index of the hash map of processes, and what a write there does.
+-- The process at an index of the hash map, and what a write there does.
 use Rattle.std.proofs.Common.{◌≡◌, ℕ, suc, ◌+◌, ◌<◌, ◌≤◌, List, [], ◌∷◌, length, refl, sym, ap, subst, ◌∙◌, Bool, true, false, cond, arith}
 use Rattle.std.specs.Prelude.{Option, Some, None, IfSome, unwrap_or, not, nat_eq, nat_lt, slice_get, position}
 use Rattle.std.specs.List.{position_or_len}

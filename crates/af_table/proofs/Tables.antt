@@ -1,12 +1,13 @@
 -- A row of slots under bits as a map.
-use Rattle.std.proofs.Common.{◌≡◌, ℕ, ◌+◌, ◌<◌, ◌≤◌, Bool, true, false, true≢false, cond, zero, suc, take, take_all, List, [], ◌∷◌, ◌++◌, length, refl, sym, ap, ◌∙◌, arith}
-use Rattle.std.specs.Prelude.{Option, Some, None, Result, Ok, Err, OnOk, OnErr, is_some, nat_eq, nat_lt, slice_get, slice_index_or, slice_set}
+use Rattle.std.proofs.Common.{◌≡◌, ℕ, ◌+◌, ◌<◌, ◌≤◌, Bool, true, false, true≢false, cond, zero, suc, drop, take, take_all, List, [], ◌∷◌, ◌++◌, length, refl, sym, ap, ◌∙◌, arith}
+use Rattle.std.specs.Prelude.{Option, Some, None, IfNone, IfSome, Result, Ok, Err, OnOk, OnErr, is_some, unwrap_or, nat_eq, nat_lt, slice_get, slice_index_or, slice_set}
 use Rattle.std.specs.List.{AppendsResults}
 use Rattle.std.specs.Ordering.{nat_cmp}
 use Rattle.std.specs.Cmp.{nat_cmp_total}
 use Rattle.std.specs.FinMap as map
 use Rattle.std.specs.FinMap.{get-empty, same_map, nat_cmp-IsAntisymmetric}
 use Rattle.std.proofs.lemmas.Bool.{eqb-true, eqb-false, ltb-true, ltb-false}
+use Rattle.std.proofs.lemmas.List.{get_or-drop, get_or-take, length-drop, length-take}
 use Rattle.std.proofs.lemmas.Option.{slice_get-get_or}
 use Rattle.af_base.proofs.Lookups.{told_apart, insert-here, insert-other, remove-here, remove-other}
 use Rattle.af_table.specs.Bits.{is_taken}
@@ -41,7 +42,7 @@ slice_get-append (f ∷ fs) gs zero h = refl
 slice_get-append (f ∷ fs) gs (suc q) h = slice_get-append fs gs q (omega arith)
 
 module _ (ws : List ℕ) where
-  -- nothing stands below k
+  -- no descriptor is below k
   from_below : (fs : List ℕ) (k q : ℕ) → q < k → map.get (table_from ws k fs) q ≡ None
   unfolding table_from
   from_below [] k q h = get-empty nat_cmp q
@@ -50,7 +51,7 @@ module _ (ws : List ℕ) where
     by true rest = insert-other (table_from ws (k + 1) fs) k f q (told_apart q k (λ e. omega arith)) ∙ rest
     by false rest = rest
 
-  -- what stands at the number k + i
+  -- the file of descriptor k + i
   from_at : (fs : List ℕ) (k i q : ℕ) → q ≡ k + i → map.get (table_from ws k fs) q ≡ cond (is_taken ws q) (slice_get fs i) None
   unfolding table_from
   from_at [] k i q e = get-empty nat_cmp q ∙ sym (neither (is_taken ws q) None refl)
@@ -72,13 +73,26 @@ module _ (ws : List ℕ) where
   same_table : (fs : List ℕ) (m : map.FinMap nat_cmp ℕ) → ((q : ℕ) → cond (is_taken ws q) (slice_get fs q) None ≡ map.get m q) → table_of ws fs ≡ m
   same_table fs m h = same_map nat_cmp_total nat_cmp-IsAntisymmetric _ _ (λ q. table_at fs q ∙ h q)
 
-  -- a number whose bit is clear stands for nothing
+  -- a descriptor whose bit is clear is free
   pub table_clear : (fs : List ℕ) (q : ℕ) → is_taken ws q ≡ false → map.get (table_of ws fs) q ≡ None
   table_clear fs q none = table_at fs q ∙ ap (λ b. cond b (slice_get fs q) None) none
 
   -- and one whose bit is set for what its slot has
   pub table_set : (fs : List ℕ) (q d : ℕ) → is_taken ws q ≡ true → q < length fs → map.get (table_of ws fs) q ≡ Some (slice_index_or fs q d)
   table_set fs q d some h = table_at fs q ∙ ap (λ b. cond b (slice_get fs q) None) some ∙ slice_get-get_or fs q d h
+
+  -- so does each number of a run whose bits are set
+  pub run_there : (fs : List ℕ) (k n i : ℕ) → is_taken ws (k + i) ≡ true → i < length (take n (drop k fs)) → map.get (table_of ws fs) (k + i) ≡ slice_get (take n (drop k fs)) i
+  run_there fs k n i some h =
+      let len = length-take n (drop k fs) in
+      let low : k + i < length fs = omega (arith, h, len, length-drop k fs) in
+      table_set fs (k + i) 0 some low
+      ∙ sym (slice_get-get_or (take n (drop k fs)) i 0 h ∙ ap Some (get_or-take n (drop k fs) i 0 (omega (arith, h, len)) ∙ get_or-drop k fs i 0))
+
+  -- up to the first number whose bit is clear, if there is one below the end, all bits are set
+  pub taken_until : (o : Option ℕ) (from end q : ℕ) → IfSome o (λ n. (r : ℕ) → from ≤ r → r < n → is_taken ws r ≡ true) → IfNone o ((r : ℕ) → from ≤ r → r < end → is_taken ws r ≡ true) → from ≤ q → q < unwrap_or o end → is_taken ws q ≡ true
+  taken_until None from end q some none le lt = none q le lt
+  taken_until (Some n) from end q some none le lt = some q le lt
 
   -- a bit is set below the row alone
   pub taken_low : (n q : ℕ) → NoneFrom n ws → is_taken ws q ≡ true → q < n
@@ -87,14 +101,14 @@ module _ (ws : List ℕ) where
     by true e = ltb-true q n e
     by false e = absurd (true≢false (sym some ∙ none q (ltb-false q n e)))
 
-  -- which numbers stand for something
+  -- the open descriptors
   pub open_as_marked : (fs : List ℕ) (n q : ℕ) → n ≡ length fs → NoneFrom n ws → map.contains_key (table_of ws fs) q ≡ is_taken ws q
   open_as_marked fs n q len none = by (is_taken ws q) refl where
     by : (b : Bool) → is_taken ws q ≡ b → is_some (map.get (table_of ws fs) q) ≡ b
     by true e = ap is_some (table_set fs q 0 e (let low = taken_low n q none e in omega arith))
     by false e = ap is_some (table_clear fs q e)
 
-  -- a number that stands for nothing is taken out already
+  -- removing a free descriptor changes nothing
   pub none_there : (fs : List ℕ) (n : ℕ) → map.get (table_of ws fs) n ≡ None → table_of ws fs ≡ map.remove (table_of ws fs) n
   none_there fs n none = same_map nat_cmp_total nat_cmp-IsAntisymmetric _ _ (λ q. by q (nat_eq q n) refl) where
     by : (q : ℕ) (b : Bool) → nat_eq q n ≡ b → map.get (table_of ws fs) q ≡ map.get (map.remove (table_of ws fs) n) q

@@ -1,4 +1,4 @@
--- What setting, clearing and finding a bit does to bits in words of 64.
+-- Setting, clearing and finding a bit in words of 64.
 use Rattle.std.proofs.Common.{◌≡◌, ◌≢◌, ℕ, ◌+◌, ◌-◌, ◌*◌, ◌/◌, ◌%◌, ◌^◌, ◌<◌, ◌≤◌, zero, suc, min, Bool, true, false, cond, List, length, refl, sym, ap, subst, ◌∙◌, arith, bit_and, bit_or, w64}
 use Rattle.std.specs.Prelude.{Option, Some, None, IfSome, nat_eq, nat_lt, not, slice_index, slice_index_or, slice_set}
 use Rattle.std.specs.Int.{bit_at, trailing_zeros, leading_zeros}

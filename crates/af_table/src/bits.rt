@@ -14,14 +14,14 @@ pub struct Bits {
 }
 
 impl Bits {
-    /// No number is taken.
+    /// Makes a set without a number.
     pub fn new() -> Bits
         ensures { (q : ℕ) → is_taken result.words q ≡ false }
     {
         Bits { words: [0; WORDS] }
     }
 
-    /// Whether the number is taken. None beyond the largest limit is.
+    /// Returns whether the number is in the set. None beyond the largest limit is.
     #[inline(always)]
     pub fn has(&self, n: u32) -> bool
         ensures { result ≡ is_taken self.now.words n }
@@ -30,7 +30,7 @@ impl Bits {
         i < WORDS && (self.words[i] >> (n % u64::BITS)) % 2 == 1
     }
 
-    /// The number is taken from now on.
+    /// Adds the number.
     #[inline(always)]
     pub fn set(&mut self, n: u32)
         requires { n < MAX_NOFILE }
@@ -39,7 +39,7 @@ impl Bits {
         self.words[(n / u64::BITS) as usize] |= 1 << (n % u64::BITS);
     }
 
-    /// The number is free from now on.
+    /// Removes the number.
     #[inline(always)]
     pub fn clear(&mut self, n: u32)
         requires { n < MAX_NOFILE }
@@ -48,8 +48,8 @@ impl Bits {
         self.words[(n / u64::BITS) as usize] &= !(1 << (n % u64::BITS));
     }
 
-    /// The least number from `from` on and below `end` that is taken, or that is free. It looks at
-    /// each word once, but for the first, and at none beyond.
+    /// Returns the least number from `from` on and below `end` that is in the set, or that is not.
+    /// Looks at each word once, but for the first, and at none beyond.
     #[inline(always)]
     pub fn next(&self, from: u32, end: u32, taken: bool) -> Option<u32>
         requires { end ≤ MAX_NOFILE }
@@ -73,7 +73,7 @@ impl Bits {
         None
     }
 
-    /// A number behind all that are taken: behind the last one, and 0 where none is.
+    /// Returns a number behind all in the set: behind the last one, and 0 for an empty set.
     pub fn end(&self) -> u32
         ensures { (q : ℕ) → result ≤ q → is_taken self.now.words q ≡ false }
     {
@@ -87,7 +87,7 @@ impl Bits {
     }
 }
 
-/// The least place of a word from this one on whose bit is as wanted.
+/// Returns the least position in a word from this one on whose bit is as wanted.
 #[inline(always)]
 #[tactic(auto, using(crate::proofs::Words::places))]
 fn place_from(word: u64, from: u32, set: bool) -> Option<u32>
@@ -101,7 +101,7 @@ fn place_from(word: u64, from: u32, set: bool) -> Option<u32>
     set_place_from(!word, from)
 }
 
-/// The least place of a word from this one on whose bit is set.
+/// Returns the least position in a word from this one on whose bit is set.
 #[inline(always)]
 #[tactic(auto, using(crate::proofs::Words::places))]
 fn set_place_from(word: u64, from: u32) -> Option<u32>

@@ -1,4 +1,4 @@
-//! Where a process is likely to stand, by its pid.
+//! The likely index of a process, by its pid.
 ghost use Rattle.std.specs.Prelude.{◌≡◌, nat_eq, slice_get, Some, None, IfSome, IfNone};
 ghost use Rattle.indexmap.specs.IndexMap.{keys, get};
 
@@ -9,28 +9,28 @@ use indexmap::IndexMap;
 /// How many hints there are: all pids with the same remainder share one.
 const HINTS: usize = 256;
 
-/// For each remainder of a pid, where the process stood that was noted last. This is only a hint:
-/// who goes by it looks at the pid that stands there, and asks the map where that is another. So a
-/// wrong hint costs time, and no clause speaks of one.
+/// For each remainder of a pid, the index of the process that was noted last. It is only a hint:
+/// each use compares the pid at that index, and asks the map if it is another. So a stale hint
+/// costs time, and no clause speaks of one.
 #[derive(Drop)]
 pub struct Hints {
     places: [u16; HINTS],
 }
 
 impl Hints {
-    /// Each process may stand first.
+    /// Makes hints that all name the first index.
     pub fn new() -> Hints {
         Hints { places: [0; HINTS] }
     }
 
-    /// The process of this pid stands there now.
+    /// Notes the index of the process of this pid.
     #[inline(always)]
     pub fn note(&mut self, pid: Pid, index: usize) {
         self.places[pid.0 as usize % HINTS] = (index % (u16::MAX as usize + 1)) as u16;
     }
 
-    /// Where the process of this pid stands, if there is one. The map is asked only where another
-    /// process stands at the hint.
+    /// Returns the index of the process of this pid, if it is known. Asks the map only if another
+    /// process is at the hint.
     #[inline(always)]
     pub fn place(&self, processes: &IndexMap<Pid, Process>, pid: Pid) -> Option<usize>
         ensures there { IfSome result (λ i. slice_get (keys processes.now) i ≡ Some pid) }
@@ -42,7 +42,7 @@ impl Hints {
         }
     }
 
-    /// The same, and what the map said is noted, so that the next look-up need not ask it.
+    /// Returns the same, and notes the map's answer, so that the next look-up need not ask it.
     #[inline(always)]
     pub fn found(&mut self, processes: &IndexMap<Pid, Process>, pid: Pid) -> Option<usize>
         ensures there { IfSome result (λ i. slice_get (keys processes.now) i ≡ Some pid) }
@@ -56,7 +56,7 @@ impl Hints {
         Some(index)
     }
 
-    /// The hint, where the process of this pid stands there.
+    /// Returns the hint, if the process of this pid is there.
     #[inline(always)]
     fn likely(&self, processes: &IndexMap<Pid, Process>, pid: Pid) -> Option<usize>
         ensures { IfSome result (λ i. slice_get (keys processes.now) i ≡ Some pid) }
@@ -69,7 +69,7 @@ impl Hints {
     }
 }
 
-/// Where the process of this pid stands: the map is asked, out of the way of most events.
+/// Asks the map for the index of the process of this pid, apart from the way of most events.
 #[cold]
 #[inline(never)]
 fn search(processes: &IndexMap<Pid, Process>, pid: Pid) -> Option<usize>

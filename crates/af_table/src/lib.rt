@@ -1,4 +1,4 @@
-//! The processes, and what each of their numbers stands for.
+//! The processes, and the files of their descriptors.
 #![tactic(auto)]
 
 mod bits;

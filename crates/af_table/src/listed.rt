@@ -1,4 +1,4 @@
-//! Plain lists of the processes and of their open numbers: what a recount goes over.
+//! Plain lists of the processes and of their open descriptors, for a recount.
 ghost use Rattle.std.specs.Prelude.{◌≡◌, ◌≤◌, IfOk, length};
 ghost use Rattle.std.specs.List.Sorted.{IsStrictlyIncreasing};
 ghost use Rattle.std.specs.FinMap as map;
@@ -14,7 +14,7 @@ use af_base::names::{Fd, Pid};
 use std::alloc::{AllocError, Global};
 
 impl Process {
-    /// Its open numbers as a plain list, under this pid.
+    /// Returns its open descriptors as a plain list, under this pid.
     pub(crate) fn listed(&self, alloc: Global, pid: Pid) -> Result<ListedTable, AllocError>
         ensures pid { IfOk result (λ t. t.pid ≡ pid) }
         ensures shown { IfOk result (λ t. process_of t ≡ bare_process self.now.process) }
@@ -34,7 +34,7 @@ impl Process {
 }
 
 impl Procs {
-    /// The pids of all processes, rising. The list is all that it takes memory for.
+    /// Returns the pids of all processes, rising. Takes memory for the list alone.
     pub fn pids(&self) -> Result<Vec<Pid>, AllocError>
         ensures all { IfOk result (λ pids. pids.items ≡ map.keys self.now.processes) }
         ensures rising { IfOk result (λ pids. IsStrictlyIncreasing pids.items) }
@@ -44,8 +44,8 @@ impl Procs {
         Ok(pids)
     }
 
-    /// The open numbers of the process with what they stand for, as a plain list; a stranger has
-    /// none. The list is all that it takes memory for.
+    /// Returns the open descriptors of the process with their files, as a plain list; an unknown
+    /// process has none. Takes memory for the list alone.
     pub fn listed(&self, pid: Pid) -> Result<ListedTable, AllocError>
         ensures pid { IfOk result (λ t. t.pid ≡ pid) }
         ensures shown { IfOk result (λ t. process_of t ≡ bare_process (process_in self.now.processes pid)) }

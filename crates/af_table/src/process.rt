@@ -1,5 +1,5 @@
 //! A process with its table.
-ghost use Rattle.std.specs.Prelude.{◌≡◌, ℕ, ◌+◌, ◌≤◌, ◌<◌, [], ◌∷◌, length, slice_get, IfSome, IfNone, IfOk, OnOk, OnErr, IsOk};
+ghost use Rattle.std.specs.Prelude.{◌≡◌, ℕ, ◌+◌, ◌≤◌, ◌<◌, [], ◌∷◌, length, slice_get, IfSome, IsTrue, IfNone, IfOk, OnOk, OnErr, IsOk};
 ghost use Rattle.std.specs.FinMap as map;
 ghost use Rattle.af_base.specs.Changes.{installed, limited, taken_out};
 ghost use Rattle.af_base.specs.Table.{free_numbers, lowest_free};
@@ -10,10 +10,10 @@ use af_base::limits::MAX_NOFILE;
 use af_base::names::{Fd, FileRef, Ino, Uid};
 use std::alloc::{AllocError, Global};
 use std::marker::Model;
+use std::mem;
 
-/// A process: bit n says whether number n is open, and slot n what it stands for where it is. What
-/// the slot of a free number has says nothing. The slots grow by `make_room` alone, so a number is
-/// taken into use without memory.
+/// A process: bit n says whether descriptor n is open, and slot n has its file if it is. The slot
+/// of a free descriptor says nothing. Only `make_room` adds slots, so an install takes no memory.
 #[derive(Drop)]
 pub struct Process {
     user: Uid,
@@ -40,7 +40,7 @@ impl Model for Process {
 }
 
 impl Process {
-    /// A process with an empty table, and no room in it.
+    /// Makes a process with an empty table, and no room in it.
     #[tactic(auto, using(crate::proofs::Tables::table_changes))]
     pub(crate) fn new(alloc: Global, user: Uid, limit: u32, privileged: bool) -> Process
         requires { limit ≤ MAX_NOFILE }
@@ -55,7 +55,8 @@ impl Process {
         }
     }
 
-    /// The same process once more, with all that is open. Its slots end behind its last open number.
+    /// Copies the process, with all its open descriptors. The slots of the copy end behind its last
+    /// open one.
     #[tactic(auto, using(crate::proofs::Tables::table_changes))]
     pub(crate) fn copy(&self, alloc: Global) -> Result<Process, AllocError>
         ensures { IfOk result (λ p. p.process ≡ self.now.process) }
@@ -70,14 +71,14 @@ impl Process {
         })
     }
 
-    /// Its user.
+    /// Returns its user.
     pub fn user(&self) -> Uid
         ensures { result ≡ self.now.process.user }
     {
         self.user
     }
 
-    /// Its limit on descriptors.
+    /// Returns its limit on descriptors.
     pub fn limit(&self) -> u32
         ensures value { result ≡ self.now.process.limit }
         ensures bound { result ≤ MAX_NOFILE }
@@ -85,7 +86,7 @@ impl Process {
         self.limit
     }
 
-    /// Whether it is exempt from the bound on its user's descriptors in flight (unix(7),
+    /// Returns whether it is exempt from the bound on its user's descriptors in flight (unix(7),
     /// CAP_SYS_RESOURCE).
     pub fn is_privileged(&self) -> bool
         ensures { result ≡ self.now.process.privileged }
@@ -93,7 +94,7 @@ impl Process {
         self.privileged
     }
 
-    /// What the number stands for; nothing where it is free.
+    /// Returns the file of the descriptor, if it is open.
     #[inline(always)]
     #[tactic(auto, using(crate::proofs::Tables::table_changes))]
     pub fn lookup(&self, fd: Fd) -> Option<FileRef>
@@ -102,10 +103,10 @@ impl Process {
         if !self.taken.has(fd.0) {
             return None;
         }
-        Some(self.slots[fd.0 as usize].again())
+        Some(self.slots[fd.0 as usize].duplicate())
     }
 
-    /// Room for each number below the limit, and for none beyond that had none.
+    /// Makes room for each descriptor below the limit, and for none beyond that had none.
     #[inline(always)]
     #[tactic(auto, using(crate::proofs::Tables::table_changes))]
     pub(crate) fn make_room(&mut self) -> Result<(), AllocError>
@@ -122,7 +123,7 @@ impl Process {
         self.lengthen()
     }
 
-    /// As many slots as the limit, which are more than there were. Few events come here.
+    /// Adds slots up to the limit, which is more than there were. Few events come here.
     #[cold]
     #[inline(never)]
     #[tactic(auto, using(crate::proofs::Tables::table_changes))]
@@ -136,7 +137,7 @@ impl Process {
             .resize_with(self.limit as usize, || FileRef::new(Ino(0), 0))
     }
 
-    /// Its limit is this from now on. What is open stays open, also at or above the limit.
+    /// Sets its limit. Open descriptors stay open, also at or above the limit.
     #[inline]
     pub(crate) fn set_limit(&mut self, limit: u32)
         requires { limit ≤ MAX_NOFILE }
@@ -145,7 +146,7 @@ impl Process {
         self.limit = limit;
     }
 
-    /// The number, for which there is room, stands for the file from now on.
+    /// Sets the descriptor, for which there is room, to the file.
     #[inline(always)]
     #[tactic(auto, using(crate::proofs::Tables::table_changes))]
     pub(crate) fn install(&mut self, fd: Fd, file: FileRef)
@@ -156,7 +157,23 @@ impl Process {
         self.taken.set(fd.0);
     }
 
-    /// The number is free from now on. It answers what the number stood for.
+    /// Makes the number, for which there is room, stand for the file. Returns what it stood for.
+    #[inline(always)]
+    #[tactic(auto, using(crate::proofs::Tables::table_changes))]
+    pub(crate) fn replace(&mut self, fd: Fd, file: FileRef) -> Option<FileRef>
+        requires { fd < self.old.row }
+        ensures value { result ≡ map.get self.old.process.table fd }
+        ensures installed { self.new ≡ record self.old { process = installed fd file self.old.process } }
+    {
+        let was = mem::replace(&mut self.slots[fd.0 as usize], file);
+        if self.taken.has(fd.0) {
+            return Some(was);
+        }
+        self.taken.set(fd.0);
+        None
+    }
+
+    /// Frees the descriptor, and returns its file.
     #[inline(always)]
     #[tactic(auto, using(crate::proofs::Tables::table_changes))]
     pub(crate) fn take_out(&mut self, fd: Fd) -> Option<FileRef>
@@ -168,7 +185,7 @@ impl Process {
         Some(was)
     }
 
-    /// The least free number from this one on: the head of those that are left.
+    /// Returns the least free descriptor from this one on.
     #[inline(always)]
     #[tactic(auto, using(crate::proofs::Left::free_changes))]
     pub(crate) fn next_free(&self, from: u32) -> Option<Fd>
@@ -180,7 +197,7 @@ impl Process {
         Some(Fd(n))
     }
 
-    /// The lowest free number, if one below its limit is free (open(2)).
+    /// Returns the lowest free descriptor, if one below its limit is free (open(2)).
     #[inline(always)]
     #[tactic(auto, using(crate::proofs::Left::free_lists))]
     pub fn lowest(&self) -> Option<Fd>
@@ -189,7 +206,7 @@ impl Process {
         self.next_free(0)
     }
 
-    /// The two lowest free numbers, rising; nothing where it has not two.
+    /// Returns the two lowest free descriptors, rising, if it has two.
     #[tactic(auto, using(crate::proofs::Left::free_lists))]
     pub fn lowest_two(&self) -> Option<(Fd, Fd)>
         ensures two { IfSome result (λ t. lowest_free 2 self.now.process ≡ t.0 ∷ t.1 ∷ []) }
@@ -200,8 +217,8 @@ impl Process {
         Some((first, second))
     }
 
-    /// The lowest free numbers, rising: so many, or all where there are fewer. The list is all that
-    /// it takes memory for, and an empty list takes none.
+    /// Returns the lowest free descriptors, rising: this many, or all if there are fewer. Takes
+    /// memory for the list alone, and none for an empty list.
     #[inline(always)]
     #[tactic(auto, using(crate::proofs::Left::free_lists))]
     pub fn lowest_free(&self, alloc: Global, count: usize) -> Result<Vec<Fd>, AllocError>
@@ -224,8 +241,8 @@ impl Process {
         Ok(fds)
     }
 
-    /// The least open number from this one on, with what it stands for, if there is one. To walk over
-    /// all, go on behind each.
+    /// Returns the least open descriptor from this one on, with its file, if there is one. A walk
+    /// continues behind each answer.
     #[inline]
     #[tactic(auto, using(crate::proofs::Tables::table_changes))]
     pub fn next_open(&self, from: Fd) -> Option<(Fd, FileRef)>
@@ -236,18 +253,32 @@ impl Process {
         ensures none { IfNone result ((q : ℕ) → from ≤ q → map.get self.now.process.table q ≡ None) }
     {
         let n = self.taken.next(from.0, self.slots.len() as u32, true)?;
-        let file = self.slots[n as usize].again();
+        let file = self.slots[n as usize].duplicate();
         Some((Fd(n), file))
+    }
+
+    /// Returns what this number and those right behind it stand for, as far as they are open.
+    #[inline(always)]
+    #[tactic(auto, using(crate::proofs::Tables::table_changes))]
+    pub fn run_from(&self, fd: Fd) -> &[FileRef]
+        ensures open { (i : ℕ) → i < length result.now → map.get self.now.process.table (fd + i) ≡ slice_get result.now i }
+        ensures some { IsTrue (map.contains_key self.now.process.table fd) → 0 < length result.now }
+        ensures low { fd ≤ MAX_NOFILE → fd + length result.now ≤ MAX_NOFILE }
+    {
+        let end = self.slots.len() as u32;
+        let first = fd.0.min(end);
+        let behind = self.taken.next(first, end, false).unwrap_or(end);
+        &self.slots[first as usize..behind as usize]
     }
 }
 
-/// The files once more, in a list that is as long and no longer.
+/// Copies the files into a list of just that length.
 fn copied(alloc: Global, files: &[FileRef]) -> Result<Vec<FileRef>, AllocError>
     ensures { IfOk result (λ copies. copies.items ≡ files.now) }
 {
     let mut copies = Vec::with_capacity(alloc, files.len())?;
     for file in files {
-        copies.push_reserved(file.again());
+        copies.push_reserved(file.duplicate());
     }
     Ok(copies)
 }

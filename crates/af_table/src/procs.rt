@@ -38,7 +38,7 @@ impl Model for Procs {
 }
 
 impl Procs {
-    /// No process; pids begin at 1. It takes no memory.
+    /// Makes an empty table of processes; pids begin at 1. Takes no memory.
     #[tactic(auto, using(crate::proofs::Parts::part_changes))]
     pub fn new(alloc: Global) -> Procs
         ensures processes { result.processes ≡ map.empty }
@@ -53,7 +53,7 @@ impl Procs {
         }
     }
 
-    /// How many processes there are.
+    /// Returns how many processes there are.
     #[tactic(auto, using(crate::proofs::Parts::part_len))]
     pub fn count(&self) -> usize
         ensures { result ≡ map.len self.now.processes }
@@ -61,14 +61,14 @@ impl Procs {
         self.processes.len()
     }
 
-    /// The pid that the next process gets.
+    /// Returns the pid that the next process gets.
     pub fn next_pid(&self) -> Pid
         ensures { result ≡ self.now.next_pid }
     {
         Pid(self.next_pid)
     }
 
-    /// The process of that pid; nothing of a stranger.
+    /// Returns the process of that pid, if it is known.
     #[inline(always)]
     #[tactic(auto, using(crate::proofs::Parts::part_changes))]
     pub fn find(&self, pid: Pid) -> Option<&Process>
@@ -99,8 +99,8 @@ impl Procs {
         self.find(pid)?.lowest()
     }
 
-    /// What the number of the process stands for: nothing where it is free, or there is no such
-    /// process.
+    /// Returns the file of the process's descriptor, if the process is known and the descriptor is
+    /// open.
     #[inline(always)]
     pub fn lookup(&self, pid: Pid, fd: Fd) -> Option<FileRef>
         ensures { result ≡ number_in self.now.processes pid fd }
@@ -108,8 +108,8 @@ impl Procs {
         self.find(pid)?.lookup(fd)
     }
 
-    /// The least open number of the process from this one on, with what it stands for, if there is
-    /// one; a stranger has none. To walk over all, go on behind each.
+    /// Returns the least open descriptor of the process from this one on, with its file, if there
+    /// is one; an unknown process has none. A walk continues behind each answer.
     pub fn next_open(&self, pid: Pid, from: Fd) -> Option<(Fd, FileRef)>
         ensures open { IfSome result (λ e. number_in self.now.processes pid e.0 ≡ Some e.1) }
         ensures low { IfSome result (λ e. e.0 < MAX_NOFILE) }
@@ -120,8 +120,8 @@ impl Procs {
         self.find(pid)?.next_open(from)
     }
 
-    /// Room for one process more, so that `spawn` needs no memory. Nothing else changes, also on an
-    /// error.
+    /// Reserves room for one process more, so that `spawn` needs no memory. Nothing else changes,
+    /// also on an error.
     #[tactic(auto, using(crate::proofs::Parts::part_changes))]
     pub fn room_to_spawn(&mut self) -> Result<(), AllocError>
         ensures processes { self.new.processes ≡ self.old.processes }
@@ -134,7 +134,7 @@ impl Procs {
         self.processes.reserve(1)
     }
 
-    /// The process gets the next pid. There is room for it.
+    /// Adds the process under the next pid. There is room for it.
     #[tactic(auto, using(crate::proofs::Parts::part_changes))]
     pub fn add(&mut self, process: Process) -> Pid
         requires room { 0 < self.old.room }
@@ -152,8 +152,8 @@ impl Procs {
         pid
     }
 
-    /// One process more, for which there is room. Its table is empty, with no room in it: numbers
-    /// need `room_for` first. It takes no memory.
+    /// Starts a process, for which there is room. Its table is empty, with no room in it:
+    /// descriptors need `room_for` first. Takes no memory.
     pub fn spawn(&mut self, user: Uid, limit: u32, privileged: bool) -> Pid
         requires room { 0 < self.old.room }
         requires limit { limit ≤ MAX_NOFILE }
@@ -168,9 +168,9 @@ impl Procs {
         self.add(process)
     }
 
-    /// The process once more, for a fork: of the same user, with the same limit and privilege, and
-    /// with all that is open in it. It is to be added, for which there is room then; room for further
-    /// numbers in its table is another matter. No process changes, also on an error.
+    /// Copies the process, for a fork: of the same user, with the same limit and privilege, and
+    /// with all its open descriptors. The copy is to be added, for which there is room then; room
+    /// for further descriptors is not reserved. No process changes, also on an error.
     pub fn copy_for_fork(&mut self, pid: Pid) -> Result<Process, AllocError>
         requires { IsTrue (map.contains_key self.old.processes pid) }
         ensures copy { IfOk result (λ p. p.process ≡ process_in self.old.processes pid) }
@@ -184,8 +184,8 @@ impl Procs {
         self.find(pid).unwrap().copy(self.alloc)
     }
 
-    /// Room to install at every number of the process below its limit, where so many, and not none,
-    /// are to come; a stranger needs none. No process changes, and on an error nothing does.
+    /// Reserves room to install at every descriptor of the process below its limit, if more than 0
+    /// are to come; ignores an unknown process. Changes no process, and on an error nothing.
     #[inline(always)]
     #[tactic(auto, using(crate::proofs::Parts::room_changes))]
     pub fn room_for(&mut self, pid: Pid, count: usize) -> Result<(), AllocError>
@@ -209,8 +209,8 @@ impl Procs {
         process.make_room()
     }
 
-    /// The process has this limit on its descriptors from now on (setrlimit(2), RLIMIT_NOFILE): free
-    /// numbers are below it. A lower one closes nothing. It takes no memory.
+    /// Sets the process's limit on descriptors (setrlimit(2), RLIMIT_NOFILE): free ones are below
+    /// it. A lower one closes nothing. Takes no memory.
     #[inline]
     #[tactic(auto, using(crate::proofs::Parts::part_changes))]
     pub fn set_limit(&mut self, pid: Pid, limit: u32)
@@ -227,8 +227,8 @@ impl Procs {
         process.set_limit(limit);
     }
 
-    /// The number of the process, for which there is room, stands for the file from now on,
-    /// whatever it stood for. It takes no memory.
+    /// Sets the process's descriptor, for which there is room, to the file, whether it was open or
+    /// free. Takes no memory.
     #[inline(always)]
     #[tactic(auto, using(crate::proofs::Parts::part_changes))]
     pub fn install(&mut self, pid: Pid, fd: Fd, file: FileRef)
@@ -245,8 +245,25 @@ impl Procs {
         process.install(fd, file);
     }
 
-    /// The number of the process is free from now on. It answers what the number stood for, which
-    /// is nothing where it was free already, and nothing of a stranger. It takes no memory.
+    /// Makes the number of the process, for which there is room, stand for the file. Returns what
+    /// the number stood for, and `None` where it was free. It takes no memory.
+    #[inline(always)]
+    #[tactic(auto, using(crate::proofs::Parts::part_changes))]
+    pub fn replace(&mut self, pid: Pid, fd: Fd, file: FileRef) -> Option<FileRef>
+        requires { fd < row_in self.old.rows pid }
+        ensures value { result ≡ number_in self.old.processes pid fd }
+        ensures processes { self.new.processes ≡ change_at (installed fd file) self.old.processes pid }
+        ensures rows { self.new.rows ≡ self.old.rows }
+        ensures next { self.new.next_pid ≡ self.old.next_pid }
+        ensures room { self.new.room ≡ self.old.room }
+    {
+        let index = self.hints.found(&self.processes, pid)?;
+        let (_, process) = self.processes.pair_mut(index);
+        process.replace(fd, file)
+    }
+
+    /// Frees the process's descriptor, and returns its file; `None` if it was free already, or the
+    /// process is unknown. Takes no memory.
     #[inline(always)]
     #[tactic(auto, using(crate::proofs::Parts::part_changes))]
     pub fn take_out(&mut self, pid: Pid, fd: Fd) -> Option<FileRef>
@@ -261,9 +278,9 @@ impl Procs {
         process.take_out(fd)
     }
 
-    /// The process is gone, and its pid is never given again. It is handed on with all that is open
-    /// in it, so that the caller lets go of that; `next_open` tells what it is. Of a stranger there is
-    /// nothing, and nothing changes. It takes no memory.
+    /// Removes the process, whose pid is never used again, and returns it with its open
+    /// descriptors, so that the caller drops their references; `next_open` lists them. Changes
+    /// nothing for an unknown process. Takes no memory.
     #[tactic(auto, using(crate::proofs::Parts::part_changes))]
     pub fn remove(&mut self, pid: Pid) -> Option<Process>
         ensures there { IfSome result (λ p. map.get self.old.processes pid ≡ Some p.process) }
@@ -274,7 +291,7 @@ impl Procs {
         ensures room { self.old.room ≤ self.new.room }
     {
         let (index, _, gone) = self.processes.swap_remove_full(&pid)?;
-        // The last process stands there now.
+        // The last process has this index now.
         if let Some((moved, _)) = self.processes.get_index(index) {
             self.hints.note(*moved, index);
         }

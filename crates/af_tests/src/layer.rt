@@ -1,8 +1,9 @@
-//! What no clause says: that memory is enough where there is some, that workers run beside each
-//! other, and that the log has what the scripts ask for. The faults of an audit are met once each.
+//! Tests beyond the clauses: that memory suffices if there is some, that workers run beside each
+//! other, and that the log has the events of the scripts. Each fault of an audit is met once.
 mod audits;
 mod bench;
 mod books;
+mod checkpoints;
 mod drives;
 mod gates;
 mod growths;

@@ -1,4 +1,5 @@
-//! What no clause says: that ample memory is enough, and that a second trial is after a refusal.
+//! Tests beyond the clauses: that ample memory suffices, and that a second try does after a
+//! refusal.
 use af_base::names::Uid;
 use af_ledger::Ledger;
 

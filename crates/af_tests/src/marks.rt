@@ -1,7 +1,9 @@
-//! What no clause says: that ample memory is enough, and that a second trial is after a refusal.
+//! Tests beyond the clauses: that ample memory suffices, and that a second try does after a
+//! refusal.
 
 use af_base::names::{FileRef, Ino};
 use af_desc::Files;
+use af_ledger::Place;
 use std::alloc::AllocError;
 use std::process::Abort;
 use std::test::Fail;
@@ -9,13 +11,13 @@ use std::test::Fail;
 /// A plain file more.
 fn file(rt: &impl Abort, files: &mut Files) -> Result<FileRef, AllocError> {
     assert!(rt; !files.is_full(1));
-    files.make_plain()
+    files.make_plain(&Place::Table)
 }
 
 /// Two files are there when a pass begins, and a third is made after that; a fourth never was.
 fn marks_two(rt: &impl Abort, files: &mut Files) -> Result<(FileRef, FileRef), AllocError> {
     let (first, second) = (file(rt, files)?, file(rt, files)?);
-    files.unmark();
+    files.start_epoch();
     let third = file(rt, files)?;
     let stranger = FileRef::new(Ino(4), 0);
     for file in [&second, &first, &second, &third, &stranger] {
@@ -29,7 +31,7 @@ fn marks_two(rt: &impl Abort, files: &mut Files) -> Result<(FileRef, FileRef), A
 /// One of the two is scanned, and the other is gone. The next pass has marked none.
 fn passes(rt: &impl Abort, files: &mut Files) -> Result<(), AllocError> {
     let (first, second) = marks_two(rt, files)?;
-    files.scanned(&second);
+    files.blacken(&second);
     assert!(rt; files.is_marked(&second));
     assert!(rt;
         files
@@ -39,7 +41,7 @@ fn passes(rt: &impl Abort, files: &mut Files) -> Result<(), AllocError> {
     assert!(rt; files.socket(&first).is_none());
     files.remove(&first);
     assert!(rt; files.next_grey().is_none() && !files.is_marked(&first));
-    files.unmark();
+    files.start_epoch();
     assert!(rt; !files.is_marked(&second));
     Ok(())
 }

@@ -1,9 +1,9 @@
-//! What no clause says: that memory is enough where there is some, that rows are packed, and how
+//! Tests beyond the clauses: that memory suffices if there is some, that rows are packed, and how
 //! little the newest number leaves behind.
 ghost use Rattle.std.specs.Prelude.{◌≡◌, ◌<◌, OnOk};
 
 use af_base::names::{FileRef, Ino};
-use af_order::Keyed;
+use ordered_slab::OrderedSlab;
 use std::alloc::{AllocError, Global};
 use std::process::Abort;
 use std::test::Fail;
@@ -12,7 +12,7 @@ use std::test::Fail;
 const MANY: u64 = 5_000;
 
 /// A value comes, once there is room for it.
-fn come(values: &mut Keyed<u64>, number: u64) -> Result<(), AllocError>
+fn come(values: &mut OrderedSlab<u64>, number: u64) -> Result<(), AllocError>
     requires { values.old.last < number }
     ensures { OnOk result (values.new.last ≡ number) }
 {
@@ -21,16 +21,17 @@ fn come(values: &mut Keyed<u64>, number: u64) -> Result<(), AllocError>
     Ok(())
 }
 
-/// The value of a number goes, by a hint that is hardly ever right. Whether it was there.
-fn go(values: &mut Keyed<u64>, number: u64) -> bool
+/// Removes the value of a number, by a hint that is hardly ever right. Returns whether it was
+/// there.
+fn go(values: &mut OrderedSlab<u64>, number: u64) -> bool
     ensures { values.new.last ≡ values.old.last }
 {
     values.remove(&FileRef::new(Ino(number), 3)) == Some(number)
 }
 
-/// Thousands of values come. Each seventh stays; the others go soon, so that most rows are dead and
-/// packing goes on all along. How many went.
-fn come_and_go(values: &mut Keyed<u64>) -> Result<u64, AllocError>
+/// Adds thousands of values. Each seventh stays; the others are removed soon, so that most rows are
+/// dead and packing continues all along. Returns how many were added.
+fn come_and_go(values: &mut OrderedSlab<u64>) -> Result<u64, AllocError>
     requires { values.old.last ≡ 0 }
 {
     let mut gone: u64 = 0;
@@ -45,7 +46,7 @@ fn come_and_go(values: &mut Keyed<u64>) -> Result<u64, AllocError>
 }
 
 /// All go but one in 49.
-fn most_go(values: &mut Keyed<u64>) {
+fn most_go(values: &mut OrderedSlab<u64>) {
     for number in 1..MANY {
         if number % 49 != 0 {
             go(values, number);
@@ -55,7 +56,7 @@ fn most_go(values: &mut Keyed<u64>) {
 
 /// Most values go while others come, and most of the rest at the end: each number that 49 divides is
 /// left.
-fn thousands(rt: &impl Abort, values: &mut Keyed<u64>) -> Result<(), AllocError>
+fn thousands(rt: &impl Abort, values: &mut OrderedSlab<u64>) -> Result<(), AllocError>
     requires { values.old.last ≡ 0 }
 {
     assert!(rt; come_and_go(values)? == 4_281);
@@ -70,13 +71,13 @@ fn thousands(rt: &impl Abort, values: &mut Keyed<u64>) -> Result<(), AllocError>
 /// which answers so, and none of a `push`, which could not.
 #[test]
 fn thousands_come_and_go(rt: HostRuntime) -> Result<(), Fail> {
-    let mut values = Keyed::new(rt.alloc());
+    let mut values = OrderedSlab::new(rt.alloc());
     Ok(thousands(&rt, &mut values)?)
 }
 
-/// Values come while there is room, and no more is made. Each goes once so many came after it. How
-/// many came.
-fn come_while_there_is_room(values: &mut Keyed<u64>, stay: u64) -> u64
+/// Adds values while there is room, and makes none. Removes each once this many were added after
+/// it. Returns how many were added.
+fn come_while_there_is_room(values: &mut OrderedSlab<u64>, stay: u64) -> u64
     requires { values.old.last ≡ 0 }
 {
     for number in 1..MANY {
@@ -89,15 +90,15 @@ fn come_while_there_is_room(values: &mut Keyed<u64>, stay: u64) -> u64
     MANY - 1
 }
 
-/// How many of these come where there is room for so many at first.
+/// Returns how many of these are added with room for this many at first.
 fn come_into(alloc: Global, room: usize, stay: u64) -> Result<u64, AllocError> {
-    let mut values = Keyed::new(alloc);
+    let mut values = OrderedSlab::new(alloc);
     values.reserve(room)?;
     Ok(come_while_there_is_room(&mut values, stay))
 }
 
-/// There is room for a thousand, and many more come, a few of them at once: the rows of those that
-/// went are packed, or there would be none left.
+/// There is room for a thousand, and many more are added, a few of them at once: the rows of the
+/// removed ones are packed, or there would be none left.
 #[test]
 fn rows_are_packed(rt: HostRuntime) -> Result<(), Fail> {
     assert!(rt; come_into(rt.alloc(), 1_000, 5)? == 4_999);

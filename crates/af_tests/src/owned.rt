@@ -1,4 +1,4 @@
-//! What plain files carry, behind each event: which value is handed back, and when.
+//! The values of plain files, after each event: which is handed back, and when.
 use af_base::errno::Errno;
 use af_base::events::SockType;
 use af_base::names::{Fd, Pid, Uid};
@@ -113,7 +113,7 @@ fn is_told(owned: &Owned<u64>, pid: Pid, fd: Fd) -> bool {
     }
 }
 
-/// A message comes, and its receiver goes.
+/// Sends a message, and closes its receiver.
 fn play_readiness(rt: &impl Abort, owned: &mut Owned<u64>) -> Result<(), Errno> {
     let pid = owned.spawn(Uid(1_000), 64, false)?;
     let (here, there) = owned.pair(pid, SockType::Seqpacket)?;

@@ -29,8 +29,8 @@ fn socket(alloc: Global, ino: u64, sent: &[Ino], waiting: &[Ino]) -> Result<List
     })
 }
 
-/// File 1 stands in a table, and 5 in its backlog; 2 and 3 are in each other's queues, and the
-/// plain file 4 is in that of 2.
+/// File 1 is in a table, and 5 in its backlog; 2 and 3 are in each other's queues, and the plain
+/// file 4 is in that of 2.
 fn crossed(alloc: Global) -> Result<Listing, AllocError> {
     let numbers = vec![in alloc;
         ListedNumber {
@@ -57,7 +57,7 @@ fn crossed(alloc: Global) -> Result<Listing, AllocError> {
     Listing::of(alloc, tables, files)
 }
 
-/// What is kept of a file.
+/// Returns the kept counts of a file.
 fn file(ino: u64, refs: u64, inflight: u64) -> KeptFile {
     KeptFile {
         ino: Ino(ino),
@@ -66,7 +66,7 @@ fn file(ino: u64, refs: u64, inflight: u64) -> KeptFile {
     }
 }
 
-/// What is kept of a user.
+/// Returns the kept charge of a user.
 fn user(user: u32, charged: u64) -> KeptUser {
     KeptUser {
         user: Uid(user),
@@ -74,7 +74,7 @@ fn user(user: u32, charged: u64) -> KeptUser {
     }
 }
 
-/// What a keeper of the numbers of that listing would hand in.
+/// Returns the counts of that listing, as their keeper would pass them.
 fn kept(alloc: Global) -> Result<Kept, AllocError> {
     let files = vec![in alloc;
         file(1, 1, 0),

@@ -1,5 +1,5 @@
-//! What no clause says and no script shows. That the definitions say what was meant is shown by the
-//! worked scripts of `scm_cases`, with each refusal.
+//! Tests beyond the clauses and scripts. The worked scripts of `scm_cases`, with each refusal, show
+//! that the definitions say what was meant.
 mod acts;
 mod chains;
 mod cycle;

@@ -7,8 +7,8 @@ use af_table::Procs;
 use std::process::Abort;
 use std::test::Fail;
 
-/// 600 processes come, whose limits tell them apart, and every third goes. Each of the others is
-/// found still, and none that is gone.
+/// Starts 600 processes, each with a limit of its own, and ends every third. Each of the others is
+/// still found, and none that ended.
 fn come_and_go(rt: &impl Abort, procs: &mut Procs) -> Result<(), Fail>
     requires { procs.old.next_pid ≡ 1 }
 {

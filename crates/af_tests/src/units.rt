@@ -1,8 +1,6 @@
 //! How many files a pass looks at, and that none is marked right after its begin. An engine shows
 //! neither, so that these tests drive a store.
 ghost use Rattle.std.specs.Prelude.{◌≡◌, ◌∷◌, [], IfOk};
-ghost use Rattle.af_base.specs.World.{IsLive};
-ghost use Rattle.af_pass.specs.Keeping.{Spares};
 
 use af_base::errno::Errno;
 use af_base::events::SockType;
@@ -13,35 +11,30 @@ use smallvec::SmallVec;
 use std::alloc::{AllocError, Global};
 use std::process::Abort;
 
-/// Installs the file at the lowest free number of the process.
-fn install(store: &mut Store, pid: Pid, file: FileRef) -> Result<(), Errno>
-    requires live { IsLive store.old.world file }
-    requires spared { Spares store.old.pass file }
-{
+/// Makes a file in the process: a socket of this type, or a plain file.
+fn make(store: &mut Store, pid: Pid, kind: Option<SockType>) -> Result<(), Errno> {
     let process = store.holdings().procs().find(pid).ok_or(Errno::ESRCH)?;
     let fd = process.lowest().ok_or(Errno::EMFILE)?;
+    if store.holdings().files().is_full(1) {
+        return Err(Errno::ENFILE);
+    }
     store.room_for(pid, 1)?;
-    store.table_in(pid, fd, file);
+    match kind {
+        Some(kind) => store.make_sock(kind, pid, fd)?,
+        None => store.make_plain(pid, fd)?,
+    }
     store.release();
     Ok(())
 }
 
 /// Opens a plain file in the process.
 fn open(store: &mut Store, pid: Pid) -> Result<(), Errno> {
-    if store.holdings().files().is_full(1) {
-        return Err(Errno::ENFILE);
-    }
-    let file = store.make_plain()?;
-    install(store, pid, file)
+    make(store, pid, None)
 }
 
 /// Makes a socket in the process.
 fn socket(store: &mut Store, pid: Pid) -> Result<(), Errno> {
-    if store.holdings().files().is_full(1) {
-        return Err(Errno::ENFILE);
-    }
-    let file = store.make_sock(SockType::Stream)?;
-    install(store, pid, file)
+    make(store, pid, Some(SockType::Stream))
 }
 
 /// Returns the list of this one file, as a message carries it.
@@ -57,7 +50,7 @@ fn just(alloc: Global, file: FileRef) -> Result<Attached, AllocError>
 fn carry_itself(store: &mut Store, alloc: Global, pid: Pid, on: Fd) -> Result<(), Errno> {
     // Nothing is unreferenced here: the call tells the prover that the world is sound.
     store.release();
-    store.is_spared();
+    store.lemma_is_spared();
     let holdings = store.holdings();
     let process = holdings.procs().find(pid).ok_or(Errno::ESRCH)?;
     let file = process.lookup(on).ok_or(Errno::EBADF)?;
@@ -66,16 +59,16 @@ fn carry_itself(store: &mut Store, alloc: Global, pid: Pid, on: Fd) -> Result<()
         return Err(Errno::EAGAIN);
     }
     let user = process.user();
-    let message = Msg::new(b"x".to_vec(alloc)?, just(alloc, file.again())?, user);
+    let message = Msg::new(b"x".to_vec(alloc)?, just(alloc, file.duplicate())?, user);
     store.room_for_message()?;
     store.put_msg(&file, message);
     store.release();
     Ok(())
 }
 
-/// Starts a process that opens so many plain files.
+/// Starts a process that opens this many plain files.
 fn open_many(store: &mut Store, files: u32) -> Result<Pid, Errno> {
-    if store.holdings().is_crowded() {
+    if store.holdings().is_at_process_limit() {
         return Err(Errno::EAGAIN);
     }
     let pid = store.spawn(Uid(1000), 1_024, false)?;

@@ -2,7 +2,7 @@
 ghost use Rattle.std.specs.Prelude.{◌≡◌, ◌==◌, codes, nat_eq};
 ghost use Rattle.std.specs.List.{after_first, before_first, starts_with};
 
-/// What stands before the name of each case: the end of a line, and the beginning of the next.
+/// The text before the name of each case: the end of a line, and the beginning of the next.
 pub const BEFORE_NAME: &str = "\n== ";
 
 /// A case of a list.
@@ -13,8 +13,8 @@ pub struct Case<'a> {
 }
 
 impl<'a> Case<'a> {
-    /// The case that stands in a list behind `BEFORE_NAME`: its first line is the name, and the
-    /// rest is the script.
+    /// Makes the case of a text from a list, behind `BEFORE_NAME`: its first line is the name, and
+    /// the rest is the script.
     pub fn of(text: &'a str) -> Self
         ensures name { result.name.now ≡ before_first (λ b. b == 10) text.now }
         ensures script { result.script.now ≡ after_first (λ b. b == 10) text.now }

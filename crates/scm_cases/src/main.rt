@@ -1,10 +1,10 @@
 //! Runs or plays a list of scripts, each from the fresh machine, and writes what they answer.
 //!
 //! Standard input is a list of cases. A line that begins with `== ` names a case, and the lines
-//! behind it, up to the next such line, are its script. What stands before the first name is a
-//! note. A case whose name begins with `played: ` is played. Standard output has the note, and for
-//! each case its name line, what its script answers and, where the script stopped, a line that
-//! begins with `-- ` and says why.
+//! behind it, up to the next such line, are its script. The text before the first name is a note. A
+//! case whose name begins with `played: ` is played. Standard output has the note, and for each
+//! case its name line, the answers to its script and, where the script stopped, a line that begins
+//! with `-- ` and says why.
 #![tactic(auto)]
 
 mod case;

@@ -1,23 +1,32 @@
 -- How the number of an option is read.
-use Rattle.std.proofs.Common.{◌≡◌, ◌<◌, ◌≤◌, ℕ, ◌^◌, List, ap, arith, refl, sym, ◌∙◌, subst}
+use Rattle.std.proofs.Common.{◌≡◌, ◌<◌, ◌≤◌, ℕ, ◌^◌, List, [], ap, arith, refl, sym, ◌∙◌, subst}
 use Rattle.std.specs.Prelude.{Option, Some, None, Result, Ok, Err}
-use Rattle.std.specs.Str.Parse.{ParsesUnsigned}
+use Rattle.std.specs.Str.Parse.{ParsesUnsigned, digits_value, without_leading_plus}
 use Rattle.std.proofs.lemmas.Option.{none-some}
 use Rattle.clap.specs.Matches.{ReadsOne, one_text}
-use Rattle.clap.specs.Words.{Text, rows_of}
+use Rattle.clap.specs.Words.{Row, Text, rows_of}
 use Rattle.clap.specs.declared.parser.matches.Found.{Found}
 use Rattle.clap.proofs.WalkLemmas.{one_text-rows}
 use Rattle.scm_command.specs.Task.{HasNumber}
 
--- What an option has, or 0.
+-- The value of an option, or 0.
 abbrev or_zero : Option ℕ → ℕ
 or_zero (Some n) = n
 or_zero None = 0
 
+-- The text of an option, or none.
+abbrev or_empty : Option Text → Text
+or_empty (Some text) = text
+or_empty None = []
+
+-- An option has one number.
+pub one_number : (rows : List Row) (name : Text) (least most n m : ℕ) → HasNumber rows name least most n → HasNumber rows name least most m → n ≡ m
+one_number rows name least most n m a b = a.value ∙ ap (λ text. digits_value 10 (without_leading_plus text)) (ap or_empty (sym a.found ∙ b.found)) ∙ sym b.value
+
 -- a reader of numbers that reads as u32 does, and what it read of an option
 module _ {E : Type 0} (gives : List ℕ → Result ℕ E → Type 0) (reads : (t : List ℕ) (x : Result ℕ E) → gives t x → ParsesUnsigned 32 10 t x)
     (f : Found) (name : Text) (r : Option ℕ) (none : one_text f name ≡ None → r ≡ None) (value : (t : List ℕ) → one_text f name ≡ Some t → ReadsOne gives t r) where
-  -- What was read is the option's number, where it lies within the bounds.
+  -- The number read is the option's, if it is within the bounds.
   pub is_number : (least most n : ℕ) → r ≡ Some n → least ≤ n → n ≤ most → HasNumber (rows_of f) name least most n
   is_number least most n is low high = from (one_text f name) refl where
     from : (o : Option Text) → one_text f name ≡ o → HasNumber (rows_of f) name least most n

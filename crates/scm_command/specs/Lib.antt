@@ -1,3 +1,3 @@
--- What the program is asked to do, and what it answers.
+-- The tasks of the program, and its answers.
 pub mod Task
 pub mod Program

@@ -1,12 +1,12 @@
--- What the program answers.
-use Rattle.std.specs.Prelude.{◌≡◌, ◌⊎◌, ℕ, List, Bool, true, Option, Some, None, Result, Ok, Err, IfOk, IfErr}
+-- The answers of the program.
+use Rattle.std.specs.Prelude.{◌≡◌, ◌⊎◌, ℕ, zero, suc, List, Bool, true, Option, Some, None, Result, Ok, Err, IfOk, IfErr}
 use Rattle.std.specs.Io.KnownBytes.{Appends}
 use Rattle.scm_run.specs.Script.{RanToEnd, StopsBy, is_read_fault, is_write_fault}
 use Rattle.scm_run.specs.declared.fault.RunFault.{RunFault}
 use Rattle.scm_run.specs.declared.fault.RunFault.TheVariants as fault
 use Rattle.scm_play.specs.Played.{Played}
 use Rattle.scm_play.specs.declared.show.Style.{Style}
-use Rattle.scm_race.specs.Race.{RaceText}
+use Rattle.scm_race.specs.Race.{LongRaceText, RaceText}
 use Rattle.scm_command.specs.declared.task.Task.{Task}
 use Rattle.scm_command.specs.declared.task.Task.TheVariants.{Play, Race, Run}
 
@@ -31,9 +31,14 @@ pub record RanScript (told left before after : Option (List ℕ)) (read_failed w
   pub write : write_failed ≡ is_write_fault outcome
   pub answered : status ≡ run_status outcome
 
+-- The text tells a race that ended well, without checkpoints where their number of events is 0.
+abbrev pub TextOf : ℕ → ℕ → ℕ → ℕ → ℕ → List ℕ → Type 0
+TextOf workers steps seed budget zero = RaceText workers steps seed budget
+TextOf workers steps seed budget (suc checkpoint) = LongRaceText workers steps seed budget
+
 -- There was a race that ended well, and its text was written.
-abbrev pub RanRace : ℕ → ℕ → ℕ → ℕ → Option (List ℕ) → Option (List ℕ) → Type 0
-RanRace workers steps seed budget before after = (text : List ℕ) × RaceText workers steps seed budget text × Appends before after text
+abbrev pub RanRace : ℕ → ℕ → ℕ → ℕ → ℕ → Option (List ℕ) → Option (List ℕ) → Type 0
+RanRace workers steps seed budget checkpoint before after = (text : List ℕ) × TextOf workers steps seed budget checkpoint text × Appends before after text
 
 -- No race was told: nothing was written, or a write failed.
 abbrev pub WroteNoRace : Bool → Option (List ℕ) → Bool → Option (List ℕ) → Type 0
@@ -48,4 +53,4 @@ abbrev pub Did : Task → Option (List ℕ) → Option (List ℕ) → Option (Li
 Did Run told left before after = (events : ℕ) × RanToEnd told left before after events
 Did (Play None) told left before after = PlayedScript told before after
 Did (Play (Some path)) told left before after = left ≡ told
-Did (Race workers steps seed budget) told left before after = (left ≡ told) × RanRace workers steps seed budget before after
+Did (Race workers steps seed budget checkpoint) told left before after = (left ≡ told) × RanRace workers steps seed budget checkpoint before after

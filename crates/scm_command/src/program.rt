@@ -2,17 +2,17 @@
 ghost use Rattle.std.specs.Prelude.{◌≡◌, ◌≢◌, ◌≤◌, ◌⊎◌, ℕ, List, IfOk, Some, false, true, map, string_bytes};
 ghost use Rattle.clap.specs.Words.{kind_of};
 ghost use Rattle.clap.specs.declared.error.kind.ErrorKind.TheVariants.{OutOfMemory};
-ghost use Rattle.scm_command.specs.Program.{Did, RanRace, RanScript, WroteNoRace, fault_status};
+ghost use Rattle.scm_command.specs.Program.{Did, RanRace, RanScript, TextOf, WroteNoRace, fault_status};
 ghost use Rattle.scm_command.specs.Task.{IsInRange, Names, fits};
 ghost use Rattle.scm_command.specs.declared.task.Task.{Task as Asked};
 ghost use Rattle.scm_command.specs.declared.task.Task.TheVariants as task;
 ghost use Rattle.scm_play.specs.Played.{Played};
-ghost use Rattle.scm_race.specs.Race.{RaceText};
+ghost use Rattle.scm_race.specs.Race.{LongRaceText, RaceText};
 
 use crate::task::{Task, task_of};
 use clap::error::ErrorKind;
 use scm_play::{PlayFault, Style, play};
-use scm_race::{Race, RaceFault};
+use scm_race::{LongRace, Race, RaceFault};
 use scm_run::{RunFault, run_script};
 use scm_watched::{Watched, write_whole};
 use std::alloc::Global;
@@ -66,7 +66,7 @@ fn race_text<H: Threads + Wait + Sync>(
     alloc: Global,
     race: Race,
 ) -> Result<String, RaceFault>
-    requires { IsInRange (task.Race race.workers race.steps race.seed race.budget) }
+    requires { IsInRange (task.Race race.workers race.steps race.seed race.budget 0) }
     ensures { IfOk result (λ text.
         RaceText race.workers race.steps race.seed race.budget (string_bytes text)) }
 {
@@ -77,6 +77,39 @@ fn race_text<H: Threads + Wait + Sync>(
     Ok(text?)
 }
 
+/// The same of a race with checkpoints.
+fn long_race_text<H: Threads + Wait + Sync>(
+    rt: &H,
+    alloc: Global,
+    long: LongRace,
+) -> Result<String, RaceFault>
+    requires { let race = long.race in
+        IsInRange (task.Race race.workers race.steps race.seed race.budget 1) }
+    ensures { let race = long.race in IfOk result (λ text.
+        LongRaceText race.workers race.steps race.seed race.budget (string_bytes text)) }
+{
+    let tally = long.run(rt, alloc)?;
+    Ok(tally.text(alloc)?)
+}
+
+/// Lets workers race, with checkpoints if there are any, and makes the lines.
+fn race_lines<H: Threads + Wait + Sync>(
+    rt: &H,
+    alloc: Global,
+    race: Race,
+    checkpoint: u32,
+) -> Result<String, RaceFault>
+    requires { IsInRange (task.Race race.workers race.steps race.seed race.budget checkpoint) }
+    ensures { IfOk result (λ text.
+        TextOf race.workers race.steps race.seed race.budget checkpoint (string_bytes text)) }
+{
+    if checkpoint == 0 {
+        race_text(rt, alloc, race)
+    } else {
+        long_race_text(rt, alloc, LongRace { race, checkpoint })
+    }
+}
+
 /// Lets workers race, writes what that came to, and answers the exit status.
 ///
 /// Nothing is written to the output where there is no outcome.
@@ -84,16 +117,17 @@ fn run_race<H: Threads + Wait + Sync, W: Write, E: Write>(
     rt: &H,
     alloc: Global,
     race: Race,
+    checkpoint: u32,
     output: &mut Watched<W>,
     errors: &mut E,
 ) -> u8
-    requires race { IsInRange (task.Race race.workers race.steps race.seed race.budget) }
+    requires race { IsInRange (task.Race race.workers race.steps race.seed race.budget checkpoint) }
     requires output { output.old.has_failed ≡ false }
-    ensures done { result ≡ 0 → RanRace race.workers race.steps race.seed race.budget (W.contents output.old.inner) (W.contents output.new.inner) }
+    ensures done { result ≡ 0 → RanRace race.workers race.steps race.seed race.budget checkpoint (W.contents output.old.inner) (W.contents output.new.inner) }
     ensures failed { result ≢ 0 → WroteNoRace output.old.has_failed (W.contents output.old.inner) output.new.has_failed (W.contents output.new.inner) }
     ensures few { result ≤ 1 }
 {
-    let text = match race_text(rt, alloc, race) {
+    let text = match race_lines(rt, alloc, race, checkpoint) {
         Ok(text) => text,
         Err(fault) => {
             say(errors, &fault);
@@ -181,7 +215,7 @@ pub fn program<H: Threads + Wait + Sync + Files, S: AsStr, R: Read, W: Write, E:
 
     // Where they ask for a race, nothing is read, and the status is 0 or 1: with 1 nothing was
     // written to the output, unless a write failed.
-    ensures race { fits (map S.text words.now) ≡ true → (workers steps seed budget : ℕ) → Names (map S.text words.now) (task.Race workers steps seed budget)
+    ensures race { fits (map S.text words.now) ≡ true → (workers steps seed budget checkpoint : ℕ) → Names (map S.text words.now) (task.Race workers steps seed budget checkpoint)
         → (input.new ≡ input.old) × (result ≤ 1)
         × (result ≢ 0 → WroteNoRace output.old.has_failed (W.contents output.old.inner) output.new.has_failed (W.contents output.new.inner)) }
 
@@ -206,6 +240,7 @@ pub fn program<H: Threads + Wait + Sync + Files, S: AsStr, R: Read, W: Write, E:
                 steps,
                 seed,
                 budget,
+                checkpoint,
             },
         ) => {
             let race = Race {
@@ -214,7 +249,7 @@ pub fn program<H: Threads + Wait + Sync + Files, S: AsStr, R: Read, W: Write, E:
                 seed,
                 budget,
             };
-            run_race(rt, alloc, race, output, errors)
+            run_race(rt, alloc, race, checkpoint, output, errors)
         }
         Err(error) => refuse(errors, &error),
     }

@@ -5,18 +5,19 @@ ghost use Rattle.std.specs.Option.{option_map};
 ghost use Rattle.clap.specs.Words.{app_of, first_of, found_of, kind_of, rows_of, rule_of, subcommand_rows_of, with_rule};
 ghost use Rattle.clap.specs.declared.builder.command.Command.TheViews.{out-Command};
 ghost use Rattle.clap.specs.declared.error.kind.ErrorKind.TheVariants.{OutOfMemory};
-ghost use Rattle.scm_command.specs.Task.{HasNumber, IsInRange, IsRace, Names, StandsFor, bare_app, fits, number_rule, race_app, play_app, run_app, whole_app};
+ghost use Rattle.scm_command.specs.Task.{HasNumber, IsInRange, IsRace, Names, StandsFor, bare_app, checkpoint_rule, fits, most_steps, number_rule, race_app, play_app, run_app, whole_app};
 ghost use Rattle.scm_command.specs.declared.task.Task.{Task as Asked};
 
 use af_base::limits::MAX_BUDGET;
 use clap::builder::ValueParser;
 use clap::error::ErrorKind;
 use clap::{Arg, ArgMatches, Command, Error};
+use scm_race::{MAX_CHECKPOINT, MAX_LONG_STEPS};
 use scm_work::{MAX_STEPS, MAX_WORKERS, MIN_STEPS};
 use std::alloc::{AllocError, Global};
 use std::convert::AsStr;
 
-/// What the program is asked to do.
+/// The task of the program.
 #[derive(Clone, Copy, Debug, PartialEq, Eq)]
 pub enum Task<'a> {
     /// Run the script on standard input.
@@ -30,23 +31,25 @@ pub enum Task<'a> {
     Race {
         /// How many workers there are, 1 to 32.
         workers: u32,
-        /// How many events each worker does, 5 to 20,000.
+        /// How many events each worker does, 5 to 20,000, or with checkpoints to 100,000,000.
         steps: u32,
         /// The number that the events are drawn from.
         seed: u32,
         /// The budget of the collector's slices, 1 to 65,536.
         budget: u32,
+        /// How many events of the workers lie between two checkpoints, 1 to 250,000, or 0 for none.
+        checkpoint: u32,
     },
 }
 
-/// What the help says of scripts.
+/// The help on scripts.
 const OF_SCRIPTS: &str =
     "A script has one event or one report on each line, as 'spawn 1000 16' or 'check'.
 One whose first line is 'version 2' may also have
   P peek N N N   process P sees what it may receive: socket, most bytes, most descriptors
   P limit N      process P has another limit on its descriptors";
 
-/// What the help says of playing.
+/// The help on playing.
 const OF_PLAYING: &str =
     "The world goes on as it was after a line that cannot be read. Besides the lines
 of a script there are
@@ -54,7 +57,7 @@ of a script there are
   graph   the world in the language of Graphviz
   help    all lines";
 
-/// The subcommand that runs a script.
+/// Makes the subcommand that runs a script.
 fn run_command<'a>(alloc: Global) -> Command<'a>
     ensures shape { app_of result ≡ run_app }
     ensures local { (out-Command result).has_globals ≡ false }
@@ -64,7 +67,7 @@ fn run_command<'a>(alloc: Global) -> Command<'a>
         .after_help(OF_SCRIPTS)
 }
 
-/// The subcommand that plays a script.
+/// Makes the subcommand that plays a script.
 fn play_command<'a>(alloc: Global) -> Result<Command<'a>, AllocError>
     ensures shape { IfOk result (λ c. app_of c ≡ play_app) }
     ensures local { IfOk result (λ c. (out-Command c).has_globals ≡ false) }
@@ -75,7 +78,7 @@ fn play_command<'a>(alloc: Global) -> Result<Command<'a>, AllocError>
         .arg(Arg::new(alloc, "FILE").help("The script to play, or standard input without it"))
 }
 
-/// An option that must be given, and takes a number in this range.
+/// Makes an option that must be given, and takes a number in this range.
 fn number_option<'a>(alloc: Global, name: &'a str, least: u32, most: u32, help: &'a str) -> Arg<'a>
     ensures shape { rule_of result ≡ number_rule name.entry.now least most }
     ensures local { result.global ≡ false }
@@ -88,7 +91,7 @@ fn number_option<'a>(alloc: Global, name: &'a str, least: u32, most: u32, help: 
         .value_parser(ValueParser::signed(i64::from(least), i64::from(most)))
 }
 
-/// The command with one option more: it must be given, and takes a number in this range.
+/// Adds an option to the command: it must be given, and takes a number in this range.
 fn with_number<'a>(
     alloc: Global,
     command: Command<'a>,
@@ -104,7 +107,22 @@ fn with_number<'a>(
     command.arg(number_option(alloc, name, least, most, help))
 }
 
-/// The subcommand that lets workers race.
+/// The option for the events between two checkpoints, which may be left out.
+fn checkpoint_option<'a>(alloc: Global) -> Arg<'a>
+    ensures shape { rule_of result ≡ checkpoint_rule }
+    ensures local { result.global ≡ false }
+{
+    Arg::new(alloc, "checkpoint")
+        .long("checkpoint")
+        .value_name("NUMBER")
+        .help(
+            "Audits and empties the log after so many events of the workers, up to 250000; else 0",
+        )
+        .default_value("0")
+        .value_parser(ValueParser::signed(0, i64::from(MAX_CHECKPOINT)))
+}
+
+/// Makes the subcommand that lets workers race.
 fn race_command<'a>(alloc: Global) -> Result<Command<'a>, AllocError>
     ensures shape { IfOk result (λ c. app_of c ≡ race_app) }
     ensures local { IfOk result (λ c. (out-Command c).has_globals ≡ false) }
@@ -125,8 +143,8 @@ fn race_command<'a>(alloc: Global) -> Result<Command<'a>, AllocError>
         command,
         "steps",
         MIN_STEPS,
-        MAX_STEPS,
-        "How many events each worker does, 5 to 20000",
+        MAX_LONG_STEPS,
+        "How many events each worker does, 5 to 20000, with checkpoints up to 100000000",
     )?;
     let command = with_number(
         alloc,
@@ -136,29 +154,30 @@ fn race_command<'a>(alloc: Global) -> Result<Command<'a>, AllocError>
         u32::MAX,
         "The number that the events are drawn from, up to 4294967295",
     )?;
-    with_number(
+    let command = with_number(
         alloc,
         command,
         "budget",
         1,
         MAX_BUDGET,
         "The budget of the collector's slices, 1 to 65536",
-    )
+    )?;
+    command.arg(checkpoint_option(alloc))
 }
 
-/// The command without its subcommands.
+/// Makes the command without its subcommands.
 fn bare_command<'a>(alloc: Global) -> Command<'a>
     ensures shape { app_of result ≡ bare_app }
     ensures local { (out-Command result).has_globals ≡ false }
 {
     Command::new(alloc, "scmgc")
-        .version("0.1.0")
+        .version("0.2.0")
         .about("An in-memory AF_UNIX layer that keeps account of descriptors in flight")
         .arg_required_else_help(true)
         .subcommand_required(true)
 }
 
-/// The whole command.
+/// Makes the whole command.
 fn whole_command<'a>(alloc: Global) -> Result<Command<'a>, AllocError>
     ensures shape { IfOk result (λ c. app_of c ≡ whole_app) }
 {
@@ -168,7 +187,7 @@ fn whole_command<'a>(alloc: Global) -> Result<Command<'a>, AllocError>
         .subcommand(race_command(alloc)?)
 }
 
-/// The number of an option, where it has one in this range.
+/// Returns the number of an option, where it has one in this range.
 fn number(matches: &ArgMatches<'_>, name: &str, least: u32, most: u32) -> Option<u32>
     ensures some { IfSome result (HasNumber (rows_of (found_of matches.now)) name.now least most) }
     ensures none { IfNone result ((n : ℕ) → ¬ (HasNumber (rows_of (found_of matches.now)) name.now least most n)) }
@@ -180,21 +199,36 @@ fn number(matches: &ArgMatches<'_>, name: &str, least: u32, most: u32) -> Option
     }
 }
 
-/// The race that these options ask for.
-fn race_of<'a>(matches: &ArgMatches<'a>) -> Option<Task<'a>>
-    ensures some { IfSome result (λ task. (workers steps seed budget : ℕ) × (task ≡ Asked.Race workers steps seed budget)
-        × IsRace (rows_of (found_of matches.now)) workers steps seed budget) }
-    ensures none { IfNone result ((workers steps seed budget : ℕ) → ¬ (IsRace (rows_of (found_of matches.now)) workers steps seed budget)) }
+/// How many events each worker does at most: without checkpoints all have to fit into one log.
+fn most_steps(checkpoint: u32) -> u32
+    ensures { result ≡ most_steps checkpoint }
 {
+    if checkpoint == 0 {
+        MAX_STEPS
+    } else {
+        MAX_LONG_STEPS
+    }
+}
+
+/// Returns the race that these options ask for.
+fn race_of<'a>(matches: &ArgMatches<'a>) -> Option<Task<'a>>
+    ensures some { IfSome result (λ task. (workers steps seed budget checkpoint : ℕ)
+        × (task ≡ Asked.Race workers steps seed budget checkpoint)
+        × IsRace (rows_of (found_of matches.now)) workers steps seed budget checkpoint) }
+    ensures none { IfNone result ((workers steps seed budget checkpoint : ℕ)
+        → ¬ (IsRace (rows_of (found_of matches.now)) workers steps seed budget checkpoint)) }
+{
+    let checkpoint = number(matches, "checkpoint", 0, MAX_CHECKPOINT)?;
     Some(Task::Race {
         workers: number(matches, "workers", 1, MAX_WORKERS)?,
-        steps: number(matches, "steps", MIN_STEPS, MAX_STEPS)?,
+        steps: number(matches, "steps", MIN_STEPS, most_steps(checkpoint))?,
         seed: number(matches, "seed", 0, u32::MAX)?,
         budget: number(matches, "budget", 1, MAX_BUDGET)?,
+        checkpoint,
     })
 }
 
-/// The script that these options ask to play.
+/// Returns the script that these options ask to play.
 fn play_of<'a>(matches: &ArgMatches<'a>) -> Task<'a>
     ensures { (file : Option (Bor (List ℕ))) × (result ≡ Asked.Play file) × (option_map (λ path. path.now) file ≡ first_of (codes "FILE") (rows_of (found_of matches.now))) }
 {
@@ -203,7 +237,7 @@ fn play_of<'a>(matches: &ArgMatches<'a>) -> Task<'a>
     }
 }
 
-/// The task that the matches' subcommand stands for.
+/// Returns the task of the matches' subcommand.
 fn chosen_task<'a>(matches: &ArgMatches<'a>) -> Option<Task<'a>>
     ensures some { IfSome result (StandsFor (subcommand_rows_of matches.now)) }
     ensures none { IfNone result ((task : Asked) → ¬ (StandsFor (subcommand_rows_of matches.now) task)) }
@@ -216,7 +250,7 @@ fn chosen_task<'a>(matches: &ArgMatches<'a>) -> Option<Task<'a>>
     }
 }
 
-/// The task that a command line names, by the whole command.
+/// Returns the task that a command line names, by the whole command.
 #[tactic(auto, unfolding(crate::specs::Task::fits, crate::specs::Task::Names))]
 fn task_by<'a, S: AsStr>(command: &mut Command<'a>, words: &'a [S]) -> Result<Task<'a>, Error>
     requires { app_of command.old ≡ whole_app }
@@ -232,7 +266,11 @@ fn task_by<'a, S: AsStr>(command: &mut Command<'a>, words: &'a [S]) -> Result<Ta
     drop(matches);
     match chosen {
         Some(task) => Ok(task),
-        None => Err(command.error(ErrorKind::MissingSubcommand, "no task is named")?),
+        // `clap` has refused all else.
+        None => Err(command.error(
+            ErrorKind::ValueValidation,
+            "more than 20000 steps need --checkpoint",
+        )?),
     }
 }
 

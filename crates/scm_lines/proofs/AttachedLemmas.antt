@@ -1,4 +1,4 @@
--- Items in front of what the other words stand for.
+-- Items in front of the meaning of the other words.
 use Rattle.std.proofs.Common.{◌≡◌, ℕ, ◌<◌, List, ◌∷◌, ◌++◌, length, Option, Some, None, refl, sym, ap, append_assoc, length-append, arith}
 use Rattle.std.proofs.lemmas.Grind.{common_steps}
 use Rattle.scm_lines.specs.Payload.{at_most}

@@ -1,4 +1,4 @@
--- What is known of each part where a reading of several parts was made.
+-- The parts of a reading of several parts.
 use Rattle.std.proofs.Common.{◌≡◌, ◌⊎◌, ℕ, ◌≤◌, ◌&&◌, List, [], ◌∷◌, Bool, true, false, cond, length, Option, Some, None, refl, inl, inr, arith, option_and_then}
 use Rattle.std.specs.Option.{option_map}
 use Rattle.std.specs.Str.{bytes_eq}
@@ -8,7 +8,7 @@ use Rattle.scm_lines.specs.Words.{at_end}
 use Rattle.scm_lines.specs.Payload.{at_most}
 use Rattle.scm_lines.specs.Words.{◌>>=◌}
 
--- which way a test went
+-- the outcome of a test
 pub chosen : {A : Type 0} (b : Bool) (x y z : A) → cond b x y ≡ z → ((b ≡ true) × (x ≡ z)) ⊎ ((b ≡ false) × (y ≡ z))
 chosen true x y z e = inl (refl, e)
 chosen false x y z e = inr (refl, e)

@@ -1,4 +1,4 @@
--- Which words fit, and how many bytes or descriptors they stand for.
+-- Which words fit, and how many bytes or descriptors they mean.
 use Rattle.std.proofs.Common.{◌≡◌, ℕ, ◌+◌, ◌<◌, ◌≤◌, ◌&&◌, List, [], ◌∷◌, length, Bool, true, false, cond, not, Option, Some, None, is_none, is_some, position, refl, sym, ap, length-append, arith}
 use Rattle.std.proofs.lemmas.Grind.{common_steps}
 use Rattle.scm_lines.specs.Words.{all_printable, is_printable}
@@ -10,7 +10,7 @@ use Rattle.scm_lines.specs.Attached.{item_of, items_of, joined}
 
 -- ---- bytes that fail a test
 
--- a place is found exactly where not all pass, for a test of all that goes from the front
+-- a position is found exactly if some item fails, for a test of all in order
 found_where_not : (test : ℕ → Bool) (all : List ℕ → Bool) → all [] ≡ true → ((b : ℕ) (bytes : List ℕ) → all (b ∷ bytes) ≡ (test b && all bytes))
     → (bytes : List ℕ) → is_some (position (λ b. not (test b)) bytes) ≡ not (all bytes)
 found_where_not test all none more [] = rw none refl
@@ -47,7 +47,7 @@ reason_digits word h = by (all_digits word) h
 
 -- ---- how many
 
--- the length of a list and so many more
+-- the length of a list plus a number
 abbrev pub counted : ℕ → Option (List ℕ) → Option ℕ
 counted n None = None
 counted n (Some items) = Some (n + length items)

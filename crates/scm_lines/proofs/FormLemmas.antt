@@ -1,4 +1,4 @@
--- What is read by a table of forms is what it says, each way.
+-- A table of forms reads just the words that it says, and each as it says.
 use Rattle.std.proofs.Common.{◌≡◌, ℕ, ◌&&◌, List, [], ◌∷◌, Bool, true, false, cond, find, Some, None, refl, sym, ap, ◌∙◌, inl, inr, subst, codes}
 use Rattle.std.specs.Option.{option_map}
 use Rattle.std.specs.Str.{bytes_eq}
@@ -20,12 +20,12 @@ use Rattle.scm_lines.proofs.WordsPrintable.{items_printable, number_printable, p
 
 -- ---- words
 
--- each word of a table stands for something of which this holds
+-- this fact holds of the meaning of each word of a table
 abbrev pub Holds : {A : Type 0} → (List ℕ → A → Type 0) → List (List ℕ × A) → Type 0
 Holds P [] = Unit {0}
 Holds P (entry ∷ table) = P entry.0 entry.1 × Holds P table
 
--- so it holds of what a word is found to stand for
+-- so it holds of the meaning that is found for a word
 pub meaning_said : {A : Type 0} (P : List ℕ → A → Type 0) (table : List (List ℕ × A)) → Holds P table → (word : List ℕ) (x : A) → meaning table word ≡ Some x → P word x
 meaning_said P [] all word x e = cc
 meaning_said {A} P (entry ∷ table) (first, others) word x e = by_test (bytes_eq entry.0 word) refl e (meaning_said P table others word x)

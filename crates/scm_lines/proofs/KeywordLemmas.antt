@@ -1,4 +1,4 @@
--- What is known of the keywords of the tables.
+-- The keywords of the tables.
 use Rattle.std.proofs.Common.{◌≡◌, ◌≢◌, ℕ, ◌≤◌, ◌<◌, ◌==◌, ◌||◌, List, true, length, get_or, nat_lt, Some, None, refl, sym, arith}
 use Rattle.std.proofs.lemmas.Grind.{common_steps}
 use Rattle.scm_lines.specs.Words.{all_printable}
@@ -10,7 +10,7 @@ use Rattle.scm_lines.specs.declared.keywords.Verb.{Verb}
 use Rattle.scm_lines.specs.declared.keywords.Verb.TheVariants as verb
 use Rattle.scm_lines.proofs.FormLemmas.{no_key}
 
--- Each is found by its keyword: the second clause stands for all others.
+-- Each is found by its keyword: the second clause covers all others.
 pub verb_found : (v : Verb) → named step_row verbs (step_row v).0 ≡ Some v
 verb_found verb.Open = refl
 verb_found other = refl

@@ -15,3 +15,4 @@ pub mod FormLemmas
 pub mod KeywordLemmas
 pub mod LineLemmas
 pub mod VersionsRead
+pub mod VerbsRead

@@ -1,4 +1,4 @@
--- What is read of a line is what the tables say, each way.
+-- A line is read just as the tables say.
 use Rattle.std.proofs.Common.{◌≡◌, ◌⊎◌, ℕ, ◌≤◌, ◌==◌, List, [], ◌∷◌, Bool, true, false, cond, length, nat_lt, Option, Some, None, refl, ap, ◌∙◌, inl, inr, arith}
 use Rattle.std.specs.Cmp.Derive.{both_true}
 use Rattle.std.proofs.lemmas.Grind.{common_steps}

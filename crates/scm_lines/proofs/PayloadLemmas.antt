@@ -1,4 +1,4 @@
--- Bytes in front of what the rest of a word stands for.
+-- Bytes in front of the meaning of the rest of a word.
 use Rattle.std.proofs.Common.{◌≡◌, ℕ, List, [], ◌∷◌, ◌++◌, Option, Some, None, refl, sym, ap, append_assoc}
 use Rattle.scm_lines.specs.Payload.{byte_before}
 

@@ -30,7 +30,7 @@ AllMake P (items makes) = (fds : List ℕ) → P (makes fds)
 AllMake P (k ◂ form) = (v : Value k) → AllMake P (form v)
 
 -- so what is read by it passes
-made : {A : Type 0} (P : A → Type 0) (form : Form A) → AllMake P form → (words : List (List ℕ)) (x : A) → read_form form words ≡ Some x → P x
+pub made : {A : Type 0} (P : A → Type 0) (form : Form A) → AllMake P form → (words : List (List ℕ)) (x : A) → read_form form words ≡ Some x → P x
 made P (end y) all words x e = subst P (ended y x words e).1 all
 made P (privilege makes) all words x e = let (granted, (e1, is)) = mapped makes (privilege_of words) x e in subst P is (all granted)
 made P (items makes) all words x e = let (fds, (e1, is)) = mapped makes (attached_of words) x e in subst P is (all fds)
@@ -55,7 +55,7 @@ or_true false = refl
 -- ---- verbs
 
 -- the steps of a verb are of version 2 where the verb is
-verb_makes : (v : Version) (k : Verb) → AllMake (λ does. (not (is_later does) || is_second v) ≡ has_verb v k) (step_row k).1
+pub verb_makes : (v : Version) (k : Verb) → AllMake (λ does. (not (is_later does) || is_second v) ≡ has_verb v k) (step_row k).1
 verb_makes v verb.Send = λ on bytes fds. refl
 verb_makes v verb.Recv = λ on max_bytes max_fds. refl
 verb_makes v verb.Open = refl

@@ -64,7 +64,7 @@ digits_printable (b ∷ word) h =
 pub number_printable : (word : List ℕ) (n : ℕ) → IsNumber word n → all_printable word ≡ true
 number_printable word n number = digits_printable word (number_digits word n number)
 
--- so is a character that stands for itself
+-- so is a character that means itself
 plain_printable : (b : ℕ) → is_plain b ≡ true → byte_printable b ≡ true
 plain_printable b h = grind (arith, common_steps)
 

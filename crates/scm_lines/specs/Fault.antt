@@ -1,4 +1,4 @@
--- What a reading answers. This project's profile.
+-- The answers of a reading. This project's profile.
 use Rattle.std.specs.Prelude.{◌≡◌, Option, Some, None, Result, Ok, Err, ⊤}
 use Rattle.scm_lines.specs.declared.fault.LineFault.{LineFault}
 use Rattle.scm_lines.specs.declared.fault.LineFault.TheVariants as fault

@@ -8,7 +8,7 @@ use Rattle.scm_lines.specs.Payload.{payload_of}
 use Rattle.scm_lines.specs.Attached.{attached_of}
 use Rattle.scm_lines.specs.Keywords.{privilege_of, type_of}
 use Rattle.scm_lines.specs.Lines.{form_of, step_of, ◌>>=◌}
-use Rattle.scm_lines.specs.Versions.{has_line, is_later, is_second, is_unsaid}
+use Rattle.scm_lines.specs.Versions.{has_line, is_later, is_second, is_unknown}
 use Rattle.scm_lines.specs.declared.line.Line.{Line}
 use Rattle.scm_lines.specs.declared.explain.Last.{Last}
 use Rattle.scm_lines.specs.declared.explain.Last.TheVariants as last
@@ -60,13 +60,13 @@ has_verb v other = true
 
 -- A line with this keyword can come now.
 abbrev pub has_keyword : Version → Keyword → Bool
-has_keyword v keyword.Version = is_unsaid v
+has_keyword v keyword.Version = is_unknown v
 has_keyword v other = true
 
--- What a process does in a script of this version.
+-- The step of a process in a script of this version.
 unfoldable pub step_in : Version → List (List ℕ) → Option Step
 step_in v words = step_of words >>= λ does. if not (is_later does) || is_second v then Some does else None
 
--- What a line says that comes now and begins with this word.
+-- The next line of a script, by its first word.
 unfoldable pub form_in : Version → List ℕ → List (List ℕ) → Option Line
 form_in v word words = form_of word words >>= λ said. if has_line v said then Some said else None

@@ -22,11 +22,11 @@ use Rattle.scm_lines.specs.declared.line.Report.TheVariants as report
 
 -- ---- words
 
--- What a word may say: a number, a type of sockets, a name, the bytes of a message, or 2.
+-- The kinds of a word: a number, a type of sockets, a name, the bytes of a message, or 2.
 pub data Kind : Type 0 where
   number sockets name payload two : Kind
 
--- What a word of this kind says.
+-- The value of a word of this kind.
 abbrev pub Value : Kind → Type 0
 Value number = ℕ
 Value sockets = SockType
@@ -42,7 +42,7 @@ SaysWord name word text = (all_printable word ≡ true) × (word ≡ text)
 SaysWord payload word bytes = IsPayload word bytes
 SaysWord two word v = word ≡ codes "2"
 
--- What a word is read as.
+-- The reading of a word.
 abbrev pub value_of : (k : Kind) → List ℕ → Option (Value k)
 value_of number word = number_of word
 value_of sockets word = type_of word
@@ -50,7 +50,7 @@ value_of name word = if all_printable word then Some word else None
 value_of payload word = payload_of word
 value_of two word = if bytes_eq word (codes "2") then Some tt else None
 
--- What the first word is read as, and the words after it.
+-- The reading of the first word, and the words after it.
 abbrev pub value_in : (k : Kind) → List (List ℕ) → Option (Value k × List (List ℕ))
 value_in k words = word_as (value_of k) words
 
@@ -72,7 +72,7 @@ SaysForm (items makes) words said = (fds : List ℕ) × (IsAttached words fds ×
 SaysForm (k ◂ form) [] said = ⊥
 SaysForm (k ◂ form) (word ∷ words) said = (v : Value k) × (SaysWord k word v × SaysForm (form v) words said)
 
--- What words are read as by a form.
+-- The reading of words by a form.
 abbrev pub read_form : {A : Type 0} → Form A → List (List ℕ) → Option A
 read_form (end makes) words = at_end makes words
 read_form (privilege makes) words = option_map makes (privilege_of words)
@@ -85,7 +85,7 @@ read_form (k ◂ form) words = value_in k words >>= λ v. read_form (form v.0) v
 abbrev pub Row : Type 0 → Type 0
 Row A = List ℕ × Form A
 
--- What a process does, by the words behind its number.
+-- The step of a process, by the words after its number.
 abbrev pub step_row : Verb → Row Step
 step_row verb.Send = (codes "send", number ◂ λ on. payload ◂ λ bytes. items λ fds. step.Send on bytes fds)
 step_row verb.Recv = (codes "recv", number ◂ λ on. number ◂ λ max_bytes. number ◂ λ max_fds. end (step.Recv on max_bytes max_fds))
@@ -104,7 +104,7 @@ step_row verb.Listen = (codes "listen", number ◂ λ on. number ◂ λ backlog.
 step_row verb.Peek = (codes "peek", number ◂ λ on. number ◂ λ max_bytes. number ◂ λ max_fds. end (step.Peek on max_bytes max_fds))
 step_row verb.Limit = (codes "limit", number ◂ λ nofile. end (step.Limit nofile))
 
--- What a line says that no process's number begins.
+-- The meaning of a line without a process's number.
 abbrev pub line_row : Keyword → Row Line
 line_row keyword.Spawn = (codes "spawn", number ◂ λ uid. number ◂ λ nofile. privilege λ granted. line.Event (event.Spawn uid nofile granted))
 line_row keyword.Begin = (codes "begin", end (line.Event event.Begin))
@@ -124,7 +124,7 @@ verbs =
 abbrev pub keywords : List Keyword
 keywords = keyword.Spawn ∷ keyword.Begin ∷ keyword.Slice ∷ keyword.Pass ∷ keyword.Table ∷ keyword.Totals ∷ keyword.Check ∷ keyword.Version ∷ []
 
--- Which of these stands in a row with this keyword.
+-- The row with this keyword.
 abbrev pub named : {K A : Type 0} → (K → Row A) → List K → List ℕ → Option K
 named row keys word = find (λ k. bytes_eq (row k).0 word) keys
 
@@ -132,6 +132,6 @@ named row keys word = find (λ k. bytes_eq (row k).0 word) keys
 abbrev pub SaysRow : {K A : Type 0} → (K → Row A) → List ℕ → List (List ℕ) → A → Type 0
 SaysRow {K} row word words said = (k : K) × (word ≡ (row k).0) × SaysForm (row k).1 words said
 
--- What the words behind this word are read as.
+-- The reading of the words after this word.
 abbrev pub read_by : {K A : Type 0} → (K → Row A) → List K → List ℕ → List (List ℕ) → Option A
 read_by row keys word words = named row keys word >>= λ k. read_form (row k).1 words

@@ -1,4 +1,4 @@
--- The words that stand for something behind a keyword. This project's profile.
+-- The words with a meaning after a keyword. This project's profile.
 use Rattle.std.specs.Prelude.{ℕ, List, [], ◌∷◌, find, if◌then◌else◌, Bool, true, false, Option, Some, None, codes}
 use Rattle.std.specs.Option.{option_map}
 use Rattle.std.specs.Str.{bytes_eq}
@@ -6,7 +6,7 @@ use Rattle.af_base.specs.declared.events.SockType.{SockType}
 use Rattle.af_base.specs.declared.events.SockType.TheVariants.{Seqpacket, Stream}
 use Rattle.scm_lines.specs.Words.{at_end}
 
--- What a word stands for in a table of words, each with its meaning.
+-- The meaning of a word in a table of words.
 abbrev pub meaning : {A : Type 0} → List (List ℕ × A) → List ℕ → Option A
 meaning table word = option_map (λ entry. entry.1) (find (λ entry. bytes_eq entry.0 word) table)
 

@@ -1,4 +1,4 @@
--- What a line says. This project's profile.
+-- The meaning of a line. This project's profile.
 use Rattle.std.specs.Prelude.{ℕ, nat_lt, List, [], ◌∷◌, length, if◌then◌else◌, Option, Some, None}
 use Rattle.std.specs.Option.{option_map}
 use Rattle.af_base.specs.declared.events.Step.{Step}
@@ -11,25 +11,25 @@ use Rattle.scm_lines.specs.declared.line.Line.{Line}
 use Rattle.scm_lines.specs.declared.line.Line.TheVariants as line
 use Rattle.scm_lines.specs.declared.line.TheConstants.{MAX_LINE}
 
--- What a process does, by the words after its number.
+-- The step of a process, by the words after its number.
 unfoldable pub step_of : List (List ℕ) → Option Step
 step_of words = word_in words >>= λ word. read_by step_row verbs word.0 word.1
 
--- What a line says behind its first word, which is a process's number or a keyword.
+-- The meaning of a line after its first word, which is a process's number or a keyword.
 abbrev pub line_behind : Option ℕ → List ℕ → List (List ℕ) → Option Line
 line_behind (Some pid) word words = option_map (λ does. line.Event (event.Proc pid does)) (step_of words)
 line_behind None word words = read_by line_row keywords word words
 
--- What a line says that begins with this word.
+-- The meaning of a line that begins with this word.
 unfoldable pub form_of : List ℕ → List (List ℕ) → Option Line
 form_of word words = line_behind (number_of word) word words
 
--- What the words of a line say.
+-- The meaning of the words of a line.
 abbrev pub words_say : List (List ℕ) → Option Line
 words_say [] = Some line.Silence
 words_say (word ∷ words) = form_of word words
 
--- What a line says, without its end, where it can be read.
+-- The meaning of a line, without its end, if it can be read.
 unfoldable pub line_of : List ℕ → Option Line
 line_of bytes =
     if nat_lt MAX_LINE (length bytes) then None

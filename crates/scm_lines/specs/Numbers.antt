@@ -11,7 +11,7 @@ abbrev pub all_digits : List ℕ → Bool
 all_digits [] = true
 all_digits (b ∷ bytes) = is_digit b && all_digits bytes
 
--- The value of digits that stand after a number.
+-- The value of digits after a number.
 abbrev pub value_on : ℕ → List ℕ → ℕ
 value_on n [] = n
 value_on n (b ∷ bytes) = value_on (n * 10 + (b - 48)) bytes
@@ -26,7 +26,7 @@ leads_with_zero (b ∷ c ∷ bytes) = b == 48
 abbrev pub is_numeral : List ℕ → Bool
 is_numeral word = nat_lt 0 (length word) && nat_le (length word) 10 && all_digits word && not (leads_with_zero word)
 
--- The number that a word stands for: a numeral below 2 ^ 32.
+-- The number of a word: a numeral below 2 ^ 32.
 abbrev pub number_of : List ℕ → Option ℕ
 number_of word = if is_numeral word && nat_lt (value_on 0 word) (2 ^ 32) then Some (value_on 0 word) else None
 

@@ -19,17 +19,17 @@ hex_value b =
 abbrev pub hex_pair : ℕ → ℕ → Option ℕ
 hex_pair high low = option_and_then (λ h. option_map (λ l. 16 * h + l) (hex_value low)) (hex_value high)
 
--- A byte before what the rest stands for.
+-- A byte before the meaning of the rest.
 abbrev pub byte_before : Option ℕ → Option (List ℕ) → Option (List ℕ)
 byte_before None rest = None
 byte_before (Some b) None = None
 byte_before (Some b) (Some bytes) = Some (b ∷ bytes)
 
--- A plain character stands for itself.
+-- A plain character means itself.
 abbrev pub plain_byte : ℕ → Option ℕ
 plain_byte b = if is_plain b then Some b else None
 
--- The bytes that characters stand for: plain ones, and % with two hexadecimal digits.
+-- The bytes of characters: plain ones, and % with two hexadecimal digits.
 abbrev pub unescape : List ℕ → Option (List ℕ)
 unescape [] = Some []
 unescape (a ∷ []) = byte_before (plain_byte a) (Some [])
@@ -41,7 +41,7 @@ abbrev pub at_most : ℕ → Option (List ℕ) → Option (List ℕ)
 at_most n None = None
 at_most n (Some items) = if nat_le (length items) n then Some items else None
 
--- The bytes that a word stands for: n times the letter x for * and the number n, else those that its characters stand for; at most 65,537.
+-- The bytes of a word: n times the letter x for * and the number n, else those of its characters; at most 65,537.
 abbrev pub payload_of : List ℕ → Option (List ℕ)
 payload_of [] = None
 payload_of (a ∷ word) =

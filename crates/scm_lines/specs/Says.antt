@@ -1,4 +1,4 @@
--- What a script's lines look like, by the tables of forms. This project's profile.
+-- The lines of a script, by the tables of forms. This project's profile.
 use Rattle.std.specs.Prelude.{◌≡◌, ◌≤◌, ◌⊎◌, ℕ, List, [], ◌∷◌, length, true, false}
 use Rattle.af_base.specs.declared.events.Step.{Step}
 use Rattle.af_base.specs.declared.events.Event.TheVariants as event

@@ -1,4 +1,4 @@
--- What the words of a line spell: numbers, the bytes of a message, items, and names of types. This project's profile.
+-- The spelling of words of a line: numbers, the bytes of a message, items, and names of types. This project's profile.
 use Rattle.std.specs.Prelude.{◌≡◌, ◌≤◌, ◌<◌, ◌⊎◌, ℕ, ◌+◌, ◌*◌, ◌^◌, List, [], ◌∷◌, ◌++◌, length, replicate, Bool, true, false, codes, Some}
 use Rattle.std.specs.Fmt.{decimal}
 use Rattle.af_base.specs.declared.events.SockType.{SockType}
@@ -26,19 +26,19 @@ IsPayload word bytes = (length bytes ≤ 65537)
     × (((digits : List ℕ) × ((n : ℕ) × (word ≡ 42 ∷ digits) × IsNumber digits n × (bytes ≡ replicate n 120)))
     ⊎ ((0 < length bytes) × Spells word bytes))
 
--- An item, and the descriptors that it stands for: a number, or a number, * and how many copies of it, 1 to 1,024.
+-- An item, and its descriptors: a number, or a number, * and how many copies of it, 1 to 1,024.
 abbrev pub IsItem : List ℕ → List ℕ → Type 0
 IsItem word fds =
     ((n : ℕ) × (IsNumber word n × (fds ≡ n ∷ [])))
     ⊎ ((front back : List ℕ) × ((n k : ℕ) × (word ≡ front ++ 42 ∷ back) × IsNumber front n × IsNumber back k
     × (1 ≤ k) × (k ≤ 1024) × (fds ≡ replicate k n)))
 
--- Items, and the descriptors that they stand for, in order.
+-- Items, and their descriptors, in order.
 abbrev pub AreItems : List (List ℕ) → List ℕ → Type 0
 AreItems [] fds = fds ≡ []
 AreItems (word ∷ words) fds = (first others : List ℕ) × (IsItem word first × AreItems words others × (fds ≡ first ++ others))
 
--- Items that stand for at most 1,024 descriptors.
+-- Items of at most 1,024 descriptors.
 abbrev pub IsAttached : List (List ℕ) → List ℕ → Type 0
 IsAttached words fds = (length fds ≤ 1024) × AreItems words fds
 

@@ -10,14 +10,14 @@ use Rattle.scm_lines.specs.declared.version.Version.{Version}
 use Rattle.scm_lines.specs.declared.version.Version.TheVariants as version
 
 -- Nothing was said of the version yet.
-abbrev pub is_unsaid : Version → Bool
-is_unsaid version.Unsaid = true
-is_unsaid version.First = false
-is_unsaid version.Second = false
+abbrev pub is_unknown : Version → Bool
+is_unknown version.Unknown = true
+is_unknown version.First = false
+is_unknown version.Second = false
 
 -- The script is of version 2.
 abbrev pub is_second : Version → Bool
-is_second version.Unsaid = false
+is_second version.Unknown = false
 is_second version.First = false
 is_second version.Second = true
 
@@ -35,16 +35,16 @@ is_of_first other = true
 
 -- Whether such a line may come now: version 2 before all but silence, and what is of version 2 in it.
 abbrev pub has_line : Version → Line → Bool
-has_line v line.Version2 = is_unsaid v
+has_line v line.Version2 = is_unknown v
 has_line v (line.Event (event.Proc pid does)) = not (is_later does) || is_second v
 has_line v other = true
 
--- What is said of the version with such a line: silence says nothing, and any other first line but version 2 says version 1.
+-- The version after such a line: a silent line keeps it, and any other first line but version 2 sets version 1.
 abbrev pub version_after : Version → Line → Version
 version_after v line.Silence = v
 version_after v line.Version2 = version.Second
-version_after v other = if is_unsaid v then version.First else v
+version_after v other = if is_unknown v then version.First else v
 
--- What a line says that comes now, where it can be read.
+-- The meaning of the next line, if it can be read.
 abbrev pub read_in : Version → List ℕ → Option Line
 read_in v bytes = line_of bytes >>= λ said. if has_line v said then Some said else None

@@ -49,17 +49,17 @@ abbrev pub only_of : List (List ℕ) → Option (List ℕ)
 only_of [] = None
 only_of (word ∷ words) = if no_words words then Some word else None
 
--- What a line stands for where no word is left over.
+-- The meaning of a line if no word is left over.
 abbrev pub at_end : {A : Type 0} → A → List (List ℕ) → Option A
 at_end said words = if no_words words then Some said else None
 
--- What follows from a thing that was read, where it was.
+-- A consequence of a reading, if there is one.
 infixl 10 ◌>>=◌
 abbrev pub ◌>>=◌ : {A B : Type 0} → Option A → (A → Option B) → Option B
 None >>= next = None
 (Some x) >>= next = next x
 
--- What the first word is read as, and the words after it.
+-- The reading of the first word, and the words after it.
 abbrev pub word_as : {A : Type 0} → (List ℕ → Option A) → List (List ℕ) → Option (A × List (List ℕ))
 word_as read [] = None
 word_as read (word ∷ words) = option_map (λ found. (found, words)) (read word)

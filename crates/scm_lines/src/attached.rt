@@ -13,10 +13,10 @@ use af_base::items::Items;
 use af_base::names::Fd;
 use std::alloc::{AllocError, Global};
 
-/// The most descriptors that one item stands for, and all items of a line together.
+/// The most descriptors of one item, and of all items of a line together.
 pub const MAX_ATTACHED: usize = 1024;
 
-/// Where the first `*` stands.
+/// Returns the position of the first `*`.
 pub fn star_at(word: &[u8]) -> Option<usize>
     ensures value { result ≡ position (λ b. b == 42) word.now }
     ensures within { IfSome result (λ i. i < length word.now) }
@@ -24,7 +24,7 @@ pub fn star_at(word: &[u8]) -> Option<usize>
     word.iter().position(|b| *b == b'*')
 }
 
-/// A descriptor, and how often it is named.
+/// Reads a descriptor, and how often it is named.
 pub fn item(word: &[u8]) -> Option<(Fd, usize)>
     ensures value { option_map (λ found. replicate found.1 found.0) result ≡ item_of word.now }
     ensures few { IfSome result (λ found. found.1 ≤ MAX_ATTACHED) }
@@ -53,7 +53,8 @@ fn push_copies(fds: &mut Vec<Fd>, fd: Fd, copies: usize) -> Result<(), AllocErro
     Ok(())
 }
 
-/// The descriptors of all items that are left. The list never holds more than a line may have.
+/// Reads the descriptors of all items that are left. The list never holds more than a line may
+/// have.
 #[tactic(auto, using(crate::proofs::AttachedLemmas::items_before_more, crate::proofs::AttachedLemmas::items_before_over))]
 #[inline(always)]
 pub fn attached(alloc: Global, bytes: &[u8]) -> Result<Items<Fd>, LineFault>

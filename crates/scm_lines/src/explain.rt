@@ -15,10 +15,10 @@ use crate::misfit::{
 };
 use crate::numbers::number;
 use crate::reason::{Reason, Unreadable};
-use crate::version::Version;
+use crate::version::{Version, has_verb};
 use crate::words::first_word;
 
-/// What a word has to be.
+/// The kind that a word has to be.
 #[derive(Clone, Copy, PartialEq, Eq)]
 enum Wanted {
     Number,
@@ -28,7 +28,7 @@ enum Wanted {
     Two,
 }
 
-/// What the last words of a line have to be.
+/// The kind that the last words of a line have to be.
 #[derive(Clone, Copy, PartialEq, Eq)]
 enum Last {
     /// No word.
@@ -39,7 +39,7 @@ enum Last {
     Items,
 }
 
-/// Why a word is not what it has to be, if it is not.
+/// Returns why a word is not of the wanted kind, if so.
 fn why_word(wanted: Wanted, word: &[u8]) -> Option<Misfit>
     ensures exact { is_some result ≡ not (fits_word wanted word.now) }
     ensures within { IfSome result (λ m. m.left ≤ length word.now) }
@@ -56,7 +56,7 @@ fn why_word(wanted: Wanted, word: &[u8]) -> Option<Misfit>
     }
 }
 
-/// The first word that is left over, if one is.
+/// Returns the first word that is left over, if there is one.
 fn why_end(bytes: &[u8]) -> Option<Misfit>
     ensures exact { is_some result ≡ not (no_words (words_of bytes.now)) }
     ensures within { IfSome result (λ m. m.left ≤ length bytes.now) }
@@ -65,7 +65,7 @@ fn why_end(bytes: &[u8]) -> Option<Misfit>
     Some(Misfit::at(Reason::WordTooMany, word).before(rest))
 }
 
-/// Why the words that are left are not `priv` alone, if there are any.
+/// Returns why the words that are left are not `priv` alone, if there are any.
 fn why_privilege(bytes: &[u8]) -> Option<Misfit>
     ensures exact { is_some result ≡ is_none (privilege_of (words_of bytes.now)) }
     ensures within { IfSome result (λ m. m.left ≤ length bytes.now) }
@@ -76,7 +76,7 @@ fn why_privilege(bytes: &[u8]) -> Option<Misfit>
     }
 }
 
-/// Why the last words of a line are not what they have to be, if they are not.
+/// Returns why the last words of a line are not of the wanted kind, if so.
 fn why_last(last: Last, bytes: &[u8]) -> Option<Misfit>
     ensures exact { is_some result ≡ not (fits_last last (words_of bytes.now)) }
     ensures within { IfSome result (λ m. m.left ≤ length bytes.now) }
@@ -88,7 +88,7 @@ fn why_last(last: Last, bytes: &[u8]) -> Option<Misfit>
     }
 }
 
-/// A word is missing at the end of a line.
+/// Makes the reason of a word that is missing at the end of a line.
 fn missing() -> Misfit
     ensures reason { result.reason ≡ reason.WordMissing }
     ensures left { result.left ≡ 0 }
@@ -96,7 +96,7 @@ fn missing() -> Misfit
     Misfit::at(Reason::WordMissing, b"")
 }
 
-/// Why words are not of a form, if they are not.
+/// Returns why words are not of a form, if so.
 fn why_words(wanted: &[Wanted], last: Last, bytes: &[u8]) -> Option<Misfit>
     ensures exact { is_some result ≡ not (fits_words wanted.now last (words_of bytes.now)) }
     ensures within { IfSome result (λ m. m.left ≤ length bytes.now) }
@@ -116,7 +116,7 @@ fn why_words(wanted: &[Wanted], last: Last, bytes: &[u8]) -> Option<Misfit>
     why_last(last, rest)
 }
 
-/// Why the words behind a verb are not of its form, if they are not.
+/// Returns why the words behind a verb are not of its form, if so.
 fn why_step(verb: Verb, bytes: &[u8]) -> Option<Misfit>
     ensures exact { is_some result ≡ is_none (read_form (step_row verb).1 (words_of bytes.now)) }
     ensures within { IfSome result (λ m. m.left ≤ length bytes.now) }
@@ -135,14 +135,7 @@ fn why_step(verb: Verb, bytes: &[u8]) -> Option<Misfit>
     }
 }
 
-/// Whether events with this verb can come now.
-fn has_verb(version: Version, verb: Verb) -> bool
-    ensures { result ≡ has_verb version verb }
-{
-    !matches!(verb, Verb::Peek | Verb::Limit) || version == Version::Second
-}
-
-/// Why the words behind a process's number are none of its events, if they are none.
+/// Returns why the words behind a process's number are none of its events, if so.
 #[tactic(auto, using(crate::proofs::VersionsFit::step_in_none, crate::proofs::VersionsFit::step_in_other))]
 fn why_process(version: Version, bytes: &[u8]) -> Option<Misfit>
     ensures exact { is_some result ≡ is_none (step_in version (words_of bytes.now)) }
@@ -161,7 +154,7 @@ fn why_process(version: Version, bytes: &[u8]) -> Option<Misfit>
     Some(Misfit::at(Reason::NeedsVersion2, word).before(rest))
 }
 
-/// Why the words behind a keyword are not of its form, if they are not.
+/// Returns why the words behind a keyword are not of its form, if so.
 fn why_keyword(keyword: Keyword, bytes: &[u8]) -> Option<Misfit>
     ensures exact { is_some result ≡ is_none (read_form (line_row keyword).1 (words_of bytes.now)) }
     ensures within { IfSome result (λ m. m.left ≤ length bytes.now) }
@@ -176,14 +169,14 @@ fn why_keyword(keyword: Keyword, bytes: &[u8]) -> Option<Misfit>
     }
 }
 
-/// Whether a line with this keyword can come now.
+/// Returns whether a line with this keyword can come now.
 fn has_keyword(version: Version, keyword: Keyword) -> bool
     ensures { result ≡ has_keyword version keyword }
 {
-    keyword != Keyword::Version || version == Version::Unsaid
+    keyword != Keyword::Version || version == Version::Unknown
 }
 
-/// Why a word is neither a process's number nor a keyword.
+/// Returns why a word is neither a process's number nor a keyword.
 fn first_misfit(word: &[u8]) -> Misfit
     ensures { result.left ≤ length word.now }
 {
@@ -193,7 +186,7 @@ fn first_misfit(word: &[u8]) -> Misfit
     }
 }
 
-/// Why a line that begins with this word is of no form, if it is of none.
+/// Returns why a line that begins with this word is of no form, if so.
 #[tactic(auto, using(crate::proofs::VersionsFit::form_in_process, crate::proofs::VersionsFit::form_in_other))]
 fn why_form(version: Version, word: &[u8], rest: &[u8]) -> Option<Misfit>
     requires { length word.now + length rest.now < 2 ^ 63 }
@@ -213,7 +206,7 @@ fn why_form(version: Version, word: &[u8], rest: &[u8]) -> Option<Misfit>
     Some(Misfit::at(Reason::VersionTooLate, word).before(rest))
 }
 
-/// Why the words of a line do not fit, if they do not.
+/// Returns why the words of a line do not fit, if so.
 #[tactic(auto, using(crate::proofs::LinesFit::silent, crate::proofs::LinesFit::comment, crate::proofs::LinesFit::not_printable, crate::proofs::LinesFit::by_form))]
 fn why_line(version: Version, bytes: &[u8]) -> Option<Misfit>
     requires { length bytes.now ≤ MAX_LINE }
@@ -234,8 +227,8 @@ fn why_line(version: Version, bytes: &[u8]) -> Option<Misfit>
 /// Says why a line cannot be read that comes now in such a script, and at which column.
 ///
 /// `bytes` is the line without its end. A line that can be read has no reason. A line of too many
-/// bytes is told first, then a byte that is not printable, then the first word that does not fit,
-/// and last an event that the script's version does not have. It takes no memory.
+/// bytes comes first, then a byte that is not printable, then the first word that does not fit, and
+/// last an event that the script's version does not have. It takes no memory.
 #[tactic(auto, using(crate::proofs::LinesFit::too_long))]
 pub fn why(version: Version, bytes: &[u8]) -> Option<Unreadable>
     ensures exact { is_some result ≡ is_none (read_in version bytes.now) }

@@ -2,13 +2,15 @@
 //!
 //! A form that has words is a function that reads its row; where a row does not fit, [`step`] and
 //! [`line`] say so in one place.
-ghost use Rattle.std.specs.Prelude.{◌≡◌};
+ghost use Rattle.std.specs.Prelude.{◌≡◌, IfErr, IfOk, None, Some};
+ghost use Rattle.af_base.specs.declared.events.Step.TheVariants as step;
 ghost use Rattle.std.specs.Option.{option_map};
 ghost use Rattle.scm_lines.specs.Fault.{Reads};
 ghost use Rattle.scm_lines.specs.Words.{word_in, words_of};
 ghost use Rattle.scm_lines.specs.Keywords.{privilege_of};
 ghost use Rattle.scm_lines.specs.Forms.{line_row, name, number, read_form, sockets, step_row, two, value_in, value_of};
 ghost use Rattle.scm_lines.specs.Lines.{form_of, step_of};
+ghost use Rattle.scm_lines.specs.declared.fault.LineFault.TheVariants as fault;
 ghost use Rattle.scm_lines.specs.declared.keywords.Keyword.TheVariants as keyword;
 ghost use Rattle.scm_lines.specs.declared.keywords.Verb.TheVariants as verb;
 ghost use Rattle.scm_lines.specs.declared.line.Line.TheVariants as line;
@@ -27,7 +29,7 @@ use std::alloc::Global;
 
 // ---- words
 
-/// A type of sockets, and the bytes after it.
+/// Reads a type of sockets, and returns the bytes after it.
 fn socket_type(bytes: &[u8]) -> Option<(SockType, &[u8])>
     ensures { option_map (λ found. (found.0, words_of found.1.now)) result ≡ value_in sockets (words_of bytes.now) }
 {
@@ -35,17 +37,17 @@ fn socket_type(bytes: &[u8]) -> Option<(SockType, &[u8])>
     Some((type_named(word)?, rest))
 }
 
-/// A name. Any printable word is read as a name: the step refuses a bad one.
-fn socket_name(alloc: Global, word: &[u8]) -> Result<Items<u8>, LineFault>
-    ensures { Reads (value_of name word.now) result }
+/// Reads a name, and returns the bytes after it. Any printable word is read as a name: the step
+/// refuses a bad one.
+fn name_in(bytes: &[u8]) -> Option<(&[u8], &[u8])>
+    ensures { option_map (λ found. (found.0.now, words_of found.1.now)) result
+        ≡ value_in name (words_of bytes.now) }
 {
-    if !all_printable(word) {
-        return Err(LineFault::Unreadable);
-    }
-    Ok(Items::of(word.to_vec(alloc)?))
+    let (word, rest) = first_word(bytes)?;
+    all_printable(word).then_some((word, rest))
 }
 
-/// `true` where `priv` is the only word left, `false` where none is.
+/// Returns `true` if `priv` is the only word left, and `false` if none is.
 fn privileged(bytes: &[u8]) -> Option<bool>
     ensures { result ≡ privilege_of (words_of bytes.now) }
 {
@@ -58,172 +60,227 @@ fn privileged(bytes: &[u8]) -> Option<bool>
 
 // ---- steps
 
-/// `P dup N`.
-fn dup(rest: &[u8]) -> Option<Step>
-    ensures { result ≡ read_form (step_row verb.Dup).1 (words_of rest.now) }
+/// Reads `P dup N`.
+#[inline(always)]
+pub fn dup(rest: &[u8]) -> Option<Fd>
+    ensures { option_map step.Dup result ≡ read_form (step_row verb.Dup).1 (words_of rest.now) }
 {
     let (fd, rest) = number_in(rest)?;
-    is_end(rest).then_some(Step::Dup(Fd(fd)))
+    is_end(rest).then_some(Fd(fd))
 }
 
-/// `P dup2 N N`.
-fn dup2(rest: &[u8]) -> Option<Step>
-    ensures { result ≡ read_form (step_row verb.Dup2).1 (words_of rest.now) }
+/// Reads `P dup2 N N`.
+#[inline(always)]
+pub fn dup2(rest: &[u8]) -> Option<(Fd, Fd)>
+    ensures { option_map (λ found. step.Dup2 found.0 found.1) result
+        ≡ read_form (step_row verb.Dup2).1 (words_of rest.now) }
 {
     let (from, rest) = number_in(rest)?;
     let (to, rest) = number_in(rest)?;
-    is_end(rest).then_some(Step::Dup2(Fd(from), Fd(to)))
+    is_end(rest).then_some((Fd(from), Fd(to)))
 }
 
-/// `P close N`.
-fn close(rest: &[u8]) -> Option<Step>
-    ensures { result ≡ read_form (step_row verb.Close).1 (words_of rest.now) }
+/// Reads `P close N`.
+#[inline(always)]
+pub fn close(rest: &[u8]) -> Option<Fd>
+    ensures { option_map step.Close result ≡ read_form (step_row verb.Close).1 (words_of rest.now) }
 {
     let (fd, rest) = number_in(rest)?;
-    is_end(rest).then_some(Step::Close(Fd(fd)))
+    is_end(rest).then_some(Fd(fd))
 }
 
-/// `P pair TYPE`.
-fn pair(rest: &[u8]) -> Option<Step>
-    ensures { result ≡ read_form (step_row verb.Pair).1 (words_of rest.now) }
+/// Reads `P pair TYPE`.
+#[inline(always)]
+pub fn pair(rest: &[u8]) -> Option<SockType>
+    ensures { option_map step.Pair result ≡ read_form (step_row verb.Pair).1 (words_of rest.now) }
 {
     let (sockets, rest) = socket_type(rest)?;
-    is_end(rest).then_some(Step::Pair(sockets))
+    is_end(rest).then_some(sockets)
 }
 
-/// `P socket TYPE`.
-fn socket(rest: &[u8]) -> Option<Step>
-    ensures { result ≡ read_form (step_row verb.Socket).1 (words_of rest.now) }
+/// Reads `P socket TYPE`.
+#[inline(always)]
+pub fn socket(rest: &[u8]) -> Option<SockType>
+    ensures { option_map step.Socket result
+        ≡ read_form (step_row verb.Socket).1 (words_of rest.now) }
 {
     let (sockets, rest) = socket_type(rest)?;
-    is_end(rest).then_some(Step::Socket(sockets))
+    is_end(rest).then_some(sockets)
 }
 
-/// `P bind N NAME`.
-fn bind(alloc: Global, rest: &[u8]) -> Result<Step, LineFault>
-    ensures { Reads (read_form (step_row verb.Bind).1 (words_of rest.now)) result }
+/// Reads `P bind N NAME`.
+#[inline(always)]
+pub fn bind(rest: &[u8]) -> Option<(Fd, &[u8])>
+    ensures { option_map (λ found. step.Bind found.0 found.1.now) result
+        ≡ read_form (step_row verb.Bind).1 (words_of rest.now) }
 {
-    let (on, rest) = number_in(rest).ok_or(LineFault::Unreadable)?;
-    let (word, rest) = first_word(rest).ok_or(LineFault::Unreadable)?;
-    let name = socket_name(alloc, word)?;
-    if is_end(rest) {
-        Ok(Step::Bind { on: Fd(on), name })
-    } else {
-        Err(LineFault::Unreadable)
-    }
+    let (on, rest) = number_in(rest)?;
+    let (name, rest) = name_in(rest)?;
+    is_end(rest).then_some((Fd(on), name))
 }
 
-/// `P listen N N`.
-fn listen(rest: &[u8]) -> Option<Step>
-    ensures { result ≡ read_form (step_row verb.Listen).1 (words_of rest.now) }
+/// Reads `P listen N N`.
+#[inline(always)]
+pub fn listen(rest: &[u8]) -> Option<(Fd, u32)>
+    ensures { option_map (λ found. step.Listen found.0 found.1) result
+        ≡ read_form (step_row verb.Listen).1 (words_of rest.now) }
 {
     let (on, rest) = number_in(rest)?;
     let (backlog, rest) = number_in(rest)?;
-    is_end(rest).then_some(Step::Listen {
-        on: Fd(on),
-        backlog,
-    })
+    is_end(rest).then_some((Fd(on), backlog))
 }
 
-/// `P connect N NAME`.
-fn connect(alloc: Global, rest: &[u8]) -> Result<Step, LineFault>
-    ensures { Reads (read_form (step_row verb.Connect).1 (words_of rest.now)) result }
+/// Reads `P connect N NAME`.
+#[inline(always)]
+pub fn connect(rest: &[u8]) -> Option<(Fd, &[u8])>
+    ensures { option_map (λ found. step.Connect found.0 found.1.now) result
+        ≡ read_form (step_row verb.Connect).1 (words_of rest.now) }
 {
-    let (on, rest) = number_in(rest).ok_or(LineFault::Unreadable)?;
-    let (word, rest) = first_word(rest).ok_or(LineFault::Unreadable)?;
-    let name = socket_name(alloc, word)?;
-    if is_end(rest) {
-        Ok(Step::Connect { on: Fd(on), name })
-    } else {
-        Err(LineFault::Unreadable)
-    }
+    let (on, rest) = number_in(rest)?;
+    let (name, rest) = name_in(rest)?;
+    is_end(rest).then_some((Fd(on), name))
 }
 
-/// `P accept N`.
-fn accept(rest: &[u8]) -> Option<Step>
-    ensures { result ≡ read_form (step_row verb.Accept).1 (words_of rest.now) }
+/// Reads `P accept N`.
+#[inline(always)]
+pub fn accept(rest: &[u8]) -> Option<Fd>
+    ensures { option_map step.Accept result
+        ≡ read_form (step_row verb.Accept).1 (words_of rest.now) }
 {
     let (fd, rest) = number_in(rest)?;
-    is_end(rest).then_some(Step::Accept(Fd(fd)))
+    is_end(rest).then_some(Fd(fd))
 }
 
-/// `P send N BYTES ITEMS..`.
-fn send(alloc: Global, rest: &[u8]) -> Result<Step, LineFault>
-    ensures { Reads (read_form (step_row verb.Send).1 (words_of rest.now)) result }
+/// Reads `P send N BYTES ITEMS..`.
+#[inline(always)]
+pub fn send(alloc: Global, rest: &[u8]) -> Result<(Fd, Items<u8>, Items<Fd>), LineFault>
+    ensures ok { IfOk result (λ found. read_form (step_row verb.Send).1 (words_of rest.now)
+        ≡ Some (step.Send found.0 found.1 found.2)) }
+    ensures err { IfErr result (λ f. f ≡ fault.Unreadable
+        → read_form (step_row verb.Send).1 (words_of rest.now) ≡ None) }
 {
     let (on, rest) = number_in(rest).ok_or(LineFault::Unreadable)?;
     let (word, rest) = first_word(rest).ok_or(LineFault::Unreadable)?;
     let bytes = payload(alloc, word)?;
     let attach = attached(alloc, rest)?;
-    Ok(Step::Send {
-        on: Fd(on),
-        bytes,
-        attach,
-    })
+    Ok((Fd(on), bytes, attach))
 }
 
-/// `P recv N N N`.
-fn recv(rest: &[u8]) -> Option<Step>
-    ensures { result ≡ read_form (step_row verb.Recv).1 (words_of rest.now) }
+/// Reads `P recv N N N`.
+#[inline(always)]
+pub fn recv(rest: &[u8]) -> Option<(Fd, u32, u32)>
+    ensures { option_map (λ found. step.Recv found.0 found.1 found.2) result
+        ≡ read_form (step_row verb.Recv).1 (words_of rest.now) }
 {
     let (on, rest) = number_in(rest)?;
     let (max_bytes, rest) = number_in(rest)?;
     let (max_fds, rest) = number_in(rest)?;
-    is_end(rest).then_some(Step::Recv {
-        on: Fd(on),
-        max_bytes,
-        max_fds,
-    })
+    is_end(rest).then_some((Fd(on), max_bytes, max_fds))
 }
 
-/// `P peek N N N`.
-fn peek(rest: &[u8]) -> Option<Step>
-    ensures { result ≡ read_form (step_row verb.Peek).1 (words_of rest.now) }
+/// Reads `P peek N N N`.
+#[inline(always)]
+pub fn peek(rest: &[u8]) -> Option<(Fd, u32, u32)>
+    ensures { option_map (λ found. step.Peek found.0 found.1 found.2) result
+        ≡ read_form (step_row verb.Peek).1 (words_of rest.now) }
 {
     let (on, rest) = number_in(rest)?;
     let (max_bytes, rest) = number_in(rest)?;
     let (max_fds, rest) = number_in(rest)?;
-    is_end(rest).then_some(Step::Peek {
-        on: Fd(on),
-        max_bytes,
-        max_fds,
-    })
+    is_end(rest).then_some((Fd(on), max_bytes, max_fds))
 }
 
-/// `P limit N`.
-fn limit(rest: &[u8]) -> Option<Step>
-    ensures { result ≡ read_form (step_row verb.Limit).1 (words_of rest.now) }
+/// Reads `P limit N`.
+#[inline(always)]
+pub fn limit(rest: &[u8]) -> Option<u32>
+    ensures { option_map step.Limit result ≡ read_form (step_row verb.Limit).1 (words_of rest.now) }
 {
     let (nofile, rest) = number_in(rest)?;
-    is_end(rest).then_some(Step::Limit(nofile))
+    is_end(rest).then_some(nofile)
 }
 
-/// The step that this verb begins.
+// ---- a step as a value
+
+/// Reads the step `bind`, with a name of its own.
+fn bind_step(alloc: Global, rest: &[u8]) -> Result<Step, LineFault>
+    ensures { Reads (read_form (step_row verb.Bind).1 (words_of rest.now)) result }
+{
+    let Some((on, name)) = bind(rest) else {
+        return Err(LineFault::Unreadable);
+    };
+    let name = Items::of(name.to_vec(alloc)?);
+    Ok(Step::Bind { on, name })
+}
+
+/// Reads the step `connect`, with a name of its own.
+fn connect_step(alloc: Global, rest: &[u8]) -> Result<Step, LineFault>
+    ensures { Reads (read_form (step_row verb.Connect).1 (words_of rest.now)) result }
+{
+    let Some((on, name)) = connect(rest) else {
+        return Err(LineFault::Unreadable);
+    };
+    let name = Items::of(name.to_vec(alloc)?);
+    Ok(Step::Connect { on, name })
+}
+
+/// Reads the step `send`.
+fn send_step(alloc: Global, rest: &[u8]) -> Result<Step, LineFault>
+    ensures { Reads (read_form (step_row verb.Send).1 (words_of rest.now)) result }
+{
+    let (on, bytes, attach) = send(alloc, rest)?;
+    Ok(Step::Send { on, bytes, attach })
+}
+
+/// Reads the step `recv`.
+fn recv_step(rest: &[u8]) -> Option<Step>
+    ensures { result ≡ read_form (step_row verb.Recv).1 (words_of rest.now) }
+{
+    let (on, max_bytes, max_fds) = recv(rest)?;
+    Some(Step::Recv {
+        on,
+        max_bytes,
+        max_fds,
+    })
+}
+
+/// Reads the step `peek`.
+fn peek_step(rest: &[u8]) -> Option<Step>
+    ensures { result ≡ read_form (step_row verb.Peek).1 (words_of rest.now) }
+{
+    let (on, max_bytes, max_fds) = peek(rest)?;
+    Some(Step::Peek {
+        on,
+        max_bytes,
+        max_fds,
+    })
+}
+
+/// Reads the step of this verb.
 fn step(alloc: Global, verb: Verb, rest: &[u8]) -> Result<Step, LineFault>
     ensures { Reads (read_form (step_row verb).1 (words_of rest.now)) result }
 {
     let read = match verb {
         Verb::Open => is_end(rest).then_some(Step::Open),
-        Verb::Dup => dup(rest),
-        Verb::Dup2 => dup2(rest),
-        Verb::Close => close(rest),
+        Verb::Dup => dup(rest).map(Step::Dup),
+        Verb::Dup2 => dup2(rest).map(|(from, to)| Step::Dup2(from, to)),
+        Verb::Close => close(rest).map(Step::Close),
         Verb::Fork => is_end(rest).then_some(Step::Fork),
         Verb::Exit => is_end(rest).then_some(Step::Exit),
-        Verb::Pair => pair(rest),
-        Verb::Socket => socket(rest),
-        Verb::Bind => return bind(alloc, rest),
-        Verb::Listen => listen(rest),
-        Verb::Connect => return connect(alloc, rest),
-        Verb::Accept => accept(rest),
-        Verb::Send => return send(alloc, rest),
-        Verb::Recv => recv(rest),
-        Verb::Peek => peek(rest),
-        Verb::Limit => limit(rest),
+        Verb::Pair => pair(rest).map(Step::Pair),
+        Verb::Socket => socket(rest).map(Step::Socket),
+        Verb::Bind => return bind_step(alloc, rest),
+        Verb::Listen => listen(rest).map(|(on, backlog)| Step::Listen { on, backlog }),
+        Verb::Connect => return connect_step(alloc, rest),
+        Verb::Accept => accept(rest).map(Step::Accept),
+        Verb::Send => return send_step(alloc, rest),
+        Verb::Recv => recv_step(rest),
+        Verb::Peek => peek_step(rest),
+        Verb::Limit => limit(rest).map(Step::Limit),
     };
     read.ok_or(LineFault::Unreadable)
 }
 
-/// What a process does.
+/// Reads the step of a process.
 #[tactic(auto, unfolding(crate::specs::Lines::step_of))]
 fn process(alloc: Global, bytes: &[u8]) -> Result<Step, LineFault>
     ensures { Reads (step_of (words_of bytes.now)) result }
@@ -235,7 +292,7 @@ fn process(alloc: Global, bytes: &[u8]) -> Result<Step, LineFault>
 
 // ---- lines that no process's number begins
 
-/// `spawn N N` and `spawn N N priv`.
+/// Reads `spawn N N` and `spawn N N priv`.
 fn spawn(rest: &[u8]) -> Option<Event>
     ensures { option_map line.Event result ≡ read_form (line_row keyword.Spawn).1 (words_of rest.now) }
 {
@@ -249,7 +306,7 @@ fn spawn(rest: &[u8]) -> Option<Event>
     })
 }
 
-/// `slice N`.
+/// Reads `slice N`.
 fn slice(rest: &[u8]) -> Option<Event>
     ensures { option_map line.Event result ≡ read_form (line_row keyword.Slice).1 (words_of rest.now) }
 {
@@ -257,7 +314,7 @@ fn slice(rest: &[u8]) -> Option<Event>
     is_end(rest).then_some(Event::Slice(budget))
 }
 
-/// `version 2`: no other version is to be named.
+/// Reads `version 2`: no other version may be named.
 fn version(rest: &[u8]) -> Option<Line>
     ensures { result ≡ read_form (line_row keyword.Version).1 (words_of rest.now) }
 {
@@ -267,7 +324,7 @@ fn version(rest: &[u8]) -> Option<Line>
     }
 }
 
-/// What a line says that this keyword begins.
+/// Reads a line that begins with this keyword.
 fn line(keyword: Keyword, rest: &[u8]) -> Result<Line, LineFault>
     ensures { Reads (read_form (line_row keyword).1 (words_of rest.now)) result }
 {
@@ -284,9 +341,9 @@ fn line(keyword: Keyword, rest: &[u8]) -> Result<Line, LineFault>
     read.ok_or(LineFault::Unreadable)
 }
 
-/// What a line says that begins with this word.
+/// Reads a line that begins with this word.
 #[tactic(auto, unfolding(crate::specs::Lines::form_of))]
-pub fn form(alloc: Global, word: &[u8], rest: &[u8]) -> Result<Line, LineFault>
+pub(crate) fn form(alloc: Global, word: &[u8], rest: &[u8]) -> Result<Line, LineFault>
     ensures { Reads (form_of word.now (words_of rest.now)) result }
 {
     // Most lines are a process's, so that is asked first.

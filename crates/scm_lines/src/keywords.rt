@@ -5,7 +5,7 @@ ghost use Rattle.scm_lines.specs.Forms.{keywords, line_row, named, step_row, ver
 
 use af_base::events::SockType;
 
-/// What a line begins with that is no process's.
+/// The first word of a line without a process.
 #[derive(Clone, Copy, Debug, PartialEq, Eq)]
 pub enum Keyword {
     /// `spawn`
@@ -26,7 +26,7 @@ pub enum Keyword {
     Version,
 }
 
-/// What a process does, by the word after its number.
+/// The step of a process, by the word after its number.
 #[derive(Clone, Copy, Debug, PartialEq, Eq)]
 pub enum Verb {
     /// `open`
@@ -63,7 +63,7 @@ pub enum Verb {
     Limit,
 }
 
-/// What a line's first word stands for, if it is a keyword.
+/// Returns the keyword of a line's first word, if it is one.
 pub fn keyword_named(word: &[u8]) -> Option<Keyword>
     ensures { result ≡ named line_row keywords word.now }
 {
@@ -80,7 +80,8 @@ pub fn keyword_named(word: &[u8]) -> Option<Keyword>
     })
 }
 
-/// What the word after a process's number stands for. Those that scripts have most come first.
+/// Returns the verb of the word after a process's number. The most frequent ones of scripts come
+/// first.
 #[tactic(auto, using(crate::proofs::KeywordLemmas::no_five, crate::proofs::KeywordLemmas::no_six, crate::proofs::KeywordLemmas::no_seven, crate::proofs::KeywordLemmas::no_eight))]
 pub fn verb_named(word: &[u8]) -> Option<Verb>
     ensures { result ≡ named step_row verbs word.now }
@@ -106,7 +107,7 @@ pub fn verb_named(word: &[u8]) -> Option<Verb>
     })
 }
 
-/// The type of sockets that a word names.
+/// Returns the type of sockets that a word names.
 pub fn type_named(word: &[u8]) -> Option<SockType>
     ensures { result ≡ type_of word.now }
 {

@@ -1,4 +1,4 @@
-//! What is read of a line is what the table of forms says, each way; and what version 1 has.
+//! A line is read just as the table of forms says; and the lines of version 1.
 ghost use Rattle.std.specs.Prelude.{◌≡◌, List, ℕ, Some, true};
 ghost use Rattle.scm_lines.specs.Lines.{line_of};
 ghost use Rattle.scm_lines.specs.Says.{IsLine};
@@ -7,12 +7,12 @@ ghost use Rattle.scm_lines.specs.declared.line.Line.{Line};
 ghost use Rattle.scm_lines.specs.declared.version.Version.{Version};
 ghost use Rattle.scm_lines.specs.declared.version.Version.TheVariants as version;
 
-/// What is read of a line is what the table says.
+/// A line that is read is one that the table says.
 pub fn what_is_read_is_said()
     ensures { (bytes : List ℕ) (said : Line) → line_of bytes ≡ Some said → IsLine bytes said }
 {}
 
-/// What the table says is read.
+/// A line that the table says is read.
 pub fn what_is_said_is_read()
     ensures { (bytes : List ℕ) (said : Line) → IsLine bytes said → line_of bytes ≡ Some said }
 {}

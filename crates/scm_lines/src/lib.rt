@@ -10,7 +10,7 @@
 mod attached;
 mod explain;
 mod fault;
-mod forms;
+pub mod forms;
 mod keywords;
 pub mod laws;
 mod line;
@@ -23,7 +23,8 @@ mod words;
 
 pub use explain::why;
 pub use fault::LineFault;
+pub use keywords::Verb;
 pub use line::{Line, MAX_LINE, Report, line_of};
 pub use reason::{Reason, Unreadable};
-pub use version::{Version, read_in};
-pub use words::only_word;
+pub use version::{Version, read_in, verb_in};
+pub use words::{is_end, only_word};

@@ -13,10 +13,10 @@ use std::alloc::Global;
 /// The most bytes of a line, without its end.
 pub const MAX_LINE: usize = 262_144;
 
-/// What may be asked about the state at a line. A report is no event, and changes nothing.
+/// A report about the state at a line. It is no event, and changes nothing.
 #[derive(Clone, Copy, Debug, PartialEq, Eq)]
 pub enum Report {
-    /// What each live file is, what holds it, and what it has to give.
+    /// Each live file: its kind, its holders, and its contents.
     Table,
     /// How many descriptors of each user are in flight.
     Totals,
@@ -25,7 +25,7 @@ pub enum Report {
     Check,
 }
 
-/// What a line says.
+/// The meaning of a line.
 #[derive(Debug, PartialEq, Eq, Drop)]
 pub enum Line {
     /// Nothing: it has no words, or is a comment.
@@ -38,19 +38,19 @@ pub enum Line {
     Report(Report),
 }
 
-/// Whether a line with this first word is a comment.
+/// Returns whether a line with this first word is a comment.
 pub fn begins_comment(word: &[u8]) -> bool
     ensures { result ≡ begins_comment word.now }
 {
     matches!(word, [b'#', ..])
 }
 
-/// What a line says in some version; [`crate::version::read_in`] asks the version too.
+/// Reads a line of any version; [`crate::version::read_in`] checks the version too.
 ///
-/// `bytes` is the line without its end: the caller takes off the LF, and one CR before it. A line
-/// of no form is [`LineFault::Unreadable`], and so is one of more than [`MAX_LINE`] bytes, even a
-/// comment. Only `send` takes memory, for its bytes and its descriptors, and `bind` and `connect`,
-/// for a name; where it is refused, the call answers [`LineFault::Memory`].
+/// `bytes` is the line without its end: the caller removes the LF, and one CR before it. Answers
+/// [`LineFault::Unreadable`] for a line of no form, and for one of more than [`MAX_LINE`] bytes,
+/// even a comment. Only `send` takes memory, for its bytes and its descriptors, and `bind` and
+/// `connect`, for a name; if it is refused, the answer is [`LineFault::Memory`].
 #[tactic(auto, using(crate::proofs::LineLemmas::line_by_words))]
 pub fn line_of(alloc: Global, bytes: &[u8]) -> Result<Line, LineFault>
     ensures { Reads (line_of bytes.now) result }

@@ -1,4 +1,4 @@
-//! What does not fit in words that cannot be read.
+//! The reasons why words cannot be read.
 ghost use Rattle.std.specs.Prelude.{◌≡◌, ◌≤◌, ◌<◌, ◌+◌, ◌^◌, ◌∷◌, IfSome, length, not, position, is_none, is_some};
 ghost use Rattle.scm_lines.specs.Attached.{attached_of};
 ghost use Rattle.scm_lines.specs.Fitting.{digits_reason, number_reason};
@@ -15,17 +15,17 @@ use crate::payload::{MAX_PAYLOAD, first_byte};
 use crate::reason::Reason;
 use crate::words::{first_word, is_printable};
 
-/// What does not fit in some bytes, and how many of them stand there and behind it.
+/// A reason in some bytes, and how many of them are there and behind it.
 #[derive(Clone, Copy)]
 pub struct Misfit {
-    /// What does not fit.
+    /// The reason.
     pub reason: Reason,
     /// How many bytes there are from the first that does not fit.
     pub left: usize,
 }
 
 impl Misfit {
-    /// At the first of these bytes.
+    /// Makes a misfit at the first of these bytes.
     pub fn at(reason: Reason, bytes: &[u8]) -> Misfit
         ensures reason { result.reason ≡ reason }
         ensures left { result.left ≡ length bytes.now }
@@ -36,7 +36,7 @@ impl Misfit {
         }
     }
 
-    /// The same, with more bytes behind those that were looked at.
+    /// Returns the same, with more bytes behind those that were looked at.
     pub fn before(self, rest: &[u8]) -> Misfit
         requires { self.left + length rest.now < 2 ^ 64 }
         ensures reason { result.reason ≡ self.reason }
@@ -49,7 +49,7 @@ impl Misfit {
     }
 }
 
-/// Where the first byte stands that is not printable.
+/// Returns the position of the first byte that is not printable.
 fn unprintable_at(bytes: &[u8]) -> Option<usize>
     ensures value { result ≡ position (λ b. not (is_printable b)) bytes.now }
     ensures within { IfSome result (λ i. i < length bytes.now) }
@@ -57,7 +57,7 @@ fn unprintable_at(bytes: &[u8]) -> Option<usize>
     bytes.iter().position(|b| !is_printable(*b))
 }
 
-/// The first byte that is not printable, if one is not.
+/// Returns the first byte that is not printable, if there is one.
 pub fn unprintable(bytes: &[u8]) -> Option<Misfit>
     ensures reason { IfSome result (λ m. m.reason ≡ reason.NotPrintable) }
     ensures exact { is_some result ≡ not (all_printable bytes.now) }
@@ -68,7 +68,7 @@ pub fn unprintable(bytes: &[u8]) -> Option<Misfit>
     Some(Misfit::at(Reason::NotPrintable, rest))
 }
 
-/// Where the first byte stands that is no digit.
+/// Returns the position of the first byte that is no digit.
 fn other_at(word: &[u8]) -> Option<usize>
     ensures value { result ≡ position (λ b. not (is_digit b)) word.now }
     ensures within { IfSome result (λ i. i < length word.now) }
@@ -76,7 +76,7 @@ fn other_at(word: &[u8]) -> Option<usize>
     word.iter().position(|b| !b.is_ascii_digit())
 }
 
-/// Why digits that are no number are none.
+/// Returns why digits are no number.
 fn digits_reason(digits: &[u8]) -> Reason
     ensures { result ≡ digits_reason digits.now }
 {
@@ -87,7 +87,7 @@ fn digits_reason(digits: &[u8]) -> Reason
     }
 }
 
-/// Why a word is no number.
+/// Returns why a word is no number.
 pub fn number_misfit(word: &[u8]) -> Misfit
     ensures reason { result.reason ≡ number_reason word.now }
     ensures within { result.left ≤ length word.now }
@@ -99,7 +99,7 @@ pub fn number_misfit(word: &[u8]) -> Misfit
     Misfit::at(digits_reason(word), word)
 }
 
-/// Why a word is not read as a number, if it is not.
+/// Returns why a word is not read as a number, if so.
 pub fn why_number(word: &[u8]) -> Option<Misfit>
     ensures exact { is_some result ≡ is_none (number_of word.now) }
     ensures reason { IfSome result (λ m. m.reason ≡ number_reason word.now) }
@@ -111,7 +111,7 @@ pub fn why_number(word: &[u8]) -> Option<Misfit>
     }
 }
 
-/// Why a word is no type of sockets, if it is none.
+/// Returns why a word is no type of sockets, if so.
 pub fn why_type(word: &[u8]) -> Option<Misfit>
     ensures exact { is_some result ≡ is_none (type_of word.now) }
     ensures within { IfSome result (λ m. m.left ≤ length word.now) }
@@ -122,7 +122,7 @@ pub fn why_type(word: &[u8]) -> Option<Misfit>
     }
 }
 
-/// Why the digits behind a `*` are no count of letters, if they are none.
+/// Returns why the digits behind a `*` are no count of letters, if so.
 fn why_letters(digits: &[u8]) -> Option<Misfit>
     ensures exact { is_some result ≡ is_none (payload_of (42 ∷ digits.now)) }
     ensures within { IfSome result (λ m. m.left ≤ length digits.now) }
@@ -136,7 +136,7 @@ fn why_letters(digits: &[u8]) -> Option<Misfit>
     }
 }
 
-/// Why no byte is spelled at the front of a word.
+/// Returns why no byte is spelled at the front of a word.
 fn byte_misfit(word: &[u8]) -> Misfit
     ensures { result.left ≡ length word.now }
 {
@@ -146,7 +146,7 @@ fn byte_misfit(word: &[u8]) -> Misfit
     }
 }
 
-/// Why characters spell no bytes of a message, if they spell none.
+/// Returns why characters spell no bytes of a message, if so.
 #[tactic(auto, using(crate::proofs::FittingLemmas::counted_byte))]
 fn why_spelled(word: &[u8]) -> Option<Misfit>
     ensures exact { is_some result ≡ is_none (at_most 65537 (unescape word.now)) }
@@ -167,7 +167,7 @@ fn why_spelled(word: &[u8]) -> Option<Misfit>
     None
 }
 
-/// Why a word stands for no bytes of a message, if it stands for none.
+/// Returns why a word has no bytes of a message, if so.
 pub fn why_payload(word: &[u8]) -> Option<Misfit>
     ensures exact { is_some result ≡ is_none (payload_of word.now) }
     ensures within { IfSome result (λ m. m.left ≤ length word.now) }
@@ -179,7 +179,7 @@ pub fn why_payload(word: &[u8]) -> Option<Misfit>
     }
 }
 
-/// Why a word is no item.
+/// Returns why a word is no item.
 fn item_misfit(word: &[u8]) -> Misfit
     ensures { result.left ≤ length word.now }
 {
@@ -197,7 +197,7 @@ fn item_misfit(word: &[u8]) -> Misfit
     }
 }
 
-/// Why the words that are left are no items, if they are none.
+/// Returns why the words that are left are no items, if so.
 #[tactic(auto, using(crate::proofs::FittingLemmas::counted_item, crate::proofs::FittingLemmas::counted_over))]
 pub fn why_attached(bytes: &[u8]) -> Option<Misfit>
     ensures exact { is_some result ≡ is_none (attached_of (words_of bytes.now)) }

@@ -4,12 +4,12 @@ ghost use Rattle.std.specs.Option.{option_map};
 ghost use Rattle.scm_lines.specs.Numbers.{number_of, number_in};
 ghost use Rattle.scm_lines.specs.Words.{words_of};
 
-use crate::words::first_word;
+use crate::words::{ends_word, first_word, without_space};
 
 /// The most digits of a number.
 const MAX_DIGITS: usize = 10;
 
-/// The number that a word stands for.
+/// Reads the number of a word.
 pub fn number(word: &[u8]) -> Option<u32>
     ensures { result ≡ number_of word.now }
 {
@@ -30,9 +30,25 @@ pub fn number(word: &[u8]) -> Option<u32>
     u32::try_from(value).ok()
 }
 
-/// The first word as a number, and the bytes after it.
+/// Reads the first word as a number, and returns the bytes after it.
 #[inline(always)]
 pub fn number_in(bytes: &[u8]) -> Option<(u32, &[u8])>
+    ensures { option_map (λ found. (found.0, words_of found.1.now)) result
+        ≡ number_in (words_of bytes.now) }
+{
+    // Most are one digit, behind one space or at the front.
+    if let [digit @ b'0'..=b'9', rest @ ..] = without_space(bytes)
+        && ends_word(rest)
+    {
+        return Some((u32::from(*digit - b'0'), rest));
+    }
+    any_number_in(bytes)
+}
+
+/// Reads the same of any bytes. It is a function of its own, so that a number of one digit costs
+/// little.
+#[inline(never)]
+fn any_number_in(bytes: &[u8]) -> Option<(u32, &[u8])>
     ensures { option_map (λ found. (found.0, words_of found.1.now)) result
         ≡ number_in (words_of bytes.now) }
 {

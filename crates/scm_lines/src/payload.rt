@@ -8,18 +8,18 @@ use crate::numbers::number;
 use af_base::items::Items;
 use std::alloc::Global;
 
-/// The most bytes that a word stands for: one more than a message may have, so that a script can
-/// ask for a message that is too long.
+/// The most bytes of a word: one more than a message may have, so that a script can ask for a
+/// message that is too long.
 pub const MAX_PAYLOAD: usize = 65_537;
 
-/// A letter, a digit, `_`, `-` or `.`: it stands for itself.
+/// Returns whether it is a letter, a digit, `_`, `-` or `.`, which means itself.
 fn is_plain(b: u8) -> bool
     ensures { result ≡ is_plain b }
 {
     b.is_ascii_alphanumeric() || matches!(b, b'_' | b'-' | b'.')
 }
 
-/// The value of a hexadecimal digit, in either case.
+/// Returns the value of a hexadecimal digit, in either case.
 fn hex_value(b: u8) -> Option<u8>
     ensures { result ≡ hex_value b }
 {
@@ -31,7 +31,7 @@ fn hex_value(b: u8) -> Option<u8>
     }
 }
 
-/// The first byte that a word stands for, and the characters after those that spell it.
+/// Reads the first byte of a word, and returns the characters after those that spell it.
 #[inline(always)]
 pub fn first_byte(word: &[u8]) -> Option<(u8, &[u8])>
     ensures some { IfSome result (λ found.
@@ -50,7 +50,7 @@ pub fn first_byte(word: &[u8]) -> Option<(u8, &[u8])>
     }
 }
 
-/// The bytes that a word's characters stand for, in a vector that has room for as many as the word
+/// Reads the bytes of a word's characters, into a vector with room for as many bytes as the word
 /// has characters.
 #[inline(always)]
 #[tactic(auto, using(crate::proofs::PayloadLemmas::bytes_before_more))]
@@ -67,7 +67,7 @@ fn unescaped(alloc: Global, word: &[u8]) -> Result<Items<u8>, LineFault>
     Ok(Items::of(bytes))
 }
 
-/// As many letters x as the digits behind a `*` say.
+/// Makes as many letters x as the digits behind a `*` say.
 fn letters(alloc: Global, digits: &[u8]) -> Result<Items<u8>, LineFault>
     ensures { Reads (payload_of (42 ∷ digits.now)) result }
 {
@@ -78,7 +78,7 @@ fn letters(alloc: Global, digits: &[u8]) -> Result<Items<u8>, LineFault>
     Ok(Items::of(vec![in alloc; b'x'; count]?))
 }
 
-/// The bytes that a word stands for: `*` and how many letters x, or the bytes by their characters.
+/// Reads the bytes of a word: `*` and how many letters x, or the bytes by their characters.
 #[inline(always)]
 pub fn payload(alloc: Global, word: &[u8]) -> Result<Items<u8>, LineFault>
     ensures { Reads (payload_of word.now) result }

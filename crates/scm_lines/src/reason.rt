@@ -2,7 +2,7 @@
 
 use thiserror::Error;
 
-/// What does not fit in a line that cannot be read.
+/// The reason why a line cannot be read.
 #[derive(Clone, Copy, Debug, PartialEq, Eq, Error)]
 pub enum Reason {
     /// The line has too many bytes.
@@ -35,22 +35,22 @@ pub enum Reason {
     /// A type of sockets is one of two words.
     #[error("a type is seqpacket or stream")]
     UnknownType,
-    /// Only one word may stand behind the numbers of `spawn`.
+    /// Only one word may follow the numbers of `spawn`.
     #[error("only priv can stand here")]
     NotPriv,
-    /// A character that stands for no byte of a message.
+    /// A character that has no meaning in BYTES.
     #[error("BYTES have letters, digits, _ - . and % with two hexadecimal digits")]
     NotInBytes,
     /// A `%` without two hexadecimal digits behind it.
     #[error("% needs two hexadecimal digits")]
     NotHexadecimal,
-    /// The word stands for too many bytes.
+    /// The word has too many bytes.
     #[error("BYTES are at most 65537 bytes")]
     BytesTooLong,
     /// A count of copies is 0 or too large.
     #[error("a count is from 1 to 1024")]
     CountOutOfRange,
-    /// The items up to this one stand for too many descriptors.
+    /// The items up to this one have too many descriptors.
     #[error("the items of a line are at most 1024 descriptors")]
     TooManyDescriptors,
     /// The script is of version 1, which has no such event.
@@ -59,7 +59,7 @@ pub enum Reason {
     /// No version has this name.
     #[error("the only version to name is 2")]
     UnknownVersion,
-    /// Only silent lines can stand before `version 2`.
+    /// Only silent lines may precede `version 2`.
     #[error("only comments and empty lines can stand before `version 2`")]
     VersionTooLate,
 }
@@ -71,6 +71,6 @@ pub struct Unreadable {
     /// The column of the first byte that does not fit, counted from 1. A missing word has the
     /// column behind the line's last byte.
     pub column: usize,
-    /// What does not fit there.
+    /// The reason there.
     pub reason: Reason,
 }

@@ -2,20 +2,31 @@
 //!
 //! A script is of version 2 where its first line that is not silent is `version 2`. Then it may have
 //! `peek` and `limit` besides all lines of version 1.
-ghost use Rattle.std.specs.Prelude.{◌≡◌};
+ghost use Rattle.std.specs.Prelude.{◌≡◌, IfSome, if◌then◌else◌};
+ghost use Rattle.std.specs.Option.{option_map};
+ghost use Rattle.af_base.specs.declared.events.Event.TheVariants as event;
 ghost use Rattle.scm_lines.specs.Fault.{Reads};
-ghost use Rattle.scm_lines.specs.Versions.{has_line, is_later, read_in, version_after};
+ghost use Rattle.scm_lines.specs.Fitting.{has_verb};
+ghost use Rattle.scm_lines.specs.Forms.{read_form, step_row};
+ghost use Rattle.scm_lines.specs.Versions.{has_line, is_later, is_unknown, read_in, version_after};
+ghost use Rattle.scm_lines.specs.Words.{words_of};
+ghost use Rattle.scm_lines.specs.declared.line.Line.TheVariants as line;
+ghost use Rattle.scm_lines.specs.declared.version.Version.TheVariants as version;
 
 use crate::fault::LineFault;
-use crate::line::{Line, line_of};
+use crate::keywords::{Verb, verb_named};
+use crate::line::{Line, MAX_LINE, line_of};
+use crate::numbers::number_in;
+use crate::words::first_word;
 use af_base::events::{Event, Step};
+use af_base::names::Pid;
 use std::alloc::Global;
 
-/// What the lines of a script so far say of its version.
+/// The version of a script, by its lines so far.
 #[derive(Clone, Copy, Debug, PartialEq, Eq)]
 pub enum Version {
     /// Nothing: all were silent.
-    Unsaid,
+    Unknown,
     /// It is of version 1.
     First,
     /// It is of version 2.
@@ -23,40 +34,77 @@ pub enum Version {
 }
 
 impl Version {
-    /// Whether the script may have this line next.
+    /// Returns whether the script may have this line next.
     fn has(self, line: &Line) -> bool
         ensures { result ≡ has_line self line.now }
     {
         match line {
-            Line::Version2 => self == Version::Unsaid,
+            Line::Version2 => self == Version::Unknown,
             Line::Event(Event::Proc(_, step)) => !is_later(step) || self == Version::Second,
             _ => true,
         }
     }
 
-    /// What the lines say with this one.
+    /// Returns the version after this line.
     pub fn after(self, line: &Line) -> Version
         ensures { result ≡ version_after self line.now }
     {
         match line {
             Line::Silence => self,
             Line::Version2 => Version::Second,
-            _ if self == Version::Unsaid => Version::First,
+            _ => self.after_event(),
+        }
+    }
+
+    /// Returns the version after an event or a report.
+    pub fn after_event(self) -> Version
+        ensures { result ≡ (if is_unknown self then version.First else self) }
+    {
+        match self {
+            Version::Unknown => Version::First,
             _ => self,
         }
     }
 }
 
-/// Whether the step is one of version 2.
+/// Returns whether the step is one of version 2.
 fn is_later(step: &Step) -> bool
     ensures { result ≡ is_later step.now }
 {
     matches!(step, Step::Peek { .. } | Step::Limit(_))
 }
 
-/// What a line says that comes now in such a script. Besides a line that [`line_of`] cannot read,
-/// one that the script may not have now is [`LineFault::Unreadable`]. It takes memory as
-/// [`line_of`] does.
+/// Returns whether steps of this verb can come now.
+pub fn has_verb(version: Version, verb: Verb) -> bool
+    ensures { result ≡ has_verb version verb }
+{
+    !matches!(verb, Verb::Peek | Verb::Limit) || version == Version::Second
+}
+
+/// Returns the process and the verb that a process's line begins with, and the bytes after them.
+/// `None` says that [`read_in`] has to read the line.
+#[inline(always)]
+pub fn verb_in(version: Version, bytes: &[u8]) -> Option<(Pid, Verb, &[u8])>
+    ensures { IfSome result (λ found. read_in version bytes.now
+        ≡ option_map (λ does. line.Event (event.Proc found.0 does))
+        (read_form (step_row found.1).1 (words_of found.2.now))) }
+{
+    // What begins with no digit is a keyword's line, as a rule.
+    if bytes.len() > MAX_LINE || !matches!(bytes, [b'0'..=b'9', ..]) {
+        return None;
+    }
+    let (pid, rest) = number_in(bytes)?;
+    let (word, rest) = first_word(rest)?;
+    let verb = verb_named(word)?;
+    if has_verb(version, verb) {
+        Some((Pid(pid), verb, rest))
+    } else {
+        None
+    }
+}
+
+/// Reads the next line of such a script. Besides a line that [`line_of`] cannot read, one that the
+/// script may not have now is [`LineFault::Unreadable`]. Takes memory as [`line_of`] does.
 pub fn read_in(alloc: Global, version: Version, bytes: &[u8]) -> Result<Line, LineFault>
     ensures { Reads (read_in version bytes.now) result }
 {

@@ -3,14 +3,27 @@ ghost use Rattle.std.specs.Prelude.{◌≡◌, ◌∷◌, ◌≤◌, ◌<◌, �
 ghost use Rattle.std.specs.Option.{option_map};
 ghost use Rattle.scm_lines.specs.Words.{all_printable, is_blank, is_printable, words_of, ends_word, no_words, only_of, StartsWord};
 
-/// A space or a tab.
+/// Returns whether the byte is a space or a tab.
+#[inline(always)]
 fn is_blank(b: u8) -> bool
     ensures { result ≡ is_blank b }
 {
     b == b' ' || b == b'\t'
 }
 
-/// The bytes from the first that is no blank.
+/// Returns the bytes behind one space, or all of them if they begin with no space.
+#[inline(always)]
+pub fn without_space(bytes: &[u8]) -> &[u8]
+    ensures { words_of result.now ≡ words_of bytes.now }
+{
+    match bytes {
+        [b' ', tail @ ..] => tail,
+        _ => bytes,
+    }
+}
+
+/// Returns the bytes from the first that is no blank.
+#[inline(always)]
 fn without_blanks(bytes: &[u8]) -> &[u8]
     ensures words { words_of result.now ≡ words_of bytes.now }
     ensures starts { StartsWord result.now }
@@ -26,7 +39,8 @@ fn without_blanks(bytes: &[u8]) -> &[u8]
     rest
 }
 
-/// The first word of bytes that begin with one, and the bytes after it.
+/// Cuts off the first word of bytes that begin with one, and returns the bytes after it.
+#[inline(always)]
 fn cut_word(bytes: &[u8]) -> (&[u8], &[u8])
     requires { ends_word bytes.now ≡ false }
     ensures word { words_of bytes.now ≡ result.0.now ∷ words_of result.1.now }
@@ -40,7 +54,7 @@ fn cut_word(bytes: &[u8]) -> (&[u8], &[u8])
     bytes.split_at(end)
 }
 
-/// The first word, and the bytes after it.
+/// Returns the first word, and the bytes after it.
 pub fn first_word(bytes: &[u8]) -> Option<(&[u8], &[u8])>
     ensures some { IfSome result (λ found. words_of bytes.now ≡ found.0.now ∷ words_of found.1.now) }
     ensures none { IfNone result (words_of bytes.now ≡ []) }
@@ -55,6 +69,17 @@ pub fn first_word(bytes: &[u8]) -> Option<(&[u8], &[u8])>
     }
 }
 
+/// Returns whether a word ends before these bytes.
+#[inline(always)]
+pub fn ends_word(bytes: &[u8]) -> bool
+    ensures { result ≡ ends_word bytes.now }
+{
+    match bytes {
+        [] => true,
+        [next, ..] => is_blank(*next),
+    }
+}
+
 /// Returns the word of a line that has just one.
 pub fn only_word(bytes: &[u8]) -> Option<&[u8]>
     ensures { option_map (λ word. word.now) result ≡ only_of (words_of bytes.now) }
@@ -63,21 +88,22 @@ pub fn only_word(bytes: &[u8]) -> Option<&[u8]>
     is_end(rest).then_some(word)
 }
 
-/// Whether no word is left.
+/// Returns whether no word is left.
+#[inline(always)]
 pub fn is_end(bytes: &[u8]) -> bool
     ensures { result ≡ no_words (words_of bytes.now) }
 {
-    first_word(bytes).is_none()
+    bytes.is_empty() || first_word(bytes).is_none()
 }
 
-/// Whether the byte is a printable ASCII character, a space or a tab.
+/// Returns whether the byte is a printable ASCII character, a space or a tab.
 pub fn is_printable(b: u8) -> bool
     ensures { result ≡ is_printable b }
 {
     matches!(b, b' '..=b'~' | b'\t')
 }
 
-/// Whether each byte is a printable ASCII character, a space or a tab.
+/// Returns whether each byte is a printable ASCII character, a space or a tab.
 pub fn all_printable(bytes: &[u8]) -> bool
     ensures { result ≡ all_printable bytes.now }
 {

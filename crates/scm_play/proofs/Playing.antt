@@ -13,7 +13,7 @@ use Rattle.scm_play.specs.Shown.{entry_text, prompt_text}
 use Rattle.scm_play.specs.declared.show.Style.{Style}
 use Rattle.scm_play.proofs.Cutting.{first_read, nothing_read}
 
--- What is shown of lines, whichever of them can be read.
+-- The shown text of lines, whichever of them can be read.
 pub record Plays (style : Style) (n : ℕ) (old : Point) (script : List (List ℕ)) (text : List ℕ) (new : Point) : Type 0 where
   pub read : List (List ℕ)
   pub replies : List ℕ

@@ -1,4 +1,4 @@
--- What is answered to the lines of a script that is played, and how it is shown.
+-- The answers to the lines of a played script, and how they are shown.
 pub mod Questions
 pub mod Shown
 pub mod Played

@@ -27,12 +27,12 @@ beside front answer =
     if is_one_line answer then front ++ (replicate (max (40 - length front) 2) 32 ++ answer)
     else front ++ 10 ∷ answer
 
--- What is shown of the line of this number. On a terminal that is the answer alone.
+-- The shown text of the line of this number. On a terminal that is the answer alone.
 abbrev pub entry_text : Style → ℕ → List ℕ → List ℕ → List ℕ
 entry_text style.Script n bytes answer = beside (number_text n ++ map shown_byte bytes) answer
 entry_text style.Terminal n bytes answer = answer
 
--- What stands before the line of this number is read.
+-- The prompt before the line of this number.
 abbrev pub prompt_text : Style → ℕ → List ℕ
 prompt_text style.Script n = []
 prompt_text style.Terminal n = decimal n ++ codes "> "

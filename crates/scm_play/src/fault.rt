@@ -19,7 +19,8 @@ pub enum PlayFault {
 }
 
 impl PlayFault {
-    /// The fault of a read that failed. A line that memory is refused for is one of memory.
+    /// Makes the fault of a read that failed. If memory was refused for a line, the fault is one of
+    /// memory.
     pub fn of_read(error: io::Error) -> PlayFault {
         if error.kind() == ErrorKind::OutOfMemory {
             return PlayFault::Memory;

@@ -1,4 +1,4 @@
-//! What is shown of a script is a run of those of its lines that can be read.
+//! The shown text of a script is a run of its readable lines.
 ghost use Rattle.std.specs.Prelude.{ℕ, List};
 ghost use Rattle.scm_play.specs.Played.{PlayText};
 ghost use Rattle.scm_play.specs.declared.show.Style.{Style};

@@ -21,7 +21,7 @@ pub enum Question {
     Help,
 }
 
-/// The question that a word asks, if it asks one.
+/// Returns the question that a word asks, if it asks one.
 fn question_named(word: &[u8]) -> Option<Question>
     ensures { result ≡ meaning questions word.now }
 {
@@ -33,7 +33,7 @@ fn question_named(word: &[u8]) -> Option<Question>
     }
 }
 
-/// The question that a line asks, if it asks one. Blanks may stand round the word.
+/// Returns the question of a line, if it asks one. Blanks may surround the word.
 pub fn question_of(bytes: &[u8]) -> Option<Question>
     ensures { result ≡ question_of bytes.now }
 {

@@ -16,7 +16,7 @@ use scm_run::without_return;
 use std::alloc::{AllocError, Global};
 use std::io::{BufRead, Write};
 
-/// The line that these bytes are, without its end: one line feed, and one carriage return before
+/// Returns the line of these bytes, without its end: one line feed, and one carriage return before
 /// it.
 fn line_in(bytes: &[u8]) -> &[u8]
     ensures { result.now ≡ line_in bytes.now }
@@ -144,7 +144,7 @@ pub fn play<R: BufRead, W: Write>(
     ensures ended { OnOk result ((input : List ℕ) → R.remaining reader.old ≡ Some input → R.remaining reader.new ≡ Some []) }
 {
     let mut engine = Engine::new(alloc)?;
-    let mut version = Version::Unsaid;
+    let mut version = Version::Unknown;
     for number in 1..u64::MAX {
         if !play_line(
             alloc,

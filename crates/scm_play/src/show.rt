@@ -32,7 +32,7 @@ fn push_spaces(shown: &mut Vec<u8>, count: usize) -> Result<(), AllocError>
     Ok(())
 }
 
-/// Appends what stands before the line of this number.
+/// Appends the prefix of the line of this number.
 fn push_number(alloc: Global, shown: &mut Vec<u8>, number: u64) -> Result<(), AllocError>
     ensures { OnOk result (shown.new.items ≡ shown.old.items ++ number_text number) }
 {
@@ -42,7 +42,7 @@ fn push_number(alloc: Global, shown: &mut Vec<u8>, number: u64) -> Result<(), Al
     push_spaces(shown, GAP)
 }
 
-/// The byte that is shown for a byte of a line.
+/// Returns the byte that is shown for a byte of a line.
 fn shown_byte(byte: u8) -> u8
     ensures { result ≡ shown_byte byte }
 {
@@ -59,7 +59,7 @@ fn push_line(shown: &mut Vec<u8>, bytes: &[u8]) -> Result<(), AllocError>
     Ok(())
 }
 
-/// Where the first line feed stands.
+/// Returns the position of the first line feed.
 fn first_feed(answer: &[u8]) -> Option<usize>
     ensures value { result ≡ position (λ b. b == 10) answer.now }
     ensures within { IfSome result (λ i. i < length answer.now) }
@@ -67,7 +67,7 @@ fn first_feed(answer: &[u8]) -> Option<usize>
     answer.iter().position(|b| *b == b'\n')
 }
 
-/// Whether the answer is one line, which has its line feed at its end alone.
+/// Returns whether the answer is one line, with its line feed at its end alone.
 fn is_one_line(answer: &[u8]) -> bool
     ensures { result ≡ is_one_line answer.now }
 {
@@ -112,7 +112,7 @@ pub fn entry(
     Ok(shown)
 }
 
-/// Makes the text that stands before the line of this number is read.
+/// Makes the prompt before the line of this number.
 pub fn prompt(alloc: Global, style: Style, number: u64) -> Result<String, AllocError>
     ensures { IfOk result (λ text. string_bytes text ≡ prompt_text style number) }
 {

@@ -7,7 +7,7 @@ use Rattle.af_base.specs.declared.events.Event.{Event}
 use Rattle.af_base.specs.declared.events.Reply.{Reply}
 use Rattle.af_layer.specs.Log.{Pair}
 
--- What stands last is the event with its reply.
+-- The last pair is the event with its reply.
 pub answered : (old new : List Pair) (e : Event) (r : Reply) (p : Pair) → new ≡ old ++ (e, r) ∷ [] → slice_get new (length new - 1) ≡ Some p → p ≡ (e, r)
 answered old new e r p grown last =
     let count : length new ≡ length old + 1 = ap length grown ∙ length-append old ((e, r) ∷ []) in

@@ -62,7 +62,7 @@ no_seat (e ∷ log) numbered =
       | inr b ↦ let none : cond {A = ℕ} (nat_le e.seat 0) 1 0 ≡ 0 = rw b.0 refl in omega (arith, all, none, rest)
     ]
 
--- Where each of the first n seats has so many pairs, they have n times as many.
+-- If each of the first n seats has a number of pairs, together they have n times as many.
 pub counted : (n steps : ℕ) → (log : List Entry) → All IsNumbered log → ((k : ℕ) → 1 ≤ k → k ≤ n → length (of_seat k log) ≡ steps) → worker_steps n log ≡ n * steps
 counted zero steps log numbered each = omega (arith, no_seat log numbered)
 counted (suc n) steps log numbered each =

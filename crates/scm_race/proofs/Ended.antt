@@ -5,10 +5,10 @@ use Rattle.af_layer.specs.Audit.{IsWhole, nobody}
 use Rattle.af_layer.specs.Drive.{Driven, Made}
 use Rattle.af_layer.specs.Log.{IsLegal, Logged, Pair, of_seat}
 use Rattle.af_layer.specs.Seats.{Seated}
-use Rattle.scm_race.specs.Race.{EndsInPass, Raced, spawned, worker_steps, works_of_race}
+use Rattle.scm_race.specs.Race.{EndsInPass, Raced, RacedBy, spawned, worker_steps, works_of_race}
 use Rattle.scm_race.proofs.Counted.{counted}
 use Rattle.scm_race.proofs.Raced.{raced}
-use Rattle.scm_race.proofs.Works.{script-count}
+use Rattle.scm_work.proofs.Counts.{script-count}
 
 -- all seats as they were opened; those that were driven, before and after; the last one when it was opened, after the start and at the end; and all as they were handed in
 module _ (workers steps seed budget : ℕ) (b : Logged) (all opened driven handed : List Seated) (first started last : Seated)
@@ -49,7 +49,7 @@ module _ (workers steps seed budget : ℕ) (b : Logged) (all opened driven hande
   race-raced = raced workers steps seed budget b opened driven last opened-count fresh drove last-number last-list legal (subst (IsWhole b) joined whole)
 
 -- The workers of a race that ended well have all their steps in its log.
-pub all-steps : (workers steps seed budget : ℕ) (b : Logged) → 5 ≤ steps → Raced workers steps seed budget b → worker_steps workers b.log ≡ workers * steps
-all-steps workers steps seed budget b some race =
+pub all-steps : (Turns : ℕ → List Pair → Type 0) (workers steps seed : ℕ) (b : Logged) → 5 ≤ steps → RacedBy Turns workers steps seed b → worker_steps workers b.log ≡ workers * steps
+all-steps Turns workers steps seed b some race =
     counted workers steps b.log (λ i d lt. (race.legal.of_seats i d lt).0) (λ k low high.
     sym (length-map (of_seat k b.log) (λ p. p.0)) ∙ ap length (race.scripts k low high) ∙ script-count k workers steps seed some)

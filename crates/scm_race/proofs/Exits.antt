@@ -1,4 +1,4 @@
--- How a list goes on, one part after another, and the exits of children.
+-- A list extended by one part after another, and the exits of children.
 use Rattle.std.proofs.Common.{◌≡◌, ◌<◌, ◌+◌, ◌++◌, ℕ, List, [], ◌∷◌, ap, append-nil, append_assoc, length, map, refl, ◌∙◌, slice_index_or, take}
 use Rattle.std.specs.Prelude.{Some, None, filter_map}
 use Rattle.std.proofs.lemmas.List.{map-append, take_more}
@@ -11,11 +11,11 @@ use Rattle.af_layer.specs.Drive.{WentOn, events_of}
 use Rattle.af_layer.specs.Log.{Pair}
 use Rattle.scm_race.specs.Race.{EndsInPass, child_of, exit_of, exits_of}
 
--- A list that has one pair more goes on by its event.
+-- A list with one pair more is extended by its event.
 pub went-one : (old new : List Pair) (e : Event) (r : Reply) → new ≡ old ++ (e, r) ∷ [] → WentOn old (e ∷ []) new
 went-one old new e r grown = ((e, r) ∷ [], grown, refl)
 
--- What goes on by some events and then by others goes on by all of them.
+-- A list extended by some events and then by others is extended by all of them.
 pub went-on : (old mid new : List Pair) (first second : List Event) → WentOn old first mid → WentOn mid second new → WentOn old (first ++ second) new
 went-on old mid new first second a b = (
   a.0 ++ b.0,
@@ -43,7 +43,7 @@ exits-one pairs i child p lt here some =
     let one : exits_of (p ∷ []) ≡ exit_of child ∷ [] = rw some refl in
     exits-more pairs i p lt ∙ ap (λ x. exits_of (take i pairs) ++ exits_of (x ∷ [])) here ∙ ap (λ l. exits_of (take i pairs) ++ l) one
 
--- What goes on, and on, and then with a last pass, ends in a pass.
+-- A list that is extended, with a last pass at the end, ends in a pass.
 pub ends : (old first second new : List Pair) (pass reclaimed : ℕ) (more others : List Pair) → first ≡ old ++ more → second ≡ first ++ others → new ≡ second ++ (event.Pass, reply.Done pass reclaimed) ∷ [] → EndsInPass old new
 ends old first second new pass reclaimed more others a b is = (
   more ++ others,

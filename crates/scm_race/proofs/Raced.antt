@@ -1,4 +1,4 @@
--- What the closing of a layer says of a race.
+-- The closing of a layer, for a race.
 use Rattle.std.proofs.Common.{◌≡◌, ◌<◌, ◌≤◌, ◌+◌, ◌-◌, ◌++◌, ℕ, true, List, [], ◌∷◌, ap, arith, length, length-append, refl, sym, ◌∙◌, subst, slice_index_or}
 use Rattle.std.specs.Prelude.{Option, Some, slice_get}
 use Rattle.std.proofs.lemmas.List.{get_or_append_left, get_or_push}
@@ -18,14 +18,14 @@ known_some : (n k : ℕ) → is_seat n k ≡ true → 1 ≤ k
 known_some n k e = grind arith
 
 -- Each seat of a layer that was closed holds its part of the log.
-part-at : (b : Logged) → (seats : List Seated) → IsWhole b seats → (i : ℕ) → i < length seats → list_at seats i ≡ of_seat (number_at seats i) b.log
+pub part-at : (b : Logged) → (seats : List Seated) → IsWhole b seats → (i : ℕ) → i < length seats → list_at seats i ≡ of_seat (number_at seats i) b.log
 part-at b seats whole i lt =
     let k = number_at seats i in
     let known = (whole.known i lt).0 in
     whole.audited k (known_some b.seats k known) (known_number b.seats k known) i lt refl
 
--- A list that began empty has just the events that it went on by.
-all_new : (events : List Event) → (list : List Pair) → WentOn [] events list → events_of list ≡ events
+-- A list that began empty has just the events that extended it.
+pub all_new : (events : List Event) → (list : List Pair) → WentOn [] events list → events_of list ≡ events
 all_new events list went = ap events_of went.1 ∙ went.2
 
 -- the seats of a race: those that were driven, and the last one
@@ -45,7 +45,7 @@ module _ (workers steps seed budget : ℕ) (b : Logged) (opened driven : List Se
   driven-count : length driven ≡ workers + 1
   driven-count = drove.count ∙ count
 
-  -- Behind them stands the last.
+  -- The last one is behind them.
   seats-count : length seats ≡ workers + 2
   unfolding seats
   seats-count = omega (arith, length-append driven (last ∷ []), driven-count)
@@ -55,7 +55,7 @@ module _ (workers steps seed budget : ℕ) (b : Logged) (opened driven : List Se
   unfolding seats
   seat-at i lt = get_or_append_left driven (last ∷ []) nobody i (omega (arith, lt, driven-count))
 
-  -- What was driven from a seat is its part of the log.
+  -- The events driven from a seat are its part of the log.
   part : (i : ℕ) → i < workers + 1 → of_seat (i + 1) b.log ≡ list_at driven i
   unfolding seats
   part i lt =
@@ -63,7 +63,7 @@ module _ (workers steps seed budget : ℕ) (b : Logged) (opened driven : List Se
       let its_number : number_at seats i ≡ i + 1 = ap (λ s. s.number) same ∙ drove.numbers i (omega (arith, lt, count)) ∙ ap (λ s. s.number) (fresh i lt) in
       sym (ap (λ k. of_seat k b.log) its_number) ∙ sym (part-at b seats whole i (omega (arith, lt, seats-count))) ∙ ap (λ s. s.list) same
 
-  -- What was made from a seat began with nothing.
+  -- The seat's list began empty.
   made : (i : ℕ) → (work : Work) → i < workers + 1 → slice_get (works_of_race workers steps seed budget) i ≡ Some work → Made (Some work) [] (list_at driven i)
   made i work lt is =
       subst (λ (w : Option Work). Made w [] (list_at driven i)) is

@@ -1,3 +1,4 @@
--- What a race does, what it comes to, and its faults.
+-- The work of a race, its outcome, and its faults.
 pub mod Faults
+pub mod Parts
 pub mod Race

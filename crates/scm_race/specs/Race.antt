@@ -22,12 +22,12 @@ unfoldable pub spawned : ℕ → List Pair
 spawned zero = []
 spawned (suc n) = spawned n ++ (spawn_of (suc n), reply.Pid (suc n)) ∷ []
 
--- The scripts of the first n of so many workers.
+-- The scripts of the first n of all workers.
 unfoldable pub scripts_of : ℕ → ℕ → ℕ → ℕ → List (List Event)
 scripts_of zero workers steps seed = []
 scripts_of (suc n) workers steps seed = scripts_of n workers steps seed ++ script_of (suc n) workers steps seed ∷ []
 
--- What is to be done in a race: the workers' scripts, and as many turns of the collector as a script has events.
+-- The work of a race: the workers' scripts, and as many turns of the collector as a script has events.
 abbrev pub works_of_race : ℕ → ℕ → ℕ → ℕ → List Work
 works_of_race workers steps seed budget = map Script (scripts_of workers workers steps seed) ++ Collects steps budget ∷ []
 
@@ -48,29 +48,53 @@ exits_of pairs = map exit_of (filter_map child_of pairs)
 abbrev pub all_exits_of : List Seated → List Event
 all_exits_of seats = flat_map (λ s. exits_of s.list) seats
 
--- A list went on, and at its end with a whole pass that was done.
+-- A list was extended, and ended with a whole pass that was done.
 abbrev pub EndsInPass : List Pair → List Pair → Type 0
 EndsInPass old new = (between : List Pair) × (pass : ℕ) × (reclaimed : ℕ) × (new ≡ old ++ between ++ (event.Pass, reply.Done pass reclaimed) ∷ [])
 
--- The log of a race that ended well: it is a run of the machine; each worker did its script and the collector its turns; the main thread started the processes first, and ended with a whole pass that was done.
-pub record Raced (workers steps seed budget : ℕ) (b : Logged) : Type 0 where
+-- The log of a race that ended well: it is a run of the machine; each worker did its script, and the collector so many turns, as `Turns` says; the main thread started the processes first, and ended with a whole pass that was done.
+pub record RacedBy (Turns : ℕ → List Pair → Type 0) (workers steps seed : ℕ) (b : Logged) : Type 0 where
   pub legal : IsLegal b.seats b.machine b.log
   pub scripts : (k : ℕ) → 1 ≤ k → k ≤ workers → events_of (of_seat k b.log) ≡ script_of k workers steps seed
-  pub turns : Turned budget [] steps (of_seat (workers + 1) b.log)
+  pub turns : Turns steps (of_seat (workers + 1) b.log)
   pub main_thread : EndsInPass (spawned workers) (of_seat (workers + 2) b.log)
+
+-- So it is of a race on one layer: the collector made its turns one after the other.
+abbrev pub Raced : ℕ → ℕ → ℕ → ℕ → Logged → Type 0
+Raced workers steps seed budget = RacedBy (Turned budget []) workers steps seed
+
+-- So many turns were made in parts, each as by a collector that made none before.
+pub data TurnedInParts (budget : ℕ) : ℕ → List Pair → Type 0 where
+  NoPart : TurnedInParts budget 0 []
+  OnePart : (n m : ℕ) → (before part : List Pair) → TurnedInParts budget n before → Turned budget [] m part → TurnedInParts budget (n + m) (before ++ part)
+
+-- So it is of a race with checkpoints. Its log is what was taken at them, put together.
+abbrev pub RacedInParts : ℕ → ℕ → ℕ → ℕ → Logged → Type 0
+RacedInParts workers steps seed budget = RacedBy (TurnedInParts budget) workers steps seed
 
 -- How many entries are of the seats from 1 to this number.
 abbrev pub worker_steps : ℕ → List Entry → ℕ
 worker_steps workers log = count_by (λ e. nat_le e.seat workers) log
 
--- The lines that tell a race of so many workers, by the book that was closed: how many entries the workers have, and how many files are live.
+-- The lines that tell a race: how many steps the workers did, and how many files are live.
+abbrev pub race_lines : ℕ → ℕ → List ℕ
+race_lines steps left = codes "steps " ++ (decimal steps ++ (codes "\naudit ok\nleft " ++ (decimal left ++ 10 ∷ [])))
+
+-- The lines that report a race of this many workers, by the closed book: how many entries the workers have, and how many files are live.
 abbrev pub outcome_text : ℕ → Logged → List ℕ
-outcome_text workers b =
-    codes "steps " ++ (decimal (worker_steps workers b.log) ++ (codes "\naudit ok\nleft " ++ (decimal (finmap.len b.machine.world.files) ++ 10 ∷ [])))
+outcome_text workers b = race_lines (worker_steps workers b.log) (finmap.len b.machine.world.files)
 
 -- The text tells the book of a race that ended well, in whose log each worker has all its steps.
-pub record RaceText (workers steps seed budget : ℕ) (text : List ℕ) : Type 0 where
+pub record TellsRace (Ended : Logged → Type 0) (workers steps : ℕ) (text : List ℕ) : Type 0 where
   pub book : Logged
-  pub raced : Raced workers steps seed budget book
+  pub raced : Ended book
   pub all_steps : worker_steps workers book.log ≡ workers * steps
   pub lines : text ≡ outcome_text workers book
+
+-- So it is of a race on one layer.
+abbrev pub RaceText : ℕ → ℕ → ℕ → ℕ → List ℕ → Type 0
+RaceText workers steps seed budget = TellsRace (Raced workers steps seed budget) workers steps
+
+-- And of a race with checkpoints.
+abbrev pub LongRaceText : ℕ → ℕ → ℕ → ℕ → List ℕ → Type 0
+LongRaceText workers steps seed budget = TellsRace (RacedInParts workers steps seed budget) workers steps

@@ -3,7 +3,7 @@ ghost use Rattle.std.specs.Prelude.{◌≡◌};
 ghost use Rattle.scm_race.specs.declared.fault.RaceFault.TheVariants.{Failed, Memory};
 ghost use Rattle.scm_race.specs.Faults.{of_call, of_drive, of_open};
 
-use af_layer::{CallError, CloseError, DriveError, DriveFault, OpenError};
+use af_layer::{CallError, CloseError, CloseFault, DriveError, DriveFault, OpenError};
 use std::alloc::{AllocError, AllocFailed};
 use thiserror::Error;
 
@@ -13,8 +13,8 @@ pub enum RaceFault {
     /// Memory was refused.
     #[error("no memory")]
     Memory,
-    /// Something else went wrong: a call that was refused, an answer that should not come, or a
-    /// fault that the audit found.
+    /// Another fault: a call that was refused, an unexpected answer, or a fault that the audit
+    /// found.
     #[error("race failed")]
     Failed,
 }
@@ -75,6 +75,14 @@ impl From<CloseError> for RaceFault {
     fn from(error: CloseError) -> RaceFault {
         // Dropped by a call: as a parameter each part would be dropped, and proved, by itself.
         drop(error);
+        RaceFault::Failed
+    }
+}
+
+impl From<CloseFault> for RaceFault {
+    ghost from_gives = { λ _ fault. fault ≡ Failed };
+
+    fn from(_fault: CloseFault) -> RaceFault {
         RaceFault::Failed
     }
 }

@@ -11,14 +11,14 @@ use crate::fault::RaceFault;
 use af_base::events::{Event, Reply, Step};
 use af_base::limits::MAX_BUDGET;
 use af_base::names::Pid;
-use af_layer::{Layer, Seat};
+use af_layer::{Layer, Origin, Seat};
 use std::sync::Wait;
 
 /// After this many slices of the largest budget each pass is done: it works on only while all its
 /// budgets are within three times the files of its begin.
 const MOST_SLICES: u32 = 4;
 
-/// The child that an answered fork made, if this is one.
+/// Returns the child of an answered fork, if this is one.
 fn child_of(pair: &(Event, Reply)) -> Option<Pid>
     ensures { result ≡ child_of pair.now }
 {
@@ -29,9 +29,9 @@ fn child_of(pair: &(Event, Reply)) -> Option<Pid>
 }
 
 /// Lets the children exit that were forked by these calls.
-fn end_children_of<R: Wait>(
+fn end_children_of<R: Wait, O: Origin>(
     rt: &R,
-    layer: &Layer,
+    layer: &Layer<O>,
     main: &mut Seat,
     list: &[(Event, Reply)],
 ) -> Result<(), RaceFault>
@@ -47,9 +47,9 @@ fn end_children_of<R: Wait>(
 }
 
 /// Lets all children exit that were forked from these seats.
-pub fn end_children<R: Wait>(
+pub fn end_children<R: Wait, O: Origin>(
     rt: &R,
-    layer: &Layer,
+    layer: &Layer<O>,
     main: &mut Seat,
     seats: &[Seat],
 ) -> Result<(), RaceFault>
@@ -63,7 +63,11 @@ pub fn end_children<R: Wait>(
 }
 
 /// Goes on with the pass that the collector began, if one runs, until it is done.
-pub fn end_pass<R: Wait>(rt: &R, layer: &Layer, main: &mut Seat) -> Result<(), RaceFault>
+pub fn end_pass<R: Wait, O: Origin>(
+    rt: &R,
+    layer: &Layer<O>,
+    main: &mut Seat,
+) -> Result<(), RaceFault>
     ensures number { main.new.number ≡ main.old.number }
     ensures list { (more : List Pair) × (main.new.list ≡ main.old.list ++ more) }
 {
@@ -77,7 +81,11 @@ pub fn end_pass<R: Wait>(rt: &R, layer: &Layer, main: &mut Seat) -> Result<(), R
 }
 
 /// Makes a whole pass, which has to be done.
-pub fn last_pass<R: Wait>(rt: &R, layer: &Layer, main: &mut Seat) -> Result<(), RaceFault>
+pub fn last_pass<R: Wait, O: Origin>(
+    rt: &R,
+    layer: &Layer<O>,
+    main: &mut Seat,
+) -> Result<(), RaceFault>
     ensures number { main.new.number ≡ main.old.number }
     ensures done { OnOk result ((pass reclaimed : ℕ)
         × (main.new ≡ grown main.old Asked.Pass (Answer.Done pass reclaimed))) }

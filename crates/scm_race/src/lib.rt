@@ -7,10 +7,13 @@
 
 mod fault;
 mod finish;
+mod long;
 mod outcome;
+mod part;
 mod race;
 mod start;
 
 pub use fault::RaceFault;
+pub use long::{LongRace, MAX_CHECKPOINT, MAX_LONG_STEPS, Tally};
 pub use outcome::Outcome;
 pub use race::Race;

@@ -1,4 +1,4 @@
-//! What a race comes to.
+//! The outcome of a race.
 ghost use Rattle.std.specs.Prelude.{◌≡◌, IfOk, string_bytes};
 ghost use Rattle.std.specs.FinMap as map;
 ghost use Rattle.scm_race.specs.Race.{outcome_text, worker_steps};
@@ -6,10 +6,10 @@ ghost use Rattle.scm_race.specs.Race.{outcome_text, worker_steps};
 use af_layer::{Closed, Entry};
 use std::alloc::{AllocError, Global};
 
-/// What a race comes to: its layer, which was closed without a fault.
+/// The outcome of a race: its layer, which was closed without a fault.
 ///
-/// The log of the closed book has all that was done in the race. What is told of a race is counted
-/// in this book.
+/// The log of the closed book has all events of the race. The report of a race is counted in this
+/// book.
 #[derive(Drop)]
 pub struct Outcome {
     /// How many workers there were. Their seats are those from 1 to this number.
@@ -18,8 +18,8 @@ pub struct Outcome {
     pub closed: Closed,
 }
 
-/// How many entries of a log are of the seats from 1 to this number.
-fn steps_up_to(log: &[Entry], workers: u32) -> usize
+/// Returns how many entries of a log are of the seats from 1 to this number.
+pub fn steps_up_to(log: &[Entry], workers: u32) -> usize
     ensures { result ≡ worker_steps workers log.now }
 {
     log.iter().filter(|entry| entry.seat <= workers).count()

@@ -17,7 +17,7 @@ use std::alloc::Global;
 use std::sync::Wait;
 use std::thread::Threads;
 
-/// What is raced.
+/// The settings of a race.
 #[derive(Clone, Copy, Debug, PartialEq, Eq)]
 pub struct Race {
     /// How many workers there are, 1 to 32.

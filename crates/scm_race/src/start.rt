@@ -3,6 +3,7 @@ ghost use Rattle.std.specs.Prelude.{◌≡◌, ◌≤◌, ◌++◌, ◌∷◌, [
 ghost use Rattle.af_base.specs.declared.events.Reply.{Reply as Answer};
 ghost use Rattle.af_base.specs.declared.events.Reply.TheVariants as answer;
 ghost use Rattle.scm_race.specs.Faults.{of_spawn};
+ghost use Rattle.scm_race.specs.Parts.{AreNext};
 ghost use Rattle.scm_race.specs.Race.{scripts_of, spawn_of, spawned};
 ghost use Rattle.scm_work.specs.declared.script.TheConstants.{MIN_STEPS, MAX_STEPS};
 ghost use Rattle.scm_work.specs.declared.table.TheConstants.{MAX_WORKERS};
@@ -11,8 +12,8 @@ use crate::fault::RaceFault;
 use af_base::errno::Errno;
 use af_base::events::{Event, Reply};
 use af_base::names::{Pid, Uid};
-use af_layer::{Layer, Seat};
-use scm_work::make_script;
+use af_layer::{Layer, Origin, Seat};
+use scm_work::{Source, make_script};
 use std::alloc::{AllocError, Global};
 use std::sync::Wait;
 
@@ -22,7 +23,7 @@ const FIRST_USER: u32 = 1_000;
 /// How many descriptors a process of a worker may have (RLIMIT_NOFILE).
 const NOFILE: u32 = 32;
 
-/// The start of a worker's process.
+/// Makes the event that starts a worker's process.
 fn spawn_of(worker: u32) -> Event
     ensures { result ≡ spawn_of worker }
 {
@@ -34,9 +35,9 @@ fn spawn_of(worker: u32) -> Event
 }
 
 /// Starts the process of this worker, which gets the worker's number as its pid.
-fn start_process<R: Wait>(
+fn start_process<R: Wait, O: Origin>(
     rt: &R,
-    layer: &Layer,
+    layer: &Layer<O>,
     main: &mut Seat,
     worker: u32,
 ) -> Result<(), RaceFault>
@@ -57,9 +58,9 @@ fn start_process<R: Wait>(
 }
 
 /// Starts a process for each worker, from the first worker on.
-pub fn start_processes<R: Wait>(
+pub fn start_processes<R: Wait, O: Origin>(
     rt: &R,
-    layer: &Layer,
+    layer: &Layer<O>,
     main: &mut Seat,
     workers: u32,
 ) -> Result<(), RaceFault>
@@ -73,7 +74,7 @@ pub fn start_processes<R: Wait>(
     Ok(())
 }
 
-/// The scripts of all workers, in order.
+/// Makes the scripts of all workers, in order.
 pub fn scripts(
     alloc: Global,
     workers: u32,
@@ -90,4 +91,38 @@ pub fn scripts(
         scripts.push(make_script(alloc, before + 1, workers, steps, seed)?)?;
     }
     Ok(scripts)
+}
+
+/// Makes the sources of all workers' scripts, in order.
+pub fn sources(
+    alloc: Global,
+    workers: u32,
+    steps: u32,
+    seed: u32,
+) -> Result<Vec<Source>, AllocError>
+    requires workers { workers ≤ MAX_WORKERS }
+    requires steps { MIN_STEPS ≤ steps }
+    ensures { IfOk result (λ sources. sources.items ≡ scripts_of workers workers steps seed) }
+{
+    let mut sources = Vec::with_capacity(alloc, workers as usize)?;
+    for before in 0..workers {
+        sources.push(Source::new(before + 1, workers, steps, seed))?;
+    }
+    Ok(sources)
+}
+
+/// Makes the next events of all workers, this many of each.
+pub fn next_parts(
+    alloc: Global,
+    sources: &mut [Source],
+    count: u32,
+) -> Result<Vec<Vec<Event>>, AllocError>
+    ensures { IfOk result (λ parts.
+        AreNext count sources.old (map (λ part. part.items) parts.items) sources.new) }
+{
+    let mut parts = Vec::with_capacity(alloc, sources.len())?;
+    for source in sources.iter_mut() {
+        parts.push(source.part(alloc, count)?)?;
+    }
+    Ok(parts)
 }

@@ -4,3 +4,4 @@ pub mod RunLemmas
 pub mod ShortReplies
 pub mod PlainLemmas
 pub mod RoomLemmas
+pub mod StepLemmas

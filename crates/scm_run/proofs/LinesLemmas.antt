@@ -1,5 +1,5 @@
 -- The lines of bytes that are read piece by piece.
-use Rattle.std.proofs.Common.{◌≡◌, ◌≤◌, ℕ, ◌+◌, ◌-◌, ◌<◌, ◌==◌, List, [], ◌∷◌, ◌++◌, Bool, true, false, cond, length, take, drop, Some, None, refl, sym, ap, ◌∙◌, append_assoc, append-nil, arith, length-append, ◌⊎◌, inl, inr, get_or, take-append-drop}
+use Rattle.std.proofs.Common.{◌≡◌, ◌≤◌, ℕ, ◌+◌, ◌<◌, ◌==◌, List, [], ◌∷◌, ◌++◌, Bool, true, false, cond, length, take, drop, Some, None, refl, sym, ap, ◌∙◌, append_assoc, append-nil, arith, length-append, ◌⊎◌, inl, inr, get_or, take-append-drop}
 use Rattle.std.specs.Prelude.{map, slice_get, slice_index}
 use Rattle.std.specs.List.{AllByRecursion, flat_map, slice_split, onto_first}
 use Rattle.std.specs.Str.Lines.{lines, lines_of_parts, strip_carriage_return}
@@ -80,7 +80,7 @@ ended_lines taken whole rest more cut =
     front_lines (taken ++ 10 ∷ []) (whole ++ rest ∷ []) [] more (cut_end taken whole rest cut)
     ∙ ap (λ l. l ++ lines more) (map-append strip_carriage_return whole (rest ∷ []))
 
--- the lines before the one that goes on
+-- the lines before the unfinished one
 pub firsts : (taken : List ℕ) (whole : List (List ℕ)) (rest more : List ℕ) (n : ℕ) → IsCut taken whole rest → n ≡ length whole
     → take n (lines (taken ++ more)) ≡ map strip_carriage_return whole
 firsts taken whole rest more n cut counted =
@@ -144,7 +144,7 @@ strip_shorter bytes = grind (arith, common_steps)
 long_bare : (bytes : List ℕ) → may_fit bytes ≡ false → MAX_LINE < length bytes
 long_bare bytes over = omega (arith, past_limit bytes over, strip_shorter bytes)
 
--- however the line goes on, it is too long
+-- whatever follows on the line, it is too long
 long_stripped : (bad x : List ℕ) → may_fit bad ≡ false → MAX_LINE < length (strip_carriage_return (bad ++ x))
 long_stripped bad [] over = rw (append-nil bad) (past_limit bad over)
 long_stripped bad (a ∷ x) over = strip_long (bad ++ a ∷ x) (omega (arith, long_bare bad over, length-append bad (a ∷ x)))

@@ -1,4 +1,4 @@
--- What a run has done, line by line, and how it stops.
+-- The effects of a run, line by line, and how it stops.
 use Rattle.std.proofs.Common.{◌≡◌, ◌⊎◌, inl, inr, ℕ, ◌+◌, ◌-◌, ◌<◌, ◌==◌, List, [], ◌∷◌, ◌++◌, false, length, take, Option, Some, None, refl, sym, ap, ◌∙◌, subst, append_assoc, append-nil, arith, length-append, Result, Ok, Err, IfErr, IfOk}
 use Rattle.std.specs.Prelude.{map, slice_get, ⊤}
 use Rattle.std.specs.Str.Lines.{lines, strip_carriage_return}
@@ -8,7 +8,7 @@ use Rattle.std.proofs.lemmas.List.Elements.{All-nil}
 use Rattle.std.proofs.lemmas.List.{take_at, take_all, map-append, length-map}
 use Rattle.scm_watched.specs.Watched.{AppendsFront}
 use Rattle.scm_lines.specs.Versions.{read_in}
-use Rattle.scm_run.specs.Script.{FaultAt, LineText, NoFeed, Point, RanFirst, RanToEnd, RanToUnreadable, RunText, StopsBy, Tells, Wrote, WroteFirst, ended_by_feed, first_point, is_read_fault, RanAsRead}
+use Rattle.scm_run.specs.Script.{FaultAt, LineText, NoFeed, Point, RanFirst, RanToEnd, RunText, StopsBy, Tells, Wrote, ended_by_feed, first_point, is_read_fault, RanAsRead}
 use Rattle.scm_run.specs.Gather.{Moves, Settles}
 use Rattle.scm_run.specs.Line.{LineDone, LineStops}
 use Rattle.scm_run.specs.Progress.{FaultIn, Halts, Progress, Ran, RanAll, Runs, TooLong, Waits, may_fit, nothing_read}
@@ -16,7 +16,7 @@ use Rattle.scm_run.specs.declared.fault.RunFault.{RunFault}
 use Rattle.scm_run.specs.declared.fault.RunFault.TheVariants as fault
 use Rattle.scm_run.proofs.LinesLemmas.{all_lines, cut_end, cut_more, firsts, front_lines, last_line, line_at, long_first, slice_get_at}
 
--- a run goes on by one line
+-- a run is extended by one line
 pub RunText-more : (old mid new : Point) (script : List (List ℕ)) (events k : ℕ) (text out bytes : List ℕ)
     → RunText old script events text mid → LineText mid bytes k out new → RunText old (script ++ bytes ∷ []) (events + k) (text ++ out) new
 RunText-more old mid new [] events k text out bytes (none, empty, same) does =
@@ -39,7 +39,7 @@ Appends-front a b c x y first (front, rest, e, second) =
 
 -- ---- what is gathered
 
--- What was written and what is gathered are the same text after some was moved.
+-- The written text and the gathered text together are the same after some was moved.
 moved : (written gathered kept : List ℕ) (before after : Option (List ℕ)) → (m : Moves gathered kept before after) → (written ++ m.front) ++ kept ≡ written ++ gathered
 moved written gathered kept before after m = append_assoc written m.front kept ∙ ap (λ l. written ++ l) (sym m.split)
 
@@ -67,7 +67,7 @@ waits_settled : (says : Option (List ℕ) → RunFault → Type 0) (before mid a
 waits_settled says before mid after gathered f answer w (inl (e, a)) = subst (says after) (sym e) (w.whole after (Appends-trans before mid after w.written gathered w.wrote a))
 waits_settled says before mid after gathered f answer w (inr (e, a)) = subst (says after) (sym e) (w.part after (Appends-front before mid after w.written gathered w.wrote a))
 
--- What is answered for a fault once what is gathered is written.
+-- The answer to a fault once the gathered text is written.
 pub settled : (says : Option (List ℕ) → RunFault → Type 0) (before mid after : Option (List ℕ)) (gathered : List ℕ) (f answer : RunFault)
     → Halts says before mid gathered f → Settles f answer gathered mid after → says after answer
 settled says before mid after gathered (fault.Unreadable n) answer h s = waits_settled says before mid after gathered (fault.Unreadable n) answer h s
@@ -84,7 +84,7 @@ waits_as says tells before after gathered f so w = record {
   part = λ last a. so last fault.Write (w.part last a);
 }
 
--- What follows from what a fault says.
+-- A consequence of a fault.
 pub halts_as : (says tells : Option (List ℕ) → RunFault → Type 0) (before after : Option (List ℕ)) (gathered : List ℕ) (f : RunFault)
     → ((last : Option (List ℕ)) (g : RunFault) → says last g → tells last g) → Halts says before after gathered f → Halts tells before after gathered f
 halts_as says tells before after gathered (fault.Unreadable n) so h = waits_as says tells before after gathered (fault.Unreadable n) so h
@@ -92,13 +92,13 @@ halts_as says tells before after gathered fault.Read so h = h
 halts_as says tells before after gathered fault.Write so h = so after fault.Write h
 halts_as says tells before after gathered fault.Memory so h = waits_as says tells before after gathered fault.Memory so h
 
--- What is so however the input goes on is so of more of it.
+-- A fact of every continuation of the input is one of those that begin with more of it.
 pub fault_later : (taken bs : List ℕ) (before last : Option (List ℕ)) (f : RunFault) → FaultIn taken before last f → FaultIn (taken ++ bs) before last f
 fault_later taken bs before last f h = λ more. subst (λ l. FaultAt l before last f) (sym (append_assoc taken bs more)) (h (bs ++ more))
 
 -- ---- what a run has done
 
--- The same, with other bytes on the line that goes on.
+-- The same, with other bytes on the unfinished line.
 abbrev pub longer : Progress → List ℕ → Progress
 longer old bs = record { point = old.point; pending = old.pending ++ bs; gathered = old.gathered; events = old.events; done = old.done }
 
@@ -195,7 +195,7 @@ pub ran_stops : (taken : List ℕ) (before mid after : Option (List ℕ)) (old :
 ran_stops taken before mid after old left ran m = waits (FaultIn taken before) before mid after ran.written old.gathered left fault.Memory ran.wrote m
     (λ last a. run_some taken _ before last old ran.runs a) (λ last a. run_cut taken _ before last old ran.runs a)
 
--- the same, as a run that goes on by these bytes says it
+-- the same, for a run that these bytes extend
 pub ran_refused : (taken bs : List ℕ) (before mid : Option (List ℕ)) (old : Progress) → Ran taken before mid old → Halts (FaultIn (taken ++ bs) before) before mid old.gathered fault.Memory
 ran_refused taken bs before mid old ran =
     halts_as (FaultIn taken before) (FaultIn (taken ++ bs) before) before mid old.gathered fault.Memory (fault_later taken bs before) (ran_stops taken before mid mid old old.gathered ran (still old.gathered mid))
@@ -213,7 +213,7 @@ end_stops taken before mid after old left fault.Write ran part =
 end_stops taken before mid after old left fault.Memory ran m =
     halts_as (FaultIn taken before) (FaultIn (taken ++ 10 ∷ []) before) before after left fault.Memory (fault_later taken (10 ∷ []) before) (ran_stops taken before mid after old left ran m)
 
--- the line that was begun and goes on by these bytes
+-- the unfinished line with these bytes
 pub whole_line : (old new back line : List ℕ) → (0 < length old → new ≡ old ++ back) → (old ≡ [] → new ≡ [])
     → (0 < length new → line ≡ new) → (new ≡ [] → line ≡ back) → line ≡ old ++ back
 whole_line [] new back line begun empty some none = none (empty refl)
@@ -447,7 +447,7 @@ written_all taken before mid old ran none =
     let same : ran.written ++ old.gathered ≡ ran.written = ap (λ g. ran.written ++ g) none ∙ append-nil ran.written in
     (ran.written, subst (λ t. Runs taken t old) same ran.runs, ran.wrote)
 
--- the run went on too long
+-- the run was too long
 pub stops_late : (told left before mid : Option (List ℕ)) (bytes : List ℕ) (old : Progress) → Consumes told left bytes → Ran bytes before mid old → old.gathered ≡ []
     → (input : List ℕ) × (Tells told input × RanFirst input before mid)
 stops_late told left before mid bytes old p ran none =

@@ -1,6 +1,6 @@
--- What a step answers is no longer than a receive can make it.
-use Rattle.std.proofs.Common.{◌≡◌, ◌≤◌, ℕ, ◌+◌, ◌*◌, ◌||◌, ◌⊎◌, Bool, true, false, not, inl, inr, List, [], ◌∷◌, length, min, refl, sym, ◌∙◌, subst, cond, arith, nat_eq}
-use Rattle.std.specs.Prelude.{MatchBool, Option, Some, None, ◌&&◌, nat_le, nat_lt, if◌then◌else◌}
+-- The reply of a step is no longer than a receive can make it.
+use Rattle.std.proofs.Common.{◌≡◌, ◌≤◌, ℕ, ◌+◌, ◌*◌, ◌⊎◌, Bool, true, false, not, inl, inr, List, [], ◌∷◌, length, min, refl, sym, ◌∙◌, subst, cond, arith, nat_eq}
+use Rattle.std.specs.Prelude.{Option, Some, None, ◌&&◌, nat_le, nat_lt, if◌then◌else◌}
 use Rattle.std.specs.List.{Contains, find}
 use Rattle.std.specs.Option.{option_and_then}
 use Rattle.std.specs.Prelude.{unwrap_or}
@@ -18,7 +18,7 @@ use Rattle.af_base.specs.Pass.{Begins, GoesOn, Idle, Machine, Pass, PassesWhole,
 use Rattle.af_base.specs.Reached.{Garbage, IsGarbageCount}
 use Rattle.af_base.specs.Whole.{IsMessageWithin, IsSound, IsWithin}
 use Rattle.af_base.specs.declared.errno.Errno.{Errno}
-use Rattle.af_base.specs.declared.errno.Errno.TheVariants.{EINVAL, ESRCH}
+use Rattle.af_base.specs.declared.errno.Errno.TheVariants.{ESRCH}
 use Rattle.af_base.specs.declared.events.Event.{Event}
 use Rattle.af_base.specs.declared.events.Event.TheVariants as event
 use Rattle.af_base.specs.declared.events.Reply.{Reply}
@@ -27,20 +27,19 @@ use Rattle.af_base.specs.declared.events.SockType.{SockType}
 use Rattle.af_base.specs.declared.events.SockType.TheVariants.{Seqpacket, Stream}
 use Rattle.af_base.specs.declared.events.Step.{Step}
 use Rattle.af_base.specs.declared.events.Step.TheVariants as step
-use Rattle.af_base.specs.declared.limits.TheConstants.{MAX_BUDGET, MAX_BYTES, SCM_MAX_FD}
+use Rattle.af_base.specs.declared.limits.TheConstants.{MAX_BYTES, SCM_MAX_FD}
 use Rattle.af_base.proofs.Purged.{slice-by}
 use Rattle.af_base.proofs.Elements.{Contains-first, Contains-later, Contains-none}
 use Rattle.af_base.proofs.Lookups.{none_some, some_same}
 use Rattle.af_base.proofs.Stepped.{NoneFits, none-fits}
 use Rattle.af_base.proofs.Takes.{before, find-here, find-later, up_to}
-use Rattle.af_base.proofs.Within.{neither}
 use Rattle.scm_run.specs.Text.{IsShort}
 
 -- All messages of a queue are within the limits.
 abbrev AreWithin : List Message → Type 0
 AreWithin q = (m : Message) → Contains q m → IsMessageWithin m
 
--- What is found in a queue is in it.
+-- A message found in a queue is in it.
 found-within : (q : List Message) (m : Message) → find has_files q ≡ Some m → Contains q m
 found-within [] m e = absurd (none_some m e)
 found-within (x ∷ q) m e = by (found-within q m) (has_files x) refl where
@@ -48,7 +47,7 @@ found-within (x ∷ q) m e = by (found-within q m) (has_files x) refl where
   by rest true t = subst (Contains (x ∷ q)) (some_same x m (sym (find-here x q t) ∙ e)) (Contains-first x q)
   by rest false t = Contains-later x q m (rest (sym (find-later x q t) ∙ e))
 
--- A stream's receive takes no more bytes than it asks for, and the files of one message at most.
+-- A receive from a stream takes at most as many bytes as it asks for, and the files of one message at most.
 stream-within : (q : List Message) (n : ℕ) → n ≤ MAX_BYTES → AreWithin q → (o : Option Message) → find has_files q ≡ o → (length (up_to q n o).bytes ≤ MAX_BYTES) × (length (up_to q n o).attached ≤ SCM_MAX_FD)
 stream-within q n low k None e = (omega (arith, low, length-take (min n (before q)) (joined q)), by (nat_lt (before q) (min n (before q)))) where
   by : (b : Bool) → length (cond {A = List ℕ} b [] []) ≤ SCM_MAX_FD
@@ -88,7 +87,7 @@ second true true e = refl
 second true false e = absurd (false≢true (sym e))
 second false b e = absurd (false≢true (sym e))
 
--- What a receive answers, whether it takes or only looks.
+-- The reply of a receive or a peek.
 received-short : (w : World) (p n max_bytes max_fds : ℕ) → IsWithin w → NoneFits (recv_row w p n max_bytes) → IsShort (received w p n max_bytes max_fds)
 received-short w p n max_bytes max_fds k row = by (nat_eq (length (socket_on w p n).queue) 0) where
   asked : max_bytes ≤ MAX_BYTES
@@ -104,32 +103,32 @@ received-short w p n max_bytes max_fds k row = by (nat_eq (length (socket_on w p
   by true = tt
   by false = (taken.0, few)
 
--- What is answered where nothing refuses the step.
+-- The reply of a step that is not refused.
 answer-short : (w : World) (p : ℕ) (s : Step) → IsWithin w → refusal w p s ≡ None → IsShort (answer w p s)
 answer-short w p (step.Recv n max_bytes max_fds) k fits = received-short w p n max_bytes max_fds k (none-fits ((not (map.contains_key w.processes p), ESRCH) ∷ recv_row w p n max_bytes) fits).rest
 answer-short w p (step.Peek n max_bytes max_fds) k fits = received-short w p n max_bytes max_fds k (none-fits ((not (map.contains_key w.processes p), ESRCH) ∷ recv_row w p n max_bytes) fits).rest
 answer-short w p s k fits = tt
 
--- What an outcome answers.
+-- The reply of an outcome.
 outcome-short : (now old new : World) (answer r : Reply) (o : Option Errno) (frugal : Bool) → (o ≡ None → IsShort answer) → Outcome o frugal answer now old r new → IsShort r
 outcome-short now old new answer r (Some e) frugal short h = subst IsShort (sym h.0) tt
 outcome-short now old new answer r None true short h = subst IsShort (sym h.0) (short refl)
 outcome-short now old new answer r None false short (inl h) = subst IsShort (sym h.0) (short refl)
 outcome-short now old new answer r None false short (inr h) = subst IsShort (sym h.0) tt
 
--- What the begin of a pass answers.
+-- The reply to the begin of a pass.
 begin-short : (p : Pass) (old new : Machine) (r : Reply) → Begins p old r new → IsShort r
 begin-short Idle old new r h = subst IsShort (sym h.0) tt
 begin-short (Running begun spent) old new r h = subst IsShort (sym h.0) tt
 
--- What a slice answers that goes on.
+-- The reply to a slice that leaves work.
 goes-short : (begun old new : World) (spent b pass : ℕ) (r : Reply) (after : Pass) → Slices begun old spent b pass r new after → IsShort r
 goes-short begun old new spent b pass r after h = by h.answered where
   by : ((r ≡ reply.Working) × (after ≡ Running begun (spent + b)) × (spent + b ≤ 3 * map.len begun.files)) ⊎ ((n : ℕ) × IsGarbageCount begun n × (r ≡ reply.Done pass n) × (after ≡ Idle) × ((f : ℕ) → Garbage begun f → ¬ (IsLive new f))) → IsShort r
   by (inl w) = subst IsShort (sym w.0) tt
   by (inr d) = subst IsShort (sym d.2) tt
 
--- What a slice answers.
+-- The reply to a slice.
 slice-short : (p : Pass) (old new : Machine) (b : ℕ) (r : Reply) → GoesOn p old b r new → IsShort r
 slice-short Idle old new b r h = subst IsShort (sym h.0) tt
 slice-short (Running begun spent) old new b r h = elim (slice-by begun spent b old new r h) [
@@ -137,12 +136,12 @@ slice-short (Running begun spent) old new b r h = elim (slice-by begun spent b o
   | inr k ↦ goes-short begun old.world new.world spent b old.last_pass r new.pass k.0
 ]
 
--- What a whole pass answers.
+-- The reply to a whole pass.
 pass-short : (p : Pass) (old new : Machine) (r : Reply) → PassesWhole p old r new → IsShort r
 pass-short Idle old new r h = subst IsShort (sym h.0.answered) tt
 pass-short (Running begun spent) old new r h = subst IsShort (sym h.0) tt
 
--- What any event is answered with.
+-- The reply to any event.
 pub step-short : (old new : Machine) (e : Event) (r : Reply) → IsSound old.world → MachineStep old e r new → IsShort r
 step-short old new (event.Spawn uid nofile privileged) r sound h =
     outcome-short (spawned old.world uid nofile privileged) old.world new.world (reply.Pid old.world.next_pid) r (spawn_refusal old.world nofile) false (λ none. tt) h.0

@@ -1,4 +1,4 @@
--- What a script does, and what is written of it.
+-- The effect of a script, and the text that is written of it.
 pub mod Text
 pub mod Report
 pub mod Script

@@ -1,7 +1,7 @@
 -- The run of a script: what its lines do, what is written of them, and how it may stop.
 --
 -- Bytes are known of some readers and writers, as of those over memory, and of others, as of the
--- standard streams, they are not: `None` stands for these, and then nothing is claimed.
+-- standard streams, they are not: `None` is for these, and then nothing is claimed.
 use Rattle.std.specs.Prelude.{◌≡◌, ◌⊎◌, ℕ, ◌==◌, ◌+◌, ◌-◌, ◌<◌, List, [], ◌∷◌, ◌++◌, take, slice_get, map, Bool, true, false, Option, Some, None, Result, Ok, Err, ⊤}
 use Rattle.std.specs.List.{All, AllByRecursion, flat_map}
 use Rattle.std.specs.Str.Lines.{lines, strip_carriage_return}
@@ -31,23 +31,23 @@ Does old line.Version2 events text new = (events ≡ 0) × (text ≡ []) × (new
 Does old (line.Event event) events text new = (events ≡ 1) × ((reply : Reply) × Step old event reply new × (text ≡ reply_line reply))
 Does old (line.Report report) events text new = (events ≡ 0) × (IsReportText old.world report text ⊎ (text ≡ reply_line (reply.Refused ENOMEM))) × (new ≡ old)
 
--- Where a script stands between two lines: the machine, and what its lines so far say of its version.
+-- The state of a script between two lines: the machine, and the version by its lines so far.
 pub record Point : Type 0 where
   pub machine : Machine
   pub version : Version
 
 -- Where it begins: the fresh machine, and no version yet.
 abbrev pub first_point : Point
-first_point = record { machine = fresh; version = version.Unsaid }
+first_point = record { machine = fresh; version = version.Unknown }
 
--- The bytes of a line can be read at this point, and what they say leads from old to new, does so many events and has this text.
+-- The bytes of a line can be read at this point, lead from old to new, do this many events and have this text.
 pub record LineText (old : Point) (bytes : List ℕ) (events : ℕ) (text : List ℕ) (new : Point) : Type 0 where
   pub says : Line
   pub read : read_in old.version bytes ≡ Some says
   pub does : Does old.machine says events text new.machine
   pub version : new.version ≡ version_after old.version says
 
--- These lines, one after another, can be read, lead from old to new, do so many events and have this text.
+-- These lines, one after another, can be read, lead from old to new, do this many events and have this text.
 abbrev pub RunText : Point → List (List ℕ) → ℕ → List ℕ → Point → Type 0
 RunText old [] events text new = (events ≡ 0) × (text ≡ []) × (new ≡ old)
 RunText old (bytes ∷ others) events text new =
@@ -127,14 +127,14 @@ pub record WroteFirst (input : List ℕ) (before after : Option (List ℕ)) : Ty
   pub count : ℕ
   pub beginning : WroteBeginning (take count (lines input)) before after
 
--- What a fault that is not the reader's says of the input.
+-- The meaning of a fault that is not the reader's, for the input.
 abbrev pub FaultAt : List ℕ → Option (List ℕ) → Option (List ℕ) → RunFault → Type 0
 FaultAt input before after (fault.Unreadable number) = RanToUnreadable input before after number
 FaultAt input before after fault.Read = ⊥
 FaultAt input before after fault.Write = WroteFirst input before after
 FaultAt input before after fault.Memory = RanFirst input before after
 
--- What a fault says of the reader's input and of what was written.
+-- The meaning of a fault for the reader's input and the written text.
 abbrev pub StopsBy : Option (List ℕ) → Option (List ℕ) → Option (List ℕ) → Option (List ℕ) → RunFault → Type 0
 StopsBy told left before after fault.Read = RanAsRead told left before after
 StopsBy told left before after other = (input : List ℕ) × Tells told input × FaultAt input before after other

@@ -1,8 +1,9 @@
 -- The text of replies.
-use Rattle.std.specs.Prelude.{ℕ, ◌+◌, ◌/◌, ◌%◌, ◌==◌, ◌&&◌, ◌||◌, ◌≤◌, nat_le, nat_lt, length, List, [], ◌∷◌, ◌++◌, Bool, true, if◌then◌else◌, codes}
+use Rattle.std.specs.Prelude.{ℕ, ◌+◌, ◌/◌, ◌%◌, ◌==◌, ◌&&◌, ◌||◌, ◌≤◌, nat_le, nat_lt, length, List, [], ◌∷◌, ◌++◌, Bool, true, if◌then◌else◌, codes, Result, Ok, Err}
 use Rattle.std.specs.List.{flat_map}
 use Rattle.std.specs.Fmt.{decimal}
 use Rattle.af_base.specs.Errno.{name_of}
+use Rattle.af_base.specs.declared.errno.Errno.{Errno}
 use Rattle.af_base.specs.declared.events.Reply.{Reply}
 use Rattle.af_base.specs.declared.events.Reply.TheVariants as reply
 use Rattle.af_base.specs.declared.limits.TheConstants.{MAX_BYTES, SCM_MAX_FD}
@@ -32,11 +33,11 @@ spaced n = 32 ∷ decimal n
 abbrev pub fds_text : List ℕ → List ℕ
 fds_text fds = if length fds == 0 then [] else codes " fds" ++ flat_map spaced fds
 
--- A word that stands only where a flag is set.
+-- A word that is written only if a flag is set.
 abbrev pub flag_text : Bool → List ℕ → List ℕ
 flag_text flag word = if flag then word else []
 
--- What a receive took: the bytes, the numbers, and the two flags. This project's profile.
+-- The result of a receive: the bytes, the numbers, and the two flags. This project's profile.
 abbrev pub got_text : List ℕ → List ℕ → Bool → Bool → List ℕ
 got_text bytes fds trunc ctrunc = codes "got " ++ flat_map escaped bytes ++ fds_text fds ++ flag_text trunc (codes " trunc") ++ flag_text ctrunc (codes " ctrunc")
 
@@ -54,11 +55,16 @@ reply_text reply.Working = codes "working"
 reply_text (reply.Done pass reclaimed) = codes "pass " ++ decimal pass ++ codes " reclaimed " ++ decimal reclaimed
 reply_text (reply.Refused error) = name_of error
 
+-- The reply that tells what a call answered, or its error.
+abbrev pub reply_of : {A : Type 0} → (A → Reply) → Result A Errno → Reply
+reply_of tells (Ok answer) = tells answer
+reply_of tells (Err error) = reply.Refused error
+
 -- The line of a reply ends in a line feed.
 unfoldable pub reply_line : Reply → List ℕ
 reply_line answer = reply_text answer ++ 10 ∷ []
 
--- The reply is no longer than a step can make it: so many bytes and numbers of a receive at most. This project's profile.
+-- The reply is no longer than a step can make it: at most this many bytes and numbers of a receive. This project's profile.
 abbrev pub IsShort : Reply → Type 0
 IsShort (reply.Got bytes fds trunc ctrunc) = (length bytes ≤ MAX_BYTES) × (length fds ≤ SCM_MAX_FD)
 IsShort other = Unit {0}

@@ -10,8 +10,8 @@ use crate::text::MAX_REPLY_LINE;
 use scm_watched::{Watched, WriteFailed, write_whole};
 use std::io::Write;
 
-/// How many bytes of text are gathered at least before they are written for want of room. What is
-/// gathered is written before each read too.
+/// How many bytes of text are gathered at least before they are written for lack of room. Gathered
+/// text is written before each read too.
 const GATHERED: usize = 65_536;
 
 /// Writes what is gathered.

@@ -3,12 +3,15 @@
 //! A caller wants [`run_script`] and [`RunFault`]. Each line is read by `scm_lines`,
 //! done by an engine of `af_steps` (`line`), and its text, of a reply (`text`) or of a report
 //! (`af_report`), is made whole and gathered: it is written before the next read (`gather`).
+//! A process's step goes from its words to its text by a typed call (`steps`, `outcome`).
 #![tactic(auto)]
 
 mod fault;
 mod gather;
 mod line;
+mod outcome;
 mod run;
+mod steps;
 mod text;
 
 pub use fault::RunFault;

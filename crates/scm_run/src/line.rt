@@ -5,22 +5,23 @@ ghost use Rattle.af_base.specs.declared.events.Reply.TheVariants as reply;
 ghost use Rattle.scm_run.specs.Report.{IsReportText};
 ghost use Rattle.scm_run.specs.Text.{reply_line};
 ghost use Rattle.scm_run.specs.Script.{Does, is_read_fault, is_write_fault};
-ghost use Rattle.scm_run.specs.Line.{LineDone, LineStops};
+ghost use Rattle.scm_run.specs.Line.{LineDone, LineRead, LineStops};
 ghost use Rattle.scm_run.specs.declared.text.TheConstants.{MAX_REPLY_LINE};
 
 use crate::fault::RunFault;
 use crate::gather::make_room;
-use crate::text::push_reply;
+use crate::outcome::push_short;
+use crate::steps::do_step;
 use af_base::errno::Errno;
 use af_base::events::Reply;
 use af_report::{check, table, totals};
 use af_steps::Engine;
-use scm_lines::{Line, LineFault, Report, Version, read_in};
+use scm_lines::{Line, LineFault, Report, Version, read_in, verb_in};
 use scm_watched::Watched;
 use std::alloc::{AllocError, Global};
 use std::io::Write;
 
-/// The text of a report.
+/// Writes the text of a report.
 fn report_text(alloc: Global, engine: &Engine, report: Report) -> Result<Vec<u8>, AllocError>
     ensures { IfOk result (λ text. IsReportText engine.now.world report text.items) }
 {
@@ -42,7 +43,7 @@ fn answer_report(alloc: Global, engine: &Engine, report: Report, text: &mut Vec<
     {
         return;
     }
-    push_reply(text, &Reply::Refused(Errno::ENOMEM)).unwrap();
+    push_short(text, &Reply::Refused(Errno::ENOMEM));
 }
 
 /// Does what a line says, appends its text, and says how many events that were.
@@ -56,9 +57,9 @@ pub fn answer(alloc: Global, engine: &mut Engine, says: Line, text: &mut Vec<u8>
     match says {
         Line::Silence | Line::Version2 => 0,
         Line::Event(event) => {
-            // What a sound world answers is short.
-            engine.is_sound();
-            push_reply(text, &engine.step_owned(event)).unwrap();
+            // The reply of a sound world is short.
+            engine.lemma_is_sound();
+            push_short(text, &engine.step_owned(event));
             1
         }
         Line::Report(report) => {
@@ -68,11 +69,58 @@ pub fn answer(alloc: Global, engine: &mut Engine, says: Line, text: &mut Vec<u8>
     }
 }
 
-/// Does the line of this number, appends its text to what is gathered, and says how many events
-/// that were. Whether it can be read depends on the version that the lines before it gave, and it
-/// may give one.
-///
-/// What was gathered before is written first where too little room is left.
+/// Reads a line of any form, does what it says, and appends its text. It is apart, so that a
+/// process's step clears no room for what other lines say.
+#[inline(never)]
+fn do_any(
+    alloc: Global,
+    engine: &mut Engine,
+    version: &mut Version,
+    bytes: &[u8],
+    text: &mut Vec<u8>,
+) -> Result<u64, LineFault>
+    requires { vec_len text.old + MAX_REPLY_LINE ≤ vec_capacity text.old }
+    ensures read { LineRead (record { machine = engine.old; version = version.old }) bytes.now
+        text.old.items result text.new.items
+        (record { machine = engine.new; version = version.new }) }
+    ensures few { IfOk result (λ events. events ≤ 1) }
+{
+    let says = read_in(alloc, *version, bytes)?;
+    *version = version.after(&says);
+    Ok(answer(alloc, engine, says, text))
+}
+
+/// Reads a line, does what it says, and appends its text. Says how many events that were.
+#[tactic(auto, using(crate::proofs::StepLemmas::line_by_step, crate::proofs::StepLemmas::line_by_none))]
+fn do_bytes(
+    alloc: Global,
+    engine: &mut Engine,
+    version: &mut Version,
+    bytes: &[u8],
+    text: &mut Vec<u8>,
+) -> Result<u64, LineFault>
+    requires { vec_len text.old + MAX_REPLY_LINE ≤ vec_capacity text.old }
+    ensures read { LineRead (record { machine = engine.old; version = version.old }) bytes.now
+        text.old.items result text.new.items
+        (record { machine = engine.new; version = version.new }) }
+    ensures few { IfOk result (λ events. events ≤ 1) }
+{
+    let Some((pid, verb, rest)) = verb_in(*version, bytes) else {
+        return do_any(alloc, engine, version, bytes, text);
+    };
+    match do_step(alloc, engine, pid, verb, rest, text) {
+        Ok(()) => {
+            *version = version.after_event();
+            Ok(1)
+        }
+        Err(fault) => Err(fault),
+    }
+}
+
+/// Does the line of this number, appends its text to the gathered text, and returns how many events
+/// it did. Whether it can be read depends on the version that the lines before it set, and it may
+/// set one.
+#[tactic(auto, using(crate::proofs::StepLemmas::line_done, crate::proofs::StepLemmas::line_stops, crate::proofs::StepLemmas::line_starves))]
 pub fn do_line<W: Write>(
     alloc: Global,
     engine: &mut Engine,
@@ -89,12 +137,10 @@ pub fn do_line<W: Write>(
     ensures write { writer.new.has_failed ≡ is_write_fault result }
     ensures no_read { is_read_fault result ≡ false }
 {
-    let says = match read_in(alloc, *version, bytes) {
-        Ok(line) => line,
-        Err(LineFault::Unreadable) => return Err(RunFault::Unreadable(number)),
-        Err(LineFault::Memory) => return Err(RunFault::Memory),
-    };
     make_room(text, writer)?;
-    *version = version.after(&says);
-    Ok(answer(alloc, engine, says, text))
+    match do_bytes(alloc, engine, version, bytes, text) {
+        Ok(events) => Ok(events),
+        Err(LineFault::Unreadable) => Err(RunFault::Unreadable(number)),
+        Err(LineFault::Memory) => Err(RunFault::Memory),
+    }
 }

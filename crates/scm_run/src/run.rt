@@ -22,7 +22,7 @@ const CHUNK: usize = 8192;
 #[derive(Drop)]
 struct Run {
     engine: Engine,
-    /// What the lines that were done say of the script's version.
+    /// The script's version, by the lines that were done.
     version: Version,
     /// The bytes after the last line feed that was read.
     pending: Vec<u8>,
@@ -59,7 +59,7 @@ pub fn without_return(bytes: &[u8]) -> &[u8]
 }
 
 /// Appends bytes to a line that was begun; none is begun where it is empty.
-fn go_on(line: &mut Vec<u8>, bytes: &[u8]) -> Result<(), AllocError>
+fn append_to_pending(line: &mut Vec<u8>, bytes: &[u8]) -> Result<(), AllocError>
     ensures begun { OnOk result (0 < length line.old.items → line.new.items ≡ line.old.items ++ bytes.now) }
     ensures empty { line.old.items ≡ [] → line.new.items ≡ [] }
 {
@@ -69,7 +69,7 @@ fn go_on(line: &mut Vec<u8>, bytes: &[u8]) -> Result<(), AllocError>
     line.extend_from_slice(bytes)
 }
 
-/// The first of two, or the second where the first is empty.
+/// Returns the first of two, or the second if the first is empty.
 fn unless_empty<'a>(first: &'a [u8], second: &'a [u8]) -> &'a [u8]
     ensures some { 0 < length first.now → result.now ≡ first.now }
     ensures none { first.now ≡ [] → result.now ≡ second.now }
@@ -77,7 +77,7 @@ fn unless_empty<'a>(first: &'a [u8], second: &'a [u8]) -> &'a [u8]
     if first.is_empty() { second } else { first }
 }
 
-/// Whether a line that begins with these bytes may be short enough.
+/// Returns whether a line that begins with these bytes may be short enough.
 ///
 /// A carriage return may still belong to the line's end.
 fn may_fit(bytes: &[u8]) -> bool
@@ -87,13 +87,13 @@ fn may_fit(bytes: &[u8]) -> bool
 }
 
 impl Run {
-    /// Nothing was read yet.
+    /// Makes a run that has read nothing.
     fn new(alloc: Global) -> Result<Self, AllocError>
         ensures { IfOk result (λ r. r ≡ nothing_read) }
     {
         Ok(Run {
             engine: Engine::new(alloc)?,
-            version: Version::Unsaid,
+            version: Version::Unknown,
             pending: Vec::new(alloc),
             text: Vec::new(alloc),
             events: 0,
@@ -116,7 +116,7 @@ impl Run {
         ensures no_read { is_read_fault result ≡ false }
     {
         let number = self.done.checked_add(1).ok_or(RunFault::Memory)?;
-        go_on(&mut self.pending, back)?;
+        append_to_pending(&mut self.pending, back)?;
         let line = unless_empty(self.pending.as_slice(), back);
         let events = do_line(
             alloc,
@@ -151,7 +151,7 @@ impl Run {
         }
     }
 
-    /// The fault of a line that is too long.
+    /// Makes the fault of a line that is too long.
     fn too_long(&self) -> RunFault
         ensures { TooLong self.now.done result }
     {
@@ -275,7 +275,7 @@ impl Run {
         ensures write { writer.new.has_failed ≡ is_write_fault result }
     {
         let mut chunk = [0; CHUNK];
-        // The count stands for "for ever": no run comes to its end.
+        // The bound is never met: no run does so many lines.
         for _ in 0..u64::MAX {
             let Ok(count) = reader.read(&mut chunk) else {
                 return Err(RunFault::Read);

@@ -16,14 +16,14 @@ pub const MAX_REPLY_LINE: usize = 3 * MAX_BYTES + 21 * SCM_MAX_FD + 64;
 /// How many bytes of a message are appended at once.
 const BLOCK: usize = 256;
 
-/// Whether a byte is printed as itself.
+/// Returns whether a byte is printed as itself.
 fn is_plain(byte: u8) -> bool
     ensures { result ≡ is_plain byte }
 {
     matches!(byte, b'0'..=b'9' | b'A'..=b'Z' | b'a'..=b'z' | b'_' | b'-' | b'.')
 }
 
-/// A capital hexadecimal digit.
+/// Returns a capital hexadecimal digit.
 fn hex_digit(value: u8) -> u8
     requires { value < 16 }
     ensures digit { result ≡ hex_digit value }
@@ -36,8 +36,8 @@ fn hex_digit(value: u8) -> u8
     }
 }
 
-// What appends to a text fails only where there was no room for as many bytes as it may take, and
-// then some beginning may stand in the text; room is never lost.
+// Appending to a text fails only without room for as many bytes as it may take, and then some
+// beginning may be in the text; room is never lost.
 
 /// Appends a word.
 fn push_word(text: &mut Vec<u8>, word: &str) -> Result<(), AllocError>
@@ -66,7 +66,7 @@ fn push_escaped(text: &mut Vec<u8>, byte: u8) -> Result<(), AllocError>
     Ok(())
 }
 
-/// Whether each byte is printed as itself.
+/// Returns whether each byte is printed as itself.
 ///
 /// It looks at all of them, whatever the first ones are: so the bytes are looked at many at a time.
 fn all_plain(bytes: &[u8]) -> bool
@@ -166,7 +166,7 @@ fn push_fds(text: &mut Vec<u8>, fds: &[Fd]) -> Result<(), AllocError>
     push_numbers(text, fds)
 }
 
-/// Appends a word, where it is to stand.
+/// Appends a word, if its flag is set.
 fn push_flag(text: &mut Vec<u8>, flag: bool, word: &str) -> Result<(), AllocError>
     ensures bytes { OnOk result (text.new.items ≡ text.old.items ++ flag_text flag word.now) }
     ensures most { OnOk result (vec_len text.new ≤ vec_len text.old + length word.now) }
@@ -236,8 +236,8 @@ fn push_text(text: &mut Vec<u8>, reply: &Reply) -> Result<(), AllocError>
 
 /// Appends the line of a reply, with its line feed.
 ///
-/// Where memory runs out, some beginning of the line may stand in the text. It does not where there
-/// was room for a line of `MAX_REPLY_LINE` bytes, and the reply is one that a step may give.
+/// If memory runs out, some beginning of the line may be in the text. It does not with room for a
+/// line of `MAX_REPLY_LINE` bytes, if the reply is one that a step may give.
 #[inline(always)]
 #[tactic(auto, unfolding(crate::specs::Text::reply_line))]
 pub fn push_reply(text: &mut Vec<u8>, reply: &Reply) -> Result<(), AllocError>

@@ -1,4 +1,4 @@
-//! What no case of `scm_cases` can show: streams that fail, and scripts that are long or no text.
+//! Tests beyond the cases of `scm_cases`: streams that fail, and scripts that are long or no text.
 mod cuts;
 mod faults;
 mod lines;

@@ -51,17 +51,17 @@ fn kind_or_count(answer: io::Result<usize>) -> Result<usize, ErrorKind> {
     }
 }
 
-/// Reads once, and says how many bytes. A test looks at that and no further, so this promises nothing.
+/// Reads once, and returns how many bytes. A test reads that alone, so this promises nothing.
 fn read<R: Read>(input: &mut Watched<R>, buf: &mut [u8]) -> Result<usize, ErrorKind> {
     kind_or_count(input.read(buf))
 }
 
-/// Writes once, and says how many bytes.
+/// Writes once, and returns how many bytes.
 fn write<W: Write>(output: &mut Watched<W>, bytes: &[u8]) -> Result<usize, ErrorKind> {
     kind_or_count(output.write(bytes))
 }
 
-/// Flushes once, and says whether that was done.
+/// Flushes once, and returns whether that was done.
 fn flushes<W: Write>(output: &mut Watched<W>) -> bool {
     output.flush().is_ok()
 }

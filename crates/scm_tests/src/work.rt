@@ -24,7 +24,7 @@ fn stand_for<T: Abort + AllocGlobal>(rt: &T, words: &[(u64, Step)]) -> Result<()
     Ok(())
 }
 
-/// A send of so many letters x, with these numbers.
+/// Makes a send of this many letters x, with these descriptors.
 fn send<T: AllocGlobal>(
     rt: &T,
     on: u32,
@@ -50,7 +50,7 @@ fn connect<T: AllocGlobal>(rt: &T, on: u32, name: &[u8]) -> Result<Step, AllocEr
     })
 }
 
-/// Words, with the steps that they stand for.
+/// Words, with their steps.
 const WORDS: [(u64, Step); 9] = [
     (0, Step::Open),
     (2, Step::Dup(Fd(0))),

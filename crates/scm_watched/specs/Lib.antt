@@ -1,3 +1,3 @@
--- What a watched reader or writer has done.
+-- The history of a watched reader or writer.
 pub mod Watch
 pub mod Watched

@@ -12,6 +12,6 @@ abbrev pub is_failed_write : {E : Type 0} → Result ℕ E → List ℕ → Bool
 is_failed_write (Ok n) bytes = (n == 0) && not (length bytes == 0)
 is_failed_write (Err e) bytes = true
 
--- What the writer holds grew by a beginning of these bytes.
+-- The bytes that the writer holds grew by a beginning of these.
 abbrev pub AppendsFront : Option (List ℕ) → Option (List ℕ) → List ℕ → Type 0
 AppendsFront old new bytes = (front rest : List ℕ) × (bytes ≡ front ++ rest) × Appends old new front

@@ -36,14 +36,14 @@ impl<T> Watched<T> {
         }
     }
 
-    /// The reader or the writer.
+    /// Returns the reader or the writer.
     pub fn inner(&self) -> &T
         ensures { result.now ≡ self.now.inner }
     {
         &self.inner
     }
 
-    /// Whether a call has failed, or a write took no byte of some.
+    /// Returns whether a call has failed, or a write took no byte of some.
     pub fn failed(&self) -> bool
         ensures { result ≡ self.now.has_failed }
     {

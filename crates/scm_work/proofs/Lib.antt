@@ -1,3 +1,4 @@
 -- Lemmas.
+pub mod Counts
 pub mod Own
 pub mod Words

@@ -1,4 +1,4 @@
--- Whose events a script has.
+-- All events of a script are of its own process.
 use Rattle.std.proofs.Common.{ℕ, ◌-◌, List, [], ◌∷◌, ◌++◌, map, refl}
 use Rattle.std.specs.List.{All}
 use Rattle.std.proofs.lemmas.List.Elements.{All-append, All-map}
@@ -13,7 +13,7 @@ use Rattle.scm_work.specs.Table.{event_of_word}
 own-steps : (process : ℕ) → (steps : List Step) → All (IsStepOf process) (map (event.Proc process) steps)
 own-steps process steps = All-map (IsStepOf process) (event.Proc process) steps (λ k d _. refl)
 
--- What words stand for are steps of the worker's process.
+-- Words stand for steps of the worker's process.
 own-words : (worker workers : ℕ) → (words : List ℕ) → All (IsStepOf worker) (map (event_of_word worker workers) words)
 own-words worker workers words = All-map (IsStepOf worker) (event_of_word worker workers) words (λ k d _. refl)
 

@@ -15,7 +15,7 @@ use Rattle.scm_work.specs.Table.{event_of_word, name_of}
 abbrev pub listener_type : ℕ → SockType
 listener_type worker = if worker % 2 == 1 then Stream else Seqpacket
 
--- What each worker does first: it makes a listener at 0, with room for 8, and a pair.
+-- The first events of a worker: it makes a listener at 0 with a backlog of 8, and a pair.
 abbrev pub opening_steps : ℕ → List Step
 opening_steps worker =
     step.Socket (listener_type worker)
@@ -32,7 +32,7 @@ abbrev pub IsStepOf : ℕ → Event → Type 0
 IsStepOf process (event.Proc p step) = p ≡ process
 IsStepOf process _ = ⊥
 
--- A generator's state after so many jumps (Blackman and Vigna's `jump` of xoshiro256).
+-- A generator's state after n jumps (Blackman and Vigna's `jump` of xoshiro256).
 unfoldable pub jumped : ℕ → List ℕ → List ℕ
 jumped zero state = state
 jumped (suc n) state = jump jump_polynomial (jumped n state)

@@ -12,7 +12,7 @@ use Rattle.af_base.specs.declared.events.Event.TheVariants as event
 abbrev pub part : ℕ → ℕ → ℕ → ℕ
 part word bit n = word / 2 ^ bit % n
 
--- The type of sockets that a number stands for.
+-- The socket type of a number.
 abbrev pub type_of : ℕ → SockType
 type_of n = if n % 2 == 0 then Stream else Seqpacket
 
@@ -27,7 +27,7 @@ attached_of extra first second =
     else if nat_le extra 5 then first ∷ second ∷ []
     else []
 
--- The step that a word stands for where there are so many workers: its lowest five bits say in which row, and each row goes up to the number that is tested.
+-- The step of a word with n workers: its lowest five bits choose a row, and each row applies up to the number that is tested.
 abbrev pub step_of_word : ℕ → ℕ → Step
 step_of_word workers word =
     let row = part word 0 32 in
@@ -49,6 +49,6 @@ step_of_word workers word =
     else if nat_le row 24 then step.Send on (replicate (extra + 1) 120) (attached_of extra second third)
     else step.Recv on 16 4
 
--- The event that a word stands for: a step of the process that has the worker's number.
+-- The event of a word: a step of the process that has the worker's number.
 abbrev pub event_of_word : ℕ → ℕ → ℕ → Event
 event_of_word worker workers word = event.Proc worker (step_of_word workers word)

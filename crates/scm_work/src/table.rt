@@ -22,7 +22,7 @@ const RECEIVED_BYTES: u32 = 16;
 /// How many descriptors a receive takes at most.
 const RECEIVED_FDS: u32 = 4;
 
-/// The part of a word that begins at this bit, as a number below `below`.
+/// Returns the part of a word that begins at this bit, as a number below `below`.
 fn part(word: u64, bit: u32, below: u32) -> u32
     requires bit { bit < 64 }
     requires below { 0 < below }
@@ -31,7 +31,7 @@ fn part(word: u64, bit: u32, below: u32) -> u32
     ((word >> bit) % u64::from(below)) as u32
 }
 
-/// The type of sockets that a number stands for: streams where it is even.
+/// Returns the socket type of a number: a stream if it is even.
 fn type_of(number: u32) -> SockType
     ensures { result ≡ type_of number }
 {
@@ -49,7 +49,7 @@ pub fn listener_name(alloc: Global, worker: u32) -> Result<Items<u8>, AllocError
     Ok(Items::of(format!(in alloc; "w{worker}")?.into_bytes()))
 }
 
-/// The descriptors that go with a message.
+/// Makes the list of a message's descriptors.
 fn attached(alloc: Global, extra: u32, first: Fd, second: Fd) -> Result<Items<Fd>, AllocError>
     ensures { IfOk result (λ fds. fds ≡ attached_of extra first second) }
 {
@@ -61,7 +61,7 @@ fn attached(alloc: Global, extra: u32, first: Fd, second: Fd) -> Result<Items<Fd
     Ok(Items::of(fds))
 }
 
-/// The step that a word stands for.
+/// Returns the step of a word.
 fn step_of_word(alloc: Global, workers: u32, word: u64) -> Result<Step, AllocError>
     requires { (1 ≤ workers) × (workers ≤ MAX_WORKERS) }
     ensures { IfOk result (λ step. step ≡ step_of_word workers word) }
@@ -99,8 +99,8 @@ fn step_of_word(alloc: Global, workers: u32, word: u64) -> Result<Step, AllocErr
     Ok(step)
 }
 
-/// Makes the event that a word stands for, of the worker with this number, where there are so many.
-/// The process of a worker has its number. The error says that memory was refused.
+/// Makes the event of a word, for the worker with this number among this many. The process of a
+/// worker has its number. Fails only if memory is refused.
 pub fn event_of_word(
     alloc: Global,
     worker: u32,

@@ -1,4 +1,4 @@
-//! What an audit finds.
+//! The faults that an audit finds.
 use super::bench::{Outcome, Play, end_of, spawn_from, stray_seat};
 use af_layer::{CloseFault, Layer, Seat};
 use std::alloc::Global;
@@ -93,8 +93,8 @@ impl Play for Double {
     }
 }
 
-/// The audit of a layer of two seats finds this fault. The log has so many entries, and so many seats
-/// are handed back.
+/// Returns the outcome of an audit of a layer of two seats that finds this fault, with this many
+/// log entries and returned seats.
 fn found(fault: CloseFault, entries: usize, seats: usize) -> Option<Outcome> {
     Some(Outcome {
         fault: Some(fault),

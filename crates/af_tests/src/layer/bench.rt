@@ -33,7 +33,8 @@ fn send(alloc: Global, on: u32, attach: u32) -> Result<Step, AllocError> {
     })
 }
 
-/// What a process does at this turn: it sends ends of pairs to each other and loses them.
+/// Returns the event of a process at this turn: processes send ends of pairs to each other and lose
+/// them.
 pub fn event_at(alloc: Global, pid: u32, turn: u32) -> Result<Event, AllocError> {
     let what = match turn % 11 {
         0 => Step::Pair(SockType::Seqpacket),
@@ -59,7 +60,7 @@ pub fn event_at(alloc: Global, pid: u32, turn: u32) -> Result<Event, AllocError>
     Ok(step(pid, what))
 }
 
-/// What a process does in so many turns.
+/// Returns the events of a process in this many turns.
 pub fn script(alloc: Global, pid: u32, turns: u32) -> Result<Vec<Event>, AllocError> {
     let mut script = Vec::new(alloc);
     for turn in 0..turns {
@@ -68,7 +69,7 @@ pub fn script(alloc: Global, pid: u32, turns: u32) -> Result<Vec<Event>, AllocEr
     Ok(script)
 }
 
-/// The scripts of so many processes.
+/// Returns the scripts of this many processes.
 pub fn scripts(alloc: Global, count: u32, turns: u32) -> Result<Vec<Vec<Event>>, AllocError> {
     let mut scripts = Vec::new(alloc);
     for before in 0..count {
@@ -87,10 +88,10 @@ pub fn spawn_from<R: Wait>(rt: &R, layer: &Layer, seat: &mut Seat, processes: u3
     true
 }
 
-/// What became of a layer.
+/// The outcome of a layer.
 #[derive(Clone, Copy, PartialEq, Eq)]
 pub struct Outcome {
-    /// What the audit found, if anything.
+    /// The fault that the audit found, if any.
     pub fault: Option<CloseFault>,
     /// How many entries the log has.
     pub entries: usize,
@@ -103,7 +104,7 @@ fn close(layer: Layer, seats: Vec<Seat>) -> Result<Closed, CloseError> {
     layer.close(seats)
 }
 
-/// What became of a layer that was closed.
+/// Returns the outcome of a closed layer.
 fn outcome_of(closed: &Result<Closed, CloseError>) -> Outcome {
     match closed {
         Ok(closed) => Outcome {
@@ -119,13 +120,13 @@ fn outcome_of(closed: &Result<Closed, CloseError>) -> Outcome {
     }
 }
 
-/// What becomes of the layer when these seats are handed in.
+/// Closes the layer with these seats, and returns the outcome.
 pub fn end(layer: Layer, seats: Vec<Seat>) -> Outcome {
     let closed = close(layer, seats);
     outcome_of(&closed)
 }
 
-/// What is done to a layer.
+/// The use of a layer by a test.
 pub trait Play {
     /// It is done from these seats, which are all that the layer has. The seats that are to be handed
     /// in, or nothing where it could not be done. An impl has no bound `Sync` but by the clause.
@@ -139,8 +140,8 @@ pub trait Play {
         requires { IsSync R.row };
 }
 
-/// What becomes of a new layer with so many seats. This owns it, so that no test does: each owner is
-/// proved to let go of all it has, at each of its ends.
+/// Returns the outcome of a new layer with this many seats. This function owns it, so that no test
+/// does: the prover shows for each owner, at each of its ends, that all is released.
 pub fn end_of<R: Threads + Wait + Sync, P: Play>(
     rt: &R,
     alloc: Global,

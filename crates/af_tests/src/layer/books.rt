@@ -10,7 +10,7 @@ use std::alloc::Global;
 use std::process::Abort;
 use std::test::Fail;
 
-/// What came of a call.
+/// The outcome of a call.
 #[derive(Clone, Copy, Drop)]
 enum Came {
     /// It was done and logged.
@@ -32,7 +32,7 @@ fn shown(book: &Book, seat: &Seat) -> (usize, usize, u64, u64) {
     )
 }
 
-/// What came of a call that was logged with this reply.
+/// Returns the outcome of a call that was logged with this reply.
 fn came_of(reply: &Reply) -> Came {
     if *reply == Reply::Refused(Errno::ENOMEM) {
         Came::NoMemory
@@ -65,7 +65,7 @@ fn call_in(book: &mut Book, seat: &mut Seat, event: Event) -> Came {
     }
 }
 
-/// A call under another seat's number: the log goes on by what is answered, or stays.
+/// Calls under another seat's number: the log is extended by the answer, or is unchanged.
 fn call(book: &mut Book, seat: &Seat, event: Event) -> Came {
     let before = shown(book, seat);
     let answered = book.call(2, event);

@@ -1,4 +1,4 @@
-//! What seats and log have of the scripts of a drive.
+//! The seats and the log after a drive of scripts.
 use super::bench::{Outcome, Play, end_of, event_at, scripts, spawn_from};
 use af_base::equality::events_equal;
 use af_layer::{Layer, OpenGate, Seat, Turns, drive};

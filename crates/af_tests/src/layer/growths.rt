@@ -44,8 +44,8 @@ fn wants_memory(error: &DriveError) -> bool {
     }
 }
 
-/// All seats behind a drive of a script and a collector, and whether it stopped for want of memory if it
-/// stopped. Nothing, where the script could not be made.
+/// Returns all seats after a drive of a script and a collector, and whether it stopped, if it did,
+/// for lack of memory; `None` if the script could not be made.
 fn driven<R: Threads + Wait + Sync>(
     rt: &R,
     alloc: Global,
@@ -76,8 +76,8 @@ fn are_done<R: Wait>(rt: &R, alloc: Global, layer: &Layer, seat: &mut Seat) -> b
     true
 }
 
-/// All seats behind calls from the last one and a drive over the others, and whether all went as it
-/// says. Nothing, where the script could not be made.
+/// Returns all seats after calls from the last one and a drive over the others, and whether all was
+/// as described; `None` if the script could not be made.
 fn played<R: Threads + Wait + Sync>(
     rt: &R,
     alloc: Global,
@@ -91,8 +91,8 @@ fn played<R: Threads + Wait + Sync>(
     Some((seats, done && as_told && all_back))
 }
 
-/// Whether all went as it says, up to the audit. Nothing, where no layer was opened, or the script
-/// could not be made.
+/// Returns whether all was as described, up to the audit; `None` if no layer was opened, or the
+/// script could not be made.
 fn is_as_told<R: Threads + Wait + Sync>(rt: &R, alloc: Global) -> Option<bool> {
     let (layer, seats) = Layer::open(alloc, 3).ok()?;
     let (seats, as_told) = played(rt, alloc, &layer, seats)?;

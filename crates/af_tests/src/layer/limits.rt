@@ -1,5 +1,5 @@
-//! What is refused at a limit: a call where the log is full, a layer of too few or too many seats,
-//! and a drive of more work than seats.
+//! Refusals at a limit: a call with a full log, a layer of too few or too many seats, and a drive
+//! of more work than seats.
 use super::bench::{Outcome, Play, end_of, scripts};
 use af_base::events::Event;
 use af_layer::{
@@ -14,8 +14,8 @@ use std::thread::Threads;
 /// How many entries a log may have.
 const ENTRIES: usize = 1_048_576;
 
-/// Makes so many calls, and returns whether all were done. Each is a slice where no pass runs,
-/// which is logged as refused.
+/// Makes this many calls, and returns whether all were done. Each is a slice without a pass, which
+/// is logged as refused.
 fn fill(book: &mut Book, calls: usize) -> bool {
     for _ in 0..calls {
         if book.call(1, Event::Slice(1)).is_err() {
@@ -49,7 +49,7 @@ fn log_is_full_after_1_048_576_calls(rt: HostRuntime) -> Result<(), Fail> {
     Ok(())
 }
 
-/// Returns why no layer of so many seats is opened, if none is.
+/// Returns why no layer of this many seats is opened, if none is.
 fn refusal_of(alloc: Global, seats: u32) -> Option<OpenError> {
     Layer::open(alloc, seats).err()
 }

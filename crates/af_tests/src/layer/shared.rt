@@ -32,8 +32,9 @@ fn tables_agree<R: Wait>(rt: &R, shared: &Shared, engine: &mut Engine) -> bool {
 }
 
 /// The same with calls on sockets.
-fn sockets_agree<R: Wait>(rt: &R, shared: &Shared, engine: &mut Engine, name: &Items<u8>) -> bool {
+fn sockets_agree<R: Wait>(rt: &R, shared: &Shared, engine: &mut Engine) -> bool {
     let kind = SockType::Stream;
+    let name = b"bell";
     shared.socket(rt, PID, kind) == engine.socket(PID, kind)
         && shared.bind(rt, PID, Fd(1), name) == engine.bind(PID, Fd(1), name)
         && shared.listen(rt, PID, Fd(1), 1) == engine.listen(PID, Fd(1), 1)
@@ -87,9 +88,8 @@ fn count_alike(one: &Engine, other: &Engine) -> bool {
 fn agree<R: Wait>(rt: &R, alloc: Global) -> Result<bool, AllocError> {
     let shared = Shared::new(alloc)?;
     let mut engine = Engine::new(alloc)?;
-    let name = Items::of(b"bell".to_vec(alloc)?);
     let same = tables_agree(rt, &shared, &mut engine)
-        && sockets_agree(rt, &shared, &mut engine, &name)
+        && sockets_agree(rt, &shared, &mut engine)
         && messages_agree(rt, alloc, &shared, &mut engine)?
         && passes_agree(rt, &shared, &mut engine);
     Ok(same && count_alike(&shared.into_engine(), &engine))

@@ -98,8 +98,8 @@ fn filled<R: Threads + Wait + Sync>(
     drive(rt, layer, seats, scripts, None, &OpenGate).ok()
 }
 
-/// The seats behind a drive over these files. It connects from each seat but the last, which begins
-/// a pass and goes on with it. Four slices of the largest budget end a pass over all files.
+/// Returns the seats after a drive over these files. It connects from each seat but the last, which
+/// begins a pass and continues it. Four slices of the largest budget end a pass over all files.
 fn connected<R: Threads + Wait + Sync>(
     rt: &R,
     alloc: Global,
@@ -134,7 +134,7 @@ fn went_as_told(seats: &[Seat]) -> bool {
     }
 }
 
-/// All files are made, and a pass goes over them while each seat asks for one more.
+/// All files are made, and a pass visits them while each seat asks for one more.
 struct Wide;
 
 impl Play for Wide {

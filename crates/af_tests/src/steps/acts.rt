@@ -7,7 +7,7 @@ use af_steps::Engine;
 use std::alloc::{AllocError, Global};
 use std::process::Abort;
 
-/// An event. What has no pid is a step of process 1; sockets are of the type SOCK_STREAM.
+/// An event. Without a pid it is a step of process 1; sockets are of the type SOCK_STREAM.
 #[derive(Clone, Copy)]
 pub enum Act {
     /// A process of this user starts, with 16 descriptors at most. User 0 is privileged.
@@ -28,7 +28,7 @@ pub enum Act {
     Send(u32, &'static [u8], &'static [u32]),
     /// At most nine bytes and eight descriptors are received.
     Recv(u32),
-    /// What such a receive would take is seen.
+    /// Peeks what such a receive would take.
     Peek(u32),
     /// The limit on descriptors is this from now on.
     Limit(u32),
@@ -168,7 +168,7 @@ fn fds_of(alloc: Global, fds: &[u32]) -> Result<Items<Fd>, AllocError> {
     Ok(Items::of(items))
 }
 
-/// What the engine answers. A test looks at that and no further, so this promises nothing.
+/// Returns the reply of the engine. A test reads it and nothing else, so this promises nothing.
 pub fn reply_to(engine: &mut Engine, event: &Event) -> Reply {
     engine.step(event)
 }
@@ -193,7 +193,7 @@ pub fn play(
     Ok(())
 }
 
-/// What is tried on an engine.
+/// The use of an engine by a test.
 pub trait Trial {
     /// It is tried on this engine, which is new.
     fn on<T: Abort>(&self, rt: &T, alloc: Global, engine: &mut Engine) -> Result<(), AllocError>;

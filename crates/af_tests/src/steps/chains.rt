@@ -1,4 +1,4 @@
-//! A long chain of sockets, which goes by one close.
+//! A long chain of sockets, which one close frees.
 use super::acts::{Act, Answer, Trial, on_new_engine, play};
 use af_steps::Engine;
 use std::alloc::{AllocError, Global};
@@ -21,7 +21,7 @@ static ROUND: [(Act, Answer); 5] = [
     (Act::Close(3), Answer::Ok),
 ];
 
-/// So many files are live, and so many descriptors in flight.
+/// Asserts that this many files are live, and this many descriptors in flight.
 fn has(rt: &impl Abort, engine: &Engine, live: usize, in_flight: u64) {
     assert!(rt; engine.live() == live && engine.total() == in_flight);
 }

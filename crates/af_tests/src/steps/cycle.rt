@@ -8,8 +8,8 @@ use std::alloc::{AllocError, Global};
 use std::process::Abort;
 use std::test::Fail;
 
-/// Returns the events that put socket 1 of a pair into its own queue and close its number. Number 1
-/// stands for socket 2.
+/// Returns the events that put socket 1 of a pair into its own queue and close its descriptor.
+/// Descriptor 1 refers to socket 2.
 fn cycle_events(alloc: Global) -> Result<Vec<Event>, AllocError> {
     let events = vec![in alloc;
         Event::Spawn {

@@ -8,7 +8,7 @@ use std::alloc::{AllocError, Global};
 use std::process::Abort;
 use std::test::Fail;
 
-/// Starts a process with the highest limit, which opens so many files.
+/// Starts a process with the highest limit, which opens this many files.
 fn open_many(rt: &impl Abort, engine: &mut Engine, pid: Pid, files: u32) {
     let spawn = Event::Spawn {
         uid: Uid(1000),

@@ -9,9 +9,10 @@ use std::alloc::{AllocError, Global};
 use std::process::Abort;
 use std::test::Fail;
 
-/// Each event that may want memory, with its reply where it has some. But for the first four a pass
-/// marks, since a file is in flight all along. What goes at the end wants none: a socket in its own
-/// queue, a listener in the queue of a socket that it accepted, and what they hold.
+/// Each event that may ask for memory, with its reply if it gets some. But for the first four a
+/// pass marks, since a file is in flight all along. The files freed at the end need none: a socket
+/// in its own queue, a listener in the queue of a socket that it accepted, and those that they
+/// hold.
 static ROWS: [(Act, Answer); 40] = [
     (Act::Spawn(1000), Answer::Pid(1)),
     (Act::Open, Answer::Fd(0)),
@@ -55,8 +56,8 @@ static ROWS: [(Act, Answer); 40] = [
     (Act::Pass, Answer::Done(2, 4)),
 ];
 
-/// What the views count of the first four files, the last of which is to listen, of user 1000, and of
-/// all.
+/// Returns the counts that the views show of the first four files, the last of which is to listen,
+/// of user 1000, and of all.
 fn shown(engine: &Engine) -> [(u64, u64); 9] {
     [
         counts(engine, 1),
@@ -71,8 +72,8 @@ fn shown(engine: &Engine) -> [(u64, u64); 9] {
     ]
 }
 
-/// The event has this reply, at the second trial where the first was refused for want of memory;
-/// then nothing had changed.
+/// Does the event, which has this reply, at the second try if the first was refused memory; then
+/// nothing had changed.
 fn done(rt: &impl Abort, engine: &mut Engine, event: &Event, wanted: &Reply) {
     let before = shown(engine);
     let mut reply = reply_to(engine, event);

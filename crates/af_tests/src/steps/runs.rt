@@ -24,8 +24,8 @@ fn rounds(alloc: Global) -> Result<Vec<Event>, AllocError> {
     Ok(events)
 }
 
-/// What the replies so far tell: whether the process lives and has its number open, and how often
-/// memory was wanted, for an event or for its reply.
+/// The replies so far: whether the process lives and its descriptor is open, and how often memory
+/// was refused, for an event or for its reply.
 #[derive(Drop)]
 struct Told {
     lives: bool,
@@ -86,8 +86,8 @@ fn run(rt: &impl Abort, engine: &mut Engine, events: &[Event], told: &mut Told) 
     }
 }
 
-/// All events are run, and memory is wanted once at most. Where a run stops, another one goes on
-/// behind it.
+/// Runs all events, for which memory is refused once at most. Where a run stops, another one
+/// continues behind it.
 fn run_all(rt: &impl Abort, engine: &mut Engine, events: &[Event]) {
     let mut told = Told {
         lives: false,

@@ -28,7 +28,7 @@ static PLAIN: [Row; 10] = [
 ];
 
 /// Messages between the ends of a pair, files 4 and 5, and events that are refused. A receive that
-/// installs no more than two of four descriptors frees both other files.
+/// installs at most two of four descriptors frees both other files.
 static MESSAGES: [Row; 19] = [
     (Act::Pair, Answer::Fds(0, 1), &[], &[4, 5]),
     (Act::Send(0, b"a", &[]), Answer::Sent(1), &[], &[5]),
@@ -62,7 +62,7 @@ static MESSAGES: [Row; 19] = [
 ];
 
 /// Listener 8, its client 9 with embryo 10, which is accepted, and client 11 with embryo 12, which
-/// goes with the listener.
+/// is freed with the listener.
 static LISTENER: [Row; 14] = [
     (Act::Socket, Answer::Fd(0), &[], &[8]),
     (Act::Bind(0, b"hub"), Answer::Ok, &[], &[]),
@@ -176,7 +176,7 @@ fn are_changed(engine: &Engine, wanted: &[u64]) -> bool {
     changed.len() == wanted.len() && wanted.iter().all(|ino| is_listed(changed, *ino))
 }
 
-/// Returns whether nothing is told.
+/// Returns whether nothing is reported.
 fn is_silent(engine: &Engine) -> bool {
     are_released(engine, &[]) && are_changed(engine, &[])
 }
@@ -189,8 +189,7 @@ fn may_allocate(act: Act) -> bool {
     )
 }
 
-/// Does the event, at a second trial where the first was refused for want of memory, which tells
-/// nothing.
+/// Does the event, at a second try if the first was refused memory, which reports nothing.
 fn done(rt: &impl Abort, engine: &mut Engine, act: Act, event: &Event, wanted: &Reply) {
     let mut reply = reply_to(engine, event);
     if reply == Reply::Refused(Errno::ENOMEM) && may_allocate(act) {
@@ -264,7 +263,7 @@ fn is_writable(engine: &Engine) -> bool {
     engine.poll(Pid(1), Fd(0)).is_ok_and(|ready| ready.writable)
 }
 
-/// Asks for both lists, at a second trial where the first was refused for want of memory.
+/// Asks for both lists, at a second try if the first was refused memory.
 fn ask(engine: &mut Engine) -> Result<(), AllocError> {
     if engine.tell_released().is_err() {
         engine.tell_released()?;
@@ -281,12 +280,9 @@ struct Each;
 impl Trial for Each {
     fn on<T: Abort>(&self, rt: &T, alloc: Global, engine: &mut Engine) -> Result<(), AllocError> {
         ask(engine)?;
-        tells(rt, alloc, engine, &PLAIN)?;
-        tells(rt, alloc, engine, &MESSAGES)?;
-        tells(rt, alloc, engine, &LISTENER)?;
-        tells(rt, alloc, engine, &CHAIN)?;
-        tells(rt, alloc, engine, &CYCLES)?;
-        tells(rt, alloc, engine, &BEGIN)?;
+        for rows in [&PLAIN[..], &MESSAGES, &LISTENER, &CHAIN, &CYCLES, &BEGIN] {
+            tells(rt, alloc, engine, rows)?;
+        }
         assert!(rt; slices(rt, engine) == 2);
         tells(rt, alloc, engine, &PASS)?;
         fills(rt, alloc, engine)?;
@@ -347,16 +343,15 @@ fn plays(
     Ok(())
 }
 
-/// The lists grow over all rows: a file that was freed is listed once, and as changed no more.
+/// The lists grow over all rows: a freed file is listed once, and no longer as changed.
 struct Joined;
 
 impl Trial for Joined {
     fn on<T: Abort>(&self, rt: &T, alloc: Global, engine: &mut Engine) -> Result<(), AllocError> {
         ask(engine)?;
-        plays(rt, alloc, engine, &PLAIN)?;
-        plays(rt, alloc, engine, &MESSAGES)?;
-        plays(rt, alloc, engine, &LISTENER)?;
-        plays(rt, alloc, engine, &CHAIN)?;
+        for rows in [&PLAIN[..], &MESSAGES, &LISTENER, &CHAIN] {
+            plays(rt, alloc, engine, rows)?;
+        }
         assert!(rt; are_released(engine, &FREED) && are_changed(engine, &[]));
         plays(rt, alloc, engine, &PAIRS)?;
         assert!(rt; are_released(engine, &FREED) && are_changed(engine, &PAIRED));
@@ -384,7 +379,7 @@ fn plays_to(
     Ok(())
 }
 
-/// Nothing is told before it is asked for, and each list alone where it is.
+/// Nothing is reported before it is asked for, and then each list alone.
 struct Asked;
 
 impl Trial for Asked {

@@ -83,8 +83,8 @@ fn shows_files(engine: &Engine) -> bool {
         && counts(engine, 5) == (3, 2)
 }
 
-/// Whether it shows the users that the rows leave, in the order of their first process: user 7 is
-/// there once, and user 6 is nobody.
+/// Returns whether the views show the users that the rows leave, in the order of their first
+/// process: user 7 once, and no user 6.
 fn shows_users(engine: &Engine) -> bool {
     engine.next_pid() == Pid(4)
         && engine.users() == 2

@@ -34,7 +34,7 @@ impl Write for FullWriter {
     }
 }
 
-/// What the program answered and wrote.
+/// The answer of the program, and the text that it wrote.
 #[derive(Drop)]
 pub struct Answer {
     pub status: u8,
@@ -124,7 +124,7 @@ fn reads_a_script_cut_anywhere(rt: HostRuntime) {
     }
 }
 
-/// The program, of which a stream fails, has status 1 and says so.
+/// Asserts that the program, with a failing stream, has status 1 and says so.
 fn fails<H: Threads + Wait + Sync + Files + AllocGlobal + Abort, R: Read, W: Write>(
     rt: &H,
     input: &mut R,

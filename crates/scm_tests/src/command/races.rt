@@ -4,7 +4,7 @@ use super::words::words_of;
 use std::test::Fail;
 
 /// Command lines of races, with what is written.
-static RACES: [(&str, &str); 2] = [
+static RACES: [(&str, &str); 4] = [
     (
         "scmgc race --workers 4 --steps 2000 --seed 7 --budget 8",
         "steps 8000\naudit ok\nleft 0\n",
@@ -12,6 +12,14 @@ static RACES: [(&str, &str); 2] = [
     (
         "scmgc race --workers 1 --steps 5 --seed 0 --budget 1",
         "steps 5\naudit ok\nleft 0\n",
+    ),
+    (
+        "scmgc race --workers 1 --steps 5 --seed 0 --budget 1 --checkpoint 0",
+        "steps 5\naudit ok\nleft 0\n",
+    ),
+    (
+        "scmgc race --workers 4 --steps 25000 --seed 7 --budget 8 --checkpoint 30000",
+        "steps 100000\naudit ok\nleft 0\n",
     ),
 ];
 

@@ -19,7 +19,7 @@ static OTHER_WORDS: [&str; 7] = [
 ];
 
 /// Races of which a number is out of range, or none.
-static OUT_OF_RANGE: [&str; 10] = [
+static OUT_OF_RANGE: [&str; 13] = [
     "scmgc race --workers 33 --steps 5 --seed 0 --budget 1",
     "scmgc race --workers 0 --steps 5 --seed 0 --budget 1",
     "scmgc race --workers 1 --steps 4 --seed 0 --budget 1",
@@ -28,6 +28,9 @@ static OUT_OF_RANGE: [&str; 10] = [
     "scmgc race --workers 1 --steps 5 --seed -1 --budget 1",
     "scmgc race --workers 1 --steps 5 --seed 0 --budget 0",
     "scmgc race --workers 1 --steps 5 --seed 0 --budget 65537",
+    "scmgc race --workers 1 --steps 20001 --seed 0 --budget 1 --checkpoint 0",
+    "scmgc race --workers 1 --steps 100000001 --seed 0 --budget 1 --checkpoint 1",
+    "scmgc race --workers 1 --steps 5 --seed 0 --budget 1 --checkpoint 250001",
     "scmgc race --workers one --steps 5 --seed 0 --budget 1",
     "scmgc race --workers 1 --steps  --seed 0 --budget 1",
 ];
@@ -41,11 +44,12 @@ static LEFT_OUT: [&str; 4] = [
 ];
 
 /// Races of which an option is given twice.
-static TWICE: [&str; 4] = [
+static TWICE: [&str; 5] = [
     "scmgc race --workers 1 --steps 5 --seed 0 --budget 1 --workers 1",
     "scmgc race --workers 1 --steps 5 --seed 0 --budget 1 --steps 5",
     "scmgc race --workers 1 --steps 5 --seed 0 --budget 1 --seed 0",
     "scmgc race --workers 1 --steps 5 --seed 0 --budget 1 --budget 1",
+    "scmgc race --workers 1 --steps 5 --seed 0 --budget 1 --checkpoint 1 --checkpoint 1",
 ];
 
 /// The words of a command line, with one blank between them; two blanks have an empty word between
@@ -90,7 +94,7 @@ fn each_option_is_wanted_once(rt: HostRuntime) -> Result<(), Fail> {
     Ok(())
 }
 
-/// Whether these bytes stand somewhere in the text.
+/// Returns whether these bytes are somewhere in the text.
 fn has(text: &[u8], bytes: &[u8]) -> bool {
     for at in 0..text.len() {
         if text[at..].starts_with(bytes) {
@@ -110,5 +114,19 @@ fn tells_of_scripts_of_version_2(rt: HostRuntime) {
 
 #[test]
 fn tells_its_version(rt: HostRuntime) {
-    answers(&rt, &["scmgc", "--version"], b"", (2, "", "scmgc 0.1.0\n"));
+    answers(&rt, &["scmgc", "--version"], b"", (2, "", "scmgc 0.2.0\n"));
+}
+
+#[test]
+fn tells_that_many_steps_need_checkpoints(rt: HostRuntime) -> Result<(), Fail> {
+    let line = "scmgc race --workers 1 --steps 20001 --seed 0 --budget 1";
+    let words = words_of(rt.alloc(), line)?;
+    let found = run(&rt, words.as_slice(), b"");
+    assert!(rt;
+        has(
+            found.errors.as_slice(),
+            b"more than 20000 steps need --checkpoint"
+        )
+    );
+    Ok(())
 }

@@ -1,4 +1,4 @@
-//! What the log has of the workers' scripts, with a collector beside them.
+//! The workers' scripts in the log, with a collector beside them.
 use af_base::events::Event;
 use af_base::names::Uid;
 use af_layer::{Book, Entry, Layer, OpenGate, Seat, Turns, drive};
@@ -57,7 +57,7 @@ fn work<R: Threads + Wait + Sync>(
     drive(rt, layer, seats, scripts, Some(turns), &OpenGate).ok()
 }
 
-/// What four workers leave, and a collector beside them.
+/// Returns the book after four workers and a collector beside them.
 fn driven<R: Threads + Wait + Sync>(rt: &R, alloc: Global) -> Option<Book> {
     let (layer, mut seats) = Layer::open(alloc, WORKERS + 2).ok()?;
     let mut main = seats.pop()?;
@@ -86,8 +86,8 @@ fn has_just<R: Abort>(rt: &R, log: &[Entry], scripts: &[Vec<Event>]) {
     assert_eq!(rt; log.len(), 2_504);
 }
 
-/// The log of what four workers leave has just their scripts. `None` is a fault of the drive or of
-/// the audit, or want of memory.
+/// The log after four workers has just their scripts. `None` is a fault of the drive or of the
+/// audit, or a lack of memory.
 fn keeps_all<R: Abort + Threads + Wait + Sync>(rt: &R, alloc: Global) -> Option<()> {
     let book = driven(rt, alloc)?;
     let scripts = scripts(alloc).ok()?;

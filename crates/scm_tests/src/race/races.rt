@@ -1,15 +1,15 @@
 //! Races that end well, and what they come to.
-ghost use Rattle.std.specs.Prelude.{◌≤◌};
+ghost use Rattle.std.specs.Prelude.{◌≡◌, ◌≤◌};
 
-use scm_race::{Race, RaceFault};
+use scm_race::{LongRace, Race, RaceFault, Tally};
 use std::alloc::Global;
 use std::process::Abort;
 use std::sync::Wait;
 use std::test::Fail;
 use std::thread::Threads;
 
-/// What a race came to: how many events its workers did, how many entries its log has, and how many
-/// files are left.
+/// The outcome of a race: how many events its workers did, how many entries its log has, and how
+/// many files are left.
 #[derive(Clone, Copy, Debug, PartialEq, Eq)]
 struct Told {
     steps: usize,
@@ -34,8 +34,8 @@ fn run<R: Threads + Wait + Sync>(rt: &R, alloc: Global, race: Race) -> Result<To
     Ok(told)
 }
 
-/// Whether the race ended well: its workers did so many steps, and left no file, and the log has
-/// the collector's turns too.
+/// Returns whether the race ended well: its workers did this many steps, and left no file, and the
+/// log has the collector's turns too.
 fn is_well(end: &Result<Told, RaceFault>, steps: usize, turns: usize) -> bool {
     match end {
         Ok(told) => {
@@ -45,7 +45,8 @@ fn is_well(end: &Result<Told, RaceFault>, steps: usize, turns: usize) -> bool {
     }
 }
 
-/// The race ended well, with so many steps of its workers, and so many turns of its collector.
+/// Asserts that the race ended well, with this many steps of its workers, and this many turns of
+/// its collector.
 fn ended_well(rt: &impl Abort, end: Result<Told, RaceFault>, steps: usize, turns: usize) {
     assert!(rt; is_well(&end, steps, turns), "{end:?}");
 }
@@ -116,4 +117,45 @@ fn one_refused(rt: HostRuntime) {
         end = run(&rt, rt.alloc(), race);
     }
     ended_well(&rt, end, 18, 9);
+}
+
+/// A race of so many workers and steps with checkpoints.
+fn long_race(workers: u32, steps: u32, checkpoint: u32) -> LongRace
+    ensures { result ≡ record {
+      race = record { workers = workers; steps = steps; seed = 8; budget = 8 };
+      checkpoint = checkpoint;
+    } }
+{
+    let race = Race {
+        workers,
+        steps,
+        seed: 8,
+        budget: 8,
+    };
+    LongRace { race, checkpoint }
+}
+
+/// Parts of one event of each worker, of parts that do not divide the steps, and of more events than
+/// there are.
+#[test]
+fn long_races(rt: HostRuntime) {
+    for (workers, steps, checkpoint) in [(1, 5, 1), (3, 50, 1), (4, 401, 100), (4, 400, 250_000)] {
+        let tally = Tally {
+            steps: u64::from(workers * steps),
+            left: 0,
+        };
+        let end = long_race(workers, steps, checkpoint).run(&rt, rt.alloc());
+        assert!(rt; end == Ok(tally), "{end:?}");
+    }
+}
+
+/// One allocation refused, as above.
+#[test]
+fn one_refused_of_a_long_race(rt: HostRuntime) {
+    let race = long_race(2, 9, 6);
+    let mut end = race.run(&rt, rt.alloc());
+    if end == Err(RaceFault::Memory) {
+        end = race.run(&rt, rt.alloc());
+    }
+    assert!(rt; end == Ok(Tally { steps: 18, left: 0 }), "{end:?}");
 }

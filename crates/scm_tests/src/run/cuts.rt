@@ -53,7 +53,7 @@ pub fn first_lines(text: &[u8], lines: usize) -> &[u8] {
     text
 }
 
-/// What this line answers, which is cut where so many bytes of the script end; nothing where it
+/// Returns the reply to this line, cut to the first bytes of the script, this many; `None` if it
 /// cannot be read. The whole line has this reply.
 fn reply_to(line: &[u8], cut: usize, whole: &'static [u8]) -> Option<&'static [u8]> {
     if line.is_empty() {
@@ -79,7 +79,8 @@ fn joined(alloc: Global, front: &[u8], back: &[u8]) -> Result<Vec<u8>, AllocErro
     Ok(text)
 }
 
-/// Whether a run ends so: well, where the line behind so many whole lines can be read.
+/// Returns whether a run ends like this: well, if the line behind this many whole lines can be
+/// read.
 fn ends_so(end: Result<u64, RunFault>, is_readable: bool, lines: usize) -> bool {
     let number = lines.saturating_add(1) as u64;
     if is_readable {
@@ -89,7 +90,7 @@ fn ends_so(end: Result<u64, RunFault>, is_readable: bool, lines: usize) -> bool 
     }
 }
 
-/// Runs a beginning of the script: so many whole lines, and one more from this place on.
+/// Runs a beginning of the script: this many whole lines, and one more from this position on.
 fn run_cut<T: Abort + AllocGlobal>(
     rt: &T,
     script: &[u8],

@@ -17,7 +17,7 @@ fn replies_to(front: &[u8]) -> &'static [u8] {
     first_lines(REPLIES, lines)
 }
 
-/// So many bytes a call, for so many calls.
+/// Makes a stream that gives this many bytes a call, for this many calls.
 fn pace(at_once: usize, calls: usize) -> Pace {
     Pace { at_once, calls }
 }
@@ -55,7 +55,7 @@ static READS: [(usize, usize, &[u8]); 5] = [
     (97, 1, REPLIES),
 ];
 
-/// What ends in the bytes that were read was answered when the next read fails.
+/// A line that ends in the bytes read is answered before the next read fails.
 #[test]
 fn reads_that_fail(rt: HostRuntime) {
     for calls in 0..=SCRIPT.len() {
@@ -86,7 +86,7 @@ fn writes_that_fail(rt: HostRuntime) {
     }
 }
 
-/// What is gathered is written before a bad line is told: where that fails, this is told.
+/// Gathered text is written before a bad line is reported: if that fails, the failure is reported.
 #[test]
 fn a_write_that_fails_before_a_bad_line_is_told(rt: HostRuntime) {
     let script: &[u8] = b"spawn 1000 16\n1 open\n1 open\nwalk\n1 open\n";
@@ -127,8 +127,8 @@ fn thousands_of_reads(rt: HostRuntime) -> Result<(), Fail> {
     Ok(())
 }
 
-/// What is read at once is written in no more than 17 writes. Where the first of them fails there is
-/// no second.
+/// Lines that are read at once are written in 17 writes at most. If the first of them fails there
+/// is no second.
 #[test]
 fn writes_each_64_kb(rt: HostRuntime) -> Result<(), Fail> {
     let (script, texts) = much_text(rt.alloc())?;

@@ -21,7 +21,7 @@ fn after_a_long_line<T: Abort + AllocGlobal>(
     Ok(())
 }
 
-/// What may stand behind a line as long as a line may be, and how a run of both ends.
+/// The bytes that may follow a line of the largest length, and how a run of both ends.
 const ENDINGS: [(&[u8], Result<u64, RunFault>); 6] = [
     (b"", Ok(0)),
     (b"\n", Ok(0)),

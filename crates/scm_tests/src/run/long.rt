@@ -99,7 +99,7 @@ check ok live 2 garbage 0
 
 /// A chain of 65,531 sockets, each in the queue of the next and of no other; a listener with one
 /// embryo, its client, and a client that waits for room; and a plain file: as many files as may be
-/// live. The chain goes by one close. No bound is proved for the stack.
+/// live. One close frees the chain. No bound is proved for the stack.
 static FULL_MACHINE: [Block; 3] = [
     (
         1,

@@ -8,8 +8,8 @@ use std::io;
 use std::io::{ErrorKind, Read, Write};
 use std::process::Abort;
 
-/// How many bytes a stream gives or takes a call, at most, and after how many calls it fails. It fails
-/// once, and would answer another try.
+/// How many bytes a stream gives or takes a call, at most, and after how many calls it fails. It
+/// fails once, and would answer another try.
 #[derive(Clone, Copy)]
 pub struct Pace {
     pub at_once: usize,

@@ -1,4 +1,4 @@
--- What is left, from the marks now, comes to what all come to.
+-- The rest, from the marks now, gives the marks of all.
 use Rattle.std.proofs.Common.{◌≡◌, ◌≤◌, ◌-◌, drop, length}
 use Rattle.af_base.specs.Places.{carried, queue_at}
 use Rattle.af_pass.specs.Keeping.{shaded_all}

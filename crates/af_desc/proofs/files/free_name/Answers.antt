@@ -1,15 +1,15 @@
 use Rattle.std.proofs.Common.{refl, sym, ap, ◌∙◌, subst}
 use Rattle.std.specs.FinMap as map
 use Rattle.std.specs.Option.{option_and_then, option_copied}
-use Rattle.af_desc.specs.Filed.{AreNamed}
+use Rattle.af_desc.specs.FilesView.{AreNamed}
 use Rattle.af_desc.proofs.Naming.{name-at, named-freed, named-gone}
 use Rattle.af_desc.proofs.files.free_name.Goals as goal
 
--- The name goes with its socket.
+-- The name is freed with its socket.
 pub returns-in-Some-name : goal.returns-in-Some-name
 returns-in-Some-name c = λ files f named same.
     let had = ap (option_and_then (λ s. s.name)) (sym same ∙ c.in-Some.is) ∙ sym c.name.ensures ∙ ap option_copied c.in-Some-name.is in
-    subst (λ n. AreNamed n (map.remove files f)) (sym c.unbind.ensures) (named-freed c.args.names.now files named c.in-Some-name.name.now f had)
+    subst (λ n. AreNamed n (map.remove files f)) (sym (c.unbind.ensures ∙ ap (map.remove c.args.names.now) c.as_slice.ensures)) (named-freed c.args.names.now files named c.in-Some-name.name.now f had)
 
 -- It had none.
 pub returns-in_default-name : goal.returns-in_default-name

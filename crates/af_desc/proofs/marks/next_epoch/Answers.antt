@@ -5,4 +5,4 @@ pub returns-then-epoch-lt18446744073709551615-clause-white : goal.returns-then-e
 returns-then-epoch-lt18446744073709551615-clause-white c = λ f. unmarked_next c.args.epoch c.args.rows.now.marks f c.requires.upto
 
 pub returns-clause-white : goal.returns-clause-white
-returns-clause-white c = λ f. unmarked_next 0 c.wash.new.rows.marks f c.wash.ensures.marks
+returns-clause-white c = λ f. unmarked_next 0 c.clear_all_marks.new.rows.marks f c.clear_all_marks.ensures.marks

@@ -7,12 +7,12 @@ use Rattle.af_base.specs.Changes.{change_at, installed}
 use Rattle.af_base.proofs.Elements.{Contains-first, Contains-later}
 use Rattle.af_base.proofs.Held.{one-most}
 use Rattle.std.specs.FinMap as finmap
-use Rattle.af_desc.specs.Filed.{Filed}
-use Rattle.af_ledger.specs.Kept.{Charged, count_in_map, held_all, kept_of}
+use Rattle.af_desc.specs.FilesView.{FilesView}
+use Rattle.af_ledger.specs.Tally.{Charged, count_in_map, held_all, kept_of}
 use Rattle.af_ledger.specs.declared.place.Place.TheVariants.{Table}
 use Rattle.af_ledger.proofs.Laws.{has-held, tabled-tabled}
 use Rattle.af_table.specs.Procs.{row_in}
-use Rattle.af_hold.specs.Stored.{filled}
+use Rattle.af_hold.specs.HoldingsView.{filled}
 use Rattle.af_hold.proofs.Filling.{no-files, no-numbers}
 use Rattle.af_hold.proofs.numbers.table_in_all.Goals as goal
 
@@ -31,11 +31,11 @@ loop-fd-init c =
       fits = λ f. subst (λ l. (count_in_map c.args.files.now.counts f).tabled + length l < 2 ^ 31) (sym files) (c.requires.fits f);
     }
 
-pub raise-requires-clause-known : goal.raise-requires-clause-known
-raise-requires-clause-known c = c.loop-fd.invariant.known c.in-Some.file.now (subst (λ l. Contains l c.in-Some.file.now) (sym c.in-Some.ensures.steps.1) (Contains-first c.in-Some.file.now c.next.new.self.b.rest.now))
+pub hold-requires-clause-known : goal.hold-requires-clause-known
+hold-requires-clause-known c = c.loop-fd.invariant.known c.in-Some.file.now (subst (λ l. Contains l c.in-Some.file.now) (sym c.in-Some.ensures.steps.1) (Contains-first c.in-Some.file.now c.next.new.self.b.rest.now))
 
-pub raise-requires-clause-countable : goal.raise-requires-clause-countable
-raise-requires-clause-countable c = let fits = c.loop-fd.invariant.fits c.in-Some.file.now in omega (arith, fits)
+pub hold-requires-clause-countable : goal.hold-requires-clause-countable
+hold-requires-clause-countable c = let fits = c.loop-fd.invariant.fits c.in-Some.file.now in omega (arith, fits)
 
 pub install-requires : goal.install-requires
 install-requires c =
@@ -51,18 +51,18 @@ loop-fd-preserved c =
     let ns = c.next.new.self.a.rest.now in
     let fs = c.next.new.self.b.rest.now in
     let low = λ (m : ℕ). m < row_in c.loop-fd.procs.rows c.args.pid in
-    let one = c.raise.ensures in
+    let one = c.hold.ensures in
     let none : Charged = record { users = []; total = 0 } in
     let first = k.known f (subst (λ l. Contains l f) (sym steps.1) (Contains-first f fs)) in
     record {
-      processes = ap (λ P. filled P c.args.pid (zip ns fs)) (c.install.ensures.processes ∙ ap (λ x. change_at (installed n x) c.loop-fd.procs.processes c.args.pid) c.again.ensures) ∙ sym (λ i. filled c.loop-fd.procs.processes c.args.pid (zip (steps.0 i) (steps.1 i))) ∙ k.processes;
-      kept = λ ch. ap (λ (v : Filed). held_all Table (map (λ e. e.1) (zip ns fs)) (kept_of v.counts ch)) one ∙ sym (λ i. held_all Table (map (λ e. e.1) (zip (steps.0 i) (steps.1 i))) (kept_of c.loop-fd.files.counts ch)) ∙ k.kept ch;
-      rest = one ∙ ap {B = Filed} (λ x. record c.loop-fd.files { counts = x }) (sym (ap (λ v. v.counts) one)) ∙ ap {A = Filed} {B = Filed} (λ v. record v { counts = c.raise.new.self.counts }) k.rest;
+      processes = ap (λ P. filled P c.args.pid (zip ns fs)) (c.install.ensures.processes ∙ ap (λ x. change_at (installed n x) c.loop-fd.procs.processes c.args.pid) c.duplicate.ensures) ∙ sym (λ i. filled c.loop-fd.procs.processes c.args.pid (zip (steps.0 i) (steps.1 i))) ∙ k.processes;
+      kept = λ ch. ap (λ (v : FilesView). held_all Table (map (λ e. e.1) (zip ns fs)) (kept_of v.counts ch)) one ∙ sym (λ i. held_all Table (map (λ e. e.1) (zip (steps.0 i) (steps.1 i))) (kept_of c.loop-fd.files.counts ch)) ∙ k.kept ch;
+      rest = one ∙ ap {B = FilesView} (λ x. record c.loop-fd.files { counts = x }) (sym (ap (λ v. v.counts) one)) ∙ ap {A = FilesView} {B = FilesView} (λ v. record v { counts = c.hold.new.self.counts }) k.rest;
       rows = c.install.ensures.rows ∙ k.rows;
       next = c.install.ensures.next ∙ k.next;
       row = subst (λ (r : Map ℕ). All (λ m. m < row_in r c.args.pid) ns) (sym c.install.ensures.rows) (All-rest low n ns (n ∷ ns) refl (subst (All low) steps.0 k.row));
-      known = λ g h. subst (λ (v : Filed). IsTrue (finmap.contains_key v.counts g)) (sym one) (has-held Table f g (kept_of c.loop-fd.files.counts none) first ∙ k.known g (subst (λ l. Contains l g) (sym steps.1) (Contains-later f fs g h)));
-      fits = λ g. let fits = k.fits g in omega (arith, fits, ap (λ (v : Filed). (count_in_map v.counts g).tabled) one, tabled-tabled f g (kept_of c.loop-fd.files.counts none), one-most g f, ap length steps.1);
+      known = λ g h. subst (λ (v : FilesView). IsTrue (finmap.contains_key v.counts g)) (sym one) (has-held Table f g (kept_of c.loop-fd.files.counts none) first ∙ k.known g (subst (λ l. Contains l g) (sym steps.1) (Contains-later f fs g h)));
+      fits = λ g. let fits = k.fits g in omega (arith, fits, ap (λ (v : FilesView). (count_in_map v.counts g).tabled) one, tabled-tabled f g (kept_of c.loop-fd.files.counts none), one-most g f, ap length steps.1);
     }
 
 pub returns : goal.returns

@@ -1,12 +1,12 @@
--- What is left to install leads to where all together leads.
+-- The rest to install gives the same as all together.
 use Rattle.std.proofs.Common.{◌≡◌, ◌<◌, ◌+◌, ◌^◌, ℕ, length, map}
 use Rattle.std.specs.Prelude.{IsTrue}
 use Rattle.std.specs.List.{All, Contains, zip}
 use Rattle.std.specs.FinMap as finmap
-use Rattle.af_ledger.specs.Kept.{Charged, count_in_map, held_all, kept_of}
+use Rattle.af_ledger.specs.Tally.{Charged, count_in_map, held_all, kept_of}
 use Rattle.af_ledger.specs.declared.place.Place.TheVariants.{Table}
 use Rattle.af_table.specs.Procs.{row_in}
-use Rattle.af_hold.specs.Stored.{filled}
+use Rattle.af_hold.specs.HoldingsView.{filled}
 use Rattle.af_hold.proofs.numbers.table_in_all.Given as goal
 
 abbrev pub invariant-loop-fd : goal.invariant-loop-fd

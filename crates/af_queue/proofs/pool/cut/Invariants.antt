@@ -1,4 +1,4 @@
--- What is still to be cut is cut to the same.
+-- The rest to cut is cut to the same.
 use Rattle.std.proofs.Common.{◌≡◌, ◌<◌, length}
 use Rattle.af_base.specs.Take.{cut}
 use Rattle.af_queue.specs.Chains.{messages_of, IsChain, KeepsNodes, SameElsewhere}

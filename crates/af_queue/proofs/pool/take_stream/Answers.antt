@@ -7,7 +7,7 @@ use Rattle.af_base.specs.declared.events.SockType.TheVariants.{Seqpacket}
 use Rattle.af_queue.specs.Chains.{messages_of}
 use Rattle.af_queue.specs.Queued.{AreWithin}
 use Rattle.af_queue.specs.Received.{received}
-use Rattle.af_queue.specs.Streams.{span}
+use Rattle.af_queue.specs.Streams.{stream_cut}
 use Rattle.af_queue.proofs.Spans.{have-bytes, part-received, part-some, stream-is, whole-received, whole-rest}
 use Rattle.af_queue.proofs.pool.take_stream.Goals as goal
 
@@ -18,36 +18,36 @@ front q = option_map_or (λ (m : Message). length m.bytes) (slice_get q 0) 0
 pub returns-then-front_len-count-clause-taken : goal.returns-then-front_len-count-clause-taken
 returns-then-front_len-count-clause-taken c =
     let q = messages_of c.args.nodes.now c.args.chain.now in
-    let have = have-bytes q (subst AreWithin c.of-queue.ensures c.span-count.ensures.within) in
-    let count = c.span-count.ensures.bytes ∙ ap (span c.args.max) c.of-queue.ensures in
+    let have = have-bytes q (subst AreWithin c.of-queue.ensures c.stream_cut-count.ensures.within) in
+    let count = c.stream_cut-count.ensures.bytes ∙ ap (stream_cut c.args.max) c.of-queue.ensures in
     c.take_packet.ensures.taken ∙ ap (received Seqpacket q) count
     ∙ whole-received q c.args.max c.requires.some have (sym (ap front c.of-queue.ensures) ∙ sym c.front_len.ensures ∙ c.if-front_len-count.true ∙ count)
 
 pub returns-then-front_len-count-clause-rest : goal.returns-then-front_len-count-clause-rest
 returns-then-front_len-count-clause-rest c =
     let q = messages_of c.args.nodes.now c.args.chain.now in
-    let have = have-bytes q (subst AreWithin c.of-queue.ensures c.span-count.ensures.within) in
-    let count = c.span-count.ensures.bytes ∙ ap (span c.args.max) c.of-queue.ensures in
+    let have = have-bytes q (subst AreWithin c.of-queue.ensures c.stream_cut-count.ensures.within) in
+    let count = c.stream_cut-count.ensures.bytes ∙ ap (stream_cut c.args.max) c.of-queue.ensures in
     c.take_packet.ensures.rest ∙ whole-rest q c.args.max c.requires.some have (sym (ap front c.of-queue.ensures) ∙ sym c.front_len.ensures ∙ c.if-front_len-count.true ∙ count)
 
 pub cut-attached-requires-clause-some : goal.cut-attached-requires-clause-some
 cut-attached-requires-clause-some c =
     let q = c.of-queue.result in
-    let some = part-some q c.args.max c.requires.some (have-bytes q c.span-count.ensures.within) (λ e. c.if-front_len-count.false (c.front_len.ensures ∙ e ∙ sym c.span-count.ensures.bytes)) in
-    let is = c.span-count.ensures.bytes in
+    let some = part-some q c.args.max c.requires.some (have-bytes q c.stream_cut-count.ensures.within) (λ e. c.if-front_len-count.false (c.front_len.ensures ∙ e ∙ sym c.stream_cut-count.ensures.bytes)) in
+    let is = c.stream_cut-count.ensures.bytes in
     omega (arith, some, is)
 
 pub returns-clause-taken : goal.returns-clause-taken
 returns-clause-taken c =
     let q = messages_of c.args.nodes.now c.args.chain.now in
-    let have = have-bytes q (subst AreWithin c.of-queue.ensures c.span-count.ensures.within) in
-    let count = c.span-count.ensures.bytes ∙ ap (span c.args.max) c.of-queue.ensures in
-    let copied = c.in_ok-bytes.ensures ∙ ap (λ q. take c.span-count.result.0 (joined q)) c.of-queue.ensures in
-    c.new.ensures ∙ part-received q c.args.max c.span-count.result.0 _ _ _ c.requires.some have count copied c.cut-attached.ensures.files c.cut-attached.ensures.user
+    let have = have-bytes q (subst AreWithin c.of-queue.ensures c.stream_cut-count.ensures.within) in
+    let count = c.stream_cut-count.ensures.bytes ∙ ap (stream_cut c.args.max) c.of-queue.ensures in
+    let copied = c.in_ok-bytes.ensures ∙ ap (λ q. take c.stream_cut-count.result.0 (joined q)) c.of-queue.ensures in
+    c.new.ensures ∙ part-received q c.args.max c.stream_cut-count.result.0 _ _ _ c.requires.some have count copied c.cut-attached.ensures.files c.cut-attached.ensures.user
 
 pub returns-clause-rest : goal.returns-clause-rest
 returns-clause-rest c =
     let q = messages_of c.args.nodes.now c.args.chain.now in
-    let have = have-bytes q (subst AreWithin c.of-queue.ensures c.span-count.ensures.within) in
-    let count = c.span-count.ensures.bytes ∙ ap (span c.args.max) c.of-queue.ensures in
+    let have = have-bytes q (subst AreWithin c.of-queue.ensures c.stream_cut-count.ensures.within) in
+    let count = c.stream_cut-count.ensures.bytes ∙ ap (stream_cut c.args.max) c.of-queue.ensures in
     c.cut-attached.ensures.messages ∙ ap (λ k. cut k q) count ∙ sym (ap (λ t. t.rest) (stream-is q c.args.max c.requires.some have))

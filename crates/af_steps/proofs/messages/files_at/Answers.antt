@@ -11,7 +11,7 @@ module _ (g : ℕ → Option ℕ) (xs : List ℕ) (i x : ℕ) (within : i < leng
   one : (o : Option ℕ) → g x ≡ o → filter_map g (take (i + 1) xs) ≡ filter_map g (take i xs) ++ cons_option o []
   one o e = ap (filter_map g) (take_more xs i x within ∙ ap (λ y. take i xs ++ y ∷ []) (sym is)) ∙ filter_map-append g (take i xs) (x ∷ []) ∙ ap (λ r. filter_map g (take i xs) ++ cons_option r []) e
 
-  -- It stands for a file.
+  -- It refers to a file.
   looked-more : (fs now : List ℕ) (f : ℕ) → g x ≡ Some f → fs ≡ filter_map g (take i xs) → now ≡ fs ++ f ∷ [] → now ≡ filter_map g (take (i + 1) xs)
   looked-more fs now f e before after = after ∙ ap (λ ys. ys ++ f ∷ []) before ∙ sym (one (Some f) e)
 

@@ -5,7 +5,7 @@ use Rattle.af_base.specs.declared.limits.TheConstants.{MAX_NAME}
 use Rattle.af_base.specs.Names.{is_name, is_name_byte}
 use Rattle.af_steps.proofs.sockets.is_name.Goals as goal
 
--- Bytes of a right number are a name where each may stand in one.
+-- A name has a valid length and valid bytes.
 named-by : (bytes : List ℕ) → 1 ≤ length bytes → length bytes ≤ MAX_NAME → list_all is_name_byte bytes ≡ is_name bytes
 named-by bytes some few = sym (λ i. (le-leb 1 (length bytes) some i && le-leb (length bytes) MAX_NAME few i) && list_all is_name_byte bytes)
 

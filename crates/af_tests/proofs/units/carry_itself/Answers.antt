@@ -10,7 +10,7 @@ use Rattle.af_steps.specs.Found.{HasNumber}
 use Rattle.af_steps.proofs.Found.{held}
 use Rattle.af_tests.proofs.units.carry_itself.Goals as goal
 
--- What is in a list of one.
+-- An element of a list of one.
 only : (x f : ℕ) → Contains (x ∷ []) f → x ≡ f
 only x f (zero, l, e) = e
 only x f (suc k, l, e) = absurd (omega (arith, l))
@@ -21,7 +21,7 @@ put_msg-requires-clause-spared c f h =
     let has : HasNumber c.release.new.self.world c.args.pid c.in_ok-process.process.now.process c.args.on file = record { process = record { there = search rules }; stands = search rules } in
     let is : c.new-message.result.attached ≡ file ∷ [] = search rules in
     subst (λ (s : Shown). Spares s.pass f) (sym c.room_for_message.ensures.rest)
-    (c.is_spared.ensures f (subst (InTable c.release.new.self.world) (only file f (subst (λ xs. Contains xs f) is h)) (held has)))
+    (c.lemma_is_spared.ensures f (subst (InTable c.release.new.self.world) (only file f (subst (λ xs. Contains xs f) is h)) (held has)))
 
 -- There is a process of this user.
 abbrev HasUser : Shown → ℕ → Type 0

@@ -1,4 +1,4 @@
--- The list went on.
+-- The list was extended.
 use Rattle.std.proofs.Common.{◌≡◌, ◌++◌, List}
 use Rattle.af_layer.specs.Log.{Pair}
 use Rattle.scm_race.proofs.finish.end_pass.Given as goal

@@ -1,6 +1,5 @@
-use Rattle.std.proofs.Common.{rules, ◌≡◌, ◌++◌, OnOk, true, sym, subst}
-use Rattle.std.specs.List.{flat_map}
-use Rattle.scm_run.specs.Text.{all_plain, escaped}
+use Rattle.std.proofs.Common.{rules, ◌≡◌, true}
+use Rattle.scm_run.specs.Text.{all_plain}
 use Rattle.scm_run.proofs.PlainLemmas.{plain-escaped}
 use Rattle.scm_run.proofs.text.push_block.Goals as goal
 

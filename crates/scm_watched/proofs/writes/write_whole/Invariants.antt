@@ -1,4 +1,4 @@
--- What is gone from `rest` was appended, and no write has failed.
+-- The bytes that left `rest` were appended, and no write has failed.
 use Rattle.std.proofs.Common.{◌≡◌, ℕ, List, ◌++◌, false, length}
 use Rattle.std.specs.Io.KnownBytes.{Appends}
 use Rattle.scm_watched.proofs.writes.write_whole.Given as goal

@@ -2,11 +2,11 @@ use Rattle.std.proofs.Common.{◌≡◌, [], drop, refl, sym, ap, ◌∙◌, sub
 use Rattle.std.specs.Map.{keys_of}
 use Rattle.af_base.specs.Places.{queue_at}
 use Rattle.af_base.specs.Changes.{with_queue, with_socket}
-use Rattle.af_desc.specs.Filed.{Filed, popped}
-use Rattle.af_ledger.specs.Kept.{CanDropAll, dropped_all, kept_of}
+use Rattle.af_desc.specs.FilesView.{FilesView, popped}
+use Rattle.af_ledger.specs.Tally.{CanDropAll, dropped_all, kept_of}
 use Rattle.af_ledger.specs.declared.place.Place.TheVariants.{Queue}
 use Rattle.af_ledger.proofs.HeldAll.{users-dropped_all}
-use Rattle.af_hold.specs.Stored.{AreExact, Stored}
+use Rattle.af_hold.specs.HoldingsView.{AreExact, HoldingsView}
 use Rattle.af_collect.specs.contracts.holdings.Holdings.{the_view}
 use Rattle.af_hold.proofs.Bounds.{can-drop-all}
 use Rattle.af_hold.proofs.Exact.{exact-same, exact-shed, world-is}
@@ -22,26 +22,26 @@ invariant_of-self c =
     let empty : queue_at w s ≡ [] = c.in_default.ensures.none in
     subst (λ fs. AreExact h.procs fs h.ledger) (sym c.pop.ensures.rest) (exact-same _ _ _ _ (popped_queue w s ∙ ap (λ q. with_queue w s (drop 1 q)) empty ∙ emptied-same w s empty) refl c.self.invariant)
 
-pub drop_all-requires : goal.drop_all-requires
-drop_all-requires c =
+pub uncharge_message-requires : goal.uncharge_message-requires
+uncharge_message-requires c =
     let w = (the_view c.self.inside).world in
     let m = c.in-Some.message in
     let rest = drop 1 (queue_at w c.args.file.now) in
     let x = first-shed w c.args.file.now m rest c.self.invariant.within c.in-Some.ensures.some in
     let can = can-drop-all w c.args.file.now m rest x.0 (kept_of c.self.inside.files.counts c.self.inside.ledger) x.1 x.2 c.self.invariant.agrees in
-    subst (λ (v : Filed). CanDropAll c.user.result c.attached.result.now (kept_of v.counts c.self.inside.ledger)) (sym c.pop.ensures.rest)
+    subst (λ (v : FilesView). CanDropAll c.user.result c.attached.result.now (kept_of v.counts c.self.inside.ledger)) (sym c.pop.ensures.rest)
     (subst (λ u. CanDropAll u c.attached.result.now (kept_of c.self.inside.files.counts c.self.inside.ledger)) (sym c.user.ensures) (subst (λ fs. CanDropAll m.user fs (kept_of c.self.inside.files.counts c.self.inside.ledger)) (sym c.attached.ensures.value) can))
 
--- What the ledger keeps then.
-dropped : (c : goal.Joined-message) → kept_of c.drop_all.new.files.counts c.drop_all.new.ledger ≡ dropped_all (Queue c.in-Some.message.user) c.in-Some.message.attached (kept_of c.self.inside.files.counts c.self.inside.ledger)
-dropped c = c.drop_all.ensures.kept ∙ (λ i. dropped_all (Queue (c.user.ensures i)) (c.attached.ensures.value i) (kept_of (c.pop.ensures.rest i).counts c.self.inside.ledger))
+-- The ledger afterwards.
+dropped : (c : goal.Joined-message) → kept_of c.uncharge_message.new.files.counts c.uncharge_message.new.ledger ≡ dropped_all (Queue c.in-Some.message.user) c.in-Some.message.attached (kept_of c.self.inside.files.counts c.self.inside.ledger)
+dropped c = c.uncharge_message.ensures.kept ∙ (λ i. dropped_all (Queue (c.user.ensures i)) (c.attached.ensures.value i) (kept_of (c.pop.ensures.rest i).counts c.self.inside.ledger))
 
--- What the world is then.
-shed : (c : goal.Joined-message) → (the_view (record c.self.inside { files = c.drop_all.new.files; ledger = c.drop_all.new.ledger })).world ≡ with_queue (the_view c.self.inside).world c.args.file.now (drop 1 (queue_at (the_view c.self.inside).world c.args.file.now))
+-- The world afterwards.
+shed : (c : goal.Joined-message) → (the_view (record c.self.inside { files = c.uncharge_message.new.files; ledger = c.uncharge_message.new.ledger })).world ≡ with_queue (the_view c.self.inside).world c.args.file.now (drop 1 (queue_at (the_view c.self.inside).world c.args.file.now))
 shed c =
     let w = (the_view c.self.inside).world in
     let m = c.in-Some.message in
-    let rest = c.drop_all.ensures.rest ∙ ap {A = Filed} {B = Filed} (λ v. record v { counts = c.drop_all.new.files.counts }) c.pop.ensures.rest in
+    let rest = c.uncharge_message.ensures.rest ∙ ap {A = FilesView} {B = FilesView} (λ v. record v { counts = c.uncharge_message.new.files.counts }) c.pop.ensures.rest in
     world-is _ (with_socket w c.args.file.now popped) refl (ap (λ v. v.files) rest) (ap (λ v. v.next) rest) refl (ap (λ k. keys_of k.users) (dropped c) ∙ users-dropped_all m.user m.attached (kept_of c.self.inside.files.counts c.self.inside.ledger)) ∙ popped_queue w c.args.file.now
 
 pub invariant_of-self-2 : goal.invariant_of-self-2
@@ -54,7 +54,7 @@ invariant_of-self-2 c =
 
 pub returns-clause-world : goal.returns-clause-world
 returns-clause-world c =
-    let marks = ap (λ v. v.marks) c.drop_all.ensures.rest ∙ ap (λ v. v.marks) c.pop.ensures.rest in
-    let since = ap (λ v. v.since) c.drop_all.ensures.rest ∙ ap (λ v. v.since) c.pop.ensures.rest in
-    (λ i. record { world = shed c i; rows = c.self.inside.procs.rows; message_room = c.drop_all.new.files.message_room; marks = marks i; since = since i })
-    ∙ ap {A = Stored} {B = Stored} (λ s. record s { world = with_queue s.world c.args.file.now (drop 1 (queue_at s.world c.args.file.now)); message_room = c.drop_all.new.files.message_room }) c.self.view_is
+    let marks = ap (λ v. v.marks) c.uncharge_message.ensures.rest ∙ ap (λ v. v.marks) c.pop.ensures.rest in
+    let since = ap (λ v. v.since) c.uncharge_message.ensures.rest ∙ ap (λ v. v.since) c.pop.ensures.rest in
+    (λ i. record { world = shed c i; rows = c.self.inside.procs.rows; message_room = c.uncharge_message.new.files.message_room; marks = marks i; since = since i })
+    ∙ ap {A = HoldingsView} {B = HoldingsView} (λ s. record s { world = with_queue s.world c.args.file.now (drop 1 (queue_at s.world c.args.file.now)); message_room = c.uncharge_message.new.files.message_room }) c.self.view_is

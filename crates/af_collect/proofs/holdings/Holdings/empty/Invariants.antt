@@ -1,4 +1,4 @@
--- What is left to empty is emptied to the same.
+-- The rest to empty is emptied to the same.
 use Rattle.std.proofs.Common.{◌≡◌, nat_eq}
 use Rattle.af_base.specs.Pass.{emptied}
 use Rattle.af_hold.proofs.Shedding.{burden}

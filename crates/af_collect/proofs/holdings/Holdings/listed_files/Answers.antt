@@ -9,7 +9,7 @@ use Rattle.af_base.specs.Places.{contents}
 use Rattle.af_base.specs.World.{File}
 use Rattle.af_base.specs.declared.limits.TheConstants.{MAX_FILES}
 use Rattle.af_base.proofs.Lookups.{some_same}
-use Rattle.af_hold.specs.Stored.{Stored}
+use Rattle.af_hold.specs.HoldingsView.{HoldingsView}
 use Rattle.af_base.proofs.Making.{made_all, made_more}
 use Rattle.af_hold.proofs.Listed.{changed, entry, keyed-changed, keys-rise}
 use Rattle.af_base.proofs.Rising.{above, above-le, all_entries, fewer_above, next_entry, no_entry}
@@ -18,7 +18,7 @@ use Rattle.af_collect.proofs.holdings.Holdings.listed_files.Goals as goal
 pub loop-file-init : goal.loop-file-init
 loop-file-init c =
     let es = finmap.entries c.args.self.now.world.files in
-    let count : length (above 0 es) ≤ MAX_FILES = omega (arith, above-le 0 es, finmap.len-entries c.args.self.now.world.files, (subst (λ (s : Stored). finmap.len s.world.files ≤ MAX_FILES) c.self.view_is c.self.invariant.within.file_count)) in
+    let count : length (above 0 es) ≤ MAX_FILES = omega (arith, above-le 0 es, finmap.len-entries c.args.self.now.world.files, (subst (λ (s : HoldingsView). finmap.len s.world.files ≤ MAX_FILES) c.self.view_is c.self.invariant.within.file_count)) in
     record {
       so_far = ap (λ xs. map (entry (λ x. x.ino) file_of) xs ++ map (changed bare_file) (above 0 es)) c.new-files.ensures.items;
       few = omega (arith, count, ap (sum_by (λ x. length (contents (file_of x)))) c.new-files.ensures.items);

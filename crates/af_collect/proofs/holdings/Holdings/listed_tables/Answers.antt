@@ -11,7 +11,7 @@ use Rattle.af_base.specs.Bare.{bare_process}
 use Rattle.af_base.specs.Listing.{IsRisingTable, process_of}
 use Rattle.af_base.specs.Refusals.{no_process}
 use Rattle.af_base.specs.declared.limits.TheConstants.{MAX_PROCESSES}
-use Rattle.af_hold.specs.Stored.{Stored}
+use Rattle.af_hold.specs.HoldingsView.{HoldingsView}
 use Rattle.af_base.proofs.Making.{made_all, made_more}
 use Rattle.af_hold.proofs.Listed.{changed, entry, keyed-changed, keys-rise, looked, looked_entries}
 use Rattle.af_collect.proofs.holdings.Holdings.listed_tables.Goals as goal
@@ -23,7 +23,7 @@ pids_are c = c.deref-pid-items.ensures.value ∙ c.in_ok-pids.ensures.all ∙ ap
 pub loop-pid-init : goal.loop-pid-init
 loop-pid-init c =
     let processes = c.args.self.now.world.processes in
-    let count : length c.deref-pid-items.result.now ≤ MAX_PROCESSES = omega (arith, ap length (pids_are c), length-keys_of (finmap.entries processes), finmap.len-entries processes, (subst (λ (s : Stored). finmap.len s.world.processes ≤ MAX_PROCESSES) c.self.view_is c.self.invariant.within.process_count)) in
+    let count : length c.deref-pid-items.result.now ≤ MAX_PROCESSES = omega (arith, ap length (pids_are c), length-keys_of (finmap.entries processes), finmap.len-entries processes, (subst (λ (s : HoldingsView). finmap.len s.world.processes ≤ MAX_PROCESSES) c.self.view_is c.self.invariant.within.process_count)) in
     record {
       so_far = ap (λ ts. map (entry (λ t. t.pid) process_of) ts ++ map (looked bare_process no_process processes) c.deref-pid-items.result.now) c.new-tables.ensures.items;
       rising = search rules;

@@ -1,5 +1,5 @@
 use Rattle.std.proofs.Common.{rules, ap, refl}
-use Rattle.af_ledger.specs.Kept.{kept_of}
+use Rattle.af_ledger.specs.Tally.{kept_of}
 use Rattle.af_hold.proofs.Exact.{exact-empty, exact-same}
 use Rattle.af_collect.proofs.holdings.Holdings.new.Goals as goal
 

@@ -3,8 +3,8 @@ use Rattle.std.specs.Prelude.{IfNone, IfSome}
 use Rattle.af_base.specs.World.{IsLive}
 use Rattle.af_base.specs.Counts.{refs}
 use Rattle.af_base.specs.Whole.{IsSound}
-use Rattle.af_ledger.specs.Kept.{kept_of}
-use Rattle.af_hold.specs.Stored.{Stored}
+use Rattle.af_ledger.specs.Tally.{kept_of}
+use Rattle.af_hold.specs.HoldingsView.{HoldingsView}
 use Rattle.af_collect.specs.contracts.holdings.Holdings.{the_view}
 use Rattle.af_hold.proofs.Exact.{none-waits, on-none, on-some, waits-unheld}
 use Rattle.af_collect.proofs.holdings.Holdings.next_waiting.Goals as goal
@@ -14,7 +14,7 @@ returns c =
     let w = (the_view c.self.inside).world in
     let o = c.next_waiting.result in
     record {
-      live = subst (λ (s : Stored). IfSome o (IsLive s.world)) c.self.view_is (on-some o (λ f e. (waits-unheld w (kept_of c.self.inside.files.counts c.self.inside.ledger) f c.self.invariant e).0) c.next_waiting.ensures.some);
-      unheld = subst (λ (s : Stored). IfSome o (λ f. refs s.world f ≡ 0)) c.self.view_is (on-some o (λ f e. (waits-unheld w (kept_of c.self.inside.files.counts c.self.inside.ledger) f c.self.invariant e).1) c.next_waiting.ensures.some);
-      none = subst (λ (s : Stored). IfNone o (IsSound s.world)) c.self.view_is (on-none o (none-waits w (kept_of c.self.inside.files.counts c.self.inside.ledger) c.self.invariant) c.next_waiting.ensures.none);
+      live = subst (λ (s : HoldingsView). IfSome o (IsLive s.world)) c.self.view_is (on-some o (λ f e. (waits-unheld w (kept_of c.self.inside.files.counts c.self.inside.ledger) f c.self.invariant e).0) c.next_waiting.ensures.some);
+      unheld = subst (λ (s : HoldingsView). IfSome o (λ f. refs s.world f ≡ 0)) c.self.view_is (on-some o (λ f e. (waits-unheld w (kept_of c.self.inside.files.counts c.self.inside.ledger) f c.self.invariant e).1) c.next_waiting.ensures.some);
+      none = subst (λ (s : HoldingsView). IfNone o (IsSound s.world)) c.self.view_is (on-none o (none-waits w (kept_of c.self.inside.files.counts c.self.inside.ledger) c.self.invariant) c.next_waiting.ensures.none);
     }

@@ -1,10 +1,10 @@
 use Rattle.std.proofs.Common.{ap, ◌∙◌}
 use Rattle.af_base.specs.Counts.{refs}
-use Rattle.af_ledger.specs.Kept.{kept_of}
-use Rattle.af_hold.specs.Stored.{Stored}
+use Rattle.af_ledger.specs.Tally.{kept_of}
+use Rattle.af_hold.specs.HoldingsView.{HoldingsView}
 use Rattle.af_collect.specs.contracts.holdings.Holdings.{the_view}
 use Rattle.af_hold.proofs.Agreement.{agrees-refs}
 use Rattle.af_collect.proofs.holdings.Holdings.refs.Goals as goal
 
 pub returns : goal.returns
-returns c = c.refs.ensures ∙ agrees-refs (the_view c.self.inside).world (kept_of c.self.inside.files.counts c.self.inside.ledger) c.self.invariant.agrees c.args.ino ∙ ap (λ (s : Stored). refs s.world c.args.ino) c.self.view_is
+returns c = c.refs.ensures ∙ agrees-refs (the_view c.self.inside).world (kept_of c.self.inside.files.counts c.self.inside.ledger) c.self.invariant.agrees c.args.ino ∙ ap (λ (s : HoldingsView). refs s.world c.args.ino) c.self.view_is

@@ -5,8 +5,8 @@ use Rattle.af_base.specs.World.{IsLive}
 use Rattle.af_base.specs.Places.{contents, held_by, queue_at, queue_of}
 use Rattle.af_base.specs.Counts.{refs}
 use Rattle.af_base.proofs.Lookups.{there}
-use Rattle.af_ledger.specs.Kept.{kept_of}
-use Rattle.af_hold.specs.Stored.{AreExact, Stored}
+use Rattle.af_ledger.specs.Tally.{kept_of}
+use Rattle.af_hold.specs.HoldingsView.{AreExact, HoldingsView}
 use Rattle.af_collect.specs.contracts.holdings.Holdings.{the_view}
 use Rattle.af_hold.proofs.Exact.{exact-gone, exact-same}
 use Rattle.af_collect.proofs.holdings.Holdings.take_away.Goals as goal
@@ -16,8 +16,8 @@ invariant_of-self c =
     let w = (the_view c.self.inside).world in
     let f = c.args.file.now in
     let back = sym c.self.view_is in
-    let x = there (map.get w.files f) (subst (λ (s : Stored). IsLive s.world f) back c.requires.live) in
-    let bare = sym (ap (λ o. option_map_or contents o []) x.1) ∙ subst (λ (s : Stored). held_by s.world f ≡ []) back c.requires.bare in
-    let silent = sym (ap (λ o. option_map_or queue_of o []) x.1) ∙ subst (λ (s : Stored). queue_at s.world f ≡ []) back c.requires.silent in
-    let none = subst (λ (s : Stored). refs s.world f ≡ 0) back c.requires.unheld in
+    let x = there (map.get w.files f) (subst (λ (s : HoldingsView). IsLive s.world f) back c.requires.live) in
+    let bare = sym (ap (λ o. option_map_or contents o []) x.1) ∙ subst (λ (s : HoldingsView). held_by s.world f ≡ []) back c.requires.bare in
+    let silent = sym (ap (λ o. option_map_or queue_of o []) x.1) ∙ subst (λ (s : HoldingsView). queue_at s.world f ≡ []) back c.requires.silent in
+    let none = subst (λ (s : HoldingsView). refs s.world f ≡ 0) back c.requires.unheld in
     subst (λ fs. AreExact c.self.inside.procs fs c.self.inside.ledger) (sym c.remove.ensures.rest) (exact-same _ _ _ _ (c.remove.ensures.gone w refl c.self.invariant.whole.peers) refl (exact-gone w f x.0 (kept_of c.self.inside.files.counts c.self.inside.ledger) x.1 bare silent none c.self.invariant))

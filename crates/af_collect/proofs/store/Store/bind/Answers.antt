@@ -2,13 +2,13 @@ use Rattle.std.proofs.Common.{◌≡◌, None, refl, subst}
 use Rattle.af_base.specs.Changes.{bound}
 use Rattle.af_base.specs.Names.{named}
 use Rattle.af_base.specs.World.{World}
-use Rattle.af_ledger.specs.Kept.{kept_of}
+use Rattle.af_ledger.specs.Tally.{kept_of}
 use Rattle.af_hold.proofs.Altered.{exact-bound}
 use Rattle.af_collect.specs.contracts.holdings.Holdings.{the_view}
-use Rattle.af_collect.proofs.Standing.{Stands, seen-world, stands-socket, stood}
+use Rattle.af_collect.proofs.Standing.{BothInvariants, seen-world, stands-socket, stood}
 use Rattle.af_collect.proofs.store.Store.bind.Goals as goal
 
-both : (c : goal.After-bind) → Stands c.self.inside.parts c.places.inside.procs c.bind.new.self c.places.inside.ledger
+both : (c : goal.After-bind) → BothInvariants c.self.inside.parts c.places.inside.procs c.bind.new.self c.places.inside.ledger
 both c =
     let p = c.self.inside.parts in
     let h = c.places.inside in

@@ -3,7 +3,7 @@ use Rattle.af_base.specs.declared.limits.TheConstants.{MAX_BUDGET}
 use Rattle.af_base.specs.World.{IsLive}
 use Rattle.af_base.specs.Reached.{Garbage, IsGarbageCount}
 use Rattle.af_base.specs.Whole.{IsSound}
-use Rattle.af_hold.specs.Stored.{Stored}
+use Rattle.af_hold.specs.HoldingsView.{HoldingsView}
 use Rattle.af_pass.specs.Keeping.{is_running}
 use Rattle.af_pass.specs.Purged.{ArePurged}
 use Rattle.af_pass.proofs.Purging.{purged_join, purged_none, purged_whole}
@@ -17,17 +17,17 @@ loop-init c =
     let w = c.args.self.now.world in
     let e = c.begin.ensures in
     let was = ap (λ (s : Shown). s.world) c.self.view_is in
-    let same = ap (λ (s : Stored). s.world) e.places ∙ was in
+    let same = ap (λ (s : HoldingsView). s.world) e.places ∙ was in
     record {
       kept = e.kept;
       running = ap is_running e.stage;
       sound = subst IsSound (sym same) c.requires.sound;
-      begun = ap (λ (s : Stored). s.world) e.begun ∙ was;
-      since = ap (λ (s : Stored). s.since) e.places ∙ ap (λ (s : Shown). s.since) c.self.view_is;
+      begun = ap (λ (s : HoldingsView). s.world) e.begun ∙ was;
+      since = ap (λ (s : HoldingsView). s.since) e.places ∙ ap (λ (s : Shown). s.since) c.self.view_is;
       purged = (0, subst (λ v. ArePurged w w v 0) (sym same) (purged_none w 0 c.requires.sound.settled));
     }
 
--- What these units purged comes to what was purged before.
+-- The sockets emptied by these units join those emptied before.
 pub loop-preserved : goal.loop-preserved
 loop-preserved c =
     let w = c.args.self.now.world in
@@ -57,4 +57,4 @@ returns-clause-collects c =
     let count = subst (λ v. IsGarbageCount v c.units.new.self.progress.reclaimed) i.begun (u.counted over) in
     let all = purged_join w b d i.purged.0 MAX_BUDGET i.purged.1 (subst (λ v. ArePurged v b d MAX_BUDGET) i.begun u.purged) in
     let done : Collects w c.units.new.self.progress.reclaimed d = record { test = count.0; is_garbage = count.1; purged = purged_whole d (i.purged.0 + MAX_BUDGET) count.0 all u.sound.settled gone count.1; counted = count } in
-    subst (Collects w c.units.new.self.progress.reclaimed) (sym (ap (λ (s : Stored). s.world) c.end_pass.ensures.rest)) done
+    subst (Collects w c.units.new.self.progress.reclaimed) (sym (ap (λ (s : HoldingsView). s.world) c.end_pass.ensures.rest)) done

@@ -4,12 +4,12 @@ use Rattle.std.specs.FinMap as map
 use Rattle.af_base.specs.Whole.{IsSound}
 use Rattle.af_pass.specs.Keeping.{is_running}
 use Rattle.af_pass.specs.Purged.{ArePurged}
-use Rattle.af_collect.specs.Shown.{AreKept}
+use Rattle.af_collect.specs.Shown.{KeepsPass}
 use Rattle.af_collect.proofs.store.Store.collect.Given as goal
 
 abbrev pub invariant-loop : goal.invariant-loop
 invariant-loop l = record {
-  kept : AreKept l.self-inside.parts;
+  kept : KeepsPass l.self-inside.parts;
   running : is_running l.self-inside.parts.progress.stage ≡ true;
   sound : IsSound l.self-inside.parts.places.world;
   begun : l.self-inside.parts.begun.value.world ≡ l.fn.self.world;

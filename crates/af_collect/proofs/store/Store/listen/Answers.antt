@@ -3,10 +3,10 @@ use Rattle.std.specs.Prelude.{IfSome}
 use Rattle.af_base.specs.Changes.{listening}
 use Rattle.af_base.specs.Refusals.{socket_at}
 use Rattle.af_base.specs.World.{World}
-use Rattle.af_ledger.specs.Kept.{kept_of}
+use Rattle.af_ledger.specs.Tally.{kept_of}
 use Rattle.af_hold.proofs.Altered.{exact-listening, idle-alone}
 use Rattle.af_collect.specs.contracts.holdings.Holdings.{the_view}
-use Rattle.af_collect.proofs.Standing.{Stands, seen-world, stands-socket, stood}
+use Rattle.af_collect.proofs.Standing.{BothInvariants, seen-world, stands-socket, stood}
 use Rattle.af_base.specs.declared.events.State.TheVariants as state
 use Rattle.af_collect.proofs.store.Store.listen.Goals as goal
 
@@ -16,7 +16,7 @@ listen-requires-clause-nobody c =
     let back = seen-world c.self.inside.parts c.places.inside _ c.places.view_is c.self.view_is in
     idle-alone (the_view c.places.inside).world s c.places.invariant.within (subst (λ (v : World). IfSome (socket_at v s) (λ x. x.state ≡ state.Idle)) back c.requires.idle)
 
-both : (c : goal.After-listen) → Stands c.self.inside.parts c.places.inside.procs c.listen.new.self c.places.inside.ledger
+both : (c : goal.After-listen) → BothInvariants c.self.inside.parts c.places.inside.procs c.listen.new.self c.places.inside.ledger
 both c =
     let p = c.self.inside.parts in
     let h = c.places.inside in

@@ -1,32 +1,33 @@
-use Rattle.std.proofs.Common.{◌+◌, ◌≡◌, false, refl, subst}
-use Rattle.af_base.specs.Refusals.{is_full}
-use Rattle.af_base.specs.Steps.{connected_socket}
-use Rattle.af_base.specs.World.{AsSocket, World}
-use Rattle.af_desc.specs.Filed.{paired}
-use Rattle.af_ledger.specs.Kept.{kept_of}
-use Rattle.af_hold.proofs.Exact.{exact-pair}
-use Rattle.af_pass.proofs.Born.{below-add_file}
-use Rattle.af_collect.specs.contracts.holdings.Holdings.{the_view}
-use Rattle.af_collect.proofs.Placed.{kept_made}
-use Rattle.af_collect.proofs.Standing.{Stands, seen-world, stands-either, stood}
+use Rattle.std.proofs.Common.{◌∙◌, ◌≡◌, ◌∷◌, [], ◌+◌, ap, false, subst, sym}
+use Rattle.std.specs.FinMap as map
+use Rattle.std.specs.Prelude.{IsTrue}
+use Rattle.af_base.specs.Changes.{change_at, installed}
+use Rattle.af_base.specs.Refusals.{is_full, process_at}
+use Rattle.af_base.specs.Table.{lowest_free}
+use Rattle.af_base.specs.World.{World}
+use Rattle.af_collect.proofs.Made.{stands-pair}
+use Rattle.af_collect.proofs.Standing.{BothInvariants, seen-world, stood}
 use Rattle.af_collect.proofs.store.Store.make_two.Goals as goal
 
-both : (c : goal.After-make_two) → Stands c.self.inside.parts c.places.inside.procs c.make_two.new.self c.places.inside.ledger
+both : (c : goal.After-install-2) → BothInvariants c.self.inside.parts c.install-2.new.self c.make_two.new.self c.places.inside.ledger
 both c =
     let p = c.self.inside.parts in
     let h = c.places.inside in
-    let w = (the_view h).world in
     let back = seen-world p h _ c.places.view_is c.self.view_is in
     let was = stood p h c.places.view_is c.places.invariant c.self.invariant in
-    let fits = subst (λ (v : World). is_full v 2 ≡ false) back c.requires in
-    let numbered = was.0.whole.files_numbered in
-    let first = AsSocket (connected_socket c.args.kind (w.next_ino + 1)) in
-    let made = c.make_two.ensures in
-    stands-either c.make_two.result p h _ made.err was (paired c.args.kind h.files) made.ok
-    (exact-pair w c.args.kind (kept_of h.files.counts h.ledger) fits was.0, kept_made (AsSocket (connected_socket c.args.kind w.next_ino)) refl (below-add_file w first numbered) (kept_made first refl numbered was.1))
+    let pid = c.args.pid in
+    let lower = c.args.lower in
+    let higher = c.args.higher in
+    let fits = subst (λ (v : World). is_full v 2 ≡ false) back c.requires.full in
+    let there = subst (λ (v : World). IsTrue (map.contains_key v.processes pid)) back c.requires.there in
+    let lowest = subst (λ (v : World). lower ∷ higher ∷ [] ≡ lowest_free 2 (process_at v pid)) back c.requires.lowest in
+    let made = c.in_ok-first.ensures in
+    let processes = c.install-2.ensures.processes ∙ (λ i. change_at (installed higher (made.second i)) (c.install.ensures.processes i) pid) ∙ ap (λ f. change_at (installed higher (h.files.next + 1)) (change_at (installed lower f) h.procs.processes pid) pid) made.first in
+    subst (λ fs. BothInvariants p c.install-2.new.self fs h.ledger) (sym made.ok)
+    (stands-pair p h was c.args.kind fits pid lower higher there lowest c.install-2.new.self processes (c.install-2.ensures.next ∙ c.install.ensures.next))
 
-pub invariant_of-places : goal.invariant_of-places
-invariant_of-places c = (both c).0
+pub invariant_of-places-2 : goal.invariant_of-places-2
+invariant_of-places-2 c = (both c).0
 
-pub invariant_of-self : goal.invariant_of-self
-invariant_of-self c = (both c).1
+pub invariant_of-self-2 : goal.invariant_of-self-2
+invariant_of-self-2 c = (both c).1

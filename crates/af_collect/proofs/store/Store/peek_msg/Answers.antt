@@ -4,9 +4,9 @@ use Rattle.std.specs.Prelude.{is_none}
 use Rattle.af_base.specs.Changes.{install_all}
 use Rattle.af_base.specs.Refusals.{socket_at}
 use Rattle.af_base.specs.World.{World}
-use Rattle.af_ledger.specs.Kept.{kept_of}
+use Rattle.af_ledger.specs.Tally.{kept_of}
 use Rattle.af_hold.specs.Receiving.{taken_at}
-use Rattle.af_hold.specs.Stored.{filled}
+use Rattle.af_hold.specs.HoldingsView.{filled}
 use Rattle.af_hold.proofs.Bounds.{tabled-most}
 use Rattle.af_hold.proofs.Exact.{exact-same, install-filled, world-is}
 use Rattle.af_hold.proofs.Receiving.{counted, exact-tabled, received-live, received_at, tabled}
@@ -14,7 +14,7 @@ use Rattle.af_pass.specs.Keeping.{Spares}
 use Rattle.af_collect.specs.Shown.{Shown}
 use Rattle.af_collect.specs.contracts.holdings.Holdings.{the_view}
 use Rattle.af_collect.proofs.Placed.{kept_peeked}
-use Rattle.af_collect.proofs.Standing.{Receives, Stands, both-same, seen-changed, seen-world, shown, stood}
+use Rattle.af_collect.proofs.Standing.{Receives, BothInvariants, both-same, seen-changed, seen-world, shown, stood}
 use Rattle.af_collect.proofs.store.Store.peek_msg.Goals as goal
 
 pub table_in_all-requires-clause-known : goal.table_in_all-requires-clause-known
@@ -41,7 +41,7 @@ seen c =
     let rest = c.table_in_all.ensures.rest in
     world-is _ (tabled w c.args.pid c.args.fds.now (received_at w c.args.socket.now c.args.max).attached) processes (ap (λ v. v.files) rest) (ap (λ v. v.next) rest) c.table_in_all.ensures.next refl ∙ sym (install-filled w c.args.pid all)
 
-both : (c : goal.After-table_in_all) → Stands c.self.inside.parts c.table_in_all.new.procs c.table_in_all.new.files c.places.inside.ledger
+both : (c : goal.After-table_in_all) → BothInvariants c.self.inside.parts c.table_in_all.new.procs c.table_in_all.new.files c.places.inside.ledger
 both c =
     let p = c.self.inside.parts in
     let h = c.places.inside in

@@ -2,12 +2,12 @@ use Rattle.std.proofs.Common.{◌∙◌, ◌≡◌, ℕ, ap, refl, subst, sym}
 use Rattle.std.specs.List.{Contains}
 use Rattle.std.specs.Map.{keys_of}
 use Rattle.af_base.specs.Changes.{push_message, pushed}
-use Rattle.af_desc.specs.Filed.{changed_queue}
-use Rattle.af_ledger.specs.Kept.{CanHoldAll, held_all, kept_of}
+use Rattle.af_desc.specs.FilesView.{changed_queue}
+use Rattle.af_ledger.specs.Tally.{CanHoldAll, held_all, kept_of}
 use Rattle.af_ledger.specs.declared.place.Place.TheVariants.{Queue}
 use Rattle.af_ledger.proofs.HeldAll.{users-held_all}
 use Rattle.af_mark.specs.Marked.{is_marked}
-use Rattle.af_hold.specs.Stored.{Stored}
+use Rattle.af_hold.specs.HoldingsView.{HoldingsView}
 use Rattle.af_hold.proofs.Exact.{exact-same, world-is}
 use Rattle.af_hold.proofs.Putting.{can-put, exact-put}
 use Rattle.af_pass.specs.Keeping.{Spares, below}
@@ -16,30 +16,30 @@ use Rattle.af_pass.proofs.Spared.{spared_running}
 use Rattle.af_collect.specs.Shown.{Shown}
 use Rattle.af_collect.specs.contracts.holdings.Holdings.{the_view}
 use Rattle.af_collect.proofs.Placed.{kept_socket}
-use Rattle.af_collect.proofs.Standing.{Stands, both-same, shown, stood}
+use Rattle.af_collect.proofs.Standing.{BothInvariants, both-same, shown, stood}
 use Rattle.af_collect.proofs.store.Store.put_msg.Goals as goal
 
-pub hold_all-requires : goal.hold_all-requires
-hold_all-requires c =
+pub charge_message-requires : goal.charge_message-requires
+charge_message-requires c =
     let h = c.places.inside in
     let k = kept_of h.files.counts h.ledger in
-    let here = ap (λ (t : Stored). t.world) c.places.view_is ∙ ap (λ (t : Shown). t.world) c.self.view_is in
+    let here = ap (λ (t : HoldingsView). t.world) c.places.view_is ∙ ap (λ (t : Shown). t.world) c.self.view_is in
     subst (λ u. CanHoldAll u c.attached.result.now k) (sym c.user.ensures) (subst (λ fs. CanHoldAll c.args.message.user fs k) (sym c.attached.ensures.value) (can-put (the_view h).world _ here k c.args.message c.places.invariant c.requires.user c.requires.flying c.requires.live))
 
--- What is kept once the message is in.
-kept : (c : goal.After-push) → let m = c.args.message in kept_of c.push.new.self.counts c.hold_all.new.ledger ≡ held_all (Queue m.user) m.attached (kept_of c.places.inside.files.counts c.places.inside.ledger)
-kept c = ap (λ v. kept_of v.counts c.hold_all.new.ledger) c.push.ensures ∙ c.hold_all.ensures.kept ∙ (λ i. held_all (Queue (c.user.ensures i)) (c.attached.ensures.value i) (kept_of c.places.inside.files.counts c.places.inside.ledger))
+-- The invariant once the message is queued.
+kept : (c : goal.After-push) → let m = c.args.message in kept_of c.push.new.self.counts c.charge_message.new.ledger ≡ held_all (Queue m.user) m.attached (kept_of c.places.inside.files.counts c.places.inside.ledger)
+kept c = ap (λ v. kept_of v.counts c.charge_message.new.ledger) c.push.ensures ∙ c.charge_message.ensures.kept ∙ (λ i. held_all (Queue (c.user.ensures i)) (c.attached.ensures.value i) (kept_of c.places.inside.files.counts c.places.inside.ledger))
 
 -- The world then.
-put : (c : goal.After-push) → (the_view (record c.places.inside { files = c.push.new.self; ledger = c.hold_all.new.ledger })).world ≡ push_message (the_view c.places.inside).world c.args.socket.now c.args.message
+put : (c : goal.After-push) → (the_view (record c.places.inside { files = c.push.new.self; ledger = c.charge_message.new.ledger })).world ≡ push_message (the_view c.places.inside).world c.args.socket.now c.args.message
 put c =
     let h = c.places.inside in
     let m = c.args.message in
-    let rest = c.push.ensures ∙ ap (changed_queue (pushed m) c.args.socket.now c.push.new.self.message_room) c.hold_all.ensures.rest in
+    let rest = c.push.ensures ∙ ap (changed_queue (pushed m) c.args.socket.now c.push.new.self.message_room) c.charge_message.ensures.rest in
     world-is _ (push_message (the_view h).world c.args.socket.now m) refl (ap (λ v. v.files) rest) (ap (λ v. v.next) rest) refl
     (ap (λ l. keys_of l.users) (kept c) ∙ users-held_all m.user m.attached (kept_of h.files.counts h.ledger))
 
-both : (c : goal.After-push) → Stands c.self.inside.parts c.places.inside.procs c.push.new.self c.hold_all.new.ledger
+both : (c : goal.After-push) → BothInvariants c.self.inside.parts c.places.inside.procs c.push.new.self c.charge_message.new.ledger
 both c =
     let p = c.self.inside.parts in
     let h = c.places.inside in
@@ -49,9 +49,9 @@ both c =
     let m = c.args.message in
     let r = c.requires in
     let was = stood p h c.places.view_is c.places.invariant c.self.invariant in
-    let here = ap (λ (t : Stored). t.world) c.places.view_is ∙ ap (λ (t : Shown). t.world) c.self.view_is in
+    let here = ap (λ (t : HoldingsView). t.world) c.places.view_is ∙ ap (λ (t : Shown). t.world) c.self.view_is in
     let spared = subst (λ (t : Shown). (f : ℕ) → Contains m.attached f → Spares t.pass f) (sym c.self.view_is) r.spared in
-    both-same _ (push_message w s m) _ _ _ _ (put c) (kept c) (ap (λ v. v.marks) c.push.ensures ∙ ap (λ v. v.marks) c.hold_all.ensures.rest)
+    both-same _ (push_message w s m) _ _ _ _ (put c) (kept c) (ap (λ v. v.marks) c.push.ensures ∙ ap (λ v. v.marks) c.charge_message.ensures.rest)
     (exact-put w _ here (kept_of h.files.counts h.ledger) m was.0 r.user r.flying r.live s r.socket r.queue r.within)
     (kept_socket s (pushed m) (λ e. moves_push begun w s m (λ f there. spared_running p.progress.stage begun p.progress.looked f e (spared f there))) (λ _. covers_push begun w s m (is_marked h.files.marks) (below p.progress.visited)) was.1)
 
@@ -66,8 +66,8 @@ returns c =
     let p = c.self.inside.parts in
     let h = c.places.inside in
     let room = c.push.new.self.message_room in
-    let marks = ap (λ v. v.marks) c.push.ensures ∙ ap (λ v. v.marks) c.hold_all.ensures.rest in
-    let since = ap (λ v. v.since) c.push.ensures ∙ ap (λ v. v.since) c.hold_all.ensures.rest in
+    let marks = ap (λ v. v.marks) c.push.ensures ∙ ap (λ v. v.marks) c.charge_message.ensures.rest in
+    let since = ap (λ v. v.since) c.push.ensures ∙ ap (λ v. v.since) c.charge_message.ensures.rest in
     (λ i. shown p (record (the_view h) { world = put c i; message_room = room; marks = marks i; since = since i }))
-    ∙ ap {A = Stored} {B = Shown} (λ t. shown p (record t { world = push_message t.world c.args.socket.now c.args.message; message_room = room })) c.places.view_is
+    ∙ ap {A = HoldingsView} {B = Shown} (λ t. shown p (record t { world = push_message t.world c.args.socket.now c.args.message; message_room = room })) c.places.view_is
     ∙ ap {A = Shown} {B = Shown} (λ t. record t { world = push_message t.world c.args.socket.now c.args.message; message_room = room }) c.self.view_is

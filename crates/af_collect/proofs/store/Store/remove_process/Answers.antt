@@ -4,31 +4,31 @@ use Rattle.std.specs.Option.{option_map_or}
 use Rattle.std.specs.Prelude.{Some}
 use Rattle.af_base.specs.Changes.{remove_process}
 use Rattle.af_base.specs.Places.{table_at}
-use Rattle.af_ledger.specs.Kept.{kept_of}
+use Rattle.af_ledger.specs.Tally.{kept_of}
 use Rattle.af_mark.specs.Marked.{is_marked}
-use Rattle.af_hold.specs.Stored.{Stored}
+use Rattle.af_hold.specs.HoldingsView.{HoldingsView}
 use Rattle.af_hold.proofs.Exact.{exact-removed, exact-same, world-is}
-use Rattle.af_pass.specs.Keeping.{IsKept, below}
+use Rattle.af_pass.specs.Keeping.{PassInvariant, below}
 use Rattle.af_pass.proofs.Placing.{covers_remove_process, moves_remove_process}
-use Rattle.af_collect.specs.Shown.{AreKept, AreKeptWith, MarksAll, with_marks}
+use Rattle.af_collect.specs.Shown.{KeepsPass, KeepsPassWith, MarksAll, with_marks}
 use Rattle.af_collect.specs.contracts.holdings.Holdings.{the_view}
 use Rattle.af_collect.specs.declared.holdings.Holdings.TheInside.{Inside}
-use Rattle.af_collect.specs.declared.parts.Parts.{Parts}
+use Rattle.af_collect.specs.declared.parts.Collector.{Collector}
 use Rattle.af_collect.proofs.Placed.{kept_tables}
-use Rattle.af_collect.proofs.Standing.{Stands, both-same, kept-same}
+use Rattle.af_collect.proofs.Standing.{BothInvariants, both-same, kept-same}
 use Rattle.af_collect.proofs.store.Store.remove_process.Goals as goal
 
--- What a process that goes loses was marked before, so what is kept of the pass is kept.
-kept : (q : Parts) (h : Inside) (o : Parts) (pid : ℕ) → the_view h ≡ q.places → q ≡ with_marks q.places.marks o → MarksAll (λ f. (n : ℕ) × (table_at o.places.world pid n ≡ Some f)) o q → AreKept q
-    → IsKept (remove_process (the_view h).world pid) q.begun.value.world h.files.marks q.progress
+-- The files that a process loses were marked before, so the invariant of the pass holds.
+kept : (q : Collector) (h : Inside) (o : Collector) (pid : ℕ) → the_view h ≡ q.places → q ≡ with_marks q.places.marks o → MarksAll (λ f. (n : ℕ) × (table_at o.places.world pid n ≡ Some f)) o q → KeepsPass q
+    → PassInvariant (remove_process (the_view h).world pid) q.begun.value.world h.files.marks q.progress
 kept q h o pid seen frame all k =
     let w = (the_view h).world in
     let begun = q.begun.value.world in
-    let shaded = subst (λ (r : Parts). MarksAll (λ f. (n : ℕ) × (table_at r.places.world pid n ≡ Some f)) r q) (sym frame) all in
-    let marked = subst (λ (t : Stored). MarksAll (λ f. (n : ℕ) × (table_at t.world pid n ≡ Some f)) q (record q { places = t })) (sym seen) shaded in
-    kept_tables (remove_process w pid) refl refl (λ _. moves_remove_process begun w pid) (λ t. covers_remove_process begun w pid (is_marked h.files.marks) (below q.progress.visited) (λ n f at. marked t f (n, at))) (subst (AreKeptWith q) (sym seen) k)
+    let shaded = subst (λ (r : Collector). MarksAll (λ f. (n : ℕ) × (table_at r.places.world pid n ≡ Some f)) r q) (sym frame) all in
+    let marked = subst (λ (t : HoldingsView). MarksAll (λ f. (n : ℕ) × (table_at t.world pid n ≡ Some f)) q (record q { places = t })) (sym seen) shaded in
+    kept_tables (remove_process w pid) refl refl (λ _. moves_remove_process begun w pid) (λ t. covers_remove_process begun w pid (is_marked h.files.marks) (below q.progress.visited) (λ n f at. marked t f (n, at))) (subst (KeepsPassWith q) (sym seen) k)
 
-both : (c : goal.In_default) → Stands c.shade_table.new.self c.remove.new.self c.places.inside.files c.places.inside.ledger
+both : (c : goal.In_default) → BothInvariants c.shade_table.new.self c.remove.new.self c.places.inside.files c.places.inside.ledger
 both c =
     let h = c.places.inside in
     let w = (the_view h).world in
@@ -46,15 +46,15 @@ invariant_of-self c = (both c).1
 pub invariant_of-places-2 : goal.invariant_of-places-2
 invariant_of-places-2 c =
     let h = c.places.inside in
-    let rest = c.drop_numbers.ensures.rest in
+    let rest = c.unref_table.ensures.rest in
     exact-same _ _ _ _ (world-is _ _ c.remove.ensures.processes (ap (λ v. v.files) rest) (ap (λ v. v.next) rest) c.remove.ensures.next refl) refl
-    (c.drop_numbers.ensures.exact (the_view h).world h.ledger c.args.pid c.in-Some.ensures.there c.places.invariant)
+    (c.unref_table.ensures.exact (the_view h).world h.ledger c.args.pid c.in-Some.ensures.there c.places.invariant)
 
 pub invariant_of-self-2 : goal.invariant_of-self-2
 invariant_of-self-2 c =
     let q = c.shade_table.new.self in
     let h = c.places.inside in
     let e = c.shade_table.ensures in
-    let rest = c.drop_numbers.ensures.rest in
+    let rest = c.unref_table.ensures.rest in
     kept-same _ (remove_process (the_view h).world c.args.pid) _ _ (world-is _ _ c.remove.ensures.processes (ap (λ v. v.files) rest) (ap (λ v. v.next) rest) c.remove.ensures.next refl) (ap (λ v. v.marks) rest)
     (kept q h c.self.inside.parts c.args.pid c.places.view_is e.frame e.marked e.kept)

@@ -1,13 +1,13 @@
 use Rattle.std.proofs.Common.{refl}
 use Rattle.af_base.specs.Changes.{set_limit}
-use Rattle.af_ledger.specs.Kept.{kept_of}
+use Rattle.af_ledger.specs.Tally.{kept_of}
 use Rattle.af_hold.proofs.Exact.{exact-limited, world-is}
 use Rattle.af_collect.specs.contracts.holdings.Holdings.{the_view}
 use Rattle.af_collect.proofs.Placed.{kept_limited}
-use Rattle.af_collect.proofs.Standing.{Stands, both-same, stood}
+use Rattle.af_collect.proofs.Standing.{BothInvariants, both-same, stood}
 use Rattle.af_collect.proofs.store.Store.set_limit.Goals as goal
 
-both : (c : goal.After-set_limit) → Stands c.self.inside.parts c.set_limit.new.self c.places.inside.files c.places.inside.ledger
+both : (c : goal.After-set_limit) → BothInvariants c.self.inside.parts c.set_limit.new.self c.places.inside.files c.places.inside.ledger
 both c =
     let h = c.places.inside in
     let w = (the_view h).world in

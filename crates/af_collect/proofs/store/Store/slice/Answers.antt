@@ -2,7 +2,7 @@ use Rattle.std.proofs.Common.{◌∙◌, ap, subst, sym}
 use Rattle.af_base.specs.declared.events.Reply.TheVariants as reply
 use Rattle.af_base.specs.Pass.{Idle, Slices}
 use Rattle.af_pass.proofs.Slicing.{slices_done}
-use Rattle.af_hold.specs.Stored.{Stored}
+use Rattle.af_hold.specs.HoldingsView.{HoldingsView}
 use Rattle.af_collect.specs.Shown.{Shown}
 use Rattle.af_collect.proofs.Passing.{seen_begun}
 use Rattle.af_collect.proofs.store.Store.slice.Goals as goal
@@ -16,7 +16,7 @@ returns-clause-does c = λ begun spent pass e.
     let n = c.units.new.self.progress.reclaimed in
     let u = c.units.ensures in
     let is = seen_begun p.progress.stage b begun p.progress.looked spent (ap (λ (s : Shown). s.pass) c.self.view_is ∙ e) in
-    let left = ap (λ (s : Stored). s.world) c.end_pass.ensures.rest in
+    let left = ap (λ (s : HoldingsView). s.world) c.end_pass.ensures.rest in
     subst (λ x. Slices begun c.args.self.now.world spent c.args.budget pass (reply.Done pass n) x Idle) (sym left)
     (subst (λ (s : Shown). Slices begun s.world spent c.args.budget pass (reply.Done pass n) v Idle) c.self.view_is
     (subst (λ x. Slices x p.places.world spent c.args.budget pass (reply.Done pass n) v Idle) is

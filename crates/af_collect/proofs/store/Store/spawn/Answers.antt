@@ -2,10 +2,10 @@ use Rattle.std.proofs.Common.{◌+◌, ◌∙◌, ◌≡◌, ap, false, refl, su
 use Rattle.std.specs.FinMap as map
 use Rattle.std.specs.Map.{keys_of}
 use Rattle.af_base.specs.Changes.{add_process}
-use Rattle.af_base.specs.Refusals.{is_crowded}
+use Rattle.af_base.specs.Refusals.{is_at_process_limit}
 use Rattle.af_base.specs.Steps.{spawned}
 use Rattle.af_base.specs.World.{World}
-use Rattle.af_ledger.specs.Kept.{kept_of}
+use Rattle.af_ledger.specs.Tally.{kept_of}
 use Rattle.af_ledger.proofs.Laws.{users-added}
 use Rattle.af_mark.specs.Marked.{is_marked}
 use Rattle.af_table.specs.Procs.{started}
@@ -14,10 +14,10 @@ use Rattle.af_pass.specs.Keeping.{below}
 use Rattle.af_pass.proofs.Placing.{covers_spawned, moves_spawned}
 use Rattle.af_collect.specs.contracts.holdings.Holdings.{the_view}
 use Rattle.af_collect.proofs.Placed.{files_spawned, kept_tables}
-use Rattle.af_collect.proofs.Standing.{Stands, both-same, seen-world, stood}
+use Rattle.af_collect.proofs.Standing.{BothInvariants, both-same, seen-world, stood}
 use Rattle.af_collect.proofs.store.Store.spawn.Goals as goal
 
-both : (c : goal.After-spawn) → Stands c.self.inside.parts c.spawn.new.self c.places.inside.files c.add_user.new.self
+both : (c : goal.After-spawn) → BothInvariants c.self.inside.parts c.spawn.new.self c.places.inside.files c.add_user.new.self
 both c =
     let p = c.self.inside.parts in
     let h = c.places.inside in
@@ -26,7 +26,7 @@ both c =
     let a = c.args in
     let was = stood p h c.places.view_is c.places.invariant c.self.invariant in
     let back = seen-world c.self.inside.parts c.places.inside _ c.places.view_is c.self.view_is in
-    let room = subst (λ (v : World). is_crowded v ≡ false) back c.requires.room in
+    let room = subst (λ (v : World). is_at_process_limit v ≡ false) back c.requires.room in
     let more = add_process w (started a.uid a.limit a.privileged) in
     let processes = c.spawn.ensures.processes ∙ (λ i. map.insert (c.room_to_spawn.ensures.processes i) (c.room_to_spawn.ensures.next i) (started a.uid a.limit a.privileged)) in
     let next = c.spawn.ensures.next ∙ ap (λ n. n + 1) c.room_to_spawn.ensures.next in

@@ -8,7 +8,7 @@ use Rattle.af_base.specs.World.{IsLive, World}
 use Rattle.af_base.proofs.Moved.{there-table}
 use Rattle.af_base.proofs.Stepped.{process-there}
 use Rattle.af_base.proofs.Within.{below-most}
-use Rattle.af_ledger.specs.Kept.{kept_of}
+use Rattle.af_ledger.specs.Tally.{kept_of}
 use Rattle.af_mark.specs.Marked.{is_marked}
 use Rattle.af_hold.specs.Limits.{IsBelowLimit}
 use Rattle.af_hold.proofs.Bounds.{can-hold-table}
@@ -19,13 +19,13 @@ use Rattle.af_pass.proofs.Spared.{spared_running}
 use Rattle.af_collect.specs.Shown.{Shown}
 use Rattle.af_collect.specs.contracts.holdings.Holdings.{the_view}
 use Rattle.af_collect.proofs.Placed.{kept_tables}
-use Rattle.af_collect.proofs.Standing.{Stands, both-same, seen-world, stood}
+use Rattle.af_collect.proofs.Standing.{BothInvariants, both-same, seen-world, stood}
 use Rattle.af_collect.proofs.store.Store.table_in.Goals as goal
 
-pub raise-requires-clause-countable : goal.raise-requires-clause-countable
-raise-requires-clause-countable c = (can-hold-table (the_view c.places.inside).world c.args.file (kept_of c.places.inside.files.counts c.places.inside.ledger) c.places.invariant.within c.places.invariant.agrees).0
+pub hold-requires-clause-countable : goal.hold-requires-clause-countable
+hold-requires-clause-countable c = (can-hold-table (the_view c.places.inside).world c.args.file (kept_of c.places.inside.files.counts c.places.inside.ledger) c.places.invariant.within c.places.invariant.agrees).0
 
-both : (c : goal.After-install) → Stands c.self.inside.parts c.install.new.self c.raise.new.self c.places.inside.ledger
+both : (c : goal.After-install) → BothInvariants c.self.inside.parts c.install.new.self c.hold.new.self c.places.inside.ledger
 both c =
     let p = c.self.inside.parts in
     let h = c.places.inside in
@@ -42,7 +42,7 @@ both c =
     let low = below-most w pid fd (process_at w pid) was.0.within there (subst (λ (v : World). IsBelowLimit v pid fd) back c.requires.limit (process_at w pid) there) in
     let live = subst (λ (v : World). IsLive v f) back c.requires.live in
     let spared = subst (λ (t : Shown). Spares t.pass f) (sym c.self.view_is) c.requires.spared in
-    both-same _ (install w pid fd f) _ _ _ _ (world-is _ _ c.install.ensures.processes (ap (λ v. v.files) c.raise.ensures) (ap (λ v. v.next) c.raise.ensures) c.install.ensures.next refl) (ap (λ v. kept_of v.counts h.ledger) c.raise.ensures) (ap (λ v. v.marks) c.raise.ensures)
+    both-same _ (install w pid fd f) _ _ _ _ (world-is _ _ c.install.ensures.processes (ap (λ v. v.files) c.hold.ensures) (ap (λ v. v.next) c.hold.ensures) c.install.ensures.next refl) (ap (λ v. kept_of v.counts h.ledger) c.hold.ensures) (ap (λ v. v.marks) c.hold.ensures)
     (exact-install w pid fd f (process_at w pid) (kept_of h.files.counts h.ledger) there none low live was.0)
     (kept_tables (install w pid fd f) refl refl (λ e. moves_install begun w pid fd f (spared_running p.progress.stage begun p.progress.looked f e spared)) (λ _. covers_install begun w pid fd f (is_marked h.files.marks) (below p.progress.visited) free) was.1)
 

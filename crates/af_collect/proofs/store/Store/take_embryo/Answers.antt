@@ -9,13 +9,13 @@ use Rattle.af_base.specs.World.{World}
 use Rattle.af_base.proofs.Moved.{there-table}
 use Rattle.af_base.proofs.Stepped.{process-there}
 use Rattle.af_base.proofs.Within.{below-most}
-use Rattle.af_desc.specs.Filed.{Filed, lowered, raised}
+use Rattle.af_desc.specs.FilesView.{FilesView, lowered, raised}
 use Rattle.af_ledger.specs.Counted.{IsCountable, IsCounted}
-use Rattle.af_ledger.specs.Kept.{count_in_map, kept_of}
+use Rattle.af_ledger.specs.Tally.{count_in_map, kept_of}
 use Rattle.af_ledger.specs.declared.place.Place.TheVariants.{Backlog, Table}
 use Rattle.af_mark.specs.Marked.{is_marked}
 use Rattle.af_hold.specs.Limits.{IsBelowLimit}
-use Rattle.af_hold.specs.Stored.{Stored}
+use Rattle.af_hold.specs.HoldingsView.{HoldingsView}
 use Rattle.af_hold.proofs.Accepting.{can-drop-first, embryo-taken, exact-accepted, live-first}
 use Rattle.af_hold.proofs.Bounds.{can-hold-table}
 use Rattle.af_hold.proofs.Exact.{world-is}
@@ -25,14 +25,14 @@ use Rattle.af_pass.proofs.Sockets.{covers_dequeued, moves_dequeued}
 use Rattle.af_pass.proofs.Spared.{held_spared, marking_runs, spared_running}
 use Rattle.af_collect.specs.Shown.{MarksAll, Shown}
 use Rattle.af_collect.specs.contracts.holdings.Holdings.{the_view}
-use Rattle.af_collect.specs.declared.parts.Parts.{Parts}
+use Rattle.af_collect.specs.declared.parts.Collector.{Collector}
 use Rattle.af_collect.proofs.Losing.{embryo_held, first_taken}
 use Rattle.af_collect.proofs.Placed.{kept_socket, kept_tables}
-use Rattle.af_collect.proofs.Standing.{Stands, both-same, stood}
+use Rattle.af_collect.proofs.Standing.{BothInvariants, both-same, stood}
 use Rattle.af_collect.proofs.store.Store.take_embryo.Goals as goal
 
-pub raise-requires-clause-known : goal.raise-requires-clause-known
-raise-requires-clause-known c =
+pub hold-requires-clause-known : goal.hold-requires-clause-known
+hold-requires-clause-known c =
     let h = c.places.inside in
     let w = (the_view h).world in
     let s = c.args.listener.now in
@@ -40,26 +40,26 @@ raise-requires-clause-known c =
     let x = embryo-taken w s f c.dequeue.result c.unwrap-embryo.ensures c.dequeue.ensures.some in
     ap (λ v. map.contains_key v.counts f) c.dequeue.ensures.rest ∙ c.places.invariant.counted f ∙ live-first w s f x.0 (kept_of h.files.counts h.ledger) x.1 x.2 c.places.invariant
 
-pub raise-requires-clause-countable : goal.raise-requires-clause-countable
-raise-requires-clause-countable c =
+pub hold-requires-clause-countable : goal.hold-requires-clause-countable
+hold-requires-clause-countable c =
     let h = c.places.inside in
     let f = c.unwrap-embryo.result in
-    subst (λ (v : Filed). IsCountable Table (count_in_map v.counts f)) (sym c.dequeue.ensures.rest) (can-hold-table (the_view h).world f (kept_of h.files.counts h.ledger) c.places.invariant.within c.places.invariant.agrees).0
+    subst (λ (v : FilesView). IsCountable Table (count_in_map v.counts f)) (sym c.dequeue.ensures.rest) (can-hold-table (the_view h).world f (kept_of h.files.counts h.ledger) c.places.invariant.within c.places.invariant.agrees).0
 
-pub lower-requires : goal.lower-requires
-lower-requires c =
+pub drop_one-requires : goal.drop_one-requires
+drop_one-requires c =
     let h = c.places.inside in
     let w = (the_view h).world in
     let s = c.args.listener.now in
     let pid = c.args.pid in
     let f = c.unwrap-embryo.result in
-    let back = sym (ap (λ (t : Stored). t.world) c.places.view_is ∙ ap (λ (o : Parts). o.places.world) c.shade_embryo.ensures.frame ∙ ap (λ (t : Shown). t.world) c.self.view_is) in
+    let back = sym (ap (λ (t : HoldingsView). t.world) c.places.view_is ∙ ap (λ (o : Collector). o.places.world) c.shade_embryo.ensures.frame ∙ ap (λ (t : Shown). t.world) c.self.view_is) in
     let x = embryo-taken w s f c.dequeue.result c.unwrap-embryo.ensures c.dequeue.ensures.some in
     let there = process-there w pid (ap not (subst (λ (v : World). IsTrue (map.contains_key v.processes pid)) back c.requires.there)) in
     let free = sym (there-table w pid c.args.fd (process_at w pid) there) ∙ subst (λ (v : World). table_at v pid c.args.fd ≡ None) back c.requires.free in
-    subst (λ (v : Filed). IsCounted Backlog (count_in_map v.counts f)) (sym (c.raise.ensures ∙ ap (raised Table f) c.dequeue.ensures.rest)) (can-drop-first w s f x.0 (kept_of h.files.counts h.ledger) x.1 x.2 c.places.invariant pid c.args.fd (process_at w pid) there free).0
+    subst (λ (v : FilesView). IsCounted Backlog (count_in_map v.counts f)) (sym (c.hold.ensures ∙ ap (raised Table f) c.dequeue.ensures.rest)) (can-drop-first w s f x.0 (kept_of h.files.counts h.ledger) x.1 x.2 c.places.invariant pid c.args.fd (process_at w pid) there free).0
 
-both : (c : goal.After-install) → Stands c.shade_embryo.new.self c.install.new.self c.lower.new.self c.places.inside.ledger
+both : (c : goal.After-install) → BothInvariants c.shade_embryo.new.self c.install.new.self c.drop_one.new.self c.places.inside.ledger
 both c =
     let q = c.shade_embryo.new.self in
     let h = c.places.inside in
@@ -71,20 +71,20 @@ both c =
     let f = c.unwrap-embryo.result in
     let e = c.shade_embryo.ensures in
     let was = stood q h c.places.view_is c.places.invariant e.kept in
-    let back = sym (ap (λ (t : Stored). t.world) c.places.view_is ∙ ap (λ (o : Parts). o.places.world) e.frame ∙ ap (λ (t : Shown). t.world) c.self.view_is) in
+    let back = sym (ap (λ (t : HoldingsView). t.world) c.places.view_is ∙ ap (λ (o : Collector). o.places.world) e.frame ∙ ap (λ (t : Shown). t.world) c.self.view_is) in
     let x = embryo-taken w s f c.dequeue.result c.unwrap-embryo.ensures c.dequeue.ensures.some in
     let there = process-there w pid (ap not (subst (λ (v : World). IsTrue (map.contains_key v.processes pid)) back c.requires.there)) in
     let free = subst (λ (v : World). table_at v pid fd ≡ None) back c.requires.free in
     let none = sym (there-table w pid fd (process_at w pid) there) ∙ free in
     let low = below-most w pid fd (process_at w pid) was.0.within there (subst (λ (v : World). IsBelowLimit v pid fd) back c.requires.limit (process_at w pid) there) in
-    let files = c.lower.ensures ∙ ap (lowered Backlog f) (c.raise.ensures ∙ ap (raised Table f) c.dequeue.ensures.rest) in
-    let spared = subst (λ (o : Parts). Spares (pass_of o.progress.stage o.begun.value.world o.progress.looked) s) (sym e.frame) (subst (λ (t : Shown). Spares t.pass s) (sym c.self.view_is) c.requires.spared) in
-    let shaded = subst (λ (o : Parts). MarksAll (λ g. slice_get (backlog_at o.places.world s) 0 ≡ Some g) o q) (sym e.frame) e.marked in
-    let marked = subst (λ (t : Stored). MarksAll (λ g. slice_get (backlog_at t.world s) 0 ≡ Some g) q (record q { places = t })) (sym c.places.view_is) shaded in
+    let files = c.drop_one.ensures ∙ ap (lowered Backlog f) (c.hold.ensures ∙ ap (raised Table f) c.dequeue.ensures.rest) in
+    let spared = subst (λ (o : Collector). Spares (pass_of o.progress.stage o.begun.value.world o.progress.looked) s) (sym e.frame) (subst (λ (t : Shown). Spares t.pass s) (sym c.self.view_is) c.requires.spared) in
+    let shaded = subst (λ (o : Collector). MarksAll (λ g. slice_get (backlog_at o.places.world s) 0 ≡ Some g) o q) (sym e.frame) e.marked in
+    let marked = subst (λ (t : HoldingsView). MarksAll (λ g. slice_get (backlog_at t.world s) 0 ≡ Some g) q (record q { places = t })) (sym c.places.view_is) shaded in
     let stray : (g : ℕ) → slice_get (backlog_at w s) 0 ≡ Some g → is_running q.progress.stage ≡ true → ¬ (Garbage begun g) = λ g is run. spared_running q.progress.stage begun q.progress.looked g run (held_spared q.progress.looked s g was.1 (embryo_held w s g (first_taken (backlog_at w s) g is)) spared) in
     let first : slice_get (backlog_at w s) 0 ≡ Some f = ap (λ xs. slice_get xs 0) (subst (λ o. IfSome o (λ g. backlog_at w s ≡ g ∷ drop 1 (backlog_at w s))) c.unwrap-embryo.ensures c.dequeue.ensures.some) in
     let v = with_socket w s dequeued in
-    subst (λ fs. Stands q c.install.new.self fs h.ledger) (sym files) (both-same _ (install v pid fd f) _ _ _ _ (world-is _ _ c.install.ensures.processes refl refl c.install.ensures.next refl) refl refl
+    subst (λ fs. BothInvariants q c.install.new.self fs h.ledger) (sym files) (both-same _ (install v pid fd f) _ _ _ _ (world-is _ _ c.install.ensures.processes refl refl c.install.ensures.next refl) refl refl
     (exact-accepted w s f x.0 (kept_of h.files.counts h.ledger) x.1 x.2 was.0 pid fd (process_at w pid) there none low)
     (kept_tables (install v pid fd f) refl refl (λ t. moves_install begun v pid fd f (stray f first t)) (λ _. covers_install begun v pid fd f (is_marked h.files.marks) (below q.progress.visited) free)
     (kept_socket s dequeued (λ _. moves_dequeued begun w s) (λ t. covers_dequeued begun w s (is_marked h.files.marks) (below q.progress.visited) (marked t) (λ g is. stray g is (marking_runs q.progress.stage t))) was.1)))

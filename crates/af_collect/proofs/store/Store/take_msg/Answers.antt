@@ -6,12 +6,12 @@ use Rattle.std.specs.Prelude.{is_none}
 use Rattle.af_base.specs.Changes.{install_all, with_queue, with_socket}
 use Rattle.af_base.specs.Refusals.{socket_at}
 use Rattle.af_base.specs.World.{World}
-use Rattle.af_desc.specs.Filed.{received_from}
-use Rattle.af_ledger.specs.Kept.{CanDropAll, count_in_map, dropped_all, kept_of}
+use Rattle.af_desc.specs.FilesView.{received_from}
+use Rattle.af_ledger.specs.Tally.{CanDropAll, count_in_map, dropped_all, kept_of}
 use Rattle.af_ledger.specs.declared.place.Place.TheVariants.{Queue}
 use Rattle.af_ledger.proofs.HeldAll.{users-dropped_all}
 use Rattle.af_hold.specs.Receiving.{taken_at}
-use Rattle.af_hold.specs.Stored.{filled}
+use Rattle.af_hold.specs.HoldingsView.{filled}
 use Rattle.af_hold.proofs.Bounds.{tabled-most}
 use Rattle.af_hold.proofs.Exact.{exact-same, install-filled, users-filled, world-is}
 use Rattle.af_hold.proofs.Receiving.{can-drop-received, counted, exact-received, received-live, received_at, tabled}
@@ -20,7 +20,7 @@ use Rattle.af_pass.specs.Keeping.{Spares, shaded_in}
 use Rattle.af_collect.specs.Shown.{Shown}
 use Rattle.af_collect.specs.contracts.holdings.Holdings.{the_view}
 use Rattle.af_collect.proofs.Placed.{kept_taken}
-use Rattle.af_collect.proofs.Standing.{Receives, Stands, both-same, seen-moved, seen-world, shown, stood}
+use Rattle.af_collect.proofs.Standing.{Receives, BothInvariants, both-same, seen-moved, seen-world, shown, stood}
 use Rattle.af_collect.proofs.store.Store.take_msg.Goals as goal
 
 pub table_in_all-requires-clause-known : goal.table_in_all-requires-clause-known
@@ -36,8 +36,8 @@ table_in_all-requires-clause-known c = λ f there.
 pub table_in_all-requires-clause-fits : goal.table_in_all-requires-clause-fits
 table_in_all-requires-clause-fits c = λ f. let few = c.attached-attached.ensures.bound in omega (arith, few, ap (λ v. (count_in_map v.counts f).tabled) c.in_ok-taken.ensures.ok, tabled-most (the_view c.places.inside).world f (kept_of c.places.inside.files.counts c.places.inside.ledger) c.places.invariant.within c.places.invariant.agrees)
 
-pub drop_all-requires : goal.drop_all-requires
-drop_all-requires c =
+pub uncharge_message-requires : goal.uncharge_message-requires
+uncharge_message-requires c =
     let h = c.places.inside in
     let w = (the_view h).world in
     let k = kept_of h.files.counts h.ledger in
@@ -57,7 +57,7 @@ drop_all-requires c =
 
 -- The ledger in the end.
 left : (c : goal.After-shade_taken) → let k = kept_of c.places.inside.files.counts c.places.inside.ledger in let m = received_at (the_view c.places.inside).world c.args.socket.now c.args.max in
-    kept_of c.shade_taken.new.files.counts c.drop_all.new.ledger ≡ dropped_all (Queue m.user) m.attached (counted k c.args.fds.now m.attached)
+    kept_of c.shade_taken.new.files.counts c.uncharge_message.new.ledger ≡ dropped_all (Queue m.user) m.attached (counted k c.args.fds.now m.attached)
 left c =
     let h = c.places.inside in
     let fds = c.args.fds.now in
@@ -65,11 +65,11 @@ left c =
     let kept = c.table_in_all.ensures.kept h.ledger ∙ (λ i. counted (kept_of (c.in_ok-taken.ensures.ok i).counts h.ledger) fds (c.attached-attached.ensures.value i)) ∙ ap (counted (kept_of h.files.counts h.ledger) fds) (ap (λ t. t.message.attached) taken) in
     let user = c.user.ensures ∙ ap (λ t. t.message.user) taken in
     let attached = c.attached-attached.ensures.value ∙ ap (λ t. t.message.attached) taken in
-    ap (λ v. kept_of v.counts c.drop_all.new.ledger) c.shade_taken.ensures ∙ c.drop_all.ensures.kept ∙ (λ i. dropped_all (Queue (user i)) (attached i) (kept i))
+    ap (λ v. kept_of v.counts c.uncharge_message.new.ledger) c.shade_taken.ensures ∙ c.uncharge_message.ensures.kept ∙ (λ i. dropped_all (Queue (user i)) (attached i) (kept i))
 
 -- The world in the end.
 received : (c : goal.After-shade_taken) → let w = (the_view c.places.inside).world in let taken = taken_at w c.args.socket.now c.args.max in
-    (the_view (record c.places.inside { procs = c.table_in_all.new.procs; files = c.shade_taken.new.files; ledger = c.drop_all.new.ledger })).world ≡ install_all (with_queue w c.args.socket.now taken.rest) c.args.pid (zip c.args.fds.now taken.attached)
+    (the_view (record c.places.inside { procs = c.table_in_all.new.procs; files = c.shade_taken.new.files; ledger = c.uncharge_message.new.ledger })).world ≡ install_all (with_queue w c.args.socket.now taken.rest) c.args.pid (zip c.args.fds.now taken.attached)
 received c =
     let h = c.places.inside in
     let w = (the_view h).world in
@@ -81,12 +81,12 @@ received c =
     let processes = c.table_in_all.ensures.processes ∙ ap (λ l. filled w.processes c.args.pid (zip c.args.fds.now l)) attached in
     let k = kept_of h.files.counts h.ledger in
     let users = ap (λ l. keys_of l.users) (left c) ∙ users-dropped_all m.user m.attached (counted k c.args.fds.now m.attached) ∙ users-filled (mapped (λ e. e.1) (zip c.args.fds.now m.attached)) k in
-    let files = ap (λ v. v.files) c.shade_taken.ensures ∙ ap (λ v. v.files) c.drop_all.ensures.rest ∙ ap (λ v. v.files) c.table_in_all.ensures.rest ∙ ap (λ v. v.files) c.in_ok-taken.ensures.ok in
-    let next = ap (λ v. v.next) c.shade_taken.ensures ∙ ap (λ v. v.next) c.drop_all.ensures.rest ∙ ap (λ v. v.next) c.table_in_all.ensures.rest ∙ ap (λ v. v.next) c.in_ok-taken.ensures.ok in
+    let files = ap (λ v. v.files) c.shade_taken.ensures ∙ ap (λ v. v.files) c.uncharge_message.ensures.rest ∙ ap (λ v. v.files) c.table_in_all.ensures.rest ∙ ap (λ v. v.files) c.in_ok-taken.ensures.ok in
+    let next = ap (λ v. v.next) c.shade_taken.ensures ∙ ap (λ v. v.next) c.uncharge_message.ensures.rest ∙ ap (λ v. v.next) c.table_in_all.ensures.rest ∙ ap (λ v. v.next) c.in_ok-taken.ensures.ok in
     world-is _ (with_socket v s (received_from c.args.max)) processes files next c.table_in_all.ensures.next users ∙ taken_queue v s c.args.max
     ∙ sym (install-filled (with_queue w s t.rest) c.args.pid (zip c.args.fds.now t.attached))
 
-both : (c : goal.After-shade_taken) → Stands c.self.inside.parts c.table_in_all.new.procs c.shade_taken.new.files c.drop_all.new.ledger
+both : (c : goal.After-shade_taken) → BothInvariants c.self.inside.parts c.table_in_all.new.procs c.shade_taken.new.files c.uncharge_message.new.ledger
 both c =
     let p = c.self.inside.parts in
     let h = c.places.inside in
@@ -102,7 +102,7 @@ both c =
     let spared = subst (λ (t : Shown). Spares t.pass s) (sym c.self.view_is) c.requires.spared in
     let t = taken_at w s max in
     let files = c.attached-attached.ensures.value ∙ ap (λ o. o.message.attached) c.in_ok-taken.ensures.taken in
-    let before = ap (λ v. v.marks) c.drop_all.ensures.rest ∙ ap (λ v. v.marks) c.table_in_all.ensures.rest ∙ ap (λ v. v.marks) c.in_ok-taken.ensures.ok in
+    let before = ap (λ v. v.marks) c.uncharge_message.ensures.rest ∙ ap (λ v. v.marks) c.table_in_all.ensures.rest ∙ ap (λ v. v.marks) c.in_ok-taken.ensures.ok in
     let marks = ap (λ v. v.marks) c.shade_taken.ensures ∙ (λ i. shaded_in p.progress.stage (files i) (before i)) in
     both-same _ (install_all (with_queue w s t.rest) pid (zip fds t.attached)) _ _ _ _ (received c) (left c) marks
     (exact-same _ _ _ _ (install-filled (with_queue w s t.rest) pid (zip fds t.attached)) refl (exact-received w s max k was.0 c.requires.some r.0 pid fds r.1 r.2))
@@ -118,6 +118,6 @@ pub returns-clause-world : goal.returns-clause-world
 returns-clause-world c =
     let p = c.self.inside.parts in
     let h = c.places.inside in
-    let since = ap (λ v. v.since) c.shade_taken.ensures ∙ ap (λ v. v.since) c.drop_all.ensures.rest ∙ ap (λ v. v.since) c.table_in_all.ensures.rest ∙ ap (λ v. v.since) c.in_ok-taken.ensures.ok in
+    let since = ap (λ v. v.since) c.shade_taken.ensures ∙ ap (λ v. v.since) c.uncharge_message.ensures.rest ∙ ap (λ v. v.since) c.table_in_all.ensures.rest ∙ ap (λ v. v.since) c.in_ok-taken.ensures.ok in
     (λ i. shown p (record { world = received c i; rows = c.table_in_all.ensures.rows i; message_room = c.shade_taken.new.files.message_room; marks = c.shade_taken.new.files.marks; since = since i }))
     ∙ seen-moved p h _ (λ v. let t = taken_at v c.args.socket.now c.args.max in install_all (with_queue v c.args.socket.now t.rest) c.args.pid (zip c.args.fds.now t.attached)) c.shade_taken.new.files.marks c.shade_taken.new.files.message_room c.places.view_is c.self.view_is

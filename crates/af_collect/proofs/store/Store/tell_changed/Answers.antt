@@ -1,8 +1,8 @@
 use Rattle.std.proofs.Common.{true}
-use Rattle.af_collect.proofs.Standing.{Stands, stands-either, stood}
+use Rattle.af_collect.proofs.Standing.{BothInvariants, stands-either, stood}
 use Rattle.af_collect.proofs.store.Store.tell_changed.Goals as goal
 
-both : (c : goal.After-tell_changed) → Stands c.self.inside.parts c.places.inside.procs c.tell_changed.new.self c.places.inside.ledger
+both : (c : goal.After-tell_changed) → BothInvariants c.self.inside.parts c.places.inside.procs c.tell_changed.new.self c.places.inside.ledger
 both c =
     let p = c.self.inside.parts in
     let h = c.places.inside in

@@ -4,7 +4,7 @@ use Rattle.std.specs.FinMap as map
 use Rattle.af_base.specs.Changes.{bound, change_socket_at, file_with}
 use Rattle.af_base.proofs.Lookups.{changed-live}
 use Rattle.af_base.specs.Names.{named}
-use Rattle.af_desc.specs.Filed.{AreNamed, Filed, socket_in}
+use Rattle.af_desc.specs.FilesView.{AreNamed, FilesView, socket_in}
 use Rattle.af_desc.proofs.Filing.{filed-named}
 use Rattle.af_desc.proofs.Naming.{named-back, named-is, named-bound, unchanged}
 use Rattle.af_desc.proofs.files.Files.bind.Goals as goal
@@ -16,8 +16,8 @@ returns-then-is_none-clause-ok c =
 
 pub bind-requires : goal.bind-requires
 bind-requires c =
-    let listed : c.of-listed.result ≡ c.args.name.now = search rules in
-    let same = ap (λ (v : Filed). named v.files c.args.name.now) c.self.view_is in
+    let listed : c.in_ok-listed.listed.items ≡ c.args.name.now = search rules in
+    let same = ap (λ (v : FilesView). named v.files c.args.name.now) c.self.view_is in
     record { free = ap (map.get c.self.inside.names) listed ∙ named-is c.self.inside.names c.self.inside.rows.files c.self.invariant.named c.args.name.now ∙ same ∙ c.requires.free }
 
 pub invariant_of-self-in-Err : goal.invariant_of-self-in-Err
@@ -26,10 +26,10 @@ invariant_of-self-in-Err c =
     let m = a.rows.files in
     let name = c.args.name.now in
     let k = c.args.file.now in
-    let listed : c.of-listed.result ≡ name = search rules in
-    let free = named-is a.names m c.self.invariant.named name ∙ ap (λ (v : Filed). named v.files name) c.self.view_is ∙ c.requires.free in
+    let listed : c.in_ok-listed.listed.items ≡ name = search rules in
+    let free = named-is a.names m c.self.invariant.named name ∙ ap (λ (v : FilesView). named v.files name) c.self.view_is ∙ c.requires.free in
     let same = c.in-Err.ensures.err in
-    let back = c.unbind.ensures ∙ ap (λ n. map.remove n name) (c.in_ok-bind.ensures.ok ∙ (λ i. map.insert a.names (listed i) (c.again.ensures i))) in
+    let back = c.unbind.ensures ∙ ap (λ n. map.remove n name) (c.in_ok-bind.ensures.ok ∙ (λ i. map.insert a.names (listed i) (c.duplicate.ensures i))) in
     filed-named a.rows c.bind-2.new.self _ _ _ _ _ _ _ c.self.invariant m _ same c.self.invariant.begins (subst (λ n. AreNamed n m) (sym back) (named-back a.names m c.self.invariant.named name k free))
 
 pub invariant_of-self-in_default : goal.invariant_of-self-in_default
@@ -38,12 +38,12 @@ invariant_of-self-in_default c =
     let m = a.rows.files in
     let name = c.args.name.now in
     let k = c.args.file.now in
-    let listed : c.of-listed.result ≡ name = search rules in
+    let listed : c.in_ok-listed.listed.items ≡ name = search rules in
     let own : c.of-own.result ≡ name = search rules in
-    let free = named-is a.names m c.self.invariant.named name ∙ ap (λ (v : Filed). named v.files name) c.self.view_is ∙ c.requires.free in
+    let free = named-is a.names m c.self.invariant.named name ∙ ap (λ (v : FilesView). named v.files name) c.self.view_is ∙ c.requires.free in
     let some : ¬ (socket_in c.args.self.now.files k ≡ None) = search rules in
-    let nameless = subst (λ (v : Filed). IfSome (socket_in v.files k) (λ s. s.name ≡ None)) (sym c.self.view_is) c.requires.nameless in
+    let nameless = subst (λ (v : FilesView). IfSome (socket_in v.files k) (λ s. s.name ≡ None)) (sym c.self.view_is) c.requires.nameless in
     let set = c.in_default.ensures.ok ∙ ap (λ q. record a.rows { files = change_socket_at (bound q) m k }) own in
-    let given = c.in_ok-bind.ensures.ok ∙ (λ i. map.insert a.names (listed i) (c.again.ensures i)) in
+    let given = c.in_ok-bind.ensures.ok ∙ (λ i. map.insert a.names (listed i) (c.duplicate.ensures i)) in
     filed-named a.rows c.bind-2.new.self _ _ _ _ _ _ _ c.self.invariant (change_socket_at (bound name) m k) _ set (changed-live (file_with (bound name)) m k 0 ∙ c.self.invariant.begins)
-    (subst (λ n. AreNamed n (change_socket_at (bound name) m k)) (sym given) (named-bound a.names m c.self.invariant.named name k free (λ e. some (ap (λ (v : Filed). socket_in v.files k) (sym c.self.view_is) ∙ e)) nameless))
+    (subst (λ n. AreNamed n (change_socket_at (bound name) m k)) (sym given) (named-bound a.names m c.self.invariant.named name k free (λ e. some (ap (λ (v : FilesView). socket_in v.files k) (sym c.self.view_is) ∙ e)) nameless))

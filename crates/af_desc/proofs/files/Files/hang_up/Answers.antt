@@ -1,5 +1,5 @@
 use Rattle.std.proofs.Common.{refl}
-use Rattle.af_desc.specs.Filed.{hung_up}
+use Rattle.af_desc.specs.FilesView.{hung_up}
 use Rattle.af_desc.proofs.Filing.{socket_changed}
 use Rattle.af_desc.proofs.files.Files.hang_up.Goals as goal
 

@@ -9,7 +9,7 @@ use Rattle.af_mark.specs.Grey.{color_in, colors_in}
 use Rattle.af_mark.specs.Marked.{is_grey_color}
 use Rattle.af_mark.specs.declared.mark.Mark.{Mark}
 use Rattle.af_mark.proofs.Colors.{upto_none}
-use Rattle.af_order.proofs.Parts.{part_none}
+use Rattle.ordered_slab.proofs.Parts.{part_none}
 use Rattle.af_desc.proofs.Embryos.{embryos-empty}
 use Rattle.af_desc.proofs.Naming.{named-none-yet}
 use Rattle.af_desc.proofs.Whites.{white-none}

@@ -1,5 +1,5 @@
 use Rattle.std.proofs.Common.{refl}
-use Rattle.af_desc.specs.Filed.{popped}
+use Rattle.af_desc.specs.FilesView.{popped}
 use Rattle.af_desc.proofs.Filing.{socket_changed}
 use Rattle.af_desc.proofs.files.Files.pop.Goals as goal
 

@@ -6,7 +6,7 @@ use Rattle.af_mark.specs.declared.color.Color.TheVariants.{Grey}
 use Rattle.af_mark.specs.declared.mark.Mark.{Mark}
 use Rattle.af_mark.proofs.Colors.{color_after, color_known, color_now, same_marked}
 use Rattle.af_mark.proofs.Listed.{listed-grey, listed-same, white-known}
-use Rattle.af_desc.specs.Filed.{Filed}
+use Rattle.af_desc.specs.FilesView.{FilesView}
 use Rattle.af_desc.proofs.Filing.{filed-marked}
 use Rattle.af_desc.proofs.Whites.{white-shaded}
 use Rattle.af_desc.proofs.files.Files.push_grey.Goals as goal
@@ -34,7 +34,7 @@ invariant_of-self c =
     let same = listed-same c.set_mark.new.self.marks _ a.epoch (a.grey.items ++ f ∷ []) (vec_capacity a.grey) listed.1 _ (vec_capacity c.push_reserved.new.self) (sym (ap (λ r. r.marks) c.set_mark.ensures.set)) items (omega (arith, c.push_reserved.ensures.capacity)) in
     filed-marked a.rows _ _ _ _ _ _ _ _ c.self.invariant _ _ _ c.set_mark.ensures.set same (a.white - 1)
     (white-shaded a.rows.marks _ a.epoch a.bound a.next a.white c.self.invariant.whites f (record { epoch = a.epoch; color = Grey; at = c.noted.result }) refl (color_now a.epoch (record { epoch = a.epoch; color = Grey; at = c.noted.result }) refl)
-    (ap (λ v. is_white v.marks f) c.self.view_is ∙ c.requires.white) (subst (λ (v : Filed). f < v.marks.bound) (sym c.self.view_is) c.requires.within)).1
+    (ap (λ v. is_white v.marks f) c.self.view_is ∙ c.requires.white) (subst (λ (v : FilesView). f < v.marks.bound) (sym c.self.view_is) c.requires.within)).1
 
 pub returns-clause-colors : goal.returns-clause-colors
 returns-clause-colors c =
@@ -49,4 +49,4 @@ overflow_sub-self c =
     let f = c.args.file.now in
     let x : Mark = record { epoch = a.epoch; color = Grey; at = c.noted.result } in
     (white-shaded a.rows.marks c.set_mark.new.self.marks a.epoch a.bound a.next a.white c.self.invariant.whites f x (ap (λ r. r.marks) c.set_mark.ensures.set) (color_now a.epoch x refl)
-    (ap (λ v. is_white v.marks f) c.self.view_is ∙ c.requires.white) (subst (λ (v : Filed). f < v.marks.bound) (sym c.self.view_is) c.requires.within)).0
+    (ap (λ v. is_white v.marks f) c.self.view_is ∙ c.requires.white) (subst (λ (v : FilesView). f < v.marks.bound) (sym c.self.view_is) c.requires.within)).0

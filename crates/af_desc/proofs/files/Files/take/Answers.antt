@@ -1,5 +1,5 @@
 use Rattle.std.proofs.Common.{refl}
-use Rattle.af_desc.specs.Filed.{received_from}
+use Rattle.af_desc.specs.FilesView.{received_from}
 use Rattle.af_desc.proofs.Filing.{socket_either}
 use Rattle.af_desc.proofs.files.Files.take.Goals as goal
 

@@ -7,7 +7,7 @@ use Rattle.af_mark.specs.declared.color.Color.TheVariants.{Black}
 use Rattle.af_mark.specs.declared.mark.Mark.{Mark}
 use Rattle.af_mark.proofs.Colors.{color_after, color_known, color_now, same_marked}
 use Rattle.af_mark.proofs.Listed.{grey-known, listed-black, listed-moved}
-use Rattle.af_desc.specs.Rowed.{Rowed}
+use Rattle.af_desc.specs.RowsView.{RowsView}
 use Rattle.af_desc.proofs.Filing.{filed-marked}
 use Rattle.af_desc.proofs.Whites.{white-moved, white-scanned}
 use Rattle.af_desc.proofs.files.Files.take_grey.Goals as goal
@@ -22,17 +22,17 @@ invariant_of-self c =
     let f = c.args.file.now in
     let x : Mark = record { epoch = a.epoch; color = Black; at = 0 } in
     let set = c.set_mark.ensures in
-    let e = c.strike.ensures in
-    let less : (g : ℕ) → count_in g c.strike.new.grey.items ≡ count_in g a.grey.items - one g f = search rules in
-    let black = listed-black a.rows.marks c.set_mark.new.self.marks a.epoch a.grey.items (vec_capacity a.grey) c.self.invariant.listed f x (ap (λ r. r.marks) set.set) refl set.len c.strike.new.grey.items (vec_capacity c.strike.new.grey) refl less (omega (arith, e.capacity)) in
-    let moved = listed-moved c.set_mark.new.self.marks c.strike.new.rows.marks a.epoch c.strike.new.grey.items (vec_capacity c.strike.new.grey) black (e.colors a.epoch) (e.epochs a.epoch) e.len in
-    filed-marked a.rows c.strike.new.rows _ _ _ _ _ _ _ c.self.invariant _ c.strike.new.grey.items (vec_capacity c.strike.new.grey) (e.rest ∙ ap {A = Rowed} {B = Rowed} (λ r. record r { marks = c.strike.new.rows.marks }) set.set) moved _
-    (white-moved c.set_mark.new.self.marks c.strike.new.rows.marks a.epoch a.bound a.next a.white (white-scanned a.rows.marks c.set_mark.new.self.marks a.epoch a.bound a.next a.white c.self.invariant.whites f x (ap (λ r. r.marks) set.set) (color_now a.epoch x refl) (ap (λ v. is_grey v.marks f) c.self.view_is ∙ c.requires)) (e.colors a.epoch))
+    let e = c.remove_listed.ensures in
+    let less : (g : ℕ) → count_in g c.remove_listed.new.grey.items ≡ count_in g a.grey.items - one g f = search rules in
+    let black = listed-black a.rows.marks c.set_mark.new.self.marks a.epoch a.grey.items (vec_capacity a.grey) c.self.invariant.listed f x (ap (λ r. r.marks) set.set) refl set.len c.remove_listed.new.grey.items (vec_capacity c.remove_listed.new.grey) refl less (omega (arith, e.capacity)) in
+    let moved = listed-moved c.set_mark.new.self.marks c.remove_listed.new.rows.marks a.epoch c.remove_listed.new.grey.items (vec_capacity c.remove_listed.new.grey) black (e.colors a.epoch) (e.epochs a.epoch) e.len in
+    filed-marked a.rows c.remove_listed.new.rows _ _ _ _ _ _ _ c.self.invariant _ c.remove_listed.new.grey.items (vec_capacity c.remove_listed.new.grey) (e.rest ∙ ap {A = RowsView} {B = RowsView} (λ r. record r { marks = c.remove_listed.new.rows.marks }) set.set) moved _
+    (white-moved c.set_mark.new.self.marks c.remove_listed.new.rows.marks a.epoch a.bound a.next a.white (white-scanned a.rows.marks c.set_mark.new.self.marks a.epoch a.bound a.next a.white c.self.invariant.whites f x (ap (λ r. r.marks) set.set) (color_now a.epoch x refl) (ap (λ v. is_grey v.marks f) c.self.view_is ∙ c.requires)) (e.colors a.epoch))
 
 pub returns-clause-colors : goal.returns-clause-colors
 returns-clause-colors c =
     let a = c.self.inside in
     let f = c.args.file.now in
     let x : Mark = record { epoch = a.epoch; color = Black; at = 0 } in
-    same_marked _ _ (c.strike.ensures.colors a.epoch ∙ color_after a.epoch a.rows.marks c.set_mark.new.self.marks f x Black (ap (λ r. r.marks) c.set_mark.ensures.set) (color_now a.epoch x refl) ∙ ap (λ v. map.insert v.marks.colors f Black) c.self.view_is)
+    same_marked _ _ (c.remove_listed.ensures.colors a.epoch ∙ color_after a.epoch a.rows.marks c.set_mark.new.self.marks f x Black (ap (λ r. r.marks) c.set_mark.ensures.set) (color_now a.epoch x refl) ∙ ap (λ v. map.insert v.marks.colors f Black) c.self.view_is)
     (ap (λ v. v.marks.bound) c.self.view_is)

@@ -1,14 +1,14 @@
 use Rattle.std.proofs.Common.{◌≡◌, ◌<◌, ℕ, false, ◌++◌, ◌∷◌, [], Bool, true, arith, sym, ap, ◌∙◌, subst}
 use Rattle.std.specs.Prelude.{vec_capacity}
-use Rattle.af_ledger.specs.Kept.{count_in_map}
+use Rattle.af_ledger.specs.Tally.{count_in_map}
 use Rattle.af_mark.specs.Marked.{Marked, is_white, visited}
-use Rattle.af_desc.specs.Filed.{Filed}
+use Rattle.af_desc.specs.FilesView.{FilesView}
 use Rattle.af_desc.proofs.Filing.{seen}
 use Rattle.af_desc.proofs.Visiting.{due-white, seen-visited, visit-bare, visit-few, visit-grey, visited-not}
 use Rattle.af_desc.proofs.files.Files.visit.Goals as goal
 
--- What the call leaves of files that were seen so, where these are seen then.
-abbrev Visits : Filed → Filed → ℕ → Bool → Type 0
+-- The view of the files after the call, from the view before.
+abbrev Visits : FilesView → FilesView → ℕ → Bool → Type 0
 Visits new v f scanned = new ≡ record v { marks = visited scanned (count_in_map v.counts f).tabled f v.marks }
 
 -- A file that is not due stays as it is.
@@ -19,7 +19,7 @@ returns-in_default-clause-marks c =
     let e = c.in_default.ensures in
     let old = seen a.epoch a.bound a.rows a.next in
     subst (λ v. Visits (seen a.epoch a.bound c.visit.new.self a.next) v f false) c.self.view_is
-    (ap (λ r. seen a.epoch a.bound r a.next) e.none ∙ ap {A = Marked} {B = Filed} (λ m. record old { marks = m }) (sym (visited-not a.epoch a.bound a.rows f (sym e.due))))
+    (ap (λ r. seen a.epoch a.bound r a.next) e.none ∙ ap {A = Marked} {B = FilesView} (λ m. record old { marks = m }) (sym (visited-not a.epoch a.bound a.rows f (sym e.due))))
 
 pub overflow_sub-self : goal.overflow_sub-self
 overflow_sub-self c =
@@ -43,7 +43,7 @@ invariant_of-self-then-not-scanned c =
     let e = c.in-Some.ensures in
     let same : c.args.file.now ≡ c.ino-2.inside.0 = sym c.ino.ensures ∙ sym c.ino-2.view_is in
     (visit-grey a.epoch a.bound a.rows c.args.file.now c.self.invariant (sym e.due) (omega (arith, same, c.if-ino-self.false)) c.visit.new.self c.noted-at.result c.in-Some.scanned e.marked e.len c.if-not-scanned.true).1
-    c.push_reserved.new.self.items (vec_capacity c.push_reserved.new.self) (c.push_reserved.ensures.items ∙ ap (λ g. a.grey.items ++ g ∷ []) c.again.ensures) (omega (arith, c.push_reserved.ensures.capacity))
+    c.push_reserved.new.self.items (vec_capacity c.push_reserved.new.self) (c.push_reserved.ensures.items ∙ ap (λ g. a.grey.items ++ g ∷ []) c.duplicate.ensures) (omega (arith, c.push_reserved.ensures.capacity))
 
 -- One that holds nothing is black.
 pub invariant_of-self-else-not-scanned : goal.invariant_of-self-else-not-scanned
@@ -78,5 +78,5 @@ returns-else-not-scanned-clause-white c = λ _.
     let f = c.args.file.now in
     let e = c.in-Some.ensures in
     let same : f ≡ c.ino-2.inside.0 = sym c.ino.ensures ∙ sym c.ino-2.view_is in
-    subst (λ (v : Filed). (f < v.marks.bound) × (is_white v.marks f ≡ true)) c.self.view_is
+    subst (λ (v : FilesView). (f < v.marks.bound) × (is_white v.marks f ≡ true)) c.self.view_is
     (omega (arith, same, c.if-ino-self.false), due-white a.epoch a.bound a.rows f (sym e.due))

@@ -1,6 +1,6 @@
 use Rattle.std.proofs.Common.{sym, ap, ◌∙◌}
 use Rattle.std.specs.Option.{option_copied_mut}
-use Rattle.af_desc.proofs.Rowed.{chained_at, chains_changed}
+use Rattle.af_desc.proofs.RowsView.{chained_at, chains_changed}
 use Rattle.af_desc.proofs.lines.Lines.pop_message.Goals as goal
 
 pub pop-requires : goal.pop-requires

@@ -1,6 +1,6 @@
 use Rattle.std.proofs.Common.{ap}
 use Rattle.slab.specs.Slab as slots
-use Rattle.af_desc.proofs.Rowed.{chains_roomed}
+use Rattle.af_desc.proofs.RowsView.{chains_roomed}
 use Rattle.af_desc.proofs.lines.Lines.room_for_message.Goals as goal
 
 -- No message moves.

@@ -2,17 +2,17 @@ use Rattle.std.proofs.Common.{◌≡◌, ◌∙◌, sym, ap}
 use Rattle.std.specs.Prelude.{Some, None}
 use Rattle.std.specs.FinMap as map
 use Rattle.std.specs.Option.{option_copied}
-use Rattle.af_desc.specs.Filed.{socket_in}
-use Rattle.af_desc.specs.Lined.{Lined}
-use Rattle.af_desc.specs.Rowed.{refilled}
-use Rattle.af_desc.proofs.Rowed.{plain_is_none, socket_is, stranger_is_none}
+use Rattle.af_desc.specs.FilesView.{socket_in}
+use Rattle.af_desc.specs.LinesView.{LinesView}
+use Rattle.af_desc.specs.RowsView.{refilled}
+use Rattle.af_desc.proofs.RowsView.{plain_is_none, socket_is, stranger_is_none}
 use Rattle.af_desc.proofs.lines.Lines.socket.Goals as goal
 
 pub returns-in_err-row : goal.returns-in_err-row
 returns-in_err-row c =
     let a = c.self.inside in
     let at : map.get a.rows.values c.args.file.now ≡ None = sym c.get.ensures ∙ ap option_copied c.in_err-row.was in
-    c.from_residual.ensures ∙ sym (stranger_is_none a.nodes a.rows.values c.args.file.now at) ∙ ap (λ (v : Lined). socket_in v.files c.args.file.now) c.self.view_is
+    c.from_residual.ensures ∙ sym (stranger_is_none a.nodes a.rows.values c.args.file.now at) ∙ ap (λ (v : LinesView). socket_in v.files c.args.file.now) c.self.view_is
 
 pub returns-in_err-endpoint : goal.returns-in_err-endpoint
 returns-in_err-endpoint c =
@@ -20,7 +20,7 @@ returns-in_err-endpoint c =
     let x = c.in_ok-row.row.now in
     let at : map.get a.rows.values c.args.file.now ≡ Some x = sym c.get.ensures ∙ ap option_copied c.in_ok-row.was in
     let none : x.endpoint ≡ None = sym c.as_ref.ensures.value ∙ ap option_copied c.in_err-endpoint.was in
-    c.from_residual-in_err-endpoint.ensures ∙ sym (plain_is_none a.nodes a.rows.values c.args.file.now x at none) ∙ ap (λ (v : Lined). socket_in v.files c.args.file.now) c.self.view_is
+    c.from_residual-in_err-endpoint.ensures ∙ sym (plain_is_none a.nodes a.rows.values c.args.file.now x at none) ∙ ap (λ (v : LinesView). socket_in v.files c.args.file.now) c.self.view_is
 
 pub of-requires : goal.of-requires
 of-requires c =
@@ -34,4 +34,4 @@ returns c =
     let e = c.in_ok-endpoint.endpoint.now in
     let at : map.get a.rows.values c.args.file.now ≡ Some x = sym c.get.ensures ∙ ap option_copied c.in_ok-row.was in
     let is : x.endpoint ≡ Some e = sym c.as_ref.ensures.value ∙ ap option_copied c.in_ok-endpoint.was in
-    ap Some (c.of-2.ensures ∙ ap (λ q. refilled q e) c.of.ensures) ∙ sym (socket_is a.nodes a.rows.values c.args.file.now x at e is) ∙ ap (λ (v : Lined). socket_in v.files c.args.file.now) c.self.view_is
+    ap Some (c.of-2.ensures ∙ ap (λ q. refilled q e) c.of.ensures) ∙ sym (socket_is a.nodes a.rows.values c.args.file.now x at e is) ∙ ap (λ (v : LinesView). socket_in v.files c.args.file.now) c.self.view_is

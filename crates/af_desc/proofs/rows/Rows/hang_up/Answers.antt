@@ -1,5 +1,5 @@
 use Rattle.std.specs.Prelude.{vec_capacity}
-use Rattle.af_desc.specs.Filed.{hung_up}
+use Rattle.af_desc.specs.FilesView.{hung_up}
 use Rattle.af_desc.proofs.Telling.{told-changed}
 use Rattle.af_desc.proofs.rows.Rows.hang_up.Goals as goal
 

@@ -1,5 +1,5 @@
 use Rattle.std.specs.Prelude.{vec_capacity}
-use Rattle.af_desc.specs.Filed.{popped}
+use Rattle.af_desc.specs.FilesView.{popped}
 use Rattle.af_desc.proofs.Telling.{told-silent, told-after}
 use Rattle.af_desc.proofs.rows.Rows.pop_message.Goals as goal
 

@@ -1,5 +1,5 @@
 use Rattle.std.proofs.Common.{◌+◌, ap, sym, subst, ◌∙◌}
-use Rattle.af_desc.specs.Rowed.{Rowed}
+use Rattle.af_desc.specs.RowsView.{RowsView}
 use Rattle.af_base.specs.Told.{AreReleased}
 use Rattle.af_desc.specs.Told.{since_of}
 use Rattle.af_desc.proofs.Telling.{released-told}
@@ -9,5 +9,5 @@ pub returns : goal.returns
 returns c = λ asked.
     let a = c.self.inside in
     let s = since_of a.tells_changed a.tells_released a.since.value in
-    let all = released-told a.lines a.released.items _ s c.self.invariant.accounted (ap (λ (v : Rowed). v.since.released) c.self.view_is ∙ asked) c.are_one.ensures.counts in
-    subst (λ (v : Rowed). AreReleased v.files (v.last + 1) v.since c.as_slice.result.now) c.self.view_is (subst (AreReleased a.lines.files (a.lines.last + 1) s) (sym c.as_slice.ensures.value) all)
+    let all = released-told a.lines a.released.items _ s c.self.invariant.accounted (ap (λ (v : RowsView). v.since.released) c.self.view_is ∙ asked) c.lemma_are_one.ensures.counts in
+    subst (λ (v : RowsView). AreReleased v.files (v.last + 1) v.since c.as_slice.result.now) c.self.view_is (subst (AreReleased a.lines.files (a.lines.last + 1) s) (sym c.as_slice.ensures.value) all)

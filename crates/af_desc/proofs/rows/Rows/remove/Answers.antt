@@ -1,9 +1,9 @@
 use Rattle.std.proofs.Common.{◌+◌, ap, sym, ◌∙◌, arith}
 use Rattle.std.specs.Prelude.{length, vec_capacity}
 use Rattle.std.specs.FinMap as map
-use Rattle.af_order.proofs.Values.{gone_few}
-use Rattle.af_desc.specs.Lined.{Lined, without_line}
-use Rattle.af_desc.specs.Rowed.{Rowed}
+use Rattle.ordered_slab.proofs.Values.{gone_few}
+use Rattle.af_desc.specs.LinesView.{LinesView, without_line}
+use Rattle.af_desc.specs.RowsView.{RowsView}
 use Rattle.af_desc.specs.Told.{since_of}
 use Rattle.af_desc.proofs.Noting.{noted-gone}
 use Rattle.af_desc.proofs.Telling.{accounted-gone, room-less}
@@ -16,9 +16,9 @@ invariant_of-self c =
     let h = c.self.invariant in
     let r = c.tell_released.ensures in
     let k = c.args.file.now in
-    let is = c.remove.ensures.removed ∙ ap (without_line k c.remove.new.self.room) c.strike.ensures.lines in
+    let is = c.remove.ensures.removed ∙ ap (without_line k c.remove.new.self.room) c.remove_listed.ensures.lines in
     record {
-      noted = noted-gone a.lines c.remove.new.self a.changed.items (vec_capacity a.changed) _ h.noted k _ _ is c.strike.ensures.listed (omega (arith, c.strike.ensures.capacity));
+      noted = noted-gone a.lines c.remove.new.self a.changed.items (vec_capacity a.changed) _ h.noted k _ _ is c.remove_listed.ensures.listed (omega (arith, c.remove_listed.ensures.capacity));
       accounted = accounted-gone a.lines c.remove.new.self a.released.items (vec_capacity a.released) _ h.accounted k _ _ is r.goes r.len (omega (arith, r.capacity));
     }
 
@@ -28,7 +28,7 @@ returns-clause-room c =
     let s = since_of a.tells_changed a.tells_released a.since.value in
     let k = c.args.file.now in
     let r = c.tell_released.ensures in
-    let is = c.remove.ensures.removed ∙ ap (without_line k c.remove.new.self.room) c.strike.ensures.lines in
+    let is = c.remove.ensures.removed ∙ ap (without_line k c.remove.new.self.room) c.remove_listed.ensures.lines in
     let few = gone_few a.lines.noted k in
-    room-less s a.lines.room _ (map.len a.lines.noted) _ (length a.released.items + map.len a.lines.counts) _ c.remove.new.self.room _ (map.len c.remove.new.self.noted) _ (length c.tell_released.new.released.items + map.len c.remove.new.self.counts) (ap (λ (v : Rowed). v.room) c.self.view_is)
-    (omega (arith, c.remove.ensures.room, ap (λ (l : Lined). l.room) c.strike.ensures.lines)) (sym c.strike.ensures.capacity) (omega (arith, few, ap (λ (l : Lined). map.len l.noted) is)) (sym r.capacity) (λ asked. let same = r.len asked in omega (arith, same, ap (λ (l : Lined). map.len l.counts) is))
+    room-less s a.lines.room _ (map.len a.lines.noted) _ (length a.released.items + map.len a.lines.counts) _ c.remove.new.self.room _ (map.len c.remove.new.self.noted) _ (length c.tell_released.new.released.items + map.len c.remove.new.self.counts) (ap (λ (v : RowsView). v.room) c.self.view_is)
+    (omega (arith, c.remove.ensures.room, ap (λ (l : LinesView). l.room) c.remove_listed.ensures.lines)) (sym c.remove_listed.ensures.capacity) (omega (arith, few, ap (λ (l : LinesView). map.len l.noted) is)) (sym r.capacity) (λ asked. let same = r.len asked in omega (arith, same, ap (λ (l : LinesView). map.len l.counts) is))

@@ -1,5 +1,5 @@
 use Rattle.std.specs.Prelude.{vec_capacity}
-use Rattle.af_desc.specs.Filed.{received_from}
+use Rattle.af_desc.specs.FilesView.{received_from}
 use Rattle.af_desc.proofs.Telling.{told-after, told-still}
 use Rattle.af_desc.proofs.rows.Rows.take.Goals as goal
 

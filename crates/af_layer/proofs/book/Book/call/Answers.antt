@@ -16,7 +16,7 @@ returns-in_err-room-clause-refused c =
 pub copy-logged-requires : goal.copy-logged-requires
 copy-logged-requires c =
     let fits = c.in_ok-room.ensures.reply in
-    replies_fit c.in_ok-room.room c.self.inside.engine c.args.event c.step-reply.result c.step-reply.new.self c.is_sound.ensures fits.0 fits.1 c.step-reply.ensures
+    replies_fit c.in_ok-room.room c.self.inside.engine c.args.event c.step-reply.result c.step-reply.new.self c.lemma_is_sound.ensures fits.0 fits.1 c.step-reply.ensures
 
 pub returns-clause-refused : goal.returns-clause-refused
 returns-clause-refused c =

@@ -1,7 +1,7 @@
 use Rattle.std.proofs.Common.{false, sym, ap, ◌∙◌, subst}
 use Rattle.std.specs.Prelude.{IsTrue}
 use Rattle.std.proofs.lemmas.Bool.{false≢true}
-use Rattle.af_ledger.specs.Kept.{is_user}
+use Rattle.af_ledger.specs.Tally.{is_user}
 use Rattle.af_ledger.proofs.Users.{user_found}
 use Rattle.af_ledger.proofs.ledger.Ledger.add_user.Goals as goal
 

@@ -1,5 +1,5 @@
 use Rattle.std.proofs.Common.{◌≤◌, ◌+◌, ◌^◌, arith, sym, subst}
-use Rattle.af_ledger.specs.Kept.{Charged, charge_in}
+use Rattle.af_ledger.specs.Tally.{Charged, charge_in}
 use Rattle.af_ledger.proofs.Users.{found_below}
 use Rattle.af_ledger.proofs.ledger.Ledger.charge.Goals as goal
 

@@ -1,6 +1,6 @@
 use Rattle.std.proofs.Common.{◌≡◌, ◌∙◌, ap, subst, sym}
 use Rattle.std.specs.FinMap as map
-use Rattle.af_order.specs.Numbers.{Numbered}
+use Rattle.ordered_slab.specs.Numbers.{Numbered}
 use Rattle.af_owned.specs.Owning.{AreOwned}
 use Rattle.af_owned.proofs.Keeping.{owned-open}
 use Rattle.af_owned.proofs.owned.Owned.open.Goals as goal

@@ -3,12 +3,12 @@ use Rattle.std.specs.FinMap as map
 use Rattle.std.specs.Option.{OnSome}
 use Rattle.std.specs.Prelude.{None, Option, Some}
 use Rattle.af_base.specs.World.{Map, is_live}
-use Rattle.af_order.specs.Numbers.{Numbered}
+use Rattle.ordered_slab.specs.Numbers.{Numbered}
 use Rattle.af_owned.specs.Owning.{AreOwned, Owning}
 use Rattle.af_owned.proofs.Keeping.{owned-taken, taken-fewer}
 use Rattle.af_owned.proofs.owned.Owned.take_released.Goals as goal
 
--- What is so whatever comes back is so where something does.
+-- A fact of every result is one of a result with a value.
 on_some : {A P : Type 0} (o : Option A) → P → OnSome o P
 on_some None p = tt
 on_some (Some x) p = p

@@ -1,4 +1,4 @@
--- What was found and what is still to come is all.
+-- The found files and those to come are all.
 use Rattle.std.proofs.Common.{◌≡◌, ◌≤◌, ◌-◌, ◌++◌, drop, length, take}
 use Rattle.af_base.specs.Places.{carried}
 use Rattle.af_queue.specs.declared.queue.TheConstants.{BATCH}

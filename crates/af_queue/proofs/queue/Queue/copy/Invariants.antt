@@ -1,4 +1,4 @@
--- What is copied and what is still to come is all.
+-- The copied bytes and those to come are all.
 use Rattle.std.proofs.Common.{◌≡◌, ◌≤◌, ◌-◌, ◌++◌, length, take}
 use Rattle.af_base.specs.Take.{joined}
 use Rattle.af_queue.proofs.queue.Queue.copy.Given as goal

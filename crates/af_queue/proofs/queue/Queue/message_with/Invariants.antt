@@ -1,4 +1,4 @@
--- What is looked for is among the messages that are left.
+-- The message that is looked for is among those left.
 use Rattle.std.proofs.Common.{◌≡◌, length}
 use Rattle.af_queue.specs.Received.{message_at}
 use Rattle.af_queue.proofs.queue.Queue.message_with.Given as goal

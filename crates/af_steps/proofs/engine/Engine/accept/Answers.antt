@@ -45,7 +45,7 @@ returns-in_err-fd-clause-refused c =
     (after-socket c.in_ok-process.ensures.found (λ r look s. on_accept s ++ on_free r 1) ∙ passes-on (on_accept x) (on_free q 1) c.in_ok-check_accept.ensures.ok
     ∙ ap (λ b. first_fit ((b, EMFILE) ∷ [])) (none-free q (sym c.lowest.ensures ∙ missed.0)) ∙ ap Some (sym missed.1))
 
--- What was looked up.
+-- The results of the look-ups.
 has : (c : After-room_for) → HasSocket c.self.inside.store.world c.args.pid c.in_ok-process.process.now.process c.args.on c.in_ok-process.file c.in_ok-process.socket
 has c = c.in_ok-process.ensures.found
 
@@ -73,7 +73,7 @@ take_embryo-requires c =
       limit = below-limit kept fd (least-low (least at));
       free = is-free kept fd (not-open (least at));
       some = subst (λ v. 0 < length (backlog_at v f)) (sym c.room_for.ensures.world) (slice_get_within (backlog_at c.self.inside.store.world f) 0 _ (first-waits found (search rules)));
-      spared = subst (λ s. Spares s f) (sym c.room_for.ensures.pass) (c.is_spared.ensures f (held found.number));
+      spared = subst (λ s. Spares s f) (sym c.room_for.ensures.pass) (c.lemma_is_spared.ensures f (held found.number));
     }
 
 pub returns-clause-done : goal.returns-clause-done

@@ -1,8 +1,7 @@
-use Rattle.std.proofs.Common.{◌≡◌, ◌++◌, ◌∙◌, subst}
-use Rattle.std.specs.Prelude.{Some}
+use Rattle.std.proofs.Common.{◌++◌, ◌∙◌}
 use Rattle.af_base.specs.declared.events.Step.TheVariants as step
 use Rattle.af_base.specs.Names.{named}
-use Rattle.af_base.specs.Refusals.{first_fit, on_bind, on_name, socket_on}
+use Rattle.af_base.specs.Refusals.{on_bind, on_name, socket_on}
 use Rattle.af_base.proofs.Stepped.{goes-on}
 use Rattle.af_steps.proofs.Found.{after-socket, no-socket}
 use Rattle.af_steps.proofs.Outcomes.{turned-down}
@@ -22,6 +21,5 @@ returns-in_err-check_bind-clause-refused c =
     let name = c.args.name.now in
     let x = c.in_ok-file.socket in
     let e = c.in_err-check_bind.field-0.0 in
-    let fits = subst (λ b. first_fit (on_bind x b) ≡ Some e) c.as_slice.ensures c.in_err-check_bind.ensures.err in
     turned-down c.self.view_is c.args.pid (step.Bind c.args.on name) c.from_residual-in_err-check_bind.result e c.from_residual-in_err-check_bind.ensures.1
-    (after-socket c.in_ok-file.ensures.found (λ r look s. on_bind s name ++ on_name (named w.files name)) ∙ goes-on (on_bind x name) (on_name (named w.files name)) e fits)
+    (after-socket c.in_ok-file.ensures.found (λ r look s. on_bind s name ++ on_name (named w.files name)) ∙ goes-on (on_bind x name) (on_name (named w.files name)) e c.in_err-check_bind.ensures.err)

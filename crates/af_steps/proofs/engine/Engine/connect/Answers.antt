@@ -1,16 +1,19 @@
-use Rattle.std.proofs.Common.{rules, ◌≡◌, ◌<◌, length, ◌∙◌, sym, ap, subst, ◌++◌}
+use Rattle.std.proofs.Common.{rules, ◌≡◌, ◌<◌, false, length, ◌∙◌, refl, sym, ap, subst, [], ◌∷◌, ◌++◌}
 use Rattle.std.specs.Prelude.{IfSome, None, Some, is_none, unwrap_or}
 use Rattle.std.specs.Option.{option_and_then}
 use Rattle.std.proofs.lemmas.Bool.{false≢true}
 use Rattle.af_base.specs.Names.{named}
-use Rattle.af_base.specs.Refusals.{first_fit, on_client, on_listener, room_of, socket_at, on_files, socket_named, socket_on, no_socket}
+use Rattle.af_base.specs.Refusals.{first_fit, ino_named, is_full, on_client, on_listener, refusal, room_of, socket_at, on_files, socket_named, socket_on, no_socket}
+use Rattle.af_base.specs.Steps.{effect, with_embryo}
 use Rattle.af_base.specs.World.{Socket}
+use Rattle.af_base.specs.declared.errno.Errno.TheVariants.{ENFILE}
+use Rattle.af_base.specs.declared.events.Reply.TheVariants as reply
 use Rattle.af_collect.specs.Shown.{Shown}
-use Rattle.af_steps.proofs.Connected.{embryo-live, embryo-new, listener-is, listener-stays, room-left, some-by, two-sockets}
+use Rattle.af_steps.proofs.Connected.{listener-is, room-left, same-type, some-by}
 use Rattle.af_base.specs.declared.events.Step.TheVariants as step
-use Rattle.af_base.proofs.Stepped.{goes-on, passes-on}
-use Rattle.af_steps.proofs.Found.{after-socket, no-socket}
-use Rattle.af_steps.proofs.Outcomes.{turned-down}
+use Rattle.af_base.proofs.Stepped.{goes-on, none-fits, passes-on}
+use Rattle.af_steps.proofs.Found.{after-socket, ino-is, no-socket}
+use Rattle.af_steps.proofs.Outcomes.{does, turned-down}
 use Rattle.af_steps.proofs.engine.Engine.connect.Goals as goal
 
 pub returns-in_err-file-clause-refused : goal.returns-in_err-file-clause-refused
@@ -55,26 +58,43 @@ unwrap-requires c =
     let there = ap is_none c.socket_at.ensures ∙ listener-is w c.args.name.now g has in
     some-by c.socket_at.result (λ none. false≢true (sym there ∙ ap is_none none))
 
-pub put_embryo-requires : goal.put_embryo-requires
-put_embryo-requires c =
+pub make_embryo-requires : goal.make_embryo-requires
+make_embryo-requires c =
+    let g = c.in_ok-listener.listener in
+    let l = c.unwrap.result in
+    let x = c.in_ok-file.client in
+    let heard : socket_at c.self.inside.store.world g ≡ Some l = search rules in
+    let ready : first_fit (on_listener l x.kind) ≡ None = search rules in
+    record {
+      full = search rules;
+      client = search rules;
+      idle = search rules;
+      listener = ap is_none heard;
+      room = subst (λ o. IfSome o (λ (s : Socket). length s.backlog < room_of s.state)) (sym heard) (room-left l x.kind ready);
+    }
+
+pub returns-clause-done : goal.returns-clause-done
+returns-clause-done c =
     let w = c.self.inside.store.world in
-    let f = c.in_ok-file.file in
+    let name = c.args.name.now in
     let g = c.in_ok-listener.listener in
     let x = c.in_ok-file.client in
     let l = c.unwrap.result in
-    let kind = c.kind-kind.result in
-    let v = c.make_embryo.new.self.world in
-    let e = c.in_ok-embryo.embryo in
-    let found : socket_at w f ≡ Some x = c.in_ok-file.ensures.found.found in
+    let found = c.in_ok-file.ensures.found in
+    let has : named w.files name ≡ Some g = search rules in
     let heard : socket_at w g ≡ Some l = search rules in
     let quiet : first_fit (on_client x.state) ≡ None = search rules in
     let ready : first_fit (on_listener l x.kind) ≡ None = search rules in
-    let made = ap (λ (s : Shown). s.world) c.in_ok-embryo.ensures.ok in
-    let stays = listener-stays w c.self.invariant.0.whole kind f v made g l (two-sockets w f g x l x.kind found heard quiet ready) heard in
-    record {
-      live = embryo-live w c.self.invariant.0.whole kind f v made e c.in_ok-embryo.ensures.ino;
-      spared = c.in_ok-embryo.ensures.spared;
-      new = embryo-new w c.self.invariant.0.whole kind f v made e c.in_ok-embryo.ensures.ino;
-      room = subst (λ o. IfSome o (λ (s : Socket). length s.backlog < room_of s.state)) (sym stays) (room-left l x.kind ready);
-      socket = ap is_none stays;
-    }
+    let room : is_full w 1 ≡ false = search rules in
+    let is : socket_named w name ≡ l = ap (λ o. unwrap_or (option_and_then (socket_at w) o) no_socket) has ∙ ap (λ o. unwrap_or o no_socket) heard in
+    let fits : refusal w c.args.pid (step.Connect c.args.on name) ≡ None =
+    after-socket found (λ r look s. on_client s.state ++ (on_listener (socket_named w name) s.kind ++ on_files w 1))
+    ∙ passes-on (on_client x.state) (on_listener (socket_named w name) x.kind ++ on_files w 1) quiet
+    ∙ (λ i. first_fit (on_listener (is i) x.kind ++ on_files w 1)) ∙ passes-on (on_listener l x.kind) (on_files w 1) ready
+    ∙ ap (λ b. first_fit ((b, ENFILE) ∷ [])) room in
+    let kind : (socket_named w name).kind ≡ c.kind-kind.result = ap (λ (s : Socket). s.kind) is ∙ same-type l.kind x.kind (none-fits (on_listener l x.kind) ready).rest.here ∙ sym c.kind-kind.ensures in
+    let listener : ino_named w name ≡ g = ap (λ o. unwrap_or o 0) has in
+    let put = c.in_ok-make_embryo.ensures.ok in
+    let leads : effect w c.args.pid (step.Connect c.args.on name) ≡ c.make_embryo.new.self.world = (λ i. with_embryo w (ino-is found.number i) (listener i) (kind i)) ∙ sym (ap (λ (s : Shown). s.world) put) in
+    does c.self.view_is c.args.pid (step.Connect c.args.on name) c.release.new.self reply.Ok c.make_embryo.new.self.world fits refl leads c.release.ensures.settles
+    (c.release.ensures.pass ∙ ap (λ (s : Shown). s.pass) put) (c.release.ensures.since ∙ ap (λ (s : Shown). s.since) put)

@@ -33,5 +33,5 @@ table_in-requires c =
       limit = below-limit made fd (least-low least);
       free = is-free made fd (not-open least);
       live = subst (λ v. IsLive v f) (sym c.room_for.ensures.world) (c.self.invariant.0.whole.tables_live f (held has));
-      spared = subst (λ s. Spares s f) (sym c.room_for.ensures.pass) (c.is_spared.ensures f (held has));
+      spared = subst (λ s. Spares s f) (sym c.room_for.ensures.pass) (c.lemma_is_spared.ensures f (held has));
     }

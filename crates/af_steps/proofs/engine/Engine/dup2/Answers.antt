@@ -4,23 +4,22 @@ use Rattle.std.proofs.lemmas.Bool.{lt-leb}
 use Rattle.af_base.specs.declared.errno.Errno.TheVariants.{EBADF}
 use Rattle.af_base.specs.declared.events.Reply.TheVariants as reply
 use Rattle.af_base.specs.declared.events.Step.TheVariants as step
-use Rattle.af_base.specs.Changes.{install, uninstall}
+use Rattle.af_base.specs.Changes.{install}
 use Rattle.af_base.specs.Refusals.{first_fit, ino_on, on_place, refusal}
 use Rattle.af_base.specs.World.{IsLive, World}
 use Rattle.af_collect.specs.Shown.{Shown}
 use Rattle.af_pass.specs.Keeping.{Spares}
 use Rattle.af_steps.specs.Found.{HasNumber}
-use Rattle.af_steps.proofs.Found.{after-number, below-limit, held, in-same, ino-is, is-free, is-there}
-use Rattle.af_steps.proofs.Untabled.{has-less, install-uninstalled, less-free}
+use Rattle.af_steps.proofs.Found.{after-number, below-limit, held, in-same, ino-is, is-there}
 use Rattle.af_steps.proofs.Outcomes.{does, does-nothing}
 use Rattle.af_steps.proofs.engine.Engine.dup2.Goals.{In_ok-file}
 use Rattle.af_steps.proofs.engine.Engine.dup2.Goals as goal
 
--- What was looked up.
+-- The results of the look-ups.
 has : (c : In_ok-file) → HasNumber c.self.inside.store.world c.args.pid c.in_ok-process.process.now.process c.args.from c.in_ok-file.file
 has c = record { process = record { there = search rules }; stands = search rules }
 
--- What is left of the row.
+-- The rest of the row.
 row : (c : In_ok-file) → refusal c.self.inside.store.world c.args.pid (step.Dup2 c.args.from c.args.to) ≡ first_fit (on_place c.in_ok-process.process.now.process c.args.from c.args.to)
 row c = after-number (has c) (λ q. on_place q c.args.from c.args.to)
 
@@ -33,20 +32,18 @@ returns-then-eq-clause-done c =
     let fits = row (goal.at.returns-then-eq-clause-done c).In_ok-file ∙ ap (λ b. first_fit ((not b && nat_le q.limit c.args.to, EBADF) ∷ [])) same in
     does-nothing c.self.view_is p (step.Dup2 c.args.from c.args.to) (reply.Fd c.args.to) fits refl (ap (λ b. if b then w else install w p c.args.to (ino_on w p c.args.from)) same) c.self.invariant.0
 
-pub table_in-requires : goal.table_in-requires
-table_in-requires c =
+pub replace-requires : goal.replace-requires
+replace-requires c =
     let f = c.in_ok-file.file in
     let to = c.args.to in
-    let found = has (goal.at.table_in-requires c).In_ok-file in
-    let vacant : c.vacate.new.store.world ≡ uninstall c.self.inside.store.world c.args.pid to = ap (λ (s : Shown). s.world) c.vacate.ensures ∙ ap (λ v. uninstall v c.args.pid to) c.room_for.ensures.world in
-    let less = in-same (has-less found.process to) c.vacate.new.store.world (ap (λ (v : World). v.processes) vacant) in
+    let found = has (goal.at.replace-requires c).In_ok-file in
+    let made = in-same found.process c.room_for.new.self.world (ap (λ (v : World). v.processes) c.room_for.ensures.world) in
     record {
-      there = is-there less;
+      there = is-there made;
       row = search rules;
-      limit = below-limit less to (omega (arith, c.if-to-limit.false, c.limit.ensures.value));
-      free = is-free less to (less-free found.process to);
-      live = subst (λ v. IsLive v f) (sym vacant) (c.self.invariant.0.whole.tables_live f (held found));
-      spared = subst (λ s. Spares s f) (sym (ap (λ (s : Shown). s.pass) c.vacate.ensures ∙ c.room_for.ensures.pass)) (c.is_spared.ensures f (held found));
+      limit = below-limit made to (omega (arith, c.if-to-limit.false, c.limit.ensures.value));
+      live = subst (λ v. IsLive v f) (sym c.room_for.ensures.world) (c.self.invariant.0.whole.tables_live f (held found));
+      spared = subst (λ s. Spares s f) (sym c.room_for.ensures.pass) (c.lemma_is_spared.ensures f (held found));
     }
 
 pub returns-clause-done : goal.returns-clause-done
@@ -61,9 +58,8 @@ returns-clause-done c =
     let other : nat_eq to c.args.from ≡ false = search rules in
     let low : to < q.limit = omega (arith, c.if-to-limit.false, c.limit.ensures.value) in
     let fits = row at ∙ (λ i. first_fit ((not (other i) && lt-leb q.limit to low i, EBADF) ∷ [])) in
-    let placed : c.table_in.new.self.world ≡ install w p to f =
-    ap (λ (s : Shown). s.world) c.table_in.ensures ∙ ap (λ (s : Shown). install s.world p to f) c.vacate.ensures ∙ ap (λ v. install (uninstall v p to) p to f) c.room_for.ensures.world ∙ install-uninstalled found.process to f in
+    let placed : c.replace.new.self.world ≡ install w p to f = ap (λ (s : Shown). s.world) c.replace.ensures ∙ ap (λ v. install v p to f) c.room_for.ensures.world in
     let leads = ap (λ b. if b then w else install w p to (ino_on w p c.args.from)) other ∙ ap (install w p to) (ino-is found) ∙ sym placed in
-    let pass = c.release.ensures.pass ∙ ap (λ (s : Shown). s.pass) c.table_in.ensures ∙ ap (λ (s : Shown). s.pass) c.vacate.ensures ∙ c.room_for.ensures.pass in
-    let since = c.release.ensures.since ∙ ap (λ (s : Shown). s.since) c.table_in.ensures ∙ ap (λ (s : Shown). s.since) c.vacate.ensures ∙ c.room_for.ensures.since in
-    does c.self.view_is p (step.Dup2 c.args.from to) c.release.new.self (reply.Fd to) c.table_in.new.self.world fits refl leads c.release.ensures.settles pass since
+    let pass = c.release.ensures.pass ∙ ap (λ (s : Shown). s.pass) c.replace.ensures ∙ c.room_for.ensures.pass in
+    let since = c.release.ensures.since ∙ ap (λ (s : Shown). s.since) c.replace.ensures ∙ c.room_for.ensures.since in
+    does c.self.view_is p (step.Dup2 c.args.from to) c.release.new.self (reply.Fd to) c.replace.new.self.world fits refl leads c.release.ensures.settles pass since

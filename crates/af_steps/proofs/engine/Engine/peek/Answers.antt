@@ -22,7 +22,7 @@ returns-in_err-check_receive-clause-refused c =
     turned-down c.self.view_is c.args.pid (step.Peek c.args.on c.args.max_bytes c.args.max_fds) c.from_residual-in_err-check_receive.result c.in_err-check_receive.field-0.0 c.from_residual-in_err-check_receive.ensures.1
     (after-socket c.in_ok-process.ensures.found (λ r look s. on_receive s c.args.max_bytes) ∙ c.in_err-check_receive.ensures.err)
 
--- What was looked up.
+-- The results of the look-ups.
 has : (c : In_ok-process) → HasSocket c.self.inside.store.world c.args.pid c.in_ok-process.process.now.process c.args.on c.in_ok-process.file c.in_ok-process.socket
 has c = c.in_ok-process.ensures.found
 
@@ -35,4 +35,4 @@ peek_msg-requires-clause-row c =
     numbers-below (has (goal.at.peek_msg-requires-clause-row c).In_ok-process).number.process c.deref.result.now c.min-count.result _ (search rules) (λ some. c.in_ok-room_for.ensures.row (omega (arith, some, c.deref.ensures.len, c.len.ensures)))
 
 pub peek_msg-requires-clause-spared : goal.peek_msg-requires-clause-spared
-peek_msg-requires-clause-spared c = subst (λ s. Spares s c.in_ok-process.file) (sym c.room_for.ensures.pass) (c.is_spared.ensures c.in_ok-process.file (held (has (goal.at.peek_msg-requires-clause-spared c).In_ok-process).number))
+peek_msg-requires-clause-spared c = subst (λ s. Spares s c.in_ok-process.file) (sym c.room_for.ensures.pass) (c.lemma_is_spared.ensures c.in_ok-process.file (held (has (goal.at.peek_msg-requires-clause-spared c).In_ok-process).number))

@@ -29,7 +29,9 @@ pub returns-in-Socket : goal.returns-in-Socket
 returns-in-Socket c = answers_step _ _ _ _ _ c.in-Socket.is c.socket.result reply.Fd _ c.socket.ensures.done c.socket.ensures.refused c.reply_of-in-Socket.ensures.ok c.reply_of-in-Socket.ensures.err
 
 pub returns-in-Bind : goal.returns-in-Bind
-returns-in-Bind c = answers_step _ _ _ _ _ c.in-Bind.is c.bind.result (λ _. reply.Ok) _ c.bind.ensures.done c.bind.ensures.refused c.reply_of-in-Bind.ensures.ok c.reply_of-in-Bind.ensures.err
+returns-in-Bind c =
+    let read : c.args.step.now ≡ step.Bind c.in-Bind.on c.as_slice.result.now = c.in-Bind.is ∙ sym (λ i. step.Bind c.in-Bind.on (c.as_slice.ensures i)) in
+    answers_step _ _ _ _ _ read c.bind.result (λ _. reply.Ok) _ c.bind.ensures.done c.bind.ensures.refused c.reply_of-in-Bind.ensures.ok c.reply_of-in-Bind.ensures.err
 
 pub returns-in-Listen : goal.returns-in-Listen
 returns-in-Listen c = answers_step _ _ _ _ _ c.in-Listen.is c.listen.result (λ _. reply.Ok) _ c.listen.ensures.done c.listen.ensures.refused c.reply_of-in-Listen.ensures.ok c.reply_of-in-Listen.ensures.err
@@ -41,9 +43,11 @@ pub returns-in-Limit : goal.returns-in-Limit
 returns-in-Limit c = answers_step _ _ _ _ _ c.in-Limit.is c.limit.result (λ _. reply.Ok) _ c.limit.ensures.done c.limit.ensures.refused c.reply_of-in-Limit.ensures.ok c.reply_of-in-Limit.ensures.err
 
 pub returns-in-Connect : goal.returns-in-Connect
-returns-in-Connect c = answers_step _ _ _ _ _ c.in-Connect.is c.connect.result (λ _. reply.Ok) _ c.connect.ensures.done c.connect.ensures.refused c.reply_of-in-Connect.ensures.ok c.reply_of-in-Connect.ensures.err
+returns-in-Connect c =
+    let read : c.args.step.now ≡ step.Connect c.in-Connect.on c.as_slice-in-Connect.result.now = c.in-Connect.is ∙ sym (λ i. step.Connect c.in-Connect.on (c.as_slice-in-Connect.ensures i)) in
+    answers_step _ _ _ _ _ read c.connect.result (λ _. reply.Ok) _ c.connect.ensures.done c.connect.ensures.refused c.reply_of-in-Connect.ensures.ok c.reply_of-in-Connect.ensures.err
 
 pub returns-in-Send : goal.returns-in-Send
 returns-in-Send c =
-    let read : c.args.step.now ≡ step.Send c.in-Send.on c.as_slice.result.now c.as_slice-in-Send.result.now = c.in-Send.is ∙ sym (λ i. step.Send c.in-Send.on (c.as_slice.ensures i) (c.as_slice-in-Send.ensures i)) in
+    let read : c.args.step.now ≡ step.Send c.in-Send.on c.as_slice-in-Send.result.now c.as_slice-in-Send-2.result.now = c.in-Send.is ∙ sym (λ i. step.Send c.in-Send.on (c.as_slice-in-Send.ensures i) (c.as_slice-in-Send-2.ensures i)) in
     answers_made _ _ _ _ _ read c.send-sent.result c.map.result reply.Sent _ c.send-sent.ensures.done c.send-sent.ensures.refused c.map.ensures.cases c.reply_of-in-Send.ensures.ok c.reply_of-in-Send.ensures.err

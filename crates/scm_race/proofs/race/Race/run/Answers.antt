@@ -1,3 +1,5 @@
+use Rattle.std.proofs.Common.{[]}
+use Rattle.af_layer.specs.Drive.{Turned}
 use Rattle.scm_race.proofs.Ended.{all-steps}
 use Rattle.scm_race.proofs.race.Race.run.Goals as goal
 
@@ -7,4 +9,4 @@ returns-clause-raced g c = c.in_ok-seats.ensures c.in_ok-closed.closed.book c.in
 pub returns-clause-steps : goal.returns-clause-steps
 returns-clause-steps g c =
     let race = c.args.self in
-    all-steps race.workers race.steps race.seed race.budget c.in_ok-closed.closed.book c.requires.steps.0 (returns-clause-raced g c)
+    all-steps (Turned race.budget []) race.workers race.steps race.seed c.in_ok-closed.closed.book c.requires.steps.0 (returns-clause-raced g c)

@@ -1,6 +1,6 @@
-use Rattle.std.proofs.Common.{rules, ◌≡◌, ◌++◌, ◌+◌, Err, None, Some, ap, sym, ◌∙◌, append_assoc, drop, subst, take}
+use Rattle.std.proofs.Common.{rules, ◌≡◌, ◌++◌, ◌+◌, Err, ap, sym, ◌∙◌, append_assoc, drop, subst, take}
 use Rattle.memchr.specs.Find.{IsFirstByte, is_byte}
-use Rattle.scm_run.specs.Progress.{FaultIn, Halts, Ran}
+use Rattle.scm_run.specs.Progress.{Ran}
 use Rattle.scm_run.specs.Script.{ended_by_feed}
 use Rattle.scm_run.proofs.LinesLemmas.{NoFeed-all, around}
 use Rattle.scm_run.proofs.RunLemmas.{halts_longer, keep_stops}

@@ -1,0 +1,15 @@
+use Rattle.std.proofs.Common.{ap, refl, sym, subst}
+use Rattle.af_hold.specs.HoldingsView.{HoldingsView}
+use Rattle.af_pass.specs.Keeping.{PassInvariant}
+use Rattle.af_pass.proofs.Keeping.{kept_begin}
+use Rattle.af_collect.proofs.parts.Collector.begin.Goals as goal
+
+-- The marks begin anew, and the world of the begin is the world now.
+pub returns-clause-kept : goal.returns-clause-kept
+returns-clause-kept c =
+    let now = c.args.self.now in
+    let w = now.places.world in
+    let e = c.start_epoch.ensures in
+    subst (λ v. PassInvariant c.start_epoch.new.self.world v c.start_epoch.new.self.marks _) (sym (ap (λ (s : HoldingsView). s.world) c.of.ensures))
+    (subst (λ v. PassInvariant v w c.start_epoch.new.self.marks _) (sym (ap (λ (s : HoldingsView). s.world) e.rest))
+    (kept_begin w now.places.marks c.start_epoch.new.self.marks _ c.requires.sound c.requires.kept.known e.unmarked e.known e.bound refl))

@@ -1,0 +1,29 @@
+use Rattle.std.proofs.Common.{◌+◌, ◌&&◌, ◌∙◌, sym, subst, nat_eq}
+use Rattle.std.specs.Prelude.{if◌then◌else◌}
+use Rattle.af_base.specs.Unheld.{without}
+use Rattle.af_base.proofs.Held.{held_by_none}
+use Rattle.af_hold.specs.HoldingsView.{HoldingsView}
+use Rattle.af_mark.specs.Marked.{forgotten}
+use Rattle.af_pass.specs.Keeping.{PassInvariant, is_sweeping}
+use Rattle.af_pass.proofs.Keeping.{kept_gone}
+use Rattle.af_pass.proofs.Spared.{reclaimed_most, sweeping_only}
+use Rattle.af_collect.specs.Shown.{KeepsPass}
+use Rattle.af_collect.proofs.Passing.{counted_gone}
+use Rattle.af_collect.proofs.parts.Collector.take_away.Goals as goal
+
+-- No more are counted than there can be files.
+pub tally-requires : goal.tally-requires
+tally-requires c = λ e. reclaimed_most (sweeping_only c.args.self.now.progress.stage e) c.requires.kept
+
+-- The file had no place and held nothing.
+pub returns-clause-kept : goal.returns-clause-kept
+returns-clause-kept c =
+    let p = c.args.self.now in
+    let x = c.args.file.now in
+    let no = held_by_none p.places.world x c.requires.unheld in
+    let gone = kept_gone p.places.world p.begun.value.world p.places.marks p.progress x c.requires.live no.0 no.1 c.requires.bare c.requires.kept in
+    let after = record p.progress { reclaimed = p.progress.reclaimed + (if c.take_away-unmarked.result && is_sweeping p.progress.stage then 1 else 0) } in
+    let counts = counted_gone p.places.world p.places.marks p.progress x c.take_away-unmarked.result (c.requires.kept.known x ∙ c.requires.live) c.take_away-unmarked.ensures.unmarked in
+    subst KeepsPass (sym c.tally.ensures)
+    (subst (λ (s : HoldingsView). PassInvariant s.world p.begun.value.world s.marks after) (sym c.take_away-unmarked.ensures.gone)
+    (subst (PassInvariant (without (nat_eq x) p.places.world) p.begun.value.world (forgotten x p.places.marks)) (sym counts) gone))

@@ -1,0 +1,23 @@
+-- So far the pass runs, it looked at as many files as units were done, and it emptied at most as many.
+use Rattle.std.proofs.Common.{◌≡◌, ◌≤◌, ◌+◌, ◌-◌, true}
+use Rattle.af_base.specs.Whole.{IsSound}
+use Rattle.af_pass.specs.Keeping.{is_running}
+use Rattle.af_pass.specs.Purged.{ArePurged}
+use Rattle.af_collect.specs.Shown.{KeepsPass}
+use Rattle.af_collect.proofs.parts.Collector.units.Given as goal
+
+abbrev pub invariant-loop-left : goal.invariant-loop-left
+invariant-loop-left l = record {
+  kept : KeepsPass l.self;
+  running : is_running l.self.progress.stage ≡ true;
+  sound : IsSound l.self.places.world;
+  rows : l.self.places.rows ≡ l.fn.self.places.rows;
+  since : l.self.places.since ≡ l.fn.self.places.since;
+  begun : l.self.begun ≡ l.fn.self.begun;
+  few : l.left ≤ l.fn.budget;
+  purged : ArePurged l.fn.self.begun.value.world l.fn.self.places.world l.self.places.world (l.fn.budget - l.left);
+  looked : l.self.progress.looked + l.left ≡ l.fn.self.progress.looked + l.fn.budget;
+}
+
+abbrev pub decreases-loop-left : goal.decreases-loop-left
+decreases-loop-left l = l.left

@@ -1,0 +1,34 @@
+use Rattle.std.proofs.Common.{◌<◌, refl, sym, ap, ◌∙◌, length, subst}
+use Rattle.std.specs.FinMap as map
+use Rattle.af_base.proofs.Rising.{above, fewer_above}
+use Rattle.af_base.specs.World.{Map}
+use Rattle.af_mark.specs.declared.mark.Mark.{Mark}
+use Rattle.af_desc.specs.RowsView.{RowsView}
+use Rattle.af_desc.proofs.Washing.{AreWashed, washed_known, washed_next}
+use Rattle.af_desc.proofs.marks.clear_all_marks.Goals as goal
+
+-- There are fewer files above.
+pub loop-file-smaller : goal.loop-file-smaller
+loop-file-smaller c =
+    let files = c.loop-file.rows.files in
+    let next = c.in-Some.ensures in
+    subst (λ n. length (above n (map.entries c.set_mark.new.self.files)) < length (above c.loop-file.last (map.entries files))) (sym c.ino-last.ensures)
+    (subst (λ m. length (above c.in-Some.file (map.entries m)) < length (above c.loop-file.last (map.entries files))) (sym (ap (λ r. r.files) c.set_mark.ensures.set))
+    (fewer_above files files refl c.loop-file.last c.in-Some.file next.above next.there next.least))
+
+-- One file more has a mark of no pass.
+pub loop-file-preserved : goal.loop-file-preserved
+loop-file-preserved c =
+    let m = c.loop-file.rows.marks in
+    let n = c.in-Some.file in
+    let next = c.in-Some.ensures in
+    let i = c.loop-file.invariant in
+    let set = c.set_mark.ensures.set in
+    let is = ap (λ r. r.marks) set ∙ ap (map.insert m n) c.none.ensures in
+    let there = c.lemma_are_one.ensures n ∙ next.there in
+    record {
+      washed = subst (AreWashed c.set_mark.new.self.marks) (sym c.ino-last.ensures) (subst (λ o. AreWashed o n) (sym is) (washed_next m n c.loop-file.last (λ q over under. c.lemma_are_one.ensures q ∙ next.least q over under) i.washed));
+      known = λ f. ap (λ o. map.contains_key o f) is ∙ washed_known m n there f ∙ i.known f;
+      len = c.set_mark.ensures.len ∙ i.len;
+      rest = set ∙ ap (λ (r : RowsView). record r { marks = map.insert m n c.none.result }) i.rest ∙ ap (λ (o : Map Mark). record c.args.rows.now { marks = o }) (sym (ap (λ r. r.marks) set));
+    }

@@ -1,0 +1,141 @@
+-- Files under numbers that are never used again. Definitions that name no manual page are this project's own.
+use Rattle.std.specs.Prelude.{◌≡◌, ◌↔◌, ◌&&◌, ◌<◌, ◌≤◌, ℕ, ◌+◌, ◌-◌, ◌^◌, Bool, List, Option, Some, drop, false, is_some, nat_lt, unwrap_or, if◌then◌else◌}
+use Rattle.std.specs.Option.{option_and_then, option_map_or}
+use Rattle.af_base.specs.declared.events.SockType.{SockType}
+use Rattle.std.specs.FinMap as map
+use Rattle.af_base.specs.declared.events.State.{State}
+use Rattle.af_base.specs.declared.events.State.TheVariants as state
+use Rattle.af_base.specs.World.{AsSocket, File, Map, Since, Socket}
+use Rattle.af_base.specs.Changes.{change_socket_at}
+use Rattle.af_base.specs.Counts.{total_of}
+use Rattle.af_base.specs.Refusals.{is_full_of, no_socket, socket_of}
+use Rattle.af_base.specs.Steps.{connected_socket}
+use Rattle.af_base.specs.Take.{take_from}
+use Rattle.af_base.specs.Whole.{state_of}
+use Rattle.af_ledger.specs.Counted.{fewer, more, uncounted}
+use Rattle.af_ledger.specs.Tally.{AreWaiting, count_in_map}
+use Rattle.af_ledger.specs.declared.count.Count.{Count}
+use Rattle.af_ledger.specs.declared.place.Place.{Place}
+use Rattle.af_ledger.specs.declared.place.Place.TheVariants.{Backlog, Queue, Table}
+use Rattle.af_listen.specs.Named.{Named}
+use Rattle.af_mark.specs.Grey.{AreListed, colors_in}
+use Rattle.af_mark.specs.declared.mark.Mark.{Mark}
+use Rattle.af_mark.specs.Marked.{Marked, born, forgotten, is_unmarked, white_count}
+use Rattle.af_queue.specs.Received.{Received, received}
+use Rattle.af_desc.specs.RowsView.{RowsView}
+
+-- The world's files, how many places hold each, what a pass knows of each, what there was when the lists were emptied last, the number that the next one gets, and whether there is room for a message more.
+pub record FilesView : Type 0 where
+  pub files : Map File
+  pub counts : Map Count
+  pub marks : Marked
+  pub since : Since
+  pub next : ℕ
+  pub message_room : Bool
+
+-- Whether k files more are too many, or have no inode numbers left (open(2), ENFILE).
+abbrev pub is_full : FilesView → ℕ → Bool
+is_full v k = is_full_of v.files v.next k
+
+-- Whether the number has a file.
+abbrev pub is_live : FilesView → ℕ → Bool
+is_live v f = map.contains_key v.files f
+
+-- A file more, under the next number, which this place holds and no pass has marked.
+abbrev pub entered : Place → File → FilesView → FilesView
+entered p x v = record v { files = map.insert v.files v.next x; counts = map.insert v.counts v.next (more p uncounted); marks = born v.next v.marks; next = v.next + 1 }
+
+-- Two sockets more, connected to each other, each of which such a place holds (socketpair(2)).
+abbrev pub paired : Place → SockType → FilesView → FilesView
+paired p kind v = entered p (AsSocket (connected_socket kind v.next)) (entered p (AsSocket (connected_socket kind (v.next + 1))) v)
+
+-- A file less.
+abbrev pub without : ℕ → FilesView → FilesView
+without f v = record v { files = map.remove v.files f; counts = map.remove v.counts f; marks = forgotten f v.marks }
+
+-- A place of this kind more holds the file.
+abbrev pub raised : Place → ℕ → FilesView → FilesView
+raised p f v = record v { counts = map.insert v.counts f (more p (count_in_map v.counts f)) }
+
+-- A place of this kind less holds the file.
+abbrev pub lowered : Place → ℕ → FilesView → FilesView
+lowered p f v = record v { counts = map.insert v.counts f (fewer p (count_in_map v.counts f)) }
+
+-- The file f is changed, if it is a socket.
+abbrev pub changed : (Socket → Socket) → ℕ → FilesView → FilesView
+changed g f v = record v { files = change_socket_at g v.files f }
+
+-- The same, with room for a message gained or lost.
+abbrev pub changed_queue : (Socket → Socket) → ℕ → Bool → FilesView → FilesView
+changed_queue g f room v = record (changed g f v) { message_room = room }
+
+-- A socket whose peer is gone (unix(7)).
+abbrev pub hung_up : Socket → Socket
+hung_up s = record s { state = state.HungUp }
+
+-- A socket whose first message is out of its queue (recvmsg(2)).
+abbrev pub popped : Socket → Socket
+popped s = record s { queue = drop 1 s.queue }
+
+-- The socket of this number among these files.
+abbrev pub socket_in : Map File → ℕ → Option Socket
+socket_in files f = option_and_then socket_of (map.get files f)
+
+-- Whether the file f of these is a socket that a pass has still to mark.
+abbrev pub is_unmarked_socket : Map File → Marked → ℕ → Bool
+is_unmarked_socket files m f = is_some (socket_in files f) && is_unmarked m f
+
+-- The peer state of the file f of these; a plain file and an unknown one have none.
+abbrev pub state_in : Map File → ℕ → State
+state_in files f = option_map_or state_of (map.get files f) state.Idle
+
+-- The result of a receive of at most n bytes from a socket, if there is one (recvmsg(2)).
+abbrev pub received_of : Option Socket → ℕ → Received
+received_of o n = let s = unwrap_or o no_socket in received s.kind s.queue n
+
+-- A socket after a receive of at most n bytes (recvmsg(2)).
+abbrev pub received_from : ℕ → Socket → Socket
+received_from n s = record s { queue = (take_from s.kind s.queue n).rest }
+
+-- The abstract name of a file, if it is a socket that has one (unix(7)).
+abbrev pub name_of : File → Option (List ℕ)
+name_of x = option_and_then (λ s. s.name) (socket_of x)
+
+-- The abstract name of the file f of these.
+abbrev pub name_in : Map File → ℕ → Option (List ℕ)
+name_in files f = option_and_then (λ s. s.name) (socket_in files f)
+
+-- The names are just those of these files: a name leads to the one socket that has it (unix(7), abstract names).
+pub record AreNamed (names : Named) (files : Map File) : Type 0 where
+  pub each : (name : List ℕ) (f : ℕ) → (map.get names name ≡ Some f) ↔ (name_in files f ≡ Some name)
+
+-- No more places are in backlogs than this number, unless it is as large as it can get.
+abbrev pub AreEmbryos : Map Count → ℕ → Type 0
+AreEmbryos counts n = n < 2 ^ 64 - 1 → total_of (λ c. c.waiting) counts ≤ n
+
+-- The number of embryos with a place of this kind more.
+abbrev pub with_embryo : Place → ℕ → ℕ
+with_embryo Table n = n
+with_embryo (Queue u) n = n
+with_embryo Backlog n = if nat_lt n (2 ^ 64 - 1) then n + 1 else n
+
+-- The same with one less.
+abbrev pub without_embryo : Place → ℕ → ℕ
+without_embryo Table n = n
+without_embryo (Queue u) n = n
+without_embryo Backlog n = if nat_lt n (2 ^ 64 - 1) then n - 1 else n
+
+-- No more files than this number were born before the pass, and are not marked: they are those below the bound, which is no later than the next number.
+abbrev pub AreWhite : Map Mark → ℕ → ℕ → ℕ → ℕ → Type 0
+AreWhite marks epoch bound next n = (bound ≤ next) × (white_count (record { colors = colors_in epoch marks; bound = bound }) ≤ n)
+
+-- The rows fit all else: numbers begin at 1 and rise, the names are those of the files, the lists have just the files that wait and those that are grey, with room for all, and the embryos, and the files that a pass has still to mark, are counted.
+pub record FilesInvariant (rows : RowsView) (waiting : List ℕ) (room : ℕ) (names : Named) (next epoch : ℕ) (grey : List ℕ) (most embryos bound white : ℕ) : Type 0 where
+  pub last : rows.last + 1 ≡ next
+  pub begins : map.contains_key rows.files 0 ≡ false
+  pub named : AreNamed names rows.files
+  pub waits : AreWaiting rows.counts waiting
+  pub fits : map.len rows.counts ≤ room
+  pub listed : AreListed rows.marks epoch grey most
+  pub backlogged : AreEmbryos rows.counts embryos
+  pub whites : AreWhite rows.marks epoch bound next white

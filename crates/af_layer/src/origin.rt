@@ -1,0 +1,92 @@
+//! Where the log of a layer begins.
+ghost use Rattle.std.specs.Prelude.{◌≡◌, ℕ, IfErr, IfOk, OnErr, OnOk};
+ghost use Rattle.af_base.specs.declared.events.Reply.{Reply as Answer};
+ghost use Rattle.af_base.specs.Pass.{Machine};
+ghost use Rattle.af_base.specs.Run.{fresh};
+ghost use Rattle.af_layer.specs.Audit.{AreEmptied, HasFault, IsWhole};
+ghost use Rattle.af_layer.specs.Log.{HasLegalLog, IsReached};
+ghost use Rattle.af_layer.specs.Seats.{grown};
+
+use crate::audit::CloseFault;
+use crate::book::{Book, CallError, Entry};
+use crate::seat::Seat;
+use af_base::events::Event;
+use std::marker::{Brand, Model, PhantomData};
+
+/// Where the log of a layer begins, as a type says it.
+///
+/// A contract knows of a locked value only what its type says. So the type of a layer says what
+/// holds of the machine at which its log begins.
+pub trait Origin {
+    /// What holds of the number of seats and of the machine at which the log begins.
+    ghost begins: { ℕ → Machine → Type 0 };
+}
+
+/// The log begins at the fresh machine: it has all that was ever done.
+#[derive(Clone, Copy, Debug, PartialEq, Eq)]
+pub struct Fresh;
+
+impl Origin for Fresh {
+    ghost begins = { λ seats machine. machine ≡ fresh };
+}
+
+/// The log begins at some machine that a legal log leads to from the fresh one. So it may be taken
+/// at any time.
+#[derive(Clone, Copy, Debug, PartialEq, Eq)]
+pub struct Reached;
+
+impl Origin for Reached {
+    ghost begins = { IsReached };
+}
+
+impl Origin for Brand {
+    ghost begins = { λ seats machine. machine ≡ fresh };
+}
+
+/// A book whose log begins where its origin says.
+#[derive(Drop)]
+pub struct BookFrom<O: Origin> {
+    pub book: Book,
+    pub origin: PhantomData<O>,
+}
+
+impl<O: Origin> Model for BookFrom<O> {
+    ghost use Rattle.std.specs.FinMap as map;
+    ghost use Rattle.std.specs.Coded.{codes};
+    ghost use Rattle.af_layer.specs.Log.{Logged};
+
+    ghost Value = { Logged };
+
+    ghost coded = { Prim.hlevel (codes, map.code) };
+
+    ghost view = { λ b. b.book };
+
+    ghost invariant = { λ b. O.begins b.book.seats b.book.start };
+}
+
+impl<O: Origin> BookFrom<O> {
+    /// Does one event from this seat.
+    pub fn call_from(&mut self, seat: &mut Seat, event: Event) -> Result<(), CallError>
+        ensures done { OnOk result ((reply : Answer) × (seat.new ≡ grown seat.old event reply)) }
+        ensures same { OnErr result (seat.new ≡ seat.old) }
+    {
+        seat.call_in(&mut self.book, event)
+    }
+}
+
+impl BookFrom<Reached> {
+    /// Audits the seats, hands over the log and empties the lists: [`Book::checkpoint`]. The next
+    /// log begins at a machine that is reached too.
+    pub fn checkpoint(&mut self, seats: &mut [Seat]) -> Result<Vec<Entry>, CloseFault>
+        ensures legal { HasLegalLog self.old }
+        ensures log { IfOk result (λ log. log.items ≡ self.old.log) }
+        ensures whole { OnOk result (IsWhole self.old seats.old) }
+        ensures seats { OnOk result (AreEmptied seats.old seats.new) }
+        ensures fault { IfErr result (HasFault self.old seats.old) }
+        ensures same { OnErr result (seats.new ≡ seats.old) }
+    {
+        // The invariant of the book, which says where its log begins and ends.
+        self.book.log();
+        self.book.checkpoint(seats)
+    }
+}

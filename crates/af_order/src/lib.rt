@@ -1,8 +1,0 @@
-//! A table of what stands under numbers that only rise.
-#![tactic(auto)]
-
-mod entry;
-mod numbered;
-mod order;
-
-pub use numbered::Keyed;

@@ -1,6 +1,0 @@
-use Rattle.std.proofs.Common.{subst}
-use Rattle.af_base.specs.Whole.{IsSound}
-use Rattle.af_steps.proofs.engine.Engine.is_sound.Goals as goal
-
-pub returns : goal.returns
-returns c = subst (λ m. IsSound m.world) c.self.view_is c.self.invariant.0

@@ -1,0 +1,75 @@
+-- A write through the reference changes the value of this number alone.
+use Rattle.std.proofs.Common.{◌≡◌, ◌-◌, ◌≤◌, ◌∙◌, ℕ, inl, refl, sym, ap, subst}
+use Rattle.std.specs.Prelude.{Some, min}
+use Rattle.std.specs.FinMap as map
+use Rattle.slab.specs.Slab as slab
+use Rattle.slab.specs.Slab.{Slab}
+use Rattle.af_base.specs.World.{Map}
+use Rattle.ordered_slab.specs.declared.entry.Entry.{Entry}
+use Rattle.ordered_slab.specs.Numbers.{Numbered, with_value}
+use Rattle.ordered_slab.specs.Standing.{AreInPlace, values_of}
+use Rattle.ordered_slab.proofs.Standing.{stood, there, write_in_place, write_len, write_values}
+use Rattle.ordered_slab.proofs.numbered.OrderedSlab.get_mut.Goals as goal
+
+-- Whatever is written, all stays in place, and there is as much room.
+kept : {V : Type 0} (m : Map ℕ) (s : Slab (Entry V)) (f k : ℕ) (x : Entry V) (w : V) → AreInPlace m s × (slab.slab_len s ≤ s.capacity) → map.get m f ≡ Some k → slab.get s k ≡ Some x
+    → AreInPlace m (slab.with_value s k (record x { value = w })) × (slab.slab_len (slab.with_value s k (record x { value = w })) ≤ s.capacity)
+kept m s f k x w h was at = (
+  write_in_place m s f k x (record x { value = w }) h.0 was at refl,
+  subst (λ n. n ≤ s.capacity) (sym (write_len m s f k x (record x { value = w }) h.0 was at)) h.1,
+)
+
+-- The written value is that of this number.
+written : {V : Type 0} (a : Numbered V) (m : Map ℕ) (s : Slab (Entry V)) (last r f k : ℕ) (x : Entry V) (w : V) → AreInPlace m s → map.get m f ≡ Some k → slab.get s k ≡ Some x
+    → record { values = values_of m s; last = last; room = min r (s.capacity - slab.slab_len s) } ≡ a
+    → record { values = values_of m (slab.with_value s k (record x { value = w })); last = last; room = min r (s.capacity - slab.slab_len (slab.with_value s k (record x { value = w }))) } ≡ with_value a f w
+written a m s last r f k x w h was at view = (λ j. record {
+  values = write_values m s f k x (record x { value = w }) h was at j;
+  last = last;
+  room = min r (s.capacity - write_len m s f k x (record x { value = w }) h was at j);
+}) ∙ ap (λ a. with_value a f w) view
+
+-- The lent value is that of this number.
+lent : {V : Type 0} (a : Numbered V) (m : Map ℕ) (s : Slab (Entry V)) (last room f k : ℕ) (x : Entry V) (v : V) → AreInPlace m s → map.get m f ≡ Some k → slab.get s k ≡ Some x
+    → record { values = values_of m s; last = last; room = room } ≡ a → v ≡ x.value → Some v ≡ map.get a.values f
+lent a m s last room f k x v h was at view is = ap Some is ∙ sym (there m s f k x x h was at) ∙ ap (λ a. map.get a.values f) view
+
+pub invariant_of-self-lent : goal.invariant_of-self-lent
+invariant_of-self-lent g c w =
+    let was = ap (map.get c.self.inside.order.keys) (sym c.ino.ensures) ∙ stood c.self.inside.order.keys c.self.inside.slab c.self.invariant.0 _ _ (c.stands_at.ensures c.if-stands_at.true) in
+    kept c.self.inside.order.keys c.self.inside.slab c.args.file.now _ c.index_mut.result.now w c.self.invariant was c.index_mut.ensures.value
+
+pub invariant_of-self-lent-2 : goal.invariant_of-self-lent-2
+invariant_of-self-lent-2 g c w =
+    let was = ap (map.get c.self.inside.order.keys) (sym c.ino-2.ensures) ∙ sym c.key_of.ensures ∙ c.in_ok-key.was in
+    kept c.self.inside.order.keys c.self.inside.slab c.args.file.now c.in_ok-key.key c.index_mut-2.result.now w c.self.invariant was c.index_mut-2.ensures.value
+
+pub returns-then-stands_at : goal.returns-then-stands_at
+returns-then-stands_at g c =
+    let m = c.self.inside.order.keys in
+    let s = c.self.inside.slab in
+    let x = c.index_mut.result.now in
+    let f = c.args.file.now in
+    let was = ap (map.get m) (sym c.ino.ensures) ∙ stood m s c.self.invariant.0 _ _ (c.stands_at.ensures c.if-stands_at.true) in
+    let at = c.index_mut.ensures.value in (
+      (λ i. inl (c.value_mut.result.ghost_name, λ w. written _ m s c.self.inside.order.last c.self.inside.order.room f _ x w c.self.invariant.0 was at c.self.view_is i)),
+      record {
+        writes_back = tt;
+        value = lent _ m s _ _ f _ x _ c.self.invariant.0 was at c.self.view_is c.value_mut.ensures.value;
+      },
+    )
+
+pub returns : goal.returns
+returns g c =
+    let m = c.self.inside.order.keys in
+    let s = c.self.inside.slab in
+    let x = c.index_mut-2.result.now in
+    let f = c.args.file.now in
+    let was = ap (map.get m) (sym c.ino-2.ensures) ∙ sym c.key_of.ensures ∙ c.in_ok-key.was in
+    let at = c.index_mut-2.ensures.value in (
+      (λ i. inl (c.value_mut-2.result.ghost_name, λ w. written _ m s c.self.inside.order.last c.self.inside.order.room f _ x w c.self.invariant.0 was at c.self.view_is i)),
+      record {
+        writes_back = tt;
+        value = lent _ m s _ _ f _ x _ c.self.invariant.0 was at c.self.view_is c.value_mut-2.ensures.value;
+      },
+    )

@@ -1,0 +1,398 @@
+//! The order of numbers that only rise.
+//!
+//! A packing reads `rows` from the front, and moves each live row to the end of `packed`; what it
+//! has read is dead. When all was read, the two lists change places. So a number is live in
+//! `packed` or in the part of `rows` that was not read, and a look-up asks both.
+ghost use Rattle.std.specs.Prelude.{◌≡◌, ℕ, ◌+◌, ◌≤◌, ◌<◌, length, false, None, IsTrue, IsOk, IfSome, IfNone, OnOk, OnErr, ◌++◌, ◌≢◌};
+ghost use Rattle.std.specs.FinMap as map;
+ghost use Rattle.ordered_slab.specs.Ordered.{Ordered};
+ghost use Rattle.ordered_slab.specs.Rows.{live_of, row_at, Rise, IsLiveAt, IsPlace};
+
+use af_base::names::{FileRef, Ino};
+use std::alloc::{AllocError, Global};
+use std::marker::Model;
+use std::mem;
+
+/// Packing begins if at least this many rows are dead, and more than half of all.
+const LEAST_DEAD: usize = 64;
+
+/// So many dead rows at most are passed over in one step of packing.
+const PASSED_AT_ONCE: usize = 16;
+
+/// A number and the key under which it is to be found. A row with no key is dead: its number is gone,
+/// or was moved.
+#[derive(Clone, Copy, Drop)]
+struct Row {
+    ino: Ino,
+    key: Option<usize>,
+}
+
+/// The position of a row.
+enum Place {
+    /// Among those that were packed.
+    Packed(usize),
+    /// Among those that wait for it.
+    Waiting(usize),
+}
+
+/// Numbers in order, each with its key. A removed number leaves a dead row; the live ones are
+/// packed a few at a time, so that each event has a bounded cost.
+#[derive(Drop)]
+pub struct Order {
+    /// The rows that were moved here, rising. All are below the live ones of `rows`. There is always
+    /// room here for as many as there are `rows`, so that packing needs no memory.
+    packed: Vec<Row>,
+    /// The other rows, rising.
+    rows: Vec<Row>,
+    /// How many of `rows` a packing has read: they are dead.
+    read: usize,
+    /// How many rows are dead in all. It only says when to pack.
+    dead: usize,
+    /// The last number that was pushed, 0 before the first.
+    last: u64,
+}
+
+impl Model for Order {
+    ghost use Rattle.std.specs.Prelude.{◌-◌, ◌≤◌, ◌++◌, min, vec_capacity, length};
+    ghost use Rattle.std.specs.FinMap as map;
+    ghost use Rattle.std.specs.Coded.{codes};
+    ghost use Rattle.ordered_slab.specs.Ordered.{Ordered};
+    ghost use Rattle.ordered_slab.specs.Rows.{live_of, AreRows};
+
+    ghost Value = { Ordered };
+
+    ghost coded = { Prim.hlevel (codes, map.code) };
+
+    ghost view = { λ a. record { keys = live_of (a.packed.items ++ a.rows.items); last = a.last; room = min (vec_capacity a.packed) (vec_capacity a.rows) - length a.rows.items } };
+
+    ghost invariant = { λ a. AreRows a.packed.items a.rows.items a.read a.last × (length a.packed.items ≤ a.read) × (length a.rows.items ≤ vec_capacity a.packed) };
+}
+
+impl Order {
+    /// Makes an empty order. Takes no memory.
+    pub fn new(alloc: Global) -> Order
+        ensures keys { result.keys ≡ map.empty }
+        ensures last { result.last ≡ 0 }
+    {
+        Order {
+            packed: Vec::new(alloc),
+            rows: Vec::new(alloc),
+            read: 0,
+            dead: 0,
+            last: 0,
+        }
+    }
+
+    /// Reserves room for this many numbers more, and for packing them: then neither `push` nor
+    /// `pack` needs memory for them. Nothing else changes, also on an error.
+    pub fn reserve(&mut self, numbers: usize) -> Result<(), AllocError>
+        ensures same { self.new ≡ record self.old { room = self.new.room } }
+        ensures ok { OnOk result (numbers ≤ self.new.room) }
+        ensures room { self.old.room ≤ self.new.room }
+        ensures succeeds { numbers ≤ self.old.room → IsOk result }
+    {
+        self.rows.reserve(numbers)?;
+        let wanted = self.rows.len().saturating_add(numbers);
+        if wanted <= self.packed.capacity() {
+            return Ok(());
+        }
+        self.packed.reserve(wanted - self.packed.len())
+    }
+
+    /// Returns how many more numbers there is room for.
+    pub fn room(&self) -> usize
+        ensures { result ≡ self.now.room }
+    {
+        self.packed.capacity().min(self.rows.capacity()) - self.rows.len()
+    }
+
+    /// Adds a number, above all earlier ones, with its key. Returns its position, which `remove`
+    /// takes as a hint. There is room for it.
+    #[inline(always)]
+    pub fn push(&mut self, ino: Ino, key: usize) -> usize
+        requires room { 0 < self.old.room }
+        requires above { self.old.last < ino }
+        ensures keys { self.new.keys ≡ map.insert self.old.keys ino key }
+        ensures new { map.get self.old.keys ino ≡ None }
+        ensures last { self.new.last ≡ ino }
+        ensures room { self.old.room ≤ self.new.room + 1 }
+    {
+        let at = self.rows.len();
+        self.rows.push_reserved(Row {
+            ino,
+            key: Some(key),
+        });
+        self.last = ino.0;
+        at
+    }
+
+    /// Removes the number, and returns its key. The position is a hint. Takes no memory.
+    #[inline(always)]
+    pub fn remove(&mut self, ino: Ino, at: usize) -> Option<usize>
+        ensures value { result ≡ map.get self.old.keys ino }
+        ensures keys { self.new.keys ≡ map.remove self.old.keys ino }
+        ensures last { self.new.last ≡ self.old.last }
+        ensures room { self.old.room ≤ self.new.room }
+    {
+        match place_of(&self.packed, &self.rows, ino, at) {
+            Some(Place::Waiting(at)) => {
+                if at + 1 == self.rows.len() {
+                    return self.rows.take_last().key;
+                }
+                self.dead = self.dead.saturating_add(1);
+                self.rows[at].key.take()
+            }
+            Some(Place::Packed(at)) => {
+                self.dead = self.dead.saturating_add(1);
+                self.packed[at].key.take()
+            }
+            None => None,
+        }
+    }
+
+    /// Returns the key of the number, if it is there, by a binary search.
+    #[cold]
+    #[inline(never)]
+    pub fn key_of(&self, ino: Ino) -> Option<usize>
+        ensures { result ≡ map.get self.now.keys ino }
+    {
+        match key_in(&self.packed, ino) {
+            Some(key) => Some(key),
+            None => key_in(&self.rows, ino),
+        }
+    }
+
+    /// Returns the least number above this one, if there is one, with its key as a hint, and its
+    /// position for the next call. This number need not be known. The position passed in is a hint.
+    #[inline(always)]
+    pub fn next_after(&self, ino: Ino, at: usize) -> Option<(FileRef, usize)>
+        ensures above { IfSome result (λ n. ino < n.0) }
+        ensures there { IfSome result (λ n. IsTrue (map.contains_key self.now.keys n.0)) }
+        ensures least { IfSome result (λ n. (q : ℕ) → ino < q → q < n.0 → map.contains_key self.now.keys q ≡ false) }
+        ensures none { IfNone result ((q : ℕ) → ino < q → map.contains_key self.now.keys q ≡ false) }
+    {
+        match next_in(&self.packed, ino, at) {
+            Some(next) => Some(next),
+            None => next_in(&self.rows, ino, at),
+        }
+    }
+
+    /// Performs one bounded step of packing, if one is due: dead rows leave, and at most one live
+    /// row moves. Returns that row's key and new position, which `remove` takes as a hint. Takes no
+    /// memory.
+    #[inline(always)]
+    pub fn pack(&mut self) -> Option<(usize, usize)>
+        ensures keys { self.new.keys ≡ self.old.keys }
+        ensures last { self.new.last ≡ self.old.last }
+        ensures room { self.old.room ≤ self.new.room }
+    {
+        if self.read == 0 && !self.is_due() {
+            return None;
+        }
+        if self.finish() {
+            return None;
+        }
+        self.pass();
+        self.step()
+    }
+
+    /// Returns whether packing is due.
+    fn is_due(&self) -> bool {
+        self.dead >= LEAST_DEAD && self.dead > self.rows.len() / 2
+    }
+
+    /// Replaces the rows by the packed ones, if all rows were read. Returns whether it did.
+    fn finish(&mut self) -> bool
+        ensures keys { self.new.keys ≡ self.old.keys }
+        ensures last { self.new.last ≡ self.old.last }
+        ensures room { self.old.room ≤ self.new.room }
+    {
+        if self.read < self.rows.len() {
+            return false;
+        }
+        mem::swap(&mut self.packed, &mut self.rows);
+        self.dead = self.dead.saturating_sub(self.packed.len());
+        self.packed.clear();
+        self.read = 0;
+        true
+    }
+
+    /// Passes a few dead rows at most.
+    fn pass(&mut self)
+        ensures keys { self.new.keys ≡ self.old.keys }
+        ensures last { self.new.last ≡ self.old.last }
+        ensures room { self.old.room ≤ self.new.room }
+    {
+        let end = self
+            .rows
+            .len()
+            .min(self.read.saturating_add(PASSED_AT_ONCE));
+        self.read = first_live(&self.rows, self.read, end);
+    }
+
+    /// Moves the first row that was not read, if it is live. Returns its key and new position.
+    fn step(&mut self) -> Option<(usize, usize)>
+        ensures keys { self.new.keys ≡ self.old.keys }
+        ensures last { self.new.last ≡ self.old.last }
+        ensures room { self.old.room ≤ self.new.room }
+    {
+        if self.read >= self.rows.len() {
+            return None;
+        }
+        let row = self.rows[self.read];
+        let Some(key) = row.key else {
+            return None;
+        };
+        let at = self.packed.len();
+        self.packed.push_reserved(row);
+        self.rows[self.read].key = None;
+        self.read += 1;
+        self.dead = self.dead.saturating_add(1);
+        Some((key, at))
+    }
+}
+
+/// Returns the position of the number. Tries this position in both lists first, before a search.
+#[inline(always)]
+fn place_of(packed: &[Row], rows: &[Row], ino: Ino, at: usize) -> Option<Place>
+    requires packed { Rise packed.now }
+    requires rows { Rise rows.now }
+    ensures place { IfSome result (IsPlace packed.now rows.now ino) }
+    ensures none { IfNone result (map.get (live_of (packed.now ++ rows.now)) ino ≡ None) }
+{
+    if is_live_at(rows, ino, at) {
+        return Some(Place::Waiting(at));
+    }
+    if is_live_at(packed, ino, at) {
+        return Some(Place::Packed(at));
+    }
+    if let Some(at) = find(rows, ino) {
+        return Some(Place::Waiting(at));
+    }
+    match find(packed, ino) {
+        Some(at) => Some(Place::Packed(at)),
+        None => None,
+    }
+}
+
+/// Returns whether this very number is live at this place.
+#[inline(always)]
+fn is_live_at(rows: &[Row], ino: Ino, at: usize) -> bool
+    ensures { IsTrue result → IsLiveAt rows.now ino at }
+{
+    match rows.get(at) {
+        Some(row) => row.ino == ino && row.key.is_some(),
+        None => false,
+    }
+}
+
+/// Returns the position of the live number.
+#[inline(never)]
+fn find(rows: &[Row], ino: Ino) -> Option<usize>
+    requires { Rise rows.now }
+    ensures place { IfSome result (IsLiveAt rows.now ino) }
+    ensures none { IfNone result (map.get (live_of rows.now) ino ≡ None) }
+{
+    match rows.binary_search_by_key(&ino.0, |row| row.ino.0) {
+        Ok(at) => {
+            if rows[at].key.is_some() {
+                Some(at)
+            } else {
+                None
+            }
+        }
+        Err(_) => None,
+    }
+}
+
+/// Returns the key of the number among these rows.
+fn key_in(rows: &[Row], ino: Ino) -> Option<usize>
+    requires { Rise rows.now }
+    ensures { result ≡ map.get (live_of rows.now) ino }
+{
+    match find(rows, ino) {
+        Some(at) => rows[at].key,
+        None => None,
+    }
+}
+
+/// Returns the first live row from this position to that end, or the end.
+#[inline(always)]
+fn first_live(rows: &[Row], from: usize, end: usize) -> usize
+    requires from { from ≤ end }
+    requires end { end ≤ length rows.now }
+    ensures from { from ≤ result }
+    ensures end { result ≤ end }
+    ensures dead { (j : ℕ) → from ≤ j → j < result → (row_at rows.now j).key ≡ None }
+    ensures live { result < end → (row_at rows.now result).key ≢ None }
+{
+    for at in from..end {
+        if rows[at].key.is_some() {
+            return at;
+        }
+    }
+    end
+}
+
+/// Returns the least live number above this one among these rows, and its position. This one's
+/// position is a hint.
+#[inline(always)]
+fn next_in(rows: &[Row], ino: Ino, at: usize) -> Option<(FileRef, usize)>
+    requires { Rise rows.now }
+    ensures above { IfSome result (λ n. ino < n.0) }
+    ensures there { IfSome result (λ n. IsTrue (map.contains_key (live_of rows.now) n.0)) }
+    ensures least { IfSome result (λ n. (q : ℕ) → ino < q → q < n.0 → map.contains_key (live_of rows.now) q ≡ false) }
+    ensures none { IfNone result ((q : ℕ) → ino < q → map.contains_key (live_of rows.now) q ≡ false) }
+{
+    // Mostly nothing is being packed.
+    if rows.is_empty() {
+        return None;
+    }
+    let from = rows_up_to(rows, ino, at);
+    let at = first_live(rows, from, rows.len());
+    if at == rows.len() {
+        return None;
+    }
+    let row = rows[at];
+    match row.key {
+        Some(key) => Some((FileRef::new(row.ino, key), at)),
+        None => None,
+    }
+}
+
+/// Returns how many rows have a number up to this one. Tries this position first, before a search.
+#[inline(always)]
+fn rows_up_to(rows: &[Row], ino: Ino, at: usize) -> usize
+    requires { Rise rows.now }
+    ensures bound { result ≤ length rows.now }
+    ensures up_to { (i : ℕ) → i < result → (row_at rows.now i).ino ≤ ino }
+    ensures beyond { (i : ℕ) → result ≤ i → i < length rows.now → ino < (row_at rows.now i).ino }
+{
+    if let Some(row) = rows.get(at)
+        && row.ino == ino
+    {
+        return at + 1;
+    }
+    searched_up_to(rows, ino)
+}
+
+/// Finds the same by a search. Most numbers are consecutive, so it first computes the position from
+/// the number of the last row.
+fn searched_up_to(rows: &[Row], ino: Ino) -> usize
+    requires { Rise rows.now }
+    ensures bound { result ≤ length rows.now }
+    ensures up_to { (i : ℕ) → i < result → (row_at rows.now i).ino ≤ ino }
+    ensures beyond { (i : ℕ) → result ≤ i → i < length rows.now → ino < (row_at rows.now i).ino }
+{
+    let number = ino.0;
+    if let Some(last) = rows.last() {
+        let end = last.ino;
+        let until = rows
+            .len()
+            .saturating_sub(end.0.saturating_sub(number) as usize);
+        if until > 0 && rows[until - 1].ino == ino {
+            return until;
+        }
+    }
+    rows.partition_point(|row| row.ino.0 <= number)
+}

@@ -1,0 +1,21 @@
+use Rattle.std.proofs.Common.{rules, ◌≡◌, ◌+◌, ap, length, map, subst, sym, vec_len, ◌∙◌}
+use Rattle.std.proofs.lemmas.List.{length-map}
+use Rattle.std.proofs.lemmas.Result.{IfOk-weaker}
+use Rattle.af_layer.specs.Log.{Logged}
+use Rattle.scm_race.specs.Parts.{IsOfPart, IsPart}
+use Rattle.scm_race.specs.Race.{worker_steps}
+use Rattle.scm_race.proofs.Parts.{next-part}
+use Rattle.scm_race.proofs.long.LongRace.next_part.Goals as goal
+
+pub returns-clause-more : goal.returns-clause-more
+returns-clause-more g c =
+    let race = c.args.self.race in
+    let parts = map (λ script. script.items) c.in_ok-scripts.scripts.items in
+    let same : vec_len c.in_ok-scripts.scripts ≡ length c.in_ok-scripts.scripts.items = search rules in
+    let many = same ∙ sym (length-map c.in_ok-scripts.scripts.items (λ script. script.items)) in
+    let old = c.args.field.book in
+    IfOk-weaker c.race_part.result _ _ (λ raced told done fits went left.
+    next-part race.workers race.steps race.seed race.budget done c.args.count old told.0 raced.0.book c.args.sources.now parts c.next_parts.new.sources raced.1
+    c.requires.steps fits went left c.in_ok-scripts.ensures
+    (subst (λ n. IsPart (λ seats machine. (seats ≡ old.seats) × (machine ≡ old.start)) (n + 2) (IsOfPart parts c.args.count race.budget) told.0) many told.1)
+    told.2 (told.3 ∙ ap (λ n. worker_steps n told.0.log) many)) c.race_part.ensures.part
