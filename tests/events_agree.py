@@ -5,8 +5,9 @@ The list is the table of events in docs/SCRIPTS.md. It has a row for each line t
 in order. Compared with it are
 
 - the rows of the definition (crates/af_base/specs), which decides, and those of docs/DEFINITIONS.md;
-- the doc comments of the calls (crates/af_steps/src), the comments of include/scmgc.h, and the table of CALLING.md;
-- the forms, keywords and versions of the script language (crates/scm_lines), and the help text (crates/scm_command);
+- the doc comments of the calls (crates/af_steps/src), the comments of include/jaywardrobe.h, and the table of CALLING.md;
+- the forms, keywords and versions of the script language (crates/scm_lines), the help text (crates/scm_command), and the
+  manual page (docs/man/scmgc.1);
 - the events that tools/plain_engine.py serves, and those that tools/walks draws, with the errors that these meet.
 
 It prints a line for each difference, and then '1 passed, 0 failed' where there is none, and else '0 passed, 1 failed'.
@@ -29,7 +30,7 @@ import plain_engine  # noqa: E402
 LIST = "docs/SCRIPTS.md"
 # The calls of the engine that do an event of another name.
 TWINS = {"send_owned": "send"}
-# What C tests before all else: there a type is a number, and one that is none makes no event.
+# C tests this before all else: there a type is a number, and an invalid one makes no event.
 FIRST_IN_C = {"pair": ["EINVAL"], "socket": ["EINVAL"]}
 # The calls from C that have an error and are no events.
 NO_EVENTS_OF_C = {"engine_new", "check", "next_fd", "poll", "graph", "tell_released", "tell_changed"}
@@ -48,7 +49,7 @@ WORDS = {
 # A refusal in the list, and what it means in its row.
 REFUSAL = r"`(E[A-Z]+)`(?: \([^()]*\))?"
 Refusals = Dict[str, List[str]]
-# What is compared: its name, the call that reads it, and what that should give.
+# The compared facts: each has a name, the call that reads it, and the expected result.
 Comparison = Tuple[str, Callable[[], dict], dict]
 
 
@@ -73,11 +74,12 @@ def text_of(path: str) -> str:
 
 
 def table(path: str, head: str) -> List[List[str]]:
-    """The cells of each row of the table that has this head."""
-    rows = text_of(path).partition(f"\n| {head} |\n")[2].partition("\n\n")[0].splitlines()[1:]
+    """The cells of each row of the table that has this head, with or without spaces beside them."""
+    text, line = (re.sub(r" *\| *", "|", it) for it in (text_of(path), f"\n|{head}|\n"))
+    rows = text.partition(line)[2].partition("\n\n")[0].splitlines()[1:]
     if not rows:
         raise Unreadable(f"{path}: no table has the head: {head}")
-    return [[it.strip() for it in row[1:-1].split("|")] for row in rows]
+    return [row[1:-1].split("|") for row in rows]
 
 
 def verb_of(line: str) -> str:
@@ -119,7 +121,7 @@ def first_cells(head: str) -> List[str]:
     return [row[0].strip("`") for row in table(LIST, head) if row[0].startswith("`")]
 
 
-# What refuses each event, by the texts and the definition.
+# The refusals of each event, by the texts and the definition.
 
 
 def defined() -> Refusals:
@@ -170,8 +172,9 @@ def called() -> Refusals:
 
 def declared() -> Refusals:
     """What the comments of the calls from C have."""
-    comments = re.findall(r"/\*((?:[^*]|\*(?!/))*)\*/\s*int64_t scm_(\w+)\(", text_of("include/scmgc.h"))
-    found = {call: re.findall(r"\bSCM_(E[A-Z]+)\b", comment) for comment, call in comments}
+    call = r"/\*((?:[^*]|\*(?!/))*)\*/\s*(?:JW_.*\n)?int64_t jw_(\w+)\("
+    comments = re.findall(call, text_of("include/jaywardrobe.h"))
+    found = {call: re.findall(r"\bJW_(E[A-Z]+)\b", comment) for comment, call in comments}
     return {call: errors for call, errors in found.items() if errors and call not in NO_EVENTS_OF_C}
 
 
@@ -187,7 +190,7 @@ def documented() -> Refusals:
     return found
 
 
-# What makes an event of a line, and what tries each.
+# The functions that make an event of a line, and those that try each.
 
 
 def forms() -> Dict[str, str]:
@@ -221,6 +224,12 @@ def help_text() -> str:
 def helped() -> Dict[str, str]:
     """The lines of version 2 that the help text explains."""
     return alike(re.findall(r"^  (P? ?\S.*?)  ", help_text(), re.M))
+
+
+def in_manual() -> Dict[str, bool]:
+    """The events of the manual page, and whether a process does them."""
+    found = re.findall(r"^\.It (Ar P )?Li (\w+)", text_of("docs/man/scmgc.1"), re.M)
+    return {verb: bool(process) for process, verb in found}
 
 
 def misnamed(lines: Dict[str, str]) -> Dict[str, str]:
@@ -279,12 +288,13 @@ def comparisons(rows: Dict[str, Row]) -> List[Comparison]:
         ("docs/DEFINITIONS.md", explained, by_rows),
         ("crates/af_steps/src", called, by_calls),
         ("crates/jaywardrobe/CALLING.md", documented, by_calls),
-        ("include/scmgc.h", declared, from_c),
+        ("include/jaywardrobe.h", declared, from_c),
         ("crates/scm_lines/specs/Forms.antt", forms, lines),
         ("crates/scm_lines/src/keywords.rt", keywords, named),
         ("crates/scm_lines/specs/Versions.antt", later_steps, alike(later)),
         ("crates/scm_command, version 2", helped, alike(later.values())),
         ("crates/scm_command, examples", lambda: misnamed(lines), {}),
+        ("docs/man/scmgc.1, of a process", in_manual, of_process),
         (f"{LIST}, the replies", lambda: alike(first_cells("Reply | What it says")), replies),
         (f"{LIST}, the texts of reports", lambda: alike(first_cells("Line | Text")), reports),
         ("tools/plain_engine.py, reports", lambda: alike(plain_engine.REPORTS), reports),

@@ -20,7 +20,7 @@ SCM_MAX_FD = 253
 MAX_BACKLOG = 128
 MAX_INFLIGHT = 1_048_576
 MAX_BUDGET = 65_536
-# What can be bound: 1 to 107 letters, digits, '-', '.' and '_' (unix(7)).
+# The valid names: 1 to 107 letters, digits, '-', '.' and '_' (unix(7)).
 NAME = re.compile(r"[A-Za-z0-9._-]{1,107}")
 # Each byte as a script and a reply have it.
 SPELLED = [chr(it) if re.match(rb"[A-Za-z0-9_.-]", bytes([it])) else f"%{it:02X}" for it in range(256)]
@@ -98,11 +98,11 @@ class Engine:
 
     def __init__(self):
         self.processes: List[Process] = []
-        # What the open numbers of all processes stand for, by process and number.
+        # The files of all open descriptors, by process and descriptor.
         self.numbers: Dict[Tuple[int, int], int] = {}
         # The live files by rising number.
         self.files: List[File] = []
-        # What waits in all queues and in all backlogs. What came first stands first.
+        # The contents of all queues and of all backlogs, oldest first.
         self.messages: List[Message] = []
         self.embryos: List[Embryo] = []
         # In the order of their first process.
@@ -355,7 +355,7 @@ class Engine:
             fds.append(fd)
         return fds
 
-    # What the steps share.
+    # The common parts of steps.
 
     def process(self, pid: int) -> Process:
         for process in self.processes:
@@ -404,7 +404,7 @@ class Engine:
         """The socket of this name."""
         return next((it for it in self.files if it.name == name), None)
 
-    # What can be seen.
+    # The views.
 
     def places(self) -> Iterator[int]:
         """What stands in each place that holds a file: tables, queues and backlogs."""

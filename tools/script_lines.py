@@ -43,7 +43,7 @@ VERBS = {
 LATER = b"peek", b"limit"
 QUESTIONS = b"who", b"graph", b"help"
 WORD = re.compile(rb"[^ \t]+")
-# A byte of a message: a character that stands for itself, or two digits behind a %.
+# A byte of a message: a character that means itself, or two digits behind a %.
 SPELLED = re.compile(rb"[A-Za-z0-9_.-]|%[0-9A-Fa-f]{2}")
 
 
