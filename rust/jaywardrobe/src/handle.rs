@@ -10,6 +10,12 @@ use crate::{Errno, Fd};
 use jaywardrobe_sys as sys;
 use std::cell::UnsafeCell;
 
+/// Returns the version of the library as one number.
+pub(crate) fn version() -> u32 {
+    // SAFETY: the call has no inputs, and needs no engine.
+    unsafe { sys::jw_version() as u32 }
+}
+
 /// A handle that has an engine.
 pub(crate) struct Handle {
     // The library writes the word even where it only looks, and puts back what was there.

@@ -40,6 +40,7 @@ mod limits;
 mod owned;
 mod shared;
 mod types;
+mod version;
 mod views;
 
 pub use engine::Engine;
@@ -48,4 +49,5 @@ pub use limits::*;
 pub use owned::{OpenError, Owned};
 pub use shared::Shared;
 pub use types::{Checked, Fd, File, Finished, Ino, Pid, Ready, Received, SockType, State};
+pub use version::{Version, version};
 pub use views::{Descriptors, Files};

@@ -1,5 +1,7 @@
 //! Each call of an engine does what it says.
-use jaywardrobe::{Engine, Errno, Fd, File, Ino, MAX_FDS, Pid, Ready, Received, SockType, State};
+use jaywardrobe::{
+    Engine, Errno, Fd, File, Ino, MAX_FDS, Pid, Ready, Received, SockType, State, version,
+};
 
 /// An engine with a process that may have 16 descriptors.
 fn engine_with_process() -> Result<(Engine, Pid), Errno> {
@@ -270,4 +272,9 @@ fn an_engine_goes_on_in_another_thread() -> Result<(), Errno> {
     let got = engine.recv(pid, there, &mut [0], &mut [Fd(0)])?;
     assert_eq!(got.map(|got| got.fds), Some(1));
     Ok(())
+}
+
+#[test]
+fn the_library_has_the_version_of_the_crate() {
+    assert_eq!(version().to_string(), env!("CARGO_PKG_VERSION"));
 }
