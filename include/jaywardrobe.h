@@ -314,9 +314,8 @@ JW_MUST_USE JW_NONNULL(1)
 int64_t jw_socket(jw_engine *engine, uint32_t pid, uint32_t kind);
 
 /* Gives a socket an abstract name (bind(2), unix(7)): 1 to 107 letters, digits, '-', '.' and '_'.
- * The name is copied first. Answers 0.
- * Errors: JW_ESRCH, JW_EBADF, JW_ENOTSOCK, JW_EINVAL, JW_EADDRINUSE; JW_ENOMEM, which here may come
- * before these. */
+ * Answers 0.
+ * Errors: JW_ESRCH, JW_EBADF, JW_ENOTSOCK, JW_EINVAL, JW_EADDRINUSE, JW_ENOMEM. */
 JW_MUST_USE JW_NONNULL(1)
 int64_t jw_bind(jw_engine *engine, uint32_t pid, uint32_t fd, const void *name, size_t len);
 
@@ -326,9 +325,9 @@ JW_MUST_USE JW_NONNULL(1)
 int64_t jw_listen(jw_engine *engine, uint32_t pid, uint32_t fd, uint32_t backlog);
 
 /* Connects a socket to the listener of this name, without waiting (connect(2)). The socket is
- * connected at once, and the other end waits to be accepted. The name is copied first. Answers 0.
+ * connected at once, and the other end waits to be accepted. Answers 0.
  * Errors: JW_ESRCH, JW_EBADF, JW_ENOTSOCK, JW_EINVAL, JW_EISCONN, JW_ECONNREFUSED, JW_EPROTOTYPE,
- * JW_EAGAIN, JW_ENFILE; JW_ENOMEM, which here may come before these. */
+ * JW_EAGAIN, JW_ENFILE, JW_ENOMEM. */
 JW_MUST_USE JW_NONNULL(1)
 int64_t jw_connect(jw_engine *engine, uint32_t pid, uint32_t fd, const void *name, size_t len);
 

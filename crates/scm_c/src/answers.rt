@@ -1,5 +1,5 @@
 //! Replies as C sees them.
-ghost use Rattle.std.specs.Prelude.{◌≡◌};
+ghost use Rattle.std.specs.Prelude.{◌≡◌, IfErr, OnOk, pos};
 ghost use Rattle.scm_c.specs.Codes.{code_of, error_code};
 
 use af_base::errno::Errno;
@@ -13,6 +13,17 @@ pub(crate) fn refusal(error: Errno) -> i64
     ensures { result ≡ error_code error }
 {
     -i64::from(error.number())
+}
+
+/// Returns the answer of a call that has no number to report: 0 once it is done.
+pub(crate) fn answer(outcome: Result<(), Errno>) -> i64
+    ensures ok { OnOk outcome (result ≡ pos 0) }
+    ensures refused { IfErr outcome (λ e. result ≡ error_code e) }
+{
+    match outcome {
+        Ok(()) => 0,
+        Err(error) => refusal(error),
+    }
 }
 
 /// Returns a reply as the number that a call answers.

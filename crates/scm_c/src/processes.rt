@@ -1,7 +1,7 @@
 //! Processes and their tables.
 ghost use Rattle.scm_c.specs.Calls.{Calls};
 
-use crate::answers::{NO_ENGINE, refusal};
+use crate::answers::{NO_ENGINE, answer, refusal};
 use crate::engine::{call, call_of};
 use crate::handle::Handle;
 use af_base::events::{Event, Step};
@@ -86,10 +86,7 @@ pub extern "C" fn jw_close(alloc: Global, engine: &mut Handle, pid: u32, fd: u32
     };
     let outcome = inside.close(Pid(pid), Fd(fd));
     *engine = Handle::of(inside);
-    match outcome {
-        Ok(()) => 0,
-        Err(error) => refusal(error),
-    }
+    answer(outcome)
 }
 
 /// Makes a child of the process, with a copy of its table (fork(2)). Answers the child's pid.

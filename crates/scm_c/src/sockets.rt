@@ -1,17 +1,16 @@
 //! Sockets: made, named, connected and accepted.
-ghost use Rattle.std.specs.Prelude.{◌≡◌, ◌⊎◌, IfNone, IfOk, IfSome};
+ghost use Rattle.std.specs.Prelude.{◌≡◌, IfNone, IfSome};
 ghost use Rattle.scm_c.specs.Calls.{Calls, CallsInto, Refuses};
 ghost use Rattle.scm_c.specs.Codes.{type_named};
 ghost use Rattle.scm_c.specs.Written.{pair_written};
 
-use crate::answers::{NO_ENGINE, code, refusal};
+use crate::answers::{NO_ENGINE, answer, code, refusal};
 use crate::engine::{call_of, reply_to};
 use crate::handle::Handle;
 use af_base::errno::Errno;
 use af_base::events::{Event, Reply, SockType, Step};
-use af_base::items::Items;
 use af_base::names::{Fd, Pid};
-use std::alloc::{AllocError, Global};
+use std::alloc::Global;
 
 /// The descriptors of two connected sockets.
 #[repr(C)]
@@ -92,19 +91,20 @@ pub extern "C" fn jw_socket(alloc: Global, engine: &mut Handle, pid: u32, kind: 
 }
 
 /// Gives a socket an abstract name (bind(2), unix(7)): 1 to 107 letters, digits, '-', '.' and '_'.
-/// The name is copied first. Answers 0.
+/// Answers 0.
 ///
-/// Errors: JW_ESRCH, JW_EBADF, JW_ENOTSOCK, JW_EINVAL, JW_EADDRINUSE; JW_ENOMEM, which here
-/// may come before these.
+/// Errors: JW_ESRCH, JW_EBADF, JW_ENOTSOCK, JW_EINVAL, JW_EADDRINUSE, JW_ENOMEM.
 #[must_use]
 #[unsafe(no_mangle)]
 pub extern "C" fn jw_bind(alloc: Global, engine: &mut Handle, pid: u32, fd: u32, name: &[u8]) -> i64
-    ensures { Calls engine.old.shown (Event.Proc pid (Step.Bind fd name.now)) result engine.new.shown ⊎ Refuses engine.old.shown Errno.ENOMEM result engine.new.shown }
+    ensures { Calls engine.old.shown (Event.Proc pid (Step.Bind fd name.now)) result engine.new.shown }
 {
-    match items(alloc, name) {
-        Ok(name) => call_of(alloc, engine, pid, Step::Bind { on: Fd(fd), name }),
-        Err(_) => refusal(Errno::ENOMEM),
-    }
+    let Some(mut inside) = engine.take(alloc) else {
+        return NO_ENGINE;
+    };
+    let outcome = inside.bind(Pid(pid), Fd(fd), name);
+    *engine = Handle::of(inside);
+    answer(outcome)
 }
 
 /// Lets a socket with a name wait for connections, with room for 1 to 128 (listen(2)). Answers 0.
@@ -129,10 +129,10 @@ pub extern "C" fn jw_listen(
 }
 
 /// Connects a socket to the listener of this name, without waiting (connect(2)). The socket is
-/// connected at once, and the other end waits to be accepted. The name is copied first. Answers 0.
+/// connected at once, and the other end waits to be accepted. Answers 0.
 ///
 /// Errors: JW_ESRCH, JW_EBADF, JW_ENOTSOCK, JW_EINVAL, JW_EISCONN, JW_ECONNREFUSED,
-/// JW_EPROTOTYPE, JW_EAGAIN, JW_ENFILE; JW_ENOMEM, which here may come before these.
+/// JW_EPROTOTYPE, JW_EAGAIN, JW_ENFILE, JW_ENOMEM.
 #[must_use]
 #[unsafe(no_mangle)]
 pub extern "C" fn jw_connect(
@@ -142,19 +142,14 @@ pub extern "C" fn jw_connect(
     fd: u32,
     name: &[u8],
 ) -> i64
-    ensures { Calls engine.old.shown (Event.Proc pid (Step.Connect fd name.now)) result engine.new.shown ⊎ Refuses engine.old.shown Errno.ENOMEM result engine.new.shown }
+    ensures { Calls engine.old.shown (Event.Proc pid (Step.Connect fd name.now)) result engine.new.shown }
 {
-    match items(alloc, name) {
-        Ok(name) => call_of(alloc, engine, pid, Step::Connect { on: Fd(fd), name }),
-        Err(_) => refusal(Errno::ENOMEM),
-    }
-}
-
-/// Copies these bytes.
-fn items(alloc: Global, bytes: &[u8]) -> Result<Items<u8>, AllocError>
-    ensures { IfOk result (λ copy. copy ≡ bytes.now) }
-{
-    Ok(Items::of(bytes.to_vec(alloc)?))
+    let Some(mut inside) = engine.take(alloc) else {
+        return NO_ENGINE;
+    };
+    let outcome = inside.connect(Pid(pid), Fd(fd), name);
+    *engine = Handle::of(inside);
+    answer(outcome)
 }
 
 /// Accepts the connection that waits longest at a listener (accept(2)). Answers the new socket's

@@ -266,10 +266,9 @@ unsafe extern "C" {
     /// JW_ENOMEM.
     pub fn jw_socket(engine: *mut jw_engine, pid: u32, kind: u32) -> i64;
     /// Gives a socket an abstract name (bind(2), unix(7)): 1 to 107 letters, digits, '-', '.' and
-    /// '_'. The name is copied first. Answers 0.
+    /// '_'. Answers 0.
     ///
-    /// Errors: JW_ESRCH, JW_EBADF, JW_ENOTSOCK, JW_EINVAL, JW_EADDRINUSE; JW_ENOMEM, which here may
-    /// come before these.
+    /// Errors: JW_ESRCH, JW_EBADF, JW_ENOTSOCK, JW_EINVAL, JW_EADDRINUSE, JW_ENOMEM.
     pub fn jw_bind(engine: *mut jw_engine, pid: u32, fd: u32, name: *const u8, len: usize) -> i64;
     /// Lets a socket with a name wait for connections, with room for 1 to 128 (listen(2)). Answers
     /// 0.
@@ -277,11 +276,10 @@ unsafe extern "C" {
     /// Errors: JW_ESRCH, JW_EBADF, JW_ENOTSOCK, JW_EINVAL, JW_ENOMEM.
     pub fn jw_listen(engine: *mut jw_engine, pid: u32, fd: u32, backlog: u32) -> i64;
     /// Connects a socket to the listener of this name, without waiting (connect(2)). The socket is
-    /// connected at once, and the other end waits to be accepted. The name is copied first. Answers
-    /// 0.
+    /// connected at once, and the other end waits to be accepted. Answers 0.
     ///
     /// Errors: JW_ESRCH, JW_EBADF, JW_ENOTSOCK, JW_EINVAL, JW_EISCONN, JW_ECONNREFUSED,
-    /// JW_EPROTOTYPE, JW_EAGAIN, JW_ENFILE; JW_ENOMEM, which here may come before these.
+    /// JW_EPROTOTYPE, JW_EAGAIN, JW_ENFILE, JW_ENOMEM.
     pub fn jw_connect(
         engine: *mut jw_engine,
         pid: u32,

@@ -165,7 +165,7 @@ impl Engine {
     ///
     /// # Errors
     ///
-    /// ESRCH, EBADF, ENOTSOCK, EINVAL, EADDRINUSE; ENOMEM, which may come before these.
+    /// ESRCH, EBADF, ENOTSOCK, EINVAL, EADDRINUSE, ENOMEM.
     pub fn bind(&mut self, by: Pid, on: Fd, name: impl AsRef<[u8]>) -> Result<(), Errno> {
         self.handle.bind(by.0, on.0, name.as_ref()).map(drop)
     }
@@ -202,8 +202,7 @@ impl Engine {
     ///
     /// # Errors
     ///
-    /// ESRCH, EBADF, ENOTSOCK, EINVAL, EISCONN, ECONNREFUSED, EPROTOTYPE, EAGAIN, ENFILE; ENOMEM,
-    /// which may come before these.
+    /// ESRCH, EBADF, ENOTSOCK, EINVAL, EISCONN, ECONNREFUSED, EPROTOTYPE, EAGAIN, ENFILE, ENOMEM.
     pub fn connect(&mut self, by: Pid, on: Fd, name: impl AsRef<[u8]>) -> Result<(), Errno> {
         self.handle.connect(by.0, on.0, name.as_ref()).map(drop)
     }
