@@ -85,7 +85,7 @@ def refusals(top: Path) -> Iterator[Check]:
     (top / "crates" / "af_mark" / "src" / "lib.rt").write_text("//! Mine.\n")
     before = contents(top)
     yield "a taken folder is refused", vendor(top).returncode == 2 and contents(top) == before
-    (top / "crates.txt").write_text("af_pass: slab\n")
+    (top / "crates.txt").write_text("af_ledger: slab\n")
     before = contents(top)
     yield "a taken line is refused", vendor(top).returncode == 2 and contents(top) == before
     yield "this repository is refused", vendor(ROOT).returncode == 2

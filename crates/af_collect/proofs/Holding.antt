@@ -8,8 +8,8 @@ use Rattle.af_base.specs.Places.{carried}
 use Rattle.af_base.specs.World.{Message}
 use Rattle.af_base.proofs.Lookups.{none_some, some_same}
 use Rattle.af_mark.specs.Marked.{Marked}
-use Rattle.af_pass.specs.Keeping.{shaded_all}
-use Rattle.af_pass.proofs.Shaded.{shaded_append}
+use Rattle.af_collect.specs.Keeping.{shaded_all}
+use Rattle.af_collect.proofs.Shaded.{shaded_append}
 use Rattle.af_queue.specs.declared.queue.TheConstants.{BATCH}
 
 -- One after the next.

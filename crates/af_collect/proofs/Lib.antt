@@ -1,3 +1,41 @@
+-- Kept numbers stay the recounts, whatever changes.
+pub mod Sheds
+pub mod Recounts
+pub mod Bounds
+pub mod Agreement
+pub mod Exact
+pub mod Shedding
+pub mod Dropped
+pub mod Taken
+pub mod Emptying
+pub mod Listed
+pub mod Putting
+pub mod Receiving
+pub mod Filling
+pub mod Joined
+pub mod Replaced
+pub mod FirstPlace
+pub mod LiveSockets
+pub mod Altered
+pub mod Connecting
+pub mod Accepting
+-- The invariant of a running pass, and what each change owes to it.
+pub mod Tallies
+pub mod Marked
+pub mod Shaded
+pub mod Known
+pub mod Moving
+pub mod Marking
+pub mod Going
+pub mod Unmarked
+pub mod Sweeping
+pub mod Keeping
+pub mod Spared
+pub mod Purging
+pub mod Slicing
+pub mod Placing
+pub mod SocketChanges
+pub mod Born
 -- The duties of each change to the pass: lost files are shaded before, and the invariant holds after.
 pub mod Holding
 pub mod Losing

@@ -17,15 +17,15 @@ use Rattle.af_base.proofs.Held.{held_by_none}
 use Rattle.af_base.proofs.Lookups.{none_some}
 use Rattle.af_base.proofs.Moved.{live-changed}
 use Rattle.af_base.proofs.Settling.{none_in}
-use Rattle.af_hold.specs.Losing.{without_place}
+use Rattle.af_collect.specs.Losing.{without_place}
 use Rattle.af_mark.specs.Marked.{Marked, is_marked, shaded}
-use Rattle.af_pass.specs.declared.Progress.{Progress}
-use Rattle.af_pass.specs.Since.{Covers, Moves}
-use Rattle.af_pass.specs.Keeping.{PassInvariant, below, first_held, is_marking, shaded_all}
-use Rattle.af_pass.proofs.Keeping.{in_marking, kept_moves, kept_shaded, kept_shaded_all, marking_only}
-use Rattle.af_pass.proofs.Shaded.{all_marked, stays_marked}
-use Rattle.af_pass.proofs.Sockets.{covers_dequeued, covers_popped, moves_dequeued, moves_popped}
-use Rattle.af_pass.proofs.Spared.{waiting_held}
+use Rattle.af_collect.specs.declared.progress.Progress.{Progress}
+use Rattle.af_collect.specs.Since.{Covers, Moves}
+use Rattle.af_collect.specs.Keeping.{PassInvariant, below, first_held, is_marking, shaded_all}
+use Rattle.af_collect.proofs.Keeping.{in_marking, kept_moves, kept_shaded, kept_shaded_all, marking_only}
+use Rattle.af_collect.proofs.Shaded.{all_marked, stays_marked}
+use Rattle.af_collect.proofs.SocketChanges.{covers_dequeued, covers_popped, moves_dequeued, moves_popped}
+use Rattle.af_collect.proofs.Spared.{waiting_held}
 
 -- The first of a list is in the list of it alone.
 pub first_taken : (xs : List ℕ) (f : ℕ) → slice_get xs 0 ≡ Some f → Contains (take 1 xs) f

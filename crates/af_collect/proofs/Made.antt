@@ -33,16 +33,16 @@ use Rattle.af_ledger.specs.declared.place.Place.TheVariants.{Backlog, Table}
 use Rattle.af_desc.specs.FilesView.{changed, entered, paired}
 use Rattle.af_mark.specs.Marked.{born, is_marked}
 use Rattle.af_table.specs.Procs.{Procs}
-use Rattle.af_hold.specs.Agreement.{IsExact}
-use Rattle.af_hold.specs.Limits.{IsBelowLimit}
-use Rattle.af_hold.proofs.Connecting.{exact-embryo, exact-queued}
-use Rattle.af_hold.proofs.Exact.{exact-install, exact-install_all, exact-pair, world-is}
-use Rattle.af_hold.proofs.Joined.{insert_twice}
-use Rattle.af_hold.proofs.Putting.{is-socket}
-use Rattle.af_pass.specs.Keeping.{below}
-use Rattle.af_pass.proofs.Born.{below-add_file}
-use Rattle.af_pass.proofs.Placing.{covers_install, covers_install_lowest, moves_install, moves_install_files}
-use Rattle.af_pass.proofs.Sockets.{covers_queued, covers_same, moves_queued, moves_same}
+use Rattle.af_collect.specs.Agreement.{IsExact}
+use Rattle.af_collect.specs.Limits.{IsBelowLimit}
+use Rattle.af_collect.proofs.Connecting.{exact-embryo, exact-queued}
+use Rattle.af_collect.proofs.Exact.{exact-install, exact-install_all, exact-pair, world-is}
+use Rattle.af_collect.proofs.Joined.{insert_twice}
+use Rattle.af_collect.proofs.Putting.{is-socket}
+use Rattle.af_collect.specs.Keeping.{below}
+use Rattle.af_collect.proofs.Born.{below-add_file}
+use Rattle.af_collect.proofs.Placing.{covers_install, covers_install_lowest, moves_install, moves_install_files}
+use Rattle.af_collect.proofs.SocketChanges.{covers_queued, covers_same, moves_queued, moves_same}
 use Rattle.af_collect.specs.contracts.holdings.Holdings.{the_view}
 use Rattle.af_collect.specs.declared.holdings.Holdings.TheInside.{Inside}
 use Rattle.af_collect.specs.declared.parts.Collector.{Collector}

@@ -11,10 +11,10 @@ use Rattle.af_base.specs.Reached.{is_socket}
 use Rattle.af_base.specs.Refusals.{socket_of}
 use Rattle.af_desc.specs.FilesView.{is_unmarked_socket}
 use Rattle.af_mark.specs.Marked.{Marked, is_marked, knows}
-use Rattle.af_pass.specs.declared.Stage.{Stage}
-use Rattle.af_pass.specs.declared.Stage.TheVariants.{Marking, Resting, Sweeping}
-use Rattle.af_pass.specs.declared.Progress.{Progress}
-use Rattle.af_pass.specs.Keeping.{counted, is_sweeping, pass_of, runs}
+use Rattle.af_collect.specs.declared.progress.Stage.{Stage}
+use Rattle.af_collect.specs.declared.progress.Stage.TheVariants.{Marking, Resting, Sweeping}
+use Rattle.af_collect.specs.declared.progress.Progress.{Progress}
+use Rattle.af_collect.specs.Keeping.{counted, is_sweeping, pass_of, runs}
 
 -- The world at the begin of a pass that runs.
 begun_of : World → Pass → World

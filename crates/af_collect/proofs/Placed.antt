@@ -16,23 +16,23 @@ use Rattle.af_base.proofs.Lookups.{insert-other, told_apart}
 use Rattle.af_base.proofs.Moved.{live-changed, there-holds}
 use Rattle.af_base.proofs.Takes.{leaves-taken}
 use Rattle.af_ledger.specs.Tally.{Tally}
-use Rattle.af_hold.specs.Agreement.{IsExact}
-use Rattle.af_hold.specs.Receiving.{taken_at}
-use Rattle.af_hold.proofs.Exact.{install-filled}
-use Rattle.af_hold.proofs.Putting.{is-socket}
+use Rattle.af_collect.specs.Agreement.{IsExact}
+use Rattle.af_collect.specs.Receiving.{taken_at}
+use Rattle.af_collect.proofs.Exact.{install-filled}
+use Rattle.af_collect.proofs.Putting.{is-socket}
 use Rattle.af_mark.specs.Marked.{Marked, born, is_marked, knows}
-use Rattle.af_pass.specs.declared.Stage.{Stage}
-use Rattle.af_pass.specs.declared.Stage.TheVariants.{Marking, Resting, Sweeping}
-use Rattle.af_pass.specs.declared.Progress.{Progress}
-use Rattle.af_pass.specs.Since.{Covers, Moves}
-use Rattle.af_pass.specs.Keeping.{PassInvariant, IsRunning, Spares, below, is_marking, is_running, pass_of, shaded_all, shaded_in}
-use Rattle.af_pass.proofs.Born.{AreFilesBelow, covers_add_file, moves_add_file}
-use Rattle.af_pass.proofs.Keeping.{in_marking, in_sweeping, kept_born, kept_moves, kept_shaded_all}
-use Rattle.af_pass.proofs.Known.{known_made}
-use Rattle.af_pass.proofs.Marked.{grey_born, marked_born}
-use Rattle.af_pass.proofs.Placing.{covers_install_lowest, covers_limited, moves_install_files, moves_limited}
-use Rattle.af_pass.proofs.Sockets.{covers_receive, moves_receive}
-use Rattle.af_pass.proofs.Spared.{held_spared, marking_runs, spared_running}
+use Rattle.af_collect.specs.declared.progress.Stage.{Stage}
+use Rattle.af_collect.specs.declared.progress.Stage.TheVariants.{Marking, Resting, Sweeping}
+use Rattle.af_collect.specs.declared.progress.Progress.{Progress}
+use Rattle.af_collect.specs.Since.{Covers, Moves}
+use Rattle.af_collect.specs.Keeping.{PassInvariant, IsRunning, Spares, below, is_marking, is_running, pass_of, shaded_all, shaded_in}
+use Rattle.af_collect.proofs.Born.{AreFilesBelow, covers_add_file, moves_add_file}
+use Rattle.af_collect.proofs.Keeping.{in_marking, in_sweeping, kept_born, kept_moves, kept_shaded_all}
+use Rattle.af_collect.proofs.Known.{known_made}
+use Rattle.af_collect.proofs.Marked.{grey_born, marked_born}
+use Rattle.af_collect.proofs.Placing.{covers_install_lowest, covers_limited, moves_install_files, moves_limited}
+use Rattle.af_collect.proofs.SocketChanges.{covers_receive, moves_receive}
+use Rattle.af_collect.proofs.Spared.{held_spared, marking_runs, spared_running}
 use Rattle.af_collect.proofs.Losing.{marked_there}
 
 -- A process started changes no file.

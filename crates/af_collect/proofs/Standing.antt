@@ -11,12 +11,12 @@ use Rattle.af_desc.specs.FilesView.{FilesView, changed}
 use Rattle.af_ledger.specs.Tally.{Charged, Tally, kept_of}
 use Rattle.af_mark.specs.Marked.{Marked, is_marked}
 use Rattle.af_table.specs.Procs.{Procs}
-use Rattle.af_hold.specs.Agreement.{IsExact}
-use Rattle.af_hold.specs.HoldingsView.{AreExact, HoldingsView, world_of}
-use Rattle.af_hold.proofs.Exact.{exact-same}
-use Rattle.af_pass.specs.Keeping.{PassInvariant, below, pass_of}
-use Rattle.af_pass.specs.declared.Progress.{Progress}
-use Rattle.af_pass.proofs.Sockets.{covers_same, moves_same}
+use Rattle.af_collect.specs.Agreement.{IsExact}
+use Rattle.af_collect.specs.HoldingsView.{AreExact, HoldingsView, world_of}
+use Rattle.af_collect.proofs.Exact.{exact-same}
+use Rattle.af_collect.specs.Keeping.{PassInvariant, below, pass_of}
+use Rattle.af_collect.specs.declared.progress.Progress.{Progress}
+use Rattle.af_collect.proofs.SocketChanges.{covers_same, moves_same}
 use Rattle.af_collect.specs.Shown.{KeepsPass, KeepsPassWith, Shown}
 use Rattle.af_collect.specs.contracts.holdings.Holdings.{the_view}
 use Rattle.af_collect.specs.declared.holdings.Holdings.TheInside.{Inside}

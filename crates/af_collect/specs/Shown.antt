@@ -7,10 +7,10 @@ use Rattle.af_base.specs.Pass.{Pass}
 use Rattle.af_base.specs.Places.{queue_at}
 use Rattle.af_base.specs.World.{IsLive, Map, Since, World}
 use Rattle.af_table.specs.Procs.{row_in}
-use Rattle.af_hold.specs.HoldingsView.{HoldingsView}
+use Rattle.af_collect.specs.HoldingsView.{HoldingsView}
 use Rattle.af_mark.specs.Marked.{Marked, is_marked}
-use Rattle.af_pass.specs.Keeping.{PassInvariant, is_marking}
-use Rattle.af_pass.specs.declared.Progress.{Progress}
+use Rattle.af_collect.specs.Keeping.{PassInvariant, is_marking}
+use Rattle.af_collect.specs.declared.progress.Progress.{Progress}
 use Rattle.af_collect.specs.declared.parts.Collector.{Collector}
 
 -- The world, the size of each table, whether there is room for a message more, the running pass, its marks, its progress, and the reports.

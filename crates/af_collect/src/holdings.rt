@@ -36,7 +36,7 @@ impl Drop for Holdings {
 impl Model for Holdings {
     ghost use Rattle.std.specs.FinMap as map;
     ghost use Rattle.std.specs.Coded.{codes};
-    ghost use Rattle.af_hold.specs.HoldingsView.{AreExact, HoldingsView, world_of};
+    ghost use Rattle.af_collect.specs.HoldingsView.{AreExact, HoldingsView, world_of};
 
     ghost Value = { HoldingsView };
 

@@ -7,14 +7,17 @@
 mod holdings;
 mod listings;
 mod marks;
+mod messages;
 mod parts;
 mod passes;
 mod places;
+mod progress;
 mod reads;
 mod release;
 mod shading;
 mod sockets;
 mod store;
+mod tables;
 mod units;
 mod views;
 

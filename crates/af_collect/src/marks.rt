@@ -3,7 +3,7 @@ ghost use Rattle.std.specs.Prelude.{◌≡◌, ℕ, [], false, true};
 ghost use Rattle.af_base.specs.Counts.{tabled};
 ghost use Rattle.af_base.specs.Places.{held_by};
 ghost use Rattle.af_mark.specs.Marked.{blackened, is_marked, knows, shaded, visited};
-ghost use Rattle.af_pass.specs.Keeping.{is_due};
+ghost use Rattle.af_collect.specs.Keeping.{is_due};
 
 use crate::holdings::Holdings;
 use af_base::names::FileRef;

@@ -7,15 +7,15 @@ ghost use Rattle.af_base.specs.Places.{backlog_at, held_by, queue_at, table_at};
 ghost use Rattle.af_base.specs.Reached.{Garbage};
 ghost use Rattle.af_base.specs.Unheld.{Settles, without};
 ghost use Rattle.af_base.specs.Whole.{IsSound};
-ghost use Rattle.af_hold.specs.Losing.{places_at, without_place};
-ghost use Rattle.af_pass.specs.Keeping.{first_held, is_marking, is_running, is_sweeping, shaded_all};
+ghost use Rattle.af_collect.specs.Losing.{places_at, without_place};
+ghost use Rattle.af_collect.specs.Keeping.{first_held, is_marking, is_running, is_sweeping, shaded_all};
 ghost use Rattle.af_mark.specs.Marked.{forgotten};
 ghost use Rattle.af_collect.specs.Shown.{KeepsPass, MarksAll, with_marks};
 
 use crate::holdings::Holdings;
+use crate::progress::{Progress, Stage};
 use crate::shading::{shade_embryo, shade_first};
 use af_base::names::{Fd, FileRef, Pid};
-use af_pass::{Progress, Stage};
 use std::snapshot::Snapshot;
 
 /// The holdings, with what is marked, and how far a pass is.

@@ -5,13 +5,13 @@ ghost use Rattle.af_base.specs.Pass.{Idle, Running, Slices};
 ghost use Rattle.af_base.specs.Unheld.{Settles};
 ghost use Rattle.af_base.specs.Whole.{IsSound};
 ghost use Rattle.af_mark.specs.Marked.{is_marked};
-ghost use Rattle.af_pass.specs.Keeping.{PassInvariant, runs};
+ghost use Rattle.af_collect.specs.Keeping.{PassInvariant, runs};
 ghost use Rattle.af_collect.specs.Collecting.{Collects};
 ghost use Rattle.af_collect.specs.Shown.{slice_reply};
 
+use crate::progress::Stage;
 use crate::store::Store;
 use af_base::limits::MAX_BUDGET;
-use af_pass::Stage;
 
 impl Store {
     /// Returns whether a pass runs.

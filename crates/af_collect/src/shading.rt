@@ -4,14 +4,14 @@ ghost use Rattle.std.specs.Prelude.{◌≡◌, ◌≤◌, ◌*◌, [], drop, len
 ghost use Rattle.std.specs.Option.{option_map_or};
 ghost use Rattle.af_base.specs.Places.{backlog_at, carried, held_by, queue_at};
 ghost use Rattle.af_base.specs.Refusals.{socket_at};
-ghost use Rattle.af_pass.specs.Keeping.{first_held, shaded_all, shaded_in};
+ghost use Rattle.af_collect.specs.Keeping.{first_held, shaded_all, shaded_in};
 ghost use Rattle.af_collect.specs.Shown.{first_attached};
 
 use crate::holdings::Holdings;
+use crate::progress::{Progress, Stage};
 use af_base::limits::{MAX_MESSAGES, SCM_MAX_FD};
 use af_base::names::FileRef;
 use af_desc::{Files, Socket};
-use af_pass::{Progress, Stage};
 use af_queue::BATCH;
 use arrayvec::ArrayVec;
 
@@ -34,7 +34,7 @@ fn shade_all(files: &mut Files, taken: &[FileRef])
 }
 
 /// Marks all that the file holds.
-#[tactic(auto, using(crate::proofs::Losing::held_parts, af_pass::proofs::Shaded::shaded_append))]
+#[tactic(auto, using(crate::proofs::Losing::held_parts, crate::proofs::Shaded::shaded_append))]
 #[inline(always)]
 pub fn shade_held(places: &mut Holdings, file: &FileRef)
     ensures { places.new ≡ record places.old { marks = shaded_all (held_by places.old.world file.now) places.old.marks } }
@@ -85,7 +85,7 @@ fn shade_some(places: &mut Holdings, held: &[FileRef])
 }
 
 /// Marks the embryos of the file's backlog.
-#[tactic(auto, using(crate::proofs::Holding::rest_next, af_pass::proofs::Shaded::shaded_append))]
+#[tactic(auto, using(crate::proofs::Holding::rest_next, crate::proofs::Shaded::shaded_append))]
 #[inline(always)]
 fn shade_backlog(places: &mut Holdings, file: &FileRef)
     ensures { places.new ≡ record places.old { marks = shaded_all (backlog_at places.old.world file.now) places.old.marks } }

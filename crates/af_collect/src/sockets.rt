@@ -9,8 +9,8 @@ ghost use Rattle.af_base.specs.Places.{backlog_at, table_at};
 ghost use Rattle.af_base.specs.Changes.{add_file, bound, connected, dequeued, install, listening, queued, with_socket};
 ghost use Rattle.af_base.specs.Refusals.{is_full, room_of, socket_at};
 ghost use Rattle.af_base.specs.Steps.{connected_socket, idle_socket};
-ghost use Rattle.af_hold.specs.Limits.{IsBelowLimit};
-ghost use Rattle.af_pass.specs.Keeping.{Spares};
+ghost use Rattle.af_collect.specs.Limits.{IsBelowLimit};
+ghost use Rattle.af_collect.specs.Keeping.{Spares};
 ghost use Rattle.af_collect.specs.Shown.{room_at};
 
 use crate::store::Store;

@@ -9,17 +9,17 @@ ghost use Rattle.af_base.specs.Refusals.{is_full, is_at_process_limit, process_a
 ghost use Rattle.af_base.specs.Steps.{spawned, with_pair};
 ghost use Rattle.af_base.specs.Table.{lowest_free};
 ghost use Rattle.af_base.specs.Told.{AreChanged, TellsReleased};
-ghost use Rattle.af_hold.specs.Limits.{IsBelowLimit};
+ghost use Rattle.af_collect.specs.Limits.{IsBelowLimit};
 ghost use Rattle.af_collect.specs.Shown.{room_at};
 
 use crate::holdings::Holdings;
 use crate::parts::Collector;
+use crate::progress::{Progress, Stage};
+use crate::tables::{ref_table, unref_table};
 use af_base::events::SockType;
 use af_base::limits::MAX_NOFILE;
 use af_base::names::{Fd, FileRef, Ino, Pid, Uid};
-use af_hold::{ref_table, unref_table};
 use af_ledger::Place;
-use af_pass::{Progress, Stage};
 use std::alloc::{AllocError, Global};
 use std::marker::Model;
 use std::snapshot::Snapshot;
@@ -40,7 +40,7 @@ impl Drop for Store {
 impl Model for Store {
     ghost use Rattle.std.specs.FinMap as map;
     ghost use Rattle.std.specs.Coded.{codes};
-    ghost use Rattle.af_pass.specs.Keeping.{pass_of};
+    ghost use Rattle.af_collect.specs.Keeping.{pass_of};
     ghost use Rattle.af_collect.specs.Shown.{KeepsPass, Shown};
 
     ghost Value = { Shown };

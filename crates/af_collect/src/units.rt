@@ -4,15 +4,15 @@ ghost use Rattle.af_base.specs.World.{IsLive, is_live};
 ghost use Rattle.af_base.specs.Reached.{Garbage, IsGarbageCount};
 ghost use Rattle.af_base.specs.Whole.{IsSound};
 ghost use Rattle.af_mark.specs.Marked.{is_grey, is_marked};
-ghost use Rattle.af_pass.specs.declared.Stage.TheVariants as stage;
-ghost use Rattle.af_pass.specs.Keeping.{is_running};
-ghost use Rattle.af_pass.specs.Purged.{ArePurged};
+ghost use Rattle.af_collect.specs.declared.progress.Stage.TheVariants as stage;
+ghost use Rattle.af_collect.specs.Keeping.{is_running};
+ghost use Rattle.af_collect.specs.Purged.{ArePurged};
 ghost use Rattle.af_collect.specs.Shown.{KeepsPass};
 
 use crate::parts::Collector;
+use crate::progress::{Progress, Stage};
 use crate::shading::shade_held;
 use af_base::names::{FileRef, Ino};
-use af_pass::{Progress, Stage};
 use std::snapshot::Snapshot;
 
 impl Collector {

@@ -1,7 +1,7 @@
 //! Parts of the store, lent for reading.
 ghost use Rattle.std.specs.Prelude.{◌≡◌, ℕ};
 ghost use Rattle.af_base.specs.Places.{InTable};
-ghost use Rattle.af_pass.specs.Keeping.{Spares};
+ghost use Rattle.af_collect.specs.Keeping.{Spares};
 
 use crate::holdings::Holdings;
 use crate::store::Store;

@@ -15,7 +15,7 @@ use Rattle.af_base.specs.declared.listing.ListedFile.{ListedFile}
 use Rattle.af_base.specs.declared.listing.ListedSocket.{ListedSocket}
 use Rattle.af_base.specs.declared.listing.ListedTable.{ListedTable}
 use Rattle.af_base.proofs.Listed.{keyed-entries}
-use Rattle.af_hold.proofs.Listed.{changed, keyed-changed, keys-rise}
+use Rattle.af_collect.proofs.Listed.{changed, keyed-changed, keys-rise}
 use Rattle.af_graph.specs.Graph.{box_text, embryo_text, message_text, name_of, number_text, process_text, waiting_text}
 
 -- The name of a live file.

@@ -11,7 +11,7 @@ use Rattle.af_base.specs.World.{AsSocket, File, Plain, Process, Socket, World}
 use Rattle.af_base.proofs.Lookups.{none_some, some_same}
 use Rattle.af_base.proofs.Moved.{there-table}
 use Rattle.af_base.proofs.Stepped.{goes-on}
-use Rattle.af_hold.specs.Limits.{IsBelowLimit}
+use Rattle.af_collect.specs.Limits.{IsBelowLimit}
 use Rattle.af_steps.specs.Found.{HasNumber, HasProcess, HasSocket}
 
 -- No socket was found: that refuses each step that asks for one.

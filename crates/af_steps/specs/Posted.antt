@@ -7,7 +7,7 @@ use Rattle.af_base.specs.Places.{InTable, queue_at}
 use Rattle.af_base.specs.Refusals.{socket_at}
 use Rattle.af_base.specs.Whole.{IsMessageWithin}
 use Rattle.af_base.specs.World.{Message, World}
-use Rattle.af_hold.specs.Limits.{IsOfProcess}
+use Rattle.af_collect.specs.Limits.{IsOfProcess}
 use Rattle.af_steps.specs.declared.messages.Envelope.{Envelope}
 
 -- The message of these bytes in the envelope.

@@ -1,6 +1,6 @@
 -- The rest, from the marks now, gives the marks of all.
 use Rattle.std.proofs.Common.{◌≡◌, drop}
-use Rattle.af_pass.specs.Keeping.{shaded_all}
+use Rattle.af_collect.specs.Keeping.{shaded_all}
 use Rattle.af_collect.proofs.shading.shade_all.Given as goal
 
 abbrev pub invariant-loop-file : goal.invariant-loop-file

@@ -1,7 +1,7 @@
 -- The rest, from the marks now, gives the marks of all.
 use Rattle.std.proofs.Common.{◌≡◌, drop, length}
 use Rattle.af_base.specs.Places.{backlog_at}
-use Rattle.af_pass.specs.Keeping.{shaded_all}
+use Rattle.af_collect.specs.Keeping.{shaded_all}
 use Rattle.af_collect.proofs.shading.shade_backlog.Given as goal
 
 abbrev pub invariant-loop-at : goal.invariant-loop-at

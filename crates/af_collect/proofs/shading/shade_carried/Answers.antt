@@ -1,8 +1,8 @@
 use Rattle.std.proofs.Common.{◌≤◌, ◌<◌, ◌+◌, List, ℕ, drop, length, take, sym, ap, ◌∙◌, subst}
 use Rattle.af_base.specs.Places.{carried, queue_at}
-use Rattle.af_hold.specs.HoldingsView.{HoldingsView}
+use Rattle.af_collect.specs.HoldingsView.{HoldingsView}
 use Rattle.af_mark.specs.Marked.{Marked}
-use Rattle.af_pass.specs.Keeping.{shaded_all}
+use Rattle.af_collect.specs.Keeping.{shaded_all}
 use Rattle.af_queue.specs.declared.queue.TheConstants.{BATCH}
 use Rattle.af_collect.proofs.Holding.{shaded_last, shaded_on, shaded_within}
 use Rattle.af_collect.proofs.shading.shade_carried.Goals as goal

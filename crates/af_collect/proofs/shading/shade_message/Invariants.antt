@@ -1,6 +1,6 @@
 -- The rest, from the marks now, gives the marks of all.
 use Rattle.std.proofs.Common.{◌≡◌, drop, length}
-use Rattle.af_pass.specs.Keeping.{shaded_all}
+use Rattle.af_collect.specs.Keeping.{shaded_all}
 use Rattle.af_collect.specs.Shown.{first_attached}
 use Rattle.af_collect.proofs.shading.shade_message.Given as goal
 

@@ -4,7 +4,7 @@ use Rattle.std.specs.FinMap as map
 use Rattle.std.specs.List.{Contains}
 use Rattle.af_base.specs.Places.{InTable}
 use Rattle.af_base.specs.Refusals.{process_at}
-use Rattle.af_pass.specs.Keeping.{Spares}
+use Rattle.af_collect.specs.Keeping.{Spares}
 use Rattle.af_collect.specs.Shown.{Shown}
 use Rattle.af_steps.specs.Found.{HasNumber}
 use Rattle.af_steps.proofs.Found.{held}

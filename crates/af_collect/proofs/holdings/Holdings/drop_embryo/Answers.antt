@@ -5,10 +5,10 @@ use Rattle.af_ledger.specs.Counted.{IsCounted}
 use Rattle.af_ledger.specs.Tally.{count_in_map, kept_of}
 use Rattle.af_ledger.specs.declared.place.Place.TheVariants.{Backlog}
 use Rattle.af_collect.specs.contracts.holdings.Holdings.{the_view}
-use Rattle.af_hold.specs.HoldingsView.{AreExact}
-use Rattle.af_hold.proofs.Bounds.{can-drop-backlog}
-use Rattle.af_hold.proofs.Exact.{exact-dequeued, exact-same}
-use Rattle.af_hold.proofs.Losing.{first-embryo, none-dequeued}
+use Rattle.af_collect.specs.HoldingsView.{AreExact}
+use Rattle.af_collect.proofs.Bounds.{can-drop-backlog}
+use Rattle.af_collect.proofs.Exact.{exact-dequeued, exact-same}
+use Rattle.af_collect.proofs.FirstPlace.{first-embryo, none-dequeued}
 use Rattle.af_collect.proofs.holdings.Holdings.drop_embryo.Goals as goal
 
 pub invariant_of-self : goal.invariant_of-self

@@ -6,12 +6,12 @@ use Rattle.af_desc.specs.FilesView.{FilesView, popped}
 use Rattle.af_ledger.specs.Tally.{CanDropAll, dropped_all, kept_of}
 use Rattle.af_ledger.specs.declared.place.Place.TheVariants.{Queue}
 use Rattle.af_ledger.proofs.HeldAll.{users-dropped_all}
-use Rattle.af_hold.specs.HoldingsView.{AreExact, HoldingsView}
+use Rattle.af_collect.specs.HoldingsView.{AreExact, HoldingsView}
 use Rattle.af_collect.specs.contracts.holdings.Holdings.{the_view}
-use Rattle.af_hold.proofs.Bounds.{can-drop-all}
-use Rattle.af_hold.proofs.Exact.{exact-same, exact-shed, world-is}
-use Rattle.af_hold.proofs.Taken.{popped_queue}
-use Rattle.af_hold.proofs.Shedding.{emptied-same, first-shed}
+use Rattle.af_collect.proofs.Bounds.{can-drop-all}
+use Rattle.af_collect.proofs.Exact.{exact-same, exact-shed, world-is}
+use Rattle.af_collect.proofs.Taken.{popped_queue}
+use Rattle.af_collect.proofs.Shedding.{emptied-same, first-shed}
 use Rattle.af_collect.proofs.holdings.Holdings.drop_first.Goals as goal
 
 pub invariant_of-self : goal.invariant_of-self

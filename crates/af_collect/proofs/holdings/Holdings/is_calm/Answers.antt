@@ -4,7 +4,7 @@ use Rattle.af_base.specs.Places.{InTable}
 use Rattle.af_base.specs.Unheld.{IsSettled}
 use Rattle.af_base.specs.World.{IsLive}
 use Rattle.af_base.proofs.Calm.{all_tabled}
-use Rattle.af_hold.specs.HoldingsView.{HoldingsView}
+use Rattle.af_collect.specs.HoldingsView.{HoldingsView}
 use Rattle.af_collect.specs.contracts.holdings.Holdings.{the_view}
 use Rattle.af_collect.proofs.holdings.Holdings.is_calm.Goals as goal
 

@@ -1,6 +1,6 @@
 use Rattle.std.proofs.Common.{subst}
 use Rattle.af_base.specs.Whole.{IsWhole, IsWithin}
-use Rattle.af_hold.specs.HoldingsView.{HoldingsView}
+use Rattle.af_collect.specs.HoldingsView.{HoldingsView}
 use Rattle.af_collect.proofs.holdings.Holdings.lemma_is_whole.Goals as goal
 
 pub returns-clause-whole : goal.returns-clause-whole

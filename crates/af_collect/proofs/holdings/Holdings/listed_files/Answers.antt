@@ -9,9 +9,9 @@ use Rattle.af_base.specs.Places.{contents}
 use Rattle.af_base.specs.World.{File}
 use Rattle.af_base.specs.declared.limits.TheConstants.{MAX_FILES}
 use Rattle.af_base.proofs.Lookups.{some_same}
-use Rattle.af_hold.specs.HoldingsView.{HoldingsView}
+use Rattle.af_collect.specs.HoldingsView.{HoldingsView}
 use Rattle.af_base.proofs.Making.{made_all, made_more}
-use Rattle.af_hold.proofs.Listed.{changed, entry, keyed-changed, keys-rise}
+use Rattle.af_collect.proofs.Listed.{changed, entry, keyed-changed, keys-rise}
 use Rattle.af_base.proofs.Rising.{above, above-le, all_entries, fewer_above, next_entry, no_entry}
 use Rattle.af_collect.proofs.holdings.Holdings.listed_files.Goals as goal
 

@@ -11,9 +11,9 @@ use Rattle.af_base.specs.Bare.{bare_process}
 use Rattle.af_base.specs.Listing.{IsRisingTable, process_of}
 use Rattle.af_base.specs.Refusals.{no_process}
 use Rattle.af_base.specs.declared.limits.TheConstants.{MAX_PROCESSES}
-use Rattle.af_hold.specs.HoldingsView.{HoldingsView}
+use Rattle.af_collect.specs.HoldingsView.{HoldingsView}
 use Rattle.af_base.proofs.Making.{made_all, made_more}
-use Rattle.af_hold.proofs.Listed.{changed, entry, keyed-changed, keys-rise, looked, looked_entries}
+use Rattle.af_collect.proofs.Listed.{changed, entry, keyed-changed, keys-rise, looked, looked_entries}
 use Rattle.af_collect.proofs.holdings.Holdings.listed_tables.Goals as goal
 
 -- The pids are those of the world.

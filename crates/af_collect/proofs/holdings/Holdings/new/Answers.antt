@@ -1,6 +1,6 @@
 use Rattle.std.proofs.Common.{rules, ap, refl}
 use Rattle.af_ledger.specs.Tally.{kept_of}
-use Rattle.af_hold.proofs.Exact.{exact-empty, exact-same}
+use Rattle.af_collect.proofs.Exact.{exact-empty, exact-same}
 use Rattle.af_collect.proofs.holdings.Holdings.new.Goals as goal
 
 pub invariant_of-result : goal.invariant_of-result

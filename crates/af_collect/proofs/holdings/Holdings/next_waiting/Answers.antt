@@ -4,9 +4,9 @@ use Rattle.af_base.specs.World.{IsLive}
 use Rattle.af_base.specs.Counts.{refs}
 use Rattle.af_base.specs.Whole.{IsSound}
 use Rattle.af_ledger.specs.Tally.{kept_of}
-use Rattle.af_hold.specs.HoldingsView.{HoldingsView}
+use Rattle.af_collect.specs.HoldingsView.{HoldingsView}
 use Rattle.af_collect.specs.contracts.holdings.Holdings.{the_view}
-use Rattle.af_hold.proofs.Exact.{none-waits, on-none, on-some, waits-unheld}
+use Rattle.af_collect.proofs.Exact.{none-waits, on-none, on-some, waits-unheld}
 use Rattle.af_collect.proofs.holdings.Holdings.next_waiting.Goals as goal
 
 pub returns : goal.returns

@@ -6,9 +6,9 @@ use Rattle.af_base.specs.Places.{contents, held_by, queue_at, queue_of}
 use Rattle.af_base.specs.Counts.{refs}
 use Rattle.af_base.proofs.Lookups.{there}
 use Rattle.af_ledger.specs.Tally.{kept_of}
-use Rattle.af_hold.specs.HoldingsView.{AreExact, HoldingsView}
+use Rattle.af_collect.specs.HoldingsView.{AreExact, HoldingsView}
 use Rattle.af_collect.specs.contracts.holdings.Holdings.{the_view}
-use Rattle.af_hold.proofs.Exact.{exact-gone, exact-same}
+use Rattle.af_collect.proofs.Exact.{exact-gone, exact-same}
 use Rattle.af_collect.proofs.holdings.Holdings.take_away.Goals as goal
 
 pub invariant_of-self : goal.invariant_of-self

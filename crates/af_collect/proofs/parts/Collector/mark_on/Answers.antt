@@ -1,8 +1,8 @@
 use Rattle.std.proofs.Common.{◌≡◌, ℕ, false, ap, sym, subst, ◌∙◌}
 use Rattle.af_mark.specs.Marked.{Marked, is_grey}
-use Rattle.af_pass.specs.Keeping.{PassInvariant}
-use Rattle.af_pass.specs.declared.Stage.TheVariants.{Sweeping}
-use Rattle.af_pass.proofs.Keeping.{kept_finish}
+use Rattle.af_collect.specs.Keeping.{PassInvariant}
+use Rattle.af_collect.specs.declared.progress.Stage.TheVariants.{Sweeping}
+use Rattle.af_collect.proofs.Keeping.{kept_finish}
 use Rattle.af_collect.proofs.parts.Collector.mark_on.Goals as goal
 
 -- All files are visited and none is grey: so marking ends.

@@ -2,10 +2,10 @@ use Rattle.std.proofs.Common.{◌<◌, sym, ap, ◌∙◌, subst}
 use Rattle.af_base.specs.Unheld.{Settles}
 use Rattle.af_base.proofs.Placed.{settles-without}
 use Rattle.af_base.proofs.Settling.{settles_none}
-use Rattle.af_hold.specs.HoldingsView.{HoldingsView}
-use Rattle.af_hold.proofs.Losing.{burden-lost, none-held, none-silent, settles-lost}
-use Rattle.af_hold.proofs.Shedding.{burden, burden-gone}
-use Rattle.af_pass.specs.declared.Progress.{Progress}
+use Rattle.af_collect.specs.HoldingsView.{HoldingsView}
+use Rattle.af_collect.proofs.FirstPlace.{burden-lost, none-held, none-silent, settles-lost}
+use Rattle.af_collect.proofs.Shedding.{burden, burden-gone}
+use Rattle.af_collect.specs.declared.progress.Progress.{Progress}
 use Rattle.af_collect.proofs.parts.Collector.release.Goals as goal
 
 -- A file that holds nothing can be taken away.

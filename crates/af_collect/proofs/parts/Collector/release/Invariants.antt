@@ -2,7 +2,7 @@
 use Rattle.std.proofs.Common.{◌≡◌}
 use Rattle.af_base.specs.World.{World}
 use Rattle.af_base.specs.Unheld.{Settles}
-use Rattle.af_hold.proofs.Shedding.{burden}
+use Rattle.af_collect.proofs.Shedding.{burden}
 use Rattle.af_collect.specs.Shown.{KeepsPass}
 use Rattle.af_collect.proofs.parts.Collector.release.Given as goal
 

@@ -2,8 +2,8 @@ use Rattle.std.proofs.Common.{sym, ap, ◌∙◌, subst}
 use Rattle.std.specs.Prelude.{take}
 use Rattle.af_base.specs.Places.{backlog_at}
 use Rattle.af_mark.specs.Marked.{is_marked}
-use Rattle.af_hold.specs.HoldingsView.{HoldingsView}
-use Rattle.af_pass.proofs.Spared.{marking_runs}
+use Rattle.af_collect.specs.HoldingsView.{HoldingsView}
+use Rattle.af_collect.proofs.Spared.{marking_runs}
 use Rattle.af_collect.specs.Shown.{KeepsPassWith}
 use Rattle.af_collect.proofs.Losing.{embryo_held, first_taken, kept_held, marked_there}
 use Rattle.af_collect.proofs.parts.Collector.shade_embryo.Goals as goal

@@ -4,8 +4,8 @@ use Rattle.af_base.specs.Places.{number_in, table_at}
 use Rattle.af_base.specs.Whole.{IsWhole}
 use Rattle.af_base.specs.World.{IsLive, Map, Process}
 use Rattle.af_mark.specs.Marked.{is_marked}
-use Rattle.af_hold.specs.HoldingsView.{HoldingsView}
-use Rattle.af_pass.specs.Keeping.{is_marking}
+use Rattle.af_collect.specs.HoldingsView.{HoldingsView}
+use Rattle.af_collect.specs.Keeping.{is_marking}
 use Rattle.af_collect.specs.Shown.{KeepsPassWith, with_marks}
 use Rattle.af_collect.specs.declared.parts.Collector.{Collector}
 use Rattle.af_collect.proofs.Losing.{kept_tabled, marked_next}

@@ -2,11 +2,11 @@ use Rattle.std.proofs.Common.{ℕ, ◌+◌, ap, nat_eq, sym, subst, ◌∙◌}
 use Rattle.af_base.specs.Pass.{emptied}
 use Rattle.af_base.specs.Unheld.{Settles}
 use Rattle.af_base.specs.World.{World}
-use Rattle.af_hold.specs.HoldingsView.{HoldingsView}
+use Rattle.af_collect.specs.HoldingsView.{HoldingsView}
 use Rattle.af_mark.specs.Marked.{Marked, is_marked}
-use Rattle.af_pass.specs.Keeping.{PassInvariant}
-use Rattle.af_pass.proofs.Keeping.{kept_swept, kept_swept_marked, swept_garbage}
-use Rattle.af_pass.proofs.Purging.{purged_none, purged_one}
+use Rattle.af_collect.specs.Keeping.{PassInvariant}
+use Rattle.af_collect.proofs.Keeping.{kept_swept, kept_swept_marked, swept_garbage}
+use Rattle.af_collect.proofs.Purging.{purged_none, purged_one}
 use Rattle.af_collect.specs.declared.parts.Collector.{Collector}
 use Rattle.af_collect.proofs.parts.Collector.sweep.Goals as goal
 

@@ -1,9 +1,9 @@
 use Rattle.std.proofs.Common.{◌≡◌, ◌<◌, ℕ, true, ap, sym, subst, ◌∙◌}
 use Rattle.af_base.specs.Reached.{IsGarbageCount}
-use Rattle.af_pass.specs.Purged.{ArePurged}
+use Rattle.af_collect.specs.Purged.{ArePurged}
 use Rattle.af_mark.specs.Marked.{Marked, is_marked, knows}
-use Rattle.af_pass.proofs.Keeping.{counted_all, none_marked}
-use Rattle.af_pass.proofs.Purging.{purged_none}
+use Rattle.af_collect.proofs.Keeping.{counted_all, none_marked}
+use Rattle.af_collect.proofs.Purging.{purged_none}
 use Rattle.af_collect.proofs.parts.Collector.unit.Goals as goal
 use Rattle.af_collect.proofs.parts.Collector.unit.Goals.{then-is_marking+else-units-gt0, else-is_marking}
 

@@ -1,8 +1,8 @@
 -- So far the pass runs, it looked at as many files as units were done, and it emptied at most as many.
 use Rattle.std.proofs.Common.{◌≡◌, ◌≤◌, ◌+◌, ◌-◌, true}
 use Rattle.af_base.specs.Whole.{IsSound}
-use Rattle.af_pass.specs.Keeping.{is_running}
-use Rattle.af_pass.specs.Purged.{ArePurged}
+use Rattle.af_collect.specs.Keeping.{is_running}
+use Rattle.af_collect.specs.Purged.{ArePurged}
 use Rattle.af_collect.specs.Shown.{KeepsPass}
 use Rattle.af_collect.proofs.parts.Collector.units.Given as goal
 

@@ -3,7 +3,7 @@ use Rattle.af_base.specs.Changes.{bound}
 use Rattle.af_base.specs.Names.{named}
 use Rattle.af_base.specs.World.{World}
 use Rattle.af_ledger.specs.Tally.{kept_of}
-use Rattle.af_hold.proofs.Altered.{exact-bound}
+use Rattle.af_collect.proofs.Altered.{exact-bound}
 use Rattle.af_collect.specs.contracts.holdings.Holdings.{the_view}
 use Rattle.af_collect.proofs.Standing.{BothInvariants, seen-world, stands-socket, stood}
 use Rattle.af_collect.proofs.store.Store.bind.Goals as goal

@@ -3,10 +3,10 @@ use Rattle.af_base.specs.declared.limits.TheConstants.{MAX_BUDGET}
 use Rattle.af_base.specs.World.{IsLive}
 use Rattle.af_base.specs.Reached.{Garbage, IsGarbageCount}
 use Rattle.af_base.specs.Whole.{IsSound}
-use Rattle.af_hold.specs.HoldingsView.{HoldingsView}
-use Rattle.af_pass.specs.Keeping.{is_running}
-use Rattle.af_pass.specs.Purged.{ArePurged}
-use Rattle.af_pass.proofs.Purging.{purged_join, purged_none, purged_whole}
+use Rattle.af_collect.specs.HoldingsView.{HoldingsView}
+use Rattle.af_collect.specs.Keeping.{is_running}
+use Rattle.af_collect.specs.Purged.{ArePurged}
+use Rattle.af_collect.proofs.Purging.{purged_join, purged_none, purged_whole}
 use Rattle.af_collect.specs.Collecting.{Collects}
 use Rattle.af_collect.specs.Shown.{Shown}
 use Rattle.af_collect.proofs.store.Store.collect.Goals as goal

@@ -2,8 +2,8 @@
 use Rattle.std.proofs.Common.{◌≡◌, ◌-◌, ◌*◌, ℕ, true}
 use Rattle.std.specs.FinMap as map
 use Rattle.af_base.specs.Whole.{IsSound}
-use Rattle.af_pass.specs.Keeping.{is_running}
-use Rattle.af_pass.specs.Purged.{ArePurged}
+use Rattle.af_collect.specs.Keeping.{is_running}
+use Rattle.af_collect.specs.Purged.{ArePurged}
 use Rattle.af_collect.specs.Shown.{KeepsPass}
 use Rattle.af_collect.proofs.store.Store.collect.Given as goal
 

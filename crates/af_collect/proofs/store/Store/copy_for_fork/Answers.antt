@@ -6,11 +6,11 @@ use Rattle.af_base.specs.Refusals.{is_at_process_limit}
 use Rattle.af_base.specs.World.{World}
 use Rattle.af_ledger.specs.Tally.{kept_of}
 use Rattle.af_mark.specs.Marked.{is_marked}
-use Rattle.af_hold.proofs.Exact.{world-is}
-use Rattle.af_hold.proofs.Joined.{joins-copy}
-use Rattle.af_pass.specs.Keeping.{below}
-use Rattle.af_pass.specs.Since.{Moves}
-use Rattle.af_pass.proofs.Placing.{covers_add_process, moves_fork}
+use Rattle.af_collect.proofs.Exact.{world-is}
+use Rattle.af_collect.proofs.Joined.{joins-copy}
+use Rattle.af_collect.specs.Keeping.{below}
+use Rattle.af_collect.specs.Since.{Moves}
+use Rattle.af_collect.proofs.Placing.{covers_add_process, moves_fork}
 use Rattle.af_collect.specs.contracts.holdings.Holdings.{the_view}
 use Rattle.af_collect.proofs.Placed.{kept_tables}
 use Rattle.af_collect.proofs.Standing.{BothInvariants, both-same, seen-world, stood}

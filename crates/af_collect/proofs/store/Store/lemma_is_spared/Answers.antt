@@ -1,7 +1,7 @@
 use Rattle.std.proofs.Common.{ℕ, subst}
 use Rattle.af_base.specs.Places.{InTable}
-use Rattle.af_pass.specs.Keeping.{Spares}
-use Rattle.af_pass.proofs.Spared.{tabled_spared}
+use Rattle.af_collect.specs.Keeping.{Spares}
+use Rattle.af_collect.proofs.Spared.{tabled_spared}
 use Rattle.af_collect.specs.Shown.{Shown}
 use Rattle.af_collect.proofs.store.Store.lemma_is_spared.Goals as goal
 

@@ -5,8 +5,8 @@ use Rattle.af_base.specs.Places.{table_at}
 use Rattle.af_base.specs.Refusals.{is_full}
 use Rattle.af_base.specs.World.{Plain, World}
 use Rattle.af_ledger.specs.Tally.{kept_of}
-use Rattle.af_hold.specs.Limits.{IsBelowLimit}
-use Rattle.af_hold.proofs.Exact.{exact-plain}
+use Rattle.af_collect.specs.Limits.{IsBelowLimit}
+use Rattle.af_collect.proofs.Exact.{exact-plain}
 use Rattle.af_collect.specs.contracts.holdings.Holdings.{the_view}
 use Rattle.af_collect.proofs.Made.{stands-made}
 use Rattle.af_collect.proofs.Standing.{BothInvariants, seen-world, stood}

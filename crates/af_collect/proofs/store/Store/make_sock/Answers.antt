@@ -6,8 +6,8 @@ use Rattle.af_base.specs.Refusals.{is_full}
 use Rattle.af_base.specs.Steps.{idle_socket}
 use Rattle.af_base.specs.World.{AsSocket, World}
 use Rattle.af_ledger.specs.Tally.{kept_of}
-use Rattle.af_hold.specs.Limits.{IsBelowLimit}
-use Rattle.af_hold.proofs.Altered.{exact-idle}
+use Rattle.af_collect.specs.Limits.{IsBelowLimit}
+use Rattle.af_collect.proofs.Altered.{exact-idle}
 use Rattle.af_collect.specs.contracts.holdings.Holdings.{the_view}
 use Rattle.af_collect.proofs.Made.{stands-made}
 use Rattle.af_collect.proofs.Standing.{BothInvariants, seen-world, stood}

@@ -5,12 +5,12 @@ use Rattle.af_base.specs.Changes.{install_all}
 use Rattle.af_base.specs.Refusals.{socket_at}
 use Rattle.af_base.specs.World.{World}
 use Rattle.af_ledger.specs.Tally.{kept_of}
-use Rattle.af_hold.specs.Receiving.{taken_at}
-use Rattle.af_hold.specs.HoldingsView.{filled}
-use Rattle.af_hold.proofs.Bounds.{tabled-most}
-use Rattle.af_hold.proofs.Exact.{exact-same, install-filled, world-is}
-use Rattle.af_hold.proofs.Receiving.{counted, exact-tabled, received-live, received_at, tabled}
-use Rattle.af_pass.specs.Keeping.{Spares}
+use Rattle.af_collect.specs.Receiving.{taken_at}
+use Rattle.af_collect.specs.HoldingsView.{filled}
+use Rattle.af_collect.proofs.Bounds.{tabled-most}
+use Rattle.af_collect.proofs.Exact.{exact-same, install-filled, world-is}
+use Rattle.af_collect.proofs.Receiving.{counted, exact-tabled, received-live, received_at, tabled}
+use Rattle.af_collect.specs.Keeping.{Spares}
 use Rattle.af_collect.specs.Shown.{Shown}
 use Rattle.af_collect.specs.contracts.holdings.Holdings.{the_view}
 use Rattle.af_collect.proofs.Placed.{kept_peeked}

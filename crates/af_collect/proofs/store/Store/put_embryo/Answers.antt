@@ -8,11 +8,11 @@ use Rattle.af_base.specs.World.{IsLive, World}
 use Rattle.af_desc.specs.FilesView.{changed}
 use Rattle.af_ledger.specs.Tally.{kept_of}
 use Rattle.af_mark.specs.Marked.{is_marked}
-use Rattle.af_hold.proofs.Connecting.{exact-queued}
-use Rattle.af_hold.proofs.Putting.{is-socket}
-use Rattle.af_pass.specs.Keeping.{Spares, below}
-use Rattle.af_pass.proofs.Sockets.{covers_queued, moves_queued}
-use Rattle.af_pass.proofs.Spared.{spared_running}
+use Rattle.af_collect.proofs.Connecting.{exact-queued}
+use Rattle.af_collect.proofs.Putting.{is-socket}
+use Rattle.af_collect.specs.Keeping.{Spares, below}
+use Rattle.af_collect.proofs.SocketChanges.{covers_queued, moves_queued}
+use Rattle.af_collect.proofs.Spared.{spared_running}
 use Rattle.af_collect.specs.Shown.{Shown}
 use Rattle.af_collect.specs.contracts.holdings.Holdings.{the_view}
 use Rattle.af_collect.proofs.Placed.{kept_socket}

@@ -7,12 +7,12 @@ use Rattle.af_ledger.specs.Tally.{CanHoldAll, held_all, kept_of}
 use Rattle.af_ledger.specs.declared.place.Place.TheVariants.{Queue}
 use Rattle.af_ledger.proofs.HeldAll.{users-held_all}
 use Rattle.af_mark.specs.Marked.{is_marked}
-use Rattle.af_hold.specs.HoldingsView.{HoldingsView}
-use Rattle.af_hold.proofs.Exact.{exact-same, world-is}
-use Rattle.af_hold.proofs.Putting.{can-put, exact-put}
-use Rattle.af_pass.specs.Keeping.{Spares, below}
-use Rattle.af_pass.proofs.Sockets.{covers_push, moves_push}
-use Rattle.af_pass.proofs.Spared.{spared_running}
+use Rattle.af_collect.specs.HoldingsView.{HoldingsView}
+use Rattle.af_collect.proofs.Exact.{exact-same, world-is}
+use Rattle.af_collect.proofs.Putting.{can-put, exact-put}
+use Rattle.af_collect.specs.Keeping.{Spares, below}
+use Rattle.af_collect.proofs.SocketChanges.{covers_push, moves_push}
+use Rattle.af_collect.proofs.Spared.{spared_running}
 use Rattle.af_collect.specs.Shown.{Shown}
 use Rattle.af_collect.specs.contracts.holdings.Holdings.{the_view}
 use Rattle.af_collect.proofs.Placed.{kept_socket}

@@ -6,10 +6,10 @@ use Rattle.af_base.specs.Changes.{remove_process}
 use Rattle.af_base.specs.Places.{table_at}
 use Rattle.af_ledger.specs.Tally.{kept_of}
 use Rattle.af_mark.specs.Marked.{is_marked}
-use Rattle.af_hold.specs.HoldingsView.{HoldingsView}
-use Rattle.af_hold.proofs.Exact.{exact-removed, exact-same, world-is}
-use Rattle.af_pass.specs.Keeping.{PassInvariant, below}
-use Rattle.af_pass.proofs.Placing.{covers_remove_process, moves_remove_process}
+use Rattle.af_collect.specs.HoldingsView.{HoldingsView}
+use Rattle.af_collect.proofs.Exact.{exact-removed, exact-same, world-is}
+use Rattle.af_collect.specs.Keeping.{PassInvariant, below}
+use Rattle.af_collect.proofs.Placing.{covers_remove_process, moves_remove_process}
 use Rattle.af_collect.specs.Shown.{KeepsPass, KeepsPassWith, MarksAll, with_marks}
 use Rattle.af_collect.specs.contracts.holdings.Holdings.{the_view}
 use Rattle.af_collect.specs.declared.holdings.Holdings.TheInside.{Inside}

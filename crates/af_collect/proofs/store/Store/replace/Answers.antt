@@ -13,15 +13,15 @@ use Rattle.af_ledger.specs.Counted.{IsCounted}
 use Rattle.af_ledger.specs.Tally.{Charged, Tally, count_in_map, dropped, held, kept_of}
 use Rattle.af_ledger.specs.declared.place.Place.TheVariants.{Table}
 use Rattle.af_mark.specs.Marked.{is_marked}
-use Rattle.af_hold.specs.Agreement.{Agrees, IsExact}
-use Rattle.af_hold.specs.Limits.{IsBelowLimit}
-use Rattle.af_hold.specs.HoldingsView.{HoldingsView}
-use Rattle.af_hold.proofs.Bounds.{can-drop-table, can-hold-table}
-use Rattle.af_hold.proofs.Exact.{world-is}
-use Rattle.af_hold.proofs.Replaced.{exact-replaced, exact-vacated}
-use Rattle.af_pass.specs.Keeping.{Spares, below, pass_of}
-use Rattle.af_pass.proofs.Placing.{covers_replace, moves_install}
-use Rattle.af_pass.proofs.Spared.{spared_running}
+use Rattle.af_collect.specs.Agreement.{Agrees, IsExact}
+use Rattle.af_collect.specs.Limits.{IsBelowLimit}
+use Rattle.af_collect.specs.HoldingsView.{HoldingsView}
+use Rattle.af_collect.proofs.Bounds.{can-drop-table, can-hold-table}
+use Rattle.af_collect.proofs.Exact.{world-is}
+use Rattle.af_collect.proofs.Replaced.{exact-replaced, exact-vacated}
+use Rattle.af_collect.specs.Keeping.{Spares, below, pass_of}
+use Rattle.af_collect.proofs.Placing.{covers_replace, moves_install}
+use Rattle.af_collect.proofs.Spared.{spared_running}
 use Rattle.af_collect.specs.Shown.{MarksAll, Shown}
 use Rattle.af_collect.specs.contracts.holdings.Holdings.{the_view}
 use Rattle.af_collect.specs.declared.parts.Collector.{Collector}

@@ -1,7 +1,7 @@
 use Rattle.std.proofs.Common.{refl}
 use Rattle.af_base.specs.Changes.{set_limit}
 use Rattle.af_ledger.specs.Tally.{kept_of}
-use Rattle.af_hold.proofs.Exact.{exact-limited, world-is}
+use Rattle.af_collect.proofs.Exact.{exact-limited, world-is}
 use Rattle.af_collect.specs.contracts.holdings.Holdings.{the_view}
 use Rattle.af_collect.proofs.Placed.{kept_limited}
 use Rattle.af_collect.proofs.Standing.{BothInvariants, both-same, stood}

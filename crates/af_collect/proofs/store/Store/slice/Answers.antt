@@ -1,8 +1,8 @@
 use Rattle.std.proofs.Common.{◌∙◌, ap, subst, sym}
 use Rattle.af_base.specs.declared.events.Reply.TheVariants as reply
 use Rattle.af_base.specs.Pass.{Idle, Slices}
-use Rattle.af_pass.proofs.Slicing.{slices_done}
-use Rattle.af_hold.specs.HoldingsView.{HoldingsView}
+use Rattle.af_collect.proofs.Slicing.{slices_done}
+use Rattle.af_collect.specs.HoldingsView.{HoldingsView}
 use Rattle.af_collect.specs.Shown.{Shown}
 use Rattle.af_collect.proofs.Passing.{seen_begun}
 use Rattle.af_collect.proofs.store.Store.slice.Goals as goal

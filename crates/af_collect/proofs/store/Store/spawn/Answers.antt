@@ -9,9 +9,9 @@ use Rattle.af_ledger.specs.Tally.{kept_of}
 use Rattle.af_ledger.proofs.Laws.{users-added}
 use Rattle.af_mark.specs.Marked.{is_marked}
 use Rattle.af_table.specs.Procs.{started}
-use Rattle.af_hold.proofs.Exact.{add-user-is, exact-spawned, world-is}
-use Rattle.af_pass.specs.Keeping.{below}
-use Rattle.af_pass.proofs.Placing.{covers_spawned, moves_spawned}
+use Rattle.af_collect.proofs.Exact.{add-user-is, exact-spawned, world-is}
+use Rattle.af_collect.specs.Keeping.{below}
+use Rattle.af_collect.proofs.Placing.{covers_spawned, moves_spawned}
 use Rattle.af_collect.specs.contracts.holdings.Holdings.{the_view}
 use Rattle.af_collect.proofs.Placed.{files_spawned, kept_tables}
 use Rattle.af_collect.proofs.Standing.{BothInvariants, both-same, seen-world, stood}

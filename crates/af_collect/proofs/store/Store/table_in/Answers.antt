@@ -10,12 +10,12 @@ use Rattle.af_base.proofs.Stepped.{process-there}
 use Rattle.af_base.proofs.Within.{below-most}
 use Rattle.af_ledger.specs.Tally.{kept_of}
 use Rattle.af_mark.specs.Marked.{is_marked}
-use Rattle.af_hold.specs.Limits.{IsBelowLimit}
-use Rattle.af_hold.proofs.Bounds.{can-hold-table}
-use Rattle.af_hold.proofs.Exact.{exact-install, world-is}
-use Rattle.af_pass.specs.Keeping.{Spares, below}
-use Rattle.af_pass.proofs.Placing.{covers_install, moves_install}
-use Rattle.af_pass.proofs.Spared.{spared_running}
+use Rattle.af_collect.specs.Limits.{IsBelowLimit}
+use Rattle.af_collect.proofs.Bounds.{can-hold-table}
+use Rattle.af_collect.proofs.Exact.{exact-install, world-is}
+use Rattle.af_collect.specs.Keeping.{Spares, below}
+use Rattle.af_collect.proofs.Placing.{covers_install, moves_install}
+use Rattle.af_collect.proofs.Spared.{spared_running}
 use Rattle.af_collect.specs.Shown.{Shown}
 use Rattle.af_collect.specs.contracts.holdings.Holdings.{the_view}
 use Rattle.af_collect.proofs.Placed.{kept_tables}

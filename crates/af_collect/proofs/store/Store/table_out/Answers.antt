@@ -4,11 +4,11 @@ use Rattle.af_base.specs.Changes.{uninstall}
 use Rattle.af_base.specs.Places.{table_at}
 use Rattle.af_ledger.specs.Tally.{kept_of}
 use Rattle.af_mark.specs.Marked.{is_marked}
-use Rattle.af_hold.specs.HoldingsView.{HoldingsView}
-use Rattle.af_hold.proofs.Bounds.{can-drop-table}
-use Rattle.af_hold.proofs.Exact.{exact-uninstall, world-is}
-use Rattle.af_pass.specs.Keeping.{below}
-use Rattle.af_pass.proofs.Placing.{covers_uninstall, moves_uninstall}
+use Rattle.af_collect.specs.HoldingsView.{HoldingsView}
+use Rattle.af_collect.proofs.Bounds.{can-drop-table}
+use Rattle.af_collect.proofs.Exact.{exact-uninstall, world-is}
+use Rattle.af_collect.specs.Keeping.{below}
+use Rattle.af_collect.proofs.Placing.{covers_uninstall, moves_uninstall}
 use Rattle.af_collect.specs.Shown.{MarksAll}
 use Rattle.af_collect.specs.contracts.holdings.Holdings.{the_view}
 use Rattle.af_collect.specs.declared.parts.Collector.{Collector}

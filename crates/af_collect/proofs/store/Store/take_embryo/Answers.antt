@@ -14,15 +14,15 @@ use Rattle.af_ledger.specs.Counted.{IsCountable, IsCounted}
 use Rattle.af_ledger.specs.Tally.{count_in_map, kept_of}
 use Rattle.af_ledger.specs.declared.place.Place.TheVariants.{Backlog, Table}
 use Rattle.af_mark.specs.Marked.{is_marked}
-use Rattle.af_hold.specs.Limits.{IsBelowLimit}
-use Rattle.af_hold.specs.HoldingsView.{HoldingsView}
-use Rattle.af_hold.proofs.Accepting.{can-drop-first, embryo-taken, exact-accepted, live-first}
-use Rattle.af_hold.proofs.Bounds.{can-hold-table}
-use Rattle.af_hold.proofs.Exact.{world-is}
-use Rattle.af_pass.specs.Keeping.{Spares, below, is_running, pass_of}
-use Rattle.af_pass.proofs.Placing.{covers_install, moves_install}
-use Rattle.af_pass.proofs.Sockets.{covers_dequeued, moves_dequeued}
-use Rattle.af_pass.proofs.Spared.{held_spared, marking_runs, spared_running}
+use Rattle.af_collect.specs.Limits.{IsBelowLimit}
+use Rattle.af_collect.specs.HoldingsView.{HoldingsView}
+use Rattle.af_collect.proofs.Accepting.{can-drop-first, embryo-taken, exact-accepted, live-first}
+use Rattle.af_collect.proofs.Bounds.{can-hold-table}
+use Rattle.af_collect.proofs.Exact.{world-is}
+use Rattle.af_collect.specs.Keeping.{Spares, below, is_running, pass_of}
+use Rattle.af_collect.proofs.Placing.{covers_install, moves_install}
+use Rattle.af_collect.proofs.SocketChanges.{covers_dequeued, moves_dequeued}
+use Rattle.af_collect.proofs.Spared.{held_spared, marking_runs, spared_running}
 use Rattle.af_collect.specs.Shown.{MarksAll, Shown}
 use Rattle.af_collect.specs.contracts.holdings.Holdings.{the_view}
 use Rattle.af_collect.specs.declared.parts.Collector.{Collector}

@@ -10,13 +10,13 @@ use Rattle.af_desc.specs.FilesView.{received_from}
 use Rattle.af_ledger.specs.Tally.{CanDropAll, count_in_map, dropped_all, kept_of}
 use Rattle.af_ledger.specs.declared.place.Place.TheVariants.{Queue}
 use Rattle.af_ledger.proofs.HeldAll.{users-dropped_all}
-use Rattle.af_hold.specs.Receiving.{taken_at}
-use Rattle.af_hold.specs.HoldingsView.{filled}
-use Rattle.af_hold.proofs.Bounds.{tabled-most}
-use Rattle.af_hold.proofs.Exact.{exact-same, install-filled, users-filled, world-is}
-use Rattle.af_hold.proofs.Receiving.{can-drop-received, counted, exact-received, received-live, received_at, tabled}
-use Rattle.af_hold.proofs.Taken.{taken_queue}
-use Rattle.af_pass.specs.Keeping.{Spares, shaded_in}
+use Rattle.af_collect.specs.Receiving.{taken_at}
+use Rattle.af_collect.specs.HoldingsView.{filled}
+use Rattle.af_collect.proofs.Bounds.{tabled-most}
+use Rattle.af_collect.proofs.Exact.{exact-same, install-filled, users-filled, world-is}
+use Rattle.af_collect.proofs.Receiving.{can-drop-received, counted, exact-received, received-live, received_at, tabled}
+use Rattle.af_collect.proofs.Taken.{taken_queue}
+use Rattle.af_collect.specs.Keeping.{Spares, shaded_in}
 use Rattle.af_collect.specs.Shown.{Shown}
 use Rattle.af_collect.specs.contracts.holdings.Holdings.{the_view}
 use Rattle.af_collect.proofs.Placed.{kept_taken}

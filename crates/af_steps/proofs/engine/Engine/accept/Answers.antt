@@ -8,7 +8,7 @@ use Rattle.af_base.specs.Places.{backlog_at}
 use Rattle.af_base.specs.Steps.{first_embryo}
 use Rattle.af_base.specs.World.{World}
 use Rattle.af_collect.specs.Shown.{Shown}
-use Rattle.af_pass.specs.Keeping.{Spares}
+use Rattle.af_collect.specs.Keeping.{Spares}
 use Rattle.af_steps.proofs.Connected.{accept-fits, first-waits}
 use Rattle.af_steps.specs.Found.{HasSocket}
 use Rattle.af_base.proofs.Stepped.{goes-on, passes-on}

@@ -5,7 +5,7 @@ use Rattle.af_base.specs.Pass.{Machine}
 use Rattle.af_base.specs.Places.{InTable}
 use Rattle.af_base.specs.Unheld.{Settles}
 use Rattle.af_base.specs.World.{IsLive, Message}
-use Rattle.af_pass.specs.Keeping.{Spares}
+use Rattle.af_collect.specs.Keeping.{Spares}
 use Rattle.af_collect.specs.Shown.{Shown}
 use Rattle.af_steps.proofs.engine.Engine.commit_send.Goals as goal
 

@@ -1,6 +1,6 @@
 use Rattle.std.proofs.Common.{rules, sym, ap, subst, arith, ◌∙◌, ◌∷◌, []}
 use Rattle.af_base.specs.World.{IsLive, World}
-use Rattle.af_pass.specs.Keeping.{Spares}
+use Rattle.af_collect.specs.Keeping.{Spares}
 use Rattle.af_steps.specs.Found.{HasNumber}
 use Rattle.af_steps.proofs.Found.{below-limit, held, in-same, is-free, is-there, room-below, after-number}
 use Rattle.af_steps.proofs.Numbers.{IsLowest, least-low, not-open, none-free}

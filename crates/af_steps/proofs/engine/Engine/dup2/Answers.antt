@@ -8,7 +8,7 @@ use Rattle.af_base.specs.Changes.{install}
 use Rattle.af_base.specs.Refusals.{first_fit, ino_on, on_place, refusal}
 use Rattle.af_base.specs.World.{IsLive, World}
 use Rattle.af_collect.specs.Shown.{Shown}
-use Rattle.af_pass.specs.Keeping.{Spares}
+use Rattle.af_collect.specs.Keeping.{Spares}
 use Rattle.af_steps.specs.Found.{HasNumber}
 use Rattle.af_steps.proofs.Found.{after-number, below-limit, held, in-same, ino-is, is-there}
 use Rattle.af_steps.proofs.Outcomes.{does, does-nothing}

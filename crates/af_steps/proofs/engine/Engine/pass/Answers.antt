@@ -3,7 +3,7 @@ use Rattle.std.proofs.lemmas.Bool.{false≢true}
 use Rattle.af_base.specs.declared.events.Reply.{Reply}
 use Rattle.af_base.specs.declared.events.Reply.TheVariants as reply
 use Rattle.af_base.specs.Pass.{Idle, Machine, Pass, Passes, PassesWhole, Running, next_pass}
-use Rattle.af_pass.specs.Keeping.{runs}
+use Rattle.af_collect.specs.Keeping.{runs}
 use Rattle.af_steps.proofs.engine.Engine.pass.Goals as goal
 
 -- Where no pass runs, one is made whole.

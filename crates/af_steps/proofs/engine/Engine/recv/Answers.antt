@@ -1,5 +1,5 @@
 use Rattle.std.proofs.Common.{rules, length, sym, ap, ◌∙◌, subst, arith}
-use Rattle.af_pass.specs.Keeping.{Spares}
+use Rattle.af_collect.specs.Keeping.{Spares}
 use Rattle.af_steps.specs.Found.{HasSocket}
 use Rattle.af_steps.proofs.Found.{held, after-socket, no-socket}
 use Rattle.af_steps.proofs.Numbers.{numbers-below}

@@ -1,0 +1,277 @@
+-- A store stays exact, whatever changes in its world and in its ledger at once.
+use Rattle.std.proofs.Common.{◌≡◌, ◌<◌, ◌≤◌, ℕ, zero, suc, ◌+◌, Bool, true, false, not, List, [], ◌∷◌, ◌++◌, drop, length, refl, sym, ap, ◌∙◌, subst, cond, map, nat_eq, arith}
+use Rattle.std.specs.Prelude.{Option, Some, None, IfNone, IfSome, IsTrue, is_some, unwrap_or, if◌then◌else◌}
+use Rattle.std.specs.Cmp.{nat_cmp_total, unsigned_tied}
+use Rattle.std.specs.FinMap as finmap
+use Rattle.std.specs.Map.{keys_of}
+use Rattle.std.specs.List.{Contains, list_any, zip}
+use Rattle.std.specs.Option.{option_map_or}
+use Rattle.std.specs.Ordering.{nat_cmp}
+use Rattle.std.proofs.lemmas.Bool.{eqb-true, false≢true}
+use Rattle.af_base.specs.declared.events.SockType.{SockType}
+use Rattle.af_base.specs.declared.limits.TheConstants.{MAX_INFLIGHT, MAX_MESSAGES, MAX_NOFILE}
+use Rattle.af_base.specs.World.{AsSocket, File, IsLive, Map, Message, Plain, Process, Socket, World, empty_world, is_live}
+use Rattle.af_base.specs.Places.{contents, queue_of, table_at}
+use Rattle.af_base.specs.Counts.{refs, total}
+use Rattle.af_base.specs.Changes.{add_file, add_process, add_user, dequeued, install, install_all, push_message, pushed, remove_process, set_limit, uninstall, with_queue, with_socket}
+use Rattle.af_base.specs.Refusals.{is_at_process_limit, is_full}
+use Rattle.af_base.specs.Steps.{connected_socket, spawned, with_pair}
+use Rattle.af_base.specs.Unheld.{without}
+use Rattle.af_base.specs.Whole.{IsMessageWithin, IsSound, IsWhole, IsWithin}
+use Rattle.af_base.proofs.Born.{fresh_file, whole-spawned}
+use Rattle.af_base.proofs.Connections.{live-embryo, whole-accepted, within-accepted}
+use Rattle.af_base.proofs.Elements.{Contains-first, Contains-later}
+use Rattle.af_base.proofs.Ended.{whole-remove_process, within-remove_process}
+use Rattle.af_base.proofs.Free.{AreFree, first-free, first-low, rest-free}
+use Rattle.af_base.proofs.Limited.{whole-limited, within-limited}
+use Rattle.af_base.proofs.Lookups.{insert-other, itself, not_same, told_apart}
+use Rattle.af_base.proofs.Moved.{live-changed, there-install}
+use Rattle.af_base.proofs.Opened.{whole-plain, within-plain}
+use Rattle.af_base.proofs.Pairs.{whole-pair}
+use Rattle.af_base.proofs.Placed.{settled-counted}
+use Rattle.af_base.proofs.Settling.{live-without}
+use Rattle.af_base.proofs.Sound.{fresh_sound}
+use Rattle.af_base.proofs.Whole.{whole-install, whole-left, whole-push, whole-uninstall, whole-unheld}
+use Rattle.af_base.proofs.Within.{below-most, within-install, within-left, within-pair, within-push, within-spawned, within-uninstall, within-without}
+use Rattle.af_ledger.specs.Counted.{places_in, uncounted}
+use Rattle.af_ledger.specs.Tally.{Tally, dropped, dropped_all, has_count, held, held_all, is_user, is_waiting, with_user}
+use Rattle.af_ledger.specs.declared.count.Count.{Count}
+use Rattle.af_ledger.specs.declared.place.Place.TheVariants.{Backlog, Queue, Table}
+use Rattle.af_ledger.proofs.HeldAll.{has-dropped_all, has-held_all}
+use Rattle.af_ledger.proofs.Laws.{has-dropped, has-entered, has-held, has-struck, users-held}
+use Rattle.af_collect.specs.Agreement.{IsExact}
+use Rattle.af_collect.specs.HoldingsView.{filled}
+use Rattle.af_collect.proofs.Agreement.{agrees-dequeued, agrees-empty, agrees-entered, agrees-gone, agrees-install, agrees-limited, agrees-new_file, agrees-push, agrees-refs, agrees-remove_process, agrees-shed, agrees-spawned, agrees-struck, agrees-uninstall}
+use Rattle.af_collect.proofs.Bounds.{can-drop-all}
+use Rattle.af_collect.proofs.Sheds.{Sheds}
+
+-- Two worlds with the same parts are one.
+pub world-is : (v w : World) → v.processes ≡ w.processes → v.files ≡ w.files → v.next_ino ≡ w.next_ino → v.next_pid ≡ w.next_pid → v.users ≡ w.users → v ≡ w
+world-is v w processes files next_ino next_pid users = λ i. record { processes = processes i; files = files i; next_ino = next_ino i; next_pid = next_pid i; users = users i }
+
+-- A fact of a world and of counts is one of their equals.
+pub exact-same : (v w : World) (k l : Tally) → v ≡ w → k ≡ l → IsExact w l → IsExact v k
+exact-same v w k l world numbers h = subst (λ x. IsExact x k) (sym world) (subst (IsExact w) (sym numbers) h)
+
+-- The world with a process more, whose table is empty.
+abbrev started : World → ℕ → ℕ → Bool → World
+started w uid nofile privileged = add_process w (record { user = uid; limit = nofile; privileged = privileged; table = finmap.empty })
+
+-- A process that starts.
+pub exact-spawned : (w : World) (uid nofile : ℕ) (privileged : Bool) (k : Tally) → is_at_process_limit w ≡ false → nofile ≤ MAX_NOFILE → IsExact w k → IsExact (spawned w uid nofile privileged) (record k { users = with_user uid k.users })
+exact-spawned w uid nofile privileged k room low h = record {
+  whole = whole-spawned w uid nofile privileged h.whole;
+  within = within-spawned w uid nofile privileged h.within room low;
+  agrees = agrees-spawned w uid nofile privileged k h.whole h.agrees;
+  counted = λ f. h.counted f ∙ by f (list_any (nat_eq uid) w.users);
+} where
+  by : (f : ℕ) (b : Bool) → is_live w f ≡ is_live (if b then started w uid nofile privileged else record (started w uid nofile privileged) { users = w.users ++ uid ∷ [] }) f
+  by f true = refl
+  by f false = refl
+
+-- A process with another limit.
+pub exact-limited : (w : World) (p n : ℕ) (k : Tally) → n ≤ MAX_NOFILE → IsExact w k → IsExact (set_limit w p n) k
+exact-limited w p n k low h = record {
+  whole = whole-limited w p n h.whole;
+  within = within-limited w p n h.within low;
+  agrees = agrees-limited w p n k h.agrees;
+  counted = h.counted;
+}
+
+-- A process that ends with an empty table.
+pub exact-removed : (w : World) (p : ℕ) (k : Tally) → ((n : ℕ) → table_at w p n ≡ None) → IsExact w k → IsExact (remove_process w p) k
+exact-removed w p k empty h = record {
+  whole = whole-remove_process w p h.whole;
+  within = within-remove_process w p h.within;
+  agrees = agrees-remove_process w p k empty h.agrees;
+  counted = h.counted;
+}
+
+-- A free number taken into use for a live file.
+pub exact-install : (w : World) (p n f : ℕ) (q : Process) (k : Tally) → finmap.get w.processes p ≡ Some q → finmap.get q.table n ≡ None → n < MAX_NOFILE → IsLive w f → IsExact w k → IsExact (install w p n f) (held Table f k)
+exact-install w p n f q k at free low live h = record {
+  whole = whole-install w p n f h.whole live;
+  within = within-install w p n f h.within low;
+  agrees = agrees-install w p n f q k at free h.agrees;
+  counted = λ g. has-held Table f g k (h.counted f ∙ live) ∙ h.counted g;
+}
+
+-- A number given up.
+pub exact-uninstall : (w : World) (p n f : ℕ) (k : Tally) → table_at w p n ≡ Some f → IsExact w k → IsExact (uninstall w p n) (dropped Table f k)
+exact-uninstall w p n f k is h = record {
+  whole = whole-uninstall w p n h.whole;
+  within = within-uninstall w p n h.within;
+  agrees = agrees-uninstall w p n f k is h.agrees;
+  counted = λ g. has-dropped Table f g k (h.counted f ∙ h.whole.tables_live f (p, n, is)) ∙ h.counted g;
+}
+
+-- A message put into a queue.
+pub exact-push : (w : World) (s : ℕ) (m : Message) (x : Socket) (k : Tally) → finmap.get w.files s ≡ Some (AsSocket x) → IsTrue (is_user m.user k.users) → ((f : ℕ) → Contains m.attached f → IsLive w f) → IsMessageWithin m → length x.queue < MAX_MESSAGES
+    → total w + length m.attached ≤ MAX_INFLIGHT → IsExact w k → IsExact (push_message w s m) (held_all (Queue m.user) m.attached k)
+exact-push w s m x k at user live fits room flying h = record {
+  whole = whole-push w s m h.whole live;
+  within = within-push w s m x h.within at fits room flying;
+  agrees = agrees-push w s m x k at user h.agrees;
+  counted = λ g. has-held_all m.user g m.attached k (λ f c. h.counted f ∙ live f c) ∙ h.counted g ∙ sym (live-changed w s (pushed m) g);
+}
+
+-- A message is taken out of a queue.
+pub exact-shed : (w : World) (s : ℕ) (m : Message) (rest : List Message) (x : Socket) (k : Tally) → finmap.get w.files s ≡ Some (AsSocket x) → Sheds x.queue m rest → IsExact w k → IsExact (with_queue w s rest) (dropped_all (Queue m.user) m.attached k)
+exact-shed w s m rest x k at shed h =
+    let can = can-drop-all w s m rest x k at shed h.agrees in
+    record {
+      whole = whole-left w s x m.attached rest h.whole at shed.leaves;
+      within = within-left w s x m.attached rest h.within at shed.leaves;
+      agrees = agrees-shed w s m rest x k at shed can h.agrees;
+      counted = λ g. has-dropped_all m.user g m.attached k can ∙ h.counted g ∙ sym (live-changed w s (λ y. record y { queue = rest }) g);
+    }
+
+-- The first embryo leaves a backlog.
+pub exact-dequeued : (w : World) (s f : ℕ) (x : Socket) (k : Tally) → finmap.get w.files s ≡ Some (AsSocket x) → x.backlog ≡ f ∷ drop 1 x.backlog → IsExact w k → IsExact (with_socket w s dequeued) (dropped Backlog f k)
+exact-dequeued w s f x k at first h =
+    let live = live-embryo w s f x h.whole at (subst (λ xs. Contains xs f) (sym first) (Contains-first f (drop 1 x.backlog))) in
+    record {
+      whole = whole-accepted w s x at h.whole;
+      within = within-accepted w s x h.within at;
+      agrees = agrees-dequeued w s f x k at first h.agrees;
+      counted = λ g. has-dropped Backlog f g k (h.counted f ∙ live) ∙ h.counted g ∙ sym (live-changed w s dequeued g);
+    }
+
+-- An unheld and empty file is freed.
+pub exact-gone : (w : World) (f : ℕ) (x : File) (k : Tally) → finmap.get w.files f ≡ Some x → contents x ≡ [] → queue_of x ≡ [] → refs w f ≡ 0 → IsExact w k → IsExact (without (nat_eq f) w) (record k { counts = finmap.remove k.counts f })
+exact-gone w f x k is bare silent none h = record {
+  whole = whole-unheld w f none h.whole;
+  within = within-without w f h.within;
+  agrees = agrees-struck (without (nat_eq f) w) f k (agrees-refs w k h.agrees f ∙ none) (agrees-gone w f x k is bare silent h.agrees);
+  counted = λ g. has-struck k f g ∙ by g (nat_eq g f) refl ∙ sym (live-without (nat_eq f) w g);
+} where
+  by : (g : ℕ) (b : Bool) → nat_eq g f ≡ b → cond b false (has_count k g) ≡ cond (not (nat_eq f g)) (is_live w g) false
+  by g true e = sym (ap (λ c. cond (not c) (is_live w g) false) (ap (nat_eq f) (eqb-true g f e) ∙ itself f))
+  by g false e = h.counted g ∙ sym (ap (λ c. cond (not c) (is_live w g) false) (told_apart f g (λ same. not_same g f e (sym same))))
+
+-- The live files with one more.
+pub live-added : (w : World) (x : File) (g : ℕ) → is_live (add_file w x) g ≡ cond (nat_eq g w.next_ino) true (is_live w g)
+live-added w x g = ap is_some (finmap.get-insert nat_cmp_total w.files w.next_ino x g ∙ ap (λ b. cond b (Some x) (finmap.get w.files g)) (unsigned_tied g w.next_ino)) ∙ by (nat_eq g w.next_ino) where
+  by : (b : Bool) → is_some (cond b (Some x) (finmap.get w.files g)) ≡ cond b true (is_live w g)
+  by true = refl
+  by false = refl
+
+-- A file with the next number is new to the ledger.
+pub next-new : (w : World) (k : Tally) (f : ℕ) → IsExact w k → w.next_ino ≤ f → has_count k f ≡ false
+next-new w k f h low = h.counted f ∙ ap is_some (fresh_file w f h.whole low)
+
+-- A file more that holds nothing, which waits.
+pub exact-made : (w : World) (x : File) (k : Tally) → contents x ≡ [] → queue_of x ≡ [] → IsWhole (add_file w x) → IsWithin (add_file w x) → IsExact w k
+    → IsExact (add_file w x) (record k { counts = finmap.insert k.counts w.next_ino uncounted })
+exact-made w x k empty silent whole within h = record {
+  whole = whole;
+  within = within;
+  agrees = agrees-entered (add_file w x) w.next_ino k (next-new w k w.next_ino h (omega arith)) (agrees-new_file w x k (fresh_file w w.next_ino h.whole (omega arith)) empty silent h.agrees);
+  counted = λ g. has-entered k w.next_ino g ∙ ap (cond (nat_eq g w.next_ino) true) (h.counted g) ∙ sym (live-added w x g);
+}
+
+-- A plain file more, which waits.
+pub exact-plain : (w : World) (k : Tally) → is_full w 1 ≡ false → IsExact w k → IsExact (add_file w Plain) (record k { counts = finmap.insert k.counts w.next_ino uncounted })
+exact-plain w k fits h = exact-made w Plain k refl refl (whole-plain w h.whole) (within-plain w h.within fits) h
+
+-- The second of two files with the next numbers is new to the ledger when the first was entered.
+second-stranger : (w : World) (k : Tally) → IsExact w k → has_count (record k { counts = finmap.insert k.counts w.next_ino uncounted }) (w.next_ino + 1) ≡ false
+second-stranger w k h =
+    has-entered k w.next_ino (w.next_ino + 1) ∙ ap (λ c. cond c true (has_count k (w.next_ino + 1))) (told_apart (w.next_ino + 1) w.next_ino (λ e. omega (arith, e))) ∙ next-new w k (w.next_ino + 1) h (omega arith)
+
+-- Two sockets more, connected to each other, which wait.
+pub exact-pair : (w : World) (kind : SockType) (k : Tally) → is_full w 2 ≡ false → IsExact w k
+    → IsExact (with_pair w kind) (record k { counts = finmap.insert (finmap.insert k.counts w.next_ino uncounted) (w.next_ino + 1) uncounted })
+exact-pair w kind k fits h =
+    let a = w.next_ino in
+    let b = w.next_ino + 1 in
+    let first = AsSocket (connected_socket kind b) in
+    let second = AsSocket (connected_socket kind a) in
+    let new : finmap.get w.files a ≡ None = fresh_file w a h.whole (omega arith) in
+    let other : finmap.get (add_file w first).files b ≡ None = insert-other w.files a first b (told_apart b a (λ e. omega (arith, e))) ∙ fresh_file w b h.whole (omega arith) in
+    let one : Tally = record k { counts = finmap.insert k.counts a uncounted } in
+    let both = agrees-new_file (add_file w first) second k other refl refl (agrees-new_file w first k new refl refl h.agrees) in
+    record {
+      whole = whole-pair w kind h.whole;
+      within = within-pair w kind h.within fits;
+      agrees = agrees-entered (with_pair w kind) b one (second-stranger w k h) (agrees-entered (with_pair w kind) a k (next-new w k a h (omega arith)) both);
+      counted = λ g. has-entered one b g ∙ ap (cond (nat_eq g b) true) (has-entered k a g ∙ ap (cond (nat_eq g a) true) (h.counted g))
+          ∙ sym (live-added (add_file w first) second g ∙ ap (cond (nat_eq g b) true) (live-added w first g));
+    }
+
+-- Free numbers taken into use for live files, one after the other.
+pub exact-install_all : (w : World) (p : ℕ) (q : Process) (ns fs : List ℕ) (k : Tally) → finmap.get w.processes p ≡ Some q → AreFree q ns → ((f : ℕ) → Contains fs f → IsLive w f) → IsExact w k
+    → IsExact (install_all w p (zip ns fs)) (held_all Table (map (λ e. e.1) (zip ns fs)) k)
+exact-install_all w p q [] fs k at free live h = h
+exact-install_all w p q (n ∷ ns) [] k at free live h = h
+exact-install_all w p q (n ∷ ns) (f ∷ fs) k at free live h =
+    exact-install_all (install w p n f) p (record q { table = finmap.insert q.table n f }) ns fs (held Table f k) (there-install w p n f q at) (rest-free q n ns f free) (λ g c. live g (Contains-later f fs g c))
+    (exact-install w p n f q k at (first-free q n ns free) (below-most w p n q h.within at (first-low q n ns free)) (live f (Contains-first f fs)) h)
+
+-- Files that are put into a table change the processes alone.
+pub install-filled : (w : World) (p : ℕ) (es : List (ℕ × ℕ)) → install_all w p es ≡ record w { processes = filled w.processes p es }
+install-filled w p [] = refl
+install-filled w p (e ∷ es) = install-filled (install w p e.0 e.1) p es
+
+-- The same, said of the processes.
+pub exact-filled : (w : World) (p : ℕ) (q : Process) (ns fs : List ℕ) (k : Tally) → finmap.get w.processes p ≡ Some q → AreFree q ns → ((f : ℕ) → Contains fs f → IsLive w f) → IsExact w k
+    → IsExact (record w { processes = filled w.processes p (zip ns fs) }) (held_all Table (map (λ e. e.1) (zip ns fs)) k)
+exact-filled w p q ns fs k at free live h = subst (λ v. IsExact v (held_all Table (map (λ e. e.1) (zip ns fs)) k)) (install-filled w p (zip ns fs)) (exact-install_all w p q ns fs k at free live h)
+
+-- Files that are put into a table leave the users.
+pub users-filled : (fs : List ℕ) (k : Tally) → keys_of (held_all Table fs k).users ≡ keys_of k.users
+users-filled [] k = refl
+users-filled (f ∷ fs) k = users-filled fs (held Table f k) ∙ users-held Table f k
+
+-- A store whose live files all have a place is sound.
+pub exact-sound : (w : World) (k : Tally) → IsExact w k → ((f : ℕ) → IsLive w f → 0 < refs w f) → IsSound w
+exact-sound w k h some = record { whole = h.whole; within = h.within; settled = settled-counted w some }
+
+-- A store that has nothing.
+pub exact-empty : (k : Tally) → k.counts ≡ finmap.empty → k.users ≡ [] → k.total ≡ 0 → IsExact empty_world k
+exact-empty k counts users total = record {
+  whole = fresh_sound.whole;
+  within = fresh_sound.within;
+  agrees = agrees-empty k counts users total;
+  counted = λ f. ap (λ (m : Map Count). is_some (finmap.get m f)) counts ∙ ap is_some (finmap.get-empty nat_cmp f) ∙ sym (ap is_some (finmap.get-empty nat_cmp f));
+}
+
+-- A user more, as the list of users has it.
+pub add-user-is : (w : World) (u : ℕ) (us : List ℕ) → us ≡ (if list_any (nat_eq u) w.users then w.users else w.users ++ u ∷ []) → record w { users = us } ≡ add_user w u
+add-user-is w u us e = by (list_any (nat_eq u) w.users) e where
+  by : (b : Bool) → us ≡ (if b then w.users else w.users ++ u ∷ []) → record w { users = us } ≡ (if b then w else record w { users = w.users ++ u ∷ [] })
+  by true same = ap (λ l. record w { users = l }) same
+  by false more = ap (λ l. record w { users = l }) more
+
+-- A file that waits is live, and no place holds it.
+pub waits-unheld : (w : World) (k : Tally) (f : ℕ) → IsExact w k → is_waiting k.counts f ≡ true → IsLive w f × (refs w f ≡ 0)
+waits-unheld w k f h waits =
+    let told = by (finmap.get k.counts f) waits in
+    (sym (h.counted f) ∙ told.0, sym (agrees-refs w k h.agrees f) ∙ told.1) where
+      by : (o : Option Count) → option_map_or (λ c. nat_eq (places_in c) 0) o false ≡ true → (is_some o ≡ true) × (places_in (unwrap_or o uncounted) ≡ 0)
+      by None e = absurd (false≢true e)
+      by (Some c) e = (refl, eqb-true (places_in c) 0 e)
+
+-- Where none waits, all is sound.
+pub none-waits : (w : World) (k : Tally) → IsExact w k → ((f : ℕ) → is_waiting k.counts f ≡ false) → IsSound w
+none-waits w k h none = exact-sound w k h (λ f live.
+    let some = by f (finmap.get k.counts f) (h.counted f ∙ live) (none f) in
+    let same = agrees-refs w k h.agrees f in
+    omega (arith, some, same)) where
+      positive : (n : ℕ) → nat_eq n 0 ≡ false → 0 < n
+      positive zero e = absurd (false≢true (sym e))
+      positive (suc n) e = omega arith
+
+      by : (f : ℕ) (o : Option Count) → is_some o ≡ true → option_map_or (λ c. nat_eq (places_in c) 0) o false ≡ false → 0 < places_in (unwrap_or o uncounted)
+      by f None e d = absurd (false≢true e)
+      by f (Some c) e d = positive (places_in c) d
+
+-- A fact of a file that was found follows.
+pub on-some : {X : Type 0} (o : Option X) {P Q : X → Type 0} → ((x : X) → P x → Q x) → IfSome o P → IfSome o Q
+on-some (Some x) f p = f x p
+on-some None f p = tt
+
+-- And where none was found.
+pub on-none : {X : Type 0} (o : Option X) {P Q : Type 0} → (P → Q) → IfNone o P → IfNone o Q
+on-none (Some x) f p = tt
+on-none None f p = f p

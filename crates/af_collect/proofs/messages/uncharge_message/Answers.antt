@@ -1,0 +1,35 @@
+use Rattle.std.proofs.Common.{◌≡◌, arith, take, sym, ap, ◌∙◌, subst}
+use Rattle.std.specs.FinMap as map
+use Rattle.std.proofs.lemmas.List.{take_all}
+use Rattle.af_desc.specs.FilesView.{FilesView}
+use Rattle.af_ledger.specs.Counted.{IsCounted, fewer}
+use Rattle.af_ledger.specs.Tally.{Tally, count_in_map, dropped_all, kept_of}
+use Rattle.af_ledger.specs.declared.place.Place.TheVariants.{Queue}
+use Rattle.af_ledger.proofs.HeldAll.{freed-dropped_all, dropped-more, drop-next}
+use Rattle.af_collect.proofs.messages.uncharge_message.Goals as goal
+
+pub drop_one-requires : goal.drop_one-requires
+drop_one-requires c = subst (λ m. IsCounted (Queue c.args.user) (count_in_map m c.file-item.result)) (sym c.loop-file.invariant.counts) (drop-next c.args.user c.args.attached.now c.loop-file.file-index c.file-item.result (kept_of c.args.files.now.counts c.args.ledger.now) c.requires c.loop-file-test.true c.file-item.is).0
+
+pub loop-file-preserved : goal.loop-file-preserved
+loop-file-preserved c =
+    let k = kept_of c.args.files.now.counts c.args.ledger.now in
+    let f = c.file-item.result in
+    let one = c.drop_one.ensures in
+    let before = c.loop-file.invariant in
+    record {
+      counts = ap (λ v. v.counts) one ∙ ap (λ m. map.insert m f (fewer (Queue c.args.user) (count_in_map m f))) before.counts
+          ∙ ap (λ (l : Tally). l.counts) (sym (dropped-more (Queue c.args.user) c.args.attached.now c.loop-file.file-index f k c.loop-file-test.true c.file-item.is));
+      rest = one ∙ ap {A = FilesView} {B = FilesView} (λ v. record v { counts = map.insert c.loop-file.files.counts f (fewer (Queue c.args.user) (count_in_map c.loop-file.files.counts f)) }) before.rest
+          ∙ ap {B = FilesView} (λ m. record c.args.files.now { counts = m }) (sym (ap (λ v. v.counts) one));
+    }
+
+pub returns : goal.returns
+returns c =
+    let k = kept_of c.args.files.now.counts c.args.ledger.now in
+    let all : take c.loop-file.file-index c.args.attached.now ≡ c.args.attached.now = take_all c.loop-file.file-index c.args.attached.now (omega (arith, c.loop-file-test.false)) in
+    record {
+      kept = ap {B = Tally} (λ m. kept_of m c.uncharge.new.self) c.loop-file.invariant.counts ∙ ap {B = Tally} (λ fs. kept_of (dropped_all (Queue c.args.user) fs k).counts c.uncharge.new.self) all
+          ∙ ap {B = Tally} (kept_of (dropped_all (Queue c.args.user) c.args.attached.now k).counts) c.uncharge.ensures ∙ freed-dropped_all c.args.user c.args.attached.now k;
+      rest = c.loop-file.invariant.rest;
+    }

@@ -1,0 +1,81 @@
+use Rattle.std.proofs.Common.{rules, ◌≡◌, ◌<◌, ◌+◌, ◌∷◌, ◌^◌, ℕ, [], length, map, arith, refl, ap, sym, ◌∙◌, subst, inl, inr}
+use Rattle.std.specs.Prelude.{IsTrue}
+use Rattle.std.specs.List.{All, Contains, zip}
+use Rattle.std.proofs.lemmas.List.Elements.{All-head, All-rest}
+use Rattle.af_base.specs.World.{Map}
+use Rattle.af_base.specs.Changes.{change_at, installed}
+use Rattle.af_base.proofs.Elements.{Contains-first, Contains-later}
+use Rattle.af_base.proofs.Held.{one-most}
+use Rattle.std.specs.FinMap as finmap
+use Rattle.af_desc.specs.FilesView.{FilesView}
+use Rattle.af_ledger.specs.Tally.{Charged, count_in_map, held_all, kept_of}
+use Rattle.af_ledger.specs.declared.place.Place.TheVariants.{Table}
+use Rattle.af_ledger.proofs.Laws.{has-held, tabled-tabled}
+use Rattle.af_table.specs.Procs.{row_in}
+use Rattle.af_collect.specs.HoldingsView.{filled}
+use Rattle.af_collect.proofs.Filling.{no-files, no-numbers}
+use Rattle.af_collect.proofs.tables.table_in_all.Goals as goal
+
+pub loop-fd-init : goal.loop-fd-init
+loop-fd-init c =
+    let fds : c.into_iter-fd-iterator.result.a.rest.now ≡ c.args.fds.now = search rules in
+    let files : c.into_iter-fd-iterator.result.b.rest.now ≡ c.args.attached.now = search rules in
+    record {
+      processes = λ i. filled c.args.procs.now.processes c.args.pid (zip (fds i) (files i));
+      kept = λ ch i. held_all Table (map (λ e. e.1) (zip (fds i) (files i))) (kept_of c.args.files.now.counts ch);
+      rest = refl;
+      rows = refl;
+      next = refl;
+      row = subst (All (λ n. n < row_in c.args.procs.now.rows c.args.pid)) (sym fds) c.requires.row;
+      known = λ f h. c.requires.known f (subst (λ l. Contains l f) files h);
+      fits = λ f. subst (λ l. (count_in_map c.args.files.now.counts f).tabled + length l < 2 ^ 31) (sym files) (c.requires.fits f);
+    }
+
+pub hold-requires-clause-known : goal.hold-requires-clause-known
+hold-requires-clause-known c = c.loop-fd.invariant.known c.in-Some.file.now (subst (λ l. Contains l c.in-Some.file.now) (sym c.in-Some.ensures.steps.1) (Contains-first c.in-Some.file.now c.next.new.self.b.rest.now))
+
+pub hold-requires-clause-countable : goal.hold-requires-clause-countable
+hold-requires-clause-countable c = let fits = c.loop-fd.invariant.fits c.in-Some.file.now in omega (arith, fits)
+
+pub install-requires : goal.install-requires
+install-requires c =
+    let low = λ (n : ℕ). n < row_in c.loop-fd.procs.rows c.args.pid in
+    All-head low _ _ (subst (All low) c.in-Some.ensures.steps.0 c.loop-fd.invariant.row)
+
+pub loop-fd-preserved : goal.loop-fd-preserved
+loop-fd-preserved c =
+    let k = c.loop-fd.invariant in
+    let n = c.in-Some.fd.now in
+    let f = c.in-Some.file.now in
+    let steps = c.in-Some.ensures.steps in
+    let ns = c.next.new.self.a.rest.now in
+    let fs = c.next.new.self.b.rest.now in
+    let low = λ (m : ℕ). m < row_in c.loop-fd.procs.rows c.args.pid in
+    let one = c.hold.ensures in
+    let none : Charged = record { users = []; total = 0 } in
+    let first = k.known f (subst (λ l. Contains l f) (sym steps.1) (Contains-first f fs)) in
+    record {
+      processes = ap (λ P. filled P c.args.pid (zip ns fs)) (c.install.ensures.processes ∙ ap (λ x. change_at (installed n x) c.loop-fd.procs.processes c.args.pid) c.duplicate.ensures) ∙ sym (λ i. filled c.loop-fd.procs.processes c.args.pid (zip (steps.0 i) (steps.1 i))) ∙ k.processes;
+      kept = λ ch. ap (λ (v : FilesView). held_all Table (map (λ e. e.1) (zip ns fs)) (kept_of v.counts ch)) one ∙ sym (λ i. held_all Table (map (λ e. e.1) (zip (steps.0 i) (steps.1 i))) (kept_of c.loop-fd.files.counts ch)) ∙ k.kept ch;
+      rest = one ∙ ap {B = FilesView} (λ x. record c.loop-fd.files { counts = x }) (sym (ap (λ v. v.counts) one)) ∙ ap {A = FilesView} {B = FilesView} (λ v. record v { counts = c.hold.new.self.counts }) k.rest;
+      rows = c.install.ensures.rows ∙ k.rows;
+      next = c.install.ensures.next ∙ k.next;
+      row = subst (λ (r : Map ℕ). All (λ m. m < row_in r c.args.pid) ns) (sym c.install.ensures.rows) (All-rest low n ns (n ∷ ns) refl (subst (All low) steps.0 k.row));
+      known = λ g h. subst (λ (v : FilesView). IsTrue (finmap.contains_key v.counts g)) (sym one) (has-held Table f g (kept_of c.loop-fd.files.counts none) first ∙ k.known g (subst (λ l. Contains l g) (sym steps.1) (Contains-later f fs g h)));
+      fits = λ g. let fits = k.fits g in omega (arith, fits, ap (λ (v : FilesView). (count_in_map v.counts g).tabled) one, tabled-tabled f g (kept_of c.loop-fd.files.counts none), one-most g f, ap length steps.1);
+    }
+
+pub returns : goal.returns
+returns c =
+    let k = c.loop-fd.invariant in
+    let none = elim c.in-None.ensures.steps as (λ _. zip c.loop-fd.fd-iterator.a.rest.now c.loop-fd.fd-iterator.b.rest.now ≡ []) [
+      | inl h ↦ no-numbers _ c.loop-fd.fd-iterator.b.rest.now h.1.0
+      | inr h ↦ no-files c.loop-fd.fd-iterator.a.rest.now _ h.1.0
+    ] in
+    record {
+      processes = sym (ap (filled c.loop-fd.procs.processes c.args.pid) none) ∙ k.processes;
+      rows = k.rows;
+      next = k.next;
+      kept = λ ch. sym (ap (λ es. held_all Table (map (λ e. e.1) es) (kept_of c.loop-fd.files.counts ch)) none) ∙ k.kept ch;
+      rest = k.rest;
+    }

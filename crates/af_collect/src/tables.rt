@@ -1,0 +1,76 @@
+//! Descriptors of a process as places, many at once: a receive installs its files, and all open
+//! descriptors are counted when a process joins, and dropped when it ends.
+ghost use Rattle.std.specs.Prelude.{◌≡◌, ◌<◌, ◌+◌, ◌^◌, ℕ, IsTrue, Some, length, map as mapped};
+ghost use Rattle.std.specs.List.{All, Contains, zip};
+ghost use Rattle.std.specs.FinMap as map;
+ghost use Rattle.af_base.specs.Changes.{add_process, remove_process};
+ghost use Rattle.af_base.specs.World.{World};
+ghost use Rattle.af_ledger.specs.Tally.{Charged, count_in_map, held_all, kept_of};
+ghost use Rattle.af_collect.specs.Agreement.{IsExact, Joins};
+ghost use Rattle.af_collect.specs.HoldingsView.{filled};
+ghost use Rattle.af_table.specs.Procs.{row_in};
+
+use af_base::names::{Fd, FileRef, Pid};
+use af_desc::Files;
+use af_ledger::Place;
+use af_table::{Process, Procs};
+
+/// Installs files at these descriptors of a process, in order, as long as there are both. Each
+/// descriptor has room, and each file has counts.
+pub fn table_in_all(
+    procs: &mut Procs,
+    files: &mut Files,
+    pid: Pid,
+    fds: &[Fd],
+    attached: &[FileRef],
+)
+    requires row { All (λ n. n < row_in procs.old.rows pid) fds.now }
+    requires known { (f : ℕ) → Contains attached.now f → IsTrue (map.contains_key files.old.counts f) }
+    requires fits { (f : ℕ) → (count_in_map files.old.counts f).tabled + length attached.now < 2 ^ 31 }
+    ensures processes { procs.new.processes ≡ filled procs.old.processes pid (zip fds.now attached.now) }
+    ensures rows { procs.new.rows ≡ procs.old.rows }
+    ensures next { procs.new.next_pid ≡ procs.old.next_pid }
+    ensures kept { (c : Charged) → kept_of files.new.counts c ≡ held_all Place.Table (mapped (λ e. e.1) (zip fds.now attached.now)) (kept_of files.old.counts c) }
+    ensures rest { files.new ≡ record files.old { counts = files.new.counts } }
+{
+    for (fd, file) in fds.iter().zip(attached) {
+        files.hold(&Place::Table, file);
+        procs.install(pid, *fd, file.duplicate());
+    }
+}
+
+/// Adds a reference for each open descriptor of a process that joins the world. Takes no memory.
+pub fn ref_table(files: &mut Files, process: &Process)
+    requires { (w : World) × (c : Charged) × Joins w process.now.process (kept_of files.old.counts c) }
+    ensures exact { (w : World) (c : Charged) → Joins w process.now.process (kept_of files.old.counts c) → IsExact (add_process w process.now.process) (kept_of files.new.counts c) }
+    ensures rest { files.new ≡ record files.old { counts = files.new.counts } }
+{
+    // Most tables have no gaps.
+    let front = process.run_from(Fd(0));
+    for file in front {
+        files.hold(&Place::Table, file);
+    }
+    let mut from = Fd(front.len() as u32);
+    while let Some((fd, file)) = process.next_open(from) {
+        files.hold(&Place::Table, &file);
+        from = Fd(fd.0 + 1);
+    }
+}
+
+/// Drops a reference for each open descriptor of a process that left the world. Takes no memory.
+pub fn unref_table(files: &mut Files, process: &Process)
+    requires { (w : World) × (c : Charged) × (pid : ℕ) × (map.get w.processes pid ≡ Some process.now.process) × IsExact w (kept_of files.old.counts c) }
+    ensures exact { (w : World) (c : Charged) (pid : ℕ) → map.get w.processes pid ≡ Some process.now.process → IsExact w (kept_of files.old.counts c) → IsExact (remove_process w pid) (kept_of files.new.counts c) }
+    ensures rest { files.new ≡ record files.old { counts = files.new.counts } }
+{
+    // Most tables have no gaps.
+    let front = process.run_from(Fd(0));
+    for file in front {
+        files.drop_one(&Place::Table, file);
+    }
+    let mut from = Fd(front.len() as u32);
+    while let Some((fd, file)) = process.next_open(from) {
+        files.drop_one(&Place::Table, &file);
+        from = Fd(fd.0 + 1);
+    }
+}
