@@ -11,8 +11,7 @@ mod case;
 
 use crate::case::{BEFORE_NAME, Case};
 use scm_play::{Style, play};
-use scm_run::run_script;
-use scm_watched::Watched;
+use scm_run::{Watched, run_script};
 use std::alloc::Global;
 use std::io;
 use std::io::{BufWriter, Write};

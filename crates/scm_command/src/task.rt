@@ -12,8 +12,8 @@ use af_base::limits::MAX_BUDGET;
 use clap::builder::ValueParser;
 use clap::error::ErrorKind;
 use clap::{Arg, ArgMatches, Command, Error};
+use scm_race::workload::{MAX_STEPS, MAX_WORKERS, MIN_STEPS};
 use scm_race::{MAX_CHECKPOINT, MAX_LONG_STEPS};
-use scm_work::{MAX_STEPS, MAX_WORKERS, MIN_STEPS};
 use std::alloc::{AllocError, Global};
 use std::convert::AsStr;
 

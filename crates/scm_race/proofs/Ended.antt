@@ -8,7 +8,7 @@ use Rattle.af_layer.specs.Seats.{Seated}
 use Rattle.scm_race.specs.Race.{EndsInPass, Raced, RacedBy, spawned, worker_steps, works_of_race}
 use Rattle.scm_race.proofs.Counted.{counted}
 use Rattle.scm_race.proofs.Raced.{raced}
-use Rattle.scm_work.proofs.Counts.{script-count}
+use Rattle.scm_race.proofs.ScriptLength.{script-count}
 
 -- all seats as they were opened; those that were driven, before and after; the last one when it was opened, after the start and at the end; and all as they were handed in
 module _ (workers steps seed budget : ℕ) (b : Logged) (all opened driven handed : List Seated) (first started last : Seated)

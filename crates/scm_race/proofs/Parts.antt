@@ -16,13 +16,13 @@ use Rattle.af_layer.specs.Drive.{Collects, Driven, Made, Script, Turned, WentOn,
 use Rattle.af_layer.specs.Log.{IsLegal, IsLegalFrom, Logged, Pair, of_seat}
 use Rattle.af_layer.specs.Seats.{Seated}
 use Rattle.af_layer.proofs.Joined.{legal-append, part-append}
-use Rattle.scm_work.specs.Script.{script_of}
+use Rattle.scm_race.specs.Script.{script_of}
 use Rattle.scm_race.specs.Parts.{AreFresh, AreLeft, AreNext, GoesOn, IsOfEnd, IsOfPart, IsOfStart, IsPart, LogHas, SeatsHave, taken}
 use Rattle.scm_race.specs.Race.{EndsInPass, NoPart, OnePart, RacedInParts, TurnedInParts, scripts_of, spawned, worker_steps}
 use Rattle.scm_race.proofs.Counted.{counted}
 use Rattle.scm_race.proofs.Ended.{all-steps}
 use Rattle.scm_race.proofs.Raced.{all_new, part-at}
-use Rattle.scm_work.proofs.Counts.{script-count}
+use Rattle.scm_race.proofs.ScriptLength.{script-count}
 use Rattle.scm_race.proofs.Works.{collector-work, script-at, script-work, scripts-count}
 
 -- Where the lists are empty after an audit, the seats are fresh again.

@@ -9,7 +9,7 @@ use Rattle.af_layer.specs.Drive.{Collects, Driven, Made, Script, Turned, WentOn,
 use Rattle.af_layer.specs.Log.{IsLegal, Logged, Pair, of_seat}
 use Rattle.af_layer.specs.Seats.{Seated}
 use Rattle.af_layer.proofs.Placing.{known_number}
-use Rattle.scm_work.specs.Script.{script_of}
+use Rattle.scm_race.specs.Script.{script_of}
 use Rattle.scm_race.specs.Race.{EndsInPass, Raced, spawned, works_of_race}
 use Rattle.scm_race.proofs.Works.{collector-at, worker-at}
 

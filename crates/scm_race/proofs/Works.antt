@@ -12,7 +12,7 @@ use Rattle.af_base.specs.declared.events.Reply.TheVariants as reply
 use Rattle.af_layer.specs.declared.workers.Turns.{Turns}
 use Rattle.af_layer.specs.Drive.{Collects, Script, Work, works_of}
 use Rattle.af_layer.specs.Log.{Pair}
-use Rattle.scm_work.specs.Script.{script_of}
+use Rattle.scm_race.specs.Script.{script_of}
 use Rattle.scm_race.specs.Race.{scripts_of, spawn_of, spawned, works_of_race}
 
 -- There are as many scripts as workers.

@@ -7,7 +7,7 @@ use Rattle.af_layer.specs.Audit.{list_at, number_at}
 use Rattle.af_layer.specs.Drive.{Turned, events_of}
 use Rattle.af_layer.specs.Log.{IsLegal, IsLegalFrom, Logged, Pair, of_seat}
 use Rattle.af_layer.specs.Seats.{Seated}
-use Rattle.scm_work.specs.Script.{script_of}
+use Rattle.scm_race.specs.Script.{script_of}
 use Rattle.scm_race.specs.Race.{EndsInPass, TurnedInParts, spawned}
 
 -- There are n seats in order, numbered from 1, and the list of each is as P says of its place.

@@ -11,7 +11,7 @@ use Rattle.af_layer.specs.declared.book.Entry.{Entry}
 use Rattle.af_layer.specs.Drive.{Collects, Script, Turned, Work, events_of}
 use Rattle.af_layer.specs.Log.{IsLegal, Logged, Pair, of_seat}
 use Rattle.af_layer.specs.Seats.{Seated}
-use Rattle.scm_work.specs.Script.{script_of}
+use Rattle.scm_race.specs.Script.{script_of}
 
 -- The process of a worker: two users in turn, with room for 32 descriptors and no privilege.
 abbrev pub spawn_of : ℕ → Event

@@ -12,6 +12,7 @@ mod outcome;
 mod part;
 mod race;
 mod start;
+pub mod workload;
 
 pub use fault::RaceFault;
 pub use long::{LongRace, MAX_CHECKPOINT, MAX_LONG_STEPS, Tally};

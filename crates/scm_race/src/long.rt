@@ -4,15 +4,15 @@ ghost use Rattle.std.specs.FinMap as map;
 ghost use Rattle.af_layer.specs.Log.{Logged};
 ghost use Rattle.scm_race.specs.Parts.{AreFresh, AreLeft, GoesOn};
 ghost use Rattle.scm_race.specs.Race.{RacedInParts, race_lines, worker_steps};
-ghost use Rattle.scm_work.specs.declared.script.TheConstants.{MIN_STEPS};
-ghost use Rattle.scm_work.specs.declared.table.TheConstants.{MAX_WORKERS};
+ghost use Rattle.scm_race.specs.declared.workload.script.TheConstants.{MIN_STEPS};
+ghost use Rattle.scm_race.specs.declared.workload.table.TheConstants.{MAX_WORKERS};
 
 use crate::fault::RaceFault;
 use crate::part::{Field, last_part, open_field, race_part};
 use crate::race::Race;
 use crate::start::{next_parts, sources};
+use crate::workload::Source;
 use af_layer::Turns;
-use scm_work::Source;
 use std::alloc::{AllocError, Global};
 use std::marker::Brand;
 use std::sync::Wait;

@@ -5,7 +5,7 @@ ghost use Rattle.af_layer.specs.Audit.{AreEmptied, IsWhole};
 ghost use Rattle.af_layer.specs.Log.{IsLegalFrom, Logged};
 ghost use Rattle.scm_race.specs.Parts.{AreFresh, GoesOn, IsOfEnd, IsOfPart, IsOfStart, IsPart, SeatsHave, taken};
 ghost use Rattle.scm_race.specs.Race.{worker_steps};
-ghost use Rattle.scm_work.specs.declared.table.TheConstants.{MAX_WORKERS};
+ghost use Rattle.scm_race.specs.declared.workload.table.TheConstants.{MAX_WORKERS};
 
 use crate::fault::RaceFault;
 use crate::finish::{end_children, end_pass, last_pass};

@@ -5,8 +5,8 @@ ghost use Rattle.af_layer.specs.Drive.{Driven, Made};
 ghost use Rattle.af_layer.specs.Log.{IsLegal, Logged};
 ghost use Rattle.af_layer.specs.Seats.{Seated};
 ghost use Rattle.scm_race.specs.Race.{EndsInPass, Raced, worker_steps, works_of_race};
-ghost use Rattle.scm_work.specs.declared.script.TheConstants.{MIN_STEPS, MAX_STEPS};
-ghost use Rattle.scm_work.specs.declared.table.TheConstants.{MAX_WORKERS};
+ghost use Rattle.scm_race.specs.declared.workload.script.TheConstants.{MIN_STEPS, MAX_STEPS};
+ghost use Rattle.scm_race.specs.declared.workload.table.TheConstants.{MAX_WORKERS};
 
 use crate::fault::RaceFault;
 use crate::finish::{end_children, end_pass, last_pass};

@@ -5,15 +5,15 @@ ghost use Rattle.af_base.specs.declared.events.Reply.TheVariants as answer;
 ghost use Rattle.scm_race.specs.Faults.{of_spawn};
 ghost use Rattle.scm_race.specs.Parts.{AreNext};
 ghost use Rattle.scm_race.specs.Race.{scripts_of, spawn_of, spawned};
-ghost use Rattle.scm_work.specs.declared.script.TheConstants.{MIN_STEPS, MAX_STEPS};
-ghost use Rattle.scm_work.specs.declared.table.TheConstants.{MAX_WORKERS};
+ghost use Rattle.scm_race.specs.declared.workload.script.TheConstants.{MIN_STEPS, MAX_STEPS};
+ghost use Rattle.scm_race.specs.declared.workload.table.TheConstants.{MAX_WORKERS};
 
 use crate::fault::RaceFault;
+use crate::workload::{Source, make_script};
 use af_base::errno::Errno;
 use af_base::events::{Event, Reply};
 use af_base::names::{Pid, Uid};
 use af_layer::{Layer, Origin, Seat};
-use scm_work::{Source, make_script};
 use std::alloc::{AllocError, Global};
 use std::sync::Wait;
 

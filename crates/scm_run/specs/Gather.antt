@@ -1,7 +1,7 @@
 -- The text that is gathered, and written later. Definitions that name no manual page are this project's own.
 use Rattle.std.specs.Prelude.{◌≡◌, ◌⊎◌, ℕ, List, ◌++◌, Option}
 use Rattle.std.specs.Io.KnownBytes.{Appends}
-use Rattle.scm_watched.specs.Watched.{AppendsFront}
+use Rattle.scm_run.specs.Watched.{AppendsFront}
 use Rattle.scm_run.specs.declared.fault.RunFault.{RunFault}
 use Rattle.scm_run.specs.declared.fault.RunFault.TheVariants as fault
 

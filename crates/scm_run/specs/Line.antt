@@ -12,7 +12,7 @@ use Rattle.scm_lines.specs.declared.fault.LineFault.{LineFault}
 use Rattle.scm_lines.specs.declared.fault.LineFault.TheVariants as unread
 use Rattle.scm_lines.specs.declared.keywords.Verb.{Verb}
 use Rattle.scm_lines.specs.declared.version.Version.{Version}
-use Rattle.scm_watched.specs.Watched.{AppendsFront}
+use Rattle.scm_run.specs.Watched.{AppendsFront}
 use Rattle.scm_run.specs.Gather.{Moves}
 use Rattle.scm_run.specs.Script.{LineText, Point}
 use Rattle.scm_run.specs.Text.{reply_line}

@@ -16,7 +16,7 @@ use Rattle.scm_lines.specs.declared.line.Line.{Line}
 use Rattle.scm_lines.specs.declared.line.Line.TheVariants as line
 use Rattle.scm_lines.specs.declared.version.Version.{Version}
 use Rattle.scm_lines.specs.declared.version.Version.TheVariants as version
-use Rattle.scm_watched.specs.Watched.{AppendsFront}
+use Rattle.scm_run.specs.Watched.{AppendsFront}
 use Rattle.scm_run.specs.Text.{reply_line}
 use Rattle.scm_run.specs.Report.{IsReportText}
 use Rattle.scm_run.specs.declared.fault.RunFault.{RunFault}

@@ -2,7 +2,7 @@
 ghost use Rattle.std.specs.Prelude.{◌≡◌};
 ghost use Rattle.scm_run.specs.declared.fault.RunFault.TheVariants.{Memory, Write};
 
-use scm_watched::WriteFailed;
+use crate::writes::WriteFailed;
 use std::alloc::{AllocError, AllocFailed};
 use thiserror::Error;
 

@@ -1,13 +1,14 @@
 //! The text of lines that were done, gathered until it is written.
 ghost use Rattle.std.specs.Prelude.{◌≡◌, ℕ, ◌≤◌, ◌+◌, [], Err, IfErr, OnOk, OnErr, vec_capacity, vec_len, false, is_err};
 ghost use Rattle.std.specs.Io.KnownBytes.{Appends};
-ghost use Rattle.scm_watched.specs.Watched.{AppendsFront};
+ghost use Rattle.scm_run.specs.Watched.{AppendsFront};
 ghost use Rattle.scm_run.specs.Gather.{MoveStops, Moves, Settles};
 ghost use Rattle.scm_run.specs.Script.{is_read_fault, is_write_fault};
 
 use crate::fault::RunFault;
 use crate::text::MAX_REPLY_LINE;
-use scm_watched::{Watched, WriteFailed, write_whole};
+use crate::watched::Watched;
+use crate::writes::{WriteFailed, write_whole};
 use std::io::Write;
 
 /// How many bytes of text are gathered at least before they are written for lack of room. Gathered

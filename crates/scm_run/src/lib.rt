@@ -4,6 +4,7 @@
 //! done by an engine of `af_steps` (`line`), and its text, of a reply (`text`) or of a report
 //! (`af_report`), is made whole and gathered: it is written before the next read (`gather`).
 //! A process's step goes from its words to its text by a typed call (`steps`, `outcome`).
+//! A [`Watched`] stream remembers whether it failed, so a fault says which one did (`watched`).
 #![tactic(auto)]
 
 mod fault;
@@ -13,8 +14,12 @@ mod outcome;
 mod run;
 mod steps;
 mod text;
+mod watched;
+mod writes;
 
 pub use fault::RunFault;
 pub use line::answer;
 pub use run::{run_script, without_return};
 pub use text::MAX_REPLY_LINE;
+pub use watched::Watched;
+pub use writes::{WriteFailed, write_whole};

@@ -12,12 +12,12 @@ use crate::fault::RunFault;
 use crate::gather::make_room;
 use crate::outcome::push_short;
 use crate::steps::do_step;
+use crate::watched::Watched;
 use af_base::errno::Errno;
 use af_base::events::Reply;
 use af_report::{check, table, totals};
 use af_steps::Engine;
 use scm_lines::{Line, LineFault, Report, Version, read_in, verb_in};
-use scm_watched::Watched;
 use std::alloc::{AllocError, Global};
 use std::io::Write;
 

@@ -7,10 +7,10 @@ ghost use Rattle.scm_run.specs.Script.{FaultAt, NoFeed, RanToEnd, StopsBy, Wrote
 use crate::fault::RunFault;
 use crate::gather::{settle, write_out};
 use crate::line::do_line;
+use crate::watched::Watched;
 use af_steps::Engine;
 use memchr::memchr;
 use scm_lines::{MAX_LINE, Version};
-use scm_watched::Watched;
 use std::alloc::{AllocError, Global};
 use std::io::{Read, Write};
 use std::marker::Model;

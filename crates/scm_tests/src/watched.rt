@@ -1,5 +1,5 @@
 //! A watched stream answers what the inner one answers, and tells whether a call has failed.
-use scm_watched::Watched;
+use scm_run::Watched;
 use std::io;
 use std::io::{ErrorKind, Read, Write};
 

@@ -2,7 +2,7 @@
 use af_base::events::{Event, SockType, Step};
 use af_base::items::Items;
 use af_base::names::{Fd, Pid};
-use scm_work::{event_of_word, make_script};
+use scm_race::workload::{event_of_word, make_script};
 use std::alloc::{AllocError, AllocGlobal};
 use std::process::Abort;
 use std::test::Fail;

@@ -4,8 +4,7 @@
 
 use scm_command::program::program;
 use scm_play::Style;
-use scm_run::RunFault;
-use scm_watched::Watched;
+use scm_run::{RunFault, Watched};
 use std::alloc::AllocError;
 use std::env;
 use std::io::{ErrorKind, IsTerminal};

@@ -1,7 +1,7 @@
 //! The program over memory, and over streams that fail.
 use scm_command::program::program;
 use scm_play::Style;
-use scm_watched::Watched;
+use scm_run::Watched;
 use std::alloc::AllocGlobal;
 use std::io;
 use std::io::{ErrorKind, Read, Write};

@@ -2,7 +2,7 @@
 use af_base::events::Event;
 use af_base::names::Uid;
 use af_layer::{Book, Entry, Layer, OpenGate, Seat, Turns, drive};
-use scm_work::make_script;
+use scm_race::workload::make_script;
 use std::alloc::{AllocError, Global};
 use std::process::Abort;
 use std::sync::Wait;

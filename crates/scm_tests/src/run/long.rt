@@ -1,6 +1,6 @@
 //! Scripts that are too long to be cases: what is full, and a long chain.
 use super::streams::run_all;
-use scm_watched::Watched;
+use scm_run::Watched;
 use std::alloc::{AllocError, Global};
 
 /// How often lines come, and the lines.

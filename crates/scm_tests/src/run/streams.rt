@@ -1,8 +1,7 @@
 //! Readers and writers that do little at a time, and fail; and runs over them.
 ghost use Rattle.std.specs.Prelude.{◌≡◌, false};
 
-use scm_run::{RunFault, run_script};
-use scm_watched::Watched;
+use scm_run::{RunFault, Watched, run_script};
 use std::alloc::{AllocGlobal, Global};
 use std::io;
 use std::io::{ErrorKind, Read, Write};

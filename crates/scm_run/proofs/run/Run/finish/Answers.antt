@@ -1,6 +1,6 @@
 use Rattle.std.proofs.Common.{rules, ◌≡◌, Err}
 use Rattle.std.specs.Io.KnownBytes.{Appends}
-use Rattle.scm_watched.specs.Watched.{AppendsFront}
+use Rattle.scm_run.specs.Watched.{AppendsFront}
 use Rattle.scm_run.specs.Gather.{Settles}
 use Rattle.scm_run.specs.Script.{FaultAt}
 use Rattle.scm_run.specs.declared.fault.RunFault.TheVariants.{Write}

@@ -1,3 +1,0 @@
--- The history of a watched reader or writer.
-pub mod Watch
-pub mod Watched

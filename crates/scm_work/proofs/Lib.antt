@@ -1,4 +1,0 @@
--- Lemmas.
-pub mod Counts
-pub mod Own
-pub mod Words
