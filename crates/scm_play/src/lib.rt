@@ -2,16 +2,19 @@
 //! answer beside it, and of a line that cannot be read why.
 //!
 //! A caller wants [`play`], [`Style`] and [`PlayFault`]. Each line is read by `scm_lines` and done
-//! as in a run (`scm_run`); `own` has the lines that only this program has, and `show` the layout.
+//! as in a run (`scm_run`). `own` has the lines that only this program has, `who` the answer to one,
+//! and `show` the layout.
 #![tactic(auto)]
 
 mod answers;
 mod fault;
 mod help;
+mod holders;
 pub mod laws;
 mod own;
 mod session;
 mod show;
+mod who;
 
 pub use fault::PlayFault;
 pub use session::play;

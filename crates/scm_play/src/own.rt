@@ -4,8 +4,8 @@ ghost use Rattle.scm_play.specs.Questions.{IsAnswerTo, question_of, questions};
 ghost use Rattle.scm_lines.specs.Keywords.{meaning};
 
 use crate::help::HELP;
+use crate::who::holders;
 use af_graph::graph;
-use af_holders::holders;
 use af_steps::Engine;
 use scm_lines::only_word;
 use std::alloc::{AllocError, Global};

@@ -1,6 +1,6 @@
 //! The text of who holds what.
 
-use crate::holder::{Held, Holder, push_places};
+use crate::holders::{Held, Holder, push_places};
 use af_base::names::Ino;
 use af_plain::garbage;
 use af_steps::Engine;
