@@ -82,8 +82,8 @@ pub enum Step {
         max_bytes: u32,
         max_fds: u32,
     },
-    /// setrlimit(2) of the limit on descriptors (RLIMIT_NOFILE): from now on it is this. There is no
-    /// hard limit, and what is open stays open.
+    /// setrlimit(2) of the limit on descriptors (RLIMIT_NOFILE): from now on it is this. There is
+    /// no hard limit, and what is open stays open.
     Limit(u32),
 }
 

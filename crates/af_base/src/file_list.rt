@@ -1,5 +1,6 @@
 //! Lists of files, in no order.
-ghost use Rattle.std.specs.Prelude.{◌≡◌, ◌<◌, ◌-◌, ℕ, Some, IfSome, IfNone, cond, false, length, nat_eq, slice_get, slice_index_or, vec_capacity};
+ghost use Rattle.std.specs.Prelude.{◌≡◌, ◌<◌, ◌-◌, ℕ, Some, IfSome, IfNone, cond, false, length};
+ghost use Rattle.std.specs.Prelude.{nat_eq, slice_get, slice_index_or, vec_capacity};
 ghost use Rattle.af_base.specs.Counts.{count_in};
 
 use crate::names::{FileRef, Ino};
@@ -9,7 +10,8 @@ use crate::names::{FileRef, Ino};
 #[inline(always)]
 fn place_of(files: &[FileRef], ino: Ino, at: usize) -> Option<usize>
     ensures some { IfSome result (λ i. slice_get files.now i ≡ Some ino) }
-    ensures none { IfNone result ((k : ℕ) → k < length files.now → nat_eq (slice_index_or files.now k 0) ino ≡ false) }
+    ensures none { IfNone result
+        ((k : ℕ) → k < length files.now → nat_eq (slice_index_or files.now k 0) ino ≡ false) }
 {
     if let Some(file) = files.get(at)
         && file.ino() == ino
@@ -23,7 +25,8 @@ fn place_of(files: &[FileRef], ino: Ino, at: usize) -> Option<usize>
 /// position. Tries this position first, and then all from the end. Takes no memory.
 #[inline(always)]
 pub fn swap_remove_file(files: &mut Vec<FileRef>, ino: Ino, at: usize) -> Option<usize>
-    ensures each { (f : ℕ) → count_in f files.new.items ≡ count_in f files.old.items - cond (nat_eq f ino) 1 0 }
+    ensures each { (f : ℕ) → count_in f files.new.items
+        ≡ count_in f files.old.items - cond (nat_eq f ino) 1 0 }
     ensures place { IfSome result (λ i. slice_get files.old.items i ≡ Some ino) }
     ensures none { IfNone result (count_in ino files.old.items ≡ 0) }
     ensures capacity { vec_capacity files.new ≡ vec_capacity files.old }

@@ -2,7 +2,8 @@
 ghost use Rattle.std.specs.Prelude.{◌≡◌, ◌++◌, [], IfOk, OnOk, length};
 ghost use Rattle.std.specs.List.{flat_map};
 ghost use Rattle.af_base.specs.Counts.{refs, inflight, charged, total};
-ghost use Rattle.af_base.specs.Listing.{AreFiles, AreTables, IsTally, file_of, inos_of, listed, message_of, payers_of};
+ghost use Rattle.af_base.specs.Listing.{AreFiles, AreTables, IsTally, file_of, inos_of, listed};
+ghost use Rattle.af_base.specs.Listing.{message_of, payers_of};
 ghost use Rattle.af_base.specs.Places.{carried, contents, queue_of};
 
 use crate::listing::{ListedFile, ListedMessage, ListedTable};
@@ -21,7 +22,8 @@ fn push_inos(inos: &mut Vec<Ino>, table: &ListedTable) -> Result<(), AllocError>
 
 /// Appends the files that the queue of the file carries.
 fn push_carried(inos: &mut Vec<Ino>, file: &ListedFile) -> Result<(), AllocError>
-    ensures { OnOk result (inos.new.items ≡ inos.old.items ++ carried (queue_of (file_of file.now))) }
+    ensures { OnOk result
+        (inos.new.items ≡ inos.old.items ++ carried (queue_of (file_of file.now))) }
 {
     let Some(socket) = &file.socket else {
         return Ok(());
@@ -45,7 +47,8 @@ fn push_contents(inos: &mut Vec<Ino>, file: &ListedFile) -> Result<(), AllocErro
 
 /// Appends the user whom the message is charged to, once for each attached file.
 fn push_payer(payers: &mut Vec<Uid>, message: &ListedMessage) -> Result<(), AllocError>
-    ensures { OnOk result (payers.new.items ≡ payers.old.items ++ payers_of (message_of message.now)) }
+    ensures { OnOk result
+        (payers.new.items ≡ payers.old.items ++ payers_of (message_of message.now)) }
 {
     for _ino in &message.attached {
         payers.push(message.user)?;
@@ -55,7 +58,8 @@ fn push_payer(payers: &mut Vec<Uid>, message: &ListedMessage) -> Result<(), Allo
 
 /// Appends the users whom the queue of the file is charged to, once for each place.
 fn push_payers(payers: &mut Vec<Uid>, file: &ListedFile) -> Result<(), AllocError>
-    ensures { OnOk result (payers.new.items ≡ payers.old.items ++ flat_map payers_of (queue_of (file_of file.now))) }
+    ensures { OnOk result
+        (payers.new.items ≡ payers.old.items ++ flat_map payers_of (queue_of (file_of file.now))) }
 {
     let Some(socket) = &file.socket else {
         return Ok(());

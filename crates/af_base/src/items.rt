@@ -94,7 +94,8 @@ impl Hash for Items<u8> {
 
     ghost hash_input = { λ x. fed.usize (length x) ++ x ∷ [] };
 
-    ghost respects_eq = { λ x y h. ap (λ z. fed.usize (length z) ++ z ∷ []) ((bytes_decides x y).0 h) };
+    ghost respects_eq = { λ x y h. ap (λ z. fed.usize (length z) ++ z ∷ [])
+        ((bytes_decides x y).0 h) };
 
     fn hash<H: Hasher>(&self, state: &mut H) {
         state.write_usize(self.len());

@@ -78,7 +78,8 @@ impl Model for Listing {
 
     ghost view = { λ a. listed a.tables.items a.files.items };
 
-    ghost invariant = { λ a. AreListed a.tables.items a.files.items a.held.items a.queued.items a.payers.items };
+    ghost invariant = { λ a. AreListed a.tables.items a.files.items a.held.items
+        a.queued.items a.payers.items };
 }
 
 impl Listing {

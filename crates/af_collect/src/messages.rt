@@ -11,7 +11,8 @@ use af_ledger::{Ledger, Place};
 /// Adds one place in a queue for each of these files, and charges the user.
 pub fn charge_message(files: &mut Files, ledger: &mut Ledger, user: Uid, attached: &[FileRef])
     requires { CanHoldAll user attached.now (kept_of files.old.counts ledger.old) }
-    ensures kept { kept_of files.new.counts ledger.new ≡ held_all (Queue user) attached.now (kept_of files.old.counts ledger.old) }
+    ensures kept { kept_of files.new.counts ledger.new
+        ≡ held_all (Queue user) attached.now (kept_of files.old.counts ledger.old) }
     ensures rest { files.new ≡ record files.old { counts = files.new.counts } }
 {
     if attached.is_empty() {
@@ -26,7 +27,8 @@ pub fn charge_message(files: &mut Files, ledger: &mut Ledger, user: Uid, attache
 /// Drops one place in a queue for each of these files, and the user's charge.
 pub fn uncharge_message(files: &mut Files, ledger: &mut Ledger, user: Uid, attached: &[FileRef])
     requires { CanDropAll user attached.now (kept_of files.old.counts ledger.old) }
-    ensures kept { kept_of files.new.counts ledger.new ≡ dropped_all (Queue user) attached.now (kept_of files.old.counts ledger.old) }
+    ensures kept { kept_of files.new.counts ledger.new
+        ≡ dropped_all (Queue user) attached.now (kept_of files.old.counts ledger.old) }
     ensures rest { files.new ≡ record files.old { counts = files.new.counts } }
 {
     if attached.is_empty() {

@@ -25,12 +25,16 @@ pub fn table_in_all(
     attached: &[FileRef],
 )
     requires row { All (λ n. n < row_in procs.old.rows pid) fds.now }
-    requires known { (f : ℕ) → Contains attached.now f → IsTrue (map.contains_key files.old.counts f) }
-    requires fits { (f : ℕ) → (count_in_map files.old.counts f).tabled + length attached.now < 2 ^ 31 }
-    ensures processes { procs.new.processes ≡ filled procs.old.processes pid (zip fds.now attached.now) }
+    requires known { (f : ℕ) → Contains attached.now f
+        → IsTrue (map.contains_key files.old.counts f) }
+    requires fits { (f : ℕ)
+        → (count_in_map files.old.counts f).tabled + length attached.now < 2 ^ 31 }
+    ensures processes { procs.new.processes
+        ≡ filled procs.old.processes pid (zip fds.now attached.now) }
     ensures rows { procs.new.rows ≡ procs.old.rows }
     ensures next { procs.new.next_pid ≡ procs.old.next_pid }
-    ensures kept { (c : Charged) → kept_of files.new.counts c ≡ held_all Place.Table (mapped (λ e. e.1) (zip fds.now attached.now)) (kept_of files.old.counts c) }
+    ensures kept { (c : Charged) → kept_of files.new.counts c ≡ held_all Place.Table
+        (mapped (λ e. e.1) (zip fds.now attached.now)) (kept_of files.old.counts c) }
     ensures rest { files.new ≡ record files.old { counts = files.new.counts } }
 {
     for (fd, file) in fds.iter().zip(attached) {
@@ -41,8 +45,11 @@ pub fn table_in_all(
 
 /// Adds a reference for each open descriptor of a process that joins the world. Takes no memory.
 pub fn ref_table(files: &mut Files, process: &Process)
-    requires { (w : World) × (c : Charged) × Joins w process.now.process (kept_of files.old.counts c) }
-    ensures exact { (w : World) (c : Charged) → Joins w process.now.process (kept_of files.old.counts c) → IsExact (add_process w process.now.process) (kept_of files.new.counts c) }
+    requires { (w : World) × (c : Charged)
+        × Joins w process.now.process (kept_of files.old.counts c) }
+    ensures exact { (w : World) (c : Charged)
+        → Joins w process.now.process (kept_of files.old.counts c)
+        → IsExact (add_process w process.now.process) (kept_of files.new.counts c) }
     ensures rest { files.new ≡ record files.old { counts = files.new.counts } }
 {
     // Most tables have no gaps.
@@ -59,8 +66,12 @@ pub fn ref_table(files: &mut Files, process: &Process)
 
 /// Drops a reference for each open descriptor of a process that left the world. Takes no memory.
 pub fn unref_table(files: &mut Files, process: &Process)
-    requires { (w : World) × (c : Charged) × (pid : ℕ) × (map.get w.processes pid ≡ Some process.now.process) × IsExact w (kept_of files.old.counts c) }
-    ensures exact { (w : World) (c : Charged) (pid : ℕ) → map.get w.processes pid ≡ Some process.now.process → IsExact w (kept_of files.old.counts c) → IsExact (remove_process w pid) (kept_of files.new.counts c) }
+    requires { (w : World) × (c : Charged) × (pid : ℕ) × (map.get w.processes pid
+        ≡ Some process.now.process) × IsExact w (kept_of files.old.counts c) }
+    ensures exact { (w : World) (c : Charged) (pid : ℕ)
+        → map.get w.processes pid ≡ Some process.now.process
+        → IsExact w (kept_of files.old.counts c)
+        → IsExact (remove_process w pid) (kept_of files.new.counts c) }
     ensures rest { files.new ≡ record files.old { counts = files.new.counts } }
 {
     // Most tables have no gaps.

@@ -1,6 +1,9 @@
 //! Laws of connections: names, listeners, and the embryos that wait in their backlogs.
-ghost use Rattle.af_laws.specs.Connecting.{NamesFindTheirSockets, BoundSocketsAreFound, BindChangesNoCount, ListenChangesNoCount};
-ghost use Rattle.af_laws.specs.Connecting.{ConnectMakesAnEmbryo, ConnectCounts, ConnectChargesNobody, AcceptKeepsReferences, AcceptTakesTheFirstEmbryo, AcceptedNumberIsTheEmbryo};
+ghost use Rattle.af_laws.specs.Connecting.{NamesFindTheirSockets, BoundSocketsAreFound};
+ghost use Rattle.af_laws.specs.Connecting.{BindChangesNoCount, ListenChangesNoCount};
+ghost use Rattle.af_laws.specs.Connecting.{ConnectMakesAnEmbryo, ConnectCounts};
+ghost use Rattle.af_laws.specs.Connecting.{ConnectChargesNobody, AcceptKeepsReferences};
+ghost use Rattle.af_laws.specs.Connecting.{AcceptTakesTheFirstEmbryo, AcceptedNumberIsTheEmbryo};
 ghost use Rattle.af_laws.specs.Connecting.{EmbryosAreReached, WhatEmbryosHoldIsReached};
 
 /// A name finds the socket that has it, and no other.

@@ -1,5 +1,6 @@
 //! Laws of descriptors: which numbers of a table are given.
-ghost use Rattle.af_laws.specs.Numbering.{FreeNumbersAreFree, AsManyAsThereAre, GivenInOrder, NoLowerIsPassedOver};
+ghost use Rattle.af_laws.specs.Numbering.{FreeNumbersAreFree, AsManyAsThereAre, GivenInOrder};
+ghost use Rattle.af_laws.specs.Numbering.{NoLowerIsPassedOver};
 
 /// The free numbers are those below the limit that are not open, and no others.
 pub fn free_numbers_are_free()

@@ -1,5 +1,7 @@
 //! Laws of a peek, and of a changed limit.
-ghost use Rattle.af_laws.specs.Peeking.{PeekChangesNoQueue, PeekChangesNoCharge, PeekChangesNoFlight, PeekSeesWhatIsReceived, LimitClosesNothing};
+ghost use Rattle.af_laws.specs.Peeking.{PeekChangesNoQueue, PeekChangesNoCharge};
+ghost use Rattle.af_laws.specs.Peeking.{PeekChangesNoFlight, PeekSeesWhatIsReceived};
+ghost use Rattle.af_laws.specs.Peeking.{LimitClosesNothing};
 
 /// A peek leaves every queue as it is.
 pub fn peek_changes_no_queue()

@@ -1,6 +1,9 @@
 //! Laws of places and of their counts.
-ghost use Rattle.af_laws.specs.Places.{HoldsInQueueOrBacklog, NoneWhereUnplaced, NoneWhereUntabled, NoneWhereNotInFlight, NoneWhereNotWaiting, ReferencesAddUp};
-ghost use Rattle.af_laws.specs.Places.{InstallCounts, UninstallCounts, ReplaceCounts, ForkCounts, ExitCounts, ExitKeepsCharges, SendCounts, ReceiveCounts, SendCharges, ReceiveDischarges, GarbageCountsOnce};
+ghost use Rattle.af_laws.specs.Places.{HoldsInQueueOrBacklog, NoneWhereUnplaced, NoneWhereUntabled};
+ghost use Rattle.af_laws.specs.Places.{NoneWhereNotInFlight, NoneWhereNotWaiting, ReferencesAddUp};
+ghost use Rattle.af_laws.specs.Places.{InstallCounts, UninstallCounts, ReplaceCounts, ForkCounts};
+ghost use Rattle.af_laws.specs.Places.{ExitCounts, ExitKeepsCharges, SendCounts, ReceiveCounts};
+ghost use Rattle.af_laws.specs.Places.{SendCharges, ReceiveDischarges, GarbageCountsOnce};
 
 /// A file held by a socket is in its queue or in its backlog.
 pub fn holds_in_queue_or_backlog()

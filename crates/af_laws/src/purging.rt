@@ -1,6 +1,9 @@
 //! Laws of purging: queues are emptied, and then files are freed.
-ghost use Rattle.af_laws.specs.Purging.{PurgesBoth, PurgesInAnyOrder, PassSparesTheReached, PassLeavesNoGarbage, PassReleasesItsGarbage, PassHasOneOutcome, PassWithoutProcessesLeavesNothing};
-ghost use Rattle.af_laws.specs.Purging.{SlicesAreAPass, PassIsOneSlice, SlicesSpareTheReached, BegunGarbageIsNeverReached};
+ghost use Rattle.af_laws.specs.Purging.{PurgesBoth, PurgesInAnyOrder, PassSparesTheReached};
+ghost use Rattle.af_laws.specs.Purging.{PassLeavesNoGarbage, PassReleasesItsGarbage};
+ghost use Rattle.af_laws.specs.Purging.{PassHasOneOutcome, PassWithoutProcessesLeavesNothing};
+ghost use Rattle.af_laws.specs.Purging.{SlicesAreAPass, PassIsOneSlice, SlicesSpareTheReached};
+ghost use Rattle.af_laws.specs.Purging.{BegunGarbageIsNeverReached};
 
 /// To purge some files and then others is to purge all of them at once.
 pub fn purges_both()

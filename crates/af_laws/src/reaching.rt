@@ -1,7 +1,10 @@
 //! Laws of reach: what a chain of places that begins in a table leads to.
-ghost use Rattle.af_laws.specs.Reaching.{PlacesKeepReached, GroupsOfTheirOwnAreGarbage, InstallKeepsReached, SendKeepsReached, ReachedIsHeld};
+ghost use Rattle.af_laws.specs.Reaching.{PlacesKeepReached, GroupsOfTheirOwnAreGarbage};
+ghost use Rattle.af_laws.specs.Reaching.{InstallKeepsReached, SendKeepsReached, ReachedIsHeld};
 ghost use Rattle.af_laws.specs.Reaching.{NothingInFlightIsNoGarbage};
-ghost use Rattle.af_laws.specs.Reaching.{SettlingKeepsReached, PurgingKeepsReached, SpawnReachesNoGarbage, StepReachesNoGarbage, GarbageStaysOutOfReach, GarbageIsNeverReached};
+ghost use Rattle.af_laws.specs.Reaching.{SettlingKeepsReached, PurgingKeepsReached};
+ghost use Rattle.af_laws.specs.Reaching.{SpawnReachesNoGarbage, StepReachesNoGarbage};
+ghost use Rattle.af_laws.specs.Reaching.{GarbageStaysOutOfReach, GarbageIsNeverReached};
 
 /// A reachable file stays reachable if no place is lost.
 pub fn places_keep_reached()

@@ -1,5 +1,7 @@
 //! Rows worked by hand, as tests of the definitions.
-ghost use Rattle.af_laws.specs.Rows.{OneByteBringsTheFiles, BordersAreReadOver, FilesAreABarrier, BytesBeforeComeAlone, PacketIsCut, SmallestCycle, CycleIsCollected};
+ghost use Rattle.af_laws.specs.Rows.{OneByteBringsTheFiles, BordersAreReadOver, FilesAreABarrier};
+ghost use Rattle.af_laws.specs.Rows.{BytesBeforeComeAlone, PacketIsCut, SmallestCycle};
+ghost use Rattle.af_laws.specs.Rows.{CycleIsCollected};
 
 /// One byte of a message brings all its files.
 pub fn one_byte_brings_the_files()

@@ -1,5 +1,6 @@
 //! Laws of steps and of runs.
-ghost use Rattle.af_laws.specs.Running.{EventsHaveReplies, RepliesDetermine, LogDetermines, RefusedChangesNothing, RunsJoin};
+ghost use Rattle.af_laws.specs.Running.{EventsHaveReplies, RepliesDetermine, LogDetermines};
+ghost use Rattle.af_laws.specs.Running.{RefusedChangesNothing, RunsJoin};
 ghost use Rattle.af_laws.specs.Running.{FreshIsSound, EventsKeepSound, RunsAreSound};
 
 /// From every machine whose world is sound each event has a reply and leads somewhere.

@@ -1,6 +1,8 @@
 //! Laws of settling: unheld files are freed.
-ghost use Rattle.af_laws.specs.Settling.{SettlesToOne, SettlesToSome, SettledStays, SettlingSettles, SettlingTwiceIsOnce};
-ghost use Rattle.af_laws.specs.Settling.{HeldWorldIsSettled, CyclesStay, UnplacedIsUnheld, UnplacedGoesFirst};
+ghost use Rattle.af_laws.specs.Settling.{SettlesToOne, SettlesToSome, SettledStays};
+ghost use Rattle.af_laws.specs.Settling.{SettlingSettles, SettlingTwiceIsOnce};
+ghost use Rattle.af_laws.specs.Settling.{HeldWorldIsSettled, CyclesStay, UnplacedIsUnheld};
+ghost use Rattle.af_laws.specs.Settling.{UnplacedGoesFirst};
 
 /// Settling has at most one outcome.
 pub fn settles_to_one()

@@ -1,5 +1,7 @@
 //! Laws of single steps of a process.
-ghost use Rattle.af_laws.specs.Stepping.{ForkCopies, ExitTakesOneTable, ExitNeverFails, CloseNeverFails, Dup2ToItselfChangesNothing, SendIsChargedToItsSender};
+ghost use Rattle.af_laws.specs.Stepping.{ForkCopies, ExitTakesOneTable, ExitNeverFails};
+ghost use Rattle.af_laws.specs.Stepping.{CloseNeverFails, Dup2ToItselfChangesNothing};
+ghost use Rattle.af_laws.specs.Stepping.{SendIsChargedToItsSender};
 
 /// A fork copies the parent, with the files of its descriptors.
 pub fn fork_copies()

@@ -1,6 +1,7 @@
 //! Laws of taking: what a receive takes from a queue, and what it leaves.
 ghost use Rattle.af_laws.specs.Taking.{PacketKeepsBytes, PacketKeepsFiles, PacketTellsOfDrops};
-ghost use Rattle.af_laws.specs.Taking.{StreamKeepsBytes, StreamKeepsFiles, StreamTakesAtMost, StreamStopsAtFiles, FilesComeWithFirstByte, NoFilesFromNone};
+ghost use Rattle.af_laws.specs.Taking.{StreamKeepsBytes, StreamKeepsFiles, StreamTakesAtMost};
+ghost use Rattle.af_laws.specs.Taking.{StreamStopsAtFiles, FilesComeWithFirstByte, NoFilesFromNone};
 ghost use Rattle.af_laws.specs.Taking.{ReceivesKeepBytes, ReceivesKeepFiles, OneByteAtATime};
 
 /// A packet loses no byte but those that it drops.

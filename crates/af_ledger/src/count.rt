@@ -1,6 +1,7 @@
 //! The counts of one file.
 ghost use Rattle.std.specs.Prelude.{◌≡◌, ◌+◌, nat_eq};
-ghost use Rattle.af_ledger.specs.Counted.{uncounted, more, fewer, places_in, IsCountable, IsCounted};
+ghost use Rattle.af_ledger.specs.Counted.{uncounted, more, fewer, places_in, IsCountable};
+ghost use Rattle.af_ledger.specs.Counted.{IsCounted};
 
 use crate::place::Place;
 

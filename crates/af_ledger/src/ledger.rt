@@ -1,5 +1,6 @@
 //! The charges of users.
-ghost use Rattle.std.specs.Prelude.{◌≡◌, ℕ, ◌+◌, ◌≤◌, ◌-◌, ◌^◌, [], None, Some, IsTrue, IsOk, IfErr, OnOk, OnErr, length, slice_get};
+ghost use Rattle.std.specs.Prelude.{◌≡◌, ℕ, ◌+◌, ◌≤◌, ◌-◌, ◌^◌, [], None, Some, IsTrue, IsOk};
+ghost use Rattle.std.specs.Prelude.{IfErr, OnOk, OnErr, length, slice_get};
 ghost use Rattle.std.specs.Map.{keys_of};
 ghost use Rattle.af_ledger.specs.Tally.{charge_in, is_user, recharged, with_user};
 ghost use Rattle.af_ledger.specs.Sending.{send_refusal};
@@ -84,7 +85,8 @@ impl Ledger {
         files: usize,
     ) -> Result<(), Errno>
         ensures ok { OnOk result (send_refusal self.now uid limit privileged files ≡ None) }
-        ensures err { IfErr result (λ e. send_refusal self.now uid limit privileged files ≡ Some e) }
+        ensures err { IfErr result (λ e.
+            send_refusal self.now uid limit privileged files ≡ Some e) }
     {
         if files > 0 && !privileged && self.charged(uid) > u64::from(limit) {
             return Err(Errno::ETOOMANYREFS);
@@ -99,7 +101,8 @@ impl Ledger {
     /// error nothing has changed.
     #[tactic(auto, using(crate::proofs::Users::user_changes))]
     pub fn add_user(&mut self, uid: Uid) -> Result<(), AllocError>
-        ensures ok { OnOk result (self.new ≡ record self.old { users = with_user uid self.old.users }) }
+        ensures ok { OnOk result
+            (self.new ≡ record self.old { users = with_user uid self.old.users }) }
         ensures err { OnErr result (self.new ≡ self.old) }
         ensures known { IsTrue (is_user uid self.old.users) → IsOk result }
     {
@@ -116,7 +119,10 @@ impl Ledger {
     pub fn charge(&mut self, uid: Uid, units: u64)
         requires charge { charge_in self.old.users uid + units ≤ 2 ^ 63 }
         requires total { self.old.total + units ≤ 2 ^ 63 }
-        ensures { self.new ≡ record { users = recharged (λ n. n + units) uid self.old.users; total = self.old.total + units } }
+        ensures { self.new ≡ record {
+          users = recharged (λ n. n + units) uid self.old.users;
+          total = self.old.total + units;
+        } }
     {
         self.total += units;
         let Some(charge) = self.users.get_mut(&uid) else {
@@ -131,7 +137,10 @@ impl Ledger {
     pub fn uncharge(&mut self, uid: Uid, units: u64)
         requires charge { units ≤ charge_in self.old.users uid }
         requires total { units ≤ self.old.total }
-        ensures { self.new ≡ record { users = recharged (λ n. n - units) uid self.old.users; total = self.old.total - units } }
+        ensures { self.new ≡ record {
+          users = recharged (λ n. n - units) uid self.old.users;
+          total = self.old.total - units;
+        } }
     {
         self.total -= units;
         let Some(charge) = self.users.get_mut(&uid) else {

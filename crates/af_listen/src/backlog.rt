@@ -1,5 +1,6 @@
 //! A backlog.
-ghost use Rattle.std.specs.Prelude.{◌≡◌, ◌≤◌, ◌<◌, ◌++◌, ◌∷◌, [], IfSome, IfNone, IfOk, Some, length, drop, slice_get};
+ghost use Rattle.std.specs.Prelude.{◌≡◌, ◌≤◌, ◌<◌, ◌++◌, ◌∷◌, [], IfSome, IfNone, IfOk, Some};
+ghost use Rattle.std.specs.Prelude.{length, drop, slice_get};
 
 use af_base::names::FileRef;
 use std::alloc::{AllocError, Global};

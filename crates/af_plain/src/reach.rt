@@ -1,6 +1,7 @@
 //! A search for the reachable files: a list of files to look at, and the set of those found. There
 //! is no recursion.
-ghost use Rattle.std.specs.Prelude.{◌≡◌, ◌↔◌, ◌∷◌, ◌++◌, [], not, ℕ, List, map, IfOk, OnOk, true, nat_eq};
+ghost use Rattle.std.specs.Prelude.{◌≡◌, ◌↔◌, ◌∷◌, ◌++◌, [], not, ℕ, List, map, IfOk, OnOk, true};
+ghost use Rattle.std.specs.Prelude.{nat_eq};
 ghost use Rattle.std.specs.List.{Contains, filter, find};
 ghost use Rattle.std.specs.Ordering.{nat_cmp};
 ghost use Rattle.std.specs.Option.{option_copied};
@@ -55,7 +56,8 @@ impl Marking {
 
     /// Adds the files that tables hold.
     fn mark_tables(&mut self, listing: &Listing) -> Result<(), AllocError>
-        ensures { OnOk result ((held : List ℕ) × ((f : ℕ) → Contains held f ↔ InTable listing.now f) × Marks self.old self.new held) }
+        ensures { OnOk result ((held : List ℕ) × ((f : ℕ) → Contains held f ↔ InTable listing.now f)
+            × Marks self.old self.new held) }
     {
         for table in listing.tables() {
             self.mark_numbers(table)?;
@@ -101,7 +103,8 @@ fn listed_at(files: &[ListedFile], ino: Ino) -> Option<&ListedFile>
 
 /// Returns all files that a chain of places from a table reaches.
 fn mark_reached(alloc: Global, listing: &Listing) -> Result<BTreeSet<Ino>, AllocError>
-    ensures marked { IfOk result (λ s. (f : ℕ) → (tree.contains nat_cmp s f ≡ true) ↔ Reached listing.now f) }
+    ensures marked { IfOk result (λ s.
+        (f : ℕ) → (tree.contains nat_cmp s f ≡ true) ↔ Reached listing.now f) }
     ensures ordered { IfOk result (tree.IsOrdered nat_cmp) }
 {
     let mut marking = Marking {
@@ -130,7 +133,8 @@ pub fn reached(alloc: Global, listing: &Listing) -> Result<Vec<Ino>, AllocError>
 
 /// Appends the file, unless it is marked.
 fn push_unmarked(found: &mut Vec<Ino>, marked: &BTreeSet<Ino>, ino: Ino) -> Result<(), AllocError>
-    ensures { OnOk result (found.new.items ≡ found.old.items ++ filter (λ f. not (tree.contains nat_cmp marked.now f)) (ino ∷ [])) }
+    ensures { OnOk result (found.new.items
+        ≡ found.old.items ++ filter (λ f. not (tree.contains nat_cmp marked.now f)) (ino ∷ [])) }
 {
     if marked.contains(&ino) {
         return Ok(());

@@ -31,9 +31,14 @@ impl Model for Msg {
 
     ghost Value = { world.Message };
 
-    ghost view = { λ a. record { bytes = drop a.begin a.bytes.items; attached = a.attached.items; user = a.user } };
+    ghost view = { λ a. record {
+      bytes = drop a.begin a.bytes.items;
+      attached = a.attached.items;
+      user = a.user;
+    } };
 
-    ghost invariant = { λ a. (a.begin ≤ vec_len a.bytes) × (vec_len a.bytes ≤ MAX_BYTES) × (small_vec_len a.attached ≤ SCM_MAX_FD) };
+    ghost invariant = { λ a. (a.begin ≤ vec_len a.bytes) × (vec_len a.bytes ≤ MAX_BYTES)
+        × (small_vec_len a.attached ≤ SCM_MAX_FD) };
 }
 
 impl Msg {
@@ -90,7 +95,10 @@ impl Msg {
         requires { bytes ≤ length self.old.bytes }
         ensures files { result.items ≡ self.old.attached }
         ensures bound { small_vec_len result ≤ SCM_MAX_FD }
-        ensures rest { self.new ≡ record self.old { bytes = drop bytes self.old.bytes; attached = [] } }
+        ensures rest { self.new ≡ record self.old {
+          bytes = drop bytes self.old.bytes;
+          attached = [];
+        } }
     {
         let begin = self.begin as usize + bytes;
         self.begin = begin as u32;
@@ -120,7 +128,10 @@ impl Msg {
 
     /// Copies what a receive of at most this many bytes takes of it as a packet.
     pub(crate) fn peek(&self, alloc: Global, max: usize) -> Result<Taken, AllocError>
-        ensures { IfOk result (λ t. t ≡ record { message = record self.now { bytes = take max self.now.bytes }; trunc = nat_lt max (length self.now.bytes) }) }
+        ensures { IfOk result (λ t. t ≡ record {
+          message = record self.now { bytes = take max self.now.bytes };
+          trunc = nat_lt max (length self.now.bytes);
+        }) }
     {
         let bytes = self.bytes()[..max.min(self.len())].to_vec(alloc)?;
         let attached = self.copy_attached(alloc)?;
@@ -130,7 +141,10 @@ impl Msg {
     /// Returns what a receive of at most this many bytes takes of it as a packet. Takes no memory.
     #[inline(always)]
     pub(crate) fn into_taken(self, max: usize) -> Taken
-        ensures { result ≡ record { message = record self { bytes = take max self.bytes }; trunc = nat_lt max (length self.bytes) } }
+        ensures { result ≡ record {
+          message = record self { bytes = take max self.bytes };
+          trunc = nat_lt max (length self.bytes);
+        } }
     {
         let trunc = self.len() > max;
         let Msg {

@@ -1,5 +1,6 @@
 //! The messages of many queues in one table, each with the key of the one behind it.
-ghost use Rattle.std.specs.Prelude.{◌≡◌, ◌≢◌, ◌<◌, ◌≤◌, ◌∷◌, ◌++◌, ℕ, [], Some, IfSome, IfNone, IfOk, IsOk, OnOk, OnErr, drop, length, slice_get, true};
+ghost use Rattle.std.specs.Prelude.{◌≡◌, ◌≢◌, ◌<◌, ◌≤◌, ◌∷◌, ◌++◌, ℕ, [], Some, IfSome, IfNone};
+ghost use Rattle.std.specs.Prelude.{IfOk, IsOk, OnOk, OnErr, drop, length, slice_get, true};
 ghost use Rattle.std.specs.Option.{option_map_or};
 ghost use Rattle.slab.specs.Slab as slots;
 ghost use Rattle.smallvec.specs.SmallVec.{small_vec_len};
@@ -34,8 +35,8 @@ pub fn room(nodes: &mut Slab<Node>) -> Result<(), AllocError>
     nodes.reserve(1)
 }
 
-/// Appends a message to this chain, which is that file's and not full. It cannot fail, since there is
-/// room.
+/// Appends a message to this chain, which is that file's and not full. It cannot fail, since there
+/// is room.
 #[inline(always)]
 pub fn push(nodes: &mut Slab<Node>, chain: &mut Chain, owner: Ino, message: Msg)
     requires chain { IsChain nodes.old chain.old owner }
@@ -43,7 +44,8 @@ pub fn push(nodes: &mut Slab<Node>, chain: &mut Chain, owner: Ino, message: Msg)
     requires within { IsMessageWithin message }
     requires room { has_room nodes.old ≡ true }
     ensures chain { IsChain nodes.new chain.new owner }
-    ensures messages { messages_of nodes.new chain.new ≡ messages_of nodes.old chain.old ++ message ∷ [] }
+    ensures messages { messages_of nodes.new chain.new
+        ≡ messages_of nodes.old chain.old ++ message ∷ [] }
     ensures others { SameElsewhere nodes.old nodes.new owner }
     ensures none_lost { KeepsNodes nodes.old chain.old nodes.new chain.new }
 {
@@ -68,7 +70,8 @@ pub fn push(nodes: &mut Slab<Node>, chain: &mut Chain, owner: Ino, message: Msg)
 /// Links the node at this key to the next one.
 #[inline(always)]
 fn link(nodes: &mut Slab<Node>, key: u32, next: u32)
-    ensures linked { (x : Node) → slots.get nodes.old key ≡ Some x → slots.get nodes.new key ≡ Some (record x { next = next }) }
+    ensures linked { (x : Node) → slots.get nodes.old key ≡ Some x
+        → slots.get nodes.new key ≡ Some (record x { next = next }) }
     ensures others { (q : ℕ) → q ≢ key → slots.get nodes.new q ≡ slots.get nodes.old q }
     ensures none_lost { slots.slab_len nodes.new ≡ slots.slab_len nodes.old }
 {
@@ -82,7 +85,8 @@ fn link(nodes: &mut Slab<Node>, key: u32, next: u32)
 pub fn pop(nodes: &mut Slab<Node>, chain: &mut Chain, owner: Ino) -> Option<Msg>
     requires chain { IsChain nodes.old chain.old owner }
     ensures chain { IsChain nodes.new chain.new owner }
-    ensures some { IfSome result (λ m. messages_of nodes.old chain.old ≡ m ∷ messages_of nodes.new chain.new) }
+    ensures some { IfSome result (λ m.
+        messages_of nodes.old chain.old ≡ m ∷ messages_of nodes.new chain.new) }
     ensures none { IfNone result (messages_of nodes.old chain.old ≡ []) }
     ensures rest { messages_of nodes.new chain.new ≡ drop 1 (messages_of nodes.old chain.old) }
     ensures within { IfSome result IsMessageWithin }
@@ -114,11 +118,13 @@ pub fn take(
     requires chain { IsChain nodes.old chain.old owner }
     requires some { 0 < max }
     ensures taken { IfOk result (λ t. t ≡ received kind (messages_of nodes.old chain.old) max) }
-    ensures rest { OnOk result (messages_of nodes.new chain.new ≡ (take_from kind (messages_of nodes.old chain.old) max).rest) }
+    ensures rest { OnOk result (messages_of nodes.new chain.new
+        ≡ (take_from kind (messages_of nodes.old chain.old) max).rest) }
     ensures chain { IsChain nodes.new chain.new owner }
     ensures others { SameElsewhere nodes.old nodes.new owner }
     ensures none_lost { KeepsNodes nodes.old chain.old nodes.new chain.new }
-    ensures same { OnErr result (messages_of nodes.new chain.new ≡ messages_of nodes.old chain.old) }
+    ensures same { OnErr result
+        (messages_of nodes.new chain.new ≡ messages_of nodes.old chain.old) }
     ensures unchanged { OnErr result (nodes.new ≡ nodes.old) }
 {
     match kind {
@@ -159,12 +165,15 @@ fn take_stream(
 ) -> Result<Taken, AllocError>
     requires chain { IsChain nodes.old chain.old owner }
     requires some { 0 < max }
-    ensures taken { IfOk result (λ t. t ≡ received SockType.Stream (messages_of nodes.old chain.old) max) }
-    ensures rest { OnOk result (messages_of nodes.new chain.new ≡ (take_stream (messages_of nodes.old chain.old) max).rest) }
+    ensures taken { IfOk result (λ t.
+        t ≡ received SockType.Stream (messages_of nodes.old chain.old) max) }
+    ensures rest { OnOk result (messages_of nodes.new chain.new
+        ≡ (take_stream (messages_of nodes.old chain.old) max).rest) }
     ensures chain { IsChain nodes.new chain.new owner }
     ensures others { SameElsewhere nodes.old nodes.new owner }
     ensures none_lost { KeepsNodes nodes.old chain.old nodes.new chain.new }
-    ensures same { OnErr result (messages_of nodes.new chain.new ≡ messages_of nodes.old chain.old) }
+    ensures same { OnErr result
+        (messages_of nodes.new chain.new ≡ messages_of nodes.old chain.old) }
     ensures unchanged { OnErr result (nodes.new ≡ nodes.old) }
 {
     let queue = Queue::of(nodes, chain);
@@ -188,8 +197,10 @@ fn cut(
 ) -> (Attached, Uid)
     requires chain { IsChain nodes.old chain.old owner }
     requires some { 0 < count }
-    ensures messages { messages_of nodes.new chain.new ≡ cut count (messages_of nodes.old chain.old) }
-    ensures files { result.0.items ≡ option_map_or (λ m. m.attached) (message_at count (messages_of nodes.old chain.old)) [] }
+    ensures messages { messages_of nodes.new chain.new
+        ≡ cut count (messages_of nodes.old chain.old) }
+    ensures files { result.0.items
+        ≡ option_map_or (λ m. m.attached) (message_at count (messages_of nodes.old chain.old)) [] }
     ensures bound { small_vec_len result.0 ≤ SCM_MAX_FD }
     ensures user { result.1 ≡ sender_at count (messages_of nodes.old chain.old) }
     ensures chain { IsChain nodes.new chain.new owner }
@@ -211,16 +222,20 @@ fn drop_shorter(
     count: usize,
 ) -> Option<usize>
     requires chain { IsChain nodes.old chain.old owner }
-    ensures cut { IfSome result (λ rest. cut rest (messages_of nodes.new chain.new) ≡ cut count (messages_of nodes.old chain.old)) }
-    ensures at { IfSome result (λ rest. message_at rest (messages_of nodes.new chain.new) ≡ message_at count (messages_of nodes.old chain.old)) }
+    ensures cut { IfSome result (λ rest.
+        cut rest (messages_of nodes.new chain.new) ≡ cut count (messages_of nodes.old chain.old)) }
+    ensures at { IfSome result (λ rest. message_at rest (messages_of nodes.new chain.new)
+        ≡ message_at count (messages_of nodes.old chain.old)) }
     ensures more { IfSome result (λ rest. 0 < rest) }
-    ensures fewer { IfSome result (λ _. length (messages_of nodes.new chain.new) < length (messages_of nodes.old chain.old)) }
+    ensures fewer { IfSome result (λ _.
+        length (messages_of nodes.new chain.new) < length (messages_of nodes.old chain.old)) }
     ensures chain { IsChain nodes.new chain.new owner }
     ensures others { SameElsewhere nodes.old nodes.new owner }
     ensures none_lost { KeepsNodes nodes.old chain.old nodes.new chain.new }
     ensures nodes { IfNone result (nodes.new ≡ nodes.old) }
     ensures same { IfNone result (chain.new ≡ chain.old) }
-    ensures long { IfNone result (IfSome (slice_get (messages_of nodes.old chain.old) 0) (λ m. count ≤ length m.bytes)) }
+    ensures long { IfNone result
+        (IfSome (slice_get (messages_of nodes.old chain.old) 0) (λ m. count ≤ length m.bytes)) }
 {
     let size = Queue::of(nodes, chain).first()?.len();
     if count <= size {
@@ -241,11 +256,15 @@ fn cut_first(
 ) -> (Attached, Uid)
     requires chain { IsChain nodes.old chain.old owner }
     requires some { 0 < count }
-    requires long { IfSome (slice_get (messages_of nodes.old chain.old) 0) (λ m. count ≤ length m.bytes) }
-    ensures messages { messages_of nodes.new chain.new ≡ cut count (messages_of nodes.old chain.old) }
-    ensures files { result.0.items ≡ option_map_or (λ m. m.attached) (slice_get (messages_of nodes.old chain.old) 0) [] }
+    requires long { IfSome (slice_get (messages_of nodes.old chain.old) 0) (λ m.
+        count ≤ length m.bytes) }
+    ensures messages { messages_of nodes.new chain.new
+        ≡ cut count (messages_of nodes.old chain.old) }
+    ensures files { result.0.items
+        ≡ option_map_or (λ m. m.attached) (slice_get (messages_of nodes.old chain.old) 0) [] }
     ensures bound { small_vec_len result.0 ≤ SCM_MAX_FD }
-    ensures user { result.1 ≡ option_map_or (λ m. m.user) (slice_get (messages_of nodes.old chain.old) 0) 0 }
+    ensures user { result.1
+        ≡ option_map_or (λ m. m.user) (slice_get (messages_of nodes.old chain.old) 0) 0 }
     ensures chain { IsChain nodes.new chain.new owner }
     ensures others { SameElsewhere nodes.old nodes.new owner }
     ensures none_lost { KeepsNodes nodes.old chain.old nodes.new chain.new }
@@ -270,11 +289,15 @@ fn shorten_first(
 ) -> (Attached, Uid)
     requires chain { IsChain nodes.old chain.now owner }
     requires some { 0 < count }
-    requires long { count < option_map_or (λ m. length m.bytes) (slice_get (messages_of nodes.old chain.now) 0) 0 }
-    ensures messages { messages_of nodes.new chain.now ≡ cut count (messages_of nodes.old chain.now) }
-    ensures files { result.0.items ≡ option_map_or (λ m. m.attached) (slice_get (messages_of nodes.old chain.now) 0) [] }
+    requires long { count
+        < option_map_or (λ m. length m.bytes) (slice_get (messages_of nodes.old chain.now) 0) 0 }
+    ensures messages { messages_of nodes.new chain.now
+        ≡ cut count (messages_of nodes.old chain.now) }
+    ensures files { result.0.items
+        ≡ option_map_or (λ m. m.attached) (slice_get (messages_of nodes.old chain.now) 0) [] }
     ensures bound { small_vec_len result.0 ≤ SCM_MAX_FD }
-    ensures user { result.1 ≡ option_map_or (λ m. m.user) (slice_get (messages_of nodes.old chain.now) 0) 0 }
+    ensures user { result.1
+        ≡ option_map_or (λ m. m.user) (slice_get (messages_of nodes.old chain.now) 0) 0 }
     ensures chain { IsChain nodes.new chain.now owner }
     ensures others { SameElsewhere nodes.old nodes.new owner }
     ensures none_lost { slots.slab_len nodes.new ≡ slots.slab_len nodes.old }

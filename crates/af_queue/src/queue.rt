@@ -1,5 +1,6 @@
 //! The messages of one queue, lent for reading.
-ghost use Rattle.std.specs.Prelude.{◌≡◌, ◌≤◌, ◌<◌, ◌*◌, ◌-◌, ◌∷◌, ◌++◌, [], ℕ, IfSome, IfNone, IfOk, drop, length, take, slice_get, option_copied};
+ghost use Rattle.std.specs.Prelude.{◌≡◌, ◌≤◌, ◌<◌, ◌*◌, ◌-◌, ◌∷◌, ◌++◌, [], ℕ, IfSome, IfNone};
+ghost use Rattle.std.specs.Prelude.{IfOk, drop, length, take, slice_get, option_copied};
 ghost use Rattle.std.specs.Option.{option_map_or};
 ghost use Rattle.af_base.specs.Places.{carried};
 ghost use Rattle.af_base.specs.Take.{joined, take_from};
@@ -42,7 +43,8 @@ impl<'a> Model for Queue<'a> {
 
     ghost view = { λ a. messages_from a.nodes.now a.first a.len };
 
-    ghost invariant = { λ a. (length (messages_from a.nodes.now a.first a.len) ≡ a.len) × (a.len ≤ MAX_MESSAGES) × AreWithin (messages_from a.nodes.now a.first a.len) };
+    ghost invariant = { λ a. (length (messages_from a.nodes.now a.first a.len) ≡ a.len)
+        × (a.len ≤ MAX_MESSAGES) × AreWithin (messages_from a.nodes.now a.first a.len) };
 }
 
 impl<'a> Queue<'a> {
@@ -266,7 +268,8 @@ impl<'a> Queue<'a> {
 fn fill(files: &mut ArrayVec<FileRef, BATCH>, attached: &[FileRef])
     requires { length files.old.items ≤ BATCH }
     ensures fits { length files.new.items ≤ BATCH }
-    ensures items { files.new.items ≡ files.old.items ++ take (BATCH - length files.old.items) attached.now }
+    ensures items { files.new.items
+        ≡ files.old.items ++ take (BATCH - length files.old.items) attached.now }
 {
     for file in attached {
         if files.is_full() {

@@ -27,7 +27,10 @@ impl Model for Taken {
 
     ghost Value = { Received };
 
-    ghost view = { λ a. record { message = record { bytes = a.bytes.items; attached = a.attached.items; user = a.user }; trunc = a.trunc } };
+    ghost view = { λ a. record {
+      message = record { bytes = a.bytes.items; attached = a.attached.items; user = a.user };
+      trunc = a.trunc;
+    } };
 
     ghost invariant = { λ a. small_vec_len a.attached ≤ SCM_MAX_FD };
 }
@@ -37,7 +40,10 @@ impl Taken {
     #[inline(always)]
     pub(crate) fn new(bytes: Vec<u8>, attached: Attached, user: Uid, trunc: bool) -> Taken
         requires few { small_vec_len attached ≤ SCM_MAX_FD }
-        ensures { result ≡ record { message = record { bytes = bytes.items; attached = attached.items; user = user }; trunc = trunc } }
+        ensures { result ≡ record {
+          message = record { bytes = bytes.items; attached = attached.items; user = user };
+          trunc = trunc;
+        } }
     {
         Taken {
             bytes,

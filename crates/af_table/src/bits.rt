@@ -1,5 +1,6 @@
 //! Which numbers below the largest limit are taken.
-ghost use Rattle.std.specs.Prelude.{◌≡◌, ℕ, ◌≤◌, ◌<◌, IfSome, IfNone, not, true, false, nat_eq, if◌then◌else◌};
+ghost use Rattle.std.specs.Prelude.{◌≡◌, ℕ, ◌≤◌, ◌<◌, IfSome, IfNone, not, true, false, nat_eq};
+ghost use Rattle.std.specs.Prelude.{if◌then◌else◌};
 ghost use Rattle.af_table.specs.Bits.{is_taken, IsPlace, HasNoPlace};
 
 use af_base::limits::MAX_NOFILE;
@@ -34,7 +35,8 @@ impl Bits {
     #[inline(always)]
     pub fn set(&mut self, n: u32)
         requires { n < MAX_NOFILE }
-        ensures { (q : ℕ) → is_taken self.new.words q ≡ (if nat_eq q n then true else is_taken self.old.words q) }
+        ensures { (q : ℕ) → is_taken self.new.words q
+            ≡ (if nat_eq q n then true else is_taken self.old.words q) }
     {
         self.words[(n / u64::BITS) as usize] |= 1 << (n % u64::BITS);
     }
@@ -43,7 +45,8 @@ impl Bits {
     #[inline(always)]
     pub fn clear(&mut self, n: u32)
         requires { n < MAX_NOFILE }
-        ensures { (q : ℕ) → is_taken self.new.words q ≡ (if nat_eq q n then false else is_taken self.old.words q) }
+        ensures { (q : ℕ) → is_taken self.new.words q
+            ≡ (if nat_eq q n then false else is_taken self.old.words q) }
     {
         self.words[(n / u64::BITS) as usize] &= !(1 << (n % u64::BITS));
     }
@@ -56,8 +59,10 @@ impl Bits {
         ensures found { IfSome result (λ n. is_taken self.now.words n ≡ taken) }
         ensures low { IfSome result (λ n. n < end) }
         ensures reached { IfSome result (λ n. from ≤ n) }
-        ensures least { IfSome result (λ n. (q : ℕ) → from ≤ q → q < n → is_taken self.now.words q ≡ not taken) }
-        ensures none { IfNone result ((q : ℕ) → from ≤ q → q < end → is_taken self.now.words q ≡ not taken) }
+        ensures least { IfSome result (λ n.
+            (q : ℕ) → from ≤ q → q < n → is_taken self.now.words q ≡ not taken) }
+        ensures none { IfNone result
+            ((q : ℕ) → from ≤ q → q < end → is_taken self.now.words q ≡ not taken) }
     {
         // Most tables have no gaps: a walk over what is taken finds the very number.
         if taken && from < end && self.has(from) {

@@ -48,7 +48,8 @@ impl Procs {
     /// process has none. Takes memory for the list alone.
     pub fn listed(&self, pid: Pid) -> Result<ListedTable, AllocError>
         ensures pid { IfOk result (λ t. t.pid ≡ pid) }
-        ensures shown { IfOk result (λ t. process_of t ≡ bare_process (process_in self.now.processes pid)) }
+        ensures shown { IfOk result (λ t.
+            process_of t ≡ bare_process (process_in self.now.processes pid)) }
         ensures rising { IfOk result IsRisingTable }
         ensures few { IfOk result (λ t. length t.numbers.items ≤ MAX_NOFILE) }
     {

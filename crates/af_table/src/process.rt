@@ -1,5 +1,6 @@
 //! A process with its table.
-ghost use Rattle.std.specs.Prelude.{◌≡◌, ℕ, ◌+◌, ◌≤◌, ◌<◌, [], ◌∷◌, length, slice_get, IfSome, IsTrue, IfNone, IfOk, OnOk, OnErr, IsOk};
+ghost use Rattle.std.specs.Prelude.{◌≡◌, ℕ, ◌+◌, ◌≤◌, ◌<◌, [], ◌∷◌, length, slice_get, IfSome};
+ghost use Rattle.std.specs.Prelude.{IsTrue, IfNone, IfOk, OnOk, OnErr, IsOk};
 ghost use Rattle.std.specs.FinMap as map;
 ghost use Rattle.af_base.specs.Changes.{installed, limited, taken_out};
 ghost use Rattle.af_base.specs.Table.{free_numbers, lowest_free};
@@ -34,9 +35,18 @@ impl Model for Process {
 
     ghost coded = { Prim.hlevel (codes, map.code) };
 
-    ghost view = { λ a. record { process = record { user = a.user; limit = a.limit; privileged = a.privileged; table = table_of a.taken.words a.slots.items }; row = vec_len a.slots } };
+    ghost view = { λ a. record {
+      process = record {
+        user = a.user;
+        limit = a.limit;
+        privileged = a.privileged;
+        table = table_of a.taken.words a.slots.items;
+      };
+      row = vec_len a.slots;
+    } };
 
-    ghost invariant = { λ a. (vec_len a.slots ≤ MAX_NOFILE) × (a.limit ≤ MAX_NOFILE) × NoneFrom (vec_len a.slots) a.taken.words };
+    ghost invariant = { λ a. (vec_len a.slots ≤ MAX_NOFILE) × (a.limit ≤ MAX_NOFILE)
+        × NoneFrom (vec_len a.slots) a.taken.words };
 }
 
 impl Process {
@@ -44,7 +54,15 @@ impl Process {
     #[tactic(auto, using(crate::proofs::Tables::table_changes))]
     pub(crate) fn new(alloc: Global, user: Uid, limit: u32, privileged: bool) -> Process
         requires { limit ≤ MAX_NOFILE }
-        ensures { result ≡ record { process = record { user = user; limit = limit; privileged = privileged; table = map.empty }; row = 0 } }
+        ensures { result ≡ record {
+          process = record {
+            user = user;
+            limit = limit;
+            privileged = privileged;
+            table = map.empty;
+          };
+          row = 0;
+        } }
     {
         Process {
             user,
@@ -163,7 +181,8 @@ impl Process {
     pub(crate) fn replace(&mut self, fd: Fd, file: FileRef) -> Option<FileRef>
         requires { fd < self.old.row }
         ensures value { result ≡ map.get self.old.process.table fd }
-        ensures installed { self.new ≡ record self.old { process = installed fd file self.old.process } }
+        ensures installed { self.new
+            ≡ record self.old { process = installed fd file self.old.process } }
     {
         let was = mem::replace(&mut self.slots[fd.0 as usize], file);
         if self.taken.has(fd.0) {
@@ -189,7 +208,8 @@ impl Process {
     #[inline(always)]
     #[tactic(auto, using(crate::proofs::Left::free_changes))]
     pub(crate) fn next_free(&self, from: u32) -> Option<Fd>
-        ensures some { IfSome result (λ n. free_from from self.now.process ≡ n ∷ free_from (n + 1) self.now.process) }
+        ensures some { IfSome result (λ n.
+            free_from from self.now.process ≡ n ∷ free_from (n + 1) self.now.process) }
         ensures none { IfNone result (free_from from self.now.process ≡ []) }
         ensures low { IfSome result (λ n. n < MAX_NOFILE) }
     {
@@ -249,8 +269,10 @@ impl Process {
         ensures open { IfSome result (λ e. map.get self.now.process.table e.0 ≡ Some e.1) }
         ensures low { IfSome result (λ e. e.0 < MAX_NOFILE) }
         ensures reached { IfSome result (λ e. from ≤ e.0) }
-        ensures least { IfSome result (λ e. (q : ℕ) → from ≤ q → q < e.0 → map.get self.now.process.table q ≡ None) }
-        ensures none { IfNone result ((q : ℕ) → from ≤ q → map.get self.now.process.table q ≡ None) }
+        ensures least { IfSome result (λ e.
+            (q : ℕ) → from ≤ q → q < e.0 → map.get self.now.process.table q ≡ None) }
+        ensures none { IfNone result
+            ((q : ℕ) → from ≤ q → map.get self.now.process.table q ≡ None) }
     {
         let n = self.taken.next(from.0, self.slots.len() as u32, true)?;
         let file = self.slots[n as usize].duplicate();
@@ -261,7 +283,8 @@ impl Process {
     #[inline(always)]
     #[tactic(auto, using(crate::proofs::Tables::table_changes))]
     pub fn run_from(&self, fd: Fd) -> &[FileRef]
-        ensures open { (i : ℕ) → i < length result.now → map.get self.now.process.table (fd + i) ≡ slice_get result.now i }
+        ensures open { (i : ℕ) → i < length result.now
+            → map.get self.now.process.table (fd + i) ≡ slice_get result.now i }
         ensures some { IsTrue (map.contains_key self.now.process.table fd) → 0 < length result.now }
         ensures low { fd ≤ MAX_NOFILE → fd + length result.now ≤ MAX_NOFILE }
     {

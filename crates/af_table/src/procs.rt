@@ -1,5 +1,6 @@
 //! The processes by pid.
-ghost use Rattle.std.specs.Prelude.{◌≡◌, ℕ, ◌+◌, ◌≤◌, ◌<◌, IsTrue, IfSome, IfNone, IfOk, OnOk, OnErr, IsOk};
+ghost use Rattle.std.specs.Prelude.{◌≡◌, ℕ, ◌+◌, ◌≤◌, ◌<◌, IsTrue, IfSome, IfNone, IfOk, OnOk};
+ghost use Rattle.std.specs.Prelude.{OnErr, IsOk};
 ghost use Rattle.std.specs.FinMap as map;
 ghost use Rattle.af_base.specs.Changes.{change_at, installed, limited, taken_out};
 ghost use Rattle.af_base.specs.Places.{number_in};
@@ -34,7 +35,12 @@ impl Model for Procs {
 
     ghost coded = { Prim.hlevel (codes, map.code) };
 
-    ghost view = { λ a. record { processes = processes_of a.processes.entries; rows = rows_of a.processes.entries; next_pid = a.next_pid; room = spare a.processes } };
+    ghost view = { λ a. record {
+      processes = processes_of a.processes.entries;
+      rows = rows_of a.processes.entries;
+      next_pid = a.next_pid;
+      room = spare a.processes;
+    } };
 }
 
 impl Procs {
@@ -114,8 +120,10 @@ impl Procs {
         ensures open { IfSome result (λ e. number_in self.now.processes pid e.0 ≡ Some e.1) }
         ensures low { IfSome result (λ e. e.0 < MAX_NOFILE) }
         ensures reached { IfSome result (λ e. from ≤ e.0) }
-        ensures least { IfSome result (λ e. (q : ℕ) → from ≤ q → q < e.0 → number_in self.now.processes pid q ≡ None) }
-        ensures none { IfNone result ((q : ℕ) → from ≤ q → number_in self.now.processes pid q ≡ None) }
+        ensures least { IfSome result (λ e.
+            (q : ℕ) → from ≤ q → q < e.0 → number_in self.now.processes pid q ≡ None) }
+        ensures none { IfNone result
+            ((q : ℕ) → from ≤ q → number_in self.now.processes pid q ≡ None) }
     {
         self.find(pid)?.next_open(from)
     }
@@ -141,7 +149,8 @@ impl Procs {
         requires next { self.old.next_pid ≤ MAX_PID }
         ensures pid { result ≡ self.old.next_pid }
         ensures next { self.new.next_pid ≡ self.old.next_pid + 1 }
-        ensures processes { self.new.processes ≡ map.insert self.old.processes self.old.next_pid process.process }
+        ensures processes { self.new.processes
+            ≡ map.insert self.old.processes self.old.next_pid process.process }
         ensures rows { self.new.rows ≡ map.insert self.old.rows self.old.next_pid process.row }
         ensures room { self.old.room ≤ self.new.room + 1 }
     {
@@ -160,7 +169,8 @@ impl Procs {
         requires next { self.old.next_pid ≤ MAX_PID }
         ensures pid { result ≡ self.old.next_pid }
         ensures next { self.new.next_pid ≡ self.old.next_pid + 1 }
-        ensures processes { self.new.processes ≡ map.insert self.old.processes self.old.next_pid (started user limit privileged) }
+        ensures processes { self.new.processes
+            ≡ map.insert self.old.processes self.old.next_pid (started user limit privileged) }
         ensures rows { self.new.rows ≡ map.insert self.old.rows self.old.next_pid 0 }
         ensures room { self.old.room ≤ self.new.room + 1 }
     {
@@ -192,12 +202,14 @@ impl Procs {
         ensures processes { self.new.processes ≡ self.old.processes }
         ensures next { self.new.next_pid ≡ self.old.next_pid }
         ensures room { self.new.room ≡ self.old.room }
-        ensures ok { OnOk result (0 < count → (process_in self.old.processes pid).limit ≤ row_in self.new.rows pid) }
+        ensures ok { OnOk result
+            (0 < count → (process_in self.old.processes pid).limit ≤ row_in self.new.rows pid) }
         ensures rows { (q : ℕ) → row_in self.old.rows q ≤ row_in self.new.rows q }
         ensures err { OnErr result (self.new.rows ≡ self.old.rows) }
         ensures none { count ≡ 0 → IsOk result }
         ensures unchanged { count ≡ 0 → self.new.rows ≡ self.old.rows }
-        ensures ready { (process_in self.old.processes pid).limit ≤ row_in self.old.rows pid → IsOk result }
+        ensures ready { (process_in self.old.processes pid).limit ≤ row_in self.old.rows pid
+            → IsOk result }
     {
         if count == 0 {
             return Ok(());
@@ -233,7 +245,8 @@ impl Procs {
     #[tactic(auto, using(crate::proofs::Parts::part_changes))]
     pub fn install(&mut self, pid: Pid, fd: Fd, file: FileRef)
         requires { fd < row_in self.old.rows pid }
-        ensures processes { self.new.processes ≡ change_at (installed fd file) self.old.processes pid }
+        ensures processes { self.new.processes
+            ≡ change_at (installed fd file) self.old.processes pid }
         ensures rows { self.new.rows ≡ self.old.rows }
         ensures next { self.new.next_pid ≡ self.old.next_pid }
         ensures room { self.new.room ≡ self.old.room }
@@ -252,7 +265,8 @@ impl Procs {
     pub fn replace(&mut self, pid: Pid, fd: Fd, file: FileRef) -> Option<FileRef>
         requires { fd < row_in self.old.rows pid }
         ensures value { result ≡ number_in self.old.processes pid fd }
-        ensures processes { self.new.processes ≡ change_at (installed fd file) self.old.processes pid }
+        ensures processes { self.new.processes
+            ≡ change_at (installed fd file) self.old.processes pid }
         ensures rows { self.new.rows ≡ self.old.rows }
         ensures next { self.new.next_pid ≡ self.old.next_pid }
         ensures room { self.new.room ≡ self.old.room }

@@ -1,5 +1,6 @@
 //! Values under keys, each with its number beside it.
-ghost use Rattle.std.specs.Prelude.{◌≡◌, ℕ, ◌+◌, ◌≤◌, ◌<◌, false, Some, IsTrue, IsOk, IfSome, IfNone, OnOk};
+ghost use Rattle.std.specs.Prelude.{◌≡◌, ℕ, ◌+◌, ◌≤◌, ◌<◌, false, Some, IsTrue, IsOk, IfSome};
+ghost use Rattle.std.specs.Prelude.{IfNone, OnOk};
 ghost use Rattle.std.specs.Option.{option_map};
 ghost use Rattle.std.specs.FinMap as map;
 ghost use Rattle.slab.specs.Slab as slots;
@@ -97,7 +98,8 @@ pub fn put<T>(order: &mut Order, slab: &mut Slab<Entry<T>>, ino: Ino, value: T) 
     requires slots { HasRoomFor slab.old 1 }
     requires above { order.old.last < ino }
     ensures file { result ≡ ino }
-    ensures values { values_of order.new.keys slab.new ≡ map.insert (values_of order.old.keys slab.old) ino value }
+    ensures values { values_of order.new.keys slab.new
+        ≡ map.insert (values_of order.old.keys slab.old) ino value }
     ensures new { map.contains_key (values_of order.old.keys slab.old) ino ≡ false }
     ensures place { AreInPlace order.new.keys slab.new }
     ensures last { order.new.last ≡ ino }
@@ -136,7 +138,8 @@ fn pack<T>(order: &mut Order, slab: &mut Slab<Entry<T>>)
 #[inline(always)]
 #[tactic(auto, using(crate::proofs::Standing::notes))]
 fn note<T>(slab: &mut Slab<Entry<T>>, key: usize, at: usize)
-    ensures values { (m : Map ℕ) → AreInPlace m slab.old → values_of m slab.new ≡ values_of m slab.old }
+    ensures values { (m : Map ℕ) → AreInPlace m slab.old
+        → values_of m slab.new ≡ values_of m slab.old }
     ensures place { (m : Map ℕ) → AreInPlace m slab.old → AreInPlace m slab.new }
     ensures len { slab_len slab.new ≡ slab_len slab.old }
     ensures capacity { slab.new.capacity ≡ slab.old.capacity }
@@ -153,7 +156,8 @@ fn note<T>(slab: &mut Slab<Entry<T>>, key: usize, at: usize)
 pub fn take<T>(order: &mut Order, slab: &mut Slab<Entry<T>>, file: &FileRef) -> Option<T>
     requires place { AreInPlace order.old.keys slab.old }
     ensures value { result ≡ map.get (values_of order.old.keys slab.old) file.now }
-    ensures values { values_of order.new.keys slab.new ≡ map.remove (values_of order.old.keys slab.old) file.now }
+    ensures values { values_of order.new.keys slab.new
+        ≡ map.remove (values_of order.old.keys slab.old) file.now }
     ensures place { AreInPlace order.new.keys slab.new }
     ensures last { order.new.last ≡ order.old.last }
     ensures room { order.old.room ≤ order.new.room }

@@ -1,5 +1,6 @@
 //! Values under numbers that only rise.
-ghost use Rattle.std.specs.Prelude.{◌≡◌, ℕ, ◌+◌, ◌≤◌, ◌<◌, false, IsTrue, IsOk, IfSome, IfNone, OnOk, option_copied};
+ghost use Rattle.std.specs.Prelude.{◌≡◌, ℕ, ◌+◌, ◌≤◌, ◌<◌, false, IsTrue, IsOk, IfSome, IfNone};
+ghost use Rattle.std.specs.Prelude.{OnOk, option_copied};
 ghost use Rattle.std.specs.FinMap as map;
 ghost use Rattle.std.specs.Option.{option_copied_mut};
 ghost use Rattle.std.specs.Borrow.{sem};
@@ -29,7 +30,11 @@ impl<T> Model for OrderedSlab<T> {
 
     ghost coded = { numbered_code T.code };
 
-    ghost view = { λ a. record { values = values_of a.order.keys a.slab; last = a.order.last; room = min a.order.room (a.slab.capacity - slab_len a.slab) } };
+    ghost view = { λ a. record {
+      values = values_of a.order.keys a.slab;
+      last = a.order.last;
+      room = min a.order.room (a.slab.capacity - slab_len a.slab);
+    } };
 
     ghost invariant = { λ a. AreInPlace a.order.keys a.slab × (slab_len a.slab ≤ a.slab.capacity) };
 }
@@ -86,7 +91,11 @@ impl<T> OrderedSlab<T> {
         requires room { 0 < self.old.room }
         requires above { self.old.last < ino }
         ensures file { result ≡ ino }
-        ensures pushed { self.new ≡ record self.old { values = map.insert self.old.values ino value; last = ino; room = self.new.room } }
+        ensures pushed { self.new ≡ record self.old {
+          values = map.insert self.old.values ino value;
+          last = ino;
+          room = self.new.room;
+        } }
         ensures new { map.contains_key self.old.values ino ≡ false }
         ensures room { self.old.room ≤ self.new.room + 1 }
     {
@@ -98,7 +107,10 @@ impl<T> OrderedSlab<T> {
     #[tactic(auto, using(crate::proofs::Standing::comes_and_goes))]
     pub fn remove(&mut self, file: &FileRef) -> Option<T>
         ensures value { result ≡ map.get self.old.values file.now }
-        ensures removed { self.new ≡ record self.old { values = map.remove self.old.values file.now; room = self.new.room } }
+        ensures removed { self.new ≡ record self.old {
+          values = map.remove self.old.values file.now;
+          room = self.new.room;
+        } }
         ensures room { self.old.room ≤ self.new.room }
     {
         take(&mut self.order, &mut self.slab, file)
@@ -140,7 +152,8 @@ impl<T> OrderedSlab<T> {
     /// none.
     #[tactic(auto, using(crate::proofs::Standing::finds))]
     pub fn find(&self, ino: Ino) -> Option<FileRef>
-        ensures there { IfSome result (λ f. (f ≡ ino) × IsTrue (map.contains_key self.now.values ino)) }
+        ensures there { IfSome result (λ f.
+            (f ≡ ino) × IsTrue (map.contains_key self.now.values ino)) }
         ensures none { IfNone result (map.contains_key self.now.values ino ≡ false) }
     {
         let key = self.order.key_of(ino)?;
@@ -155,8 +168,10 @@ impl<T> OrderedSlab<T> {
     pub fn next_after(&self, ino: Ino, at: usize) -> Option<(FileRef, usize)>
         ensures above { IfSome result (λ n. ino < n.0) }
         ensures there { IfSome result (λ n. IsTrue (map.contains_key self.now.values n.0)) }
-        ensures least { IfSome result (λ n. (q : ℕ) → ino < q → q < n.0 → map.contains_key self.now.values q ≡ false) }
-        ensures none { IfNone result ((q : ℕ) → ino < q → map.contains_key self.now.values q ≡ false) }
+        ensures least { IfSome result (λ n.
+            (q : ℕ) → ino < q → q < n.0 → map.contains_key self.now.values q ≡ false) }
+        ensures none { IfNone result
+            ((q : ℕ) → ino < q → map.contains_key self.now.values q ≡ false) }
     {
         self.order.next_after(ino, at)
     }

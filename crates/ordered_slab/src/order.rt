@@ -3,7 +3,8 @@
 //! A packing reads `rows` from the front, and moves each live row to the end of `packed`; what it
 //! has read is dead. When all was read, the two lists change places. So a number is live in
 //! `packed` or in the part of `rows` that was not read, and a look-up asks both.
-ghost use Rattle.std.specs.Prelude.{◌≡◌, ℕ, ◌+◌, ◌≤◌, ◌<◌, length, false, None, IsTrue, IsOk, IfSome, IfNone, OnOk, OnErr, ◌++◌, ◌≢◌};
+ghost use Rattle.std.specs.Prelude.{◌≡◌, ℕ, ◌+◌, ◌≤◌, ◌<◌, length, false, None, IsTrue, IsOk};
+ghost use Rattle.std.specs.Prelude.{IfSome, IfNone, OnOk, OnErr, ◌++◌, ◌≢◌};
 ghost use Rattle.std.specs.FinMap as map;
 ghost use Rattle.ordered_slab.specs.Ordered.{Ordered};
 ghost use Rattle.ordered_slab.specs.Rows.{live_of, row_at, Rise, IsLiveAt, IsPlace};
@@ -19,8 +20,8 @@ const LEAST_DEAD: usize = 64;
 /// So many dead rows at most are passed over in one step of packing.
 const PASSED_AT_ONCE: usize = 16;
 
-/// A number and the key under which it is to be found. A row with no key is dead: its number is gone,
-/// or was moved.
+/// A number and the key under which it is to be found. A row with no key is dead: its number is
+/// gone, or was moved.
 #[derive(Clone, Copy, Drop)]
 struct Row {
     ino: Ino,
@@ -39,8 +40,8 @@ enum Place {
 /// packed a few at a time, so that each event has a bounded cost.
 #[derive(Drop)]
 pub struct Order {
-    /// The rows that were moved here, rising. All are below the live ones of `rows`. There is always
-    /// room here for as many as there are `rows`, so that packing needs no memory.
+    /// The rows that were moved here, rising. All are below the live ones of `rows`. There is
+    /// always room here for as many as there are `rows`, so that packing needs no memory.
     packed: Vec<Row>,
     /// The other rows, rising.
     rows: Vec<Row>,
@@ -63,9 +64,14 @@ impl Model for Order {
 
     ghost coded = { Prim.hlevel (codes, map.code) };
 
-    ghost view = { λ a. record { keys = live_of (a.packed.items ++ a.rows.items); last = a.last; room = min (vec_capacity a.packed) (vec_capacity a.rows) - length a.rows.items } };
+    ghost view = { λ a. record {
+      keys = live_of (a.packed.items ++ a.rows.items);
+      last = a.last;
+      room = min (vec_capacity a.packed) (vec_capacity a.rows) - length a.rows.items;
+    } };
 
-    ghost invariant = { λ a. AreRows a.packed.items a.rows.items a.read a.last × (length a.packed.items ≤ a.read) × (length a.rows.items ≤ vec_capacity a.packed) };
+    ghost invariant = { λ a. AreRows a.packed.items a.rows.items a.read a.last
+        × (length a.packed.items ≤ a.read) × (length a.rows.items ≤ vec_capacity a.packed) };
 }
 
 impl Order {
@@ -168,8 +174,10 @@ impl Order {
     pub fn next_after(&self, ino: Ino, at: usize) -> Option<(FileRef, usize)>
         ensures above { IfSome result (λ n. ino < n.0) }
         ensures there { IfSome result (λ n. IsTrue (map.contains_key self.now.keys n.0)) }
-        ensures least { IfSome result (λ n. (q : ℕ) → ino < q → q < n.0 → map.contains_key self.now.keys q ≡ false) }
-        ensures none { IfNone result ((q : ℕ) → ino < q → map.contains_key self.now.keys q ≡ false) }
+        ensures least { IfSome result (λ n.
+            (q : ℕ) → ino < q → q < n.0 → map.contains_key self.now.keys q ≡ false) }
+        ensures none { IfNone result
+            ((q : ℕ) → ino < q → map.contains_key self.now.keys q ≡ false) }
     {
         match next_in(&self.packed, ino, at) {
             Some(next) => Some(next),
@@ -341,8 +349,10 @@ fn next_in(rows: &[Row], ino: Ino, at: usize) -> Option<(FileRef, usize)>
     requires { Rise rows.now }
     ensures above { IfSome result (λ n. ino < n.0) }
     ensures there { IfSome result (λ n. IsTrue (map.contains_key (live_of rows.now) n.0)) }
-    ensures least { IfSome result (λ n. (q : ℕ) → ino < q → q < n.0 → map.contains_key (live_of rows.now) q ≡ false) }
-    ensures none { IfNone result ((q : ℕ) → ino < q → map.contains_key (live_of rows.now) q ≡ false) }
+    ensures least { IfSome result (λ n.
+        (q : ℕ) → ino < q → q < n.0 → map.contains_key (live_of rows.now) q ≡ false) }
+    ensures none { IfNone result
+        ((q : ℕ) → ino < q → map.contains_key (live_of rows.now) q ≡ false) }
 {
     // Mostly nothing is being packed.
     if rows.is_empty() {
