@@ -1,8 +1,8 @@
 //! Measures what events cost, of an engine alone or from threads.
 //!
-//! `af_bench script SETUP EVENTS RUNS` does a script from standard input over and over on one engine, and
-//! `af_bench layer THREADS EVENTS RUNS` makes calls of a layer from threads beside each other. A line on
-//! standard output for each run says how many nanoseconds it took.
+//! `af_bench script SETUP EVENTS RUNS` does a script from standard input over and over on one
+//! engine, and `af_bench layer THREADS EVENTS RUNS` makes calls of a layer from threads beside each
+//! other. A line on standard output for each run says how many nanoseconds it took.
 //!
 //! With no argument nothing is read, and nothing is printed.
 #![tactic(auto)]

@@ -1,4 +1,5 @@
-//! All that is there: the processes, the files, and the counts that are kept of them, always in step.
+//! All that is there: the processes, the files, and the counts that are kept of them, always in
+//! step.
 ghost use Rattle.std.specs.Prelude.{◌≡◌};
 ghost use Rattle.std.specs.FinMap as map;
 ghost use Rattle.af_base.specs.World.{empty_world, untold};
@@ -20,8 +21,8 @@ pub struct Holdings {
     pub(crate) ledger: Ledger,
 }
 
-/// It is written out, and not derived, so that what owns holdings has one call where it drops them, and
-/// not the drop of each of their parts.
+/// It is written out, and not derived, so that what owns holdings has one call where it drops them,
+/// and not the drop of each of their parts.
 impl Drop for Holdings {
     fn drop(self) {
         let Holdings {
@@ -42,7 +43,13 @@ impl Model for Holdings {
 
     ghost coded = { Prim.hlevel (codes, map.code) };
 
-    ghost view = { λ a. record { world = world_of a.procs a.files a.ledger; rows = a.procs.rows; message_room = a.files.message_room; marks = a.files.marks; since = a.files.since } };
+    ghost view = { λ a. record {
+      world = world_of a.procs a.files a.ledger;
+      rows = a.procs.rows;
+      message_room = a.files.message_room;
+      marks = a.files.marks;
+      since = a.files.since;
+    } };
 
     ghost invariant = { λ a. AreExact a.procs a.files a.ledger };
 }

@@ -1,7 +1,8 @@
 //! The store: all that is there, and the collector beside it.
 //!
 //! Places that hold files come and go by the calls of `places` and `sockets`, by whole processes
-//! (`copy_for_fork` and `remove_process`), and by `release`, `slice` and `collect`, and by no other.
+//! (`copy_for_fork` and `remove_process`), and by `release`, `slice` and `collect`, and by no
+//! other.
 #![tactic(auto)]
 
 mod holdings;

@@ -5,7 +5,8 @@ ghost use Rattle.std.specs.FinMap as finmap;
 ghost use Rattle.af_base.specs.World as world;
 ghost use Rattle.af_base.specs.Places.{contents};
 ghost use Rattle.af_base.specs.Bare.{bare, bare_file, bare_message, bare_socket};
-ghost use Rattle.af_base.specs.Listing.{processes_of, files_of, file_of, message_of, socket_of, AreTables, AreFiles};
+ghost use Rattle.af_base.specs.Listing.{processes_of, files_of, file_of, message_of, socket_of};
+ghost use Rattle.af_base.specs.Listing.{AreTables, AreFiles};
 
 use crate::holdings::Holdings;
 use af_base::limits::{MAX_BACKLOG, MAX_MESSAGES, SCM_MAX_FD};
@@ -28,7 +29,8 @@ impl Holdings {
 
     /// Returns the tables, by rising pid.
     fn listed_tables(&self) -> Result<Vec<ListedTable>, AllocError>
-        ensures shown { IfOk result (λ tables. processes_of tables.items ≡ (bare self.now.world).processes) }
+        ensures shown { IfOk result (λ tables.
+            processes_of tables.items ≡ (bare self.now.world).processes) }
         ensures ordered { IfOk result (λ tables. AreTables tables.items) }
     {
         let mut tables = Vec::new(self.alloc);
@@ -58,8 +60,10 @@ impl Holdings {
     fn listed_file(&self, file: &FileRef) -> Result<ListedFile, AllocError>
         requires { world.IsLive self.now.world file.now }
         ensures ino { IfOk result (λ x. x.ino ≡ file.now) }
-        ensures shown { IfOk result (λ x. Some (file_of x) ≡ option_map bare_file (finmap.get self.now.world.files file.now)) }
-        ensures few { IfOk result (λ x. length (contents (file_of x)) ≤ MAX_MESSAGES * SCM_MAX_FD + MAX_BACKLOG) }
+        ensures shown { IfOk result (λ x.
+            Some (file_of x) ≡ option_map bare_file (finmap.get self.now.world.files file.now)) }
+        ensures few { IfOk result (λ x.
+            length (contents (file_of x)) ≤ MAX_MESSAGES * SCM_MAX_FD + MAX_BACKLOG) }
     {
         let socket = match self.files.socket(file) {
             Some(socket) => Some(listed_socket(self.alloc, &socket)?),
@@ -76,7 +80,8 @@ impl Holdings {
 fn listed_socket(alloc: Global, socket: &Socket) -> Result<ListedSocket, AllocError>
     requires { length socket.now.backlog ≤ MAX_BACKLOG }
     ensures shown { IfOk result (λ s. socket_of s ≡ bare_socket socket.now) }
-    ensures few { IfOk result (λ s. length (contents (world.AsSocket (socket_of s))) ≤ MAX_MESSAGES * SCM_MAX_FD + MAX_BACKLOG) }
+    ensures few { IfOk result (λ s. length (contents (world.AsSocket (socket_of s)))
+        ≤ MAX_MESSAGES * SCM_MAX_FD + MAX_BACKLOG) }
 {
     Ok(ListedSocket {
         queue: listed_messages(alloc, socket.queue())?,
@@ -86,8 +91,10 @@ fn listed_socket(alloc: Global, socket: &Socket) -> Result<ListedSocket, AllocEr
 
 /// Lists the files attached to the messages of a queue, and the user charged for each, in order.
 fn listed_messages(alloc: Global, queue: &Queue) -> Result<Vec<ListedMessage>, AllocError>
-    ensures shown { IfOk result (λ messages. map message_of messages.items ≡ map bare_message queue.now) }
-    ensures few { IfOk result (λ messages. sum_by (λ m. length m.attached.items) messages.items ≤ MAX_MESSAGES * SCM_MAX_FD) }
+    ensures shown { IfOk result (λ messages.
+        map message_of messages.items ≡ map bare_message queue.now) }
+    ensures few { IfOk result (λ messages.
+        sum_by (λ m. length m.attached.items) messages.items ≤ MAX_MESSAGES * SCM_MAX_FD) }
 {
     let mut messages = Vec::with_capacity(alloc, queue.len())?;
     let mut left = queue.duplicate();

@@ -36,13 +36,16 @@ impl Holdings {
         self.files.shade(file);
     }
 
-    /// Marks a file if a table holds it, it was there when the pass began, and it is not marked. If it
-    /// holds nothing and may be scanned, it is scanned in the same look at its row; else it is to be
-    /// scanned. Returns whether it was scanned.
+    /// Marks a file if a table holds it, it was there when the pass began, and it is not marked. If
+    /// it holds nothing and may be scanned, it is scanned in the same look at its row; else it is
+    /// to be scanned. Returns whether it was scanned.
     #[inline(always)]
     pub(crate) fn visit(&mut self, file: &FileRef, may_scan: bool) -> bool
-        ensures marks { self.new ≡ record self.old { marks = visited result (tabled self.old.world file.now) file.now self.old.marks } }
-        ensures scanned { result ≡ true → (held_by self.old.world file.now ≡ []) × (is_due self.old.world self.old.marks file.now ≡ true) }
+        ensures marks { self.new ≡ record self.old {
+          marks = visited result (tabled self.old.world file.now) file.now self.old.marks;
+        } }
+        ensures scanned { result ≡ true → (held_by self.old.world file.now ≡ [])
+            × (is_due self.old.world self.old.marks file.now ≡ true) }
         ensures asked { result ≡ true → may_scan ≡ true }
     {
         self.files.visit(file, may_scan)

@@ -1,5 +1,6 @@
 //! The holdings, and how far a pass is: what each change of one owes to the other.
-ghost use Rattle.std.specs.Prelude.{◌≡◌, ◌&&◌, ◌+◌, ◌<◌, ◌≤◌, ℕ, Some, [], if◌then◌else◌, true, nat_eq, slice_get};
+ghost use Rattle.std.specs.Prelude.{◌≡◌, ◌&&◌, ◌+◌, ◌<◌, ◌≤◌, ℕ, Some, [], if◌then◌else◌, true};
+ghost use Rattle.std.specs.Prelude.{nat_eq, slice_get};
 ghost use Rattle.af_base.specs.declared.limits.TheConstants.{MAX_FILES};
 ghost use Rattle.af_base.specs.World.{IsLive};
 ghost use Rattle.af_base.specs.Counts.{refs};
@@ -8,7 +9,8 @@ ghost use Rattle.af_base.specs.Reached.{Garbage};
 ghost use Rattle.af_base.specs.Unheld.{Settles, without};
 ghost use Rattle.af_base.specs.Whole.{IsSound};
 ghost use Rattle.af_collect.specs.Losing.{places_at, without_place};
-ghost use Rattle.af_collect.specs.Keeping.{first_held, is_marking, is_running, is_sweeping, shaded_all};
+ghost use Rattle.af_collect.specs.Keeping.{first_held, is_marking, is_running, is_sweeping};
+ghost use Rattle.af_collect.specs.Keeping.{shaded_all};
 ghost use Rattle.af_mark.specs.Marked.{forgotten};
 ghost use Rattle.af_collect.specs.Shown.{KeepsPass, MarksAll, with_marks};
 
@@ -56,7 +58,8 @@ impl Collector {
         ensures rows { self.new.places.rows ≡ self.old.places.rows }
         ensures since { self.new.places.since ≡ self.old.places.since }
         ensures begun { self.new.begun ≡ self.old.begun }
-        ensures progress { self.new.progress ≡ record self.old.progress { reclaimed = self.new.progress.reclaimed } }
+        ensures progress { self.new.progress
+            ≡ record self.old.progress { reclaimed = self.new.progress.reclaimed } }
     {
         while let Some(file) = self.places.next_waiting() {
             // Most files hold nothing, and one look tells.
@@ -76,7 +79,11 @@ impl Collector {
         requires unheld { refs self.old.places.world file.now ≡ 0 }
         requires some { 0 < places_at self.old.places.world file.now }
         ensures kept { KeepsPass self.new }
-        ensures places { self.new.places ≡ record self.old.places { world = without_place self.old.places.world file.now; marks = self.new.places.marks; message_room = self.new.places.message_room } }
+        ensures places { self.new.places ≡ record self.old.places {
+          world = without_place self.old.places.world file.now;
+          marks = self.new.places.marks;
+          message_room = self.new.places.message_room;
+        } }
         ensures begun { self.new.begun ≡ self.old.begun }
         ensures progress { self.new.progress ≡ self.old.progress }
     {
@@ -92,7 +99,8 @@ impl Collector {
         requires kept { KeepsPass self.old }
         ensures kept { KeepsPass self.new }
         ensures frame { self.new ≡ with_marks self.new.places.marks self.old }
-        ensures marked { MarksAll (λ f. table_at self.old.places.world pid fd ≡ Some f) self.old self.new }
+        ensures marked { MarksAll
+            (λ f. table_at self.old.places.world pid fd ≡ Some f) self.old self.new }
     {
         if !self.is_marking() {
             return;
@@ -109,7 +117,8 @@ impl Collector {
         requires kept { KeepsPass self.old }
         ensures kept { KeepsPass self.new }
         ensures frame { self.new ≡ with_marks self.new.places.marks self.old }
-        ensures marked { MarksAll (λ f. (n : ℕ) × (table_at self.old.places.world pid n ≡ Some f)) self.old self.new }
+        ensures marked { MarksAll
+            (λ f. (n : ℕ) × (table_at self.old.places.world pid n ≡ Some f)) self.old self.new }
     {
         if !self.is_marking() {
             return;
@@ -126,10 +135,12 @@ impl Collector {
     /// Marks the embryo that a listener is about to lose, while marking.
     pub fn shade_embryo(&mut self, listener: &FileRef)
         requires kept { KeepsPass self.old }
-        requires spared { is_running self.old.progress.stage ≡ true → ¬ (Garbage self.old.begun.value.world listener.now) }
+        requires spared { is_running self.old.progress.stage ≡ true
+            → ¬ (Garbage self.old.begun.value.world listener.now) }
         ensures kept { KeepsPass self.new }
         ensures frame { self.new ≡ with_marks self.new.places.marks self.old }
-        ensures marked { MarksAll (λ f. slice_get (backlog_at self.old.places.world listener.now) 0 ≡ Some f) self.old self.new }
+        ensures marked { MarksAll (λ f. slice_get (backlog_at self.old.places.world listener.now) 0
+            ≡ Some f) self.old self.new }
     {
         if self.is_marking() {
             // Backlogs hold live files: that is what a whole world says of them.
@@ -145,7 +156,8 @@ impl Collector {
         requires unheld { refs self.old.places.world file.now ≡ 0 }
         ensures kept { KeepsPass self.new }
         ensures frame { self.new ≡ with_marks self.new.places.marks self.old }
-        ensures marked { is_marking self.old.progress.stage ≡ true → self.new.places.marks ≡ shaded_all (first_held self.old.places.world file.now) self.old.places.marks }
+        ensures marked { is_marking self.old.progress.stage ≡ true → self.new.places.marks
+            ≡ shaded_all (first_held self.old.places.world file.now) self.old.places.marks }
     {
         if self.is_marking() {
             // A held file is live, as in each well-formed world.
@@ -162,9 +174,13 @@ impl Collector {
         requires bare { held_by self.old.places.world file.now ≡ [] }
         requires silent { queue_at self.old.places.world file.now ≡ [] }
         ensures kept { KeepsPass self.new }
-        ensures places { self.new.places ≡ record self.old.places { world = without (nat_eq file.now) self.old.places.world; marks = forgotten file.now self.old.places.marks } }
+        ensures places { self.new.places ≡ record self.old.places {
+          world = without (nat_eq file.now) self.old.places.world;
+          marks = forgotten file.now self.old.places.marks;
+        } }
         ensures begun { self.new.begun ≡ self.old.begun }
-        ensures progress { self.new.progress ≡ record self.old.progress { reclaimed = self.new.progress.reclaimed } }
+        ensures progress { self.new.progress
+            ≡ record self.old.progress { reclaimed = self.new.progress.reclaimed } }
     {
         let unmarked = self.places.take_away(file);
         self.tally(unmarked);
@@ -173,8 +189,14 @@ impl Collector {
     /// Counts a freed socket as reclaimed, if the pass sweeps and had still to mark it.
     #[inline(always)]
     fn tally(&mut self, unmarked: bool)
-        requires { is_sweeping self.old.progress.stage ≡ true → self.old.progress.reclaimed ≤ MAX_FILES }
-        ensures { self.new ≡ record self.old { progress = record self.old.progress { reclaimed = self.old.progress.reclaimed + (if unmarked && is_sweeping self.old.progress.stage then 1 else 0) } } }
+        requires { is_sweeping self.old.progress.stage ≡ true
+            → self.old.progress.reclaimed ≤ MAX_FILES }
+        ensures { self.new ≡ record self.old {
+          progress = record self.old.progress {
+            reclaimed = self.old.progress.reclaimed
+                + (if unmarked && is_sweeping self.old.progress.stage then 1 else 0);
+          };
+        } }
     {
         if unmarked && matches!(self.progress.stage, Stage::Sweeping) {
             self.progress.reclaimed += 1;

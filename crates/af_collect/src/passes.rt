@@ -21,8 +21,8 @@ impl Store {
         self.parts.is_running()
     }
 
-    /// Returns how many files the pass has visited, scanned and swept since it began. It is 0 after a
-    /// begin, and only a slice or a whole pass changes it.
+    /// Returns how many files the pass has visited, scanned and swept since it began. It is 0 after
+    /// a begin, and only a slice or a whole pass changes it.
     pub fn looked(&self) -> u64
         ensures { result ≡ self.now.progress.looked }
     {
@@ -32,7 +32,8 @@ impl Store {
     /// Does nothing: it tells the prover what a pass that runs keeps between any two calls, of its
     /// marks and of how far it is.
     pub fn lemma_pass(&self)
-        ensures { (begun : World) (spent : ℕ) → self.now.pass ≡ Running begun spent → PassInvariant self.now.world begun self.now.marks self.now.progress }
+        ensures { (begun : World) (spent : ℕ) → self.now.pass ≡ Running begun spent
+            → PassInvariant self.now.world begun self.now.marks self.now.progress }
     {
         // The invariant says it: it is enough to look at a field.
         let _parts = &self.parts;
@@ -58,7 +59,9 @@ impl Store {
     pub fn slice(&mut self, budget: u32) -> Option<u64>
         requires running { runs self.old.pass ≡ true }
         requires sound { IsSound self.old.world }
-        ensures does { (begun : World) (spent pass : ℕ) → self.old.pass ≡ Running begun spent → Slices begun self.old.world spent budget pass (slice_reply pass result) self.new.world self.new.pass }
+        ensures does { (begun : World) (spent pass : ℕ) → self.old.pass ≡ Running begun spent
+            → Slices begun self.old.world spent budget pass
+            (slice_reply pass result) self.new.world self.new.pass }
         ensures sound { IsSound self.new.world }
         ensures since { self.new.since ≡ self.old.since }
         ensures looked { self.new.progress.looked ≤ self.old.progress.looked + budget }
@@ -88,8 +91,8 @@ impl Store {
         self.parts.progress.reclaimed
     }
 
-    /// Takes away what no place holds, one file after another: each place that it held is dropped, its
-    /// peer hangs up, and what thereby lost its last place waits in turn.
+    /// Takes away what no place holds, one file after another: each place that it held is dropped,
+    /// its peer hangs up, and what thereby lost its last place waits in turn.
     #[inline(always)]
     pub fn release(&mut self)
         ensures settles { Settles self.old.world self.new.world }
@@ -97,7 +100,8 @@ impl Store {
         ensures rows { self.new.rows ≡ self.old.rows }
         ensures since { self.new.since ≡ self.old.since }
         ensures pass { self.new.pass ≡ self.old.pass }
-        ensures progress { self.new.progress ≡ record self.old.progress { reclaimed = self.new.progress.reclaimed } }
+        ensures progress { self.new.progress
+            ≡ record self.old.progress { reclaimed = self.new.progress.reclaimed } }
     {
         // Most steps let nothing go, and then there is nothing to call.
         let Some(_) = self.parts.places.next_waiting() else {

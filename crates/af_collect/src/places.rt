@@ -1,7 +1,8 @@
 //! Place changes of single numbers and messages. Each is one change of the world, and keeps the
 //! counts in step with it. A file that lost its last place waits, with all that it holds, until
 //! `release` comes to it.
-ghost use Rattle.std.specs.Prelude.{◌≡◌, ◌<◌, ◌≤◌, ◌+◌, ◌∷◌, ◌^◌, [], ℕ, None, IsTrue, IfOk, IfSome, OnOk, OnErr, length, map, drop, false, is_none, true};
+ghost use Rattle.std.specs.Prelude.{◌≡◌, ◌<◌, ◌≤◌, ◌+◌, ◌∷◌, ◌^◌, [], ℕ, None, IsTrue, IfOk};
+ghost use Rattle.std.specs.Prelude.{IfSome, OnOk, OnErr, length, map, drop, false, is_none, true};
 ghost use Rattle.std.specs.List.{zip, All, Contains};
 ghost use Rattle.std.specs.Option.{option_map_or};
 ghost use Rattle.std.specs.FinMap as finmap;
@@ -58,7 +59,10 @@ impl Store {
         requires limit { IsBelowLimit self.old.world pid fd }
         requires live { world.IsLive self.old.world file }
         requires spared { Spares self.old.pass file }
-        ensures { self.new ≡ record self.old { world = install self.old.world pid fd file; marks = self.new.marks } }
+        ensures { self.new ≡ record self.old {
+          world = install self.old.world pid fd file;
+          marks = self.new.marks;
+        } }
     {
         self.parts.shade_number(pid, fd);
         let places = &mut self.parts.places;
@@ -71,7 +75,10 @@ impl Store {
     #[inline(always)]
     pub fn table_out(&mut self, pid: Pid, fd: Fd)
         requires { is_none (table_at self.old.world pid fd) ≡ false }
-        ensures { self.new ≡ record self.old { world = uninstall self.old.world pid fd; marks = self.new.marks } }
+        ensures { self.new ≡ record self.old {
+          world = uninstall self.old.world pid fd;
+          marks = self.new.marks;
+        } }
     {
         self.parts.shade_number(pid, fd);
         let places = &mut self.parts.places;
@@ -79,8 +86,8 @@ impl Store {
         places.files.drop_one(&Place::Table, &file);
     }
 
-    /// Appends a message to the queue of a socket. It carries live files, and each of these places is
-    /// charged to its user, who is the user of a process. It cannot fail, since there is room.
+    /// Appends a message to the queue of a socket. It carries live files, and each of these places
+    /// is charged to its user, who is the user of a process. It cannot fail, since there is room.
     pub fn put_msg(&mut self, socket: &FileRef, message: Msg)
         requires live { (f : ℕ) → Contains message.attached f → world.IsLive self.old.world f }
         requires spared { (f : ℕ) → Contains message.attached f → Spares self.old.pass f }
@@ -90,7 +97,10 @@ impl Store {
         requires socket { is_none (socket_at self.old.world socket.now) ≡ false }
         requires queue { length (queue_at self.old.world socket.now) < MAX_MESSAGES }
         requires room { self.old.message_room ≡ true }
-        ensures { self.new ≡ record self.old { world = push_message self.old.world socket.now message; message_room = self.new.message_room } }
+        ensures { self.new ≡ record self.old {
+          world = push_message self.old.world socket.now message;
+          message_room = self.new.message_room;
+        } }
     {
         let places = &mut self.parts.places;
         charge_message(
@@ -118,8 +128,15 @@ impl Store {
         requires there { IsTrue (finmap.contains_key self.old.world.processes pid) }
         requires free { (k : ℕ) × (fds.now ≡ lowest_free k (process_at self.old.world pid)) }
         requires row { All (λ n. n < room_at self.old pid) fds.now }
-        ensures taken { IfOk result (λ t. t ≡ received_of (socket_at self.old.world socket.now) max) }
-        ensures world { OnOk result (self.new ≡ record self.old { world = install_all (with_queue self.old.world socket.now (taken_at self.old.world socket.now max).rest) pid (zip fds.now (taken_at self.old.world socket.now max).attached); marks = self.new.marks; message_room = self.new.message_room }) }
+        ensures taken { IfOk result (λ t.
+            t ≡ received_of (socket_at self.old.world socket.now) max) }
+        ensures world { OnOk result (self.new ≡ record self.old {
+          world = install_all
+              (with_queue self.old.world socket.now (taken_at self.old.world socket.now max).rest)
+              pid (zip fds.now (taken_at self.old.world socket.now max).attached);
+          marks = self.new.marks;
+          message_room = self.new.message_room;
+        }) }
         ensures err { OnErr result (self.new ≡ self.old) }
     {
         let places = &mut self.parts.places;
@@ -153,8 +170,12 @@ impl Store {
         requires there { IsTrue (finmap.contains_key self.old.world.processes pid) }
         requires free { (k : ℕ) × (fds.now ≡ lowest_free k (process_at self.old.world pid)) }
         requires row { All (λ n. n < room_at self.old pid) fds.now }
-        ensures seen { IfOk result (λ t. t ≡ received_of (socket_at self.old.world socket.now) max) }
-        ensures world { OnOk result (self.new ≡ record self.old { world = install_all self.old.world pid (zip fds.now (taken_at self.old.world socket.now max).attached) }) }
+        ensures seen { IfOk result (λ t.
+            t ≡ received_of (socket_at self.old.world socket.now) max) }
+        ensures world { OnOk result (self.new ≡ record self.old {
+          world = install_all self.old.world pid
+              (zip fds.now (taken_at self.old.world socket.now max).attached);
+        }) }
         ensures err { OnErr result (self.new ≡ self.old) }
     {
         let places = &mut self.parts.places;

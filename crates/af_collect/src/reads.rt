@@ -93,7 +93,8 @@ impl Holdings {
         self.ledger.total()
     }
 
-    /// Returns whether nothing is in flight and no embryo waits. If so, a table holds each live file.
+    /// Returns whether nothing is in flight and no embryo waits. If so, a table holds each live
+    /// file.
     #[inline(always)]
     pub(crate) fn is_calm(&self) -> bool
         requires sound { IsSound self.now.world }
@@ -125,8 +126,10 @@ impl Holdings {
         privileged: bool,
         files: usize,
     ) -> Result<(), Errno>
-        ensures ok { OnOk result (first_fit (on_charge (charged self.now.world uid) (total self.now.world) limit privileged files) ≡ None) }
-        ensures err { IfErr result (λ e. first_fit (on_charge (charged self.now.world uid) (total self.now.world) limit privileged files) ≡ Some e) }
+        ensures ok { OnOk result (first_fit (on_charge (charged self.now.world uid)
+            (total self.now.world) limit privileged files) ≡ None) }
+        ensures err { IfErr result (λ e. first_fit (on_charge (charged self.now.world uid)
+            (total self.now.world) limit privileged files) ≡ Some e) }
     {
         self.ledger.may_send(uid, limit, privileged, files)
     }

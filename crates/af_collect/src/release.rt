@@ -1,5 +1,6 @@
 //! The freeing of unheld files, one file and one place at a time, without memory.
-ghost use Rattle.std.specs.Prelude.{◌≡◌, ◌<◌, [], IfSome, IfNone, IsTrue, drop, false, length, nat_eq, true};
+ghost use Rattle.std.specs.Prelude.{◌≡◌, ◌<◌, [], IfSome, IfNone, IsTrue, drop, false, length};
+ghost use Rattle.std.specs.Prelude.{nat_eq, true};
 ghost use Rattle.af_base.specs.World.{IsLive, World};
 ghost use Rattle.af_base.specs.Counts.{refs};
 ghost use Rattle.af_base.specs.Changes.{dequeued, with_queue, with_socket};
@@ -22,7 +23,10 @@ impl Holdings {
     /// no memory.
     #[inline(always)]
     fn drop_first(&mut self, file: &FileRef) -> bool
-        ensures world { self.new ≡ record self.old { world = with_queue self.old.world file.now (drop 1 (queue_at self.old.world file.now)); message_room = self.new.message_room } }
+        ensures world { self.new ≡ record self.old {
+          world = with_queue self.old.world file.now (drop 1 (queue_at self.old.world file.now));
+          message_room = self.new.message_room;
+        } }
         ensures some { IsTrue result → 0 < length (queue_at self.old.world file.now) }
         ensures none { result ≡ false → queue_at self.old.world file.now ≡ [] }
     {
@@ -42,7 +46,8 @@ impl Holdings {
     /// Takes no memory.
     #[inline(always)]
     fn drop_embryo(&mut self, file: &FileRef) -> bool
-        ensures world { self.new ≡ record self.old { world = with_socket self.old.world file.now dequeued } }
+        ensures world { self.new
+            ≡ record self.old { world = with_socket self.old.world file.now dequeued } }
         ensures some { IsTrue result → 0 < length (backlog_at self.old.world file.now) }
         ensures none { result ≡ false → backlog_at self.old.world file.now ≡ [] }
     {
@@ -57,7 +62,10 @@ impl Holdings {
     /// whether the file had one of the two. Takes no memory.
     #[inline(always)]
     pub(crate) fn drop_place(&mut self, file: &FileRef) -> bool
-        ensures world { self.new ≡ record self.old { world = without_place self.old.world file.now; message_room = self.new.message_room } }
+        ensures world { self.new ≡ record self.old {
+          world = without_place self.old.world file.now;
+          message_room = self.new.message_room;
+        } }
         ensures some { IsTrue result → 0 < places_at self.old.world file.now }
         ensures none { result ≡ false → places_at self.old.world file.now ≡ 0 }
     {
@@ -81,7 +89,10 @@ impl Holdings {
 
     /// Drops all places that a file holds. Takes no memory.
     pub(crate) fn empty(&mut self, file: &FileRef)
-        ensures { self.new ≡ record self.old { world = emptied (nat_eq file.now) self.old.world; message_room = self.new.message_room } }
+        ensures { self.new ≡ record self.old {
+          world = emptied (nat_eq file.now) self.old.world;
+          message_room = self.new.message_room;
+        } }
     {
         while self.drop_place(file) {}
     }
@@ -102,8 +113,12 @@ impl Holdings {
         requires unheld { refs self.old.world file.now ≡ 0 }
         requires bare { held_by self.old.world file.now ≡ [] }
         requires silent { queue_at self.old.world file.now ≡ [] }
-        ensures gone { self.new ≡ record self.old { world = without (nat_eq file.now) self.old.world; marks = forgotten file.now self.old.marks } }
-        ensures unmarked { result ≡ desc.is_unmarked_socket self.old.world.files self.old.marks file.now }
+        ensures gone { self.new ≡ record self.old {
+          world = without (nat_eq file.now) self.old.world;
+          marks = forgotten file.now self.old.marks;
+        } }
+        ensures unmarked { result
+            ≡ desc.is_unmarked_socket self.old.world.files self.old.marks file.now }
     {
         remove(&mut self.files, file)
     }
@@ -113,8 +128,10 @@ impl Holdings {
 /// the pass had still to mark.
 fn remove(files: &mut Files, file: &FileRef) -> bool
     requires silent { queue_in files.old.files file.now ≡ [] }
-    ensures gone { (w : World) → w.files ≡ files.old.files → AreMutual w → record w { files = files.new.files } ≡ without (nat_eq file.now) w }
-    ensures rest { files.new ≡ record (desc.without file.now files.old) { files = files.new.files } }
+    ensures gone { (w : World) → w.files ≡ files.old.files → AreMutual w
+        → record w { files = files.new.files } ≡ without (nat_eq file.now) w }
+    ensures rest { files.new
+        ≡ record (desc.without file.now files.old) { files = files.new.files } }
     ensures unmarked { result ≡ desc.is_unmarked_socket files.old.files files.old.marks file.now }
 {
     let (peer, unmarked) = files.remove(file);

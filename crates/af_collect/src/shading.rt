@@ -17,7 +17,8 @@ use arrayvec::ArrayVec;
 
 /// Marks the files that were taken out of a queue, while marking.
 pub fn shade_taken(progress: &Progress, files: &mut Files, taken: &[FileRef])
-    ensures { files.new ≡ record files.old { marks = shaded_in progress.now.stage taken.now files.old.marks } }
+    ensures { files.new
+        ≡ record files.old { marks = shaded_in progress.now.stage taken.now files.old.marks } }
 {
     if matches!(progress.stage, Stage::Marking) {
         shade_all(files, taken);
@@ -37,7 +38,9 @@ fn shade_all(files: &mut Files, taken: &[FileRef])
 #[tactic(auto, using(crate::proofs::Losing::held_parts, crate::proofs::Shaded::shaded_append))]
 #[inline(always)]
 pub fn shade_held(places: &mut Holdings, file: &FileRef)
-    ensures { places.new ≡ record places.old { marks = shaded_all (held_by places.old.world file.now) places.old.marks } }
+    ensures { places.new ≡ record places.old {
+      marks = shaded_all (held_by places.old.world file.now) places.old.marks;
+    } }
 {
     shade_queue(places, file);
     shade_backlog(places, file);
@@ -47,7 +50,9 @@ pub fn shade_held(places: &mut Holdings, file: &FileRef)
 #[tactic(auto, using(crate::proofs::Holding::carried_one))]
 #[inline(always)]
 fn shade_queue(places: &mut Holdings, file: &FileRef)
-    ensures { places.new ≡ record places.old { marks = shaded_all (carried (queue_at places.old.world file.now)) places.old.marks } }
+    ensures { places.new ≡ record places.old {
+      marks = shaded_all (carried (queue_at places.old.world file.now)) places.old.marks;
+    } }
 {
     // Most queues have one message at most.
     if messages(places, file) <= 1 {
@@ -60,7 +65,9 @@ fn shade_queue(places: &mut Holdings, file: &FileRef)
 /// Marks the same, some at a time.
 #[inline(never)]
 fn shade_carried(places: &mut Holdings, file: &FileRef)
-    ensures { places.new ≡ record places.old { marks = shaded_all (carried (queue_at places.old.world file.now)) places.old.marks } }
+    ensures { places.new ≡ record places.old {
+      marks = shaded_all (carried (queue_at places.old.world file.now)) places.old.marks;
+    } }
 {
     let mut from = 0;
     loop {
@@ -88,7 +95,9 @@ fn shade_some(places: &mut Holdings, held: &[FileRef])
 #[tactic(auto, using(crate::proofs::Holding::rest_next, crate::proofs::Shaded::shaded_append))]
 #[inline(always)]
 fn shade_backlog(places: &mut Holdings, file: &FileRef)
-    ensures { places.new ≡ record places.old { marks = shaded_all (backlog_at places.old.world file.now) places.old.marks } }
+    ensures { places.new ≡ record places.old {
+      marks = shaded_all (backlog_at places.old.world file.now) places.old.marks;
+    } }
 {
     for at in 0..embryos(places, file) {
         shade_embryo(places, file, at);
@@ -98,7 +107,9 @@ fn shade_backlog(places: &mut Holdings, file: &FileRef)
 /// Marks the files attached to the first message of the file's queue.
 #[inline(always)]
 fn shade_message(places: &mut Holdings, file: &FileRef)
-    ensures { places.new ≡ record places.old { marks = shaded_all (first_attached places.old.world file.now) places.old.marks } }
+    ensures { places.new ≡ record places.old {
+      marks = shaded_all (first_attached places.old.world file.now) places.old.marks;
+    } }
 {
     for index in 0..attached(places, file).len() {
         let held = attached(places, file)[index].duplicate();
@@ -110,7 +121,9 @@ fn shade_message(places: &mut Holdings, file: &FileRef)
 /// embryo.
 #[tactic(auto, using(crate::proofs::Holding::carried_first))]
 pub fn shade_first(places: &mut Holdings, file: &FileRef)
-    ensures { places.new ≡ record places.old { marks = shaded_all (first_held places.old.world file.now) places.old.marks } }
+    ensures { places.new ≡ record places.old {
+      marks = shaded_all (first_held places.old.world file.now) places.old.marks;
+    } }
 {
     if messages(places, file) > 0 {
         shade_message(places, file);
@@ -123,7 +136,9 @@ pub fn shade_first(places: &mut Holdings, file: &FileRef)
 #[tactic(auto, using(crate::proofs::Holding::first_left, crate::proofs::Holding::none_left))]
 #[inline(always)]
 pub fn shade_embryo(places: &mut Holdings, file: &FileRef, at: usize)
-    ensures { places.new ≡ record places.old { marks = shaded_all (take 1 (drop at (backlog_at places.old.world file.now))) places.old.marks } }
+    ensures { places.new ≡ record places.old {
+      marks = shaded_all (take 1 (drop at (backlog_at places.old.world file.now))) places.old.marks;
+    } }
 {
     if let Some(embryo) = embryo_at(places, file, at) {
         places.shade(&embryo);
@@ -158,8 +173,10 @@ fn embryos(places: &Holdings, file: &FileRef) -> usize
 /// Returns the files that the queue of the file carries, from this one on: 16 at most.
 #[inline(always)]
 fn carried(places: &Holdings, file: &FileRef, from: usize) -> ArrayVec<FileRef, BATCH>
-    ensures files { result.items ≡ take BATCH (drop from (carried (queue_at places.now.world file.now))) }
-    ensures few { length (carried (queue_at places.now.world file.now)) ≤ MAX_MESSAGES * SCM_MAX_FD }
+    ensures files { result.items
+        ≡ take BATCH (drop from (carried (queue_at places.now.world file.now))) }
+    ensures few { length (carried (queue_at places.now.world file.now))
+        ≤ MAX_MESSAGES * SCM_MAX_FD }
 {
     match socket(places, file) {
         Some(socket) => socket.queue().carried(from),

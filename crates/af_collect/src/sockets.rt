@@ -1,12 +1,14 @@
 //! Sockets that are made, named, made to listen and connected, and the embryos that wait to be
 //! accepted. Each call is one change of the world, and keeps the counts in step with it.
-ghost use Rattle.std.specs.Prelude.{◌≡◌, ◌<◌, ◌≤◌, ℕ, None, Some, IsTrue, IfSome, OnOk, OnErr, length, false, is_none, slice_get, true};
+ghost use Rattle.std.specs.Prelude.{◌≡◌, ◌<◌, ◌≤◌, ℕ, None, Some, IsTrue, IfSome, OnOk, OnErr};
+ghost use Rattle.std.specs.Prelude.{length, false, is_none, slice_get, true};
 ghost use Rattle.std.specs.FinMap as finmap;
 ghost use Rattle.af_base.specs.World as world;
 ghost use Rattle.af_base.specs.Names.{is_name, named};
 ghost use Rattle.af_base.specs.Counts.{waiting};
 ghost use Rattle.af_base.specs.Places.{backlog_at, table_at};
-ghost use Rattle.af_base.specs.Changes.{add_file, bound, connected, dequeued, install, listening, queued, with_socket};
+ghost use Rattle.af_base.specs.Changes.{add_file, bound, connected, dequeued, install, listening};
+ghost use Rattle.af_base.specs.Changes.{queued, with_socket};
 ghost use Rattle.af_base.specs.Refusals.{is_full, room_of, socket_at};
 ghost use Rattle.af_base.specs.Steps.{connected_socket, idle_socket};
 ghost use Rattle.af_collect.specs.Limits.{IsBelowLimit};
@@ -29,7 +31,11 @@ impl Store {
         requires row { fd < room_at self.old pid }
         requires limit { IsBelowLimit self.old.world pid fd }
         requires free { table_at self.old.world pid fd ≡ None }
-        ensures ok { OnOk result (self.new ≡ record self.old { world = install (add_file self.old.world (world.AsSocket (idle_socket kind))) pid fd self.old.world.next_ino; marks = self.new.marks }) }
+        ensures ok { OnOk result (self.new ≡ record self.old {
+          world = install (add_file self.old.world (world.AsSocket (idle_socket kind))) pid fd
+              self.old.world.next_ino;
+          marks = self.new.marks;
+        }) }
         ensures err { OnErr result (self.new ≡ self.old) }
     {
         let places = &mut self.parts.places;
@@ -44,7 +50,8 @@ impl Store {
         requires nameless { IfSome (socket_at self.old.world socket.now) (λ s. s.name ≡ None) }
         requires name { is_name name.now ≡ true }
         requires free { named self.old.world.files name.now ≡ None }
-        ensures ok { OnOk result (self.new ≡ record self.old { world = with_socket self.old.world socket.now (bound name.now) }) }
+        ensures ok { OnOk result (self.new
+            ≡ record self.old { world = with_socket self.old.world socket.now (bound name.now) }) }
         ensures err { OnErr result (self.new ≡ self.old) }
     {
         let places = &mut self.parts.places;
@@ -54,11 +61,13 @@ impl Store {
     /// Makes a socket that has a name, and was never connected, wait for connections (listen(2)).
     /// At most `most` embryos wait at it, from 1 to `MAX_BACKLOG`. On an error nothing has changed.
     pub fn listen(&mut self, socket: &FileRef, most: u32) -> Result<(), AllocError>
-        requires named { IfSome (socket_at self.old.world socket.now) (λ s. is_none s.name ≡ false) }
+        requires named { IfSome (socket_at self.old.world socket.now) (λ s.
+            is_none s.name ≡ false) }
         requires idle { IfSome (socket_at self.old.world socket.now) (λ s. s.state ≡ State.Idle) }
         requires some { 1 ≤ most }
         requires few { most ≤ MAX_BACKLOG }
-        ensures ok { OnOk result (self.new ≡ record self.old { world = with_socket self.old.world socket.now (listening most) }) }
+        ensures ok { OnOk result (self.new
+            ≡ record self.old { world = with_socket self.old.world socket.now (listening most) }) }
         ensures err { OnErr result (self.new ≡ self.old) }
     {
         let places = &mut self.parts.places;
@@ -78,8 +87,14 @@ impl Store {
         requires client { is_none (socket_at self.old.world client.now) ≡ false }
         requires idle { IfSome (socket_at self.old.world client.now) (λ s. s.state ≡ State.Idle) }
         requires listener { is_none (socket_at self.old.world listener.now) ≡ false }
-        requires room { IfSome (socket_at self.old.world listener.now) (λ s. length s.backlog < room_of s.state) }
-        ensures ok { OnOk result (self.new ≡ record self.old { world = with_socket (with_socket (add_file self.old.world (world.AsSocket (connected_socket kind client.now))) client.now (connected self.old.world.next_ino)) listener.now (queued self.old.world.next_ino); marks = self.new.marks }) }
+        requires room { IfSome (socket_at self.old.world listener.now) (λ s.
+            length s.backlog < room_of s.state) }
+        ensures ok { OnOk result (self.new ≡ record self.old {
+          world = with_socket (with_socket (add_file self.old.world
+              (world.AsSocket (connected_socket kind client.now))) client.now
+              (connected self.old.world.next_ino)) listener.now (queued self.old.world.next_ino);
+          marks = self.new.marks;
+        }) }
         ensures err { OnErr result (self.new ≡ self.old) }
     {
         let places = &mut self.parts.places;
@@ -93,9 +108,11 @@ impl Store {
         requires live { world.IsLive self.old.world embryo }
         requires spared { Spares self.old.pass embryo }
         requires new { waiting self.old.world embryo ≡ 0 }
-        requires room { IfSome (socket_at self.old.world listener.now) (λ s. length s.backlog < room_of s.state) }
+        requires room { IfSome (socket_at self.old.world listener.now) (λ s.
+            length s.backlog < room_of s.state) }
         requires socket { is_none (socket_at self.old.world listener.now) ≡ false }
-        ensures { self.new ≡ record self.old { world = with_socket self.old.world listener.now (queued embryo) } }
+        ensures { self.new
+            ≡ record self.old { world = with_socket self.old.world listener.now (queued embryo) } }
     {
         let places = &mut self.parts.places;
         places.files.hold(&Place::Backlog, &embryo);
@@ -111,7 +128,11 @@ impl Store {
         requires free { table_at self.old.world pid fd ≡ None }
         requires some { 0 < length (backlog_at self.old.world listener.now) }
         requires spared { Spares self.old.pass listener.now }
-        ensures { (embryo : ℕ) → slice_get (backlog_at self.old.world listener.now) 0 ≡ Some embryo → self.new ≡ record self.old { world = install (with_socket self.old.world listener.now dequeued) pid fd embryo; marks = self.new.marks } }
+        ensures { (embryo : ℕ) → slice_get (backlog_at self.old.world listener.now) 0 ≡ Some embryo
+            → self.new ≡ record self.old {
+              world = install (with_socket self.old.world listener.now dequeued) pid fd embryo;
+              marks = self.new.marks;
+            } }
     {
         self.parts.shade_embryo(listener);
         let places = &mut self.parts.places;

@@ -1,5 +1,6 @@
 //! All that is there, and beside it the pass that runs.
-ghost use Rattle.std.specs.Prelude.{◌≡◌, ◌<◌, ◌≤◌, ◌+◌, ◌∷◌, [], false, None, Some, IsTrue, IsOk, IfOk, OnOk, OnErr, true};
+ghost use Rattle.std.specs.Prelude.{◌≡◌, ◌<◌, ◌≤◌, ◌+◌, ◌∷◌, [], false, None, Some, IsTrue, IsOk};
+ghost use Rattle.std.specs.Prelude.{IfOk, OnOk, OnErr, true};
 ghost use Rattle.std.specs.FinMap as map;
 ghost use Rattle.af_base.specs.World.{Plain, empty_world, untold};
 ghost use Rattle.af_base.specs.Changes.{add_file, add_process, install, remove_process, set_limit};
@@ -47,7 +48,15 @@ impl Model for Store {
 
     ghost coded = { Prim.hlevel (codes, map.code) };
 
-    ghost view = { λ s. record { world = s.parts.places.world; rows = s.parts.places.rows; message_room = s.parts.places.message_room; pass = pass_of s.parts.progress.stage s.parts.begun.value.world s.parts.progress.looked; marks = s.parts.places.marks; progress = s.parts.progress; since = s.parts.places.since } };
+    ghost view = { λ s. record {
+      world = s.parts.places.world;
+      rows = s.parts.places.rows;
+      message_room = s.parts.places.message_room;
+      pass = pass_of s.parts.progress.stage s.parts.begun.value.world s.parts.progress.looked;
+      marks = s.parts.places.marks;
+      progress = s.parts.progress;
+      since = s.parts.places.since;
+    } };
 
     ghost invariant = { λ s. KeepsPass s.parts };
 }
@@ -114,7 +123,8 @@ impl Store {
         ensures since { self.new.since ≡ self.old.since }
         ensures progress { self.new.progress ≡ self.old.progress }
         ensures marks { self.new.marks ≡ self.old.marks }
-        ensures row { OnOk result (0 < count → (process_at self.old.world pid).limit ≤ room_at self.new pid) }
+        ensures row { OnOk result
+            (0 < count → (process_at self.old.world pid).limit ≤ room_at self.new pid) }
         ensures none { count ≡ 0 → IsOk result }
         ensures ready { (process_at self.old.world pid).limit ≤ room_at self.old pid → IsOk result }
     {
@@ -122,8 +132,8 @@ impl Store {
         places.procs.room_for(pid, count)
     }
 
-    /// Makes room for one message more, so that the next `put_msg` cannot fail. On an error nothing that
-    /// a process can see has changed.
+    /// Makes room for one message more, so that the next `put_msg` cannot fail. On an error nothing
+    /// that a process can see has changed.
     pub fn room_for_message(&mut self) -> Result<(), AllocError>
         ensures ok { OnOk result (self.new.message_room ≡ true) }
         ensures succeeds { self.old.message_room ≡ true → IsOk result }
@@ -136,7 +146,14 @@ impl Store {
     /// Tells from now on which files are freed. Both lists are empty then. On an error nothing has
     /// changed.
     pub fn tell_released(&mut self) -> Result<(), AllocError>
-        ensures ok { OnOk result (self.new ≡ record self.old { since = record { changed = self.old.since.changed; released = true; files = self.old.world.files; next = self.old.world.next_ino } }) }
+        ensures ok { OnOk result (self.new ≡ record self.old {
+          since = record {
+            changed = self.old.since.changed;
+            released = true;
+            files = self.old.world.files;
+            next = self.old.world.next_ino;
+          };
+        }) }
         ensures err { OnErr result (self.new ≡ self.old) }
     {
         let places = &mut self.parts.places;
@@ -146,7 +163,14 @@ impl Store {
     /// Tells from now on whose readiness may have changed. Both lists are empty then. On an error
     /// nothing has changed.
     pub fn tell_changed(&mut self) -> Result<(), AllocError>
-        ensures ok { OnOk result (self.new ≡ record self.old { since = record { changed = true; released = self.old.since.released; files = self.old.world.files; next = self.old.world.next_ino } }) }
+        ensures ok { OnOk result (self.new ≡ record self.old {
+          since = record {
+            changed = true;
+            released = self.old.since.released;
+            files = self.old.world.files;
+            next = self.old.world.next_ino;
+          };
+        }) }
         ensures err { OnErr result (self.new ≡ self.old) }
     {
         let places = &mut self.parts.places;
@@ -164,14 +188,20 @@ impl Store {
     /// Returns the sockets whose readiness may have changed since the lists were last emptied, each
     /// once, if that list is kept.
     pub fn changed(&self) -> &[FileRef]
-        ensures { self.now.since.changed ≡ true → AreChanged self.now.world.files self.now.since result.now }
+        ensures { self.now.since.changed ≡ true
+            → AreChanged self.now.world.files self.now.since result.now }
     {
         self.parts.places.files().changed()
     }
 
     /// Empties both lists. It takes no memory.
     pub fn clear_told(&mut self)
-        ensures { self.new ≡ record self.old { since = record self.old.since { files = self.old.world.files; next = self.old.world.next_ino } } }
+        ensures { self.new ≡ record self.old {
+          since = record self.old.since {
+            files = self.old.world.files;
+            next = self.old.world.next_ino;
+          };
+        } }
     {
         let places = &mut self.parts.places;
         places.files.clear_told();
@@ -185,7 +215,10 @@ impl Store {
         requires row { fd < room_at self.old pid }
         requires limit { IsBelowLimit self.old.world pid fd }
         requires free { table_at self.old.world pid fd ≡ None }
-        ensures ok { OnOk result (self.new ≡ record self.old { world = install (add_file self.old.world Plain) pid fd self.old.world.next_ino; marks = self.new.marks }) }
+        ensures ok { OnOk result (self.new ≡ record self.old {
+          world = install (add_file self.old.world Plain) pid fd self.old.world.next_ino;
+          marks = self.new.marks;
+        }) }
         ensures err { OnErr result (self.new ≡ self.old) }
     {
         let places = &mut self.parts.places;
@@ -207,7 +240,12 @@ impl Store {
         requires there { IsTrue (map.contains_key self.old.world.processes pid) }
         requires lowest { lower ∷ higher ∷ [] ≡ lowest_free 2 (process_at self.old.world pid) }
         requires row { (lower < room_at self.old pid) × (higher < room_at self.old pid) }
-        ensures ok { OnOk result (self.new ≡ record self.old { world = install (install (with_pair self.old.world kind) pid lower self.old.world.next_ino) pid higher (self.old.world.next_ino + 1); marks = self.new.marks }) }
+        ensures ok { OnOk result (self.new ≡ record self.old {
+          world = install
+              (install (with_pair self.old.world kind) pid lower self.old.world.next_ino) pid higher
+              (self.old.world.next_ino + 1);
+          marks = self.new.marks;
+        }) }
         ensures err { OnErr result (self.new ≡ self.old) }
     {
         let places = &mut self.parts.places;
@@ -222,7 +260,8 @@ impl Store {
     pub fn copy_for_fork(&mut self, pid: Pid) -> Result<Pid, AllocError>
         requires there { IsTrue (map.contains_key self.old.world.processes pid) }
         requires room { is_at_process_limit self.old.world ≡ false }
-        ensures ok { OnOk result (self.new.world ≡ add_process self.old.world (process_at self.old.world pid)) }
+        ensures ok { OnOk result
+            (self.new.world ≡ add_process self.old.world (process_at self.old.world pid)) }
         ensures pass { self.new.pass ≡ self.old.pass }
         ensures since { self.new.since ≡ self.old.since }
         ensures progress { self.new.progress ≡ self.old.progress }

@@ -22,7 +22,8 @@ impl Collector {
         requires kept { KeepsPass self.old }
         requires sound { IsSound self.old.places.world }
         ensures kept { KeepsPass self.new }
-        ensures places { self.new.places ≡ record self.old.places { marks = self.new.places.marks } }
+        ensures places { self.new.places
+            ≡ record self.old.places { marks = self.new.places.marks } }
         ensures begun { self.new.begun.value ≡ self.old.places }
         ensures stage { self.new.progress.stage ≡ stage.Marking }
         ensures looked { self.new.progress.looked ≡ 0 }
@@ -39,9 +40,9 @@ impl Collector {
         };
     }
 
-    /// Does as many units as the budget has. Returns whether the pass was over before: then no garbage
-    /// of its begin is left, and the number of reclaimed sockets is the number of those that were
-    /// garbage.
+    /// Does as many units as the budget has. Returns whether the pass was over before: then no
+    /// garbage of its begin is left, and the number of reclaimed sockets is the number of those
+    /// that were garbage.
     pub fn units(&mut self, budget: u32) -> bool
         requires kept { KeepsPass self.old }
         requires running { is_running self.old.progress.stage ≡ true }
@@ -52,12 +53,16 @@ impl Collector {
         ensures rows { self.new.places.rows ≡ self.old.places.rows }
         ensures since { self.new.places.since ≡ self.old.places.since }
         ensures begun { self.new.begun ≡ self.old.begun }
-        ensures purged { ArePurged self.old.begun.value.world self.old.places.world self.new.places.world budget }
+        ensures purged { ArePurged self.old.begun.value.world self.old.places.world
+            self.new.places.world budget }
         ensures looked { self.new.progress.looked ≤ self.old.progress.looked + budget }
         ensures rises { self.old.progress.looked ≤ self.new.progress.looked }
-        ensures working { result ≡ false → self.new.progress.looked ≡ self.old.progress.looked + budget }
-        ensures gone { result ≡ true → (f : ℕ) → Garbage self.old.begun.value.world f → ¬ (IsLive self.new.places.world f) }
-        ensures counted { result ≡ true → IsGarbageCount self.old.begun.value.world self.new.progress.reclaimed }
+        ensures working { result ≡ false
+            → self.new.progress.looked ≡ self.old.progress.looked + budget }
+        ensures gone { result ≡ true → (f : ℕ) → Garbage self.old.begun.value.world f
+            → ¬ (IsLive self.new.places.world f) }
+        ensures counted { result ≡ true
+            → IsGarbageCount self.old.begun.value.world self.new.progress.reclaimed }
     {
         // Where nothing is in flight a table holds each file, and nothing is garbage.
         if self.places.is_calm() {
@@ -74,8 +79,8 @@ impl Collector {
         false
     }
 
-    /// Does one unit, or two where a file is visited and scanned in one look and two are left. Returns
-    /// how many, 0 where the pass is over.
+    /// Does one unit, or two where a file is visited and scanned in one look and two are left.
+    /// Returns how many, 0 where the pass is over.
     #[inline(always)]
     fn unit(&mut self, left: u32) -> u32
         requires kept { KeepsPass self.old }
@@ -89,10 +94,13 @@ impl Collector {
         ensures since { self.new.places.since ≡ self.old.places.since }
         ensures begun { self.new.begun ≡ self.old.begun }
         ensures few { result ≤ left }
-        ensures purged { ArePurged self.old.begun.value.world self.old.places.world self.new.places.world result }
+        ensures purged { ArePurged self.old.begun.value.world self.old.places.world
+            self.new.places.world result }
         ensures looked { self.new.progress.looked ≡ self.old.progress.looked + result }
-        ensures gone { result ≡ 0 → (f : ℕ) → Garbage self.old.begun.value.world f → ¬ (IsLive self.new.places.world f) }
-        ensures counted { result ≡ 0 → IsGarbageCount self.old.begun.value.world self.new.progress.reclaimed }
+        ensures gone { result ≡ 0 → (f : ℕ) → Garbage self.old.begun.value.world f
+            → ¬ (IsLive self.new.places.world f) }
+        ensures counted { result ≡ 0
+            → IsGarbageCount self.old.begun.value.world self.new.progress.reclaimed }
     {
         // Where all are marked no garbage of the begin is live.
         if self.places.files().are_marked() {
@@ -107,8 +115,8 @@ impl Collector {
         self.sweep_on()
     }
 
-    /// Does one unit of marking, or two. Returns how many, 0 where nothing is left to visit or scan:
-    /// then sweeping begins.
+    /// Does one unit of marking, or two. Returns how many, 0 where nothing is left to visit or
+    /// scan: then sweeping begins.
     #[inline(always)]
     fn mark_on(&mut self, left: u32) -> u32
         requires kept { KeepsPass self.old }
@@ -116,7 +124,8 @@ impl Collector {
         requires sound { IsSound self.old.places.world }
         requires some { 0 < left }
         ensures kept { KeepsPass self.new }
-        ensures places { self.new.places ≡ record self.old.places { marks = self.new.places.marks } }
+        ensures places { self.new.places
+            ≡ record self.old.places { marks = self.new.places.marks } }
         ensures begun { self.new.begun ≡ self.old.begun }
         ensures few { result ≤ left }
         ensures looked { self.new.progress.looked ≡ self.old.progress.looked + result }
@@ -148,10 +157,13 @@ impl Collector {
         ensures begun { self.new.begun ≡ self.old.begun }
         ensures stage { self.new.progress.stage ≡ stage.Sweeping }
         ensures few { result ≤ 1 }
-        ensures purged { ArePurged self.old.begun.value.world self.old.places.world self.new.places.world result }
+        ensures purged { ArePurged self.old.begun.value.world self.old.places.world
+            self.new.places.world result }
         ensures looked { self.new.progress.looked ≡ self.old.progress.looked + result }
-        ensures gone { result ≡ 0 → (f : ℕ) → Garbage self.old.begun.value.world f → ¬ (IsLive self.new.places.world f) }
-        ensures counted { result ≡ 0 → IsGarbageCount self.old.begun.value.world self.new.progress.reclaimed }
+        ensures gone { result ≡ 0 → (f : ℕ) → Garbage self.old.begun.value.world f
+            → ¬ (IsLive self.new.places.world f) }
+        ensures counted { result ≡ 0
+            → IsGarbageCount self.old.begun.value.world self.new.progress.reclaimed }
     {
         let Some((file, at)) = self.next_from(self.progress.swept) else {
             return 0;
@@ -167,8 +179,10 @@ impl Collector {
     fn next_from(&self, from: u64) -> Option<(FileRef, usize)>
         ensures live { IfSome result (λ f. IsLive self.now.places.world f.0) }
         ensures within { IfSome result (λ f. (from ≤ f.0) × (f.0 < self.now.places.marks.bound)) }
-        ensures least { IfSome result (λ f. (g : ℕ) → from ≤ g → g < f.0 → is_live self.now.places.world g ≡ false) }
-        ensures none { IfNone result ((g : ℕ) → from ≤ g → g < self.now.places.marks.bound → is_live self.now.places.world g ≡ false) }
+        ensures least { IfSome result (λ f.
+            (g : ℕ) → from ≤ g → g < f.0 → is_live self.now.places.world g ≡ false) }
+        ensures none { IfNone result ((g : ℕ) → from ≤ g → g < self.now.places.marks.bound
+            → is_live self.now.places.world g ≡ false) }
     {
         let bound = self.places.files().bound();
         if from >= bound.0 {
@@ -182,21 +196,27 @@ impl Collector {
         Some((file, at))
     }
 
-    /// Visits a file: marks it if a table holds it, and scans it in the same look if it holds nothing
-    /// and two units are left. Returns how many units that was.
+    /// Visits a file: marks it if a table holds it, and scans it in the same look if it holds
+    /// nothing and two units are left. Returns how many units that was.
     #[inline(always)]
     fn visit(&mut self, file: &FileRef, left: u32) -> u32
         requires kept { KeepsPass self.old }
         requires marking { self.old.progress.stage ≡ stage.Marking }
         requires some { 0 < left }
         requires live { IsLive self.old.places.world file.now }
-        requires within { (self.old.progress.visited ≤ file.now) × (file.now < self.old.places.marks.bound) }
-        requires least { (g : ℕ) → self.old.progress.visited ≤ g → g < file.now → is_live self.old.places.world g ≡ false }
+        requires within { (self.old.progress.visited ≤ file.now)
+            × (file.now < self.old.places.marks.bound) }
+        requires least { (g : ℕ) → self.old.progress.visited ≤ g → g < file.now
+            → is_live self.old.places.world g ≡ false }
         ensures kept { KeepsPass self.new }
-        ensures places { self.new.places ≡ record self.old.places { marks = self.new.places.marks } }
+        ensures places { self.new.places
+            ≡ record self.old.places { marks = self.new.places.marks } }
         ensures begun { self.new.begun ≡ self.old.begun }
         ensures units { (0 < result) × (result ≤ left) }
-        ensures progress { self.new.progress ≡ record self.old.progress { visited = file.now + 1; looked = self.old.progress.looked + result } }
+        ensures progress { self.new.progress ≡ record self.old.progress {
+          visited = file.now + 1;
+          looked = self.old.progress.looked + result;
+        } }
     {
         // Files' numbers are below the next one: that is what a whole world says of them.
         self.places.lemma_is_whole();
@@ -214,9 +234,11 @@ impl Collector {
         requires marking { self.old.progress.stage ≡ stage.Marking }
         requires grey { is_grey self.old.places.marks file.now ≡ true }
         ensures kept { KeepsPass self.new }
-        ensures places { self.new.places ≡ record self.old.places { marks = self.new.places.marks } }
+        ensures places { self.new.places
+            ≡ record self.old.places { marks = self.new.places.marks } }
         ensures begun { self.new.begun ≡ self.old.begun }
-        ensures progress { self.new.progress ≡ record self.old.progress { looked = self.old.progress.looked + 1 } }
+        ensures progress { self.new.progress
+            ≡ record self.old.progress { looked = self.old.progress.looked + 1 } }
     {
         // A held file is live, as in each well-formed world.
         self.places.lemma_is_whole();
@@ -232,8 +254,10 @@ impl Collector {
         requires sweeping { self.old.progress.stage ≡ stage.Sweeping }
         requires sound { IsSound self.old.places.world }
         requires live { IsLive self.old.places.world file.now }
-        requires within { (self.old.progress.swept ≤ file.now) × (file.now < self.old.places.marks.bound) }
-        requires least { (g : ℕ) → self.old.progress.swept ≤ g → g < file.now → is_live self.old.places.world g ≡ false }
+        requires within { (self.old.progress.swept ≤ file.now)
+            × (file.now < self.old.places.marks.bound) }
+        requires least { (g : ℕ) → self.old.progress.swept ≤ g → g < file.now
+            → is_live self.old.places.world g ≡ false }
         ensures kept { KeepsPass self.new }
         ensures sound { IsSound self.new.places.world }
         ensures rows { self.new.places.rows ≡ self.old.places.rows }
@@ -241,7 +265,8 @@ impl Collector {
         ensures begun { self.new.begun ≡ self.old.begun }
         ensures stage { self.new.progress.stage ≡ stage.Sweeping }
         ensures looked { self.new.progress.looked ≡ self.old.progress.looked + 1 }
-        ensures purged { ArePurged self.old.begun.value.world self.old.places.world self.new.places.world 1 }
+        ensures purged { ArePurged self.old.begun.value.world self.old.places.world
+            self.new.places.world 1 }
     {
         self.progress.swept = file.ino().0 + 1;
         self.progress.looked += 1;

@@ -1,5 +1,7 @@
 //! The files, by their numbers.
-ghost use Rattle.std.specs.Prelude.{◌≡◌, ℕ, ◌+◌, ◌<◌, ◌∷◌, ◌≤◌, [], false, None, IsTrue, IsOk, IfSome, IfNone, IfErr, IfOk, OnOk, OnErr, is_none, length, drop, true, vec_capacity};
+ghost use Rattle.std.specs.Prelude.{◌≡◌, ℕ, ◌+◌, ◌<◌, ◌∷◌, ◌≤◌, [], false, None, IsTrue, IsOk};
+ghost use Rattle.std.specs.Prelude.{IfSome, IfNone, IfErr, IfOk, OnOk, OnErr, is_none, length};
+ghost use Rattle.std.specs.Prelude.{drop, true, vec_capacity};
 ghost use Rattle.std.specs.FinMap as map;
 ghost use Rattle.af_base.specs.World as world;
 ghost use Rattle.af_base.specs.Places.{backlog_in, queue_in};
@@ -12,7 +14,10 @@ ghost use Rattle.af_base.specs.World.{untold};
 ghost use Rattle.af_mark.specs.Marked.{is_grey, is_unmarked};
 ghost use Rattle.af_desc.specs.RowsView.{file_of};
 ghost use Rattle.af_base.specs.Told.{AreChanged, AreReleased};
-ghost use Rattle.af_desc.specs.FilesView.{AreNamed, changed, changed_queue, entered, hung_up, is_full, is_live, is_unmarked_socket, name_of, paired, popped, received_from, received_of, socket_in, state_in, without};
+ghost use Rattle.af_desc.specs.FilesView.{AreNamed, changed, changed_queue, entered, hung_up};
+ghost use Rattle.af_desc.specs.FilesView.{is_full, is_live, is_unmarked_socket, name_of, paired};
+ghost use Rattle.af_desc.specs.FilesView.{popped, received_from, received_of, socket_in, state_in};
+ghost use Rattle.af_desc.specs.FilesView.{without};
 
 use crate::counts::with_embryo;
 use crate::rows::Rows;
@@ -61,9 +66,17 @@ impl Model for Files {
 
     ghost coded = { Prim.hlevel (codes, map.code) };
 
-    ghost view = { λ a. record { files = a.rows.files; counts = a.rows.counts; marks = record { colors = colors_in a.epoch a.rows.marks; bound = a.bound }; since = a.rows.since; next = a.next; message_room = a.rows.message_room } };
+    ghost view = { λ a. record {
+      files = a.rows.files;
+      counts = a.rows.counts;
+      marks = record { colors = colors_in a.epoch a.rows.marks; bound = a.bound };
+      since = a.rows.since;
+      next = a.next;
+      message_room = a.rows.message_room;
+    } };
 
-    ghost invariant = { λ a. FilesInvariant a.rows a.waiting.items (vec_capacity a.waiting) a.names a.next a.epoch a.grey.items (vec_capacity a.grey) a.embryos a.bound a.white };
+    ghost invariant = { λ a. FilesInvariant a.rows a.waiting.items (vec_capacity a.waiting) a.names
+        a.next a.epoch a.grey.items (vec_capacity a.grey) a.embryos a.bound a.white };
 }
 
 impl Files {
@@ -146,7 +159,8 @@ impl Files {
     pub fn next_after(&self, ino: Ino, at: usize) -> Option<(FileRef, usize)>
         ensures above { IfSome result (λ n. ino < n.0) }
         ensures live { IfSome result (λ n. IsTrue (is_live self.now n.0)) }
-        ensures least { IfSome result (λ n. (q : ℕ) → ino < q → q < n.0 → is_live self.now q ≡ false) }
+        ensures least { IfSome result (λ n.
+            (q : ℕ) → ino < q → q < n.0 → is_live self.now q ≡ false) }
         ensures none { IfNone result ((q : ℕ) → ino < q → is_live self.now q ≡ false) }
         ensures begins { is_live self.now 0 ≡ false }
     {
@@ -187,7 +201,8 @@ impl Files {
     pub fn make_sock(&mut self, kind: SockType, place: &Place) -> Result<FileRef, AllocError>
         requires room { is_full self.old 1 ≡ false }
         ensures ino { IfOk result (λ ino. ino ≡ self.old.next) }
-        ensures ok { OnOk result (self.new ≡ entered place.now (world.AsSocket (idle_socket kind)) self.old) }
+        ensures ok { OnOk result
+            (self.new ≡ entered place.now (world.AsSocket (idle_socket kind)) self.old) }
         ensures err { OnErr result (self.new ≡ self.old) }
     {
         self.make(Some(Endpoint::idle(kind)), place)
@@ -230,7 +245,8 @@ impl Files {
     pub fn remove(&mut self, file: &FileRef) -> (Option<FileRef>, bool)
         requires silent { queue_in self.old.files file.now ≡ [] }
         ensures peer { IfSome result.0 (λ p. state_in self.old.files file.now ≡ State.Connected p) }
-        ensures alone { IfNone result.0 ((p : ℕ) → ¬ (state_in self.old.files file.now ≡ State.Connected p)) }
+        ensures alone { IfNone result.0
+            ((p : ℕ) → ¬ (state_in self.old.files file.now ≡ State.Connected p)) }
         ensures unmarked { result.1 ≡ is_unmarked_socket self.old.files self.old.marks file.now }
         ensures gone { self.new ≡ without file.now self.old }
     {
@@ -269,8 +285,8 @@ impl Files {
         self.rows.hang_up(file);
     }
 
-    /// Makes room for one message more, so that the next `push` cannot fail. On an error no file has
-    /// changed.
+    /// Makes room for one message more, so that the next `push` cannot fail. On an error no file
+    /// has changed.
     pub fn room_for_message(&mut self) -> Result<(), AllocError>
         ensures ok { OnOk result (self.new.message_room ≡ true) }
         ensures succeeds { self.old.message_room ≡ true → IsOk result }
@@ -285,7 +301,8 @@ impl Files {
         requires few { length (queue_in self.old.files file.now) < MAX_MESSAGES }
         requires within { IsMessageWithin message }
         requires room { self.old.message_room ≡ true }
-        ensures { self.new ≡ changed_queue (pushed message) file.now self.new.message_room self.old }
+        ensures { self.new
+            ≡ changed_queue (pushed message) file.now self.new.message_room self.old }
     {
         self.rows.push_message(file, message);
     }
@@ -307,7 +324,8 @@ impl Files {
     pub fn take(&mut self, file: &FileRef, max: usize) -> Result<Taken, AllocError>
         requires { 0 < max }
         ensures taken { IfOk result (λ t. t ≡ received_of (socket_in self.old.files file.now) max) }
-        ensures ok { OnOk result (self.new ≡ changed_queue (received_from max) file.now self.new.message_room self.old) }
+        ensures ok { OnOk result
+            (self.new ≡ changed_queue (received_from max) file.now self.new.message_room self.old) }
         ensures err { OnErr result (self.new ≡ self.old) }
     {
         self.rows.take(file, self.alloc, max)
@@ -316,7 +334,8 @@ impl Files {
     /// Removes the first message from the queue of that socket, if there is one. Takes no memory.
     #[inline(always)]
     pub fn pop(&mut self, file: &FileRef) -> Option<Msg>
-        ensures some { IfSome result (λ m. queue_in self.old.files file.now ≡ m ∷ drop 1 (queue_in self.old.files file.now)) }
+        ensures some { IfSome result (λ m.
+            queue_in self.old.files file.now ≡ m ∷ drop 1 (queue_in self.old.files file.now)) }
         ensures none { IfNone result (queue_in self.old.files file.now ≡ []) }
         ensures rest { self.new ≡ changed_queue popped file.now self.new.message_room self.old }
     {
@@ -335,7 +354,8 @@ impl Files {
     ) -> Result<FileRef, AllocError>
         requires room { is_full self.old 1 ≡ false }
         ensures ino { IfOk result (λ ino. ino ≡ self.old.next) }
-        ensures ok { OnOk result (self.new ≡ changed (connected self.old.next) client.now (entered place.now (world.AsSocket (connected_socket kind client.now)) self.old)) }
+        ensures ok { OnOk result (self.new ≡ changed (connected self.old.next) client.now
+            (entered place.now (world.AsSocket (connected_socket kind client.now)) self.old)) }
         ensures err { OnErr result (self.new ≡ self.old) }
     {
         let embryo = self.make(Some(Endpoint::connected(kind, client)), place)?;
@@ -385,7 +405,8 @@ impl Files {
     /// Appends an embryo to the backlog of that listener, which has room for it. Ignores a plain or
     /// unknown file. Takes no memory.
     pub fn enqueue(&mut self, file: &FileRef, embryo: FileRef)
-        requires { IfSome (socket_in self.old.files file.now) (λ s. length s.backlog < room_of s.state) }
+        requires { IfSome (socket_in self.old.files file.now) (λ s.
+            length s.backlog < room_of s.state) }
         ensures { self.new ≡ changed (queued embryo) file.now self.old }
     {
         self.rows.enqueue(file, embryo);
@@ -394,7 +415,8 @@ impl Files {
     /// Removes the first embryo of that listener, if there is one. Takes no memory.
     #[inline(always)]
     pub fn dequeue(&mut self, file: &FileRef) -> Option<FileRef>
-        ensures some { IfSome result (λ f. backlog_in self.old.files file.now ≡ f ∷ drop 1 (backlog_in self.old.files file.now)) }
+        ensures some { IfSome result (λ f.
+            backlog_in self.old.files file.now ≡ f ∷ drop 1 (backlog_in self.old.files file.now)) }
         ensures none { IfNone result (backlog_in self.old.files file.now ≡ []) }
         ensures rest { self.new ≡ changed dequeued file.now self.old }
     {
@@ -406,7 +428,14 @@ impl Files {
     /// Tells from now on which files are freed. Both lists are empty then. On an error nothing has
     /// changed.
     pub fn tell_released(&mut self) -> Result<(), AllocError>
-        ensures ok { OnOk result (self.new ≡ record self.old { since = record { changed = self.old.since.changed; released = true; files = self.old.files; next = self.old.next } }) }
+        ensures ok { OnOk result (self.new ≡ record self.old {
+          since = record {
+            changed = self.old.since.changed;
+            released = true;
+            files = self.old.files;
+            next = self.old.next;
+          };
+        }) }
         ensures err { OnErr result (self.new ≡ self.old) }
     {
         self.rows.tell_released()
@@ -415,7 +444,14 @@ impl Files {
     /// Tells from now on whose readiness may have changed. Both lists are empty then. On an error
     /// nothing has changed.
     pub fn tell_changed(&mut self) -> Result<(), AllocError>
-        ensures ok { OnOk result (self.new ≡ record self.old { since = record { changed = true; released = self.old.since.released; files = self.old.files; next = self.old.next } }) }
+        ensures ok { OnOk result (self.new ≡ record self.old {
+          since = record {
+            changed = true;
+            released = self.old.since.released;
+            files = self.old.files;
+            next = self.old.next;
+          };
+        }) }
         ensures err { OnErr result (self.new ≡ self.old) }
     {
         self.rows.tell_changed()
@@ -424,7 +460,8 @@ impl Files {
     /// Returns the numbers of the files that were freed since the lists were last emptied, each
     /// once, if that list is kept.
     pub fn released(&self) -> &[Ino]
-        ensures { self.now.since.released ≡ true → AreReleased self.now.files self.now.next self.now.since result.now }
+        ensures { self.now.since.released ≡ true
+            → AreReleased self.now.files self.now.next self.now.since result.now }
     {
         self.rows.released()
     }
@@ -432,14 +469,17 @@ impl Files {
     /// Returns the sockets whose readiness may have changed since the lists were last emptied, each
     /// once, if that list is kept.
     pub fn changed(&self) -> &[FileRef]
-        ensures { self.now.since.changed ≡ true → AreChanged self.now.files self.now.since result.now }
+        ensures { self.now.since.changed ≡ true
+            → AreChanged self.now.files self.now.since result.now }
     {
         self.rows.changed()
     }
 
     /// Empties both lists. It takes no memory.
     pub fn clear_told(&mut self)
-        ensures { self.new ≡ record self.old { since = record self.old.since { files = self.old.files; next = self.old.next } } }
+        ensures { self.new ≡ record self.old {
+          since = record self.old.since { files = self.old.files; next = self.old.next };
+        } }
     {
         self.rows.clear_told();
     }
@@ -485,7 +525,8 @@ fn widen(list: &mut Vec<FileRef>, files: usize) -> Result<(), AllocError>
 /// Frees the name of a socket that is gone, if it had one.
 #[inline(always)]
 fn free_name(names: &mut Names, gone: &Option<Endpoint>)
-    ensures { (files : world.Map world.File) (f : ℕ) → AreNamed names.old files → gone.now ≡ socket_in files f → AreNamed names.new (map.remove files f) }
+    ensures { (files : world.Map world.File) (f : ℕ) → AreNamed names.old files
+        → gone.now ≡ socket_in files f → AreNamed names.new (map.remove files f) }
 {
     let Some(endpoint) = gone else {
         return;

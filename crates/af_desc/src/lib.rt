@@ -1,5 +1,5 @@
-//! Open file descriptions: plain files and sockets with their queues, how many places hold each, and
-//! what a pass of the collector has marked, under inode numbers that are never used again.
+//! Open file descriptions: plain files and sockets with their queues, how many places hold each,
+//! and what a pass of the collector has marked, under inode numbers that are never used again.
 #![tactic(auto)]
 
 mod counts;

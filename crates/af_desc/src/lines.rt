@@ -1,8 +1,11 @@
 //! One row for each file.
-ghost use Rattle.std.specs.Prelude.{◌≡◌, ℕ, ◌+◌, ◌≤◌, ◌<◌, ◌∷◌, [], false, None, IsTrue, IsOk, IfSome, IfNone, IfErr, IfOk, OnOk, OnErr, drop, is_none, is_some, length, nat_eq, option_copied, true};
+ghost use Rattle.std.specs.Prelude.{◌≡◌, ℕ, ◌+◌, ◌≤◌, ◌<◌, ◌∷◌, [], false, None, IsTrue, IsOk};
+ghost use Rattle.std.specs.Prelude.{IfSome, IfNone, IfErr, IfOk, OnOk, OnErr, drop, is_none};
+ghost use Rattle.std.specs.Prelude.{is_some, length, nat_eq, option_copied, true};
 ghost use Rattle.std.specs.FinMap as map;
 ghost use Rattle.std.specs.Option.{option_map_or};
-ghost use Rattle.af_base.specs.Changes.{bound, change_socket_at, connected, dequeued, listening, pushed, queued};
+ghost use Rattle.af_base.specs.Changes.{bound, change_socket_at, connected, dequeued, listening};
+ghost use Rattle.af_base.specs.Changes.{pushed, queued};
 ghost use Rattle.af_base.specs.Places.{backlog_in, held_in, queue_in};
 ghost use Rattle.af_base.specs.Refusals.{room_of};
 ghost use Rattle.af_base.specs.Whole.{IsMessageWithin};
@@ -45,7 +48,15 @@ impl Model for Lines {
 
     ghost coded = { Prim.hlevel (codes, map.code) };
 
-    ghost view = { λ a. record { files = files_of a.nodes a.rows.values; counts = counts_of a.rows.values; marks = marks_of a.rows.values; noted = noted_of a.rows.values; last = a.rows.last; room = a.rows.room; message_room = has_room a.nodes } };
+    ghost view = { λ a. record {
+      files = files_of a.nodes a.rows.values;
+      counts = counts_of a.rows.values;
+      marks = marks_of a.rows.values;
+      noted = noted_of a.rows.values;
+      last = a.rows.last;
+      room = a.rows.room;
+      message_room = has_room a.nodes;
+    } };
 
     ghost invariant = { λ a. AreChained a.nodes a.rows.values };
 }
@@ -99,7 +110,8 @@ impl Lines {
         requires room { 0 < self.old.room }
         requires above { self.old.last < ino }
         ensures file { result ≡ ino }
-        ensures pushed { self.new ≡ with_line ino (file_of endpoint) place.now self.new.room self.old }
+        ensures pushed { self.new
+            ≡ with_line ino (file_of endpoint) place.now self.new.room self.old }
         ensures new { map.contains_key self.old.files ino ≡ false }
         ensures uncounted { map.contains_key self.old.counts ino ≡ false }
         ensures unmarked { map.contains_key self.old.marks ino ≡ false }
@@ -182,7 +194,8 @@ impl Lines {
     #[inline(always)]
     #[tactic(auto, using(crate::proofs::RowsView::rows, ordered_slab::proofs::Parts::parts))]
     pub fn hang_up(&mut self, file: &FileRef)
-        ensures { self.new ≡ record self.old { files = change_socket_at hung_up self.old.files file.now } }
+        ensures { self.new
+            ≡ record self.old { files = change_socket_at hung_up self.old.files file.now } }
     {
         let Some(row) = self.rows.get_mut(file) else {
             return;
@@ -197,7 +210,9 @@ impl Lines {
     #[inline(always)]
     #[tactic(auto, using(crate::proofs::RowsView::rows, ordered_slab::proofs::Parts::parts))]
     pub fn connect(&mut self, file: &FileRef, peer: &FileRef)
-        ensures { self.new ≡ record self.old { files = change_socket_at (connected peer.now) self.old.files file.now } }
+        ensures { self.new ≡ record self.old {
+          files = change_socket_at (connected peer.now) self.old.files file.now;
+        } }
     {
         let Some(row) = self.rows.get_mut(file) else {
             return;
@@ -213,7 +228,8 @@ impl Lines {
     #[tactic(auto, using(crate::proofs::RowsView::rows, ordered_slab::proofs::Parts::parts))]
     pub fn bind(&mut self, file: &FileRef, alloc: Global, name: Items<u8>) -> Result<(), AllocError>
         requires { IfSome (socket_in self.old.files file.now) (λ s. s.name ≡ None) }
-        ensures ok { OnOk result (self.new ≡ record self.old { files = change_socket_at (bound name) self.old.files file.now }) }
+        ensures ok { OnOk result (self.new
+            ≡ record self.old { files = change_socket_at (bound name) self.old.files file.now }) }
         ensures err { OnErr result (self.new ≡ self.old) }
     {
         let Some(row) = self.rows.get_mut(file) else {
@@ -232,7 +248,9 @@ impl Lines {
     pub fn listen(&mut self, file: &FileRef, alloc: Global, most: u32) -> Result<(), AllocError>
         requires named { IfSome (socket_in self.old.files file.now) (λ s. is_none s.name ≡ false) }
         requires nobody { IfSome (socket_in self.old.files file.now) (λ s. s.backlog ≡ []) }
-        ensures ok { OnOk result (self.new ≡ record self.old { files = change_socket_at (listening most) self.old.files file.now }) }
+        ensures ok { OnOk result (self.new ≡ record self.old {
+          files = change_socket_at (listening most) self.old.files file.now;
+        }) }
         ensures err { OnErr result (self.new ≡ self.old) }
     {
         let Some(row) = self.rows.get_mut(file) else {
@@ -248,8 +266,10 @@ impl Lines {
     #[inline(always)]
     #[tactic(auto, using(crate::proofs::RowsView::rows, ordered_slab::proofs::Parts::parts))]
     pub fn enqueue(&mut self, file: &FileRef, embryo: FileRef)
-        requires { IfSome (socket_in self.old.files file.now) (λ s. length s.backlog < room_of s.state) }
-        ensures { self.new ≡ record self.old { files = change_socket_at (queued embryo) self.old.files file.now } }
+        requires { IfSome (socket_in self.old.files file.now) (λ s.
+            length s.backlog < room_of s.state) }
+        ensures { self.new
+            ≡ record self.old { files = change_socket_at (queued embryo) self.old.files file.now } }
     {
         let Some(row) = self.rows.get_mut(file) else {
             return;
@@ -264,9 +284,11 @@ impl Lines {
     #[inline(always)]
     #[tactic(auto, using(crate::proofs::RowsView::rows, ordered_slab::proofs::Parts::parts))]
     pub fn dequeue(&mut self, file: &FileRef) -> Option<FileRef>
-        ensures some { IfSome result (λ f. backlog_in self.old.files file.now ≡ f ∷ drop 1 (backlog_in self.old.files file.now)) }
+        ensures some { IfSome result (λ f.
+            backlog_in self.old.files file.now ≡ f ∷ drop 1 (backlog_in self.old.files file.now)) }
         ensures none { IfNone result (backlog_in self.old.files file.now ≡ []) }
-        ensures rest { self.new ≡ record self.old { files = change_socket_at dequeued self.old.files file.now } }
+        ensures rest { self.new
+            ≡ record self.old { files = change_socket_at dequeued self.old.files file.now } }
     {
         let Some(row) = self.rows.get_mut(file) else {
             return None;
@@ -294,7 +316,10 @@ impl Lines {
         requires few { length (queue_in self.old.files file.now) < MAX_MESSAGES }
         requires within { IsMessageWithin message }
         requires room { self.old.message_room ≡ true }
-        ensures { self.new ≡ record self.old { files = change_socket_at (pushed message) self.old.files file.now; message_room = self.new.message_room } }
+        ensures { self.new ≡ record self.old {
+          files = change_socket_at (pushed message) self.old.files file.now;
+          message_room = self.new.message_room;
+        } }
     {
         if let Some(row) = self.rows.get_mut(file) {
             row.push(&mut self.nodes, file.ino(), message);
@@ -305,9 +330,13 @@ impl Lines {
     #[inline(always)]
     #[tactic(auto, using(crate::proofs::RowsView::messages, ordered_slab::proofs::Parts::parts))]
     pub fn pop_message(&mut self, file: &FileRef) -> Option<Msg>
-        ensures some { IfSome result (λ m. queue_in self.old.files file.now ≡ m ∷ drop 1 (queue_in self.old.files file.now)) }
+        ensures some { IfSome result (λ m.
+            queue_in self.old.files file.now ≡ m ∷ drop 1 (queue_in self.old.files file.now)) }
         ensures none { IfNone result (queue_in self.old.files file.now ≡ []) }
-        ensures rest { self.new ≡ record self.old { files = change_socket_at popped self.old.files file.now; message_room = self.new.message_room } }
+        ensures rest { self.new ≡ record self.old {
+          files = change_socket_at popped self.old.files file.now;
+          message_room = self.new.message_room;
+        } }
     {
         let row = self.rows.get_mut(file)?;
         row.pop(&mut self.nodes, file.ino())
@@ -320,7 +349,10 @@ impl Lines {
     pub fn take(&mut self, file: &FileRef, alloc: Global, max: usize) -> Result<Taken, AllocError>
         requires { 0 < max }
         ensures taken { IfOk result (λ t. t ≡ received_of (socket_in self.old.files file.now) max) }
-        ensures rest { OnOk result (self.new ≡ record self.old { files = change_socket_at (received_from max) self.old.files file.now; message_room = self.new.message_room }) }
+        ensures rest { OnOk result (self.new ≡ record self.old {
+          files = change_socket_at (received_from max) self.old.files file.now;
+          message_room = self.new.message_room;
+        }) }
         ensures err { OnErr result (self.new ≡ self.old) }
     {
         let Some(row) = self.rows.get_mut(file) else {
@@ -335,7 +367,10 @@ impl Lines {
     pub fn add_place(&mut self, place: &Place, file: &FileRef) -> bool
         requires known { IsTrue (map.contains_key self.old.counts file.now) }
         requires countable { IsCountable place.now (count_in_map self.old.counts file.now) }
-        ensures counts { self.new ≡ record self.old { counts = map.insert self.old.counts file.now (more place.now (count_in_map self.old.counts file.now)) } }
+        ensures counts { self.new ≡ record self.old {
+          counts = map.insert self.old.counts file.now
+              (more place.now (count_in_map self.old.counts file.now));
+        } }
         ensures len { map.len self.new.counts ≡ map.len self.old.counts }
         ensures first { result ≡ nat_eq (places_in (count_in_map self.old.counts file.now)) 0 }
     {
@@ -350,7 +385,10 @@ impl Lines {
     #[tactic(auto, using(crate::proofs::RowsView::chains, ordered_slab::proofs::Parts::parts, ordered_slab::proofs::Values::lent, af_ledger::proofs::Waiting::counted))]
     pub fn sub_place(&mut self, place: &Place, file: &FileRef) -> bool
         requires { IsCounted place.now (count_in_map self.old.counts file.now) }
-        ensures counts { self.new ≡ record self.old { counts = map.insert self.old.counts file.now (fewer place.now (count_in_map self.old.counts file.now)) } }
+        ensures counts { self.new ≡ record self.old {
+          counts = map.insert self.old.counts file.now
+              (fewer place.now (count_in_map self.old.counts file.now));
+        } }
         ensures len { map.len self.new.counts ≡ map.len self.old.counts }
         ensures last { result ≡ nat_eq (places_in (count_in_map self.old.counts file.now)) 1 }
     {
@@ -374,23 +412,27 @@ impl Lines {
     #[tactic(auto, using(crate::proofs::RowsView::chains, ordered_slab::proofs::Parts::parts, ordered_slab::proofs::Values::lent))]
     pub fn set_mark(&mut self, file: &FileRef, mark: Mark)
         requires { IsTrue (map.contains_key self.old.marks file.now) }
-        ensures set { self.new ≡ record self.old { marks = map.insert self.old.marks file.now mark } }
+        ensures set { self.new
+            ≡ record self.old { marks = map.insert self.old.marks file.now mark } }
         ensures len { map.len self.new.marks ≡ map.len self.old.marks }
     {
         let row = self.rows.get_mut(file).unwrap();
         row.mark = mark;
     }
 
-    /// Marks a file that a table holds, if it is not marked in this pass. It is grey, with this place
-    /// in the list, or black at once, if it holds nothing and may be scanned. Returns whether it is
-    /// black, and nothing where it was not marked now.
+    /// Marks a file that a table holds, if it is not marked in this pass. It is grey, with this
+    /// place in the list, or black at once, if it holds nothing and may be scanned. Returns whether
+    /// it is black, and nothing where it was not marked now.
     #[inline(always)]
     #[tactic(auto, using(crate::proofs::RowsView::chains, ordered_slab::proofs::Parts::parts, ordered_slab::proofs::Values::lent))]
     pub fn visit(&mut self, file: &FileRef, epoch: u64, at: u32, may_scan: bool) -> Option<bool>
         ensures due { is_some result ≡ is_due epoch self.old.counts self.old.marks file.now }
-        ensures marked { IfSome result (λ black. self.new ≡ record self.old { marks = map.insert self.old.marks file.now (marking epoch at black) }) }
+        ensures marked { IfSome result (λ black. self.new ≡ record self.old {
+          marks = map.insert self.old.marks file.now (marking epoch at black);
+        }) }
         ensures len { map.len self.new.marks ≡ map.len self.old.marks }
-        ensures bare { IfSome result (λ black. black ≡ true → held_in self.old.files file.now ≡ []) }
+        ensures bare { IfSome result (λ black.
+            black ≡ true → held_in self.old.files file.now ≡ []) }
         ensures asked { IfSome result (λ black. black ≡ true → may_scan ≡ true) }
         ensures none { IfNone result (self.new ≡ self.old) }
     {
@@ -450,7 +492,8 @@ impl Lines {
     #[tactic(auto, using(crate::proofs::RowsView::chains, ordered_slab::proofs::Parts::parts, ordered_slab::proofs::Values::lent))]
     pub fn set_noted(&mut self, file: &FileRef, noted: bool)
         requires { IsTrue (map.contains_key self.old.noted file.now) }
-        ensures set { self.new ≡ record self.old { noted = map.insert self.old.noted file.now noted } }
+        ensures set { self.new
+            ≡ record self.old { noted = map.insert self.old.noted file.now noted } }
         ensures len { map.len self.new.noted ≡ map.len self.old.noted }
     {
         let row = self.rows.get_mut(file).unwrap();
@@ -460,9 +503,12 @@ impl Lines {
     /// Does nothing at run time. Shows that all parts of a file come and go together.
     #[tactic(auto, using(crate::proofs::RowsView::chains, ordered_slab::proofs::Parts::parts))]
     pub fn lemma_are_one(&self)
-        ensures marks { (f : ℕ) → map.contains_key self.now.marks f ≡ map.contains_key self.now.files f }
-        ensures counts { (f : ℕ) → map.contains_key self.now.counts f ≡ map.contains_key self.now.files f }
-        ensures noted { (f : ℕ) → map.contains_key self.now.noted f ≡ map.contains_key self.now.files f }
+        ensures marks { (f : ℕ) → map.contains_key self.now.marks f
+            ≡ map.contains_key self.now.files f }
+        ensures counts { (f : ℕ) → map.contains_key self.now.counts f
+            ≡ map.contains_key self.now.files f }
+        ensures noted { (f : ℕ) → map.contains_key self.now.noted f
+            ≡ map.contains_key self.now.files f }
     {
         // The view says it: it is enough to look at a field.
         let _rows = &self.rows;
@@ -472,7 +518,8 @@ impl Lines {
     /// none.
     #[tactic(auto, using(crate::proofs::RowsView::chains, ordered_slab::proofs::Parts::parts))]
     pub fn find(&self, ino: Ino) -> Option<FileRef>
-        ensures there { IfSome result (λ f. (f ≡ ino) × IsTrue (map.contains_key self.now.files ino)) }
+        ensures there { IfSome result (λ f.
+            (f ≡ ino) × IsTrue (map.contains_key self.now.files ino)) }
         ensures none { IfNone result (map.contains_key self.now.files ino ≡ false) }
         ensures uncounted { IfNone result (map.contains_key self.now.counts ino ≡ false) }
     {
@@ -486,8 +533,10 @@ impl Lines {
     pub fn next_after(&self, ino: Ino, at: usize) -> Option<(FileRef, usize)>
         ensures above { IfSome result (λ n. ino < n.0) }
         ensures there { IfSome result (λ n. IsTrue (map.contains_key self.now.files n.0)) }
-        ensures least { IfSome result (λ n. (q : ℕ) → ino < q → q < n.0 → map.contains_key self.now.files q ≡ false) }
-        ensures none { IfNone result ((q : ℕ) → ino < q → map.contains_key self.now.files q ≡ false) }
+        ensures least { IfSome result (λ n.
+            (q : ℕ) → ino < q → q < n.0 → map.contains_key self.now.files q ≡ false) }
+        ensures none { IfNone result
+            ((q : ℕ) → ino < q → map.contains_key self.now.files q ≡ false) }
     {
         self.rows.next_after(ino, at)
     }

@@ -1,13 +1,15 @@
 //! Which files a pass of the collector has marked, and which of these it has still to scan. No call
 //! takes memory.
-ghost use Rattle.std.specs.Prelude.{◌≡◌, ◌<◌, ℕ, ◌-◌, Some, IsTrue, IfSome, IfNone, Bool, [], cond, false, nat_eq, option_map, true, vec_capacity};
+ghost use Rattle.std.specs.Prelude.{◌≡◌, ◌<◌, ℕ, ◌-◌, Some, IsTrue, IfSome, IfNone, Bool, [], cond};
+ghost use Rattle.std.specs.Prelude.{false, nat_eq, option_map, true, vec_capacity};
 ghost use Rattle.std.specs.FinMap as map;
 ghost use Rattle.af_base.specs.Counts.{count_in};
 ghost use Rattle.af_base.specs.Changes.{change_at};
 ghost use Rattle.af_base.specs.Places.{held_in};
 ghost use Rattle.af_ledger.specs.Tally.{count_in_map};
 ghost use Rattle.af_mark.specs.Grey.{AreUpTo, colors_in, placed};
-ghost use Rattle.af_mark.specs.Marked.{blackened, is_grey, is_marked, is_white, knows, shaded, visited};
+ghost use Rattle.af_mark.specs.Marked.{blackened, is_grey, is_marked, is_white, knows, shaded};
+ghost use Rattle.af_mark.specs.Marked.{visited};
 ghost use Rattle.af_mark.specs.declared.color.Color.TheVariants.{Black, Grey, White};
 
 use crate::files::Files;
@@ -43,10 +45,12 @@ impl Files {
         self.white = 0;
     }
 
-    /// Returns whether the pass has marked each file that was there when it began and is still live.
+    /// Returns whether the pass has marked each file that was there when it began and is still
+    /// live.
     #[inline(always)]
     pub fn are_marked(&self) -> bool
-        ensures { result ≡ true → (f : ℕ) → knows self.now.marks f ≡ true → f < self.now.marks.bound → is_marked self.now.marks f ≡ true }
+        ensures { result ≡ true → (f : ℕ) → knows self.now.marks f ≡ true → f < self.now.marks.bound
+            → is_marked self.now.marks f ≡ true }
     {
         self.white == 0
     }
@@ -68,15 +72,19 @@ impl Files {
         }
     }
 
-    /// Marks a file if a table holds it, it was there when the pass began, and it is not marked. If it
-    /// holds nothing and may be scanned, it is scanned in the same look at its row; else it is to be
-    /// scanned. Returns whether it was scanned.
+    /// Marks a file if a table holds it, it was there when the pass began, and it is not marked. If
+    /// it holds nothing and may be scanned, it is scanned in the same look at its row; else it is
+    /// to be scanned. Returns whether it was scanned.
     #[inline(always)]
     pub fn visit(&mut self, file: &FileRef, may_scan: bool) -> bool
-        ensures marks { self.new ≡ record self.old { marks = visited result (count_in_map self.old.counts file.now).tabled file.now self.old.marks } }
+        ensures marks { self.new ≡ record self.old {
+          marks = visited result
+              (count_in_map self.old.counts file.now).tabled file.now self.old.marks;
+        } }
         ensures bare { result ≡ true → held_in self.old.files file.now ≡ [] }
         ensures tabled { result ≡ true → 0 < (count_in_map self.old.counts file.now).tabled }
-        ensures white { result ≡ true → (file.now < self.old.marks.bound) × (is_white self.old.marks file.now ≡ true) }
+        ensures white { result ≡ true
+            → (file.now < self.old.marks.bound) × (is_white self.old.marks file.now ≡ true) }
         ensures asked { result ≡ true → may_scan ≡ true }
     {
         if file.ino().0 >= self.bound {
@@ -98,7 +106,8 @@ impl Files {
     fn push_grey(&mut self, file: &FileRef)
         requires white { is_white self.old.marks file.now ≡ true }
         requires within { file.now < self.old.marks.bound }
-        ensures colors { self.new.marks ≡ record self.old.marks { colors = map.insert self.old.marks.colors file.now Grey } }
+        ensures colors { self.new.marks
+            ≡ record self.old.marks { colors = map.insert self.old.marks.colors file.now Grey } }
         ensures rest { self.new ≡ record self.old { marks = self.new.marks } }
     {
         let mark = Mark {
@@ -142,7 +151,8 @@ impl Files {
     #[inline(always)]
     fn take_grey(&mut self, file: &FileRef, at: usize)
         requires { is_grey self.old.marks file.now ≡ true }
-        ensures colors { self.new.marks ≡ record self.old.marks { colors = map.insert self.old.marks.colors file.now Black } }
+        ensures colors { self.new.marks
+            ≡ record self.old.marks { colors = map.insert self.old.marks.colors file.now Black } }
         ensures rest { self.new ≡ record self.old { marks = self.new.marks } }
     {
         let mark = Mark {
@@ -187,7 +197,8 @@ impl Files {
 /// which is noted beside that one's mark.
 #[inline(always)]
 fn remove_listed(rows: &mut Rows, grey: &mut Vec<FileRef>, ino: Ino, at: usize)
-    ensures each { (f : ℕ) → count_in f grey.new.items ≡ count_in f grey.old.items - cond (nat_eq f ino) 1 0 }
+    ensures each { (f : ℕ) → count_in f grey.new.items
+        ≡ count_in f grey.old.items - cond (nat_eq f ino) 1 0 }
     ensures capacity { vec_capacity grey.new ≡ vec_capacity grey.old }
     ensures colors { (epoch : ℕ) → colors_in epoch rows.new.marks ≡ colors_in epoch rows.old.marks }
     ensures epochs { (epoch : ℕ) → AreUpTo epoch rows.old.marks → AreUpTo epoch rows.new.marks }
@@ -216,9 +227,11 @@ fn note(rows: &mut Rows, file: &FileRef, at: u32)
 fn next_epoch(rows: &mut Rows, epoch: u64) -> u64
     requires upto { AreUpTo epoch rows.old.marks }
     requires begins { map.contains_key rows.old.files 0 ≡ false }
-    ensures white { (f : ℕ) → map.get (colors_in result rows.new.marks) f ≡ option_map (λ x. White) (map.get rows.new.marks f) }
+    ensures white { (f : ℕ) → map.get (colors_in result rows.new.marks) f
+        ≡ option_map (λ x. White) (map.get rows.new.marks f) }
     ensures marks { AreUpTo result rows.new.marks }
-    ensures known { (f : ℕ) → map.contains_key rows.new.marks f ≡ map.contains_key rows.old.marks f }
+    ensures known { (f : ℕ) → map.contains_key rows.new.marks f
+        ≡ map.contains_key rows.old.marks f }
     ensures len { map.len rows.new.marks ≡ map.len rows.old.marks }
     ensures rest { rows.new ≡ record rows.old { marks = rows.new.marks } }
 {
@@ -235,7 +248,8 @@ fn next_epoch(rows: &mut Rows, epoch: u64) -> u64
 fn clear_all_marks(rows: &mut Rows)
     requires begins { map.contains_key rows.old.files 0 ≡ false }
     ensures marks { AreUpTo 0 rows.new.marks }
-    ensures known { (f : ℕ) → map.contains_key rows.new.marks f ≡ map.contains_key rows.old.marks f }
+    ensures known { (f : ℕ) → map.contains_key rows.new.marks f
+        ≡ map.contains_key rows.old.marks f }
     ensures len { map.len rows.new.marks ≡ map.len rows.old.marks }
     ensures rest { rows.new ≡ record rows.old { marks = rows.new.marks } }
 {

@@ -1,5 +1,6 @@
 //! The row of one file.
-ghost use Rattle.std.specs.Prelude.{◌≡◌, ◌<◌, ◌∷◌, [], IfSome, IfNone, IfOk, OnOk, OnErr, drop, length, true};
+ghost use Rattle.std.specs.Prelude.{◌≡◌, ◌<◌, ◌∷◌, [], IfSome, IfNone, IfOk, OnOk, OnErr, drop};
+ghost use Rattle.std.specs.Prelude.{length, true};
 ghost use Rattle.af_base.specs.Changes.{file_with, pushed};
 ghost use Rattle.af_base.specs.Places.{contents, queue_of};
 ghost use Rattle.af_base.specs.Refusals.{socket_of};
@@ -57,7 +58,8 @@ impl Row {
         requires few { length (queue_of (file_in nodes.old self.old)) < MAX_MESSAGES }
         requires within { IsMessageWithin message }
         requires room { has_room nodes.old ≡ true }
-        ensures file { file_in nodes.new self.new ≡ file_with (pushed message) (file_in nodes.old self.old) }
+        ensures file { file_in nodes.new self.new
+            ≡ file_with (pushed message) (file_in nodes.old self.old) }
         ensures chain { IsChain nodes.new self.new.chain owner }
         ensures others { SameElsewhere nodes.old nodes.new owner }
         ensures rest { self.new ≡ record self.old { chain = self.new.chain } }
@@ -71,7 +73,8 @@ impl Row {
     #[inline(always)]
     pub fn pop(&mut self, nodes: &mut Slab<Node>, owner: Ino) -> Option<Msg>
         requires chain { IsChain nodes.old self.old.chain owner }
-        ensures some { IfSome result (λ m. queue_of (file_in nodes.old self.old) ≡ m ∷ drop 1 (queue_of (file_in nodes.old self.old))) }
+        ensures some { IfSome result (λ m. queue_of (file_in nodes.old self.old)
+            ≡ m ∷ drop 1 (queue_of (file_in nodes.old self.old))) }
         ensures none { IfNone result (queue_of (file_in nodes.old self.old) ≡ []) }
         ensures file { file_in nodes.new self.new ≡ file_with popped (file_in nodes.old self.old) }
         ensures chain { IsChain nodes.new self.new.chain owner }
@@ -96,8 +99,10 @@ impl Row {
     ) -> Result<Taken, AllocError>
         requires chain { IsChain nodes.old self.old.chain owner }
         requires some { 0 < max }
-        ensures taken { IfOk result (λ t. t ≡ received_of (socket_of (file_in nodes.old self.old)) max) }
-        ensures file { OnOk result (file_in nodes.new self.new ≡ file_with (received_from max) (file_in nodes.old self.old)) }
+        ensures taken { IfOk result (λ t.
+            t ≡ received_of (socket_of (file_in nodes.old self.old)) max) }
+        ensures file { OnOk result (file_in nodes.new self.new
+            ≡ file_with (received_from max) (file_in nodes.old self.old)) }
         ensures err { OnErr result (file_in nodes.new self.new ≡ file_in nodes.old self.old) }
         ensures unchanged { OnErr result (nodes.new ≡ nodes.old) }
         ensures chain { IsChain nodes.new self.new.chain owner }

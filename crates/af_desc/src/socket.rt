@@ -1,5 +1,6 @@
 //! A socket: what it is but for its queue, and the whole, lent for reading.
-ghost use Rattle.std.specs.Prelude.{◌≡◌, ℕ, ◌∷◌, [], ◌<◌, OnOk, OnErr, IfSome, IfNone, None, false, true, is_none, length, drop, option_copied};
+ghost use Rattle.std.specs.Prelude.{◌≡◌, ℕ, ◌∷◌, [], ◌<◌, OnOk, OnErr, IfSome, IfNone, None, false};
+ghost use Rattle.std.specs.Prelude.{true, is_none, length, drop, option_copied};
 ghost use Rattle.af_base.specs.Changes.{bound, connected, dequeued, listening, queued};
 ghost use Rattle.af_base.specs.Refusals.{room_of};
 ghost use Rattle.af_base.specs.Steps.{connected_socket, idle_socket};
@@ -39,9 +40,16 @@ impl Model for Endpoint {
 
     ghost Value = { world.Socket };
 
-    ghost view = { λ a. record { kind = a.kind; state = a.state; name = option_map (λ b. b.value.name) a.bound; queue = []; backlog = option_map_or (λ b. b.value.backlog.waiting) a.bound [] } };
+    ghost view = { λ a. record {
+      kind = a.kind;
+      state = a.state;
+      name = option_map (λ b. b.value.name) a.bound;
+      queue = [];
+      backlog = option_map_or (λ b. b.value.backlog.waiting) a.bound [];
+    } };
 
-    ghost invariant = { λ a. room_of a.state ≤ option_map_or (λ b. b.value.backlog.most) a.bound 0 };
+    ghost invariant = { λ a. room_of a.state
+        ≤ option_map_or (λ b. b.value.backlog.most) a.bound 0 };
 }
 
 impl Endpoint {

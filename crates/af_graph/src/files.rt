@@ -3,7 +3,8 @@ ghost use Rattle.std.specs.Prelude.{◌≡◌, ◌++◌, Some, OnOk, string_byte
 ghost use Rattle.std.specs.List.Sorted.{IsStrictlyIncreasing};
 ghost use Rattle.std.specs.FinMap as map;
 ghost use Rattle.af_base.specs.World.{File, IsLive};
-ghost use Rattle.af_graph.specs.Graph.{colour, counts_text, files_text, is_in, kind_text, node_text, peer_of, peer_text};
+ghost use Rattle.af_graph.specs.Graph.{colour, counts_text, files_text, is_in, kind_text};
+ghost use Rattle.af_graph.specs.Graph.{node_text, peer_of, peer_text};
 
 use crate::names::push_name;
 use af_base::events::State;
@@ -15,7 +16,8 @@ use std::alloc::AllocError;
 /// Appends what a live file is, and whom it can talk to, if it is a socket.
 fn push_kind(text: &mut String, engine: &Engine, file: &FileRef) -> Result<(), AllocError>
     requires { IsLive engine.now.world file.now }
-    ensures { (x : File) → map.get engine.now.world.files file.now ≡ Some x → OnOk result (string_bytes text.new ≡ string_bytes text.old ++ kind_text x) }
+    ensures { (x : File) → map.get engine.now.world.files file.now ≡ Some x
+        → OnOk result (string_bytes text.new ≡ string_bytes text.old ++ kind_text x) }
 {
     match engine.file_at(file) {
         FileInfo::Plain => text.push_str("plain"),
@@ -29,7 +31,8 @@ fn push_kind(text: &mut String, engine: &Engine, file: &FileRef) -> Result<(), A
 
 /// Appends the two counts of a file on a line of their own.
 fn push_counts(text: &mut String, refs: u64, inflight: u64) -> Result<(), AllocError>
-    ensures { OnOk result (string_bytes text.new ≡ string_bytes text.old ++ counts_text refs inflight) }
+    ensures { OnOk result
+        (string_bytes text.new ≡ string_bytes text.old ++ counts_text refs inflight) }
 {
     write!(text, "\\nrefs {refs} inflight {inflight}")
 }
@@ -46,7 +49,8 @@ fn push_colour(text: &mut String, lost: bool) -> Result<(), AllocError>
 
 /// Appends an edge to the peer of a connected socket.
 fn push_state(text: &mut String, ino: Ino, state: &State) -> Result<(), AllocError>
-    ensures { OnOk result (string_bytes text.new ≡ string_bytes text.old ++ peer_text ino state.now) }
+    ensures { OnOk result
+        (string_bytes text.new ≡ string_bytes text.old ++ peer_text ino state.now) }
 {
     match state {
         State::Connected(peer) => writeln!(text, "f{ino} -> f{peer} [style=dotted]"),
@@ -57,7 +61,8 @@ fn push_state(text: &mut String, ino: Ino, state: &State) -> Result<(), AllocErr
 /// Appends an edge to the peer of a live file, if it has one.
 fn push_peer(text: &mut String, engine: &Engine, file: &FileRef) -> Result<(), AllocError>
     requires { IsLive engine.now.world file.now }
-    ensures { (x : File) → map.get engine.now.world.files file.now ≡ Some x → OnOk result (string_bytes text.new ≡ string_bytes text.old ++ peer_of file.now x) }
+    ensures { (x : File) → map.get engine.now.world.files file.now ≡ Some x
+        → OnOk result (string_bytes text.new ≡ string_bytes text.old ++ peer_of file.now x) }
 {
     match engine.file_at(file) {
         FileInfo::Plain => Ok(()),
@@ -73,7 +78,9 @@ fn push_node(
     lost: bool,
 ) -> Result<(), AllocError>
     requires { IsLive engine.now.world file.now }
-    ensures { (x : File) → map.get engine.now.world.files file.now ≡ Some x → OnOk result (string_bytes text.new ≡ string_bytes text.old ++ node_text engine.now.world lost file.now x) }
+    ensures { (x : File) → map.get engine.now.world.files file.now ≡ Some x
+        → OnOk result (string_bytes text.new
+        ≡ string_bytes text.old ++ node_text engine.now.world lost file.now x) }
 {
     let ino = file.ino();
     write!(text, "f{ino} [label=\"{ino} ")?;
@@ -94,11 +101,12 @@ fn is_in(inos: &[Ino], ino: Ino) -> bool
     inos.binary_search(&ino).is_ok()
 }
 
-/// Appends all live files and edges to their peers, by rising number. The lost ones, a list that rises,
-/// have the colour of garbage.
+/// Appends all live files and edges to their peers, by rising number. The lost ones, a list that
+/// rises, have the colour of garbage.
 pub fn push_files(text: &mut String, engine: &Engine, lost: &[Ino]) -> Result<(), AllocError>
     requires { IsStrictlyIncreasing lost.now }
-    ensures { OnOk result (string_bytes text.new ≡ string_bytes text.old ++ files_text engine.now.world lost.now) }
+    ensures { OnOk result
+        (string_bytes text.new ≡ string_bytes text.old ++ files_text engine.now.world lost.now) }
 {
     // No file has the number 0: that is what a sound world says of it.
     engine.lemma_is_sound();

@@ -1,8 +1,8 @@
 //! Laws of names in a picture.
 ghost use Rattle.af_graph.specs.Quoted.{StaysAsItIs, StaysQuoted};
 
-/// Whatever bytes a name has, no byte that is written of it is a quote, a backslash, an ampersand, a
-/// space, a control character or above 126: so it cannot leave its quotes.
+/// Whatever bytes a name has, no byte that is written of it is a quote, a backslash, an ampersand,
+/// a space, a control character or above 126: so it cannot leave its quotes.
 pub fn names_stay_quoted()
     ensures { StaysQuoted }
 {}

@@ -58,7 +58,8 @@ fn push_quoted(text: &mut String, name: &[u8]) -> Result<(), AllocError>
 
 /// Appends a name on a line of its own, behind `@`; nothing where there is none.
 pub fn push_name(text: &mut String, name: Option<&[u8]>) -> Result<(), AllocError>
-    ensures { OnOk result (string_bytes text.new ≡ string_bytes text.old ++ name_text (option_copied name.entry)) }
+    ensures { OnOk result
+        (string_bytes text.new ≡ string_bytes text.old ++ name_text (option_copied name.entry)) }
 {
     let Some(name) = name else {
         return Ok(());

@@ -10,7 +10,8 @@ use std::alloc::AllocError;
 
 /// Appends an edge from a process to the file of one of its descriptors.
 fn push_number(text: &mut String, pid: Pid, number: ListedNumber) -> Result<(), AllocError>
-    ensures { OnOk result (string_bytes text.new ≡ string_bytes text.old ++ number_text pid number.fd number.ino) }
+    ensures { OnOk result
+        (string_bytes text.new ≡ string_bytes text.old ++ number_text pid number.fd number.ino) }
 {
     let ListedNumber { fd, ino } = number;
     writeln!(text, "p{pid} -> f{ino} [label=\"{fd}\"]")
@@ -18,7 +19,8 @@ fn push_number(text: &mut String, pid: Pid, number: ListedNumber) -> Result<(), 
 
 /// Appends an edge for each number of a process.
 fn push_numbers(text: &mut String, pid: Pid, numbers: &[ListedNumber]) -> Result<(), AllocError>
-    ensures { OnOk result (string_bytes text.new ≡ string_bytes text.old ++ flat_map (λ n. number_text pid n.fd n.ino) numbers.now) }
+    ensures { OnOk result (string_bytes text.new
+        ≡ string_bytes text.old ++ flat_map (λ n. number_text pid n.fd n.ino) numbers.now) }
 {
     for number in numbers {
         push_number(text, pid, *number)?;
@@ -36,7 +38,8 @@ fn push_box(text: &mut String, pid: Pid) -> Result<(), AllocError>
 /// Appends a process, and its numbers.
 fn push_process(text: &mut String, table: &ListedTable) -> Result<(), AllocError>
     requires { IsRisingTable table.now }
-    ensures { OnOk result (string_bytes text.new ≡ string_bytes text.old ++ process_text table.now.pid (process_of table.now)) }
+    ensures { OnOk result (string_bytes text.new
+        ≡ string_bytes text.old ++ process_text table.now.pid (process_of table.now)) }
 {
     push_box(text, table.pid)?;
     push_numbers(text, table.pid, table.numbers.as_slice())?;
@@ -46,7 +49,8 @@ fn push_process(text: &mut String, table: &ListedTable) -> Result<(), AllocError
 /// Appends all processes.
 pub fn push_processes(text: &mut String, tables: &[ListedTable]) -> Result<(), AllocError>
     requires { All IsRisingTable tables.now }
-    ensures { OnOk result (string_bytes text.new ≡ string_bytes text.old ++ flat_map (λ t. process_text t.pid (process_of t)) tables.now) }
+    ensures { OnOk result (string_bytes text.new
+        ≡ string_bytes text.old ++ flat_map (λ t. process_text t.pid (process_of t)) tables.now) }
 {
     for table in tables {
         push_process(text, table)?;

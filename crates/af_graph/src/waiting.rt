@@ -10,7 +10,8 @@ use std::alloc::AllocError;
 
 /// Appends an edge to a file that travels with a message of the user.
 fn push_attached(text: &mut String, ino: Ino, user: Uid, attached: Ino) -> Result<(), AllocError>
-    ensures { OnOk result (string_bytes text.new ≡ string_bytes text.old ++ attached_text ino user attached) }
+    ensures { OnOk result
+        (string_bytes text.new ≡ string_bytes text.old ++ attached_text ino user attached) }
 {
     writeln!(
         text,
@@ -20,7 +21,8 @@ fn push_attached(text: &mut String, ino: Ino, user: Uid, attached: Ino) -> Resul
 
 /// Appends an edge to each file that travels with a message of the user.
 fn push_message(text: &mut String, ino: Ino, user: Uid, attached: &[Ino]) -> Result<(), AllocError>
-    ensures { OnOk result (string_bytes text.new ≡ string_bytes text.old ++ flat_map (attached_text ino user) attached.now) }
+    ensures { OnOk result (string_bytes text.new
+        ≡ string_bytes text.old ++ flat_map (attached_text ino user) attached.now) }
 {
     for other in attached {
         push_attached(text, ino, user, *other)?;
@@ -30,14 +32,16 @@ fn push_message(text: &mut String, ino: Ino, user: Uid, attached: &[Ino]) -> Res
 
 /// Appends an edge to an embryo.
 fn push_embryo(text: &mut String, ino: Ino, embryo: Ino) -> Result<(), AllocError>
-    ensures { OnOk result (string_bytes text.new ≡ string_bytes text.old ++ embryo_text ino embryo) }
+    ensures { OnOk result
+        (string_bytes text.new ≡ string_bytes text.old ++ embryo_text ino embryo) }
 {
     writeln!(text, "f{ino} -> f{embryo} [style=dashed, label=embryo]")
 }
 
 /// Appends an edge to each file that travels with a message of a queue.
 fn push_queue(text: &mut String, ino: Ino, queue: &[ListedMessage]) -> Result<(), AllocError>
-    ensures { OnOk result (string_bytes text.new ≡ string_bytes text.old ++ flat_map (λ m. message_text ino (message_of m)) queue.now) }
+    ensures { OnOk result (string_bytes text.new
+        ≡ string_bytes text.old ++ flat_map (λ m. message_text ino (message_of m)) queue.now) }
 {
     for message in queue {
         push_message(text, ino, message.user, message.attached.as_slice())?;
@@ -47,7 +51,8 @@ fn push_queue(text: &mut String, ino: Ino, queue: &[ListedMessage]) -> Result<()
 
 /// Appends an edge to each embryo of a backlog.
 fn push_backlog(text: &mut String, ino: Ino, backlog: &[Ino]) -> Result<(), AllocError>
-    ensures { OnOk result (string_bytes text.new ≡ string_bytes text.old ++ flat_map (embryo_text ino) backlog.now) }
+    ensures { OnOk result
+        (string_bytes text.new ≡ string_bytes text.old ++ flat_map (embryo_text ino) backlog.now) }
 {
     for embryo in backlog {
         push_embryo(text, ino, *embryo)?;
@@ -57,7 +62,8 @@ fn push_backlog(text: &mut String, ino: Ino, backlog: &[Ino]) -> Result<(), Allo
 
 /// Appends what waits at a file.
 fn push_waiting(text: &mut String, file: &ListedFile) -> Result<(), AllocError>
-    ensures { OnOk result (string_bytes text.new ≡ string_bytes text.old ++ waiting_text file.now.ino (file_of file.now)) }
+    ensures { OnOk result (string_bytes text.new
+        ≡ string_bytes text.old ++ waiting_text file.now.ino (file_of file.now)) }
 {
     let Some(socket) = &file.socket else {
         return Ok(());
@@ -69,7 +75,8 @@ fn push_waiting(text: &mut String, file: &ListedFile) -> Result<(), AllocError>
 
 /// Appends what waits at all files.
 pub fn push_all_waiting(text: &mut String, files: &[ListedFile]) -> Result<(), AllocError>
-    ensures { OnOk result (string_bytes text.new ≡ string_bytes text.old ++ flat_map (λ x. waiting_text x.ino (file_of x)) files.now) }
+    ensures { OnOk result (string_bytes text.new
+        ≡ string_bytes text.old ++ flat_map (λ x. waiting_text x.ino (file_of x)) files.now) }
 {
     for file in files {
         push_waiting(text, file)?;

@@ -1,5 +1,6 @@
 //! The engine, and what its plain files carry.
-ghost use Rattle.std.specs.Prelude.{◌≡◌, ◌<◌, ℕ, false, true, IfErr, IfNone, IfOk, IfSome, IsTrue, OnErr, OnOk, option_copied};
+ghost use Rattle.std.specs.Prelude.{◌≡◌, ◌<◌, ℕ, false, true, IfErr, IfNone, IfOk, IfSome, IsTrue};
+ghost use Rattle.std.specs.Prelude.{OnErr, OnOk, option_copied};
 ghost use Rattle.std.specs.Borrow.{sem};
 ghost use Rattle.std.specs.Option.{OnSome, option_and_then, option_copied_mut};
 ghost use Rattle.std.specs.FinMap as map;
@@ -99,10 +100,14 @@ impl<T> Owned<T> {
     /// free one of the process. A refusal hands the value back, and changes nothing. Refused, in
     /// this order: ESRCH, EMFILE, ENFILE, ENOMEM.
     pub fn open(&mut self, pid: Pid, value: T) -> Result<Fd, (Errno, T)>
-        ensures done { IfOk result (λ fd. Does self.old.machine pid Step.Open (Reply.Fd fd) self.new.machine) }
-        ensures carries { OnOk result (self.new.values ≡ map.insert self.old.values self.old.machine.world.next_ino value) }
-        ensures fresh { OnOk result (map.contains_key self.old.values self.old.machine.world.next_ino ≡ false) }
-        ensures refused { IfErr result (λ e. Refuses self.old.machine pid Step.Open e.0 self.new.machine) }
+        ensures done { IfOk result (λ fd.
+            Does self.old.machine pid Step.Open (Reply.Fd fd) self.new.machine) }
+        ensures carries { OnOk result
+            (self.new.values ≡ map.insert self.old.values self.old.machine.world.next_ino value) }
+        ensures fresh { OnOk result
+            (map.contains_key self.old.values self.old.machine.world.next_ino ≡ false) }
+        ensures refused { IfErr result (λ e.
+            Refuses self.old.machine pid Step.Open e.0 self.new.machine) }
         ensures back { IfErr result (λ e. e.1 ≡ value) }
         ensures err { OnErr result (self.new ≡ self.old) }
     {
@@ -125,7 +130,8 @@ impl<T> Owned<T> {
     /// Returns what the file carries that a descriptor refers to; nothing where the descriptor is
     /// not open or refers to a socket, or there is no such process. No search.
     pub fn get(&self, pid: Pid, fd: Fd) -> Option<&T>
-        ensures { option_copied result ≡ option_and_then (map.get self.now.values) (table_at self.now.machine.world pid fd) }
+        ensures { option_copied result
+            ≡ option_and_then (map.get self.now.values) (table_at self.now.machine.world pid fd) }
     {
         let file = self.engine.file_on(pid, fd)?;
         self.values.get(&file)
@@ -134,7 +140,8 @@ impl<T> Owned<T> {
     /// Returns the same value, to write to.
     pub fn get_mut(&mut self, pid: Pid, fd: Fd) -> Option<&mut T>
         ensures* writes_back { sem 𝓛 (lends_value_at T.row self.entry pid fd result) }
-        ensures value { option_copied_mut result ≡ option_and_then (map.get self.old.values) (table_at self.old.machine.world pid fd) }
+        ensures value { option_copied_mut result
+            ≡ option_and_then (map.get self.old.values) (table_at self.old.machine.world pid fd) }
     {
         let file = self.engine.file_on(pid, fd)?;
         // A socket carries nothing, and nothing is written for it.
@@ -158,10 +165,15 @@ impl<T> Owned<T> {
     pub fn take_released(&mut self) -> Option<T>
         ensures some { IfSome result (λ value. HandsBack self.old value self.new) }
         ensures fewer { OnSome result (map.len self.new.values < map.len self.old.values) }
-        ensures none { IfNone result ((f : ℕ) → IsTrue (map.contains_key self.new.values f) → IsLive self.new.machine.world f) }
+        ensures none { IfNone result ((f : ℕ) → IsTrue (map.contains_key self.new.values f)
+            → IsLive self.new.machine.world f) }
         ensures values { IfNone result (self.new.values ≡ self.old.values) }
-        ensures cleared { IfNone result (self.new.machine.since ≡ record self.old.machine.since { files = self.old.machine.world.files; next = self.old.machine.world.next_ino }) }
-        ensures rest { self.new.machine ≡ record self.old.machine { since = self.new.machine.since } }
+        ensures cleared { IfNone result (self.new.machine.since ≡ record self.old.machine.since {
+          files = self.old.machine.world.files;
+          next = self.old.machine.world.next_ino;
+        }) }
+        ensures rest { self.new.machine
+            ≡ record self.old.machine { since = self.new.machine.since } }
     {
         let Some((at, file)) = self.next_released() else {
             self.engine.clear_told();
@@ -174,8 +186,10 @@ impl<T> Owned<T> {
 
     /// Returns a freed file that carries a value, and its position in the list of freed files.
     fn next_released(&self) -> Option<(usize, FileRef)>
-        ensures some { IfSome result (λ found. IsTrue (map.contains_key self.now.values found.1) × (is_live self.now.machine.world found.1 ≡ false)) }
-        ensures none { IfNone result ((f : ℕ) → IsTrue (map.contains_key self.now.values f) → IsLive self.now.machine.world f) }
+        ensures some { IfSome result (λ found. IsTrue (map.contains_key self.now.values found.1)
+            × (is_live self.now.machine.world found.1 ≡ false)) }
+        ensures none { IfNone result ((f : ℕ) → IsTrue (map.contains_key self.now.values f)
+            → IsLive self.now.machine.world f) }
     {
         first_from(&self.values, self.engine.released(), self.next)
     }
@@ -186,7 +200,8 @@ impl<T> Owned<T> {
 fn first_from<T>(values: &OrderedSlab<T>, files: &[Ino], place: usize) -> Option<(usize, FileRef)>
     ensures some { IfSome result (λ found. IsTrue (map.contains_key values.now.values found.1)) }
     ensures listed { IfSome result (λ found. 0 < count_in found.1 files.now) }
-    ensures none { IfNone result ((f : ℕ) → IsTrue (map.contains_key values.now.values f) → count_in f files.now ≡ 0) }
+    ensures none { IfNone result
+        ((f : ℕ) → IsTrue (map.contains_key values.now.values f) → count_in f files.now ≡ 0) }
 {
     let from = place.min(files.len());
     let (before, after) = files.split_at(from);
@@ -200,7 +215,8 @@ fn first_from<T>(values: &OrderedSlab<T>, files: &[Ino], place: usize) -> Option
 fn first_with<T>(values: &OrderedSlab<T>, files: &[Ino]) -> Option<(usize, FileRef)>
     ensures some { IfSome result (λ found. IsTrue (map.contains_key values.now.values found.1)) }
     ensures listed { IfSome result (λ found. 0 < count_in found.1 files.now) }
-    ensures none { IfNone result ((f : ℕ) → IsTrue (map.contains_key values.now.values f) → count_in f files.now ≡ 0) }
+    ensures none { IfNone result
+        ((f : ℕ) → IsTrue (map.contains_key values.now.values f) → count_in f files.now ≡ 0) }
 {
     let mut at = 0usize;
     for ino in files {

@@ -1,9 +1,11 @@
 //! The columns of a table. Each has a space behind it, but for the last one, the name.
-ghost use Rattle.std.specs.Prelude.{◌≡◌, ◌<◌, ◌++◌, ◌∷◌, [], Some, OnOk, length, option_copied, string_bytes};
+ghost use Rattle.std.specs.Prelude.{◌≡◌, ◌<◌, ◌++◌, ◌∷◌, [], Some, OnOk, length, option_copied};
+ghost use Rattle.std.specs.Prelude.{string_bytes};
 ghost use Rattle.af_base.specs.Places.{backlog_of, queue_of};
 ghost use Rattle.std.specs.FinMap as map;
 ghost use Rattle.af_base.specs.World.{File, IsLive};
-ghost use Rattle.af_report.specs.Table.{joined, kind_of, left, name_text, peer_number, peer_of, right, state_of, state_word, type_word};
+ghost use Rattle.af_report.specs.Table.{joined, kind_of, left, name_text, peer_number, peer_of};
+ghost use Rattle.af_report.specs.Table.{right, state_of, state_word, type_word};
 ghost use Rattle.af_steps.specs.Shown.{shown_of};
 
 use af_base::events::{SockType, State};
@@ -14,7 +16,8 @@ use std::alloc::AllocError;
 /// Appends a number at the right of its column.
 fn push_number(text: &mut String, width: usize, number: u64) -> Result<(), AllocError>
     requires { 0 < width }
-    ensures { OnOk result (string_bytes text.new ≡ string_bytes text.old ++ (right width number ++ 32 ∷ [])) }
+    ensures { OnOk result
+        (string_bytes text.new ≡ string_bytes text.old ++ (right width number ++ 32 ∷ [])) }
 {
     write!(text, "{number:>width$} ")
 }
@@ -22,14 +25,16 @@ fn push_number(text: &mut String, width: usize, number: u64) -> Result<(), Alloc
 /// Appends a word at the left of its column.
 fn push_word(text: &mut String, width: usize, word: &str) -> Result<(), AllocError>
     requires { 0 < width }
-    ensures { OnOk result (string_bytes text.new ≡ string_bytes text.old ++ (left width word.now ++ 32 ∷ [])) }
+    ensures { OnOk result
+        (string_bytes text.new ≡ string_bytes text.old ++ (left width word.now ++ 32 ∷ [])) }
 {
     write!(text, "{word:<width$} ")
 }
 
 /// Appends a file's number and its two counts.
 pub fn push_counts(text: &mut String, ino: Ino, refs: u64, inflight: u64) -> Result<(), AllocError>
-    ensures { OnOk result (string_bytes text.new ≡ string_bytes text.old ++ joined (right 8 ino ∷ right 7 refs ∷ right 7 inflight ∷ [] ∷ [])) }
+    ensures { OnOk result (string_bytes text.new ≡ string_bytes text.old ++ joined
+        (right 8 ino ∷ right 7 refs ∷ right 7 inflight ∷ [] ∷ [])) }
 {
     push_number(text, 8, ino.0)?;
     push_number(text, 7, refs)?;
@@ -71,7 +76,8 @@ fn peer_number(state: &State) -> u64
 
 /// Appends what a file is and whom it can talk to.
 fn push_kind(text: &mut String, kind: &str, state: &str) -> Result<(), AllocError>
-    ensures { OnOk result (string_bytes text.new ≡ string_bytes text.old ++ joined (left 9 kind.now ∷ left 9 state.now ∷ [] ∷ [])) }
+    ensures { OnOk result (string_bytes text.new
+        ≡ string_bytes text.old ++ joined (left 9 kind.now ∷ left 9 state.now ∷ [] ∷ [])) }
 {
     push_word(text, 9, kind)?;
     push_word(text, 9, state)?;
@@ -85,7 +91,8 @@ fn push_waiting(
     embryos: usize,
     peer: u64,
 ) -> Result<(), AllocError>
-    ensures { OnOk result (string_bytes text.new ≡ string_bytes text.old ++ joined (right 4 messages ∷ right 4 embryos ∷ right 8 peer ∷ [] ∷ [])) }
+    ensures { OnOk result (string_bytes text.new ≡ string_bytes text.old ++ joined
+        (right 4 messages ∷ right 4 embryos ∷ right 8 peer ∷ [] ∷ [])) }
 {
     push_number(text, 4, messages as u64)?;
     push_number(text, 4, embryos as u64)?;
@@ -96,8 +103,10 @@ fn push_waiting(
 /// Appends what a live file is, whom it can talk to, what waits at it, and its peer.
 pub fn push_file(text: &mut String, engine: &Engine, file: &FileRef) -> Result<(), AllocError>
     requires { IsLive engine.now.world file.now }
-    ensures { (x : File) → map.get engine.now.world.files file.now ≡ Some x → OnOk result (string_bytes text.new ≡ string_bytes text.old ++ joined (
-        left 9 (kind_of x) ∷ left 9 (state_of x) ∷ right 4 (length (queue_of x)) ∷ right 4 (length (backlog_of x)) ∷ right 8 (peer_of x) ∷ [] ∷ [])) }
+    ensures { (x : File) → map.get engine.now.world.files file.now ≡ Some x
+        → OnOk result (string_bytes text.new
+        ≡ string_bytes text.old ++ joined (left 9 (kind_of x) ∷ left 9 (state_of x) ∷ right 4
+        (length (queue_of x)) ∷ right 4 (length (backlog_of x)) ∷ right 8 (peer_of x) ∷ [] ∷ [])) }
 {
     match engine.file_at(file) {
         FileInfo::Plain => {
@@ -118,7 +127,8 @@ pub fn push_file(text: &mut String, engine: &Engine, file: &FileRef) -> Result<(
 
 /// Appends `@` and a name, or `-` where there is none.
 pub fn push_name(text: &mut Vec<u8>, name: Option<&[u8]>) -> Result<(), AllocError>
-    ensures { OnOk result (text.new.items ≡ text.old.items ++ name_text (option_copied name.entry)) }
+    ensures { OnOk result
+        (text.new.items ≡ text.old.items ++ name_text (option_copied name.entry)) }
 {
     let Some(name) = name else {
         text.push(b'-')?;

@@ -20,7 +20,8 @@ fn push_line(
     file: &FileRef,
 ) -> Result<(), AllocError>
     requires { IsLive engine.now.world file.now }
-    ensures { (x : File) → map.get engine.now.world.files file.now ≡ Some x → OnOk result (text.new.items ≡ text.old.items ++ file_line engine.now.world file.now x) }
+    ensures { (x : File) → map.get engine.now.world.files file.now ≡ Some x
+        → OnOk result (text.new.items ≡ text.old.items ++ file_line engine.now.world file.now x) }
 {
     columns.clear();
     let (refs, inflight) = (engine.refs_at(file), engine.inflight_at(file));

@@ -16,7 +16,8 @@ use std::marker::Model;
 /// Returns the numbers that the engine keeps of each live file, by rising inode number.
 fn kept_files(alloc: Global, engine: &Engine) -> Result<Vec<KeptFile>, AllocError>
     ensures recounts { IfOk result (λ files. All (IsFileRecount engine.now.world) files.items) }
-    ensures all { IfOk result (λ files. list.map (λ k. k.ino) files.items ≡ map.keys engine.now.world.files) }
+    ensures all { IfOk result (λ files.
+        list.map (λ k. k.ino) files.items ≡ map.keys engine.now.world.files) }
 {
     // No file has the number 0: that is what a sound world says of it.
     engine.lemma_is_sound();
@@ -38,7 +39,8 @@ fn kept_files(alloc: Global, engine: &Engine) -> Result<Vec<KeptFile>, AllocErro
 /// Returns the number that the engine keeps of each user, in the order of their first process.
 fn kept_users(alloc: Global, engine: &Engine) -> Result<Vec<KeptUser>, AllocError>
     ensures recounts { IfOk result (λ users. All (IsUserRecount engine.now.world) users.items) }
-    ensures all { IfOk result (λ users. list.map (λ k. k.user) users.items ≡ engine.now.world.users) }
+    ensures all { IfOk result (λ users.
+        list.map (λ k. k.user) users.items ≡ engine.now.world.users) }
 {
     let mut users = Vec::new(alloc);
     for i in 0..engine.users() {
@@ -54,8 +56,10 @@ fn kept_users(alloc: Global, engine: &Engine) -> Result<Vec<KeptUser>, AllocErro
 /// Returns all counts that the engine keeps.
 fn kept(alloc: Global, engine: &Engine) -> Result<Kept, AllocError>
     ensures recounts { IfOk result (AreRecounts engine.now.world) }
-    ensures files { IfOk result (λ k. list.map (λ f. f.ino) k.files.items ≡ map.keys engine.now.world.files) }
-    ensures users { IfOk result (λ k. list.map (λ u. u.user) k.users.items ≡ engine.now.world.users) }
+    ensures files { IfOk result (λ k.
+        list.map (λ f. f.ino) k.files.items ≡ map.keys engine.now.world.files) }
+    ensures users { IfOk result (λ k.
+        list.map (λ u. u.user) k.users.items ≡ engine.now.world.users) }
 {
     Ok(Kept {
         files: kept_files(alloc, engine)?,

@@ -8,7 +8,8 @@ use std::alloc::{AllocError, Global};
 
 /// Appends the line of a user.
 fn push_user(text: &mut String, user: Uid, charged: u64) -> Result<(), AllocError>
-    ensures { OnOk result (string_bytes text.new ≡ string_bytes text.old ++ user_line user charged) }
+    ensures { OnOk result
+        (string_bytes text.new ≡ string_bytes text.old ++ user_line user charged) }
 {
     writeln!(text, "user {user} inflight {charged}")
 }

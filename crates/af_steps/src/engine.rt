@@ -45,7 +45,12 @@ impl Model for Engine {
 
     ghost coded = { Prim.hlevel (codes, map.code) };
 
-    ghost view = { λ e. record { world = e.store.world; pass = e.store.pass; last_pass = e.last_pass; since = e.store.since } };
+    ghost view = { λ e. record {
+      world = e.store.world;
+      pass = e.store.pass;
+      last_pass = e.last_pass;
+      since = e.store.since;
+    } };
 
     ghost invariant = { λ e. IsSound e.store.world × (e.last_pass ≤ MAX_PASS) };
 }
@@ -173,9 +178,11 @@ impl Engine {
     /// Does these events in order. The error holds the replies of those that were done.
     pub fn run(&mut self, events: &[Event]) -> Result<Vec<Reply>, RunStopped>
         ensures whole { IfOk result (λ replies. length replies.items ≡ length events.now) }
-        ensures run { IfOk result (λ replies. Run self.old (zip events.now replies.items) self.new) }
+        ensures run { IfOk result (λ replies.
+            Run self.old (zip events.now replies.items) self.new) }
         ensures fewer { IfErr result (λ stopped. length stopped.done.items < length events.now) }
-        ensures stopped { IfErr result (λ stopped. Run self.old (zip events.now stopped.done.items) self.new) }
+        ensures stopped { IfErr result (λ stopped.
+            Run self.old (zip events.now stopped.done.items) self.new) }
     {
         let mut done = Vec::new(self.alloc);
         for event in events {

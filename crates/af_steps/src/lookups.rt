@@ -1,7 +1,8 @@
 //! The look-ups of an event, before its own tests.
 ghost use Rattle.std.specs.Prelude.{◌≡◌, ◌++◌, None, Some, false, IfErr, IfOk, OnOk, slice_get};
 ghost use Rattle.std.specs.FinMap as map;
-ghost use Rattle.af_base.specs.Refusals.{at_socket, first_fit, is_full, on_process, process_at, refusal, socket_at};
+ghost use Rattle.af_base.specs.Refusals.{at_socket, first_fit, is_full, on_process, process_at};
+ghost use Rattle.af_base.specs.Refusals.{refusal, socket_at};
 ghost use Rattle.af_base.specs.Table.{free_numbers};
 ghost use Rattle.af_steps.specs.Found.{HasProcess, HasSocket};
 
@@ -16,7 +17,8 @@ use af_table::Process;
 #[inline(always)]
 pub fn place_for_file(store: &Store, pid: Pid) -> Result<Fd, Errno>
     ensures there { OnOk result (HasProcess store.now.world pid (process_at store.now.world pid)) }
-    ensures lowest { IfOk result (λ fd. slice_get (free_numbers (process_at store.now.world pid)) 0 ≡ Some fd) }
+    ensures lowest { IfOk result (λ fd.
+        slice_get (free_numbers (process_at store.now.world pid)) 0 ≡ Some fd) }
     ensures room { OnOk result (is_full store.now.world 1 ≡ false) }
     ensures fits { OnOk result (refusal store.now.world pid Step.Open ≡ None) }
     ensures refused { IfErr result (λ e. refusal store.now.world pid Step.Open ≡ Some e) }
@@ -33,8 +35,10 @@ pub fn place_for_file(store: &Store, pid: Pid) -> Result<Fd, Errno>
 /// none.
 #[inline(always)]
 pub fn socket_on(store: &Store, pid: Pid, on: Fd) -> Result<(&Process, FileRef, Socket<'_>), Errno>
-    ensures found { IfOk result (λ found. HasSocket store.now.world pid found.0.now.process on found.1 found.2) }
-    ensures refused { IfErr result (λ e. first_fit (on_process (map.get store.now.world.processes pid) ++ at_socket store.now.world pid on) ≡ Some e) }
+    ensures found { IfOk result (λ found.
+        HasSocket store.now.world pid found.0.now.process on found.1 found.2) }
+    ensures refused { IfErr result (λ e. first_fit (on_process
+        (map.get store.now.world.processes pid) ++ at_socket store.now.world pid on) ≡ Some e) }
 {
     let process = store.holdings().procs().find(pid).ok_or(Errno::ESRCH)?;
     let file = process.lookup(on).ok_or(Errno::EBADF)?;

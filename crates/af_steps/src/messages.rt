@@ -1,10 +1,12 @@
 //! Steps that send and receive.
-ghost use Rattle.std.specs.Prelude.{◌≡◌, ◌≤◌, Some, None, IfOk, IfErr, OnOk, length, filter_map, is_none, nat_lt};
+ghost use Rattle.std.specs.Prelude.{◌≡◌, ◌≤◌, Some, None, IfOk, IfErr, OnOk, length, filter_map};
+ghost use Rattle.std.specs.Prelude.{is_none, nat_lt};
 ghost use Rattle.std.specs.List.{list_any};
 ghost use Rattle.std.specs.FinMap as map;
 ghost use Rattle.af_base.specs.Changes.{push_message};
 ghost use Rattle.af_base.specs.Pass.{SamePass};
-ghost use Rattle.af_base.specs.Refusals.{first_fit, on_parts, on_peer, on_receive, peer_of, refusal};
+ghost use Rattle.af_base.specs.Refusals.{first_fit, on_parts, on_peer, on_receive, peer_of};
+ghost use Rattle.af_base.specs.Refusals.{refusal};
 ghost use Rattle.af_base.specs.Steps.{effect};
 ghost use Rattle.af_base.specs.Unheld.{Settles};
 ghost use Rattle.af_steps.specs.Outcome.{Does, Refuses, got_reply};
@@ -76,8 +78,10 @@ impl Engine {
     /// EINVAL (no byte, or over 253 numbers), EMSGSIZE (over 65,536 bytes), EBADF of an attached
     /// number, ENOTCONN, EPIPE, ETOOMANYREFS, ENOBUFS, EAGAIN, ENOMEM.
     pub fn send(&mut self, pid: Pid, on: Fd, bytes: &[u8], attach: &[Fd]) -> Result<u32, Errno>
-        ensures done { IfOk result (λ count. Does self.old pid (Step.Send on bytes.now attach.now) (Reply.Sent count) self.new) }
-        ensures refused { IfErr result (λ e. Refuses self.old pid (Step.Send on bytes.now attach.now) e self.new) }
+        ensures done { IfOk result (λ count.
+            Does self.old pid (Step.Send on bytes.now attach.now) (Reply.Sent count) self.new) }
+        ensures refused { IfErr result (λ e.
+            Refuses self.old pid (Step.Send on bytes.now attach.now) e self.new) }
     {
         let envelope = self.prepare_send(pid, on, bytes, attach)?;
         let bytes = bytes.to_vec(self.alloc)?;
@@ -93,8 +97,10 @@ impl Engine {
         bytes: Items<u8>,
         attach: &[Fd],
     ) -> Result<u32, Errno>
-        ensures done { IfOk result (λ count. Does self.old pid (Step.Send on bytes attach.now) (Reply.Sent count) self.new) }
-        ensures refused { IfErr result (λ e. Refuses self.old pid (Step.Send on bytes attach.now) e self.new) }
+        ensures done { IfOk result (λ count.
+            Does self.old pid (Step.Send on bytes attach.now) (Reply.Sent count) self.new) }
+        ensures refused { IfErr result (λ e.
+            Refuses self.old pid (Step.Send on bytes attach.now) e self.new) }
     {
         let envelope = self.prepare_send(pid, on, bytes.as_slice(), attach)?;
         self.commit_send(envelope, bytes.into_vec())
@@ -103,10 +109,14 @@ impl Engine {
     /// Returns the queue, the files and the charge of the message, or why it cannot be sent.
     #[inline(always)]
     fn prepare_send(&self, pid: Pid, on: Fd, bytes: &[u8], attach: &[Fd]) -> Result<Envelope, Errno>
-        ensures fits { OnOk result (refusal self.now.world pid (Step.Send on bytes.now attach.now) ≡ None) }
-        ensures leads { IfOk result (λ e. effect self.now.world pid (Step.Send on bytes.now attach.now) ≡ push_message self.now.world e.peer (message_in e bytes.now)) }
+        ensures fits { OnOk result
+            (refusal self.now.world pid (Step.Send on bytes.now attach.now) ≡ None) }
+        ensures leads { IfOk result (λ e.
+            effect self.now.world pid (Step.Send on bytes.now attach.now)
+            ≡ push_message self.now.world e.peer (message_in e bytes.now)) }
         ensures room { IfOk result (λ e. HasRoom self.now.world e.peer (message_in e bytes.now)) }
-        ensures refused { IfErr result (λ e. Refuses self.now pid (Step.Send on bytes.now attach.now) e self.now) }
+        ensures refused { IfErr result (λ e.
+            Refuses self.now pid (Step.Send on bytes.now attach.now) e self.now) }
     {
         let (process, file, socket) = socket_on(&self.store, pid, on)?;
         check_parts(process, bytes, attach)?;
@@ -133,7 +143,8 @@ impl Engine {
     fn commit_send(&mut self, envelope: Envelope, bytes: Vec<u8>) -> Result<u32, Errno>
         requires { HasRoom self.old.world envelope.peer (message_in envelope bytes.items) }
         ensures count { IfOk result (λ count. count ≡ length bytes.items) }
-        ensures settles { OnOk result (Settles (push_message self.old.world envelope.peer (message_in envelope bytes.items)) self.new.world) }
+        ensures settles { OnOk result (Settles (push_message self.old.world envelope.peer
+            (message_in envelope bytes.items)) self.new.world) }
         ensures pass { OnOk result (SamePass self.old self.new) }
         ensures err { IfErr result (λ e. (e ≡ Errno.ENOMEM) × (self.new ≡ self.old)) }
     {
@@ -161,8 +172,10 @@ impl Engine {
         max_bytes: u32,
         max_fds: u32,
     ) -> Result<Received, Errno>
-        ensures done { IfOk result (λ got. Does self.old pid (Step.Recv on max_bytes max_fds) (got_reply got) self.new) }
-        ensures refused { IfErr result (λ e. Refuses self.old pid (Step.Recv on max_bytes max_fds) e self.new) }
+        ensures done { IfOk result (λ got.
+            Does self.old pid (Step.Recv on max_bytes max_fds) (got_reply got) self.new) }
+        ensures refused { IfErr result (λ e.
+            Refuses self.old pid (Step.Recv on max_bytes max_fds) e self.new) }
     {
         let (process, file, socket) = socket_on(&self.store, pid, on)?;
         check_receive(&socket, max_bytes)?;
@@ -193,8 +206,10 @@ impl Engine {
         max_bytes: u32,
         max_fds: u32,
     ) -> Result<Received, Errno>
-        ensures done { IfOk result (λ got. Does self.old pid (Step.Peek on max_bytes max_fds) (got_reply got) self.new) }
-        ensures refused { IfErr result (λ e. Refuses self.old pid (Step.Peek on max_bytes max_fds) e self.new) }
+        ensures done { IfOk result (λ got.
+            Does self.old pid (Step.Peek on max_bytes max_fds) (got_reply got) self.new) }
+        ensures refused { IfErr result (λ e.
+            Refuses self.old pid (Step.Peek on max_bytes max_fds) e self.new) }
     {
         let (process, file, socket) = socket_on(&self.store, pid, on)?;
         check_receive(&socket, max_bytes)?;
@@ -218,8 +233,10 @@ impl Engine {
 
 /// Returns whether a process may send these bytes with these descriptors, or why not.
 fn check_parts(process: &Process, bytes: &[u8], attach: &[Fd]) -> Result<(), Errno>
-    ensures ok { OnOk result (first_fit (on_parts (map.get process.now.process.table) bytes.now attach.now) ≡ None) }
-    ensures err { IfErr result (λ e. first_fit (on_parts (map.get process.now.process.table) bytes.now attach.now) ≡ Some e) }
+    ensures ok { OnOk result
+        (first_fit (on_parts (map.get process.now.process.table) bytes.now attach.now) ≡ None) }
+    ensures err { IfErr result (λ e.
+        first_fit (on_parts (map.get process.now.process.table) bytes.now attach.now) ≡ Some e) }
 {
     if bytes.is_empty() || attach.len() > SCM_MAX_FD {
         return Err(Errno::EINVAL);
@@ -273,7 +290,8 @@ pub(crate) fn check_receive(socket: &Socket, max_bytes: u32) -> Result<(), Errno
 
 /// Returns the files of these descriptors of the process, without those that are free.
 fn files_at(alloc: Global, process: &Process, fds: &[Fd]) -> Result<Attached, AllocError>
-    ensures value { IfOk result (λ files. files.items ≡ filter_map (map.get process.now.process.table) fds.now) }
+    ensures value { IfOk result (λ files.
+        files.items ≡ filter_map (map.get process.now.process.table) fds.now) }
     ensures bound { IfOk result (λ files. length files.items ≤ length fds.now) }
 {
     let mut files = SmallVec::with_capacity(alloc, fds.len())?;
@@ -290,7 +308,8 @@ fn files_at(alloc: Global, process: &Process, fds: &[Fd]) -> Result<Attached, Al
 /// descriptors.
 #[inline(always)]
 fn got(taken: Taken, fds: Vec<Fd>) -> Received
-    ensures { result ≡ Received.Got taken.message.bytes fds.items taken.trunc (nat_lt (length fds.items) (length taken.message.attached)) }
+    ensures { result ≡ Received.Got taken.message.bytes fds.items taken.trunc
+        (nat_lt (length fds.items) (length taken.message.attached)) }
 {
     let trunc = taken.trunc();
     let ctrunc = taken.attached().len() > fds.len();

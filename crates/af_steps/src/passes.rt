@@ -52,8 +52,10 @@ impl Engine {
     /// Begins a pass over the present files. It costs the same for any number of files. Answers its
     /// number. Refused with EBUSY while a pass runs.
     pub fn begin(&mut self) -> Result<u64, Errno>
-        ensures done { IfOk result (λ number. Begins self.old.pass self.old (Reply.Started number) self.new) }
-        ensures refused { IfErr result (λ e. Begins self.old.pass self.old (Reply.Refused e) self.new) }
+        ensures done { IfOk result (λ number.
+            Begins self.old.pass self.old (Reply.Started number) self.new) }
+        ensures refused { IfErr result (λ e.
+            Begins self.old.pass self.old (Reply.Refused e) self.new) }
     {
         if self.store.is_passing() {
             return Err(Errno::EBUSY);
@@ -67,8 +69,10 @@ impl Engine {
     /// file. Refused with EIDLE where none runs, and else with EINVAL where the budget is not 1 to
     /// 65,536.
     pub fn slice(&mut self, budget: u32) -> Result<Progress, Errno>
-        ensures done { IfOk result (λ progress. GoesOn self.old.pass self.old budget (progress_reply progress) self.new) }
-        ensures refused { IfErr result (λ e. GoesOn self.old.pass self.old budget (Reply.Refused e) self.new) }
+        ensures done { IfOk result (λ progress.
+            GoesOn self.old.pass self.old budget (progress_reply progress) self.new) }
+        ensures refused { IfErr result (λ e.
+            GoesOn self.old.pass self.old budget (Reply.Refused e) self.new) }
     {
         if !self.store.is_passing() {
             return Err(Errno::EIDLE);
@@ -88,8 +92,10 @@ impl Engine {
     /// Runs a whole pass: frees all garbage, and the files that only garbage held. Refused with
     /// EBUSY while a pass runs.
     pub fn pass(&mut self) -> Result<Finished, Errno>
-        ensures done { IfOk result (λ finished. PassesWhole self.old.pass self.old (finished_reply finished) self.new) }
-        ensures refused { IfErr result (λ e. PassesWhole self.old.pass self.old (Reply.Refused e) self.new) }
+        ensures done { IfOk result (λ finished.
+            PassesWhole self.old.pass self.old (finished_reply finished) self.new) }
+        ensures refused { IfErr result (λ e.
+            PassesWhole self.old.pass self.old (Reply.Refused e) self.new) }
     {
         if self.store.is_passing() {
             return Err(Errno::EBUSY);

@@ -3,7 +3,8 @@ ghost use Rattle.std.specs.Prelude.{◌≡◌, ◌++◌, Some, IfErr, IfOk, leng
 ghost use Rattle.std.specs.FinMap as map;
 ghost use Rattle.af_base.specs.Places.{queue_at, table_at};
 ghost use Rattle.af_base.specs.Ready.{reads, ready, writes};
-ghost use Rattle.af_base.specs.Refusals.{first_fit, ino_on, is_hung_up, on_number, on_process, peer_of};
+ghost use Rattle.af_base.specs.Refusals.{first_fit, ino_on, is_hung_up, on_number, on_process};
+ghost use Rattle.af_base.specs.Refusals.{peer_of};
 ghost use Rattle.af_base.specs.World.{IsLive};
 
 use crate::engine::Engine;
@@ -22,8 +23,11 @@ impl Engine {
     /// Returns what a descriptor of a process is ready for (poll(2)). A plain file is always
     /// readable and writable. Refused, in this order: ESRCH, EBADF. It needs no memory.
     pub fn poll(&self, pid: Pid, fd: Fd) -> Result<Ready, Errno>
-        ensures ready { IfOk result (λ r. ready self.now.world (ino_on self.now.world pid fd) ≡ Some r) }
-        ensures refused { IfErr result (λ e. first_fit (on_process (map.get self.now.world.processes pid) ++ on_number (table_at self.now.world pid fd)) ≡ Some e) }
+        ensures ready { IfOk result (λ r.
+            ready self.now.world (ino_on self.now.world pid fd) ≡ Some r) }
+        ensures refused { IfErr result (λ e.
+            first_fit (on_process (map.get self.now.world.processes pid)
+            ++ on_number (table_at self.now.world pid fd)) ≡ Some e) }
     {
         let process = self.store.holdings().procs().find(pid).ok_or(Errno::ESRCH)?;
         let file = process.lookup(fd).ok_or(Errno::EBADF)?;

@@ -2,7 +2,8 @@
 ghost use Rattle.std.specs.Prelude.{◌≡◌, ◌↔◌, None, Some, IfErr, IfOk, IsTrue, OnOk};
 ghost use Rattle.std.specs.List.{list_all};
 ghost use Rattle.af_base.specs.Names.{is_name, is_name_byte};
-ghost use Rattle.af_base.specs.Refusals.{first_fit, on_accept, on_bind, on_client, on_listen, on_listener};
+ghost use Rattle.af_base.specs.Refusals.{first_fit, on_accept, on_bind, on_client, on_listen};
+ghost use Rattle.af_base.specs.Refusals.{on_listener};
 ghost use Rattle.af_steps.specs.Outcome.{Does, Refuses};
 
 use crate::engine::Engine;
@@ -17,7 +18,8 @@ impl Engine {
     /// Makes two sockets that are connected to each other (socketpair(2)). Answers the two lowest
     /// free numbers, rising. Refused, in this order: ESRCH, EMFILE, ENFILE, ENOMEM.
     pub fn pair(&mut self, pid: Pid, kind: SockType) -> Result<(Fd, Fd), Errno>
-        ensures done { IfOk result (λ fds. Does self.old pid (Step.Pair kind) (Reply.Fds fds.0 fds.1) self.new) }
+        ensures done { IfOk result (λ fds.
+            Does self.old pid (Step.Pair kind) (Reply.Fds fds.0 fds.1) self.new) }
         ensures refused { IfErr result (λ e. Refuses self.old pid (Step.Pair kind) e self.new) }
     {
         let process = self.store.holdings().procs().find(pid).ok_or(Errno::ESRCH)?;
@@ -34,7 +36,8 @@ impl Engine {
     /// Makes a socket (socket(2)). Answers its lowest free number. Refused, in this order: ESRCH,
     /// EMFILE, ENFILE, ENOMEM.
     pub fn socket(&mut self, pid: Pid, kind: SockType) -> Result<Fd, Errno>
-        ensures done { IfOk result (λ fd. Does self.old pid (Step.Socket kind) (Reply.Fd fd) self.new) }
+        ensures done { IfOk result (λ fd.
+            Does self.old pid (Step.Socket kind) (Reply.Fd fd) self.new) }
         ensures refused { IfErr result (λ e. Refuses self.old pid (Step.Socket kind) e self.new) }
     {
         let fd = place_for_file(&self.store, pid)?;
@@ -48,7 +51,8 @@ impl Engine {
     /// ENOTSOCK, EINVAL, EADDRINUSE, ENOMEM.
     pub fn bind(&mut self, pid: Pid, on: Fd, name: &[u8]) -> Result<(), Errno>
         ensures done { OnOk result (Does self.old pid (Step.Bind on name.now) Reply.Ok self.new) }
-        ensures refused { IfErr result (λ e. Refuses self.old pid (Step.Bind on name.now) e self.new) }
+        ensures refused { IfErr result (λ e.
+            Refuses self.old pid (Step.Bind on name.now) e self.new) }
     {
         let (_, file, socket) = socket_on(&self.store, pid, on)?;
         check_bind(&socket, name)?;
@@ -64,7 +68,8 @@ impl Engine {
     /// EBADF, ENOTSOCK, EINVAL (also where the backlog is not 1 to 128), ENOMEM.
     pub fn listen(&mut self, pid: Pid, on: Fd, backlog: u32) -> Result<(), Errno>
         ensures done { OnOk result (Does self.old pid (Step.Listen on backlog) Reply.Ok self.new) }
-        ensures refused { IfErr result (λ e. Refuses self.old pid (Step.Listen on backlog) e self.new) }
+        ensures refused { IfErr result (λ e.
+            Refuses self.old pid (Step.Listen on backlog) e self.new) }
     {
         let (_, file, socket) = socket_on(&self.store, pid, on)?;
         check_listen(&socket, backlog)?;
@@ -77,8 +82,10 @@ impl Engine {
     /// accepted (connect(2)). Refused, in this order: ESRCH, EBADF, ENOTSOCK, EINVAL, EISCONN,
     /// ECONNREFUSED, EPROTOTYPE, EAGAIN, ENFILE, ENOMEM.
     pub fn connect(&mut self, pid: Pid, on: Fd, name: &[u8]) -> Result<(), Errno>
-        ensures done { OnOk result (Does self.old pid (Step.Connect on name.now) Reply.Ok self.new) }
-        ensures refused { IfErr result (λ e. Refuses self.old pid (Step.Connect on name.now) e self.new) }
+        ensures done { OnOk result
+            (Does self.old pid (Step.Connect on name.now) Reply.Ok self.new) }
+        ensures refused { IfErr result (λ e.
+            Refuses self.old pid (Step.Connect on name.now) e self.new) }
     {
         let (_, file, client) = socket_on(&self.store, pid, on)?;
         check_client(&client)?;
@@ -102,7 +109,8 @@ impl Engine {
     /// lowest free number, which the embryo gets. Refused, in this order: ESRCH, EBADF, ENOTSOCK,
     /// EINVAL, EAGAIN, EMFILE, ENOMEM.
     pub fn accept(&mut self, pid: Pid, on: Fd) -> Result<Fd, Errno>
-        ensures done { IfOk result (λ fd. Does self.old pid (Step.Accept on) (Reply.Fd fd) self.new) }
+        ensures done { IfOk result (λ fd.
+            Does self.old pid (Step.Accept on) (Reply.Fd fd) self.new) }
         ensures refused { IfErr result (λ e. Refuses self.old pid (Step.Accept on) e self.new) }
     {
         let (process, file, socket) = socket_on(&self.store, pid, on)?;

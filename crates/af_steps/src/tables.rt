@@ -44,7 +44,8 @@ impl Engine {
     /// Duplicates a descriptor to the process's lowest free number (dup(2)). Refused, in this
     /// order: ESRCH, EBADF, EMFILE, ENOMEM.
     pub fn dup(&mut self, pid: Pid, from: Fd) -> Result<Fd, Errno>
-        ensures done { IfOk result (λ fd. Does self.old pid (Step.Dup from) (Reply.Fd fd) self.new) }
+        ensures done { IfOk result (λ fd.
+            Does self.old pid (Step.Dup from) (Reply.Fd fd) self.new) }
         ensures refused { IfErr result (λ e. Refuses self.old pid (Step.Dup from) e self.new) }
     {
         let process = self.store.holdings().procs().find(pid).ok_or(Errno::ESRCH)?;
@@ -62,7 +63,8 @@ impl Engine {
     /// (dup2(2)). A descriptor in place of itself asks for no memory. Refused, in this order:
     /// ESRCH, EBADF, ENOMEM.
     pub fn dup2(&mut self, pid: Pid, from: Fd, to: Fd) -> Result<Fd, Errno>
-        ensures done { IfOk result (λ fd. Does self.old pid (Step.Dup2 from to) (Reply.Fd fd) self.new) }
+        ensures done { IfOk result (λ fd.
+            Does self.old pid (Step.Dup2 from to) (Reply.Fd fd) self.new) }
         ensures refused { IfErr result (λ e. Refuses self.old pid (Step.Dup2 from to) e self.new) }
     {
         let process = self.store.holdings().procs().find(pid).ok_or(Errno::ESRCH)?;
@@ -97,7 +99,8 @@ impl Engine {
     /// Makes a child with a copy of the process's table (fork(2)). Answers the child's pid.
     /// Refused, in this order: ESRCH, EAGAIN, ENOMEM.
     pub fn fork(&mut self, pid: Pid) -> Result<Pid, Errno>
-        ensures done { IfOk result (λ child. Does self.old pid Step.Fork (Reply.Pid child) self.new) }
+        ensures done { IfOk result (λ child.
+            Does self.old pid Step.Fork (Reply.Pid child) self.new) }
         ensures refused { IfErr result (λ e. Refuses self.old pid Step.Fork e self.new) }
     {
         self.store.holdings().procs().find(pid).ok_or(Errno::ESRCH)?;

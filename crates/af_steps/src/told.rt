@@ -7,11 +7,18 @@ use af_base::names::{FileRef, Ino};
 use std::alloc::AllocError;
 
 impl Engine {
-    /// Tells from now on which files are freed, by `released`. Both lists are empty then. From now on
-    /// an event that makes a file needs room for its number in the list too, and no other call does.
-    /// On an error nothing has changed.
+    /// Tells from now on which files are freed, by `released`. Both lists are empty then. From now
+    /// on an event that makes a file needs room for its number in the list too, and no other call
+    /// does. On an error nothing has changed.
     pub fn tell_released(&mut self) -> Result<(), AllocError>
-        ensures ok { OnOk result (self.new ≡ record self.old { since = record { changed = self.old.since.changed; released = true; files = self.old.world.files; next = self.old.world.next_ino } }) }
+        ensures ok { OnOk result (self.new ≡ record self.old {
+          since = record {
+            changed = self.old.since.changed;
+            released = true;
+            files = self.old.world.files;
+            next = self.old.world.next_ino;
+          };
+        }) }
         ensures err { OnErr result (self.new ≡ self.old) }
     {
         self.store.tell_released()
@@ -21,7 +28,14 @@ impl Engine {
     /// From now on an event that makes a file needs room for it in the list too, and no other call
     /// does. On an error nothing has changed.
     pub fn tell_changed(&mut self) -> Result<(), AllocError>
-        ensures ok { OnOk result (self.new ≡ record self.old { since = record { changed = true; released = self.old.since.released; files = self.old.world.files; next = self.old.world.next_ino } }) }
+        ensures ok { OnOk result (self.new ≡ record self.old {
+          since = record {
+            changed = true;
+            released = self.old.since.released;
+            files = self.old.world.files;
+            next = self.old.world.next_ino;
+          };
+        }) }
         ensures err { OnErr result (self.new ≡ self.old) }
     {
         self.store.tell_changed()
@@ -47,7 +61,12 @@ impl Engine {
 
     /// Empties both lists. It needs no memory.
     pub fn clear_told(&mut self)
-        ensures { self.new ≡ record self.old { since = record self.old.since { files = self.old.world.files; next = self.old.world.next_ino } } }
+        ensures { self.new ≡ record self.old {
+          since = record self.old.since {
+            files = self.old.world.files;
+            next = self.old.world.next_ino;
+          };
+        } }
     {
         self.store.clear_told();
     }

@@ -1,5 +1,6 @@
 //! The views of an engine. None takes memory, but for the plain lists.
-ghost use Rattle.std.specs.Prelude.{◌≡◌, ◌<◌, ◌≤◌, ℕ, None, Some, false, IfErr, IfOk, IfSome, IfNone, OnOk, length, option_copied, slice_get};
+ghost use Rattle.std.specs.Prelude.{◌≡◌, ◌<◌, ◌≤◌, ℕ, None, Some, false, IfErr, IfOk, IfSome};
+ghost use Rattle.std.specs.Prelude.{IfNone, OnOk, length, option_copied, slice_get};
 ghost use Rattle.std.specs.FinMap as map;
 ghost use Rattle.af_base.specs.World.{is_live, IsLive};
 ghost use Rattle.af_base.specs.Bare.{bare};
@@ -89,7 +90,8 @@ impl Engine {
     pub fn next_after(&self, ino: Ino) -> Option<Ino>
         ensures above { IfSome result (λ n. ino < n) }
         ensures live { IfSome result (IsLive self.now.world) }
-        ensures least { IfSome result (λ n. (q : ℕ) → ino < q → q < n → is_live self.now.world q ≡ false) }
+        ensures least { IfSome result (λ n.
+            (q : ℕ) → ino < q → q < n → is_live self.now.world q ≡ false) }
         ensures none { IfNone result ((q : ℕ) → ino < q → is_live self.now.world q ≡ false) }
     {
         let (next, _) = self.next_file(ino, 0)?;
@@ -101,14 +103,15 @@ impl Engine {
     pub fn next_file(&self, ino: Ino, order_hint: usize) -> Option<(FileRef, usize)>
         ensures above { IfSome result (λ n. ino < n.0) }
         ensures live { IfSome result (λ n. IsLive self.now.world n.0) }
-        ensures least { IfSome result (λ n. (q : ℕ) → ino < q → q < n.0 → is_live self.now.world q ≡ false) }
+        ensures least { IfSome result (λ n.
+            (q : ℕ) → ino < q → q < n.0 → is_live self.now.world q ≡ false) }
         ensures none { IfNone result ((q : ℕ) → ino < q → is_live self.now.world q ≡ false) }
     {
         self.store.holdings().files().next_after(ino, order_hint)
     }
 
-    /// Returns the file that a descriptor of a process refers to; nothing where the descriptor is not
-    /// open, or there is no such process. No search.
+    /// Returns the file that a descriptor of a process refers to; nothing where the descriptor is
+    /// not open, or there is no such process. No search.
     pub fn ino_at(&self, pid: Pid, fd: Fd) -> Option<Ino>
         ensures { result ≡ table_at self.now.world pid fd }
     {
@@ -134,12 +137,13 @@ impl Engine {
         Ok(())
     }
 
-    /// Returns the lowest open descriptor of a process from this number on, and its file. A walk over
-    /// a table asks again from the next number.
+    /// Returns the lowest open descriptor of a process from this number on, and its file. A walk
+    /// over a table asks again from the next number.
     pub fn next_open(&self, pid: Pid, from: Fd) -> Option<(Fd, FileRef)>
         ensures open { IfSome result (λ e. table_at self.now.world pid e.0 ≡ Some e.1) }
         ensures reached { IfSome result (λ e. from ≤ e.0) }
-        ensures least { IfSome result (λ e. (n : ℕ) → from ≤ n → n < e.0 → table_at self.now.world pid n ≡ None) }
+        ensures least { IfSome result (λ e.
+            (n : ℕ) → from ≤ n → n < e.0 → table_at self.now.world pid n ≡ None) }
         ensures none { IfNone result ((n : ℕ) → from ≤ n → table_at self.now.world pid n ≡ None) }
     {
         self.store.holdings().procs().next_open(pid, from)

@@ -54,8 +54,8 @@ fn most_go(values: &mut OrderedSlab<u64>) {
     }
 }
 
-/// Most values go while others come, and most of the rest at the end: each number that 49 divides is
-/// left.
+/// Most values go while others come, and most of the rest at the end: each number that 49 divides
+/// is left.
 fn thousands(rt: &impl Abort, values: &mut OrderedSlab<u64>) -> Result<(), AllocError>
     requires { values.old.last ≡ 0 }
 {

@@ -14,7 +14,8 @@ use std::test::Fail;
 
 fn socket(alloc: Global, ino: u64, sent: &[Ino], waiting: &[Ino]) -> Result<ListedFile, AllocError>
     ensures ino { IfOk result (λ x. x.ino ≡ ino) }
-    ensures held { IfOk result (λ x. length (contents (file_of x)) ≡ length sent.now + length waiting.now) }
+    ensures held { IfOk result (λ x.
+        length (contents (file_of x)) ≡ length sent.now + length waiting.now) }
 {
     let message = ListedMessage {
         user: Uid(1000),

@@ -69,7 +69,8 @@ fn gather(
 
 /// Appends the places of the table's descriptors.
 fn push_table(places: &mut Vec<Place>, table: &ListedTable) -> Result<(), AllocError>
-    ensures { OnOk result (files_of places.new.items ≡ files_of places.old.items ++ inos_of table.now) }
+    ensures { OnOk result
+        (files_of places.new.items ≡ files_of places.old.items ++ inos_of table.now) }
 {
     for number in &table.numbers {
         places.push(Place {
@@ -82,7 +83,8 @@ fn push_table(places: &mut Vec<Place>, table: &ListedTable) -> Result<(), AllocE
 
 /// Appends the places in the file's queue and backlog.
 fn push_contents(places: &mut Vec<Place>, file: &ListedFile) -> Result<(), AllocError>
-    ensures { OnOk result (files_of places.new.items ≡ files_of places.old.items ++ contents (file_of file.now)) }
+    ensures { OnOk result
+        (files_of places.new.items ≡ files_of places.old.items ++ contents (file_of file.now)) }
 {
     let Some(socket) = &file.socket else {
         return Ok(());

@@ -24,7 +24,8 @@ impl HostFile {
 
 /// Closes the host files whose files were freed: a host file that is left is behind a live file.
 pub fn close_released(rt: &HostRuntime, engine: &mut Owned<HostFile>) -> io::Result<()>
-    ensures { OnOk result ((f : ℕ) → IsTrue (map.contains_key engine.new.values f) → IsLive engine.new.machine.world f) }
+    ensures { OnOk result ((f : ℕ) → IsTrue (map.contains_key engine.new.values f)
+        → IsLive engine.new.machine.world f) }
 {
     while let Some(file) = engine.take_released() {
         println!(rt; "closed: {}", file.name)?;

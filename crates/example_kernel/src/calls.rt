@@ -40,11 +40,12 @@ impl Memory {
     }
 }
 
-/// Makes the call that the registers ask for. It is one step of the machine, and answers its number,
-/// or 0 where it has none; or it is refused, answers the negative of the error's number, and nothing
-/// has changed. A number that is no call is refused by ENOSYS.
+/// Makes the call that the registers ask for. It is one step of the machine, and answers its
+/// number, or 0 where it has none; or it is refused, answers the negative of the error's number,
+/// and nothing has changed. A number that is no call is refused by ENOSYS.
 pub fn system_call(engine: &mut Engine, pid: Pid, registers: Registers, memory: &mut Memory) -> i64
-    ensures { Answers engine.old pid (asked registers memory.old) memory.old result engine.new memory.new }
+    ensures { Answers engine.old pid
+        (asked registers memory.old) memory.old result engine.new memory.new }
 {
     let on = Fd(registers.first);
     match registers.number {
@@ -65,7 +66,8 @@ pub fn system_call(engine: &mut Engine, pid: Pid, registers: Registers, memory: 
 
 /// Does socketpair(2): makes two sockets that are connected to each other.
 fn socketpair(engine: &mut Engine, pid: Pid, registers: Registers, memory: &mut Memory) -> i64
-    ensures { Answers engine.old pid (pair_asked registers) memory.old result engine.new memory.new }
+    ensures { Answers engine.old pid
+        (pair_asked registers) memory.old result engine.new memory.new }
 {
     if registers.first != linux::AF_UNIX {
         return -linux::EAFNOSUPPORT;
@@ -84,7 +86,8 @@ fn socketpair(engine: &mut Engine, pid: Pid, registers: Registers, memory: &mut 
 
 /// Does sendmsg(2) with the bytes in memory.
 fn sendmsg(engine: &mut Engine, pid: Pid, registers: Registers, memory: &Memory) -> i64
-    ensures { Answers engine.old pid (send_asked registers memory.now) memory.now result engine.new memory.now }
+    ensures { Answers engine.old pid
+        (send_asked registers memory.now) memory.now result engine.new memory.now }
 {
     let bytes = memory.bytes.as_slice();
     let fds = memory.fds.as_slice();
@@ -96,7 +99,8 @@ fn sendmsg(engine: &mut Engine, pid: Pid, registers: Registers, memory: &Memory)
 
 /// Does recvmsg(2), and writes the result to memory.
 fn recvmsg(engine: &mut Engine, pid: Pid, registers: Registers, memory: &mut Memory) -> i64
-    ensures { Answers engine.old pid (recv_asked registers) memory.old result engine.new memory.new }
+    ensures { Answers engine.old pid
+        (recv_asked registers) memory.old result engine.new memory.new }
 {
     match engine.recv(pid, Fd(registers.first), registers.second, registers.third) {
         Ok(Received::Got { bytes, fds, .. }) => {

@@ -10,8 +10,8 @@ use jaywardrobe::{Engine, Fd, Pid, Uid};
 use std::io;
 use std::io::Error;
 
-/// The calls of the session: who calls, the number, and three arguments. A parent sends its end of a
-/// connection to its child; then come refusals, and the end of both.
+/// The calls of the session: who calls, the number, and three arguments. A parent sends its end of
+/// a connection to its child; then come refusals, and the end of both.
 const SESSION: [(u32, [u32; 4]); 16] = [
     (1, [SOCKETPAIR, AF_UNIX, 5, 0]),
     (1, [FORK, 0, 0, 0]),

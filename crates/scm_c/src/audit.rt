@@ -31,7 +31,8 @@ pub struct Counted {
 #[unsafe(no_mangle)]
 pub extern "C" fn jw_check(alloc: Global, engine: &mut Handle, out: &mut Counted) -> i64
     ensures same { engine.new.shown ≡ engine.old.shown }
-    ensures value { Tells engine.old.shown (λ m c. IsChecked m.world c.live c.garbage) out.old result out.new ⊎ ((result ≡ error_code Errno.ENOMEM) × (out.new ≡ out.old)) }
+    ensures value { Tells engine.old.shown (λ m c. IsChecked m.world c.live c.garbage) out.old
+        result out.new ⊎ ((result ≡ error_code Errno.ENOMEM) × (out.new ≡ out.old)) }
 {
     let Some(inside) = engine.take(alloc) else {
         return NO_ENGINE;

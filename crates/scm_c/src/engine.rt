@@ -29,7 +29,8 @@ pub extern "C" fn jw_engine_new(alloc: Global, engine: &mut Handle) -> i64
             0
         }
         Err(refused) => {
-            // Dropped by a call: at the end of the block each part would be dropped, and proved, by itself.
+            // Dropped by a call: at the end of the block each part would be dropped, and proved, by
+            // itself.
             drop(refused);
             refusal(Errno::ENOMEM)
         }
@@ -57,8 +58,8 @@ pub(crate) fn reply_to(alloc: Global, engine: &mut Handle, event: &Event) -> Opt
 }
 
 /// Does one event, and answers the number of its reply.
-// Inlined, as the next one is, so that an event is made where it is read: to move one costs more than
-// a call.
+// Inlined, as the next one is, so that an event is made where it is read: to move one costs more
+// than a call.
 #[inline(always)]
 pub(crate) fn call(alloc: Global, engine: &mut Handle, event: &Event) -> i64
     ensures { Calls engine.old.shown event.now result engine.new.shown }

@@ -43,7 +43,8 @@ pub extern "C" fn jw_send(
     bytes: &[u8],
     fds: &[u32],
 ) -> i64
-    ensures { Calls engine.old.shown (Event.Proc pid (Step.Send fd bytes.now fds.now)) result engine.new.shown }
+    ensures { Calls engine.old.shown
+        (Event.Proc pid (Step.Send fd bytes.now fds.now)) result engine.new.shown }
 {
     let Some(mut inside) = engine.take(alloc) else {
         return NO_ENGINE;
@@ -88,7 +89,9 @@ pub extern "C" fn jw_recv(
     fds: &mut [u32],
     out: &mut Received,
 ) -> i64
-    ensures { CallsInto engine.old.shown (Event.Proc pid (Step.Recv fd (room (length bytes.old)) (as_u32 (length fds.old)))) received_written (bytes.old, fds.old, out.old) result (bytes.new, fds.new, out.new) engine.new.shown }
+    ensures { CallsInto engine.old.shown (Event.Proc pid
+        (Step.Recv fd (room (length bytes.old)) (as_u32 (length fds.old)))) received_written
+        (bytes.old, fds.old, out.old) result (bytes.new, fds.new, out.new) engine.new.shown }
 {
     let step = Step::Recv {
         on: Fd(fd),
@@ -115,7 +118,9 @@ pub extern "C" fn jw_peek(
     fds: &mut [u32],
     out: &mut Received,
 ) -> i64
-    ensures { CallsInto engine.old.shown (Event.Proc pid (Step.Peek fd (room (length bytes.old)) (as_u32 (length fds.old)))) received_written (bytes.old, fds.old, out.old) result (bytes.new, fds.new, out.new) engine.new.shown }
+    ensures { CallsInto engine.old.shown (Event.Proc pid
+        (Step.Peek fd (room (length bytes.old)) (as_u32 (length fds.old)))) received_written
+        (bytes.old, fds.old, out.old) result (bytes.new, fds.new, out.new) engine.new.shown }
 {
     let step = Step::Peek {
         on: Fd(fd),
@@ -134,7 +139,8 @@ fn receive(
     fds: &mut [u32],
     out: &mut Received,
 ) -> i64
-    ensures { CallsInto engine.old.shown event.now received_written (bytes.old, fds.old, out.old) result (bytes.new, fds.new, out.new) engine.new.shown }
+    ensures { CallsInto engine.old.shown event.now received_written
+        (bytes.old, fds.old, out.old) result (bytes.new, fds.new, out.new) engine.new.shown }
 {
     let Some(reply) = reply_to(alloc, engine, event) else {
         return NO_ENGINE;
@@ -159,7 +165,8 @@ fn as_u32(length: usize) -> u32
 
 /// Writes what a receive or a peek got.
 fn write_received(reply: &Reply, bytes: &mut [u8], fds: &mut [u32], out: &mut Received)
-    ensures { (bytes.new, fds.new, out.new) ≡ received_written reply.now (bytes.old, fds.old, out.old) }
+    ensures { (bytes.new, fds.new, out.new)
+        ≡ received_written reply.now (bytes.old, fds.old, out.old) }
 {
     match reply {
         Reply::Got {

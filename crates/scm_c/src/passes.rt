@@ -26,7 +26,8 @@ pub struct Finished {
 #[must_use]
 #[unsafe(no_mangle)]
 pub extern "C" fn jw_begin(alloc: Global, engine: &mut Handle, pass: &mut u64) -> i64
-    ensures { CallsInto engine.old.shown Event.Begin begun_written pass.old result pass.new engine.new.shown }
+    ensures { CallsInto engine.old.shown Event.Begin begun_written pass.old result pass.new
+        engine.new.shown }
 {
     let Some(reply) = reply_to(alloc, engine, &Event::Begin) else {
         return NO_ENGINE;
@@ -49,7 +50,8 @@ pub extern "C" fn jw_slice(
     budget: u32,
     out: &mut Finished,
 ) -> i64
-    ensures { CallsInto engine.old.shown (Event.Slice budget) finished_written out.old result out.new engine.new.shown }
+    ensures { CallsInto engine.old.shown
+        (Event.Slice budget) finished_written out.old result out.new engine.new.shown }
 {
     collect(alloc, engine, &Event::Slice(budget), out)
 }
@@ -61,14 +63,16 @@ pub extern "C" fn jw_slice(
 #[must_use]
 #[unsafe(no_mangle)]
 pub extern "C" fn jw_pass(alloc: Global, engine: &mut Handle, out: &mut Finished) -> i64
-    ensures { CallsInto engine.old.shown Event.Pass finished_written out.old result out.new engine.new.shown }
+    ensures { CallsInto engine.old.shown Event.Pass finished_written out.old result out.new
+        engine.new.shown }
 {
     collect(alloc, engine, &Event::Pass, out)
 }
 
 /// Does this event of the collector, and writes what it says of a pass that is over.
 fn collect(alloc: Global, engine: &mut Handle, event: &Event, out: &mut Finished) -> i64
-    ensures { CallsInto engine.old.shown event.now finished_written out.old result out.new engine.new.shown }
+    ensures { CallsInto engine.old.shown event.now finished_written out.old result out.new
+        engine.new.shown }
 {
     let Some(reply) = reply_to(alloc, engine, event) else {
         return NO_ENGINE;

@@ -36,8 +36,10 @@ pub extern "C" fn jw_pair(
     kind: u32,
     out: &mut Pair,
 ) -> i64
-    ensures made { IfSome (type_named kind) (λ k. CallsInto engine.old.shown (Event.Proc pid (Step.Pair k)) pair_written out.old result out.new engine.new.shown) }
-    ensures invalid { IfNone (type_named kind) (Refuses engine.old.shown Errno.EINVAL result engine.new.shown) }
+    ensures made { IfSome (type_named kind) (λ k. CallsInto engine.old.shown
+        (Event.Proc pid (Step.Pair k)) pair_written out.old result out.new engine.new.shown) }
+    ensures invalid { IfNone (type_named kind)
+        (Refuses engine.old.shown Errno.EINVAL result engine.new.shown) }
     ensures unwritten { IfNone (type_named kind) (out.new ≡ out.old) }
 {
     let Some(kind) = type_named(kind) else {
@@ -81,8 +83,10 @@ fn type_named(kind: u32) -> Option<SockType>
 #[must_use]
 #[unsafe(no_mangle)]
 pub extern "C" fn jw_socket(alloc: Global, engine: &mut Handle, pid: u32, kind: u32) -> i64
-    ensures made { IfSome (type_named kind) (λ k. Calls engine.old.shown (Event.Proc pid (Step.Socket k)) result engine.new.shown) }
-    ensures invalid { IfNone (type_named kind) (Refuses engine.old.shown Errno.EINVAL result engine.new.shown) }
+    ensures made { IfSome (type_named kind) (λ k.
+        Calls engine.old.shown (Event.Proc pid (Step.Socket k)) result engine.new.shown) }
+    ensures invalid { IfNone (type_named kind)
+        (Refuses engine.old.shown Errno.EINVAL result engine.new.shown) }
 {
     match type_named(kind) {
         Some(kind) => call_of(alloc, engine, pid, Step::Socket(kind)),
@@ -97,7 +101,8 @@ pub extern "C" fn jw_socket(alloc: Global, engine: &mut Handle, pid: u32, kind: 
 #[must_use]
 #[unsafe(no_mangle)]
 pub extern "C" fn jw_bind(alloc: Global, engine: &mut Handle, pid: u32, fd: u32, name: &[u8]) -> i64
-    ensures { Calls engine.old.shown (Event.Proc pid (Step.Bind fd name.now)) result engine.new.shown }
+    ensures { Calls engine.old.shown (Event.Proc pid (Step.Bind fd name.now)) result
+        engine.new.shown }
 {
     let Some(mut inside) = engine.take(alloc) else {
         return NO_ENGINE;
@@ -119,7 +124,8 @@ pub extern "C" fn jw_listen(
     fd: u32,
     backlog: u32,
 ) -> i64
-    ensures { Calls engine.old.shown (Event.Proc pid (Step.Listen fd backlog)) result engine.new.shown }
+    ensures { Calls engine.old.shown
+        (Event.Proc pid (Step.Listen fd backlog)) result engine.new.shown }
 {
     let step = Step::Listen {
         on: Fd(fd),
@@ -142,7 +148,8 @@ pub extern "C" fn jw_connect(
     fd: u32,
     name: &[u8],
 ) -> i64
-    ensures { Calls engine.old.shown (Event.Proc pid (Step.Connect fd name.now)) result engine.new.shown }
+    ensures { Calls engine.old.shown (Event.Proc pid (Step.Connect fd name.now)) result
+        engine.new.shown }
 {
     let Some(mut inside) = engine.take(alloc) else {
         return NO_ENGINE;

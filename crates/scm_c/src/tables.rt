@@ -1,5 +1,5 @@
-//! Which file a descriptor refers to, and what it is ready for. None of these changes the engine, or
-//! takes memory.
+//! Which file a descriptor refers to, and what it is ready for. None of these changes the engine,
+//! or takes memory.
 ghost use Rattle.std.specs.Prelude.{◌≡◌, unwrap_or};
 ghost use Rattle.af_base.specs.Places.{table_at};
 ghost use Rattle.scm_c.specs.Calls.{Asks, Tells};
@@ -11,8 +11,8 @@ use af_base::errno::Errno;
 use af_base::names::{Fd, Pid};
 use std::alloc::Global;
 
-/// Writes the inode number of the file that a descriptor refers to, or 0 where the descriptor is not
-/// open or there is no such process. Answers 0.
+/// Writes the inode number of the file that a descriptor refers to, or 0 where the descriptor is
+/// not open or there is no such process. Answers 0.
 #[unsafe(no_mangle)]
 pub extern "C" fn jw_ino(
     alloc: Global,
@@ -22,7 +22,8 @@ pub extern "C" fn jw_ino(
     ino: &mut u64,
 ) -> i64
     ensures same { engine.new.shown ≡ engine.old.shown }
-    ensures value { Tells engine.old.shown (λ m n. n ≡ unwrap_or (table_at m.world pid fd) 0) ino.old result ino.new }
+    ensures value { Tells engine.old.shown
+        (λ m n. n ≡ unwrap_or (table_at m.world pid fd) 0) ino.old result ino.new }
 {
     let Some(inside) = engine.take(alloc) else {
         return NO_ENGINE;
@@ -49,7 +50,8 @@ pub extern "C" fn jw_next_fd(
     ino: &mut u64,
 ) -> i64
     ensures same { engine.new.shown ≡ engine.old.shown }
-    ensures value { Asks engine.old.shown (λ m r n. IsNextOpen m.world pid from ino.old r n) ino.old result ino.new }
+    ensures value { Asks engine.old.shown
+        (λ m r n. IsNextOpen m.world pid from ino.old r n) ino.old result ino.new }
 {
     let Some(inside) = engine.take(alloc) else {
         return NO_ENGINE;
@@ -69,7 +71,8 @@ pub extern "C" fn jw_next_fd(
 #[repr(C)]
 #[derive(Clone, Copy)]
 pub struct Ready {
-    /// Whether a receive of a byte, or an accept, has something to give, or the end to tell (POLLIN).
+    /// Whether a receive of a byte, or an accept, has something to give, or the end to tell
+    /// (POLLIN).
     pub readable: bool,
     /// Whether a send of a byte without descriptors has room (POLLOUT).
     pub writable: bool,
@@ -91,7 +94,8 @@ pub extern "C" fn jw_poll(
     out: &mut Ready,
 ) -> i64
     ensures same { engine.new.shown ≡ engine.old.shown }
-    ensures value { Asks engine.old.shown (λ m r y. IsPolled m.world pid fd out.old r y) out.old result out.new }
+    ensures value { Asks engine.old.shown
+        (λ m r y. IsPolled m.world pid fd out.old r y) out.old result out.new }
 {
     let Some(inside) = engine.take(alloc) else {
         return NO_ENGINE;

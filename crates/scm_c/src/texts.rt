@@ -17,7 +17,8 @@ use std::alloc::Global;
 #[unsafe(no_mangle)]
 pub extern "C" fn jw_name(alloc: Global, engine: &mut Handle, ino: u64, name: &mut [u8]) -> i64
     ensures same { engine.new.shown ≡ engine.old.shown }
-    ensures value { Asks engine.old.shown (λ m r y. IsNameWritten m.world ino name.old r y) name.old result name.new }
+    ensures value { Asks engine.old.shown
+        (λ m r y. IsNameWritten m.world ino name.old r y) name.old result name.new }
 {
     let Some(inside) = engine.take(alloc) else {
         return NO_ENGINE;
@@ -41,7 +42,8 @@ pub extern "C" fn jw_name(alloc: Global, engine: &mut Handle, ino: u64, name: &m
 #[unsafe(no_mangle)]
 pub extern "C" fn jw_graph(alloc: Global, engine: &mut Handle, text: &mut [u8]) -> i64
     ensures same { engine.new.shown ≡ engine.old.shown }
-    ensures value { Asks engine.old.shown (λ m r y. IsPictureWritten m.world text.old r y) text.old result text.new }
+    ensures value { Asks engine.old.shown
+        (λ m r y. IsPictureWritten m.world text.old r y) text.old result text.new }
 {
     let Some(inside) = engine.take(alloc) else {
         return NO_ENGINE;

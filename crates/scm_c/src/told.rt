@@ -1,7 +1,8 @@
 //! The lists of the files that were freed, and of the sockets whose readiness may have changed.
 ghost use Rattle.std.specs.Prelude.{◌≡◌};
 ghost use Rattle.scm_c.specs.Calls.{Asks};
-ghost use Rattle.scm_c.specs.Told.{Alters, MayAlter, IsChangedWritten, IsReleasedWritten, cleared, tells_changed, tells_released};
+ghost use Rattle.scm_c.specs.Told.{Alters, MayAlter, IsChangedWritten, IsReleasedWritten, cleared};
+ghost use Rattle.scm_c.specs.Told.{tells_changed, tells_released};
 ghost use Rattle.scm_c.specs.Written.{over};
 
 use crate::answers::{NO_ENGINE, refusal};
@@ -59,7 +60,8 @@ pub extern "C" fn jw_tell_changed(alloc: Global, engine: &mut Handle) -> i64
 #[unsafe(no_mangle)]
 pub extern "C" fn jw_released(alloc: Global, engine: &mut Handle, inos: &mut [u64]) -> i64
     ensures same { engine.new.shown ≡ engine.old.shown }
-    ensures value { Asks engine.old.shown (λ m r y. IsReleasedWritten m.world m.since inos.old r y) inos.old result inos.new }
+    ensures value { Asks engine.old.shown
+        (λ m r y. IsReleasedWritten m.world m.since inos.old r y) inos.old result inos.new }
 {
     let Some(inside) = engine.take(alloc) else {
         return NO_ENGINE;
@@ -72,15 +74,16 @@ pub extern "C" fn jw_released(alloc: Global, engine: &mut Handle, inos: &mut [u6
 }
 
 /// Writes the inode numbers of the live sockets whose readiness may have changed since the lists
-/// were emptied last, each once, as many as there is room for. Answers the length of the list, which
-/// is 0 before jw_tell_changed. It needs no memory.
+/// were emptied last, each once, as many as there is room for. Answers the length of the list,
+/// which is 0 before jw_tell_changed. It needs no memory.
 ///
 /// For a socket that is not in the list, and whose peer is not, jw_poll writes what it did then.
 #[must_use]
 #[unsafe(no_mangle)]
 pub extern "C" fn jw_changed(alloc: Global, engine: &mut Handle, inos: &mut [u64]) -> i64
     ensures same { engine.new.shown ≡ engine.old.shown }
-    ensures value { Asks engine.old.shown (λ m r y. IsChangedWritten m.world m.since inos.old r y) inos.old result inos.new }
+    ensures value { Asks engine.old.shown
+        (λ m r y. IsChangedWritten m.world m.since inos.old r y) inos.old result inos.new }
 {
     let Some(inside) = engine.take(alloc) else {
         return NO_ENGINE;

@@ -18,7 +18,8 @@ use std::alloc::Global;
 #[unsafe(no_mangle)]
 pub extern "C" fn jw_refs(alloc: Global, engine: &mut Handle, ino: u64, count: &mut u64) -> i64
     ensures same { engine.new.shown ≡ engine.old.shown }
-    ensures value { Tells engine.old.shown (λ m n. n ≡ refs m.world ino) count.old result count.new }
+    ensures value { Tells engine.old.shown
+        (λ m n. n ≡ refs m.world ino) count.old result count.new }
 {
     let Some(inside) = engine.take(alloc) else {
         return NO_ENGINE;
@@ -33,7 +34,8 @@ pub extern "C" fn jw_refs(alloc: Global, engine: &mut Handle, ino: u64, count: &
 #[unsafe(no_mangle)]
 pub extern "C" fn jw_inflight(alloc: Global, engine: &mut Handle, ino: u64, count: &mut u64) -> i64
     ensures same { engine.new.shown ≡ engine.old.shown }
-    ensures value { Tells engine.old.shown (λ m n. n ≡ inflight m.world ino) count.old result count.new }
+    ensures value { Tells engine.old.shown
+        (λ m n. n ≡ inflight m.world ino) count.old result count.new }
 {
     let Some(inside) = engine.take(alloc) else {
         return NO_ENGINE;
@@ -48,7 +50,8 @@ pub extern "C" fn jw_inflight(alloc: Global, engine: &mut Handle, ino: u64, coun
 #[unsafe(no_mangle)]
 pub extern "C" fn jw_charged(alloc: Global, engine: &mut Handle, uid: u32, count: &mut u64) -> i64
     ensures same { engine.new.shown ≡ engine.old.shown }
-    ensures value { Tells engine.old.shown (λ m n. n ≡ charged m.world uid) count.old result count.new }
+    ensures value { Tells engine.old.shown
+        (λ m n. n ≡ charged m.world uid) count.old result count.new }
 {
     let Some(inside) = engine.take(alloc) else {
         return NO_ENGINE;
@@ -76,7 +79,8 @@ pub extern "C" fn jw_total(alloc: Global, engine: &mut Handle, count: &mut u64) 
 #[unsafe(no_mangle)]
 pub extern "C" fn jw_live(alloc: Global, engine: &mut Handle, count: &mut u64) -> i64
     ensures same { engine.new.shown ≡ engine.old.shown }
-    ensures value { Tells engine.old.shown (λ m n. n ≡ map.len m.world.files) count.old result count.new }
+    ensures value { Tells engine.old.shown
+        (λ m n. n ≡ map.len m.world.files) count.old result count.new }
 {
     let Some(inside) = engine.take(alloc) else {
         return NO_ENGINE;
@@ -91,7 +95,8 @@ pub extern "C" fn jw_live(alloc: Global, engine: &mut Handle, count: &mut u64) -
 #[unsafe(no_mangle)]
 pub extern "C" fn jw_next_after(alloc: Global, engine: &mut Handle, ino: u64, next: &mut u64) -> i64
     ensures same { engine.new.shown ≡ engine.old.shown }
-    ensures value { Tells engine.old.shown (λ m n. IsNextLive m.world ino n) next.old result next.new }
+    ensures value { Tells engine.old.shown
+        (λ m n. IsNextLive m.world ino n) next.old result next.new }
 {
     let Some(inside) = engine.take(alloc) else {
         return NO_ENGINE;
@@ -139,7 +144,8 @@ pub struct File {
 #[unsafe(no_mangle)]
 pub extern "C" fn jw_file(alloc: Global, engine: &mut Handle, ino: u64, out: &mut File) -> i64
     ensures same { engine.new.shown ≡ engine.old.shown }
-    ensures value { Tells engine.old.shown (λ m f. f ≡ file_of (shown_of (map.get m.world.files ino))) out.old result out.new }
+    ensures value { Tells engine.old.shown
+        (λ m f. f ≡ file_of (shown_of (map.get m.world.files ino))) out.old result out.new }
 {
     let Some(inside) = engine.take(alloc) else {
         return NO_ENGINE;

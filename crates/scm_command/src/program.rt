@@ -1,8 +1,10 @@
 //! The whole program, over any streams.
-ghost use Rattle.std.specs.Prelude.{◌≡◌, ◌≢◌, ◌≤◌, ◌⊎◌, ℕ, List, IfOk, Some, false, true, map, string_bytes};
+ghost use Rattle.std.specs.Prelude.{◌≡◌, ◌≢◌, ◌≤◌, ◌⊎◌, ℕ, List, IfOk, Some, false, true, map};
+ghost use Rattle.std.specs.Prelude.{string_bytes};
 ghost use Rattle.clap.specs.Words.{kind_of};
 ghost use Rattle.clap.specs.declared.error.kind.ErrorKind.TheVariants.{OutOfMemory};
-ghost use Rattle.scm_command.specs.Program.{Did, RanRace, RanScript, TextOf, WroteNoRace, fault_status};
+ghost use Rattle.scm_command.specs.Program.{Did, RanRace, RanScript, TextOf, WroteNoRace};
+ghost use Rattle.scm_command.specs.Program.{fault_status};
 ghost use Rattle.scm_command.specs.Task.{IsInRange, Names, fits};
 ghost use Rattle.scm_command.specs.declared.task.Task.{Task as Asked};
 ghost use Rattle.scm_command.specs.declared.task.Task.TheVariants as task;
@@ -122,8 +124,10 @@ fn run_race<H: Threads + Wait + Sync, W: Write, E: Write>(
 ) -> u8
     requires race { IsInRange (task.Race race.workers race.steps race.seed race.budget checkpoint) }
     requires output { output.old.has_failed ≡ false }
-    ensures done { result ≡ 0 → RanRace race.workers race.steps race.seed race.budget checkpoint (W.contents output.old.inner) (W.contents output.new.inner) }
-    ensures failed { result ≢ 0 → WroteNoRace output.old.has_failed (W.contents output.old.inner) output.new.has_failed (W.contents output.new.inner) }
+    ensures done { result ≡ 0 → RanRace race.workers race.steps race.seed race.budget checkpoint
+        (W.contents output.old.inner) (W.contents output.new.inner) }
+    ensures failed { result ≢ 0 → WroteNoRace output.old.has_failed (W.contents output.old.inner)
+        output.new.has_failed (W.contents output.new.inner) }
     ensures few { result ≤ 1 }
 {
     let text = match race_lines(rt, alloc, race, checkpoint) {
@@ -150,7 +154,8 @@ fn play_script<R: Read + Drop, W: Write, E: Write>(
     output: &mut W,
     errors: &mut E,
 ) -> u8
-    ensures done { result ≡ 0 → (script : List ℕ) → R.remaining input ≡ Some script → Played style script (W.contents output.old) (W.contents output.new) }
+    ensures done { result ≡ 0 → (script : List ℕ) → R.remaining input ≡ Some script
+        → Played style script (W.contents output.old) (W.contents output.new) }
     ensures few { result ≤ 1 }
 {
     let played = match BufReader::new(alloc, input) {
@@ -205,18 +210,23 @@ pub fn program<H: Threads + Wait + Sync + Files, S: AsStr, R: Read, W: Write, E:
 
     // The status is 0 only where the words name a task, and it was done to its end.
     ensures done { (result ≡ 0) → (asked : Asked) × Names (map S.text words.now) asked
-        × Did asked (R.remaining input.old.inner) (R.remaining input.new.inner) (W.contents output.old.inner) (W.contents output.new.inner) }
+        × Did asked (R.remaining input.old.inner) (R.remaining input.new.inner)
+        (W.contents output.old.inner) (W.contents output.new.inner) }
 
     // Where the words ask for a run, there is one, unless there is no memory to read the words.
     ensures run { fits (map S.text words.now) ≡ true → Names (map S.text words.now) task.Run
         → ((result ≡ 1) × (input.new ≡ input.old) × (output.new ≡ output.old))
-        ⊎ RanScript (R.remaining input.old.inner) (R.remaining input.new.inner) (W.contents output.old.inner) (W.contents output.new.inner) input.new.has_failed output.new.has_failed result }
+        ⊎ RanScript (R.remaining input.old.inner) (R.remaining input.new.inner)
+        (W.contents output.old.inner) (W.contents output.new.inner)
+        input.new.has_failed output.new.has_failed result }
 
     // Where they ask for a race, nothing is read, and the status is 0 or 1: with 1 nothing was
     // written to the output, unless a write failed.
-    ensures race { fits (map S.text words.now) ≡ true → (workers steps seed budget checkpoint : ℕ) → Names (map S.text words.now) (task.Race workers steps seed budget checkpoint)
+    ensures race { fits (map S.text words.now) ≡ true → (workers steps seed budget checkpoint : ℕ)
+        → Names (map S.text words.now) (task.Race workers steps seed budget checkpoint)
         → (input.new ≡ input.old) × (result ≤ 1)
-        × (result ≢ 0 → WroteNoRace output.old.has_failed (W.contents output.old.inner) output.new.has_failed (W.contents output.new.inner)) }
+        × (result ≢ 0 → WroteNoRace output.old.has_failed (W.contents output.old.inner)
+        output.new.has_failed (W.contents output.new.inner)) }
 
     // Where they do not fit the command, or name no task, nothing is read or written but the
     // complaint: the status is 1 or 2.

@@ -1,11 +1,15 @@
 //! The command line.
-ghost use Rattle.std.specs.Prelude.{◌≡◌, ℕ, List, Option, IfNone, IfOk, IfErr, IfSome, codes, false, true, map};
+ghost use Rattle.std.specs.Prelude.{◌≡◌, ℕ, List, Option, IfNone, IfOk, IfErr, IfSome, codes};
+ghost use Rattle.std.specs.Prelude.{false, true, map};
 ghost use Rattle.std.specs.Borrow.{Bor};
 ghost use Rattle.std.specs.Option.{option_map};
-ghost use Rattle.clap.specs.Words.{app_of, first_of, found_of, kind_of, rows_of, rule_of, subcommand_rows_of, with_rule};
+ghost use Rattle.clap.specs.Words.{app_of, first_of, found_of, kind_of, rows_of, rule_of};
+ghost use Rattle.clap.specs.Words.{subcommand_rows_of, with_rule};
 ghost use Rattle.clap.specs.declared.builder.command.Command.TheViews.{out-Command};
 ghost use Rattle.clap.specs.declared.error.kind.ErrorKind.TheVariants.{OutOfMemory};
-ghost use Rattle.scm_command.specs.Task.{HasNumber, IsInRange, IsRace, Names, StandsFor, bare_app, checkpoint_rule, fits, most_steps, number_rule, race_app, play_app, run_app, whole_app};
+ghost use Rattle.scm_command.specs.Task.{HasNumber, IsInRange, IsRace, Names, StandsFor, bare_app};
+ghost use Rattle.scm_command.specs.Task.{checkpoint_rule, fits, most_steps, number_rule, race_app};
+ghost use Rattle.scm_command.specs.Task.{play_app, run_app, whole_app};
 ghost use Rattle.scm_command.specs.declared.task.Task.{Task as Asked};
 
 use af_base::limits::MAX_BUDGET;
@@ -101,7 +105,8 @@ fn with_number<'a>(
     help: &'a str,
 ) -> Result<Command<'a>, AllocError>
     requires { (out-Command command).has_globals ≡ false }
-    ensures shape { IfOk result (λ c. app_of c ≡ with_rule (app_of command.entry) (number_rule name.entry.now least most)) }
+    ensures shape { IfOk result (λ c.
+        app_of c ≡ with_rule (app_of command.entry) (number_rule name.entry.now least most)) }
     ensures local { IfOk result (λ c. (out-Command c).has_globals ≡ false) }
 {
     command.arg(number_option(alloc, name, least, most, help))
@@ -190,7 +195,8 @@ fn whole_command<'a>(alloc: Global) -> Result<Command<'a>, AllocError>
 /// Returns the number of an option, where it has one in this range.
 fn number(matches: &ArgMatches<'_>, name: &str, least: u32, most: u32) -> Option<u32>
     ensures some { IfSome result (HasNumber (rows_of (found_of matches.now)) name.now least most) }
-    ensures none { IfNone result ((n : ℕ) → ¬ (HasNumber (rows_of (found_of matches.now)) name.now least most n)) }
+    ensures none { IfNone result
+        ((n : ℕ) → ¬ (HasNumber (rows_of (found_of matches.now)) name.now least most n)) }
 {
     // `clap` has refused what is out of range.
     match matches.get_one::<u32>(name) {
@@ -230,7 +236,9 @@ fn race_of<'a>(matches: &ArgMatches<'a>) -> Option<Task<'a>>
 
 /// Returns the script that these options ask to play.
 fn play_of<'a>(matches: &ArgMatches<'a>) -> Task<'a>
-    ensures { (file : Option (Bor (List ℕ))) × (result ≡ Asked.Play file) × (option_map (λ path. path.now) file ≡ first_of (codes "FILE") (rows_of (found_of matches.now))) }
+    ensures { (file : Option (Bor (List ℕ))) × (result ≡ Asked.Play file)
+        × (option_map (λ path. path.now) file
+        ≡ first_of (codes "FILE") (rows_of (found_of matches.now))) }
 {
     Task::Play {
         file: matches.get_str("FILE"),
@@ -240,7 +248,8 @@ fn play_of<'a>(matches: &ArgMatches<'a>) -> Task<'a>
 /// Returns the task of the matches' subcommand.
 fn chosen_task<'a>(matches: &ArgMatches<'a>) -> Option<Task<'a>>
     ensures some { IfSome result (StandsFor (subcommand_rows_of matches.now)) }
-    ensures none { IfNone result ((task : Asked) → ¬ (StandsFor (subcommand_rows_of matches.now) task)) }
+    ensures none { IfNone result
+        ((task : Asked) → ¬ (StandsFor (subcommand_rows_of matches.now) task)) }
 {
     match matches.subcommand()? {
         ("run", _) => Some(Task::Run),
@@ -257,8 +266,8 @@ fn task_by<'a, S: AsStr>(command: &mut Command<'a>, words: &'a [S]) -> Result<Ta
     ensures ok { IfOk result (Names (map S.text words.entry.now)) }
     ensures ranges { IfOk result IsInRange }
     ensures fit { IfOk result (λ _. fits (map S.text words.entry.now) ≡ true) }
-    ensures err { IfErr result (λ error. (task : Asked) → fits (map S.text words.entry.now) ≡ true → Names (map S.text words.entry.now) task
-        → kind_of error ≡ OutOfMemory) }
+    ensures err { IfErr result (λ error. (task : Asked) → fits (map S.text words.entry.now) ≡ true
+        → Names (map S.text words.entry.now) task → kind_of error ≡ OutOfMemory) }
 {
     let matches = command.try_get_matches_from_mut(words)?;
     let chosen = chosen_task(&matches);
@@ -283,8 +292,8 @@ pub fn task_of<'a, S: AsStr>(alloc: Global, words: &'a [S]) -> Result<Task<'a>, 
     ensures fit { IfOk result (λ _. fits (map S.text words.entry.now) ≡ true) }
 
     // Where the words fit the command and name a task, only want of memory is an error.
-    ensures err { IfErr result (λ error. (task : Asked) → fits (map S.text words.entry.now) ≡ true → Names (map S.text words.entry.now) task
-        → kind_of error ≡ OutOfMemory) }
+    ensures err { IfErr result (λ error. (task : Asked) → fits (map S.text words.entry.now) ≡ true
+        → Names (map S.text words.entry.now) task → kind_of error ≡ OutOfMemory) }
 {
     let mut command = whole_command(alloc)?;
     let task = task_by(&mut command, words);

@@ -1,6 +1,8 @@
 //! The search for the first word that does not fit in a line that cannot be read.
-ghost use Rattle.std.specs.Prelude.{◌≡◌, ◌≤◌, ◌<◌, ◌+◌, ◌^◌, IfSome, false, length, not, is_none, is_some};
-ghost use Rattle.scm_lines.specs.Fitting.{fits_last, fits_word, fits_words, form_in, has_keyword, has_verb, step_in};
+ghost use Rattle.std.specs.Prelude.{◌≡◌, ◌≤◌, ◌<◌, ◌+◌, ◌^◌, IfSome, false, length, not, is_none};
+ghost use Rattle.std.specs.Prelude.{is_some};
+ghost use Rattle.scm_lines.specs.Fitting.{fits_last, fits_word, fits_words, form_in, has_keyword};
+ghost use Rattle.scm_lines.specs.Fitting.{has_verb, step_in};
 ghost use Rattle.scm_lines.specs.Forms.{line_row, read_form, step_row};
 ghost use Rattle.scm_lines.specs.Keywords.{privilege_of};
 ghost use Rattle.scm_lines.specs.Versions.{read_in};
@@ -211,7 +213,8 @@ fn why_form(version: Version, word: &[u8], rest: &[u8]) -> Option<Misfit>
 fn why_line(version: Version, bytes: &[u8]) -> Option<Misfit>
     requires { length bytes.now ≤ MAX_LINE }
     ensures exact { is_some result ≡ is_none (read_in version bytes.now) }
-    ensures not_printable { IfSome result (λ m. all_printable bytes.now ≡ false → m.reason ≡ reason.NotPrintable) }
+    ensures not_printable { IfSome result (λ m.
+        all_printable bytes.now ≡ false → m.reason ≡ reason.NotPrintable) }
     ensures within { IfSome result (λ m. m.left ≤ length bytes.now) }
 {
     let (word, rest) = first_word(bytes)?;
@@ -233,8 +236,10 @@ fn why_line(version: Version, bytes: &[u8]) -> Option<Misfit>
 pub fn why(version: Version, bytes: &[u8]) -> Option<Unreadable>
     ensures exact { is_some result ≡ is_none (read_in version bytes.now) }
     ensures column { IfSome result (λ u. (1 ≤ u.column) × (u.column ≤ length bytes.now + 1)) }
-    ensures too_long { IfSome result (λ u. MAX_LINE < length bytes.now → u.reason ≡ reason.LineTooLong) }
-    ensures not_printable { IfSome result (λ u. length bytes.now ≤ MAX_LINE → all_printable bytes.now ≡ false → u.reason ≡ reason.NotPrintable) }
+    ensures too_long { IfSome result (λ u.
+        MAX_LINE < length bytes.now → u.reason ≡ reason.LineTooLong) }
+    ensures not_printable { IfSome result (λ u. length bytes.now ≤ MAX_LINE
+        → all_printable bytes.now ≡ false → u.reason ≡ reason.NotPrintable) }
 {
     if bytes.len() > MAX_LINE {
         return Some(Unreadable {

@@ -8,7 +8,8 @@ ghost use Rattle.std.specs.Option.{option_map};
 ghost use Rattle.scm_lines.specs.Fault.{Reads};
 ghost use Rattle.scm_lines.specs.Words.{word_in, words_of};
 ghost use Rattle.scm_lines.specs.Keywords.{privilege_of};
-ghost use Rattle.scm_lines.specs.Forms.{line_row, name, number, read_form, sockets, step_row, two, value_in, value_of};
+ghost use Rattle.scm_lines.specs.Forms.{line_row, name, number, read_form, sockets, step_row, two};
+ghost use Rattle.scm_lines.specs.Forms.{value_in, value_of};
 ghost use Rattle.scm_lines.specs.Lines.{form_of, step_of};
 ghost use Rattle.scm_lines.specs.declared.fault.LineFault.TheVariants as fault;
 ghost use Rattle.scm_lines.specs.declared.keywords.Keyword.TheVariants as keyword;
@@ -31,7 +32,8 @@ use std::alloc::Global;
 
 /// Reads a type of sockets, and returns the bytes after it.
 fn socket_type(bytes: &[u8]) -> Option<(SockType, &[u8])>
-    ensures { option_map (λ found. (found.0, words_of found.1.now)) result ≡ value_in sockets (words_of bytes.now) }
+    ensures { option_map (λ found. (found.0, words_of found.1.now)) result
+        ≡ value_in sockets (words_of bytes.now) }
 {
     let (word, rest) = first_word(bytes)?;
     Some((type_named(word)?, rest))
@@ -294,7 +296,8 @@ fn process(alloc: Global, bytes: &[u8]) -> Result<Step, LineFault>
 
 /// Reads `spawn N N` and `spawn N N priv`.
 fn spawn(rest: &[u8]) -> Option<Event>
-    ensures { option_map line.Event result ≡ read_form (line_row keyword.Spawn).1 (words_of rest.now) }
+    ensures { option_map line.Event result
+        ≡ read_form (line_row keyword.Spawn).1 (words_of rest.now) }
 {
     let (uid, rest) = number_in(rest)?;
     let (nofile, rest) = number_in(rest)?;
@@ -308,7 +311,8 @@ fn spawn(rest: &[u8]) -> Option<Event>
 
 /// Reads `slice N`.
 fn slice(rest: &[u8]) -> Option<Event>
-    ensures { option_map line.Event result ≡ read_form (line_row keyword.Slice).1 (words_of rest.now) }
+    ensures { option_map line.Event result
+        ≡ read_form (line_row keyword.Slice).1 (words_of rest.now) }
 {
     let (budget, rest) = number_in(rest)?;
     is_end(rest).then_some(Event::Slice(budget))

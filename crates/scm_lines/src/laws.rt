@@ -19,10 +19,12 @@ pub fn what_is_said_is_read()
 
 /// A line of version 1 is read the same in any script.
 pub fn version_1_is_read_in_any()
-    ensures { (v : Version) (bytes : List ℕ) (said : Line) → is_of_first said ≡ true → line_of bytes ≡ Some said → read_in v bytes ≡ Some said }
+    ensures { (v : Version) (bytes : List ℕ) (said : Line) → is_of_first said ≡ true
+        → line_of bytes ≡ Some said → read_in v bytes ≡ Some said }
 {}
 
 /// A script of version 1 has no other line.
 pub fn version_1_has_no_other()
-    ensures { (bytes : List ℕ) (said : Line) → read_in version.First bytes ≡ Some said → is_of_first said ≡ true }
+    ensures { (bytes : List ℕ) (said : Line) → read_in version.First bytes ≡ Some said
+        → is_of_first said ≡ true }
 {}

@@ -1,5 +1,6 @@
 //! The reasons why words cannot be read.
-ghost use Rattle.std.specs.Prelude.{◌≡◌, ◌≤◌, ◌<◌, ◌+◌, ◌^◌, ◌∷◌, IfSome, length, not, position, is_none, is_some};
+ghost use Rattle.std.specs.Prelude.{◌≡◌, ◌≤◌, ◌<◌, ◌+◌, ◌^◌, ◌∷◌, IfSome, length, not, position};
+ghost use Rattle.std.specs.Prelude.{is_none, is_some};
 ghost use Rattle.scm_lines.specs.Attached.{attached_of};
 ghost use Rattle.scm_lines.specs.Fitting.{digits_reason, number_reason};
 ghost use Rattle.scm_lines.specs.Keywords.{type_of};

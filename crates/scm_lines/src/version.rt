@@ -1,7 +1,7 @@
 //! The versions of the language.
 //!
-//! A script is of version 2 where its first line that is not silent is `version 2`. Then it may have
-//! `peek` and `limit` besides all lines of version 1.
+//! A script is of version 2 where its first line that is not silent is `version 2`. Then it may
+//! have `peek` and `limit` besides all lines of version 1.
 ghost use Rattle.std.specs.Prelude.{◌≡◌, IfSome, if◌then◌else◌};
 ghost use Rattle.std.specs.Option.{option_map};
 ghost use Rattle.af_base.specs.declared.events.Event.TheVariants as event;

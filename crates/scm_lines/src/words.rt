@@ -1,7 +1,8 @@
 //! The words of a line, which spaces and tabs part.
 ghost use Rattle.std.specs.Prelude.{◌≡◌, ◌∷◌, ◌≤◌, ◌<◌, ◌+◌, [], IfSome, IfNone, length, false};
 ghost use Rattle.std.specs.Option.{option_map};
-ghost use Rattle.scm_lines.specs.Words.{all_printable, is_blank, is_printable, words_of, ends_word, no_words, only_of, StartsWord};
+ghost use Rattle.scm_lines.specs.Words.{all_printable, is_blank, is_printable, words_of, ends_word};
+ghost use Rattle.scm_lines.specs.Words.{no_words, only_of, StartsWord};
 
 /// Returns whether the byte is a space or a tab.
 #[inline(always)]
@@ -56,10 +57,12 @@ fn cut_word(bytes: &[u8]) -> (&[u8], &[u8])
 
 /// Returns the first word, and the bytes after it.
 pub fn first_word(bytes: &[u8]) -> Option<(&[u8], &[u8])>
-    ensures some { IfSome result (λ found. words_of bytes.now ≡ found.0.now ∷ words_of found.1.now) }
+    ensures some { IfSome result (λ found.
+        words_of bytes.now ≡ found.0.now ∷ words_of found.1.now) }
     ensures none { IfNone result (words_of bytes.now ≡ []) }
     ensures shorter { IfSome result (λ found. length found.1.now < length bytes.now) }
-    ensures within { IfSome result (λ found. length found.0.now + length found.1.now ≤ length bytes.now) }
+    ensures within { IfSome result (λ found.
+        length found.0.now + length found.1.now ≤ length bytes.now) }
 {
     let start = without_blanks(bytes);
     if start.is_empty() {

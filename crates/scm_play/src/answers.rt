@@ -45,7 +45,8 @@ pub fn answer_line(
     text: &mut Vec<u8>,
 ) -> Result<(), AllocError>
     ensures ok { OnOk result ((line : List ℕ) × (text.new.items ≡ text.old.items ++ line)
-        × Answers (record { machine = engine.old; version = version.old }) bytes.now line (record { machine = engine.new; version = version.new })) }
+        × Answers (record { machine = engine.old; version = version.old }) bytes.now line
+        (record { machine = engine.new; version = version.new })) }
     ensures err { OnErr result ((engine.new ≡ engine.old) × (version.new ≡ version.old)) }
 {
     match read_in(alloc, *version, bytes) {

@@ -37,8 +37,10 @@ fn write_out<W: Write>(writer: &mut W, bytes: &[u8]) -> Result<(), PlayFault>
 
 /// Reads the next line with its end; none is left where it is empty.
 fn read_line<R: BufRead>(alloc: Global, reader: &mut R) -> Result<Vec<u8>, PlayFault>
-    ensures line { IfOk result (λ line. (input : List ℕ) → R.remaining reader.old ≡ Some input → line.items ≡ take_through 10 input) }
-    ensures rest { OnOk result ((input : List ℕ) → R.remaining reader.old ≡ Some input → R.remaining reader.new ≡ Some (drop_through 10 input)) }
+    ensures line { IfOk result (λ line. (input : List ℕ) → R.remaining reader.old ≡ Some input
+        → line.items ≡ take_through 10 input) }
+    ensures rest { OnOk result ((input : List ℕ) → R.remaining reader.old ≡ Some input
+        → R.remaining reader.new ≡ Some (drop_through 10 input)) }
 {
     let mut line = Vec::new(alloc);
     match reader.read_until(b'\n', &mut line) {
@@ -54,7 +56,8 @@ fn write_prompt<W: Write>(
     number: u64,
     writer: &mut W,
 ) -> Result<(), PlayFault>
-    ensures { OnOk result (Appends (W.contents writer.old) (W.contents writer.new) (prompt_text style number)) }
+    ensures { OnOk result
+        (Appends (W.contents writer.old) (W.contents writer.new) (prompt_text style number)) }
 {
     let text = prompt(alloc, style, number)?;
     write_out(writer, text.as_bytes())
@@ -69,8 +72,10 @@ fn shown_line(
     version: &mut Version,
     line: &[u8],
 ) -> Result<Vec<u8>, AllocError>
-    ensures { IfOk result (λ shown. (answer : List ℕ) × (shown.items ≡ entry_text style number line.now answer)
-        × Answers (record { machine = engine.old; version = version.old }) line.now answer (record { machine = engine.new; version = version.new })) }
+    ensures { IfOk result (λ shown.
+        (answer : List ℕ) × (shown.items ≡ entry_text style number line.now answer)
+        × Answers (record { machine = engine.old; version = version.old }) line.now answer
+        (record { machine = engine.new; version = version.new })) }
 {
     let mut answer = Vec::new(alloc);
     answer_line(alloc, engine, version, line, &mut answer)?;
@@ -88,8 +93,9 @@ fn play_read<W: Write>(
     writer: &mut W,
 ) -> Result<(), PlayFault>
     ensures { OnOk result ((answer : List ℕ)
-        × Answers (record { machine = engine.old; version = version.old }) (line_in read.now) answer (record { machine = engine.new; version = version.new })
-        × Appends (W.contents writer.old) (W.contents writer.new) (entry_text style number (line_in read.now) answer)) }
+        × Answers (record { machine = engine.old; version = version.old }) (line_in read.now) answer
+        (record { machine = engine.new; version = version.new }) × Appends (W.contents writer.old)
+        (W.contents writer.new) (entry_text style number (line_in read.now) answer)) }
 {
     let shown = shown_line(alloc, style, number, engine, version, line_in(read))?;
     write_out(writer, shown.as_slice())
@@ -105,10 +111,14 @@ fn play_line<R: BufRead, W: Write>(
     reader: &mut R,
     writer: &mut W,
 ) -> Result<bool, PlayFault>
-    ensures more { IfOk result (λ more. more ≡ true → (input : List ℕ) → R.remaining reader.old ≡ Some input
-        → Goes style number input (R.remaining reader.new) (W.contents writer.old) (W.contents writer.new) (record { machine = engine.old; version = version.old }) (record { machine = engine.new; version = version.new })) }
-    ensures over { IfOk result (λ more. more ≡ false → (input : List ℕ) → R.remaining reader.old ≡ Some input
-        → IsOver style number input (R.remaining reader.new) (W.contents writer.old) (W.contents writer.new)) }
+    ensures more { IfOk result (λ more.
+        more ≡ true → (input : List ℕ) → R.remaining reader.old ≡ Some input
+        → Goes style number input (R.remaining reader.new) (W.contents writer.old)
+        (W.contents writer.new) (record { machine = engine.old; version = version.old })
+        (record { machine = engine.new; version = version.new })) }
+    ensures over { IfOk result (λ more. more ≡ false
+        → (input : List ℕ) → R.remaining reader.old ≡ Some input → IsOver style number input
+        (R.remaining reader.new) (W.contents writer.old) (W.contents writer.new)) }
 {
     write_prompt(alloc, style, number, writer)?;
     let read = read_line(alloc, reader)?;
@@ -140,8 +150,10 @@ pub fn play<R: BufRead, W: Write>(
     writer: &mut W,
 ) -> Result<(), PlayFault>
     // The input was played to its end, and what was written is what is shown of its lines.
-    ensures done { OnOk result ((input : List ℕ) → R.remaining reader.old ≡ Some input → Played style input (W.contents writer.old) (W.contents writer.new)) }
-    ensures ended { OnOk result ((input : List ℕ) → R.remaining reader.old ≡ Some input → R.remaining reader.new ≡ Some []) }
+    ensures done { OnOk result ((input : List ℕ) → R.remaining reader.old ≡ Some input
+        → Played style input (W.contents writer.old) (W.contents writer.new)) }
+    ensures ended { OnOk result ((input : List ℕ) → R.remaining reader.old ≡ Some input
+        → R.remaining reader.new ≡ Some []) }
 {
     let mut engine = Engine::new(alloc)?;
     let mut version = Version::Unknown;

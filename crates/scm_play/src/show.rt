@@ -1,6 +1,8 @@
 //! The layout of lines and their answers.
-ghost use Rattle.std.specs.Prelude.{◌≡◌, ◌-◌, ◌<◌, ◌==◌, ◌++◌, IfOk, IfSome, OnOk, position, codes, length, map, replicate, string_bytes};
-ghost use Rattle.scm_play.specs.Shown.{beside, entry_text, is_one_line, number_text, prompt_text, shown_byte};
+ghost use Rattle.std.specs.Prelude.{◌≡◌, ◌-◌, ◌<◌, ◌==◌, ◌++◌, IfOk, IfSome, OnOk, position, codes};
+ghost use Rattle.std.specs.Prelude.{length, map, replicate, string_bytes};
+ghost use Rattle.scm_play.specs.Shown.{beside, entry_text, is_one_line, number_text, prompt_text};
+ghost use Rattle.scm_play.specs.Shown.{shown_byte};
 
 use std::alloc::{AllocError, Global};
 

@@ -1,8 +1,8 @@
 //! A race: workers on one layer, each with a script of its own, and a collector beside them.
 //!
-//! A caller wants [`Race::run`]. It starts a process for each worker, lets all threads work, lets the
-//! children exit that the workers forked, ends the pass that runs, makes a last one over all that is
-//! left, and closes the layer with its audit.
+//! A caller wants [`Race::run`]. It starts a process for each worker, lets all threads work, lets
+//! the children exit that the workers forked, ends the pass that runs, makes a last one over all
+//! that is left, and closes the layer with its audit.
 #![tactic(auto)]
 
 mod fault;

@@ -48,9 +48,9 @@ impl LongRace {
     /// Races from checkpoint to checkpoint, and audits each log.
     ///
     /// It is a race as that of [`Race::run`]. But at a checkpoint all workers and the collector are
-    /// back, and the log is audited against all lists; then log and lists are empty. Before that the
-    /// children exit that the workers forked, and the pass that runs is ended. All logs put together
-    /// are one legal log, with all scripts whole.
+    /// back, and the log is audited against all lists; then log and lists are empty. Before that
+    /// the children exit that the workers forked, and the pass that runs is ended. All logs put
+    /// together are one legal log, with all scripts whole.
     ///
     /// `Memory` says that memory was refused, `Failed` is any other fault, as in [`Race::run`].
     pub fn run<R: Threads + Wait + Sync>(self, rt: &R, alloc: Global) -> Result<Tally, RaceFault>

@@ -3,7 +3,8 @@ ghost use Rattle.std.specs.Prelude.{◌≡◌, ◌≤◌, ◌+◌, ℕ, [], IfOk
 ghost use Rattle.std.specs.FinMap as finmap;
 ghost use Rattle.af_layer.specs.Audit.{AreEmptied, IsWhole};
 ghost use Rattle.af_layer.specs.Log.{IsLegalFrom, Logged};
-ghost use Rattle.scm_race.specs.Parts.{AreFresh, GoesOn, IsOfEnd, IsOfPart, IsOfStart, IsPart, SeatsHave, taken};
+ghost use Rattle.scm_race.specs.Parts.{AreFresh, GoesOn, IsOfEnd, IsOfPart, IsOfStart, IsPart};
+ghost use Rattle.scm_race.specs.Parts.{SeatsHave, taken};
 ghost use Rattle.scm_race.specs.Race.{worker_steps};
 ghost use Rattle.scm_race.specs.declared.workload.table.TheConstants.{MAX_WORKERS};
 

@@ -1,5 +1,6 @@
 //! The race itself.
-ghost use Rattle.std.specs.Prelude.{◌≡◌, ◌<◌, ◌≤◌, ◌+◌, ◌*◌, ℕ, [], IfOk, OnOk, slice_index_or, vec_len};
+ghost use Rattle.std.specs.Prelude.{◌≡◌, ◌<◌, ◌≤◌, ◌+◌, ◌*◌, ℕ, [], IfOk, OnOk, slice_index_or};
+ghost use Rattle.std.specs.Prelude.{vec_len};
 ghost use Rattle.af_layer.specs.Audit.{IsWhole};
 ghost use Rattle.af_layer.specs.Drive.{Driven, Made};
 ghost use Rattle.af_layer.specs.Log.{IsLegal, Logged};

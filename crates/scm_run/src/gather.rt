@@ -1,5 +1,6 @@
 //! The text of lines that were done, gathered until it is written.
-ghost use Rattle.std.specs.Prelude.{◌≡◌, ℕ, ◌≤◌, ◌+◌, [], Err, IfErr, OnOk, OnErr, vec_capacity, vec_len, false, is_err};
+ghost use Rattle.std.specs.Prelude.{◌≡◌, ℕ, ◌≤◌, ◌+◌, [], Err, IfErr, OnOk, OnErr, vec_capacity};
+ghost use Rattle.std.specs.Prelude.{vec_len, false, is_err};
 ghost use Rattle.std.specs.Io.KnownBytes.{Appends};
 ghost use Rattle.scm_run.specs.Watched.{AppendsFront};
 ghost use Rattle.scm_run.specs.Gather.{MoveStops, Moves, Settles};
@@ -18,9 +19,11 @@ const GATHERED: usize = 65_536;
 /// Writes what is gathered.
 pub fn write_out<W: Write>(text: &mut Vec<u8>, writer: &mut Watched<W>) -> Result<(), WriteFailed>
     requires { writer.old.has_failed ≡ false }
-    ensures ok { OnOk result (Appends (W.contents writer.old.inner) (W.contents writer.new.inner) (text.old.items)) }
+    ensures ok { OnOk result
+        (Appends (W.contents writer.old.inner) (W.contents writer.new.inner) (text.old.items)) }
     ensures empty { OnOk result (text.new.items ≡ []) }
-    ensures err { OnErr result (AppendsFront (W.contents writer.old.inner) (W.contents writer.new.inner) (text.old.items)) }
+    ensures err { OnErr result (AppendsFront (W.contents writer.old.inner)
+        (W.contents writer.new.inner) (text.old.items)) }
     ensures failed { writer.new.has_failed ≡ is_err result }
 {
     write_whole(writer, text.as_slice())?;
@@ -33,9 +36,11 @@ pub fn write_out<W: Write>(text: &mut Vec<u8>, writer: &mut Watched<W>) -> Resul
 /// Room is taken once in a run: it grows only for a long report.
 pub fn make_room<W: Write>(text: &mut Vec<u8>, writer: &mut Watched<W>) -> Result<(), RunFault>
     requires { writer.old.has_failed ≡ false }
-    ensures ok { OnOk result (Moves text.old.items text.new.items (W.contents writer.old.inner) (W.contents writer.new.inner)) }
+    ensures ok { OnOk result (Moves text.old.items text.new.items (W.contents writer.old.inner)
+        (W.contents writer.new.inner)) }
     ensures room { OnOk result (vec_len text.new + MAX_REPLY_LINE ≤ vec_capacity text.new) }
-    ensures err { IfErr result (MoveStops text.old.items text.new.items (W.contents writer.old.inner) (W.contents writer.new.inner)) }
+    ensures err { IfErr result (MoveStops text.old.items text.new.items
+        (W.contents writer.old.inner) (W.contents writer.new.inner)) }
     ensures write { writer.new.has_failed ≡ is_write_fault result }
     ensures no_read { is_read_fault result ≡ false }
 {
@@ -50,9 +55,11 @@ pub fn make_room<W: Write>(text: &mut Vec<u8>, writer: &mut Watched<W>) -> Resul
 /// writer's fault. After a fault of the writer nothing more is written.
 pub fn settle<W: Write>(text: &mut Vec<u8>, fault: RunFault, writer: &mut Watched<W>) -> RunFault
     requires { writer.old.has_failed ≡ is_write_fault {A = ℕ} (Err fault) }
-    ensures settles { Settles fault result text.old.items (W.contents writer.old.inner) (W.contents writer.new.inner) }
+    ensures settles { Settles fault result text.old.items (W.contents writer.old.inner)
+        (W.contents writer.new.inner) }
     ensures write { writer.new.has_failed ≡ is_write_fault {A = ℕ} (Err result) }
-    ensures no_read { is_read_fault {A = ℕ} (Err fault) ≡ false → is_read_fault {A = ℕ} (Err result) ≡ false }
+    ensures no_read { is_read_fault {A = ℕ} (Err fault) ≡ false
+        → is_read_fault {A = ℕ} (Err result) ≡ false }
 {
     if fault == RunFault::Write {
         return fault;

@@ -1,5 +1,6 @@
 //! One line of a script: read, done, and its text gathered.
-ghost use Rattle.std.specs.Prelude.{◌≡◌, ◌≤◌, ◌+◌, ◌++◌, ◌⊎◌, List, ℕ, IfOk, IfErr, vec_capacity, vec_len, false};
+ghost use Rattle.std.specs.Prelude.{◌≡◌, ◌≤◌, ◌+◌, ◌++◌, ◌⊎◌, List, ℕ, IfOk, IfErr, vec_capacity};
+ghost use Rattle.std.specs.Prelude.{vec_len, false};
 ghost use Rattle.af_base.specs.declared.errno.Errno.TheVariants.{ENOMEM};
 ghost use Rattle.af_base.specs.declared.events.Reply.TheVariants as reply;
 ghost use Rattle.scm_run.specs.Report.{IsReportText};
@@ -51,7 +52,8 @@ fn answer_report(alloc: Global, engine: &Engine, report: Report, text: &mut Vec<
 /// There is room for the text of any reply before the step, so a step that was done has its text.
 pub fn answer(alloc: Global, engine: &mut Engine, says: Line, text: &mut Vec<u8>) -> u64
     requires { vec_len text.old + MAX_REPLY_LINE ≤ vec_capacity text.old }
-    ensures does { (line : List ℕ) × (text.new.items ≡ text.old.items ++ line) × Does engine.old says result line engine.new }
+    ensures does { (line : List ℕ) × (text.new.items ≡ text.old.items ++ line)
+        × Does engine.old says result line engine.new }
     ensures few { result ≤ 1 }
 {
     match says {
@@ -131,8 +133,12 @@ pub fn do_line<W: Write>(
     writer: &mut Watched<W>,
 ) -> Result<u64, RunFault>
     requires { writer.old.has_failed ≡ false }
-    ensures ok { IfOk result (λ events. LineDone (record { machine = engine.old; version = version.old }) bytes.now text.old.items text.new.items (W.contents writer.old.inner) (W.contents writer.new.inner) events (record { machine = engine.new; version = version.new })) }
-    ensures err { IfErr result (LineStops version.old bytes.now number text.old.items text.new.items (W.contents writer.old.inner) (W.contents writer.new.inner)) }
+    ensures ok { IfOk result (λ events.
+        LineDone (record { machine = engine.old; version = version.old }) bytes.now text.old.items
+        text.new.items (W.contents writer.old.inner) (W.contents writer.new.inner) events
+        (record { machine = engine.new; version = version.new })) }
+    ensures err { IfErr result (LineStops version.old bytes.now number text.old.items text.new.items
+        (W.contents writer.old.inner) (W.contents writer.new.inner)) }
     ensures few { IfOk result (λ events. events ≤ 1) }
     ensures write { writer.new.has_failed ≡ is_write_fault result }
     ensures no_read { is_read_fault result ≡ false }

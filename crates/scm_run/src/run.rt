@@ -1,8 +1,11 @@
 //! The run of a script, from a reader to a writer.
-ghost use Rattle.std.specs.Prelude.{◌≡◌, ◌<◌, ℕ, List, [], ◌++◌, Option, length, OnOk, IfOk, IfErr, false};
+ghost use Rattle.std.specs.Prelude.{◌≡◌, ◌<◌, ℕ, List, [], ◌++◌, Option, length, OnOk, IfOk, IfErr};
+ghost use Rattle.std.specs.Prelude.{false};
 ghost use Rattle.std.specs.Str.Lines.{lines, strip_carriage_return};
-ghost use Rattle.scm_run.specs.Progress.{FaultIn, Halts, Ran, RanAll, Stopped, TooLong, Took, may_fit, nothing_read};
-ghost use Rattle.scm_run.specs.Script.{FaultAt, NoFeed, RanToEnd, StopsBy, Wrote, ended_by_feed, is_read_fault, is_write_fault};
+ghost use Rattle.scm_run.specs.Progress.{FaultIn, Halts, Ran, RanAll, Stopped, TooLong, Took};
+ghost use Rattle.scm_run.specs.Progress.{may_fit, nothing_read};
+ghost use Rattle.scm_run.specs.Script.{FaultAt, NoFeed, RanToEnd, StopsBy, Wrote, ended_by_feed};
+ghost use Rattle.scm_run.specs.Script.{is_read_fault, is_write_fault};
 
 use crate::fault::RunFault;
 use crate::gather::{settle, write_out};
@@ -43,7 +46,13 @@ impl Model for Run {
 
     ghost coded = { Prim.hlevel (codes, map.code) };
 
-    ghost view = { λ r. record { point = record { machine = r.engine; version = r.version }; pending = r.pending.items; gathered = r.text.items; events = r.events; done = r.done } };
+    ghost view = { λ r. record {
+      point = record { machine = r.engine; version = r.version };
+      pending = r.pending.items;
+      gathered = r.text.items;
+      events = r.events;
+      done = r.done;
+    } };
 
     ghost invariant = { λ r. r.events ≤ r.done };
 }
@@ -60,7 +69,8 @@ pub fn without_return(bytes: &[u8]) -> &[u8]
 
 /// Appends bytes to a line that was begun; none is begun where it is empty.
 fn append_to_pending(line: &mut Vec<u8>, bytes: &[u8]) -> Result<(), AllocError>
-    ensures begun { OnOk result (0 < length line.old.items → line.new.items ≡ line.old.items ++ bytes.now) }
+    ensures begun { OnOk result
+        (0 < length line.old.items → line.new.items ≡ line.old.items ++ bytes.now) }
     ensures empty { line.old.items ≡ [] → line.new.items ≡ [] }
 {
     if line.is_empty() {
@@ -110,8 +120,10 @@ impl Run {
     ) -> Result<(), RunFault>
         requires failed { writer.old.has_failed ≡ false }
         requires feed { NoFeed back.now }
-        ensures ok { OnOk result (Took (ended_by_feed back.now) (W.contents writer.old.inner) self.old (W.contents writer.new.inner) self.new) }
-        ensures err { IfErr result (Stopped (ended_by_feed back.now) (W.contents writer.old.inner) self.old (W.contents writer.new.inner) self.new) }
+        ensures ok { OnOk result (Took (ended_by_feed back.now)
+            (W.contents writer.old.inner) self.old (W.contents writer.new.inner) self.new) }
+        ensures err { IfErr result (Stopped (ended_by_feed back.now)
+            (W.contents writer.old.inner) self.old (W.contents writer.new.inner) self.new) }
         ensures write { writer.new.has_failed ≡ is_write_fault result }
         ensures no_read { is_read_fault result ≡ false }
     {
@@ -136,9 +148,10 @@ impl Run {
     /// Keeps bytes whose line feed was not read yet, unless their line is too long already.
     fn keep(&mut self, bytes: &[u8]) -> Result<(), RunFault>
         requires { NoFeed bytes.now }
-        ensures ok { OnOk result ((taken : List ℕ) (before after : Option (List ℕ)) → Ran taken before after self.old
-            → Ran (taken ++ bytes.now) before after self.new) }
-        ensures err { IfErr result (λ f. (taken : List ℕ) (before after : Option (List ℕ)) → Ran taken before after self.old
+        ensures ok { OnOk result ((taken : List ℕ) (before after : Option (List ℕ))
+            → Ran taken before after self.old → Ran (taken ++ bytes.now) before after self.new) }
+        ensures err { IfErr result (λ f.
+            (taken : List ℕ) (before after : Option (List ℕ)) → Ran taken before after self.old
             → Halts (FaultIn (taken ++ bytes.now) before) before after self.new.gathered f) }
         ensures no_write { is_write_fault result ≡ false }
         ensures no_read { is_read_fault result ≡ false }
@@ -169,8 +182,10 @@ impl Run {
         writer: &mut Watched<W>,
     ) -> Result<(), RunFault>
         requires { writer.old.has_failed ≡ false }
-        ensures ok { OnOk result (Took bytes.now (W.contents writer.old.inner) self.old (W.contents writer.new.inner) self.new) }
-        ensures err { IfErr result (Stopped bytes.now (W.contents writer.old.inner) self.old (W.contents writer.new.inner) self.new) }
+        ensures ok { OnOk result (Took bytes.now (W.contents writer.old.inner) self.old
+            (W.contents writer.new.inner) self.new) }
+        ensures err { IfErr result (Stopped bytes.now (W.contents writer.old.inner) self.old
+            (W.contents writer.new.inner) self.new) }
         ensures write { writer.new.has_failed ≡ is_write_fault result }
         ensures no_read { is_read_fault result ≡ false }
     {
@@ -191,10 +206,13 @@ impl Run {
         writer: &mut Watched<W>,
     ) -> Result<(), RunFault>
         requires { writer.old.has_failed ≡ false }
-        ensures ok { OnOk result ((taken : List ℕ) (before : Option (List ℕ)) → Ran taken before (W.contents writer.old.inner) self.old
+        ensures ok { OnOk result ((taken : List ℕ) (before : Option (List ℕ))
+            → Ran taken before (W.contents writer.old.inner) self.old
             → RanAll taken before (W.contents writer.new.inner) self.new) }
-        ensures err { IfErr result (λ f. (taken : List ℕ) (before : Option (List ℕ)) → Ran taken before (W.contents writer.old.inner) self.old
-            → Halts (FaultAt taken before) before (W.contents writer.new.inner) self.new.gathered f) }
+        ensures err { IfErr result (λ f. (taken : List ℕ) (before : Option (List ℕ))
+            → Ran taken before (W.contents writer.old.inner) self.old
+            → Halts (FaultAt taken before) before (W.contents writer.new.inner)
+            self.new.gathered f) }
         ensures write { writer.new.has_failed ≡ is_write_fault result }
         ensures no_read { is_read_fault result ≡ false }
     {
@@ -224,9 +242,11 @@ impl Run {
         writer: &mut Watched<W>,
     ) -> Result<(), RunFault>
         requires { writer.old.has_failed ≡ false }
-        ensures ok { OnOk result (Took chunk.now (W.contents writer.old.inner) self.old (W.contents writer.new.inner) self.new) }
+        ensures ok { OnOk result (Took chunk.now (W.contents writer.old.inner) self.old
+            (W.contents writer.new.inner) self.new) }
         ensures out { OnOk result (self.new.gathered ≡ []) }
-        ensures err { IfErr result (λ f. (taken : List ℕ) (before : Option (List ℕ)) → Ran taken before (W.contents writer.old.inner) self.old
+        ensures err { IfErr result (λ f. (taken : List ℕ) (before : Option (List ℕ))
+            → Ran taken before (W.contents writer.old.inner) self.old
             → FaultIn (taken ++ chunk.now) before (W.contents writer.new.inner) f) }
         ensures write { writer.new.has_failed ≡ is_write_fault result }
         ensures no_read { is_read_fault result ≡ false }
@@ -241,9 +261,11 @@ impl Run {
     /// in all.
     fn finish<W: Write>(&mut self, alloc: Global, writer: &mut Watched<W>) -> Result<u64, RunFault>
         requires { writer.old.has_failed ≡ false }
-        ensures ok { IfOk result (λ n. (taken : List ℕ) (before : Option (List ℕ)) → Ran taken before (W.contents writer.old.inner) self.old
+        ensures ok { IfOk result (λ n. (taken : List ℕ) (before : Option (List ℕ))
+            → Ran taken before (W.contents writer.old.inner) self.old
             → Wrote (lines taken) n before (W.contents writer.new.inner)) }
-        ensures err { IfErr result (λ f. (taken : List ℕ) (before : Option (List ℕ)) → Ran taken before (W.contents writer.old.inner) self.old
+        ensures err { IfErr result (λ f. (taken : List ℕ) (before : Option (List ℕ))
+            → Ran taken before (W.contents writer.old.inner) self.old
             → FaultAt taken before (W.contents writer.new.inner) f) }
         ensures write { writer.new.has_failed ≡ is_write_fault result }
         ensures no_read { is_read_fault result ≡ false }
@@ -269,8 +291,12 @@ impl Run {
         requires fresh { self.old ≡ nothing_read }
         requires reader { reader.old.has_failed ≡ false }
         requires writer { writer.old.has_failed ≡ false }
-        ensures done { IfOk result (RanToEnd (R.remaining reader.old.inner) (R.remaining reader.new.inner) (W.contents writer.old.inner) (W.contents writer.new.inner)) }
-        ensures stopped { IfErr result (StopsBy (R.remaining reader.old.inner) (R.remaining reader.new.inner) (W.contents writer.old.inner) (W.contents writer.new.inner)) }
+        ensures done { IfOk result
+            (RanToEnd (R.remaining reader.old.inner) (R.remaining reader.new.inner)
+            (W.contents writer.old.inner) (W.contents writer.new.inner)) }
+        ensures stopped { IfErr result
+            (StopsBy (R.remaining reader.old.inner) (R.remaining reader.new.inner)
+            (W.contents writer.old.inner) (W.contents writer.new.inner)) }
         ensures read { reader.new.has_failed ≡ is_read_fault result }
         ensures write { writer.new.has_failed ≡ is_write_fault result }
     {
@@ -307,11 +333,15 @@ pub fn run_script<R: Read, W: Write>(
 
     // The script was read to its end, every line can be read, and what was written is the text of
     // a run of its lines.
-    ensures done { IfOk result (RanToEnd (R.remaining reader.old.inner) (R.remaining reader.new.inner) (W.contents writer.old.inner) (W.contents writer.new.inner)) }
+    ensures done { IfOk result
+        (RanToEnd (R.remaining reader.old.inner) (R.remaining reader.new.inner)
+        (W.contents writer.old.inner) (W.contents writer.new.inner)) }
 
     // Otherwise it is the text of the lines before the fault, or a beginning of it where writing
     // failed.
-    ensures stopped { IfErr result (StopsBy (R.remaining reader.old.inner) (R.remaining reader.new.inner) (W.contents writer.old.inner) (W.contents writer.new.inner)) }
+    ensures stopped { IfErr result
+        (StopsBy (R.remaining reader.old.inner) (R.remaining reader.new.inner)
+        (W.contents writer.old.inner) (W.contents writer.new.inner)) }
 
     // Each stream's fault is answered exactly where it has failed then.
     ensures read { reader.new.has_failed ≡ is_read_fault result }

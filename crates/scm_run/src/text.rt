@@ -1,7 +1,9 @@
 //! The text of replies.
-ghost use Rattle.std.specs.Prelude.{◌≡◌, ◌<◌, ◌≤◌, ◌+◌, ◌*◌, ◌++◌, OnOk, OnErr, decimal, length, vec_capacity, vec_len};
+ghost use Rattle.std.specs.Prelude.{◌≡◌, ◌<◌, ◌≤◌, ◌+◌, ◌*◌, ◌++◌, OnOk, OnErr, decimal, length};
+ghost use Rattle.std.specs.Prelude.{vec_capacity, vec_len};
 ghost use Rattle.std.specs.List.{flat_map};
-ghost use Rattle.scm_run.specs.Text.{IsShort, all_plain, is_plain, hex_digit, escaped, spaced, fds_text, flag_text, got_text, reply_line, reply_text};
+ghost use Rattle.scm_run.specs.Text.{IsShort, all_plain, is_plain, hex_digit, escaped, spaced};
+ghost use Rattle.scm_run.specs.Text.{fds_text, flag_text, got_text, reply_line, reply_text};
 
 use af_base::events::Reply;
 use af_base::limits::{MAX_BYTES, SCM_MAX_FD};
@@ -127,7 +129,8 @@ fn push_named(text: &mut Vec<u8>, word: &str, number: u64) -> Result<(), AllocEr
     ensures bytes { OnOk result (text.new.items ≡ text.old.items ++ word.now ++ decimal number) }
     ensures most { OnOk result (vec_len text.new ≤ vec_len text.old + (length word.now + 20)) }
     ensures room { vec_capacity text.old ≤ vec_capacity text.new }
-    ensures full { OnErr result (vec_capacity text.old < vec_len text.old + (length word.now + 20)) }
+    ensures full { OnErr result
+        (vec_capacity text.old < vec_len text.old + (length word.now + 20)) }
 {
     push_word(text, word)?;
     // Most numbers have one digit.
@@ -157,7 +160,8 @@ fn push_fds(text: &mut Vec<u8>, fds: &[Fd]) -> Result<(), AllocError>
     ensures bytes { OnOk result (text.new.items ≡ text.old.items ++ fds_text fds.now) }
     ensures most { OnOk result (vec_len text.new ≤ vec_len text.old + (4 + 21 * length fds.now)) }
     ensures room { vec_capacity text.old ≤ vec_capacity text.new }
-    ensures full { OnErr result (vec_capacity text.old < vec_len text.old + (4 + 21 * length fds.now)) }
+    ensures full { OnErr result
+        (vec_capacity text.old < vec_len text.old + (4 + 21 * length fds.now)) }
 {
     if fds.is_empty() {
         return Ok(());
@@ -188,10 +192,13 @@ fn push_got(
     trunc: bool,
     ctrunc: bool,
 ) -> Result<(), AllocError>
-    ensures bytes { OnOk result (text.new.items ≡ text.old.items ++ got_text bytes.now fds.now trunc ctrunc) }
-    ensures most { OnOk result (vec_len text.new ≤ vec_len text.old + (3 * length bytes.now + 21 * length fds.now + 21)) }
+    ensures bytes { OnOk result
+        (text.new.items ≡ text.old.items ++ got_text bytes.now fds.now trunc ctrunc) }
+    ensures most { OnOk result
+        (vec_len text.new ≤ vec_len text.old + (3 * length bytes.now + 21 * length fds.now + 21)) }
     ensures room { vec_capacity text.old ≤ vec_capacity text.new }
-    ensures full { OnErr result (vec_capacity text.old < vec_len text.old + (3 * length bytes.now + 21 * length fds.now + 21)) }
+    ensures full { OnErr result (vec_capacity text.old
+        < vec_len text.old + (3 * length bytes.now + 21 * length fds.now + 21)) }
 {
     push_word(text, "got ")?;
     push_bytes(text, bytes)?;
@@ -204,9 +211,11 @@ fn push_got(
 #[inline(always)]
 fn push_text(text: &mut Vec<u8>, reply: &Reply) -> Result<(), AllocError>
     ensures bytes { OnOk result (text.new.items ≡ text.old.items ++ reply_text reply.now) }
-    ensures most { OnOk result (IsShort reply.now → vec_len text.new < vec_len text.old + MAX_REPLY_LINE) }
+    ensures most { OnOk result
+        (IsShort reply.now → vec_len text.new < vec_len text.old + MAX_REPLY_LINE) }
     ensures room { vec_capacity text.old ≤ vec_capacity text.new }
-    ensures full { OnErr result (IsShort reply.now → vec_capacity text.old < vec_len text.old + MAX_REPLY_LINE) }
+    ensures full { OnErr result
+        (IsShort reply.now → vec_capacity text.old < vec_len text.old + MAX_REPLY_LINE) }
 {
     match reply {
         Reply::Pid(pid) => push_named(text, "pid ", u64::from(pid.0)),
@@ -242,7 +251,8 @@ fn push_text(text: &mut Vec<u8>, reply: &Reply) -> Result<(), AllocError>
 #[tactic(auto, unfolding(crate::specs::Text::reply_line))]
 pub fn push_reply(text: &mut Vec<u8>, reply: &Reply) -> Result<(), AllocError>
     ensures bytes { OnOk result (text.new.items ≡ text.old.items ++ reply_line reply.now) }
-    ensures full { OnErr result (IsShort reply.now → vec_capacity text.old < vec_len text.old + MAX_REPLY_LINE) }
+    ensures full { OnErr result
+        (IsShort reply.now → vec_capacity text.old < vec_len text.old + MAX_REPLY_LINE) }
 {
     push_text(text, reply)?;
     text.push(b'\n')?;

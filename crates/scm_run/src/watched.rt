@@ -56,7 +56,8 @@ impl<R: Read> Read for Watched<R> {
 
     fn read(&mut self, buf: &mut [u8]) -> io::Result<usize>
         ensures bound { ReadsAtMost result buf.new }
-        ensures bytes { ReadConsumes (R.remaining self.old.inner) (R.remaining self.new.inner) result buf.new }
+        ensures bytes { ReadConsumes (R.remaining self.old.inner)
+            (R.remaining self.new.inner) result buf.new }
         ensures failed { self.new.has_failed ≡ (self.old.has_failed || is_failed_read result) }
     {
         let answer = self.inner.read(buf);
@@ -72,8 +73,10 @@ impl<W: Write> Write for Watched<W> {
 
     fn write(&mut self, buf: &[u8]) -> io::Result<usize>
         ensures bound { WritesAtMost result buf.now }
-        ensures bytes { WriteAppends (W.contents self.old.inner) (W.contents self.new.inner) result buf.now }
-        ensures failed { self.new.has_failed ≡ (self.old.has_failed || is_failed_write result buf.now) }
+        ensures bytes { WriteAppends (W.contents self.old.inner)
+            (W.contents self.new.inner) result buf.now }
+        ensures failed { self.new.has_failed
+            ≡ (self.old.has_failed || is_failed_write result buf.now) }
     {
         let answer = self.inner.write(buf);
         match &answer {

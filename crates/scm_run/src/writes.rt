@@ -19,9 +19,11 @@ pub struct WriteFailed;
 /// it does not try an interrupted write again.
 pub fn write_whole<W: Write>(writer: &mut Watched<W>, bytes: &[u8]) -> Result<(), WriteFailed>
     requires { writer.old.has_failed ≡ false }
-    ensures ok { OnOk result (Appends (W.contents writer.old.inner) (W.contents writer.new.inner) bytes.now) }
+    ensures ok { OnOk result
+        (Appends (W.contents writer.old.inner) (W.contents writer.new.inner) bytes.now) }
     ensures ok_not_failed { OnOk result (writer.new.has_failed ≡ false) }
-    ensures err { OnErr result (AppendsFront (W.contents writer.old.inner) (W.contents writer.new.inner) bytes.now) }
+    ensures err { OnErr result
+        (AppendsFront (W.contents writer.old.inner) (W.contents writer.new.inner) bytes.now) }
     ensures err_failed { OnErr result (writer.new.has_failed ≡ true) }
 {
     let mut rest = bytes;

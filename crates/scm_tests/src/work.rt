@@ -133,8 +133,8 @@ fn drawn_script(rt: HostRuntime) -> Result<(), Fail> {
     Ok(())
 }
 
-/// One allocation refused, the Nth: `tools/stress` refuses each in turn. The script has each kind: its
-/// events, a name, the bytes of a send and its numbers.
+/// One allocation refused, the Nth: `tools/stress` refuses each in turn. The script has each kind:
+/// its events, a name, the bytes of a send and its numbers.
 #[test]
 fn one_refused(rt: HostRuntime) {
     if make_script(rt.alloc(), 2, 4, 9, 8).is_err() {

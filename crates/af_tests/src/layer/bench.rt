@@ -1,5 +1,5 @@
-//! Events and scripts, a gate that is always open, calls from seats that are lent, and what becomes of
-//! a layer.
+//! Events and scripts, a gate that is always open, calls from seats that are lent, and what becomes
+//! of a layer.
 ghost use Rattle.std.specs.Thread.{IsSync};
 
 use af_base::events::{Event, SockType, Step};
@@ -78,7 +78,8 @@ pub fn scripts(alloc: Global, count: u32, turns: u32) -> Result<Vec<Vec<Event>>,
     Ok(scripts)
 }
 
-/// So many processes start from this seat. A test looks at what that left, so this promises nothing.
+/// So many processes start from this seat. A test looks at what that left, so this promises
+/// nothing.
 pub fn spawn_from<R: Wait>(rt: &R, layer: &Layer, seat: &mut Seat, processes: u32) -> bool {
     for _ in 0..processes {
         if layer.call(rt, seat, spawn()).is_err() {
@@ -128,8 +129,9 @@ pub fn end(layer: Layer, seats: Vec<Seat>) -> Outcome {
 
 /// The use of a layer by a test.
 pub trait Play {
-    /// It is done from these seats, which are all that the layer has. The seats that are to be handed
-    /// in, or nothing where it could not be done. An impl has no bound `Sync` but by the clause.
+    /// It is done from these seats, which are all that the layer has. The seats that are to be
+    /// handed in, or nothing where it could not be done. An impl has no bound `Sync` but by the
+    /// clause.
     fn on<R: Threads + Wait + Sync>(
         &self,
         rt: &R,

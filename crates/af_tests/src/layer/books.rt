@@ -1,5 +1,5 @@
-//! Calls on a book without a lock, and for a seat that it does not have. One allocation is refused, the
-//! Nth: `tools/stress` refuses each in turn.
+//! Calls on a book without a lock, and for a seat that it does not have. One allocation is refused,
+//! the Nth: `tools/stress` refuses each in turn.
 use super::bench::{spawn, stray_seat};
 use super::growths::nth_event;
 use af_base::equality::events_equal;
@@ -80,8 +80,8 @@ fn call(book: &mut Book, seat: &Seat, event: Event) -> Came {
     }
 }
 
-/// How often memory was wanted in calls of both kinds by turns. Nothing, where one did not do what it
-/// says. Where an event cannot be made they end there.
+/// How often memory was wanted in calls of both kinds by turns. Nothing, where one did not do what
+/// it says. Where an event cannot be made they end there.
 fn wants(alloc: Global, book: &mut Book, seat: &mut Seat) -> Option<u32> {
     let mut wants = 0u32;
     for nth in 0..60 {
@@ -107,8 +107,8 @@ fn has_no_seat(book: &mut Book, seat: u32) -> bool {
     book.call(seat, spawn()) == Err(CallError::NoSeat) && book.log().is_empty()
 }
 
-/// The book has two seats, from 1. Memory is wanted once at most; where there is no seat to call from,
-/// nothing is called.
+/// The book has two seats, from 1. Memory is wanted once at most; where there is no seat to call
+/// from, nothing is called.
 fn calls(rt: &impl Abort, alloc: Global, book: &mut Book) {
     assert!(rt; has_no_seat(book, 0) && has_no_seat(book, 3));
     if let Some(mut seat) = stray_seat(alloc, 1) {

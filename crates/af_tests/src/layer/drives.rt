@@ -10,8 +10,8 @@ const WORKERS: u32 = 4;
 
 const STEPS: u32 = 500;
 
-/// All seats behind four workers, and a collector beside them, where the lists keep the scripts. The
-/// last seat lets the processes start, and the drive leaves it alone.
+/// All seats behind four workers, and a collector beside them, where the lists keep the scripts.
+/// The last seat lets the processes start, and the drive leaves it alone.
 fn driven<R: Threads + Wait + Sync>(
     rt: &R,
     alloc: Global,

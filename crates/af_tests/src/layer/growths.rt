@@ -14,8 +14,8 @@ pub fn nth_event(alloc: Global, nth: u32) -> Result<Event, AllocError> {
     }
 }
 
-/// Whether an event is done, at the second trial where the first was refused memory; then the seat was
-/// as before. So it is taken to be where the event itself could not be made.
+/// Whether an event is done, at the second trial where the first was refused memory; then the seat
+/// was as before. So it is taken to be where the event itself could not be made.
 fn is_done<R: Wait>(rt: &R, alloc: Global, layer: &Layer, seat: &mut Seat, nth: u32) -> bool {
     let before = seat.list().len();
     let Ok(first) = nth_event(alloc, nth) else {

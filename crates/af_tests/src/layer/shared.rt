@@ -1,5 +1,5 @@
-//! Calls on an engine that threads share: each does what the engine's own call does, and threads make
-//! them beside each other.
+//! Calls on an engine that threads share: each does what the engine's own call does, and threads
+//! make them beside each other.
 use af_base::errno::Errno;
 use af_base::events::{Event, SockType};
 use af_base::items::Items;

@@ -26,8 +26,8 @@ fn has(rt: &impl Abort, engine: &Engine, live: usize, in_flight: u64) {
     assert!(rt; engine.live() == live && engine.total() == in_flight);
 }
 
-/// Number 0 has a chain of 60,000 sockets behind it, two in each queue, and all go with it. No bound
-/// is proved for the stack.
+/// Number 0 has a chain of 60,000 sockets behind it, two in each queue, and all go with it. No
+/// bound is proved for the stack.
 struct Chain;
 
 impl Trial for Chain {

@@ -110,8 +110,8 @@ impl Trial for EachRow {
     }
 }
 
-/// Where the refused allocation is of an event or a reply that a row makes, all rows are played at a
-/// second trial.
+/// Where the refused allocation is of an event or a reply that a row makes, all rows are played at
+/// a second trial.
 #[test]
 fn one_growth_refused(rt: HostRuntime) -> Result<(), Fail> {
     if on_new_engine(&rt, rt.alloc(), &EachRow).is_err() {

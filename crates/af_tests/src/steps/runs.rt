@@ -74,7 +74,8 @@ impl Told {
     }
 }
 
-/// The events are run. How many were done: fewer than there are where memory for a reply was refused.
+/// The events are run. How many were done: fewer than there are where memory for a reply was
+/// refused.
 fn run(rt: &impl Abort, engine: &mut Engine, events: &[Event], told: &mut Told) -> usize {
     match engine.run(events) {
         Ok(replies) => told.note_all(rt, events, replies.as_slice()),

@@ -1,5 +1,6 @@
 //! A script that is made in parts.
-ghost use Rattle.std.specs.Prelude.{◌≡◌, ◌<◌, ◌≤◌, ◌∷◌, ℕ, [], IfOk, MatchOption, Some, drop, slice_get, take};
+ghost use Rattle.std.specs.Prelude.{◌≡◌, ◌<◌, ◌≤◌, ◌∷◌, ℕ, [], IfOk, MatchOption, Some, drop};
+ghost use Rattle.std.specs.Prelude.{slice_get, take};
 ghost use Rattle.af_base.specs.declared.events.Event.{Event as Asked};
 ghost use Rattle.scm_race.specs.Script.{listener_type, opening_steps, script_of};
 ghost use Rattle.scm_race.specs.declared.workload.table.TheConstants.{MAX_WORKERS};
@@ -43,9 +44,11 @@ impl Model for Source {
 
     ghost Value = { List Asked };
 
-    ghost view = { λ s. rest_of s.worker s.workers s.opened s.words s.ended (stream_of (steps_u64_high plus_plus) s.rng) };
+    ghost view = { λ s. rest_of s.worker s.workers s.opened s.words s.ended
+        (stream_of (steps_u64_high plus_plus) s.rng) };
 
-    ghost invariant = { λ s. (1 ≤ s.worker) × (s.worker ≤ s.workers) × (s.workers ≤ 32) × (s.opened ≤ 4) };
+    ghost invariant = { λ s. (1 ≤ s.worker) × (s.worker ≤ s.workers) × (s.workers ≤ 32)
+        × (s.opened ≤ 4) };
 }
 
 /// Returns the type of a worker's listener: a stream if the worker's number is odd.
@@ -83,10 +86,10 @@ fn opening_step(alloc: Global, worker: u32, place: u32) -> Result<Step, AllocErr
 impl Source {
     /// Makes the source of a worker's whole script, of which nothing was made.
     ///
-    /// The worker makes a listener at 0, a stream where its number is odd and of packets where it is
-    /// even, and a pair of sockets. Then come the events of the next words of its generator, and at
-    /// the end its exit. The generator is xoshiro256++ from the seed, jumped as often as the worker's
-    /// number.
+    /// The worker makes a listener at 0, a stream where its number is odd and of packets where it
+    /// is even, and a pair of sockets. Then come the events of the next words of its generator, and
+    /// at the end its exit. The generator is xoshiro256++ from the seed, jumped as often as the
+    /// worker's number.
     pub fn new(worker: u32, workers: u32, steps: u32, seed: u32) -> Source
         requires workers { workers ≤ MAX_WORKERS }
         requires worker { (1 ≤ worker) × (worker ≤ workers) }

@@ -1,6 +1,7 @@
 //! The table that turns a word of the generator into an event.
 ghost use Rattle.std.specs.Prelude.{◌≡◌, ◌<◌, ◌≤◌, IfOk};
-ghost use Rattle.scm_race.specs.Table.{attached_of, event_of_word, name_of, part, step_of_word, type_of};
+ghost use Rattle.scm_race.specs.Table.{attached_of, event_of_word, name_of, part, step_of_word};
+ghost use Rattle.scm_race.specs.Table.{type_of};
 
 use af_base::events::{Event, SockType, Step};
 use af_base::items::Items;

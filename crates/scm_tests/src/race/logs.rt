@@ -38,7 +38,8 @@ fn start_processes<R: Wait>(rt: &R, layer: &Layer, main: &mut Seat) -> bool {
     true
 }
 
-/// A process starts for each worker, and the workers do their scripts, with a collector beside them.
+/// A process starts for each worker, and the workers do their scripts, with a collector beside
+/// them.
 fn work<R: Threads + Wait + Sync>(
     rt: &R,
     alloc: Global,

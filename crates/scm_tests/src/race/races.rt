@@ -102,8 +102,8 @@ fn three_lines(rt: HostRuntime) -> Result<(), Fail> {
     Ok(())
 }
 
-/// One allocation refused, the Nth (`tools/stress` refuses each in turn): there is no memory for the
-/// race, or an event of it is answered so.
+/// One allocation refused, the Nth (`tools/stress` refuses each in turn): there is no memory for
+/// the race, or an event of it is answered so.
 #[test]
 fn one_refused(rt: HostRuntime) {
     let race = Race {
@@ -135,8 +135,8 @@ fn long_race(workers: u32, steps: u32, checkpoint: u32) -> LongRace
     LongRace { race, checkpoint }
 }
 
-/// Parts of one event of each worker, of parts that do not divide the steps, and of more events than
-/// there are.
+/// Parts of one event of each worker, of parts that do not divide the steps, and of more events
+/// than there are.
 #[test]
 fn long_races(rt: HostRuntime) {
     for (workers, steps, checkpoint) in [(1, 5, 1), (3, 50, 1), (4, 401, 100), (4, 400, 250_000)] {
