@@ -24,4 +24,10 @@ bare_process q = record { user = 0; limit = 0; privileged = false; table = q.tab
 
 -- The world with its places and their charges alone: no bytes, names, states, limits, users and next numbers.
 abbrev pub bare : World → World
-bare w = record { processes = map_entries (λ _. bare_process) (finmap.entries w.processes); files = map_entries (λ _. bare_file) (finmap.entries w.files); next_ino = 0; next_pid = 0; users = [] }
+bare w = record {
+  processes = map_entries (λ _. bare_process) (finmap.entries w.processes);
+  files = map_entries (λ _. bare_file) (finmap.entries w.files);
+  next_ino = 0;
+  next_pid = 0;
+  users = [];
+}

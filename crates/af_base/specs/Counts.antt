@@ -16,7 +16,8 @@ count_in f xs = count_by (nat_eq f) xs
 
 -- The list has just the keys whose value is chosen, each once.
 abbrev pub ListsExactly : {X : Type 0} → (X → Bool) → Map X → List ℕ → Type 0
-ListsExactly chosen m fs = (f : ℕ) → count_in f fs ≡ (if option_map_or chosen (map.get m f) false then 1 else 0)
+ListsExactly chosen m fs = (f : ℕ)
+    → count_in f fs ≡ (if option_map_or chosen (map.get m f) false then 1 else 0)
 
 -- One where the two are equal.
 abbrev pub one : ℕ → ℕ → ℕ

@@ -55,7 +55,13 @@ files_of files = keyed (λ x. x.ino) file_of files
 
 -- The bare world that the lists describe.
 abbrev pub listed : List ListedTable → List ListedFile → World
-listed tables files = record { processes = processes_of tables; files = files_of files; next_ino = 0; next_pid = 0; users = [] }
+listed tables files = record {
+  processes = processes_of tables;
+  files = files_of files;
+  next_ino = 0;
+  next_pid = 0;
+  users = [];
+}
 
 -- The numbers of a table rise, so that none is listed twice.
 abbrev pub IsRisingTable : ListedTable → Type 0
@@ -78,7 +84,8 @@ pub record IsTally (counts : ℕ → ℕ) (xs : List ℕ) : Type 0 where
   pub each : (f : ℕ) → count_in f xs ≡ counts f
 
 -- The lists of a listing: its tables and files, the file of each place, the file of each place in a queue, and the user whom each of these is charged to.
-pub record AreListed (tables : List ListedTable) (files : List ListedFile) (held queued payers : List ℕ) : Type 0 where
+pub record AreListed (tables : List ListedTable) (files : List ListedFile)
+    (held queued payers : List ℕ) : Type 0 where
   pub ordered_tables : AreTables tables
   pub ordered_files : AreFiles files
   pub each_held : IsTally (refs (listed tables files)) held

@@ -13,7 +13,8 @@ is_between low high n = nat_le low n && nat_le n high
 
 -- Whether the byte is a digit, a letter, `-`, `.` or `_`.
 abbrev pub is_name_byte : ℕ → Bool
-is_name_byte b = is_between 48 57 b || is_between 65 90 b || is_between 97 122 b || nat_eq b 45 || nat_eq b 46 || nat_eq b 95
+is_name_byte b = is_between 48 57 b || is_between 65 90 b || is_between 97 122 b || nat_eq b 45
+    || nat_eq b 46 || nat_eq b 95
 
 -- Whether these bytes are a name: 1 to 107 such bytes (unix(7), sun_path; which bytes is this project's profile).
 abbrev pub is_name : List ℕ → Bool

@@ -29,7 +29,9 @@ empty_file (AsSocket s) = AsSocket (record s { queue = []; backlog = [] })
 
 -- The world with the queues and backlogs of the files that pass the test emptied.
 abbrev pub emptied : (ℕ → Bool) → World → World
-emptied test w = record w { files = map_entries (λ f x. if test f then empty_file x else x) (map.entries w.files) }
+emptied test w = record w {
+  files = map_entries (λ f x. if test f then empty_file x else x) (map.entries w.files);
+}
 
 -- `new` is `old` purged: the queues and backlogs of the files that pass the test emptied, and then settled (net/unix/garbage.c: queues of garbage are emptied).
 abbrev pub Purges : (ℕ → Bool) → World → World → Type 0
@@ -45,17 +47,23 @@ SamePass old new = (new.pass ≡ old.pass) × (new.last_pass ≡ old.last_pass) 
 
 -- A pass begins: the world stays, and is remembered. While one runs no other can begin.
 abbrev pub Begins : Pass → Machine → Reply → Machine → Type 0
-Begins Idle old r new = (r ≡ reply.Started (next_pass old.last_pass)) × (new ≡ record old { pass = Running old.world 0; last_pass = next_pass old.last_pass })
+Begins Idle old r new = (r ≡ reply.Started (next_pass old.last_pass)) × (new ≡ record old {
+  pass = Running old.world 0;
+  last_pass = next_pass old.last_pass;
+})
 Begins (Running begun spent) old r new = (r ≡ reply.Refused EBUSY) × (new ≡ old)
 
 -- A slice of budget b: at most b files, all garbage of the begin, are purged. It may go on while the budgets are within three times the files of the begin, and is done only where none of that garbage is live.
-pub record Slices (begun old : World) (spent b pass : ℕ) (r : Reply) (new : World) (after : Pass) : Type 0 where
+pub record Slices (begun old : World) (spent b pass : ℕ) (r : Reply) (new : World)
+    (after : Pass) : Type 0 where
   pub emptied_files : List ℕ
   pub few : length emptied_files ≤ b
   pub of_garbage : All (Garbage begun) emptied_files
   pub purged : Purges (λ f. list_any (nat_eq f) emptied_files) old new
-  pub answered : ((r ≡ reply.Working) × (after ≡ Running begun (spent + b)) × (spent + b ≤ 3 * map.len begun.files))
-      ⊎ ((n : ℕ) × IsGarbageCount begun n × (r ≡ reply.Done pass n) × (after ≡ Idle) × ((f : ℕ) → Garbage begun f → ¬ (IsLive new f)))
+  pub answered : ((r ≡ reply.Working) × (after ≡ Running begun (spent + b))
+      × (spent + b ≤ 3 * map.len begun.files))
+      ⊎ ((n : ℕ) × IsGarbageCount begun n × (r ≡ reply.Done pass n) × (after ≡ Idle)
+      × ((f : ℕ) → Garbage begun f → ¬ (IsLive new f)))
 
 -- A slice is asked for: without a pass it is refused, and so is a budget that is out of range.
 abbrev pub GoesOn : Pass → Machine → ℕ → Reply → Machine → Type 0
@@ -63,7 +71,8 @@ GoesOn Idle old b r new = (r ≡ reply.Refused EIDLE) × (new ≡ old)
 GoesOn (Running begun spent) old b r new =
     MatchBool (nat_eq b 0 || nat_lt MAX_BUDGET b)
     ((r ≡ reply.Refused EINVAL) × (new ≡ old))
-    (Slices begun old.world spent b old.last_pass r new.world new.pass × (new.last_pass ≡ old.last_pass) × (new.since ≡ old.since))
+    (Slices begun old.world spent b old.last_pass r new.world new.pass
+    × (new.last_pass ≡ old.last_pass) × (new.since ≡ old.since))
 
 -- A whole pass over a world: exactly its garbage is purged, and the sockets among it are counted.
 pub record Passes (old : World) (pass : ℕ) (r : Reply) (new : World) : Type 0 where
@@ -76,5 +85,6 @@ pub record Passes (old : World) (pass : ℕ) (r : Reply) (new : World) : Type 0 
 
 -- A whole pass is asked for: while one runs it is refused, and nothing changed.
 abbrev pub PassesWhole : Pass → Machine → Reply → Machine → Type 0
-PassesWhole Idle old r new = Passes old.world (next_pass old.last_pass) r new.world × (new.pass ≡ Idle) × (new.last_pass ≡ next_pass old.last_pass) × (new.since ≡ old.since)
+PassesWhole Idle old r new = Passes old.world (next_pass old.last_pass) r new.world
+    × (new.pass ≡ Idle) × (new.last_pass ≡ next_pass old.last_pass) × (new.since ≡ old.since)
 PassesWhole (Running begun spent) old r new = (r ≡ reply.Refused EBUSY) × (new ≡ old)

@@ -21,4 +21,5 @@ is_socket (AsSocket s) = true
 
 -- So many sockets are garbage (this project's profile: what a pass reports; plain files do not count).
 abbrev pub IsGarbageCount : World → ℕ → Type 0
-IsGarbageCount w n = (test : ℕ → Bool) × ((f : ℕ) → (test f ≡ true) ↔ Garbage w f) × (n ≡ count_by (λ e. is_socket e.1 && test e.0) (map.entries w.files))
+IsGarbageCount w n = (test : ℕ → Bool) × ((f : ℕ) → (test f ≡ true) ↔ Garbage w f)
+    × (n ≡ count_by (λ e. is_socket e.1 && test e.0) (map.entries w.files))

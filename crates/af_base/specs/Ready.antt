@@ -24,7 +24,11 @@ writes s queue = is_none (first_fit (on_peer s ++ on_room queue))
 -- The readiness of a file among these: a plain file is always ready (poll(2)).
 abbrev pub ready_of : Map File → File → Ready
 ready_of files Plain = record { readable = true; writable = true; hung_up = false }
-ready_of files (AsSocket s) = record { readable = reads s; writable = writes s (queue_in files (peer_of s.state)); hung_up = is_hung_up s.state }
+ready_of files (AsSocket s) = record {
+  readable = reads s;
+  writable = writes s (queue_in files (peer_of s.state));
+  hung_up = is_hung_up s.state;
+}
 
 -- The readiness of the file f of these; an unknown file is not ready (poll(2)).
 abbrev pub ready_in : Map File → ℕ → Option Ready
@@ -37,7 +41,8 @@ ready w f = ready_in w.files f
 -- The readiness that steps of process p find at descriptor n: readable if a receive of one byte without descriptors is not refused, or an accept is not before it needs a descriptor; writable if a send of one byte is not refused; hung up if the peer is gone.
 abbrev pub found : World → ℕ → ℕ → Ready
 found w p n = record {
-  readable = is_none (refusal w p (step.Recv n 1 0)) || is_none (first_fit (on_process (map.get w.processes p) ++ (at_socket w p n ++ on_accept (socket_on w p n))));
+  readable = is_none (refusal w p (step.Recv n 1 0)) || is_none (first_fit
+      (on_process (map.get w.processes p) ++ (at_socket w p n ++ on_accept (socket_on w p n))));
   writable = is_none (refusal w p (step.Send n (0 ∷ []) []));
   hung_up = is_hung_up (socket_on w p n).state;
 }

@@ -243,7 +243,8 @@ step_row w p step.Fork = on_processes w
 step_row w p step.Exit = []
 step_row w p (step.Pair kind) = on_free (process_at w p) 2 ++ on_files w 2
 step_row w p (step.Socket kind) = on_free (process_at w p) 1 ++ on_files w 1
-step_row w p (step.Bind n name) = at_socket w p n ++ on_bind (socket_on w p n) name ++ on_name (named w.files name)
+step_row w p (step.Bind n name) = at_socket w p n ++ on_bind (socket_on w p n) name
+    ++ on_name (named w.files name)
 step_row w p (step.Listen n b) = at_socket w p n ++ on_listen (socket_on w p n) b
 step_row w p (step.Connect n name) =
     let s = socket_on w p n in

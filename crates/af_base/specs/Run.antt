@@ -9,7 +9,8 @@ use Rattle.af_base.specs.Pass.{Machine, Idle, SamePass, Begins, GoesOn, PassesWh
 
 -- One step: from `old` this reply to the event, and then the machine is `new`.
 abbrev pub Step : Machine → Event → Reply → Machine → Type 0
-Step old (event.Spawn uid nofile privileged) r new = SpawnStep old.world uid nofile privileged r new.world × SamePass old new
+Step old (event.Spawn uid nofile privileged) r new = SpawnStep old.world uid nofile privileged r
+    new.world × SamePass old new
 Step old (event.Proc p s) r new = ProcessStep old.world p s r new.world × SamePass old new
 Step old event.Begin r new = Begins old.pass old r new
 Step old (event.Slice budget) r new = GoesOn old.pass old budget r new

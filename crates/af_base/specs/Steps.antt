@@ -28,7 +28,8 @@ connected_socket kind peer = record no_socket { kind = kind; state = state.Conne
 
 -- The world with two sockets more, connected to each other (socketpair(2)).
 abbrev pub with_pair : World → SockType → World
-with_pair w kind = add_file (add_file w (AsSocket (connected_socket kind (w.next_ino + 1)))) (AsSocket (connected_socket kind w.next_ino))
+with_pair w kind = add_file (add_file w (AsSocket (connected_socket kind (w.next_ino + 1))))
+    (AsSocket (connected_socket kind w.next_ino))
 
 -- A new socket that was never connected (socket(2)).
 abbrev pub idle_socket : SockType → Socket
@@ -36,7 +37,9 @@ idle_socket kind = record no_socket { kind = kind }
 
 -- The world where the client c is connected to a new embryo, which waits last in the backlog of the listener l (connect(2); the embryo is this project's own).
 abbrev pub with_embryo : World → ℕ → ℕ → SockType → World
-with_embryo w c l kind = with_socket (with_socket (add_file w (AsSocket (connected_socket kind c))) c (connected w.next_ino)) l (queued w.next_ino)
+with_embryo w c l kind = with_socket
+    (with_socket (add_file w (AsSocket (connected_socket kind c))) c (connected w.next_ino)) l
+    (queued w.next_ino)
 
 -- The embryo that process p accepts at n: the first that waits there, or 0, which is no inode number (accept(2)).
 abbrev pub first_embryo : World → ℕ → ℕ → ℕ
@@ -48,11 +51,13 @@ taken_on w p n max_bytes = take_from (socket_on w p n).kind (socket_on w p n).qu
 
 -- The numbers at which a receive installs files: as many as were taken, as it may, and as are free (cmsg(3), SCM_RIGHTS).
 abbrev pub got_at : World → ℕ → ℕ → ℕ → ℕ → List ℕ
-got_at w p n max_bytes max_fds = lowest_free (min (length (taken_on w p n max_bytes).attached) max_fds) (process_at w p)
+got_at w p n max_bytes max_fds = lowest_free
+    (min (length (taken_on w p n max_bytes).attached) max_fds) (process_at w p)
 
 -- The world with a new process: its table is empty, and a new user is added at the end of the list.
 abbrev pub spawned : World → ℕ → ℕ → Bool → World
-spawned w uid nofile privileged = add_user (add_process w (record { user = uid; limit = nofile; privileged = privileged; table = map.empty })) uid
+spawned w uid nofile privileged = add_user (add_process w
+    (record { user = uid; limit = nofile; privileged = privileged; table = map.empty })) uid
 
 -- The reply of a receive: an empty receive is End, if the peer is gone and nothing is left (recvmsg(2)).
 abbrev pub received : World → ℕ → ℕ → ℕ → ℕ → Reply
@@ -71,18 +76,26 @@ effect w p (step.Dup2 n m) = if nat_eq m n then w else install w p m (ino_on w p
 effect w p (step.Close n) = uninstall w p n
 effect w p step.Fork = add_process w (process_at w p)
 effect w p step.Exit = remove_process w p
-effect w p (step.Pair kind) = install (install (with_pair w kind) p (free_at w p 0) w.next_ino) p (free_at w p 1) (w.next_ino + 1)
-effect w p (step.Socket kind) = install (add_file w (AsSocket (idle_socket kind))) p (free_at w p 0) w.next_ino
+effect w p (step.Pair kind) = install (install (with_pair w kind) p (free_at w p 0) w.next_ino) p
+    (free_at w p 1) (w.next_ino + 1)
+effect w p (step.Socket kind) = install (add_file w (AsSocket (idle_socket kind))) p
+    (free_at w p 0) w.next_ino
 effect w p (step.Bind n name) = with_socket w (ino_on w p n) (bound name)
 effect w p (step.Listen n b) = with_socket w (ino_on w p n) (listening b)
 effect w p (step.Connect n name) = with_embryo w (ino_on w p n) (ino_named w name) (socket_named w name).kind
-effect w p (step.Accept n) = install (with_socket w (ino_on w p n) dequeued) p (free_at w p 0) (first_embryo w p n)
-effect w p (step.Send n bytes attach) =
-    push_message w (peer_of (socket_on w p n).state) (record { bytes = bytes; attached = filter_map (table_at w p) attach; user = (process_at w p).user })
+effect w p (step.Accept n) = install (with_socket w (ino_on w p n) dequeued) p (free_at w p 0)
+    (first_embryo w p n)
+effect w p (step.Send n bytes attach) = push_message w (peer_of (socket_on w p n).state) (record {
+  bytes = bytes;
+  attached = filter_map (table_at w p) attach;
+  user = (process_at w p).user;
+})
 effect w p (step.Recv n max_bytes max_fds) =
     let taken = taken_on w p n max_bytes in
-    install_all (with_queue w (ino_on w p n) taken.rest) p (zip (got_at w p n max_bytes max_fds) taken.attached)
-effect w p (step.Peek n max_bytes max_fds) = install_all w p (zip (got_at w p n max_bytes max_fds) (taken_on w p n max_bytes).attached)
+    install_all (with_queue w (ino_on w p n) taken.rest) p
+    (zip (got_at w p n max_bytes max_fds) taken.attached)
+effect w p (step.Peek n max_bytes max_fds) = install_all w p
+    (zip (got_at w p n max_bytes max_fds) (taken_on w p n max_bytes).attached)
 effect w p (step.Limit n) = set_limit w p n
 
 -- The answer, where nothing refuses the step: a peek answers what a receive would (recvmsg(2), MSG_PEEK).
@@ -116,12 +129,15 @@ needs_no_memory s = false
 abbrev pub Outcome : Option Errno → Bool → Reply → World → World → Reply → World → Type 0
 Outcome (Some e) frugal answer effect old r new = (r ≡ reply.Refused e) × (new ≡ old)
 Outcome None true answer effect old r new = (r ≡ answer) × Settles effect new
-Outcome None false answer effect old r new = ((r ≡ answer) × Settles effect new) ⊎ ((r ≡ reply.Refused ENOMEM) × (new ≡ old))
+Outcome None false answer effect old r new = ((r ≡ answer) × Settles effect new)
+    ⊎ ((r ≡ reply.Refused ENOMEM) × (new ≡ old))
 
 -- From the world `old` process p may get this reply to the step, and then the world is `new`.
 abbrev pub ProcessStep : World → ℕ → Step → Reply → World → Type 0
-ProcessStep old p s r new = Outcome (refusal old p s) (needs_no_memory s) (answer old p s) (effect old p s) old r new
+ProcessStep old p s r new = Outcome (refusal old p s) (needs_no_memory s) (answer old p s)
+    (effect old p s) old r new
 
 -- From the world `old` a process may start with this reply, and then the world is `new`.
 abbrev pub SpawnStep : World → ℕ → ℕ → Bool → Reply → World → Type 0
-SpawnStep old uid nofile privileged r new = Outcome (spawn_refusal old nofile) false (reply.Pid old.next_pid) (spawned old uid nofile privileged) old r new
+SpawnStep old uid nofile privileged r new = Outcome (spawn_refusal old nofile) false
+    (reply.Pid old.next_pid) (spawned old uid nofile privileged) old r new

@@ -24,7 +24,12 @@ nothing_taken = record { bytes = []; attached = []; trunc = false; rest = [] }
 -- A packet: the first message's first n bytes and all that travels with it; the rest of its bytes is dropped (unix(7), SOCK_SEQPACKET).
 abbrev pub take_seqpacket : List Message → ℕ → Taken
 take_seqpacket [] n = nothing_taken
-take_seqpacket (m ∷ q) n = record { bytes = take n m.bytes; attached = m.attached; trunc = nat_lt n (length m.bytes); rest = q }
+take_seqpacket (m ∷ q) n = record {
+  bytes = take n m.bytes;
+  attached = m.attached;
+  trunc = nat_lt n (length m.bytes);
+  rest = q;
+}
 
 -- The queue without its first c bytes: a message that keeps no byte is gone, and one that lost a byte keeps no file.
 abbrev pub cut : ℕ → List Message → List Message
@@ -40,15 +45,19 @@ has_files m = nat_lt 0 (length m.attached)
 
 -- Up to n bytes, and none past the end of the message that begins at `begin` and ends at `end`, whose files are taken with its first byte (unix(7): ancillary data are a barrier).
 abbrev pub take_to : List Message → ℕ → List ℕ → ℕ → ℕ → Taken
-take_to q n attached begin end =
-    let c = min n end in
-    record { bytes = take c (joined q); attached = if nat_lt begin c then attached else []; trunc = false; rest = cut c q }
+take_to q n attached begin end = let c = min n end in record {
+  bytes = take c (joined q);
+  attached = if nat_lt begin c then attached else [];
+  trunc = false;
+  rest = cut c q;
+}
 
 -- A stream: up to n bytes over the borders of messages, up to the end of the first message with files (unix(7), SOCK_STREAM).
 abbrev pub take_stream : List Message → ℕ → Taken
 take_stream q n =
     let begin = length (joined (take_while (λ m. not (has_files m)) q)) in
-    option_map_or (λ m. take_to q n m.attached begin (begin + length m.bytes)) (find has_files q) (take_to q n [] begin begin)
+    option_map_or (λ m. take_to q n m.attached begin (begin + length m.bytes)) (find has_files q)
+    (take_to q n [] begin begin)
 
 -- The result of a receive of at most n bytes, by the socket's type.
 abbrev pub take_from : SockType → List Message → ℕ → Taken

@@ -15,7 +15,9 @@ was_given since next f = if nat_lt f since.next then map.contains_key since.file
 
 -- Each number that was live then, or was given out since, is live or in the list, once; no other is in it.
 abbrev pub AreReleased : {V : Type 0} → Map V → ℕ → Since → List ℕ → Type 0
-AreReleased live next since told = (f : ℕ) → count_in f told + (if map.contains_key live f then 1 else 0) ≡ (if was_given since next f then 1 else 0)
+AreReleased live next since told = (f : ℕ)
+    → count_in f told + (if map.contains_key live f then 1 else 0)
+    ≡ (if was_given since next f then 1 else 0)
 
 -- Whether the number is a socket's among these files.
 abbrev pub is_socket_in : Map File → ℕ → Bool
@@ -23,7 +25,8 @@ is_socket_in files f = is_some (option_and_then socket_of (map.get files f))
 
 -- A socket that is not in the list has the face that it had then.
 abbrev pub AreChanged : Map File → Since → List ℕ → Type 0
-AreChanged files since told = (f : ℕ) → IsTrue (is_socket_in files f) → count_in f told ≡ 0 → face_in files f ≡ face_in since.files f
+AreChanged files since told = (f : ℕ) → IsTrue (is_socket_in files f) → count_in f told ≡ 0
+    → face_in files f ≡ face_in since.files f
 
 -- The list has the files of the world that were freed.
 abbrev pub TellsReleased : World → Since → List ℕ → Type 0
@@ -32,4 +35,6 @@ TellsReleased w since told = since.released ≡ true → AreReleased w.files w.n
 -- A socket that is not in the list, and whose peer is not, is ready for what it was then.
 abbrev pub TellsChanged : World → Since → List ℕ → Type 0
 TellsChanged w since told =
-    since.changed ≡ true → (f : ℕ) → IsTrue (is_socket_in w.files f) → count_in f told ≡ 0 → ((q : ℕ) → state_at w f ≡ state.Connected q → count_in q told ≡ 0) → ready w f ≡ ready_in since.files f
+    since.changed ≡ true → (f : ℕ) → IsTrue (is_socket_in w.files f)
+    → count_in f told ≡ 0 → ((q : ℕ) → state_at w f ≡ state.Connected q → count_in q told ≡ 0)
+    → ready w f ≡ ready_in since.files f

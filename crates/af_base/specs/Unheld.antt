@@ -29,7 +29,10 @@ map_entries f (e ∷ es) = map.insert (map_entries f es) e.0 (f e.0 e.1)
 
 -- The world without the files that pass the test: their queues, backlogs and names go with them (unix(7): an abstract name vanishes with the last reference).
 abbrev pub without : (ℕ → Bool) → World → World
-without gone w = record w { files = map.retain_keys (map_entries (λ _. file_without gone) (map.entries w.files)) (λ f. not (gone f)) }
+without gone w = record w {
+  files = map.retain_keys (map_entries (λ _. file_without gone) (map.entries w.files))
+      (λ f. not (gone f));
+}
 
 -- `new` is `old` settled: without exactly what nothing holds (this project's profile: in the same step).
 abbrev pub Settles : World → World → Type 0

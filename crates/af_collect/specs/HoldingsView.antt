@@ -19,7 +19,13 @@ pub record HoldingsView : Type 0 where
 
 -- The world that processes, files and users make up.
 abbrev pub world_of : Procs → FilesView → Charged → World
-world_of procs filed charged = record { processes = procs.processes; files = filed.files; next_ino = filed.next; next_pid = procs.next_pid; users = keys_of charged.users }
+world_of procs filed charged = record {
+  processes = procs.processes;
+  files = filed.files;
+  next_ino = filed.next;
+  next_pid = procs.next_pid;
+  users = keys_of charged.users;
+}
 
 -- The kept counts are a recount of their world.
 abbrev pub AreExact : Procs → FilesView → Charged → Type 0

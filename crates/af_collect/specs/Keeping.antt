@@ -23,7 +23,8 @@ below n f = nat_lt f n
 pub record IsRunning (w begun : World) (m : Marked) (c : Progress) : Type 0 where
   pub since : IsSince begun w m.bound
   pub marked : (f : ℕ) → is_marked m f ≡ true → IsLive begun f
-  pub counted : AreCounted begun w (below c.visited) (is_scanned (is_marked m) (is_grey m)) (below c.swept) c.looked
+  pub counted : AreCounted begun w (below c.visited) (is_scanned (is_marked m) (is_grey m))
+      (below c.swept) c.looked
   pub low : m.bound ≤ w.next_ino
 
 -- It marks.
@@ -104,7 +105,8 @@ units_of true = 2
 
 -- The files that a file would lose first: those of its first message, or else its first embryo.
 abbrev pub first_held : World → ℕ → List ℕ
-first_held w s = if nat_eq (length (queue_at w s)) 0 then take 1 (backlog_at w s) else carried (take 1 (queue_at w s))
+first_held w s = if nat_eq (length (queue_at w s)) 0 then take 1 (backlog_at w s)
+    else carried (take 1 (queue_at w s))
 
 -- Whether freeing the file is counted: while sweeping, if it is an unmarked socket of the begin.
 abbrev pub is_counted : World → Marked → Progress → ℕ → Bool

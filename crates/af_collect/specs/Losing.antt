@@ -10,4 +10,5 @@ places_at w s = length (queue_at w s) + length (backlog_at w s)
 
 -- The world without the first message of a file, or, where it has none, without its first embryo.
 abbrev pub without_place : World → ℕ → World
-without_place w s = if nat_eq (length (queue_at w s)) 0 then with_socket w s dequeued else with_queue w s (drop 1 (queue_at w s))
+without_place w s = if nat_eq (length (queue_at w s)) 0 then with_socket w s dequeued
+    else with_queue w s (drop 1 (queue_at w s))

@@ -18,7 +18,8 @@ live_count begun now test = count_by (λ e. is_live now e.0 && test e.0) (map.en
 
 -- How many sockets of the begin are live now and not marked.
 abbrev pub left_count : World → World → (ℕ → Bool) → ℕ
-left_count begun now marked = count_by (λ e. is_socket e.1 && (is_live now e.0 && not (marked e.0))) (map.entries begun.files)
+left_count begun now marked = count_by (λ e. is_socket e.1 && (is_live now e.0 && not (marked e.0)))
+    (map.entries begun.files)
 
 -- A holder of garbage of the begin is garbage of the begin, and no table holds any: none strays to where a process could reach it (net/unix/garbage.c: garbage stays out of reach).
 pub record NoneStray (begun now : World) : Type 0 where
@@ -39,8 +40,11 @@ is_scanned marked grey f = marked f && not (grey f)
 
 -- A file that a reached file of the begin held is marked, or freed, or its holder is live, not scanned, and holds it still; a file that a table held is marked, or freed, or not visited and in a table; no garbage is marked (net/unix/garbage.c: from the tables on).
 pub record AreMarks (begun now : World) (marked grey visited : ℕ → Bool) : Type 0 where
-  pub queues : (s f : ℕ) → Reached begun s → Holds begun s f → (marked f ≡ true) ⊎ ((is_live now f ≡ false) ⊎ ((is_live now s ≡ true) × (is_scanned marked grey s ≡ false) × Holds now s f))
-  pub tables : (f : ℕ) → InTable begun f → (marked f ≡ true) ⊎ ((is_live now f ≡ false) ⊎ ((visited f ≡ false) × InTable now f))
+  pub queues : (s f : ℕ) → Reached begun s → Holds begun s f
+      → (marked f ≡ true) ⊎ ((is_live now f ≡ false)
+      ⊎ ((is_live now s ≡ true) × (is_scanned marked grey s ≡ false) × Holds now s f))
+  pub tables : (f : ℕ) → InTable begun f
+      → (marked f ≡ true) ⊎ ((is_live now f ≡ false) ⊎ ((visited f ≡ false) × InTable now f))
   pub only_reached : (f : ℕ) → Garbage begun f → marked f ≡ false
 
 -- Marking continues: the marks are as they should be, and the garbage of the begin is live and keeps its places.
@@ -58,8 +62,11 @@ pub record IsSweeping (begun now : World) (marked swept : ℕ → Bool) (reclaim
 
 -- Each unit looked at one file of the begin, and no file is visited, scanned or swept twice (this project's profile: what a budget counts).
 pub record AreCounted (begun now : World) (visited scanned swept : ℕ → Bool) (looked : ℕ) : Type 0 where
-  pub at_least : live_count begun now visited + live_count begun now scanned + live_count begun now swept ≤ looked
-  pub at_most : looked + live_count begun now (λ f. not (visited f)) + live_count begun now (λ f. not (scanned f)) + live_count begun now (λ f. not (swept f)) ≤ 3 * map.len begun.files
+  pub at_least : live_count begun now visited + live_count begun now scanned
+      + live_count begun now swept ≤ looked
+  pub at_most : looked + live_count begun now (λ f. not (visited f))
+      + live_count begun now (λ f. not (scanned f)) + live_count begun now (λ f. not (swept f))
+      ≤ 3 * map.len begun.files
 
 -- A change of places, or a file more: the files of the begin stay as they were, and no garbage of the begin is in a new place.
 pub record Moves (begun old new : World) : Type 0 where
@@ -73,7 +80,8 @@ pub record Moves (begun old new : World) : Type 0 where
 pub record Covers (begun old new : World) (marked visited : ℕ → Bool) : Type 0 where
   pub queues_keep : (s f : ℕ) → Garbage begun f → Holds old s f → Holds new s f
   pub queues_lose : (s f : ℕ) → IsLive begun f → Holds old s f → Holds new s f ⊎ (marked f ≡ true)
-  pub tables_lose : (f : ℕ) → IsLive begun f → visited f ≡ false → InTable old f → InTable new f ⊎ (marked f ≡ true)
+  pub tables_lose : (f : ℕ) → IsLive begun f → visited f ≡ false → InTable old f
+      → InTable new f ⊎ (marked f ≡ true)
 
 -- The test, and x too.
 abbrev pub also : (ℕ → Bool) → ℕ → ℕ → Bool

@@ -43,15 +43,25 @@ is_live v f = map.contains_key v.files f
 
 -- A file more, under the next number, which this place holds and no pass has marked.
 abbrev pub entered : Place → File → FilesView → FilesView
-entered p x v = record v { files = map.insert v.files v.next x; counts = map.insert v.counts v.next (more p uncounted); marks = born v.next v.marks; next = v.next + 1 }
+entered p x v = record v {
+  files = map.insert v.files v.next x;
+  counts = map.insert v.counts v.next (more p uncounted);
+  marks = born v.next v.marks;
+  next = v.next + 1;
+}
 
 -- Two sockets more, connected to each other, each of which such a place holds (socketpair(2)).
 abbrev pub paired : Place → SockType → FilesView → FilesView
-paired p kind v = entered p (AsSocket (connected_socket kind v.next)) (entered p (AsSocket (connected_socket kind (v.next + 1))) v)
+paired p kind v = entered p (AsSocket (connected_socket kind v.next))
+    (entered p (AsSocket (connected_socket kind (v.next + 1))) v)
 
 -- A file less.
 abbrev pub without : ℕ → FilesView → FilesView
-without f v = record v { files = map.remove v.files f; counts = map.remove v.counts f; marks = forgotten f v.marks }
+without f v = record v {
+  files = map.remove v.files f;
+  counts = map.remove v.counts f;
+  marks = forgotten f v.marks;
+}
 
 -- A place of this kind more holds the file.
 abbrev pub raised : Place → ℕ → FilesView → FilesView
@@ -127,10 +137,12 @@ without_embryo Backlog n = if nat_lt n (2 ^ 64 - 1) then n - 1 else n
 
 -- No more files than this number were born before the pass, and are not marked: they are those below the bound, which is no later than the next number.
 abbrev pub AreWhite : Map Mark → ℕ → ℕ → ℕ → ℕ → Type 0
-AreWhite marks epoch bound next n = (bound ≤ next) × (white_count (record { colors = colors_in epoch marks; bound = bound }) ≤ n)
+AreWhite marks epoch bound next n = (bound ≤ next)
+    × (white_count (record { colors = colors_in epoch marks; bound = bound }) ≤ n)
 
 -- The rows fit all else: numbers begin at 1 and rise, the names are those of the files, the lists have just the files that wait and those that are grey, with room for all, and the embryos, and the files that a pass has still to mark, are counted.
-pub record FilesInvariant (rows : RowsView) (waiting : List ℕ) (room : ℕ) (names : Named) (next epoch : ℕ) (grey : List ℕ) (most embryos bound white : ℕ) : Type 0 where
+pub record FilesInvariant (rows : RowsView) (waiting : List ℕ) (room : ℕ) (names : Named)
+    (next epoch : ℕ) (grey : List ℕ) (most embryos bound white : ℕ) : Type 0 where
   pub last : rows.last + 1 ≡ next
   pub begins : map.contains_key rows.files 0 ≡ false
   pub named : AreNamed names rows.files

@@ -22,11 +22,24 @@ pub record LinesView : Type 0 where
 
 -- A row more, of this file, which this place holds, no pass has marked and no list has; there is so much room then.
 abbrev pub with_line : ℕ → File → Place → ℕ → LinesView → LinesView
-with_line f x p room r = record r { files = map.insert r.files f x; counts = map.insert r.counts f (more p uncounted); marks = map.insert r.marks f unmarked; noted = map.insert r.noted f false; last = f; room = room }
+with_line f x p room r = record r {
+  files = map.insert r.files f x;
+  counts = map.insert r.counts f (more p uncounted);
+  marks = map.insert r.marks f unmarked;
+  noted = map.insert r.noted f false;
+  last = f;
+  room = room;
+}
 
 -- A row less.
 abbrev pub without_line : ℕ → ℕ → LinesView → LinesView
-without_line f room r = record r { files = map.remove r.files f; counts = map.remove r.counts f; marks = map.remove r.marks f; noted = map.remove r.noted f; room = room }
+without_line f room r = record r {
+  files = map.remove r.files f;
+  counts = map.remove r.counts f;
+  marks = map.remove r.marks f;
+  noted = map.remove r.noted f;
+  room = room;
+}
 
 -- Which of these rows are in that list.
 abbrev pub noted_of : Map Row → Map Bool

@@ -29,11 +29,22 @@ pub record RowsView : Type 0 where
 
 -- A row more, of this file, which this place holds and no pass has marked; there is so much room then.
 abbrev pub with_row : ℕ → File → Place → ℕ → RowsView → RowsView
-with_row f x p room r = record r { files = map.insert r.files f x; counts = map.insert r.counts f (more p uncounted); marks = map.insert r.marks f unmarked; last = f; room = room }
+with_row f x p room r = record r {
+  files = map.insert r.files f x;
+  counts = map.insert r.counts f (more p uncounted);
+  marks = map.insert r.marks f unmarked;
+  last = f;
+  room = room;
+}
 
 -- A row less.
 abbrev pub without_row : ℕ → ℕ → RowsView → RowsView
-without_row f room r = record r { files = map.remove r.files f; counts = map.remove r.counts f; marks = map.remove r.marks f; room = room }
+without_row f room r = record r {
+  files = map.remove r.files f;
+  counts = map.remove r.counts f;
+  marks = map.remove r.marks f;
+  room = room;
+}
 
 -- A plain file, or this socket.
 abbrev pub file_of : Option Socket → File

@@ -9,7 +9,12 @@ use Rattle.af_desc.specs.LinesView.{LinesView}
 
 -- The reports, and the files when the period began.
 abbrev pub since_of : Bool → Bool → LinesView → Since
-since_of changed released lines = record { changed = changed; released = released; files = lines.files; next = lines.last + 1 }
+since_of changed released lines = record {
+  changed = changed;
+  released = released;
+  files = lines.files;
+  next = lines.last + 1;
+}
 
 -- The list has each noted file, once, and no other.
 abbrev pub AreListed : Map Bool → List ℕ → Type 0
@@ -17,13 +22,16 @@ AreListed noted fs = ListsExactly (λ b. b) noted fs
 
 -- For how many files more there is room: in the lists too, where they are kept.
 abbrev pub room_in : Since → ℕ → ℕ → ℕ → ℕ → ℕ → ℕ
-room_in since room noted many freed all = min room (min (if since.changed then noted - many else room) (if since.released then freed - all else room))
+room_in since room noted many freed all = min room
+    (min (if since.changed then noted - many else room)
+    (if since.released then freed - all else room))
 
 -- The list has just the noted files; where it is kept it has room for all, and a socket that is not noted has the face that it had.
 pub record AreNoted (lines : LinesView) (fs : List ℕ) (space : ℕ) (since : Since) : Type 0 where
   pub listed : AreListed lines.noted fs
   pub fits : since.changed ≡ true → map.len lines.noted ≤ space
-  pub same : since.changed ≡ true → (f : ℕ) → IsTrue (is_socket_in lines.files f) → map.get lines.noted f ≡ Some false → face_in lines.files f ≡ face_in since.files f
+  pub same : since.changed ≡ true → (f : ℕ) → IsTrue (is_socket_in lines.files f)
+      → map.get lines.noted f ≡ Some false → face_in lines.files f ≡ face_in since.files f
 
 -- Numbers rise; and if freed files are reported, each number is accounted for, and the list has room for all live files.
 pub record AreAccounted (lines : LinesView) (gone : List ℕ) (space : ℕ) (since : Since) : Type 0 where
@@ -33,7 +41,8 @@ pub record AreAccounted (lines : LinesView) (gone : List ℕ) (space : ℕ) (sin
   pub fits : since.released ≡ true → length gone + map.len lines.counts ≤ space
 
 -- Both lists are right.
-pub record AreTold (lines : LinesView) (fs : List ℕ) (space : ℕ) (gone : List ℕ) (wide : ℕ) (since : Since) : Type 0 where
+pub record AreTold (lines : LinesView) (fs : List ℕ) (space : ℕ) (gone : List ℕ) (wide : ℕ)
+    (since : Since) : Type 0 where
   pub noted : AreNoted lines fs space since
   pub accounted : AreAccounted lines gone wide since
 

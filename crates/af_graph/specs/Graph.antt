@@ -17,11 +17,13 @@ use Rattle.af_graph.specs.Quoted.{quoted}
 
 -- A descriptor of a process: an edge to its file (open(2)).
 abbrev pub number_text : ℕ → ℕ → ℕ → List ℕ
-number_text p n f = codes "p" ++ (decimal p ++ (codes " -> f" ++ (decimal f ++ (codes " [label=\"" ++ (decimal n ++ codes "\"]\n")))))
+number_text p n f = codes "p" ++ (decimal p
+    ++ (codes " -> f" ++ (decimal f ++ (codes " [label=\"" ++ (decimal n ++ codes "\"]\n")))))
 
 -- A process: a box.
 abbrev pub box_text : ℕ → List ℕ
-box_text p = codes "p" ++ (decimal p ++ (codes " [shape=box, label=\"process " ++ (decimal p ++ codes "\"]\n")))
+box_text p = codes "p"
+    ++ (decimal p ++ (codes " [shape=box, label=\"process " ++ (decimal p ++ codes "\"]\n")))
 
 -- A process, and its numbers.
 abbrev pub process_text : ℕ → Process → List ℕ
@@ -61,7 +63,8 @@ colour false = []
 abbrev pub node_text : World → Bool → ℕ → File → List ℕ
 node_text w lost f x =
     codes "f" ++ (decimal f ++ (codes " [label=\"" ++ (decimal f ++ codes " ")))
-    ++ (kind_text x ++ (counts_text (refs w f) (inflight w f) ++ (name_text (name_of x) ++ (codes "\"" ++ (colour lost ++ codes "]\n")))))
+    ++ (kind_text x ++ (counts_text (refs w f) (inflight w f)
+    ++ (name_text (name_of x) ++ (codes "\"" ++ (colour lost ++ codes "]\n")))))
 
 -- An edge to the peer of a connected socket.
 abbrev pub peer_text : ℕ → State → List ℕ
@@ -83,7 +86,8 @@ file_text w lost f x = node_text w lost f x ++ peer_of f x
 
 -- A file that travels with a message: an edge with the user who is charged for it (unix(7), SCM_RIGHTS).
 abbrev pub attached_text : ℕ → ℕ → ℕ → List ℕ
-attached_text f user g = edge_text f g (codes " [color=blue, label=\"user " ++ (decimal user ++ codes "\"]\n"))
+attached_text f user g = edge_text f g
+    (codes " [color=blue, label=\"user " ++ (decimal user ++ codes "\"]\n"))
 
 -- All files that travel with a message.
 abbrev pub message_text : ℕ → Message → List ℕ

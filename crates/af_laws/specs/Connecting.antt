@@ -30,44 +30,59 @@ pub record IsEmbryoOf (w : World) (s f : ℕ) : Type 0 where
 
 -- A name finds the socket that has it, and no other.
 abbrev pub NamesFindTheirSockets : Type 0
-NamesFindTheirSockets = (w : World) (f : ℕ) (name : List ℕ) → IsWhole w → (named w.files name ≡ Some f) ↔ (name_at w f ≡ Some name)
+NamesFindTheirSockets = (w : World) (f : ℕ) (name : List ℕ) → IsWhole w
+    → (named w.files name ≡ Some f) ↔ (name_at w f ≡ Some name)
 
 -- A socket that was bound is found by the name that it was given (bind(2)).
 abbrev pub BoundSocketsAreFound : Type 0
-BoundSocketsAreFound = (old new : World) (p n : ℕ) (name : List ℕ) → IsSound old → ProcessStep old p (step.Bind n name) reply.Ok new → named new.files name ≡ Some (ino_on old p n)
+BoundSocketsAreFound = (old new : World) (p n : ℕ) (name : List ℕ) → IsSound old
+    → ProcessStep old p (step.Bind n name) reply.Ok new
+    → named new.files name ≡ Some (ino_on old p n)
 
 -- A bind changes no count, whatever the answer: a name holds nothing (bind(2)).
 abbrev pub BindChangesNoCount : Type 0
-BindChangesNoCount = (old new : World) (p n : ℕ) (name : List ℕ) (r : Reply) → IsSettled old → ProcessStep old p (step.Bind n name) r new → SameCounts old new
+BindChangesNoCount = (old new : World) (p n : ℕ) (name : List ℕ) (r : Reply) → IsSettled old
+    → ProcessStep old p (step.Bind n name) r new → SameCounts old new
 
 -- A listen changes no count, whatever the answer (listen(2)).
 abbrev pub ListenChangesNoCount : Type 0
-ListenChangesNoCount = (old new : World) (p n b : ℕ) (r : Reply) → IsSettled old → ProcessStep old p (step.Listen n b) r new → SameCounts old new
+ListenChangesNoCount = (old new : World) (p n b : ℕ) (r : Reply) → IsSettled old
+    → ProcessStep old p (step.Listen n b) r new → SameCounts old new
 
 -- A connect makes a live embryo; the listener's backlog is its only place (connect(2); the embryo is this project's own).
 abbrev pub ConnectMakesAnEmbryo : Type 0
-ConnectMakesAnEmbryo = (old new : World) (p n : ℕ) (name : List ℕ) → IsSound old → ProcessStep old p (step.Connect n name) reply.Ok new → IsEmbryoOf new (ino_named old name) old.next_ino
+ConnectMakesAnEmbryo = (old new : World) (p n : ℕ) (name : List ℕ) → IsSound old
+    → ProcessStep old p (step.Connect n name) reply.Ok new
+    → IsEmbryoOf new (ino_named old name) old.next_ino
 
 -- A connect is one reference more to the embryo, and none to any other file; nothing more is in flight.
 abbrev pub ConnectCounts : Type 0
-ConnectCounts = (old new : World) (p n f : ℕ) (name : List ℕ) → IsSound old → ProcessStep old p (step.Connect n name) reply.Ok new
+ConnectCounts = (old new : World) (p n f : ℕ) (name : List ℕ) → IsSound old
+    → ProcessStep old p (step.Connect n name) reply.Ok new
     → (refs new f ≡ refs old f + one f old.next_ino) × (inflight new f ≡ inflight old f)
 
 -- A connect charges nobody (unix(7), ETOOMANYREFS: what waits in a backlog was not sent).
 abbrev pub ConnectChargesNobody : Type 0
-ConnectChargesNobody = (old new : World) (p n u : ℕ) (name : List ℕ) → IsSound old → ProcessStep old p (step.Connect n name) reply.Ok new → (charged new u ≡ charged old u) × (total new ≡ total old)
+ConnectChargesNobody = (old new : World) (p n u : ℕ) (name : List ℕ) → IsSound old
+    → ProcessStep old p (step.Connect n name) reply.Ok new
+    → (charged new u ≡ charged old u) × (total new ≡ total old)
 
 -- An accept keeps all reference counts, that of the embryo too: a number takes the place of the backlog (accept(2)).
 abbrev pub AcceptKeepsReferences : Type 0
-AcceptKeepsReferences = (old new : World) (p n m f : ℕ) → IsSound old → ProcessStep old p (step.Accept n) (reply.Fd m) new → refs new f ≡ refs old f
+AcceptKeepsReferences = (old new : World) (p n m f : ℕ) → IsSound old
+    → ProcessStep old p (step.Accept n) (reply.Fd m) new → refs new f ≡ refs old f
 
 -- An accept removes the first embryo from the backlog, and keeps the others in order.
 abbrev pub AcceptTakesTheFirstEmbryo : Type 0
-AcceptTakesTheFirstEmbryo = (old new : World) (p n m f : ℕ) → IsSound old → ProcessStep old p (step.Accept n) (reply.Fd m) new → waiting new f + one f (first_embryo old p n) ≡ waiting old f
+AcceptTakesTheFirstEmbryo = (old new : World) (p n m f : ℕ) → IsSound old
+    → ProcessStep old p (step.Accept n) (reply.Fd m) new
+    → waiting new f + one f (first_embryo old p n) ≡ waiting old f
 
 -- The new descriptor refers to it.
 abbrev pub AcceptedNumberIsTheEmbryo : Type 0
-AcceptedNumberIsTheEmbryo = (old new : World) (p n m : ℕ) → IsSound old → ProcessStep old p (step.Accept n) (reply.Fd m) new → table_at new p m ≡ Some (first_embryo old p n)
+AcceptedNumberIsTheEmbryo = (old new : World) (p n m : ℕ) → IsSound old
+    → ProcessStep old p (step.Accept n) (reply.Fd m) new
+    → table_at new p m ≡ Some (first_embryo old p n)
 
 -- An embryo of a listener that is reached is reached (net/unix/garbage.c).
 abbrev pub EmbryosAreReached : Type 0

@@ -10,20 +10,29 @@ use Rattle.af_base.specs.Steps.{ProcessStep, taken_on}
 
 -- A peek leaves every queue as it is, with all that travels in it, whatever the answer (recvmsg(2), MSG_PEEK).
 abbrev pub PeekChangesNoQueue : Type 0
-PeekChangesNoQueue = (old new : World) (p n max_bytes max_fds : ℕ) (r : Reply) → IsSettled old → ProcessStep old p (step.Peek n max_bytes max_fds) r new → (s : ℕ) → queue_at new s ≡ queue_at old s
+PeekChangesNoQueue = (old new : World) (p n max_bytes max_fds : ℕ) (r : Reply) → IsSettled old
+    → ProcessStep old p (step.Peek n max_bytes max_fds) r new
+    → (s : ℕ) → queue_at new s ≡ queue_at old s
 
 -- It charges nobody and frees nobody of a charge.
 abbrev pub PeekChangesNoCharge : Type 0
-PeekChangesNoCharge = (old new : World) (p n max_bytes max_fds : ℕ) (r : Reply) → IsSettled old → ProcessStep old p (step.Peek n max_bytes max_fds) r new → (u : ℕ) → charged new u ≡ charged old u
+PeekChangesNoCharge = (old new : World) (p n max_bytes max_fds : ℕ) (r : Reply) → IsSettled old
+    → ProcessStep old p (step.Peek n max_bytes max_fds) r new
+    → (u : ℕ) → charged new u ≡ charged old u
 
 -- A peek keeps the set of files in flight (unix(7): until it is accepted by a receive).
 abbrev pub PeekChangesNoFlight : Type 0
-PeekChangesNoFlight = (old new : World) (p n max_bytes max_fds : ℕ) (r : Reply) → IsSettled old → ProcessStep old p (step.Peek n max_bytes max_fds) r new → (f : ℕ) → inflight new f ≡ inflight old f
+PeekChangesNoFlight = (old new : World) (p n max_bytes max_fds : ℕ) (r : Reply) → IsSettled old
+    → ProcessStep old p (step.Peek n max_bytes max_fds) r new
+    → (f : ℕ) → inflight new f ≡ inflight old f
 
 -- After a peek, a receive or another peek gives what it would have given before: the same bytes and files (recvmsg(2), MSG_PEEK).
 abbrev pub PeekSeesWhatIsReceived : Type 0
-PeekSeesWhatIsReceived = (old new : World) (p n max_bytes max_fds : ℕ) (r : Reply) → IsSettled old → ProcessStep old p (step.Peek n max_bytes max_fds) r new → (asked : ℕ) → taken_on new p n asked ≡ taken_on old p n asked
+PeekSeesWhatIsReceived = (old new : World) (p n max_bytes max_fds : ℕ) (r : Reply) → IsSettled old
+    → ProcessStep old p (step.Peek n max_bytes max_fds) r new
+    → (asked : ℕ) → taken_on new p n asked ≡ taken_on old p n asked
 
 -- A changed limit closes nothing: each descriptor refers to the same file, whatever the reply (setrlimit(2), RLIMIT_NOFILE).
 abbrev pub LimitClosesNothing : Type 0
-LimitClosesNothing = (old new : World) (p limit : ℕ) (r : Reply) → IsSettled old → ProcessStep old p (step.Limit limit) r new → (q n : ℕ) → table_at new q n ≡ table_at old q n
+LimitClosesNothing = (old new : World) (p limit : ℕ) (r : Reply) → IsSettled old
+    → ProcessStep old p (step.Limit limit) r new → (q n : ℕ) → table_at new q n ≡ table_at old q n

@@ -24,7 +24,8 @@ PlacesKeepReached = (old new : World) → HasPlacesOf new old → (f : ℕ) → 
 
 -- It stays reached where a free number is taken into use.
 abbrev pub InstallKeepsReached : Type 0
-InstallKeepsReached = (w : World) (p n g f : ℕ) → table_at w p n ≡ None → Reached w f → Reached (install w p n g) f
+InstallKeepsReached = (w : World) (p n g f : ℕ) → table_at w p n ≡ None → Reached w f
+    → Reached (install w p n g) f
 
 -- It stays reached where a message is sent.
 abbrev pub SendKeepsReached : Type 0
@@ -36,11 +37,15 @@ ReachedIsHeld = (w : World) (f : ℕ) → Reached w f → ¬ (Unheld w f)
 
 -- Live files that no table holds, and that only they themselves hold, are garbage: a listener in the queue of its own embryo, and the embryo in its backlog (net/unix/garbage.c).
 abbrev pub GroupsOfTheirOwnAreGarbage : Type 0
-GroupsOfTheirOwnAreGarbage = (w : World) (group : ℕ → Bool) → ((f : ℕ) → group f ≡ true → IsLive w f × (¬ (InTable w f))) → ((s f : ℕ) → group f ≡ true → Holds w s f → group s ≡ true) → (f : ℕ) → group f ≡ true → Garbage w f
+GroupsOfTheirOwnAreGarbage = (w : World) (group : ℕ → Bool)
+    → ((f : ℕ) → group f ≡ true → IsLive w f × (¬ (InTable w f)))
+    → ((s f : ℕ) → group f ≡ true → Holds w s f → group s ≡ true)
+    → (f : ℕ) → group f ≡ true → Garbage w f
 
 -- A settled world with nothing in flight, and no embryo in a backlog, has no garbage: a table holds each live file.
 abbrev pub NothingInFlightIsNoGarbage : Type 0
-NothingInFlightIsNoGarbage = (w : World) → IsSettled w → total w ≡ 0 → ((f : ℕ) → waiting w f ≡ 0) → ((f : ℕ) → IsLive w f → InTable w f) × ((f : ℕ) → ¬ (Garbage w f))
+NothingInFlightIsNoGarbage = (w : World) → IsSettled w → total w ≡ 0 → ((f : ℕ) → waiting w f ≡ 0)
+    → ((f : ℕ) → IsLive w f → InTable w f) × ((f : ℕ) → ¬ (Garbage w f))
 
 -- The same files are reached before and after settling.
 abbrev pub SettlingKeepsReached : Type 0
@@ -48,20 +53,26 @@ SettlingKeepsReached = (w new : World) → Settles w new → (f : ℕ) → Reach
 
 -- The same files are reached before and after garbage is purged.
 abbrev pub PurgingKeepsReached : Type 0
-PurgingKeepsReached = (w new : World) (test : ℕ → Bool) → ((f : ℕ) → test f ≡ true → Garbage w f) → Purges test w new → (f : ℕ) → Reached w f ↔ Reached new f
+PurgingKeepsReached = (w new : World) (test : ℕ → Bool) → ((f : ℕ) → test f ≡ true → Garbage w f)
+    → Purges test w new → (f : ℕ) → Reached w f ↔ Reached new f
 
 -- A process that starts reaches nothing of what was live, but what was reached before.
 abbrev pub SpawnReachesNoGarbage : Type 0
-SpawnReachesNoGarbage = (old new : World) (uid nofile : ℕ) (privileged : Bool) (r : Reply) → IsWhole old → SpawnStep old uid nofile privileged r new → (f : ℕ) → IsLive old f → Reached new f → Reached old f
+SpawnReachesNoGarbage = (old new : World) (uid nofile : ℕ) (privileged : Bool) (r : Reply)
+    → IsWhole old → SpawnStep old uid nofile privileged r new → (f : ℕ) → IsLive old f
+    → Reached new f → Reached old f
 
 -- No step of a process reaches any of what was live, but what was reached before.
 abbrev pub StepReachesNoGarbage : Type 0
-StepReachesNoGarbage = (old new : World) (p : ℕ) (s : Step) (r : Reply) → IsWhole old → ProcessStep old p s r new → (f : ℕ) → IsLive old f → Reached new f → Reached old f
+StepReachesNoGarbage = (old new : World) (p : ℕ) (s : Step) (r : Reply) → IsWhole old
+    → ProcessStep old p s r new → (f : ℕ) → IsLive old f → Reached new f → Reached old f
 
 -- So what is garbage is out of reach after any event, whatever the answer.
 abbrev pub GarbageStaysOutOfReach : Type 0
-GarbageStaysOutOfReach = (old new : Machine) (e : Event) (r : Reply) → IsWhole old.world → MachineStep old e r new → (f : ℕ) → Garbage old.world f → ¬ (Reached new.world f)
+GarbageStaysOutOfReach = (old new : Machine) (e : Event) (r : Reply) → IsWhole old.world
+    → MachineStep old e r new → (f : ℕ) → Garbage old.world f → ¬ (Reached new.world f)
 
 -- No run reaches a file that was garbage at its beginning, whatever files are freed or made.
 abbrev pub GarbageIsNeverReached : Type 0
-GarbageIsNeverReached = (old new : Machine) (log : List Entry) → IsSound old.world → Run old log new → (f : ℕ) → Garbage old.world f → ¬ (Reached new.world f)
+GarbageIsNeverReached = (old new : Machine) (log : List Entry) → IsSound old.world → Run old log new
+    → (f : ℕ) → Garbage old.world f → ¬ (Reached new.world f)

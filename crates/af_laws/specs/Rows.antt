@@ -33,23 +33,48 @@ f = record { bytes = 102 ∷ []; attached = 2 ∷ 2 ∷ []; user = 1000 }
 
 -- One byte of a message brings all its files (unix(7), SOCK_STREAM).
 abbrev pub OneByteBringsTheFiles : Type 0
-OneByteBringsTheFiles = take_stream (bcd ∷ ee ∷ f ∷ []) 1 ≡ record { bytes = 98 ∷ []; attached = 2 ∷ []; trunc = false; rest = cd ∷ ee ∷ f ∷ [] }
+OneByteBringsTheFiles = take_stream (bcd ∷ ee ∷ f ∷ []) 1 ≡ record {
+  bytes = 98 ∷ [];
+  attached = 2 ∷ [];
+  trunc = false;
+  rest = cd ∷ ee ∷ f ∷ [];
+}
 
 -- A stream is read over the borders of messages, up to the end of the first with files.
 abbrev pub BordersAreReadOver : Type 0
-BordersAreReadOver = take_stream (cd ∷ ee ∷ f ∷ []) 20 ≡ record { bytes = 99 ∷ 100 ∷ 101 ∷ 101 ∷ 102 ∷ []; attached = 2 ∷ 2 ∷ []; trunc = false; rest = [] }
+BordersAreReadOver = take_stream (cd ∷ ee ∷ f ∷ []) 20 ≡ record {
+  bytes = 99 ∷ 100 ∷ 101 ∷ 101 ∷ 102 ∷ [];
+  attached = 2 ∷ 2 ∷ [];
+  trunc = false;
+  rest = [];
+}
 
 -- It is not read past that end, though more was asked for.
 abbrev pub FilesAreABarrier : Type 0
-FilesAreABarrier = take_stream (bcd ∷ ee ∷ f ∷ []) 20 ≡ record { bytes = 98 ∷ 99 ∷ 100 ∷ []; attached = 2 ∷ []; trunc = false; rest = ee ∷ f ∷ [] }
+FilesAreABarrier = take_stream (bcd ∷ ee ∷ f ∷ []) 20 ≡ record {
+  bytes = 98 ∷ 99 ∷ 100 ∷ [];
+  attached = 2 ∷ [];
+  trunc = false;
+  rest = ee ∷ f ∷ [];
+}
 
 -- Bytes before the files come without them.
 abbrev pub BytesBeforeComeAlone : Type 0
-BytesBeforeComeAlone = take_stream (ee ∷ f ∷ []) 2 ≡ record { bytes = 101 ∷ 101 ∷ []; attached = []; trunc = false; rest = f ∷ [] }
+BytesBeforeComeAlone = take_stream (ee ∷ f ∷ []) 2 ≡ record {
+  bytes = 101 ∷ 101 ∷ [];
+  attached = [];
+  trunc = false;
+  rest = f ∷ [];
+}
 
 -- A packet is cut to what was asked for, says so, and brings all its files (recvmsg(2), MSG_TRUNC).
 abbrev pub PacketIsCut : Type 0
-PacketIsCut = take_seqpacket (bcd ∷ ee ∷ []) 2 ≡ record { bytes = 98 ∷ 99 ∷ []; attached = 2 ∷ []; trunc = true; rest = ee ∷ [] }
+PacketIsCut = take_seqpacket (bcd ∷ ee ∷ []) 2 ≡ record {
+  bytes = 98 ∷ 99 ∷ [];
+  attached = 2 ∷ [];
+  trunc = true;
+  rest = ee ∷ [];
+}
 
 -- The smallest cycle: a process makes a pair of sockets, sends one of them through the other, so to itself, and closes it.
 abbrev pub cycle_events : List Entry
@@ -85,4 +110,5 @@ pub record IsCollected (w : World) : Type 0 where
 
 -- A whole pass after them counts one, takes the cycle away, and leaves such a world.
 abbrev pub CycleIsCollected : Type 0
-CycleIsCollected = (m : Machine) × (after : Machine) × Run fresh cycle_events m × Step m event.Pass (reply.Done 1 1) after × IsCollected after.world
+CycleIsCollected = (m : Machine) × (after : Machine) × Run fresh cycle_events m
+    × Step m event.Pass (reply.Done 1 1) after × IsCollected after.world

@@ -16,7 +16,8 @@ use Rattle.af_base.specs.World.{empty_world}
 -- A slice of this budget is refused, or may go on: no pass runs, or the budget is out of range, or with it the budgets are within three times the files of the begin.
 abbrev pub HasBudget : Pass → ℕ → Type 0
 HasBudget Idle b = Unit {0}
-HasBudget (Running begun spent) b = IsTrue (nat_eq b 0 || nat_lt MAX_BUDGET b) ⊎ (spent + b ≤ 3 * map.len begun.files)
+HasBudget (Running begun spent) b = IsTrue (nat_eq b 0 || nat_lt MAX_BUDGET b)
+    ⊎ (spent + b ≤ 3 * map.len begun.files)
 
 -- The event is no slice whose budgets are spent: such a slice is done or has no reply, since a collector that wasted the slices before may have garbage left.
 abbrev pub IsAnswered : Pass → Event → Type 0
@@ -28,7 +29,8 @@ IsAnswered p event.Pass = Unit {0}
 
 -- From every machine whose world is sound each event, but a slice whose budgets are spent, has a reply and leads somewhere.
 abbrev pub EventsHaveReplies : Type 0
-EventsHaveReplies = (old : Machine) (e : Event) → IsSound old.world → IsAnswered old.pass e → (r : Reply) × (new : Machine) × Step old e r new
+EventsHaveReplies = (old : Machine) (e : Event) → IsSound old.world → IsAnswered old.pass e
+    → (r : Reply) × (new : Machine) × Step old e r new
 
 -- The event, with its reply, leaves nothing to choose. A slice of a pass does: which files it empties, and when the pass is done, is the collector's choice.
 abbrev pub LeavesNoChoice : Event → Type 0
@@ -40,19 +42,23 @@ LeavesNoChoice event.Pass = Unit {0}
 
 -- An event that leaves nothing to choose leads, with its reply, to one machine.
 abbrev pub RepliesDetermine : Type 0
-RepliesDetermine = (old a b : Machine) (e : Event) (r : Reply) → LeavesNoChoice e → Step old e r a → Step old e r b → a ≡ b
+RepliesDetermine = (old a b : Machine) (e : Event) (r : Reply) → LeavesNoChoice e → Step old e r a
+    → Step old e r b → a ≡ b
 
 -- So a log of such events with their replies leads to one machine.
 abbrev pub LogDetermines : Type 0
-LogDetermines = (old a b : Machine) (log : List Entry) → All (λ e. LeavesNoChoice e.0) log → Run old log a → Run old log b → a ≡ b
+LogDetermines = (old a b : Machine) (log : List Entry) → All (λ e. LeavesNoChoice e.0) log
+    → Run old log a → Run old log b → a ≡ b
 
 -- A refused event changes nothing.
 abbrev pub RefusedChangesNothing : Type 0
-RefusedChangesNothing = (old new : Machine) (e : Event) (error : Errno) → Step old e (reply.Refused error) new → new ≡ old
+RefusedChangesNothing = (old new : Machine) (e : Event) (error : Errno)
+    → Step old e (reply.Refused error) new → new ≡ old
 
 -- A run of two lists joined is a run of the first, and then one of the second.
 abbrev pub RunsJoin : Type 0
-RunsJoin = (old new : Machine) (first second : List Entry) → Run old (first ++ second) new ↔ ((mid : Machine) × Run old first mid × Run mid second new)
+RunsJoin = (old new : Machine) (first second : List Entry)
+    → Run old (first ++ second) new ↔ ((mid : Machine) × Run old first mid × Run mid second new)
 
 -- The empty world is sound: whole, within all limits, and settled.
 abbrev pub FreshIsSound : Type 0
@@ -60,7 +66,8 @@ FreshIsSound = IsSound empty_world
 
 -- Each event leaves a sound world sound, whatever the answer.
 abbrev pub EventsKeepSound : Type 0
-EventsKeepSound = (old new : Machine) (e : Event) (r : Reply) → IsSound old.world → Step old e r new → IsSound new.world
+EventsKeepSound = (old new : Machine) (e : Event) (r : Reply) → IsSound old.world → Step old e r new
+    → IsSound new.world
 
 -- So every run from the beginning leads to a sound world.
 abbrev pub RunsAreSound : Type 0

@@ -34,7 +34,9 @@ HeldWorldIsSettled = (w : World) → ((f : ℕ) → IsLive w f → IsHeld w f) �
 
 -- Files that hold one another never go by themselves: of any files of which each is held by one of them, none is unheld.
 abbrev pub CyclesStay : Type 0
-CyclesStay = (w : World) (cycle : ℕ → Bool) → ((f : ℕ) → cycle f ≡ true → (s : ℕ) × (cycle s ≡ true) × Holds w s f) → (f : ℕ) → cycle f ≡ true → ¬ (Unheld w f)
+CyclesStay = (w : World) (cycle : ℕ → Bool)
+    → ((f : ℕ) → cycle f ≡ true → (s : ℕ) × (cycle s ≡ true) × Holds w s f)
+    → (f : ℕ) → cycle f ≡ true → ¬ (Unheld w f)
 
 -- A live file that no place holds is unheld.
 abbrev pub UnplacedIsUnheld : Type 0
@@ -42,4 +44,5 @@ UnplacedIsUnheld = (w : World) (f : ℕ) → IsLive w f → ¬ (IsHeld w f) → 
 
 -- To take such a file away first leaves the outcome of settling as it was.
 abbrev pub UnplacedGoesFirst : Type 0
-UnplacedGoesFirst = (w new : World) (f : ℕ) → IsLive w f → ¬ (IsHeld w f) → Settles w new ↔ Settles (without (nat_eq f) w) new
+UnplacedGoesFirst = (w new : World) (f : ℕ) → IsLive w f → ¬ (IsHeld w f)
+    → Settles w new ↔ Settles (without (nat_eq f) w) new

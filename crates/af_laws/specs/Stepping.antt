@@ -14,7 +14,8 @@ use Rattle.af_base.specs.Whole.{IsWhole}
 
 -- A child has its parent's user, limit, privilege and table, as they were (fork(2)).
 abbrev pub ForkCopies : Type 0
-ForkCopies = (old new : World) (p child : ℕ) → ProcessStep old p step.Fork (reply.Pid child) new → map.get new.processes child ≡ map.get old.processes p
+ForkCopies = (old new : World) (p child : ℕ) → ProcessStep old p step.Fork (reply.Pid child) new
+    → map.get new.processes child ≡ map.get old.processes p
 
 -- An exit removes the process, and keeps each other process (_exit(2)).
 abbrev pub ExitTakesOneTable : Type 0
@@ -23,17 +24,22 @@ ExitTakesOneTable = (old new : World) (p : ℕ) → ProcessStep old p step.Exit 
 
 -- A process that is there can always exit: there is no other answer (_exit(2)).
 abbrev pub ExitNeverFails : Type 0
-ExitNeverFails = (old new : World) (p : ℕ) (r : Reply) → IsTrue (map.contains_key old.processes p) → ProcessStep old p step.Exit r new → r ≡ reply.Ok
+ExitNeverFails = (old new : World) (p : ℕ) (r : Reply) → IsTrue (map.contains_key old.processes p)
+    → ProcessStep old p step.Exit r new → r ≡ reply.Ok
 
 -- An open number can always be closed: there is no other answer.
 abbrev pub CloseNeverFails : Type 0
-CloseNeverFails = (old new : World) (p n f : ℕ) (r : Reply) → table_at old p n ≡ Some f → ProcessStep old p (step.Close n) r new → r ≡ reply.Ok
+CloseNeverFails = (old new : World) (p n f : ℕ) (r : Reply) → table_at old p n ≡ Some f
+    → ProcessStep old p (step.Close n) r new → r ≡ reply.Ok
 
 -- A number put in place of itself changes nothing, whatever the answer (dup2(2)).
 abbrev pub Dup2ToItselfChangesNothing : Type 0
-Dup2ToItselfChangesNothing = (old new : World) (p n : ℕ) (r : Reply) → IsSettled old → ProcessStep old p (step.Dup2 n n) r new → new ≡ old
+Dup2ToItselfChangesNothing = (old new : World) (p n : ℕ) (r : Reply) → IsSettled old
+    → ProcessStep old p (step.Dup2 n n) r new → new ≡ old
 
 -- A send that nothing refuses is charged to the user of the process that sends, a place for each number that it names, repeats included, and to nobody else (unix(7), ETOOMANYREFS; whom it counts is this project's profile).
 abbrev pub SendIsChargedToItsSender : Type 0
-SendIsChargedToItsSender = (w : World) (p n u : ℕ) (bytes attach : List ℕ) → IsWhole w → refusal w p (step.Send n bytes attach) ≡ None
-    → charged (effect w p (step.Send n bytes attach)) u ≡ charged w u + (if nat_eq u (process_at w p).user then length attach else 0)
+SendIsChargedToItsSender = (w : World) (p n u : ℕ) (bytes attach : List ℕ) → IsWhole w
+    → refusal w p (step.Send n bytes attach) ≡ None
+    → charged (effect w p (step.Send n bytes attach)) u
+    ≡ charged w u + (if nat_eq u (process_at w p).user then length attach else 0)

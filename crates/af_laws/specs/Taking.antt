@@ -29,7 +29,8 @@ PacketKeepsFiles = (q : List Message) (n : ℕ) →
 
 -- It says that bytes were dropped exactly where some were (recvmsg(2), MSG_TRUNC).
 abbrev pub PacketTellsOfDrops : Type 0
-PacketTellsOfDrops = (m : Message) (q : List Message) (n : ℕ) → IsTrue (take_seqpacket (m ∷ q) n).trunc ↔ (0 < length (drop n m.bytes))
+PacketTellsOfDrops = (m : Message) (q : List Message) (n : ℕ)
+    → IsTrue (take_seqpacket (m ∷ q) n).trunc ↔ (0 < length (drop n m.bytes))
 
 -- A stream loses no byte: what is not taken is left.
 abbrev pub StreamKeepsBytes : Type 0
@@ -49,13 +50,15 @@ StreamTakesAtMost = (q : List Message) (n : ℕ) → length (take_stream q n).by
 
 -- It takes no byte past the first message with files (unix(7): ancillary data are a barrier).
 abbrev pub StreamStopsAtFiles : Type 0
-StreamStopsAtFiles = (q : List Message) (n : ℕ) (m : Message) → find has_files q ≡ Some m → length (take_stream q n).bytes ≤ bytes_before_files q + length m.bytes
+StreamStopsAtFiles = (q : List Message) (n : ℕ) (m : Message) → find has_files q ≡ Some m
+    → length (take_stream q n).bytes ≤ bytes_before_files q + length m.bytes
 
 -- The files of that message come all at once, with its first byte, and not before it.
 abbrev pub FilesComeWithFirstByte : Type 0
 FilesComeWithFirstByte = (q : List Message) (n : ℕ) (m : Message) → find has_files q ≡ Some m →
     let taken = take_stream q n in
-    (bytes_before_files q < length taken.bytes → taken.attached ≡ m.attached) × (length taken.bytes ≤ bytes_before_files q → taken.attached ≡ [])
+    (bytes_before_files q < length taken.bytes → taken.attached ≡ m.attached)
+    × (length taken.bytes ≤ bytes_before_files q → taken.attached ≡ [])
 
 -- Where no message has files, none come.
 abbrev pub NoFilesFromNone : Type 0
@@ -70,10 +73,12 @@ pub record Together : Type 0 where
 -- The joint result of receives of at most these numbers of bytes.
 abbrev pub takes : SockType → List ℕ → List Message → Together
 takes kind [] q = record { bytes = []; attached = []; rest = q }
-takes kind (n ∷ ns) q =
-    let first = take_from kind q n in
-    let others = takes kind ns first.rest in
-    record { bytes = first.bytes ++ others.bytes; attached = first.attached ++ others.attached; rest = others.rest }
+takes kind (n ∷ ns) q = let first = take_from kind q n
+    in let others = takes kind ns first.rest in record {
+      bytes = first.bytes ++ others.bytes;
+      attached = first.attached ++ others.attached;
+      rest = others.rest;
+    }
 
 -- Receives from a stream lose no byte and give none twice, however many bytes each asks for: what they took and what is left are what was there.
 abbrev pub ReceivesKeepBytes : Type 0
@@ -91,4 +96,5 @@ ReceivesKeepFiles = (kind : SockType) (ns : List ℕ) (q : List Message) → Hav
 abbrev pub OneByteAtATime : Type 0
 OneByteAtATime = (q : List Message) (n : ℕ) → HaveBytes q →
     let taken = take_stream q n in
-    takes Stream (replicate (length taken.bytes) 1) q ≡ record { bytes = taken.bytes; attached = taken.attached; rest = taken.rest }
+    takes Stream (replicate (length taken.bytes) 1) q
+    ≡ record { bytes = taken.bytes; attached = taken.attached; rest = taken.rest }

@@ -6,6 +6,8 @@ use Rattle.af_base.specs.World.{Since, World}
 -- Two periods of a list, one after the other, join to one: each number that was live at the begin of the first, or was given out since, is live at the end of the second or was listed, once.
 abbrev pub PeriodsJoin : Type 0
 PeriodsJoin =
-    (since : Since) (mid new : World) (first second : List ℕ) → since.next ≤ mid.next_ino → mid.next_ino ≤ new.next_ino
-    → AreReleased mid.files mid.next_ino since first → AreReleased new.files new.next_ino (record since { files = mid.files; next = mid.next_ino }) second
+    (since : Since) (mid new : World) (first second : List ℕ) → since.next ≤ mid.next_ino
+    → mid.next_ino ≤ new.next_ino
+    → AreReleased mid.files mid.next_ino since first → AreReleased new.files new.next_ino
+    (record since { files = mid.files; next = mid.next_ino }) second
     → AreReleased new.files new.next_ino since (first ++ second)

@@ -35,4 +35,5 @@ AreGrey colors fs = ListsExactly is_grey_color colors fs
 
 -- The marks are of this pass or earlier ones, and the list has just the grey files, and room for as many as have a mark.
 abbrev pub AreListed : Map Mark → ℕ → List ℕ → ℕ → Type 0
-AreListed marks epoch grey room = AreUpTo epoch marks × AreGrey (colors_in epoch marks) grey × (map.len marks ≤ room)
+AreListed marks epoch grey room = AreUpTo epoch marks × AreGrey (colors_in epoch marks) grey
+    × (map.len marks ≤ room)

@@ -58,7 +58,8 @@ shaded f m = if nat_lt f m.bound && is_white m f then record m { colors = map.in
 
 -- The same, but f is black at once where it was scanned too.
 abbrev pub marked_once : Bool → ℕ → Marked → Marked
-marked_once scanned f m = if nat_lt f m.bound && is_white m f then record m { colors = map.insert m.colors f (if scanned then Black else Grey) } else m
+marked_once scanned f m = if nat_lt f m.bound && is_white m f
+    then record m { colors = map.insert m.colors f (if scanned then Black else Grey) } else m
 
 -- f was visited: it is marked if a descriptor refers to it.
 abbrev pub visited : Bool → ℕ → ℕ → Marked → Marked

@@ -21,7 +21,8 @@ kind w f = option_map is_socket (map.get w.files f)
 
 -- Each live plain file carries a value, and no live socket does.
 abbrev pub AreCarried : {T : Type 0} → World → Map T → Type 0
-AreCarried w values = (f : ℕ) (socket : Bool) → kind w f ≡ Some socket → map.contains_key values f ≡ not socket
+AreCarried w values = (f : ℕ) (socket : Bool) → kind w f ≡ Some socket
+    → map.contains_key values f ≡ not socket
 
 -- Freed files are reported; a file that carries a value was live when the lists were last emptied, or was made since, so that it is live or in the list.
 pub record AreOwned {T : Type 0} (m : Machine) (values : Map T) (last : ℕ) : Type 0 where
@@ -34,4 +35,6 @@ pub record AreOwned {T : Type 0} (m : Machine) (values : Map T) (last : ℕ) : T
 
 -- The value of a file that no place holds any longer is handed back: it leaves the map, and all else stays.
 abbrev pub HandsBack : {T : Type 0} → Owning T → T → Owning T → Type 0
-HandsBack old v new = (f : ℕ) × (map.get old.values f ≡ Some v) × (is_live old.machine.world f ≡ false) × (new ≡ record old { values = map.remove old.values f })
+HandsBack old v new = (f : ℕ) × (map.get old.values f ≡ Some v)
+    × (is_live old.machine.world f ≡ false)
+    × (new ≡ record old { values = map.remove old.values f })

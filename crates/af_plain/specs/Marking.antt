@@ -28,8 +28,11 @@ left s xs = count_by (λ x. not (tree.contains nat_cmp s x)) xs
 pub record Marks (old new : Marking) (found : List ℕ) : Type 0 where
   pub marked : (f : ℕ) → Contains found f → tree.contains nat_cmp new.marked f ≡ true
   pub kept : (f : ℕ) → tree.contains nat_cmp old.marked f ≡ true → tree.contains nat_cmp new.marked f ≡ true
-  pub only : (f : ℕ) → tree.contains nat_cmp new.marked f ≡ true → (tree.contains nat_cmp old.marked f ≡ true) ⊎ Contains found f
-  pub fresh : (f : ℕ) → tree.contains nat_cmp new.marked f ≡ true → (tree.contains nat_cmp old.marked f ≡ true) ⊎ Contains new.ahead.items f
+  pub only : (f : ℕ) → tree.contains nat_cmp new.marked f ≡ true
+      → (tree.contains nat_cmp old.marked f ≡ true) ⊎ Contains found f
+  pub fresh : (f : ℕ) → tree.contains nat_cmp new.marked f ≡ true
+      → (tree.contains nat_cmp old.marked f ≡ true) ⊎ Contains new.ahead.items f
   pub stays : (f : ℕ) → Contains old.ahead.items f → Contains new.ahead.items f
   pub ahead : (f : ℕ) → Contains new.ahead.items f → Contains old.ahead.items f ⊎ Contains found f
-  pub less : (all : List ℕ) → ((f : ℕ) → Contains found f → Contains all f) → left new.marked all + length new.ahead.items ≤ left old.marked all + length old.ahead.items
+  pub less : (all : List ℕ) → ((f : ℕ) → Contains found f → Contains all f)
+      → left new.marked all + length new.ahead.items ≤ left old.marked all + length old.ahead.items

@@ -32,7 +32,9 @@ messages_of s c = messages_from s c.first c.len
 abbrev pub IsPath : Slab Node → ℕ → ℕ → ℕ → ℕ → Type 0
 IsPath s f l k zero = k ≡ k
 IsPath s f l k (suc n) =
-    (x : Node) × ((slots.get s k ≡ Some x) × (x.owner ≡ f) × (list_any (nat_eq k) (keys_from s x.next n) ≡ false) × (n ≡ zero → k ≡ l) × IsMessageWithin x.message × IsPath s f l x.next n)
+    (x : Node) × ((slots.get s k ≡ Some x) × (x.owner ≡ f)
+    × (list_any (nat_eq k) (keys_from s x.next n) ≡ false) × (n ≡ zero → k ≡ l)
+    × IsMessageWithin x.message × IsPath s f l x.next n)
 
 -- The nodes of a queue, 64 at most, are linked, and are that file's.
 pub record IsChain (s : Slab Node) (c : Chain) (f : ℕ) : Type 0 where

@@ -25,6 +25,11 @@ sender_at c q = option_map_or (λ m. m.user) (message_at c q) 0
 
 -- The result of a receive of at most n bytes. Its files all come with its last byte, so the sender of that byte was charged for them (recvmsg(2); whom it charges is this project's profile).
 abbrev pub received : SockType → List Message → ℕ → Received
-received kind q n =
-    let taken = take_from kind q n in
-    record { message = record { bytes = taken.bytes; attached = taken.attached; user = sender_at (length taken.bytes) q }; trunc = taken.trunc }
+received kind q n = let taken = take_from kind q n in record {
+  message = record {
+    bytes = taken.bytes;
+    attached = taken.attached;
+    user = sender_at (length taken.bytes) q;
+  };
+  trunc = taken.trunc;
+}

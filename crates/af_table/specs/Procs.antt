@@ -28,7 +28,12 @@ lowest_in processes p = option_and_then (λ q. slice_get (free_numbers q) 0) (ma
 
 -- A process that has just started: its table is empty (fork(2); without a parent, as spawn has it, this project's own).
 abbrev pub started : ℕ → ℕ → Bool → Process
-started user limit privileged = record { user = user; limit = limit; privileged = privileged; table = map.empty }
+started user limit privileged = record {
+  user = user;
+  limit = limit;
+  privileged = privileged;
+  table = map.empty;
+}
 
 -- The processes of entries.
 unfoldable pub processes_of : List (ℕ × Roomed) → Map Process

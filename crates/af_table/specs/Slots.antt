@@ -7,7 +7,8 @@ use Rattle.af_table.specs.Bits.{is_taken}
 -- The numbers from k on whose bit is set, each with what its slot has.
 unfoldable pub table_from : List ℕ → ℕ → List ℕ → Map ℕ
 table_from words k [] = map.empty
-table_from words k (f ∷ fs) = if is_taken words k then map.insert (table_from words (k + 1) fs) k f else table_from words (k + 1) fs
+table_from words k (f ∷ fs) = if is_taken words k then map.insert (table_from words (k + 1) fs) k f
+    else table_from words (k + 1) fs
 
 -- The map of a row of slots: each number below its length whose bit is set, with what its slot has.
 unfoldable pub table_of : List ℕ → List ℕ → Map ℕ

@@ -28,4 +28,5 @@ pub record IsIdle (w : World) (p n : ℕ) : Type 0 where
 -- Process p received one descriptor at n, and has it at `got` (recvmsg(2)).
 abbrev pub Takes : Machine → ℕ → ℕ → ℕ → Machine → Type 0
 Takes old p n got new =
-    (bytes : List ℕ) × (trunc : Bool) × (ctrunc : Bool) × Does old p (step.Recv n 1 1) (reply.Got bytes (got ∷ []) trunc ctrunc) new
+    (bytes : List ℕ) × (trunc : Bool) × (ctrunc : Bool)
+    × Does old p (step.Recv n 1 1) (reply.Got bytes (got ∷ []) trunc ctrunc) new

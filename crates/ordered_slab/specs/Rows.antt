@@ -28,7 +28,8 @@ AreUpTo last rows = (i : ℕ) → i < length rows → (row_at rows i).ino ≤ la
 pub record AreRows (packed rows : List Row) (read last : ℕ) : Type 0 where
   pub packed_rise : Rise packed
   pub rows_rise : Rise rows
-  pub below : (i j k : ℕ) → i < length packed → j < length rows → (row_at rows j).key ≡ Some k → (row_at packed i).ino < (row_at rows j).ino
+  pub below : (i j k : ℕ) → i < length packed → j < length rows → (row_at rows j).key ≡ Some k
+      → (row_at packed i).ino < (row_at rows j).ino
   pub within : read ≤ length rows
   pub dead : (j : ℕ) → j < read → (row_at rows j).key ≡ None
   pub packed_up : AreUpTo last packed

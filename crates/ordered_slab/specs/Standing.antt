@@ -18,7 +18,8 @@ value_of m s q = option_map_or (value_at s) (map.get m q) None
 -- The values of these numbers.
 abbrev pub values_from : {V : Type 0} → Map ℕ → List ℕ → Slab (Entry V) → Map V
 values_from m [] s = map.empty
-values_from m (q ∷ qs) s = option_map_or (map.insert (values_from m qs s) q) (value_of m s q) (values_from m qs s)
+values_from m (q ∷ qs) s = option_map_or (map.insert (values_from m qs s) q) (value_of m s q)
+    (values_from m qs s)
 
 -- The values of all numbers that have a key.
 unfoldable pub values_of : {V : Type 0} → Map ℕ → Slab (Entry V) → Map V

@@ -18,12 +18,15 @@ Lacks old result new = (old ≡ None) × (new ≡ None) × (result ≡ no_engine
 
 -- The call does this event, and its answer is the reply's number; or there is no engine.
 abbrev pub Calls : Option Machine → Event → ℤ → Option Machine → Type 0
-Calls old event result new = ((r : Reply) × Does old event r new × (result ≡ code_of r)) ⊎ Lacks old result new
+Calls old event result new = ((r : Reply) × Does old event r new × (result ≡ code_of r))
+    ⊎ Lacks old result new
 
 -- The same, of a call that writes to the caller's places too: by the reply, `x` there becomes `y`. Without an engine it writes nothing.
-abbrev pub CallsInto : {X : Type 0} → Option Machine → Event → (Reply → X → X) → X → ℤ → X → Option Machine → Type 0
+abbrev pub CallsInto : {X : Type 0} → Option Machine → Event → (Reply → X → X) → X → ℤ → X
+    → Option Machine → Type 0
 CallsInto old event written x result y new =
-    ((r : Reply) × Does old event r new × (result ≡ code_of r) × (y ≡ written r x)) ⊎ (Lacks old result new × (y ≡ x))
+    ((r : Reply) × Does old event r new × (result ≡ code_of r) × (y ≡ written r x))
+    ⊎ (Lacks old result new × (y ≡ x))
 
 -- The call is refused by this error before it comes to the engine, and the engine is as it was.
 abbrev pub Refuses : Option Machine → Errno → ℤ → Option Machine → Type 0

@@ -13,11 +13,16 @@ use Rattle.scm_c.specs.declared.tables.Ready.{Ready}
 -- The answer r is the lowest open descriptor of process p from this one on, and its file is written; or none is open there, the answer says so, and nothing is written.
 abbrev pub IsNextOpen : World → ℕ → ℕ → ℕ → ℤ → ℕ → Type 0
 IsNextOpen w p from old r new =
-    ((n : ℕ) × (r ≡ pos n) × (from ≤ n) × (table_at w p n ≡ Some new) × ((q : ℕ) → from ≤ q → q < n → table_at w p q ≡ None))
+    ((n : ℕ) × (r ≡ pos n) × (from ≤ n) × (table_at w p n ≡ Some new)
+    × ((q : ℕ) → from ≤ q → q < n → table_at w p q ≡ None))
     ⊎ ((r ≡ error_code EBADF) × (new ≡ old) × ((q : ℕ) → from ≤ q → table_at w p q ≡ None))
 
 -- The readiness of descriptor n of process p is written, with the answer 0; or the answer is the error, and nothing is written (poll(2)).
 abbrev pub IsPolled : World → ℕ → ℕ → Ready → ℤ → Ready → Type 0
 IsPolled w p n old r new =
-    ((r ≡ pos 0) × (ready w (ino_on w p n) ≡ Some (record { readable = new.readable; writable = new.writable; hung_up = new.hung_up })))
-    ⊎ ((e : Errno) × (first_fit (on_process (map.get w.processes p) ++ on_number (table_at w p n)) ≡ Some e) × (r ≡ error_code e) × (new ≡ old))
+    ((r ≡ pos 0)
+    × (ready w (ino_on w p n)
+    ≡ Some (record { readable = new.readable; writable = new.writable; hung_up = new.hung_up })))
+    ⊎ ((e : Errno)
+    × (first_fit (on_process (map.get w.processes p) ++ on_number (table_at w p n)) ≡ Some e)
+    × (r ≡ error_code e) × (new ≡ old))

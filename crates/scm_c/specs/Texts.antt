@@ -9,7 +9,8 @@ use Rattle.scm_c.specs.Written.{over}
 
 -- The answer is how long the name of the file f is, and as much of it as fits is written; a file without one has an empty name (unix(7)).
 abbrev pub IsNameWritten : World → ℕ → List ℕ → ℤ → List ℕ → Type 0
-IsNameWritten w f old r new = let name = unwrap_or (name_at w f) [] in (r ≡ pos (length name)) × (new ≡ over name old)
+IsNameWritten w f old r new = let name = unwrap_or (name_at w f) [] in (r ≡ pos (length name))
+    × (new ≡ over name old)
 
 -- The answer is the length of a picture of the world, and as much of it as fits is written; or it is out of memory, and nothing is written.
 abbrev pub IsPictureWritten : World → List ℕ → ℤ → List ℕ → Type 0

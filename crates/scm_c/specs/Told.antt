@@ -9,11 +9,25 @@ use Rattle.scm_c.specs.Written.{over}
 
 -- The machine with a list of freed files from now on; both lists are empty.
 abbrev pub tells_released : Machine → Machine
-tells_released m = record m { since = record { changed = m.since.changed; released = true; files = m.world.files; next = m.world.next_ino } }
+tells_released m = record m {
+  since = record {
+    changed = m.since.changed;
+    released = true;
+    files = m.world.files;
+    next = m.world.next_ino;
+  };
+}
 
 -- The machine with a list of changed sockets from now on; both lists are empty.
 abbrev pub tells_changed : Machine → Machine
-tells_changed m = record m { since = record { changed = true; released = m.since.released; files = m.world.files; next = m.world.next_ino } }
+tells_changed m = record m {
+  since = record {
+    changed = true;
+    released = m.since.released;
+    files = m.world.files;
+    next = m.world.next_ino;
+  };
+}
 
 -- The machine with both lists empty; which of them it keeps stays.
 abbrev pub cleared : Machine → Machine
@@ -26,13 +40,16 @@ Alters None f result new = (result ≡ no_engine) × (new ≡ None)
 
 -- The same; or the answer is ENOMEM, and the engine is as it was.
 abbrev pub MayAlter : Option Machine → (Machine → Machine) → ℤ → Option Machine → Type 0
-MayAlter (Some m) f result new = ((result ≡ pos 0) × (new ≡ Some (f m))) ⊎ ((result ≡ error_code ENOMEM) × (new ≡ Some m))
+MayAlter (Some m) f result new = ((result ≡ pos 0) × (new ≡ Some (f m)))
+    ⊎ ((result ≡ error_code ENOMEM) × (new ≡ Some m))
 MayAlter None f result new = (result ≡ no_engine) × (new ≡ None)
 
 -- The answer is how long the list of the freed files is, and as much of it as fits is written.
 abbrev pub IsReleasedWritten : World → Since → List ℕ → ℤ → List ℕ → Type 0
-IsReleasedWritten w since old r new = (told : List ℕ) × TellsReleased w since told × (r ≡ pos (length told)) × (new ≡ over told old)
+IsReleasedWritten w since old r new = (told : List ℕ) × TellsReleased w since told
+    × (r ≡ pos (length told)) × (new ≡ over told old)
 
 -- The answer is how long the list of the sockets whose readiness may have changed is, and as much of it as fits is written.
 abbrev pub IsChangedWritten : World → Since → List ℕ → ℤ → List ℕ → Type 0
-IsChangedWritten w since old r new = (told : List ℕ) × TellsChanged w since told × (r ≡ pos (length told)) × (new ≡ over told old)
+IsChangedWritten w since old r new = (told : List ℕ) × TellsChanged w since told
+    × (r ≡ pos (length told)) × (new ≡ over told old)

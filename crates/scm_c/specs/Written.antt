@@ -48,7 +48,11 @@ Places = List ℕ × List ℕ × Received
 
 -- The values that a receive writes: the bytes and numbers that it got, how many numbers, and whether some bytes or descriptors were dropped; at the end of a connection, that there are no numbers (recvmsg(2); cmsg(3)).
 abbrev pub received_written : Reply → Places → Places
-received_written (reply.Got bytes fds trunc ctrunc) (xs, ns, old) = (over bytes xs, over fds ns, record { fds = length fds; trunc = trunc; ctrunc = ctrunc })
+received_written (reply.Got bytes fds trunc ctrunc) (xs, ns, old) = (
+  over bytes xs,
+  over fds ns,
+  record { fds = length fds; trunc = trunc; ctrunc = ctrunc },
+)
 received_written reply.End (xs, ns, old) = (xs, ns, record { fds = 0; trunc = false; ctrunc = false })
 received_written r s = s
 
@@ -81,5 +85,10 @@ peer_number state.HungUp = 0
 abbrev pub file_of : Option FileInfo → File
 file_of None = record { kind = 0; state = 0; peer = 0; messages = 0; embryos = 0 }
 file_of (Some shown.Plain) = record { kind = 3; state = 0; peer = 0; messages = 0; embryos = 0 }
-file_of (Some (shown.Socket kind s messages embryos)) =
-    record { kind = type_number kind; state = state_number s; peer = peer_number s; messages = messages; embryos = embryos }
+file_of (Some (shown.Socket kind s messages embryos)) = record {
+  kind = type_number kind;
+  state = state_number s;
+  peer = peer_number s;
+  messages = messages;
+  embryos = embryos;
+}

@@ -23,7 +23,8 @@ run_status (Ok events) = 0
 run_status (Err f) = fault_status f
 
 -- A script was run, and the status tells how that ended.
-pub record RanScript (told left before after : Option (List ℕ)) (read_failed write_failed : Bool) (status : ℕ) : Type 0 where
+pub record RanScript (told left before after : Option (List ℕ)) (read_failed write_failed : Bool)
+    (status : ℕ) : Type 0 where
   pub outcome : Result ℕ RunFault
   pub done : IfOk outcome (RanToEnd told left before after)
   pub stopped : IfErr outcome (StopsBy told left before after)
@@ -38,19 +39,23 @@ TextOf workers steps seed budget (suc checkpoint) = LongRaceText workers steps s
 
 -- There was a race that ended well, and its text was written.
 abbrev pub RanRace : ℕ → ℕ → ℕ → ℕ → ℕ → Option (List ℕ) → Option (List ℕ) → Type 0
-RanRace workers steps seed budget checkpoint before after = (text : List ℕ) × TextOf workers steps seed budget checkpoint text × Appends before after text
+RanRace workers steps seed budget checkpoint before after = (text : List ℕ)
+    × TextOf workers steps seed budget checkpoint text × Appends before after text
 
 -- No race was told: nothing was written, or a write failed.
 abbrev pub WroteNoRace : Bool → Option (List ℕ) → Bool → Option (List ℕ) → Type 0
-WroteNoRace had_failed before has_failed after = ((has_failed ≡ had_failed) × (after ≡ before)) ⊎ (has_failed ≡ true)
+WroteNoRace had_failed before has_failed after = ((has_failed ≡ had_failed) × (after ≡ before))
+    ⊎ (has_failed ≡ true)
 
 -- A script was played to its end, where the reader tells it.
 abbrev pub PlayedScript : Option (List ℕ) → Option (List ℕ) → Option (List ℕ) → Type 0
-PlayedScript told before after = (style : Style) × ((input : List ℕ) → told ≡ Some input → Played style input before after)
+PlayedScript told before after = (style : Style)
+    × ((input : List ℕ) → told ≡ Some input → Played style input before after)
 
 -- The task was done to its end: the script on the input was run or played; or that of a file was played, or there was a race, and the input was not read.
 abbrev pub Did : Task → Option (List ℕ) → Option (List ℕ) → Option (List ℕ) → Option (List ℕ) → Type 0
 Did Run told left before after = (events : ℕ) × RanToEnd told left before after events
 Did (Play None) told left before after = PlayedScript told before after
 Did (Play (Some path)) told left before after = left ≡ told
-Did (Race workers steps seed budget checkpoint) told left before after = (left ≡ told) × RanRace workers steps seed budget checkpoint before after
+Did (Race workers steps seed budget checkpoint) told left before after = (left ≡ told)
+    × RanRace workers steps seed budget checkpoint before after

@@ -78,8 +78,10 @@ pub record IsRace (rows : List Row) (workers steps seed budget checkpoint : ℕ)
 abbrev pub StandsFor : Option (Text × List Row) → Task → Type 0
 StandsFor None task = ⊥
 StandsFor (Some found) Run = bytes_eq found.0 (codes "run") ≡ true
-StandsFor (Some found) (Play file) = (bytes_eq found.0 (codes "play") ≡ true) × (option_map (λ path. path.now) file ≡ first_of (codes "FILE") found.1)
-StandsFor (Some found) (Race workers steps seed budget checkpoint) = (bytes_eq found.0 (codes "race") ≡ true) × IsRace found.1 workers steps seed budget checkpoint
+StandsFor (Some found) (Play file) = (bytes_eq found.0 (codes "play") ≡ true)
+    × (option_map (λ path. path.now) file ≡ first_of (codes "FILE") found.1)
+StandsFor (Some found) (Race workers steps seed budget checkpoint) =
+    (bytes_eq found.0 (codes "race") ≡ true) × IsRace found.1 workers steps seed budget checkpoint
 
 -- The words of a command line fit the whole command: no fault is found in them. A call for help or for the version is one.
 unfoldable pub fits : List Text → Bool
@@ -94,4 +96,5 @@ abbrev pub IsInRange : Task → Type 0
 IsInRange Run = ⊤
 IsInRange (Play file) = ⊤
 IsInRange (Race workers steps seed budget checkpoint) =
-    (1 ≤ workers) × (workers ≤ 32) × (5 ≤ steps) × (steps ≤ most_steps checkpoint) × (1 ≤ budget) × (budget ≤ 65536)
+    (1 ≤ workers) × (workers ≤ 32) × (5 ≤ steps) × (steps ≤ most_steps checkpoint) × (1 ≤ budget)
+    × (budget ≤ 65536)

@@ -11,7 +11,8 @@ copies_of n k = if nat_le 1 k && nat_le k 1024 then Some (replicate k n) else No
 -- The meaning of an item whose first * is here, or nowhere.
 abbrev pub item_at : List ℕ → Option ℕ → Option (List ℕ)
 item_at word None = option_map (λ n. n ∷ []) (number_of word)
-item_at word (Some i) = option_and_then (λ n. option_and_then (λ k. copies_of n k) (number_of (drop (i + 1) word))) (number_of (take i word))
+item_at word (Some i) = option_and_then (λ n. option_and_then (λ k. copies_of n k)
+    (number_of (drop (i + 1) word))) (number_of (take i word))
 
 -- The meaning of an item: a number, or a number, * and how many copies of it.
 abbrev pub item_of : List ℕ → Option (List ℕ)

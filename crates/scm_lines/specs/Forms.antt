@@ -67,7 +67,8 @@ pub data Form (A : Type 0) : Type 0 where
 -- The words are of the form, and make this.
 abbrev pub SaysForm : {A : Type 0} → Form A → List (List ℕ) → A → Type 0
 SaysForm (end makes) words said = (words ≡ []) × (makes ≡ said)
-SaysForm (privilege makes) words said = (granted : Bool) × (IsPrivilege words granted × (makes granted ≡ said))
+SaysForm (privilege makes) words said = (granted : Bool)
+    × (IsPrivilege words granted × (makes granted ≡ said))
 SaysForm (items makes) words said = (fds : List ℕ) × (IsAttached words fds × (makes fds ≡ said))
 SaysForm (k ◂ form) [] said = ⊥
 SaysForm (k ◂ form) (word ∷ words) said = (v : Value k) × (SaysWord k word v × SaysForm (form v) words said)
@@ -122,7 +123,8 @@ verbs =
     ∷ verb.Socket ∷ verb.Pair ∷ verb.Fork ∷ verb.Exit ∷ verb.Bind ∷ verb.Listen ∷ verb.Peek ∷ verb.Limit ∷ []
 
 abbrev pub keywords : List Keyword
-keywords = keyword.Spawn ∷ keyword.Begin ∷ keyword.Slice ∷ keyword.Pass ∷ keyword.Table ∷ keyword.Totals ∷ keyword.Check ∷ keyword.Version ∷ []
+keywords = keyword.Spawn ∷ keyword.Begin ∷ keyword.Slice ∷ keyword.Pass ∷ keyword.Table
+    ∷ keyword.Totals ∷ keyword.Check ∷ keyword.Version ∷ []
 
 -- The row with this keyword.
 abbrev pub named : {K A : Type 0} → (K → Row A) → List K → List ℕ → Option K

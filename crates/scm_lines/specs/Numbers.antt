@@ -24,7 +24,8 @@ leads_with_zero (b ∷ c ∷ bytes) = b == 48
 
 -- One to ten digits, with no leading 0.
 abbrev pub is_numeral : List ℕ → Bool
-is_numeral word = nat_lt 0 (length word) && nat_le (length word) 10 && all_digits word && not (leads_with_zero word)
+is_numeral word = nat_lt 0 (length word) && nat_le (length word) 10 && all_digits word
+    && not (leads_with_zero word)
 
 -- The number of a word: a numeral below 2 ^ 32.
 abbrev pub number_of : List ℕ → Option ℕ

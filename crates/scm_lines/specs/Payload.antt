@@ -5,7 +5,8 @@ use Rattle.scm_lines.specs.Numbers.{is_digit, number_of}
 
 -- A letter, a digit, `_`, `-` or `.`.
 abbrev pub is_plain : ℕ → Bool
-is_plain b = is_digit b || (nat_le 65 b && nat_le b 90) || (nat_le 97 b && nat_le b 122) || (b == 95) || (b == 45) || (b == 46)
+is_plain b = is_digit b || (nat_le 65 b && nat_le b 90) || (nat_le 97 b && nat_le b 122)
+    || (b == 95) || (b == 45) || (b == 46)
 
 -- The value of a hexadecimal digit, in either case.
 abbrev pub hex_value : ℕ → Option ℕ
@@ -34,7 +35,8 @@ abbrev pub unescape : List ℕ → Option (List ℕ)
 unescape [] = Some []
 unescape (a ∷ []) = byte_before (plain_byte a) (Some [])
 unescape (a ∷ b ∷ []) = byte_before (plain_byte a) (unescape (b ∷ []))
-unescape (a ∷ b ∷ c ∷ rest) = if a == 37 then byte_before (hex_pair b c) (unescape rest) else byte_before (plain_byte a) (unescape (b ∷ c ∷ rest))
+unescape (a ∷ b ∷ c ∷ rest) = if a == 37 then byte_before (hex_pair b c) (unescape rest)
+    else byte_before (plain_byte a) (unescape (b ∷ c ∷ rest))
 
 -- A list of at most n items.
 abbrev pub at_most : ℕ → Option (List ℕ) → Option (List ℕ)
@@ -45,5 +47,6 @@ at_most n (Some items) = if nat_le (length items) n then Some items else None
 abbrev pub payload_of : List ℕ → Option (List ℕ)
 payload_of [] = None
 payload_of (a ∷ word) =
-    if a == 42 then option_and_then (λ n. if nat_le n 65537 then Some (replicate n 120) else None) (number_of word)
+    if a == 42 then option_and_then
+    (λ n. if nat_le n 65537 then Some (replicate n 120) else None) (number_of word)
     else at_most 65537 (unescape (a ∷ word))

@@ -16,7 +16,8 @@ SaysStep (word ∷ words) does = SaysRow step_row word words does
 
 -- A process's number and the words of a step.
 abbrev pub SaysProcess : List ℕ → List (List ℕ) → Line → Type 0
-SaysProcess word words said = (pid : ℕ) × (does : Step) × IsNumber word pid × SaysStep words does × (line.Event (event.Proc pid does) ≡ said)
+SaysProcess word words said = (pid : ℕ) × (does : Step) × IsNumber word pid × SaysStep words does
+    × (line.Event (event.Proc pid does) ≡ said)
 
 -- The words of a line that says this.
 abbrev pub Says : List (List ℕ) → Line → Type 0

@@ -13,7 +13,8 @@ IsNumber word n = (n < 2 ^ 32) × (word ≡ decimal n)
 abbrev pub SpellsByte : List ℕ → ℕ → List ℕ → Type 0
 SpellsByte word b rest =
     ((is_plain b ≡ true) × (word ≡ b ∷ rest))
-    ⊎ ((high low h l : ℕ) × (word ≡ 37 ∷ high ∷ low ∷ rest) × (hex_value high ≡ Some h) × (hex_value low ≡ Some l) × (b ≡ 16 * h + l))
+    ⊎ ((high low h l : ℕ) × (word ≡ 37 ∷ high ∷ low ∷ rest) × (hex_value high ≡ Some h)
+    × (hex_value low ≡ Some l) × (b ≡ 16 * h + l))
 
 -- A word that is the characters for these bytes, one after another.
 abbrev pub Spells : List ℕ → List ℕ → Type 0
@@ -36,7 +37,8 @@ IsItem word fds =
 -- Items, and their descriptors, in order.
 abbrev pub AreItems : List (List ℕ) → List ℕ → Type 0
 AreItems [] fds = fds ≡ []
-AreItems (word ∷ words) fds = (first others : List ℕ) × (IsItem word first × AreItems words others × (fds ≡ first ++ others))
+AreItems (word ∷ words) fds = (first others : List ℕ)
+    × (IsItem word first × AreItems words others × (fds ≡ first ++ others))
 
 -- Items of at most 1,024 descriptors.
 abbrev pub IsAttached : List (List ℕ) → List ℕ → Type 0

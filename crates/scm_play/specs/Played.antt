@@ -12,7 +12,8 @@ use Rattle.scm_play.specs.declared.show.Style.{Style}
 
 -- The answer to a line that cannot be read: to the question that it asks, if it asks one.
 abbrev pub IsTold : World → List ℕ → List ℕ → Type 0
-IsTold w bytes answer = (question : Question) → question_of bytes ≡ Some question → IsAnswerTo w question answer
+IsTold w bytes answer = (question : Question) → question_of bytes ≡ Some question
+    → IsAnswerTo w question answer
 
 -- The line is done as in a run, with this text.
 abbrev pub DoesLine : Point → List ℕ → List ℕ → Point → Type 0
@@ -20,7 +21,8 @@ DoesLine old bytes answer new = (events : ℕ) × LineText old bytes events answ
 
 -- The line cannot be read, and is answered; nothing changes.
 abbrev pub TellsOf : Point → List ℕ → List ℕ → Point → Type 0
-TellsOf old bytes answer new = (read_in old.version bytes ≡ None) × IsTold old.machine.world bytes answer × (new ≡ old)
+TellsOf old bytes answer new = (read_in old.version bytes ≡ None)
+    × IsTold old.machine.world bytes answer × (new ≡ old)
 
 -- The answer to a line at this point, and where it leads.
 abbrev pub Answers : Point → List ℕ → List ℕ → Point → Type 0
@@ -28,10 +30,14 @@ Answers old bytes answer new = DoesLine old bytes answer new ⊎ TellsOf old byt
 
 -- These lines, from the one of this number on, lead from old to new, and this is their shown text. Some of them can be read at their place, and these are their answers.
 abbrev pub PlayText : Style → ℕ → Point → List (List ℕ) → List (List ℕ) → List ℕ → List ℕ → Point → Type 0
-PlayText style n old [] read replies text new = (read ≡ []) × (replies ≡ []) × (text ≡ prompt_text style n) × (new ≡ old)
+PlayText style n old [] read replies text new = (read ≡ []) × (replies ≡ [])
+    × (text ≡ prompt_text style n) × (new ≡ old)
 PlayText style n old (bytes ∷ others) read replies text new =
-    (mid : Point) × (answer more : List ℕ) × (text ≡ prompt_text style n ++ (entry_text style n bytes answer ++ more))
-    × ((DoesLine old bytes answer mid × (later : List (List ℕ)) × (rest : List ℕ) × (read ≡ bytes ∷ later) × (replies ≡ answer ++ rest) × PlayText style (n + 1) mid others later rest more new)
+    (mid : Point) × (answer more : List ℕ)
+    × (text ≡ prompt_text style n ++ (entry_text style n bytes answer ++ more))
+    × ((DoesLine old bytes answer mid × (later : List (List ℕ)) × (rest : List ℕ)
+    × (read ≡ bytes ∷ later) × (replies ≡ answer ++ rest)
+    × PlayText style (n + 1) mid others later rest more new)
     ⊎ (TellsOf old bytes answer mid × PlayText style (n + 1) mid others read replies more new))
 
 -- The writer was given what is shown of the lines of this input, played from the first point on.

@@ -8,7 +8,8 @@ use Rattle.scm_play.specs.Shown.{entry_text, prompt_text}
 use Rattle.scm_play.specs.declared.show.Style.{Style}
 
 -- The first line of this input was played, from old to new, and is shown; the reader has the rest of the input.
-pub record Goes (style : Style) (number : ℕ) (input : List ℕ) (left before after : Option (List ℕ)) (old new : Point) : Type 0 where
+pub record Goes (style : Style) (number : ℕ) (input : List ℕ) (left before after : Option (List ℕ))
+    (old new : Point) : Type 0 where
   pub line : List ℕ
   pub rest : List ℕ
   pub answer : List ℕ
@@ -18,7 +19,8 @@ pub record Goes (style : Style) (number : ℕ) (input : List ℕ) (left before a
   pub wrote : Appends before after (prompt_text style number ++ entry_text style number line answer)
 
 -- This input has no line, and the prompt for one is shown.
-pub record IsOver (style : Style) (number : ℕ) (input : List ℕ) (left before after : Option (List ℕ)) : Type 0 where
+pub record IsOver (style : Style) (number : ℕ) (input : List ℕ)
+    (left before after : Option (List ℕ)) : Type 0 where
   pub none : input ≡ []
   pub leaves : left ≡ Some []
   pub wrote : Appends before after (prompt_text style number)

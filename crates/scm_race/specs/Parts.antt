@@ -25,7 +25,8 @@ abbrev pub LogHas : ℕ → (ℕ → List Pair → Type 0) → List Entry → Ty
 LogHas n P log = (i : ℕ) → i < n → P i (of_seat (i + 1) log)
 
 -- A part of a race on a book: its log is legal from a machine of which `begins` holds, and each seat has of it what P says.
-pub record IsPart (begins : ℕ → Machine → Type 0) (n : ℕ) (P : ℕ → List Pair → Type 0) (b : Logged) : Type 0 where
+pub record IsPart (begins : ℕ → Machine → Type 0) (n : ℕ) (P : ℕ → List Pair → Type 0)
+    (b : Logged) : Type 0 where
   pub origin : begins b.seats b.start
   pub legal : IsLegalFrom b.start b.seats b.machine b.log
   pub lists : LogHas n P b.log
@@ -40,7 +41,8 @@ IsOfStart workers i list = (i ≤ workers → list ≡ []) × (i ≡ workers + 1
 
 -- From one checkpoint to the next each worker has done these steps, and the collector behind them so many turns.
 abbrev pub IsOfPart : List (List Event) → ℕ → ℕ → ℕ → List Pair → Type 0
-IsOfPart steps turns budget i list = (i < length steps → events_of list ≡ slice_index_or steps i []) × (i ≡ length steps → Turned budget [] turns list)
+IsOfPart steps turns budget i list = (i < length steps → events_of list ≡ slice_index_or steps i [])
+    × (i ≡ length steps → Turned budget [] turns list)
 
 -- At the end the last seat has made a whole pass, which was done.
 abbrev pub IsOfEnd : ℕ → ℕ → List Pair → Type 0
@@ -49,7 +51,8 @@ IsOfEnd workers i list = (i ≤ workers → list ≡ []) × (i ≡ workers + 1 �
 -- What is left of each worker's script after so many steps.
 pub record AreLeft (workers steps seed done : ℕ) (sources : List (List Event)) : Type 0 where
   pub count : length sources ≡ workers
-  pub each : (i : ℕ) → i < workers → slice_index_or sources i [] ≡ drop done (script_of (i + 1) workers steps seed)
+  pub each : (i : ℕ) → i < workers
+      → slice_index_or sources i [] ≡ drop done (script_of (i + 1) workers steps seed)
 
 -- The next so many events of each source are made, and the others are left.
 pub record AreNext (count : ℕ) (old : List (List Event)) (parts new : List (List Event)) : Type 0 where
@@ -63,6 +66,7 @@ pub record GoesOn (workers steps seed budget done : ℕ) (b : Logged) : Type 0 w
   pub here : b.start ≡ b.machine
   pub log : List Entry
   pub legal : IsLegal b.seats b.machine log
-  pub scripts : (k : ℕ) → 1 ≤ k → k ≤ workers → events_of (of_seat k log) ≡ take done (script_of k workers steps seed)
+  pub scripts : (k : ℕ) → 1 ≤ k → k ≤ workers
+      → events_of (of_seat k log) ≡ take done (script_of k workers steps seed)
   pub turns : TurnedInParts budget done (of_seat (workers + 1) log)
   pub main_thread : (more : List Pair) × (of_seat (workers + 2) log ≡ spawned workers ++ more)

@@ -25,11 +25,13 @@ spawned (suc n) = spawned n ++ (spawn_of (suc n), reply.Pid (suc n)) ∷ []
 -- The scripts of the first n of all workers.
 unfoldable pub scripts_of : ℕ → ℕ → ℕ → ℕ → List (List Event)
 scripts_of zero workers steps seed = []
-scripts_of (suc n) workers steps seed = scripts_of n workers steps seed ++ script_of (suc n) workers steps seed ∷ []
+scripts_of (suc n) workers steps seed = scripts_of n workers steps seed
+    ++ script_of (suc n) workers steps seed ∷ []
 
 -- The work of a race: the workers' scripts, and as many turns of the collector as a script has events.
 abbrev pub works_of_race : ℕ → ℕ → ℕ → ℕ → List Work
-works_of_race workers steps seed budget = map Script (scripts_of workers workers steps seed) ++ Collects steps budget ∷ []
+works_of_race workers steps seed budget = map Script (scripts_of workers workers steps seed)
+    ++ Collects steps budget ∷ []
 
 -- The child that an answered fork made, if the pair is one (fork(2)).
 abbrev pub child_of : Pair → Option ℕ
@@ -50,7 +52,8 @@ all_exits_of seats = flat_map (λ s. exits_of s.list) seats
 
 -- A list was extended, and ended with a whole pass that was done.
 abbrev pub EndsInPass : List Pair → List Pair → Type 0
-EndsInPass old new = (between : List Pair) × (pass : ℕ) × (reclaimed : ℕ) × (new ≡ old ++ between ++ (event.Pass, reply.Done pass reclaimed) ∷ [])
+EndsInPass old new = (between : List Pair) × (pass : ℕ) × (reclaimed : ℕ)
+    × (new ≡ old ++ between ++ (event.Pass, reply.Done pass reclaimed) ∷ [])
 
 -- The log of a race that ended well: it is a run of the machine; each worker did its script, and the collector so many turns, as `Turns` says; the main thread started the processes first, and ended with a whole pass that was done.
 pub record RacedBy (Turns : ℕ → List Pair → Type 0) (workers steps seed : ℕ) (b : Logged) : Type 0 where
@@ -66,7 +69,8 @@ Raced workers steps seed budget = RacedBy (Turned budget []) workers steps seed
 -- So many turns were made in parts, each as by a collector that made none before.
 pub data TurnedInParts (budget : ℕ) : ℕ → List Pair → Type 0 where
   NoPart : TurnedInParts budget 0 []
-  OnePart : (n m : ℕ) → (before part : List Pair) → TurnedInParts budget n before → Turned budget [] m part → TurnedInParts budget (n + m) (before ++ part)
+  OnePart : (n m : ℕ) → (before part : List Pair) → TurnedInParts budget n before
+      → Turned budget [] m part → TurnedInParts budget (n + m) (before ++ part)
 
 -- So it is of a race with checkpoints. Its log is what was taken at them, put together.
 abbrev pub RacedInParts : ℕ → ℕ → ℕ → ℕ → Logged → Type 0
@@ -78,7 +82,8 @@ worker_steps workers log = count_by (λ e. nat_le e.seat workers) log
 
 -- The lines that tell a race: how many steps the workers did, and how many files are live.
 abbrev pub race_lines : ℕ → ℕ → List ℕ
-race_lines steps left = codes "steps " ++ (decimal steps ++ (codes "\naudit ok\nleft " ++ (decimal left ++ 10 ∷ [])))
+race_lines steps left = codes "steps "
+    ++ (decimal steps ++ (codes "\naudit ok\nleft " ++ (decimal left ++ 10 ∷ [])))
 
 -- The lines that report a race of this many workers, by the closed book: how many entries the workers have, and how many files are live.
 abbrev pub outcome_text : ℕ → Logged → List ℕ

@@ -20,7 +20,8 @@ use Rattle.scm_run.specs.declared.fault.RunFault.{RunFault}
 use Rattle.scm_run.specs.declared.fault.RunFault.TheVariants as fault
 
 -- The line was done, and its text was gathered behind what is gathered still.
-pub record LineDone (old : Point) (bytes gathered left : List ℕ) (before after : Option (List ℕ)) (events : ℕ) (new : Point) : Type 0 where
+pub record LineDone (old : Point) (bytes gathered left : List ℕ) (before after : Option (List ℕ))
+    (events : ℕ) (new : Point) : Type 0 where
   pub text : List ℕ
   pub kept : List ℕ
   pub does : LineText old bytes events text new
@@ -28,21 +29,28 @@ pub record LineDone (old : Point) (bytes gathered left : List ℕ) (before after
   pub behind : left ≡ kept ++ text
 
 -- The line of this number, in a script of this version so far, was not done, for this reason.
-abbrev pub LineStops : Version → List ℕ → ℕ → List ℕ → List ℕ → Option (List ℕ) → Option (List ℕ) → RunFault → Type 0
-LineStops v bytes number gathered left before after (fault.Unreadable n) = (n ≡ number) × (read_in v bytes ≡ None) × Moves gathered left before after
+abbrev pub LineStops : Version → List ℕ → ℕ → List ℕ → List ℕ → Option (List ℕ) → Option (List ℕ)
+    → RunFault → Type 0
+LineStops v bytes number gathered left before after (fault.Unreadable n) = (n ≡ number)
+    × (read_in v bytes ≡ None) × Moves gathered left before after
 LineStops v bytes number gathered left before after fault.Read = ⊥
 LineStops v bytes number gathered left before after fault.Write = AppendsFront before after gathered
 LineStops v bytes number gathered left before after fault.Memory = Moves gathered left before after
 
 -- What came of the step of process p that this verb and the bytes behind it say: it was done, and the line of its reply stands behind the text; or its words cannot be read, or memory for them was refused, and the text is as before.
-abbrev pub StepDone : Verb → Machine → ℕ → List ℕ → List ℕ → Result (Unit {0}) LineFault → List ℕ → Machine → Type 0
+abbrev pub StepDone : Verb → Machine → ℕ → List ℕ → List ℕ → Result (Unit {0}) LineFault → List ℕ
+    → Machine → Type 0
 StepDone k old p rest before (Ok _) after new =
-    (does : Step) × (answer : Reply) × (read_form (step_row k).1 (words_of rest) ≡ Some does) × MachineStep old (event.Proc p does) answer new × (after ≡ before ++ reply_line answer)
-StepDone k old p rest before (Err unread.Unreadable) after new = (read_form (step_row k).1 (words_of rest) ≡ None) × (after ≡ before)
+    (does : Step) × (answer : Reply) × (read_form (step_row k).1 (words_of rest) ≡ Some does)
+    × MachineStep old (event.Proc p does) answer new × (after ≡ before ++ reply_line answer)
+StepDone k old p rest before (Err unread.Unreadable) after new =
+    (read_form (step_row k).1 (words_of rest) ≡ None) × (after ≡ before)
 StepDone k old p rest before (Err unread.Memory) after new = after ≡ before
 
 -- What came of the bytes of a line at this point: they were done, and their text stands behind what was there; or they cannot be read, or memory for them was refused, and the text is as before.
 abbrev pub LineRead : Point → List ℕ → List ℕ → Result ℕ LineFault → List ℕ → Point → Type 0
-LineRead old bytes before (Ok events) after new = (text : List ℕ) × LineText old bytes events text new × (after ≡ before ++ text)
-LineRead old bytes before (Err unread.Unreadable) after new = (read_in old.version bytes ≡ None) × (after ≡ before)
+LineRead old bytes before (Ok events) after new = (text : List ℕ)
+    × LineText old bytes events text new × (after ≡ before ++ text)
+LineRead old bytes before (Err unread.Unreadable) after new = (read_in old.version bytes ≡ None)
+    × (after ≡ before)
 LineRead old bytes before (Err unread.Memory) after new = after ≡ before

@@ -35,7 +35,8 @@ pub record Ran (taken : List ℕ) (before after : Option (List ℕ)) (state : Pr
 
 -- From any state, a run read these bytes more.
 abbrev pub Took : List ℕ → Option (List ℕ) → Progress → Option (List ℕ) → Progress → Type 0
-Took bytes was old is new = (taken : List ℕ) (before : Option (List ℕ)) → Ran taken before was old → Ran (taken ++ bytes) before is new
+Took bytes was old is new = (taken : List ℕ) (before : Option (List ℕ)) → Ran taken before was old
+    → Ran (taken ++ bytes) before is new
 
 -- All lines of this input were run, and their text was written but for what is gathered.
 pub record RanAll (input : List ℕ) (before after : Option (List ℕ)) (state : Progress) : Type 0 where
@@ -59,14 +60,16 @@ abbrev pub FaultIn : List ℕ → Option (List ℕ) → Option (List ℕ) → Ru
 FaultIn bytes before after f = (more : List ℕ) → FaultAt (bytes ++ more) before after f
 
 -- Some text was written and some is gathered: the fault is so once all of it is written, and it is the writer's where only a beginning is.
-pub record Waits (says : Option (List ℕ) → RunFault → Type 0) (before after : Option (List ℕ)) (gathered : List ℕ) (f : RunFault) : Type 0 where
+pub record Waits (says : Option (List ℕ) → RunFault → Type 0) (before after : Option (List ℕ))
+    (gathered : List ℕ) (f : RunFault) : Type 0 where
   pub written : List ℕ
   pub wrote : Appends before after written
   pub whole : (last : Option (List ℕ)) → Appends before last (written ++ gathered) → says last f
   pub part : (last : Option (List ℕ)) → AppendsFront before last (written ++ gathered) → says last fault.Write
 
 -- A fault, before what is gathered is written: one of the writer is so already.
-abbrev pub Halts : (Option (List ℕ) → RunFault → Type 0) → Option (List ℕ) → Option (List ℕ) → List ℕ → RunFault → Type 0
+abbrev pub Halts : (Option (List ℕ) → RunFault → Type 0) → Option (List ℕ) → Option (List ℕ)
+    → List ℕ → RunFault → Type 0
 Halts says before after gathered (fault.Unreadable n) = Waits says before after gathered (fault.Unreadable n)
 Halts says before after gathered fault.Read = ⊥
 Halts says before after gathered fault.Write = says after fault.Write
@@ -74,4 +77,5 @@ Halts says before after gathered fault.Memory = Waits says before after gathered
 
 -- From any state, a run stopped at this fault in these bytes more.
 abbrev pub Stopped : List ℕ → Option (List ℕ) → Progress → Option (List ℕ) → Progress → RunFault → Type 0
-Stopped bytes was old is new f = (taken : List ℕ) (before : Option (List ℕ)) → Ran taken before was old → Halts (FaultIn (taken ++ bytes) before) before is new.gathered f
+Stopped bytes was old is new f = (taken : List ℕ) (before : Option (List ℕ))
+    → Ran taken before was old → Halts (FaultIn (taken ++ bytes) before) before is new.gathered f

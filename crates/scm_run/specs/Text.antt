@@ -10,7 +10,8 @@ use Rattle.af_base.specs.declared.limits.TheConstants.{MAX_BYTES, SCM_MAX_FD}
 
 -- A letter, a digit, `_`, `-` or `.` is printed as itself. This project's profile.
 abbrev pub is_plain : ℕ → Bool
-is_plain b = (nat_le 48 b && nat_le b 57) || (nat_le 65 b && nat_le b 90) || (nat_le 97 b && nat_le b 122) || (b == 95) || (b == 45) || (b == 46)
+is_plain b = (nat_le 48 b && nat_le b 57) || (nat_le 65 b && nat_le b 90)
+    || (nat_le 97 b && nat_le b 122) || (b == 95) || (b == 45) || (b == 46)
 
 -- Each byte is printed as itself.
 abbrev pub all_plain : List ℕ → Bool
@@ -39,7 +40,8 @@ flag_text flag word = if flag then word else []
 
 -- The result of a receive: the bytes, the numbers, and the two flags. This project's profile.
 abbrev pub got_text : List ℕ → List ℕ → Bool → Bool → List ℕ
-got_text bytes fds trunc ctrunc = codes "got " ++ flat_map escaped bytes ++ fds_text fds ++ flag_text trunc (codes " trunc") ++ flag_text ctrunc (codes " ctrunc")
+got_text bytes fds trunc ctrunc = codes "got " ++ flat_map escaped bytes ++ fds_text fds
+    ++ flag_text trunc (codes " trunc") ++ flag_text ctrunc (codes " ctrunc")
 
 -- A reply without the end of its line. This project's profile.
 abbrev pub reply_text : Reply → List ℕ
@@ -52,7 +54,8 @@ reply_text (reply.Got bytes fds trunc ctrunc) = got_text bytes fds trunc ctrunc
 reply_text reply.End = codes "end"
 reply_text (reply.Started pass) = codes "started " ++ decimal pass
 reply_text reply.Working = codes "working"
-reply_text (reply.Done pass reclaimed) = codes "pass " ++ decimal pass ++ codes " reclaimed " ++ decimal reclaimed
+reply_text (reply.Done pass reclaimed) = codes "pass " ++ decimal pass ++ codes " reclaimed "
+    ++ decimal reclaimed
 reply_text (reply.Refused error) = name_of error
 
 -- The reply that tells what a call answered, or its error.
