@@ -1,8 +1,9 @@
 //! Files, and their peers.
-ghost use Rattle.std.specs.Prelude.{◌≡◌, ◌++◌, Some, OnOk, string_bytes};
+ghost use Rattle.std.specs.Prelude.{◌≡◌, Some, OnOk};
 ghost use Rattle.std.specs.List.Sorted.{IsStrictlyIncreasing};
 ghost use Rattle.std.specs.FinMap as map;
 ghost use Rattle.af_base.specs.World.{File, IsLive};
+ghost use Rattle.af_report.specs.Texts.{AppendsText};
 ghost use Rattle.af_graph.specs.Graph.{colour, counts_text, files_text, is_in, kind_text};
 ghost use Rattle.af_graph.specs.Graph.{node_text, peer_of, peer_text};
 
@@ -17,7 +18,7 @@ use std::alloc::AllocError;
 fn push_kind(text: &mut String, engine: &Engine, file: &FileRef) -> Result<(), AllocError>
     requires { IsLive engine.now.world file.now }
     ensures { (x : File) → map.get engine.now.world.files file.now ≡ Some x
-        → OnOk result (string_bytes text.new ≡ string_bytes text.old ++ kind_text x) }
+        → OnOk result (AppendsText text.old text.new (kind_text x)) }
 {
     match engine.file_at(file) {
         FileInfo::Plain => text.push_str("plain"),
@@ -31,15 +32,14 @@ fn push_kind(text: &mut String, engine: &Engine, file: &FileRef) -> Result<(), A
 
 /// Appends the two counts of a file on a line of their own.
 fn push_counts(text: &mut String, refs: u64, inflight: u64) -> Result<(), AllocError>
-    ensures { OnOk result
-        (string_bytes text.new ≡ string_bytes text.old ++ counts_text refs inflight) }
+    ensures { OnOk result (AppendsText text.old text.new (counts_text refs inflight)) }
 {
     write!(text, "\\nrefs {refs} inflight {inflight}")
 }
 
 /// Appends the colour of garbage, where the file is garbage.
 fn push_colour(text: &mut String, lost: bool) -> Result<(), AllocError>
-    ensures { OnOk result (string_bytes text.new ≡ string_bytes text.old ++ colour lost) }
+    ensures { OnOk result (AppendsText text.old text.new (colour lost)) }
 {
     if !lost {
         return Ok(());
@@ -49,8 +49,7 @@ fn push_colour(text: &mut String, lost: bool) -> Result<(), AllocError>
 
 /// Appends an edge to the peer of a connected socket.
 fn push_state(text: &mut String, ino: Ino, state: &State) -> Result<(), AllocError>
-    ensures { OnOk result
-        (string_bytes text.new ≡ string_bytes text.old ++ peer_text ino state.now) }
+    ensures { OnOk result (AppendsText text.old text.new (peer_text ino state.now)) }
 {
     match state {
         State::Connected(peer) => writeln!(text, "f{ino} -> f{peer} [style=dotted]"),
@@ -62,7 +61,7 @@ fn push_state(text: &mut String, ino: Ino, state: &State) -> Result<(), AllocErr
 fn push_peer(text: &mut String, engine: &Engine, file: &FileRef) -> Result<(), AllocError>
     requires { IsLive engine.now.world file.now }
     ensures { (x : File) → map.get engine.now.world.files file.now ≡ Some x
-        → OnOk result (string_bytes text.new ≡ string_bytes text.old ++ peer_of file.now x) }
+        → OnOk result (AppendsText text.old text.new (peer_of file.now x)) }
 {
     match engine.file_at(file) {
         FileInfo::Plain => Ok(()),
@@ -79,8 +78,7 @@ fn push_node(
 ) -> Result<(), AllocError>
     requires { IsLive engine.now.world file.now }
     ensures { (x : File) → map.get engine.now.world.files file.now ≡ Some x
-        → OnOk result (string_bytes text.new
-        ≡ string_bytes text.old ++ node_text engine.now.world lost file.now x) }
+        → OnOk result (AppendsText text.old text.new (node_text engine.now.world lost file.now x)) }
 {
     let ino = file.ino();
     write!(text, "f{ino} [label=\"{ino} ")?;
@@ -105,8 +103,7 @@ fn is_in(inos: &[Ino], ino: Ino) -> bool
 /// rises, have the colour of garbage.
 pub fn push_files(text: &mut String, engine: &Engine, lost: &[Ino]) -> Result<(), AllocError>
     requires { IsStrictlyIncreasing lost.now }
-    ensures { OnOk result
-        (string_bytes text.new ≡ string_bytes text.old ++ files_text engine.now.world lost.now) }
+    ensures { OnOk result (AppendsText text.old text.new (files_text engine.now.world lost.now)) }
 {
     // No file has the number 0: that is what a sound world says of it.
     engine.lemma_is_sound();

@@ -1,6 +1,7 @@
 //! Names, so written that they cannot leave their quotes.
-ghost use Rattle.std.specs.Prelude.{◌≡◌, ◌<◌, ◌∷◌, [], ◌++◌, OnOk, option_copied, string_bytes};
+ghost use Rattle.std.specs.Prelude.{◌≡◌, ◌<◌, ◌∷◌, [], OnOk, option_copied};
 ghost use Rattle.af_base.specs.Names.{is_name_byte};
+ghost use Rattle.af_report.specs.Texts.{AppendsText};
 ghost use Rattle.af_graph.specs.Graph.{name_text};
 ghost use Rattle.af_graph.specs.Quoted.{hex_digit, quoted, quoted_byte};
 
@@ -29,14 +30,14 @@ fn hex_digit(value: u8) -> u8
 /// Appends a character of ASCII.
 fn push_ascii(text: &mut String, byte: u8) -> Result<(), AllocError>
     requires { byte < 128 }
-    ensures { OnOk result (string_bytes text.new ≡ string_bytes text.old ++ byte ∷ []) }
+    ensures { OnOk result (AppendsText text.old text.new (byte ∷ [])) }
 {
     text.push(char::from(byte))
 }
 
 /// Appends a byte as itself, or % and its two hexadecimal digits.
 fn push_byte(text: &mut String, byte: u8) -> Result<(), AllocError>
-    ensures { OnOk result (string_bytes text.new ≡ string_bytes text.old ++ quoted_byte byte) }
+    ensures { OnOk result (AppendsText text.old text.new (quoted_byte byte)) }
 {
     if is_name_byte(byte) {
         return push_ascii(text, byte);
@@ -48,7 +49,7 @@ fn push_byte(text: &mut String, byte: u8) -> Result<(), AllocError>
 
 /// Appends each byte as itself, or % and its two hexadecimal digits.
 fn push_quoted(text: &mut String, name: &[u8]) -> Result<(), AllocError>
-    ensures { OnOk result (string_bytes text.new ≡ string_bytes text.old ++ quoted name.now) }
+    ensures { OnOk result (AppendsText text.old text.new (quoted name.now)) }
 {
     for byte in name {
         push_byte(text, *byte)?;
@@ -58,8 +59,7 @@ fn push_quoted(text: &mut String, name: &[u8]) -> Result<(), AllocError>
 
 /// Appends a name on a line of its own, behind `@`; nothing where there is none.
 pub fn push_name(text: &mut String, name: Option<&[u8]>) -> Result<(), AllocError>
-    ensures { OnOk result
-        (string_bytes text.new ≡ string_bytes text.old ++ name_text (option_copied name.entry)) }
+    ensures { OnOk result (AppendsText text.old text.new (name_text (option_copied name.entry))) }
 {
     let Some(name) = name else {
         return Ok(());

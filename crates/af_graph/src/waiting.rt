@@ -1,7 +1,8 @@
 //! The contents of files: files attached to messages, and embryos.
-ghost use Rattle.std.specs.Prelude.{◌≡◌, ◌++◌, OnOk, string_bytes};
+ghost use Rattle.std.specs.Prelude.{OnOk};
 ghost use Rattle.std.specs.List.{flat_map};
 ghost use Rattle.af_base.specs.Listing.{file_of, message_of};
+ghost use Rattle.af_report.specs.Texts.{AppendsText};
 ghost use Rattle.af_graph.specs.Graph.{attached_text, embryo_text, message_text, waiting_text};
 
 use af_base::listing::{ListedFile, ListedMessage};
@@ -10,8 +11,7 @@ use std::alloc::AllocError;
 
 /// Appends an edge to a file that travels with a message of the user.
 fn push_attached(text: &mut String, ino: Ino, user: Uid, attached: Ino) -> Result<(), AllocError>
-    ensures { OnOk result
-        (string_bytes text.new ≡ string_bytes text.old ++ attached_text ino user attached) }
+    ensures { OnOk result (AppendsText text.old text.new (attached_text ino user attached)) }
 {
     writeln!(
         text,
@@ -21,8 +21,8 @@ fn push_attached(text: &mut String, ino: Ino, user: Uid, attached: Ino) -> Resul
 
 /// Appends an edge to each file that travels with a message of the user.
 fn push_message(text: &mut String, ino: Ino, user: Uid, attached: &[Ino]) -> Result<(), AllocError>
-    ensures { OnOk result (string_bytes text.new
-        ≡ string_bytes text.old ++ flat_map (attached_text ino user) attached.now) }
+    ensures { OnOk result
+        (AppendsText text.old text.new (flat_map (attached_text ino user) attached.now)) }
 {
     for other in attached {
         push_attached(text, ino, user, *other)?;
@@ -32,16 +32,15 @@ fn push_message(text: &mut String, ino: Ino, user: Uid, attached: &[Ino]) -> Res
 
 /// Appends an edge to an embryo.
 fn push_embryo(text: &mut String, ino: Ino, embryo: Ino) -> Result<(), AllocError>
-    ensures { OnOk result
-        (string_bytes text.new ≡ string_bytes text.old ++ embryo_text ino embryo) }
+    ensures { OnOk result (AppendsText text.old text.new (embryo_text ino embryo)) }
 {
     writeln!(text, "f{ino} -> f{embryo} [style=dashed, label=embryo]")
 }
 
 /// Appends an edge to each file that travels with a message of a queue.
 fn push_queue(text: &mut String, ino: Ino, queue: &[ListedMessage]) -> Result<(), AllocError>
-    ensures { OnOk result (string_bytes text.new
-        ≡ string_bytes text.old ++ flat_map (λ m. message_text ino (message_of m)) queue.now) }
+    ensures { OnOk result (AppendsText text.old text.new
+        (flat_map (λ m. message_text ino (message_of m)) queue.now)) }
 {
     for message in queue {
         push_message(text, ino, message.user, message.attached.as_slice())?;
@@ -51,8 +50,7 @@ fn push_queue(text: &mut String, ino: Ino, queue: &[ListedMessage]) -> Result<()
 
 /// Appends an edge to each embryo of a backlog.
 fn push_backlog(text: &mut String, ino: Ino, backlog: &[Ino]) -> Result<(), AllocError>
-    ensures { OnOk result
-        (string_bytes text.new ≡ string_bytes text.old ++ flat_map (embryo_text ino) backlog.now) }
+    ensures { OnOk result (AppendsText text.old text.new (flat_map (embryo_text ino) backlog.now)) }
 {
     for embryo in backlog {
         push_embryo(text, ino, *embryo)?;
@@ -62,8 +60,8 @@ fn push_backlog(text: &mut String, ino: Ino, backlog: &[Ino]) -> Result<(), Allo
 
 /// Appends what waits at a file.
 fn push_waiting(text: &mut String, file: &ListedFile) -> Result<(), AllocError>
-    ensures { OnOk result (string_bytes text.new
-        ≡ string_bytes text.old ++ waiting_text file.now.ino (file_of file.now)) }
+    ensures { OnOk result
+        (AppendsText text.old text.new (waiting_text file.now.ino (file_of file.now))) }
 {
     let Some(socket) = &file.socket else {
         return Ok(());
@@ -75,8 +73,8 @@ fn push_waiting(text: &mut String, file: &ListedFile) -> Result<(), AllocError>
 
 /// Appends what waits at all files.
 pub fn push_all_waiting(text: &mut String, files: &[ListedFile]) -> Result<(), AllocError>
-    ensures { OnOk result (string_bytes text.new
-        ≡ string_bytes text.old ++ flat_map (λ x. waiting_text x.ino (file_of x)) files.now) }
+    ensures { OnOk result
+        (AppendsText text.old text.new (flat_map (λ x. waiting_text x.ino (file_of x)) files.now)) }
 {
     for file in files {
         push_waiting(text, file)?;

@@ -1,3 +1,4 @@
 pub mod Check
 pub mod Table
+pub mod Texts
 pub mod Totals

@@ -1,12 +1,11 @@
 //! The columns of a table. Each has a space behind it, but for the last one, the name.
 ghost use Rattle.std.specs.Prelude.{◌≡◌, ◌<◌, ◌++◌, ◌∷◌, [], Some, OnOk, length, option_copied};
-ghost use Rattle.std.specs.Prelude.{string_bytes};
 ghost use Rattle.af_base.specs.Places.{backlog_of, queue_of};
 ghost use Rattle.std.specs.FinMap as map;
 ghost use Rattle.af_base.specs.World.{File, IsLive};
 ghost use Rattle.af_report.specs.Table.{joined, kind_of, left, name_text, peer_number, peer_of};
 ghost use Rattle.af_report.specs.Table.{right, state_of, state_word, type_word};
-ghost use Rattle.af_steps.specs.Shown.{shown_of};
+ghost use Rattle.af_report.specs.Texts.{AppendsText};
 
 use af_base::events::{SockType, State};
 use af_base::names::{FileRef, Ino};
@@ -16,8 +15,7 @@ use std::alloc::AllocError;
 /// Appends a number at the right of its column.
 fn push_number(text: &mut String, width: usize, number: u64) -> Result<(), AllocError>
     requires { 0 < width }
-    ensures { OnOk result
-        (string_bytes text.new ≡ string_bytes text.old ++ (right width number ++ 32 ∷ [])) }
+    ensures { OnOk result (AppendsText text.old text.new (right width number ++ 32 ∷ [])) }
 {
     write!(text, "{number:>width$} ")
 }
@@ -25,16 +23,15 @@ fn push_number(text: &mut String, width: usize, number: u64) -> Result<(), Alloc
 /// Appends a word at the left of its column.
 fn push_word(text: &mut String, width: usize, word: &str) -> Result<(), AllocError>
     requires { 0 < width }
-    ensures { OnOk result
-        (string_bytes text.new ≡ string_bytes text.old ++ (left width word.now ++ 32 ∷ [])) }
+    ensures { OnOk result (AppendsText text.old text.new (left width word.now ++ 32 ∷ [])) }
 {
     write!(text, "{word:<width$} ")
 }
 
 /// Appends a file's number and its two counts.
 pub fn push_counts(text: &mut String, ino: Ino, refs: u64, inflight: u64) -> Result<(), AllocError>
-    ensures { OnOk result (string_bytes text.new ≡ string_bytes text.old ++ joined
-        (right 8 ino ∷ right 7 refs ∷ right 7 inflight ∷ [] ∷ [])) }
+    ensures { OnOk result (AppendsText text.old text.new
+        (joined (right 8 ino ∷ right 7 refs ∷ right 7 inflight ∷ [] ∷ []))) }
 {
     push_number(text, 8, ino.0)?;
     push_number(text, 7, refs)?;
@@ -76,8 +73,8 @@ fn peer_number(state: &State) -> u64
 
 /// Appends what a file is and whom it can talk to.
 fn push_kind(text: &mut String, kind: &str, state: &str) -> Result<(), AllocError>
-    ensures { OnOk result (string_bytes text.new
-        ≡ string_bytes text.old ++ joined (left 9 kind.now ∷ left 9 state.now ∷ [] ∷ [])) }
+    ensures { OnOk result
+        (AppendsText text.old text.new (joined (left 9 kind.now ∷ left 9 state.now ∷ [] ∷ []))) }
 {
     push_word(text, 9, kind)?;
     push_word(text, 9, state)?;
@@ -91,8 +88,8 @@ fn push_waiting(
     embryos: usize,
     peer: u64,
 ) -> Result<(), AllocError>
-    ensures { OnOk result (string_bytes text.new ≡ string_bytes text.old ++ joined
-        (right 4 messages ∷ right 4 embryos ∷ right 8 peer ∷ [] ∷ [])) }
+    ensures { OnOk result (AppendsText text.old text.new
+        (joined (right 4 messages ∷ right 4 embryos ∷ right 8 peer ∷ [] ∷ []))) }
 {
     push_number(text, 4, messages as u64)?;
     push_number(text, 4, embryos as u64)?;
@@ -104,9 +101,9 @@ fn push_waiting(
 pub fn push_file(text: &mut String, engine: &Engine, file: &FileRef) -> Result<(), AllocError>
     requires { IsLive engine.now.world file.now }
     ensures { (x : File) → map.get engine.now.world.files file.now ≡ Some x
-        → OnOk result (string_bytes text.new
-        ≡ string_bytes text.old ++ joined (left 9 (kind_of x) ∷ left 9 (state_of x) ∷ right 4
-        (length (queue_of x)) ∷ right 4 (length (backlog_of x)) ∷ right 8 (peer_of x) ∷ [] ∷ [])) }
+        → OnOk result (AppendsText text.old text.new
+        (joined (left 9 (kind_of x) ∷ left 9 (state_of x) ∷ right 4 (length (queue_of x))
+        ∷ right 4 (length (backlog_of x)) ∷ right 8 (peer_of x) ∷ [] ∷ []))) }
 {
     match engine.file_at(file) {
         FileInfo::Plain => {

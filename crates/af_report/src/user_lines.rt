@@ -1,5 +1,6 @@
 //! A line for each user.
-ghost use Rattle.std.specs.Prelude.{◌≡◌, ◌++◌, IfOk, OnOk, string_bytes};
+ghost use Rattle.std.specs.Prelude.{◌≡◌, IfOk, OnOk};
+ghost use Rattle.af_report.specs.Texts.{AppendsText};
 ghost use Rattle.af_report.specs.Totals.{totals_text, user_line};
 
 use af_base::names::Uid;
@@ -8,8 +9,7 @@ use std::alloc::{AllocError, Global};
 
 /// Appends the line of a user.
 fn push_user(text: &mut String, user: Uid, charged: u64) -> Result<(), AllocError>
-    ensures { OnOk result
-        (string_bytes text.new ≡ string_bytes text.old ++ user_line user charged) }
+    ensures { OnOk result (AppendsText text.old text.new (user_line user charged)) }
 {
     writeln!(text, "user {user} inflight {charged}")
 }
