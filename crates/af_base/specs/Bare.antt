@@ -1,4 +1,5 @@
--- The bare world: who holds what, and whom it is charged to, without all else. Definitions that name no manual page are of this project's profile (docs/PROFILE.md).
+-- The bare world: who holds what, and whom it is charged to, without all else. Definitions that
+-- name no manual page are of this project's profile (docs/PROFILE.md).
 use Rattle.std.specs.Prelude.{[], false, map}
 use Rattle.std.specs.FinMap as finmap
 use Rattle.af_base.specs.World.{World, Process, File, Socket, Message, Plain, AsSocket}
@@ -9,7 +10,8 @@ use Rattle.af_base.specs.Unheld.{map_entries}
 abbrev pub bare_message : Message → Message
 bare_message m = record m { bytes = [] }
 
--- A socket with its queue and backlog alone: every bare socket has the same type, no peer and no name.
+-- A socket with its queue and backlog alone: every bare socket has the same type, no peer and no
+-- name.
 abbrev pub bare_socket : Socket → Socket
 bare_socket s = record no_socket { queue = map bare_message s.queue; backlog = s.backlog }
 
@@ -22,7 +24,8 @@ bare_file (AsSocket s) = AsSocket (bare_socket s)
 abbrev pub bare_process : Process → Process
 bare_process q = record { user = 0; limit = 0; privileged = false; table = q.table }
 
--- The world with its places and their charges alone: no bytes, names, states, limits, users and next numbers.
+-- The world with its places and their charges alone: no bytes, names, states, limits, users and
+-- next numbers.
 abbrev pub bare : World → World
 bare w = record {
   processes = map_entries (λ _. bare_process) (finmap.entries w.processes);

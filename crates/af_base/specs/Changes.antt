@@ -1,4 +1,5 @@
--- How a world is changed: a value in a map, a table, a socket, a file or a process more. Definitions that name no manual page are of this project's profile (docs/PROFILE.md).
+-- How a world is changed: a value in a map, a table, a socket, a file or a process more.
+-- Definitions that name no manual page are of this project's profile (docs/PROFILE.md).
 use Rattle.std.specs.Prelude.{ℕ, ◌+◌, List, [], ◌∷◌, ◌++◌, Some, drop, nat_eq, if◌then◌else◌}
 use Rattle.std.specs.List.{list_any}
 use Rattle.std.specs.Option.{option_map_or}
@@ -84,7 +85,8 @@ queued f s = record s { backlog = s.backlog ++ f ∷ [] }
 abbrev pub dequeued : Socket → Socket
 dequeued s = record s { backlog = drop 1 s.backlog }
 
--- A process with this limit on its descriptors; its table stays as it is (setrlimit(2), RLIMIT_NOFILE).
+-- A process with this limit on its descriptors; its table stays as it is (setrlimit(2),
+-- RLIMIT_NOFILE).
 abbrev pub limited : ℕ → Process → Process
 limited n q = record q { limit = n }
 

@@ -1,4 +1,6 @@
--- How many places hold a file, and how many are charged to a user: numbers of places, repeats included. Definitions that name no manual page are this project's own, or of its profile (docs/PROFILE.md).
+-- How many places hold a file, and how many are charged to a user: numbers of places, repeats
+-- included. Definitions that name no manual page are this project's own, or of its profile
+-- (docs/PROFILE.md).
 use Rattle.std.specs.Prelude.{◌≡◌, ℕ, ◌+◌, Bool, List, length, nat_eq, false, if◌then◌else◌}
 use Rattle.std.specs.List.{sum_by, count_by}
 use Rattle.std.specs.FinMap as map
@@ -27,11 +29,13 @@ one f g = if nat_eq f g then 1 else 0
 abbrev pub tabled : World → ℕ → ℕ
 tabled w f = total_of (λ p. total_of (λ g. one f g) p.table) w.processes
 
--- The reference count: how many places hold f, in tables, queues and backlogs (close(2): a description is freed with its last reference).
+-- The reference count: how many places hold f, in tables, queues and backlogs (close(2): a
+-- description is freed with its last reference).
 abbrev pub refs : World → ℕ → ℕ
 refs w f = tabled w f + total_of (λ x. count_in f (contents x)) w.files
 
--- The in-flight count: how many queue places hold f, sent and not yet accepted by a receive (unix(7), ETOOMANYREFS).
+-- The in-flight count: how many queue places hold f, sent and not yet accepted by a receive
+-- (unix(7), ETOOMANYREFS).
 abbrev pub inflight : World → ℕ → ℕ
 inflight w f = total_of (λ x. count_in f (carried (queue_of x))) w.files
 
@@ -43,7 +47,8 @@ waiting w f = total_of (λ x. count_in f (backlog_of x)) w.files
 abbrev pub charge : ℕ → Message → ℕ
 charge u m = if nat_eq u m.user then length m.attached else 0
 
--- The charge of user u: the queue places in messages that its processes sent (unix(7), ETOOMANYREFS; whom it counts is this project's profile).
+-- The charge of user u: the queue places in messages that its processes sent (unix(7),
+-- ETOOMANYREFS; whom it counts is this project's profile).
 abbrev pub charged : World → ℕ → ℕ
 charged w u = total_of (λ x. sum_by (charge u) (queue_of x)) w.files
 

@@ -1,4 +1,5 @@
--- The bare world that plain lists of tables and files describe. Definitions that name no manual page are of this project's profile (docs/PROFILE.md).
+-- The bare world that plain lists of tables and files describe. Definitions that name no manual
+-- page are of this project's profile (docs/PROFILE.md).
 use Rattle.std.specs.Prelude.{◌≡◌, ℕ, ◌<◌, ◌^◌, List, [], false, map, length}
 use Rattle.std.specs.List.{All, sum_by}
 use Rattle.std.specs.List.Sorted.{IsNonDecreasing, IsStrictlyIncreasing}
@@ -83,7 +84,8 @@ pub record IsTally (counts : ℕ → ℕ) (xs : List ℕ) : Type 0 where
   pub rising : IsNonDecreasing xs
   pub each : (f : ℕ) → count_in f xs ≡ counts f
 
--- The lists of a listing: its tables and files, the file of each place, the file of each place in a queue, and the user whom each of these is charged to.
+-- The lists of a listing: its tables and files, the file of each place, the file of each place in a
+-- queue, and the user whom each of these is charged to.
 pub record AreListed (tables : List ListedTable) (files : List ListedFile)
     (held queued payers : List ℕ) : Type 0 where
   pub ordered_tables : AreTables tables

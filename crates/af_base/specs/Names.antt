@@ -16,7 +16,8 @@ abbrev pub is_name_byte : ℕ → Bool
 is_name_byte b = is_between 48 57 b || is_between 65 90 b || is_between 97 122 b || nat_eq b 45
     || nat_eq b 46 || nat_eq b 95
 
--- Whether these bytes are a name: 1 to 107 such bytes (unix(7), sun_path; which bytes is this project's profile).
+-- Whether these bytes are a name: 1 to 107 such bytes (unix(7), sun_path; which bytes is this
+-- project's profile).
 abbrev pub is_name : List ℕ → Bool
 is_name bytes = is_between 1 MAX_NAME (length bytes) && list_all is_name_byte bytes
 
@@ -25,6 +26,7 @@ abbrev pub has_name : List ℕ → File → Bool
 has_name name Plain = false
 has_name name (AsSocket s) = option_map_or (bytes_eq name) s.name false
 
--- The file of these that has the name, if there is one: one set of names serves both types (unix(7), abstract; the one set is this project's profile).
+-- The file of these that has the name, if there is one: one set of names serves both types
+-- (unix(7), abstract; the one set is this project's profile).
 abbrev pub named : Map File → List ℕ → Option ℕ
 named files name = option_map (λ e. e.0) (find (λ e. has_name name e.1) (map.entries files))

@@ -1,4 +1,5 @@
--- The collector: what a pass remembers, and what it may do. Definitions that name no manual page are of this project's profile (docs/PROFILE.md).
+-- The collector: what a pass remembers, and what it may do. Definitions that name no manual page
+-- are of this project's profile (docs/PROFILE.md).
 use Rattle.std.specs.Prelude.{◌≡◌, ◌⊎◌, ◌↔◌, ℕ, ◌+◌, ◌*◌, ◌≤◌, Bool, true, List, [], length, nat_eq, nat_lt, min, if◌then◌else◌, MatchBool, ◌||◌}
 use Rattle.std.specs.List.{list_any, All}
 use Rattle.std.specs.FinMap as map
@@ -10,12 +11,14 @@ use Rattle.af_base.specs.World.{World, File, Plain, AsSocket, IsLive, Since}
 use Rattle.af_base.specs.Unheld.{Settles, map_entries}
 use Rattle.af_base.specs.Reached.{Garbage, IsGarbageCount}
 
--- The pass: none, or one that runs, with the world at its begin and the budgets spent since. The garbage, the live files and the places of that moment follow from that world.
+-- The pass: none, or one that runs, with the world at its begin and the budgets spent since. The
+-- garbage, the live files and the places of that moment follow from that world.
 pub data Pass : Type 0 where
   Idle : Pass
   Running : (begun : World) → (spent : ℕ) → Pass
 
--- The machine: the world, the pass, the number of the last pass (0 at first), and the lists of reports.
+-- The machine: the world, the pass, the number of the last pass (0 at first), and the lists of
+-- reports.
 pub record Machine : Type 0 where
   pub world : World
   pub pass : Pass
@@ -33,7 +36,8 @@ emptied test w = record w {
   files = map_entries (λ f x. if test f then empty_file x else x) (map.entries w.files);
 }
 
--- `new` is `old` purged: the queues and backlogs of the files that pass the test emptied, and then settled (net/unix/garbage.c: queues of garbage are emptied).
+-- `new` is `old` purged: the queues and backlogs of the files that pass the test emptied, and then
+-- settled (net/unix/garbage.c: queues of garbage are emptied).
 abbrev pub Purges : (ℕ → Bool) → World → World → Type 0
 Purges test old new = Settles (emptied test old) new
 
@@ -53,7 +57,9 @@ Begins Idle old r new = (r ≡ reply.Started (next_pass old.last_pass)) × (new 
 })
 Begins (Running begun spent) old r new = (r ≡ reply.Refused EBUSY) × (new ≡ old)
 
--- A slice of budget b: at most b files, all garbage of the begin, are purged. It may go on while the budgets are within three times the files of the begin, and is done only where none of that garbage is live.
+-- A slice of budget b: at most b files, all garbage of the begin, are purged. It may go on while
+-- the budgets are within three times the files of the begin, and is done only where none of that
+-- garbage is live.
 pub record Slices (begun old : World) (spent b pass : ℕ) (r : Reply) (new : World)
     (after : Pass) : Type 0 where
   pub emptied_files : List ℕ

@@ -5,7 +5,8 @@ use Rattle.std.specs.Option.{option_map_or}
 use Rattle.std.specs.FinMap as map
 use Rattle.af_base.specs.World.{World, Map, Process, Message, File, Plain, AsSocket}
 
--- The file that descriptor n of process p refers to (open(2): a descriptor is an index into the process's table).
+-- The file that descriptor n of process p refers to (open(2): a descriptor is an index into the
+-- process's table).
 abbrev pub number_in : Map Process → ℕ → ℕ → Option ℕ
 number_in processes p n = option_map_or (λ q. map.get q.table n) (map.get processes p) None
 

@@ -1,4 +1,5 @@
--- The readiness of a file (poll(2)), and the files whose readiness a step can change. Definitions that name no manual page are this project's own.
+-- The readiness of a file (poll(2)), and the files whose readiness a step can change. Definitions
+-- that name no manual page are this project's own.
 use Rattle.std.specs.Prelude.{◌≡◌, ℕ, Bool, true, false, Option, ◌||◌, ◌++◌, List, [], ◌∷◌, is_none, length, nat_le, option_map}
 use Rattle.std.specs.List.{Contains}
 use Rattle.std.specs.FinMap as map
@@ -38,7 +39,9 @@ ready_in files f = option_map (ready_of files) (map.get files f)
 abbrev pub ready : World → ℕ → Option Ready
 ready w f = ready_in w.files f
 
--- The readiness that steps of process p find at descriptor n: readable if a receive of one byte without descriptors is not refused, or an accept is not before it needs a descriptor; writable if a send of one byte is not refused; hung up if the peer is gone.
+-- The readiness that steps of process p find at descriptor n: readable if a receive of one byte
+-- without descriptors is not refused, or an accept is not before it needs a descriptor; writable if
+-- a send of one byte is not refused; hung up if the peer is gone.
 abbrev pub found : World → ℕ → ℕ → Ready
 found w p n = record {
   readable = is_none (refusal w p (step.Recv n 1 0)) || is_none (first_fit
@@ -47,7 +50,8 @@ found w p n = record {
   hung_up = is_hung_up (socket_on w p n).state;
 }
 
--- The face of a file, from which its own and its peer's readiness follow: whether it is readable, whether its queue is full, and its peer.
+-- The face of a file, from which its own and its peer's readiness follow: whether it is readable,
+-- whether its queue is full, and its peer.
 pub data Face : Type 0 where
   Blank : Face
   Shows : (reads : Bool) → (full : Bool) → (state : State) → Face
@@ -65,7 +69,8 @@ face_in files f = option_map face_of (map.get files f)
 abbrev pub face_at : World → ℕ → Option Face
 face_at w f = face_in w.files f
 
--- The files whose own queue, backlog or state a step of process p changes, of those that were there, but for those whose peer is freed.
+-- The files whose own queue, backlog or state a step of process p changes, of those that were
+-- there, but for those whose peer is freed.
 abbrev pub touched : World → ℕ → Step → List ℕ
 touched w p (step.Listen n b) = ino_on w p n ∷ []
 touched w p (step.Connect n name) = ino_on w p n ∷ ino_named w name ∷ []

@@ -1,4 +1,5 @@
--- Why a step is refused. A row joins parts; its tests are made in order, and the first that fits is the answer (this project's profile, after the manual page of each call).
+-- Why a step is refused. A row joins parts; its tests are made in order, and the first that fits is
+-- the answer (this project's profile, after the manual page of each call).
 use Rattle.std.specs.Prelude.{ℕ, ◌+◌, Bool, true, false, not, ◌&&◌, ◌||◌, List, [], ◌∷◌, ◌++◌, length, Option, Some, None, is_none, is_some, unwrap_or, nat_eq, nat_lt, nat_le, if◌then◌else◌}
 use Rattle.std.specs.List.{list_any}
 use Rattle.std.specs.Option.{option_and_then}
@@ -18,7 +19,8 @@ use Rattle.af_base.specs.Counts.{charged, total}
 use Rattle.af_base.specs.Names.{is_between, is_name, named}
 use Rattle.af_base.specs.Table.{free_numbers}
 
--- Stands for a process that is not there. Stand-ins are never seen: a row's later tests are read only where the earlier ones failed.
+-- Stands for a process that is not there. Stand-ins are never seen: a row's later tests are read
+-- only where the earlier ones failed.
 abbrev pub no_process : Process
 no_process = record { user = 0; limit = 0; privileged = false; table = map.empty }
 
@@ -105,7 +107,8 @@ socket_named w name = unwrap_or (option_and_then (socket_at w) (named w.files na
 abbrev pub is_short : Process → ℕ → Bool
 is_short q k = nat_lt (length (free_numbers q)) k
 
--- Whether k files more beside these are too many, or have no inode numbers left where the next one is n (open(2), ENFILE).
+-- Whether k files more beside these are too many, or have no inode numbers left where the next one
+-- is n (open(2), ENFILE).
 abbrev pub is_full_of : Map File → ℕ → ℕ → Bool
 is_full_of files n k = nat_lt MAX_FILES (map.len files + k) || nat_lt (MAX_INO + 1) (n + k)
 
@@ -176,7 +179,8 @@ on_listen s b = (is_none s.name || is_connected s.state || is_listening s.state 
 abbrev pub on_client : State → Row
 on_client s = (is_listening s, EINVAL) ∷ (is_connected s, EISCONN) ∷ []
 
--- A connect needs a listener of the same type with room in its backlog (connect(2), ECONNREFUSED, EPROTOTYPE, EAGAIN).
+-- A connect needs a listener of the same type with room in its backlog (connect(2), ECONNREFUSED,
+-- EPROTOTYPE, EAGAIN).
 abbrev pub on_listener : Socket → SockType → Row
 on_listener s kind =
     (not (is_listening s.state), ECONNREFUSED)
@@ -188,7 +192,8 @@ on_listener s kind =
 abbrev pub on_accept : Socket → Row
 on_accept s = (not (is_listening s.state), EINVAL) ∷ (nat_eq (length s.backlog) 0, EAGAIN) ∷ []
 
--- A message must have a valid number of bytes and of descriptors, each of them open by this look-up (sendmsg(2); unix(7), SCM_RIGHTS).
+-- A message must have a valid number of bytes and of descriptors, each of them open by this look-up
+-- (sendmsg(2); unix(7), SCM_RIGHTS).
 abbrev pub on_parts : (ℕ → Option ℕ) → List ℕ → List ℕ → Row
 on_parts look bytes attach =
     (nat_eq (length bytes) 0 || nat_lt SCM_MAX_FD (length attach), EINVAL)
@@ -200,7 +205,9 @@ on_parts look bytes attach =
 abbrev pub on_peer : Socket → Row
 on_peer s = (not (is_connected s.state), ENOTCONN) ∷ (is_hung_up s.state, EPIPE) ∷ []
 
--- So many files more must not be too much in flight, for a user with this charge and limit, where all users together have that total (unix(7), ETOOMANYREFS; that the new ones do not count for the user, and ENOBUFS, are this project's profile).
+-- So many files more must not be too much in flight, for a user with this charge and limit, where
+-- all users together have that total (unix(7), ETOOMANYREFS; that the new ones do not count for the
+-- user, and ENOBUFS, are this project's profile).
 abbrev pub on_charge : ℕ → ℕ → ℕ → Bool → ℕ → Row
 on_charge charge total limit privileged files =
     (nat_lt 0 files && (not privileged && nat_lt limit charge), ETOOMANYREFS)
@@ -211,7 +218,8 @@ on_charge charge total limit privileged files =
 abbrev pub on_room : List Message → Row
 on_room queue = (nat_le MAX_MESSAGES (length queue), EAGAIN) ∷ []
 
--- The socket must have something to give to a receive of at most n bytes (recvmsg(2), EINVAL, ENOTCONN, EAGAIN).
+-- The socket must have something to give to a receive of at most n bytes (recvmsg(2), EINVAL,
+-- ENOTCONN, EAGAIN).
 abbrev pub on_receive : Socket → ℕ → Row
 on_receive s max_bytes =
     (not (is_between 1 MAX_BYTES max_bytes), EINVAL)
@@ -233,7 +241,9 @@ recv_row w p n max_bytes = at_socket w p n ++ on_receive (socket_on w p n) max_b
 abbrev pub spawn_row : World → ℕ → Row
 spawn_row w nofile = on_limit nofile ++ on_processes w
 
--- Why a step of a running process is refused, but for out of memory: open(2), dup(2), dup2(2), close(2), fork(2), _exit(2), socketpair(2), socket(2), bind(2), listen(2), connect(2), accept(2), sendmsg(2), recvmsg(2), setrlimit(2).
+-- Why a step of a running process is refused, but for out of memory: open(2), dup(2), dup2(2),
+-- close(2), fork(2), _exit(2), socketpair(2), socket(2), bind(2), listen(2), connect(2), accept(2),
+-- sendmsg(2), recvmsg(2), setrlimit(2).
 abbrev pub step_row : World → ℕ → Step → Row
 step_row w p step.Open = on_free (process_at w p) 1 ++ on_files w 1
 step_row w p (step.Dup n) = on_number (table_at w p n) ++ on_free (process_at w p) 1
@@ -266,6 +276,7 @@ step_row w p (step.Limit n) = on_limit n
 abbrev pub spawn_refusal : World → ℕ → Option Errno
 spawn_refusal w nofile = first_fit (spawn_row w nofile)
 
--- The error of a refused step of process p, but for out of memory; an unknown process comes first (kill(2), ESRCH).
+-- The error of a refused step of process p, but for out of memory; an unknown process comes first
+-- (kill(2), ESRCH).
 abbrev pub refusal : World → ℕ → Step → Option Errno
 refusal w p s = first_fit (on_process (map.get w.processes p) ++ step_row w p s)

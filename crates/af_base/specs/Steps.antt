@@ -1,4 +1,5 @@
--- The reply and the effect of each step of a process. The definition that names no manual page is of this project's profile (docs/PROFILE.md).
+-- The reply and the effect of each step of a process. The definition that names no manual page is
+-- of this project's profile (docs/PROFILE.md).
 use Rattle.std.specs.Prelude.{◌≡◌, ◌⊎◌, ℕ, ◌+◌, Bool, true, false, List, length, filter_map, min, Option, Some, None, slice_get, slice_index, unwrap_or, nat_eq, nat_lt, if◌then◌else◌}
 use Rattle.std.specs.List.{zip}
 use Rattle.std.specs.FinMap as map
@@ -35,13 +36,15 @@ with_pair w kind = add_file (add_file w (AsSocket (connected_socket kind (w.next
 abbrev pub idle_socket : SockType → Socket
 idle_socket kind = record no_socket { kind = kind }
 
--- The world where the client c is connected to a new embryo, which waits last in the backlog of the listener l (connect(2); the embryo is this project's own).
+-- The world where the client c is connected to a new embryo, which waits last in the backlog of the
+-- listener l (connect(2); the embryo is this project's own).
 abbrev pub with_embryo : World → ℕ → ℕ → SockType → World
 with_embryo w c l kind = with_socket
     (with_socket (add_file w (AsSocket (connected_socket kind c))) c (connected w.next_ino)) l
     (queued w.next_ino)
 
--- The embryo that process p accepts at n: the first that waits there, or 0, which is no inode number (accept(2)).
+-- The embryo that process p accepts at n: the first that waits there, or 0, which is no inode
+-- number (accept(2)).
 abbrev pub first_embryo : World → ℕ → ℕ → ℕ
 first_embryo w p n = unwrap_or (slice_get (socket_on w p n).backlog 0) 0
 
@@ -49,7 +52,8 @@ first_embryo w p n = unwrap_or (slice_get (socket_on w p n).backlog 0) 0
 abbrev pub taken_on : World → ℕ → ℕ → ℕ → Taken
 taken_on w p n max_bytes = take_from (socket_on w p n).kind (socket_on w p n).queue max_bytes
 
--- The numbers at which a receive installs files: as many as were taken, as it may, and as are free (cmsg(3), SCM_RIGHTS).
+-- The numbers at which a receive installs files: as many as were taken, as it may, and as are free
+-- (cmsg(3), SCM_RIGHTS).
 abbrev pub got_at : World → ℕ → ℕ → ℕ → ℕ → List ℕ
 got_at w p n max_bytes max_fds = lowest_free
     (min (length (taken_on w p n max_bytes).attached) max_fds) (process_at w p)
@@ -59,7 +63,8 @@ abbrev pub spawned : World → ℕ → ℕ → Bool → World
 spawned w uid nofile privileged = add_user (add_process w
     (record { user = uid; limit = nofile; privileged = privileged; table = map.empty })) uid
 
--- The reply of a receive: an empty receive is End, if the peer is gone and nothing is left (recvmsg(2)).
+-- The reply of a receive: an empty receive is End, if the peer is gone and nothing is left
+-- (recvmsg(2)).
 abbrev pub received : World → ℕ → ℕ → ℕ → ℕ → Reply
 received w p n max_bytes max_fds =
     let taken = taken_on w p n max_bytes in
@@ -68,7 +73,9 @@ received w p n max_bytes max_fds =
     then reply.End
     else reply.Got taken.bytes got taken.trunc (nat_lt (length got) (length taken.attached))
 
--- The world after the places were changed, which is then settled, where nothing refuses the step (open(2), dup(2), dup2(2), close(2), fork(2), _exit(2), socketpair(2), socket(2), bind(2), listen(2), connect(2), accept(2), sendmsg(2), recvmsg(2), setrlimit(2)).
+-- The world after the places were changed, which is then settled, where nothing refuses the step
+-- (open(2), dup(2), dup2(2), close(2), fork(2), _exit(2), socketpair(2), socket(2), bind(2),
+-- listen(2), connect(2), accept(2), sendmsg(2), recvmsg(2), setrlimit(2)).
 abbrev pub effect : World → ℕ → Step → World
 effect w p step.Open = install (add_file w Plain) p (free_at w p 0) w.next_ino
 effect w p (step.Dup n) = install w p (free_at w p 0) (ino_on w p n)
@@ -98,7 +105,8 @@ effect w p (step.Peek n max_bytes max_fds) = install_all w p
     (zip (got_at w p n max_bytes max_fds) (taken_on w p n max_bytes).attached)
 effect w p (step.Limit n) = set_limit w p n
 
--- The answer, where nothing refuses the step: a peek answers what a receive would (recvmsg(2), MSG_PEEK).
+-- The answer, where nothing refuses the step: a peek answers what a receive would (recvmsg(2),
+-- MSG_PEEK).
 abbrev pub answer : World → ℕ → Step → Reply
 answer w p step.Open = reply.Fd (free_at w p 0)
 answer w p (step.Dup n) = reply.Fd (free_at w p 0)
@@ -117,7 +125,8 @@ answer w p (step.Recv n max_bytes max_fds) = received w p n max_bytes max_fds
 answer w p (step.Peek n max_bytes max_fds) = received w p n max_bytes max_fds
 answer w p (step.Limit n) = reply.Ok
 
--- Whether the step never needs memory: a close, an exit, a changed limit, and a number put in place of itself (dup2(2): nothing is done; this project's profile).
+-- Whether the step never needs memory: a close, an exit, a changed limit, and a number put in place
+-- of itself (dup2(2): nothing is done; this project's profile).
 abbrev pub needs_no_memory : Step → Bool
 needs_no_memory (step.Dup2 n m) = nat_eq m n
 needs_no_memory (step.Close n) = true
@@ -125,7 +134,8 @@ needs_no_memory step.Exit = true
 needs_no_memory (step.Limit n) = true
 needs_no_memory s = false
 
--- The outcome of a step: refused by an error and nothing changed; or answered, and the changed world settled; or, where the step may need memory, refused for want of it and nothing changed.
+-- The outcome of a step: refused by an error and nothing changed; or answered, and the changed
+-- world settled; or, where the step may need memory, refused for want of it and nothing changed.
 abbrev pub Outcome : Option Errno → Bool → Reply → World → World → Reply → World → Type 0
 Outcome (Some e) frugal answer effect old r new = (r ≡ reply.Refused e) × (new ≡ old)
 Outcome None true answer effect old r new = (r ≡ answer) × Settles effect new

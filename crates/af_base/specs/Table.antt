@@ -8,6 +8,7 @@ use Rattle.af_base.specs.World.{Process}
 abbrev pub free_numbers : Process → List ℕ
 free_numbers p = filter (λ n. not (map.contains_key p.table n)) (range_with_len 0 p.limit)
 
--- The k lowest free numbers, or all of them where there are fewer (open(2): the lowest-numbered descriptor not open).
+-- The k lowest free numbers, or all of them where there are fewer (open(2): the lowest-numbered
+-- descriptor not open).
 abbrev pub lowest_free : ℕ → Process → List ℕ
 lowest_free k p = take k (free_numbers p)

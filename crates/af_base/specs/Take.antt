@@ -1,4 +1,5 @@
--- The part of a queue that a receive takes; the queue is not empty. The definition that names no manual page is of this project's profile (docs/PROFILE.md).
+-- The part of a queue that a receive takes; the queue is not empty. The definition that names no
+-- manual page is of this project's profile (docs/PROFILE.md).
 use Rattle.std.specs.Prelude.{ℕ, ◌+◌, ◌-◌, Bool, false, not, List, [], ◌∷◌, take, drop, length, min, nat_lt, nat_le, if◌then◌else◌}
 use Rattle.std.specs.List.{flat_map, take_while, find}
 use Rattle.std.specs.Option.{option_map_or}
@@ -6,7 +7,8 @@ use Rattle.af_base.specs.World.{Message}
 use Rattle.af_base.specs.declared.events.SockType.{SockType}
 use Rattle.af_base.specs.declared.events.SockType.TheVariants.{Stream, Seqpacket}
 
--- The result of taking: the messages, whether bytes were dropped (recvmsg(2), MSG_TRUNC), and the rest of the queue.
+-- The result of taking: the messages, whether bytes were dropped (recvmsg(2), MSG_TRUNC), and the
+-- rest of the queue.
 pub record Taken : Type 0 where
   pub bytes : List ℕ
   pub attached : List ℕ
@@ -21,7 +23,8 @@ joined q = flat_map (λ m. m.bytes) q
 abbrev pub nothing_taken : Taken
 nothing_taken = record { bytes = []; attached = []; trunc = false; rest = [] }
 
--- A packet: the first message's first n bytes and all that travels with it; the rest of its bytes is dropped (unix(7), SOCK_SEQPACKET).
+-- A packet: the first message's first n bytes and all that travels with it; the rest of its bytes
+-- is dropped (unix(7), SOCK_SEQPACKET).
 abbrev pub take_seqpacket : List Message → ℕ → Taken
 take_seqpacket [] n = nothing_taken
 take_seqpacket (m ∷ q) n = record {
@@ -31,7 +34,8 @@ take_seqpacket (m ∷ q) n = record {
   rest = q;
 }
 
--- The queue without its first c bytes: a message that keeps no byte is gone, and one that lost a byte keeps no file.
+-- The queue without its first c bytes: a message that keeps no byte is gone, and one that lost a
+-- byte keeps no file.
 abbrev pub cut : ℕ → List Message → List Message
 cut c [] = []
 cut c (m ∷ q) =
@@ -43,7 +47,8 @@ cut c (m ∷ q) =
 abbrev pub has_files : Message → Bool
 has_files m = nat_lt 0 (length m.attached)
 
--- Up to n bytes, and none past the end of the message that begins at `begin` and ends at `end`, whose files are taken with its first byte (unix(7): ancillary data are a barrier).
+-- Up to n bytes, and none past the end of the message that begins at `begin` and ends at `end`,
+-- whose files are taken with its first byte (unix(7): ancillary data are a barrier).
 abbrev pub take_to : List Message → ℕ → List ℕ → ℕ → ℕ → Taken
 take_to q n attached begin end = let c = min n end in record {
   bytes = take c (joined q);
@@ -52,7 +57,8 @@ take_to q n attached begin end = let c = min n end in record {
   rest = cut c q;
 }
 
--- A stream: up to n bytes over the borders of messages, up to the end of the first message with files (unix(7), SOCK_STREAM).
+-- A stream: up to n bytes over the borders of messages, up to the end of the first message with
+-- files (unix(7), SOCK_STREAM).
 abbrev pub take_stream : List Message → ℕ → Taken
 take_stream q n =
     let begin = length (joined (take_while (λ m. not (has_files m)) q)) in

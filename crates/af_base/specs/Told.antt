@@ -1,4 +1,5 @@
--- The reports since the lists were last emptied: which files were freed, and whose readiness may have changed. Definitions that name no manual page are this project's own.
+-- The reports since the lists were last emptied: which files were freed, and whose readiness may
+-- have changed. Definitions that name no manual page are this project's own.
 use Rattle.std.specs.Prelude.{◌≡◌, ◌+◌, ℕ, Bool, true, List, Option, IsTrue, is_some, nat_lt, option_map, if◌then◌else◌}
 use Rattle.std.specs.Option.{option_and_then}
 use Rattle.std.specs.FinMap as map
@@ -13,7 +14,8 @@ use Rattle.af_base.specs.World.{File, Map, Since, World}
 abbrev pub was_given : Since → ℕ → ℕ → Bool
 was_given since next f = if nat_lt f since.next then map.contains_key since.files f else nat_lt f next
 
--- Each number that was live then, or was given out since, is live or in the list, once; no other is in it.
+-- Each number that was live then, or was given out since, is live or in the list, once; no other is
+-- in it.
 abbrev pub AreReleased : {V : Type 0} → Map V → ℕ → Since → List ℕ → Type 0
 AreReleased live next since told = (f : ℕ)
     → count_in f told + (if map.contains_key live f then 1 else 0)

@@ -6,7 +6,8 @@ use Rattle.af_base.specs.declared.events.State.TheVariants as state
 use Rattle.af_base.specs.World.{World, Map, File, Plain, AsSocket, IsLive}
 use Rattle.af_base.specs.Places.{InTable, Holds}
 
--- The least set of live files such that f is in it if no table holds f and each socket that holds f is in it (close(2): a description is freed with its last reference; a cycle is never in it).
+-- The least set of live files such that f is in it if no table holds f and each socket that holds f
+-- is in it (close(2): a description is freed with its last reference; a cycle is never in it).
 pub data Unheld (w : World) : ℕ → Type 0 where
   Goes : (f : ℕ) → IsLive w f → ¬ (InTable w f) → ((s : ℕ) → Holds w s f → Unheld w s) → Unheld w f
 
@@ -27,14 +28,16 @@ abbrev pub map_entries : {X : Type 0} → (ℕ → X → X) → List (ℕ × X) 
 map_entries f [] = map.empty
 map_entries f (e ∷ es) = map.insert (map_entries f es) e.0 (f e.0 e.1)
 
--- The world without the files that pass the test: their queues, backlogs and names go with them (unix(7): an abstract name vanishes with the last reference).
+-- The world without the files that pass the test: their queues, backlogs and names go with them
+-- (unix(7): an abstract name vanishes with the last reference).
 abbrev pub without : (ℕ → Bool) → World → World
 without gone w = record w {
   files = map.retain_keys (map_entries (λ _. file_without gone) (map.entries w.files))
       (λ f. not (gone f));
 }
 
--- `new` is `old` settled: without exactly what nothing holds (this project's profile: in the same step).
+-- `new` is `old` settled: without exactly what nothing holds (this project's profile: in the same
+-- step).
 abbrev pub Settles : World → World → Type 0
 Settles old new = (gone : ℕ → Bool) × ((f : ℕ) → (gone f ≡ true) ↔ Unheld old f) × (new ≡ without gone old)
 

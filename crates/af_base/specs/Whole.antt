@@ -1,4 +1,5 @@
--- The invariant of every world that events lead to. Definitions that name no manual page are of this project's profile (docs/PROFILE.md).
+-- The invariant of every world that events lead to. Definitions that name no manual page are of
+-- this project's profile (docs/PROFILE.md).
 use Rattle.std.specs.Prelude.{◌≡◌, ◌<◌, ◌≤◌, ◌+◌, ℕ, IsTrue, true, List, Option, Some, length}
 use Rattle.std.specs.List.{Contains}
 use Rattle.std.specs.Option.{option_and_then, option_map_or}
@@ -30,7 +31,9 @@ AreMutual w = (f p : ℕ) → state_at w f ≡ state.Connected p → state_at w 
 abbrev pub name_at : World → ℕ → Option (List ℕ)
 name_at w f = option_and_then (λ s. s.name) (socket_at w f)
 
--- The world is whole: each place holds a live file, peers are mutual, no two sockets have one name, no file is in two backlogs, and the numbers given are below the next ones; the next ones and the files' numbers begin at 1, so 0 is no file.
+-- The world is whole: each place holds a live file, peers are mutual, no two sockets have one name,
+-- no file is in two backlogs, and the numbers given are below the next ones; the next ones and the
+-- files' numbers begin at 1, so 0 is no file.
 pub record IsWhole (w : World) : Type 0 where
   pub tables_live : (f : ℕ) → InTable w f → IsLive w f
   pub queues_live : (s f : ℕ) → Holds w s f → IsLive w f
@@ -43,7 +46,9 @@ pub record IsWhole (w : World) : Type 0 where
   pub names : (f g : ℕ) (name : List ℕ) → name_at w f ≡ Some name → name_at w g ≡ Some name → f ≡ g
   pub embryos : (f : ℕ) → waiting w f ≤ 1
 
--- A process whose limit is within its own, and whose open numbers are below the largest one. A number may be at or above the limit where that was lowered (setrlimit(2), RLIMIT_NOFILE; this project's profile).
+-- A process whose limit is within its own, and whose open numbers are below the largest one. A
+-- number may be at or above the limit where that was lowered (setrlimit(2), RLIMIT_NOFILE; this
+-- project's profile).
 pub record IsProcessWithin (q : Process) : Type 0 where
   pub limit : q.limit ≤ MAX_NOFILE
   pub numbers : (n : ℕ) → IsTrue (map.contains_key q.table n) → n < MAX_NOFILE
@@ -54,7 +59,8 @@ pub record IsMessageWithin (m : Message) : Type 0 where
   pub bytes : length m.bytes ≤ MAX_BYTES
   pub attached : length m.attached ≤ SCM_MAX_FD
 
--- A socket within the limits: one that listens has room for at least one embryo (listen(2); this project's profile).
+-- A socket within the limits: one that listens has room for at least one embryo (listen(2); this
+-- project's profile).
 pub record IsSocketWithin (s : Socket) : Type 0 where
   pub queue : length s.queue ≤ MAX_MESSAGES
   pub least : is_listening s.state ≡ true → 1 ≤ room_of s.state

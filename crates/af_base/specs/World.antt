@@ -1,5 +1,6 @@
--- The world: which processes run, which files are open, and what waits in the queues. Definitions that name no manual page are of this project's profile (docs/PROFILE.md).
--- Files, processes, users and descriptors go by their numbers.
+-- The world: which processes run, which files are open, and what waits in the queues. Definitions
+-- that name no manual page are of this project's profile (docs/PROFILE.md). Files, processes, users
+-- and descriptors go by their numbers.
 use Rattle.std.specs.Prelude.{ℕ, Bool, List, [], Option, IsTrue, false}
 use Rattle.std.specs.Ordering.{nat_cmp}
 use Rattle.std.specs.FinMap as map
@@ -11,13 +12,15 @@ use Rattle.af_base.specs.declared.events.State.{State}
 abbrev pub Map : Type 0 → Type 0
 Map X = FinMap nat_cmp X
 
--- A message in a receive queue: its bytes, the files that travel with it, and the user who is charged for them (unix(7), SCM_RIGHTS; whom it charges is this project's profile).
+-- A message in a receive queue: its bytes, the files that travel with it, and the user who is
+-- charged for them (unix(7), SCM_RIGHTS; whom it charges is this project's profile).
 pub record Message : Type 0 where
   pub bytes : List ℕ
   pub attached : List ℕ
   pub user : ℕ
 
--- A socket (unix(7)): its type, whom it can talk to, its abstract name if it has one, what it has to receive, and the embryos that wait to be accepted.
+-- A socket (unix(7)): its type, whom it can talk to, its abstract name if it has one, what it has
+-- to receive, and the embryos that wait to be accepted.
 pub record Socket : Type 0 where
   pub kind : SockType
   pub state : State
@@ -30,14 +33,16 @@ pub data File : Type 0 where
   Plain : File
   AsSocket : (socket : Socket) → File
 
--- A process: its user, its limit on descriptors (getrlimit(2), RLIMIT_NOFILE), whether it is privileged, and the file of each open descriptor.
+-- A process: its user, its limit on descriptors (getrlimit(2), RLIMIT_NOFILE), whether it is
+-- privileged, and the file of each open descriptor.
 pub record Process : Type 0 where
   pub user : ℕ
   pub limit : ℕ
   pub privileged : Bool
   pub table : Map ℕ
 
--- All that is there, with the next numbers to give, and the users in the order of their first process.
+-- All that is there, with the next numbers to give, and the users in the order of their first
+-- process.
 pub record World : Type 0 where
   pub processes : Map Process
   pub files : Map File
@@ -45,7 +50,8 @@ pub record World : Type 0 where
   pub next_pid : ℕ
   pub users : List ℕ
 
--- Whether freed files and changed readiness are reported; the files when the lists were last emptied, and the next inode number then.
+-- Whether freed files and changed readiness are reported; the files when the lists were last
+-- emptied, and the next inode number then.
 pub record Since : Type 0 where
   pub changed : Bool
   pub released : Bool
@@ -64,6 +70,7 @@ empty_world = record { processes = map.empty; files = map.empty; next_ino = 1; n
 abbrev pub is_live : World → ℕ → Bool
 is_live w f = map.contains_key w.files f
 
--- The world has the file: something refers to its open file description, or has just ceased to (close(2)).
+-- The world has the file: something refers to its open file description, or has just ceased to
+-- (close(2)).
 abbrev pub IsLive : World → ℕ → Type 0
 IsLive w f = IsTrue (is_live w f)

@@ -1,4 +1,5 @@
--- When the numbers that are kept are the recounts. Definitions that name no manual page are of this project's profile (docs/PROFILE.md).
+-- When the numbers that are kept are the recounts. Definitions that name no manual page are of this
+-- project's profile (docs/PROFILE.md).
 use Rattle.std.specs.Prelude.{◌≡◌, ℕ, IsTrue, Some, false}
 use Rattle.std.specs.FinMap as map
 use Rattle.af_base.specs.World.{World, Process, is_live, IsLive}
@@ -16,14 +17,17 @@ pub record Agrees (w : World) (k : Tally) : Type 0 where
   pub total : k.total ≡ total w
   pub known : (p : ℕ) (q : Process) → map.get w.processes p ≡ Some q → IsTrue (is_user q.user k.users)
 
--- The invariant of a store: its world is well-formed and within the limits, each kept count is its recount, and it keeps counts of just the live files.
+-- The invariant of a store: its world is well-formed and within the limits, each kept count is its
+-- recount, and it keeps counts of just the live files.
 pub record IsExact (w : World) (k : Tally) : Type 0 where
   pub whole : IsWhole w
   pub within : IsWithin w
   pub agrees : Agrees w k
   pub counted : (f : ℕ) → has_count k f ≡ is_live w f
 
--- A process can join the world: all counts are exact so far, there is room for it, it is within its limits, each of its descriptors refers to a live file, and its user is known (fork(2); this project's profile).
+-- A process can join the world: all counts are exact so far, there is room for it, it is within its
+-- limits, each of its descriptors refers to a live file, and its user is known (fork(2); this
+-- project's profile).
 pub record Joins (w : World) (q : Process) (k : Tally) : Type 0 where
   pub exact : IsExact w k
   pub room : is_at_process_limit w ≡ false

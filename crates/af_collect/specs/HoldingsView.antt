@@ -1,4 +1,5 @@
--- The view of holdings. Definitions that name no manual page are of this project's profile (docs/PROFILE.md).
+-- The view of holdings. Definitions that name no manual page are of this project's profile
+-- (docs/PROFILE.md).
 use Rattle.std.specs.Prelude.{ℕ, Bool, List, [], ◌∷◌}
 use Rattle.std.specs.Map.{keys_of}
 use Rattle.af_base.specs.World.{World, Map, Process, Since}
@@ -9,7 +10,8 @@ use Rattle.af_base.specs.Changes.{change_at, installed}
 use Rattle.af_table.specs.Procs.{Procs}
 use Rattle.af_collect.specs.Agreement.{IsExact}
 
--- The world, the size of each table, whether there is room for a message more, the marks of a pass, and the reports.
+-- The world, the size of each table, whether there is room for a message more, the marks of a pass,
+-- and the reports.
 pub record HoldingsView : Type 0 where
   pub world : World
   pub rows : Map ℕ

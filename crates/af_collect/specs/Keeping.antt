@@ -1,4 +1,5 @@
--- The whole of what is kept: the world, and beside it the marks and how far the pass is. Definitions that name no manual page are of this project's profile (docs/PROFILE.md).
+-- The whole of what is kept: the world, and beside it the marks and how far the pass is.
+-- Definitions that name no manual page are of this project's profile (docs/PROFILE.md).
 use Rattle.std.specs.Prelude.{◌≡◌, ◌≤◌, ◌+◌, ◌&&◌, ℕ, Bool, true, false, not, nat_eq, nat_lt, List, [], ◌∷◌, length, take, if◌then◌else◌}
 use Rattle.af_base.specs.World.{World, IsLive, is_live}
 use Rattle.af_base.specs.Counts.{tabled}
@@ -19,7 +20,8 @@ AreKnown w m = (f : ℕ) → knows m f ≡ is_live w f
 abbrev pub below : ℕ → ℕ → Bool
 below n f = nat_lt f n
 
--- A pass runs: the world is one since its begin, only files of the begin are marked, and each unit is counted.
+-- A pass runs: the world is one since its begin, only files of the begin are marked, and each unit
+-- is counted.
 pub record IsRunning (w begun : World) (m : Marked) (c : Progress) : Type 0 where
   pub since : IsSince begun w m.bound
   pub marked : (f : ℕ) → is_marked m f ≡ true → IsLive begun f
@@ -80,7 +82,8 @@ abbrev pub runs : Pass → Bool
 runs Idle = false
 runs (Running begun spent) = true
 
--- The file is no garbage of the begin of a pass that runs: it can be put into a place, and its places can be taken.
+-- The file is no garbage of the begin of a pass that runs: it can be put into a place, and its
+-- places can be taken.
 abbrev pub Spares : Pass → ℕ → Type 0
 Spares Idle f = Unit {0}
 Spares (Running begun spent) f = ¬ (Garbage begun f)
@@ -94,11 +97,13 @@ shaded_all (f ∷ fs) m = shaded_all fs (shaded f m)
 abbrev pub shaded_in : Stage → List ℕ → Marked → Marked
 shaded_in stage fs m = if is_marking stage then shaded_all fs m else m
 
--- Whether a visit marks the file: a table holds it, it was there at the begin, and it is not marked (net/unix/garbage.c: from the tables on).
+-- Whether a visit marks the file: a table holds it, it was there at the begin, and it is not marked
+-- (net/unix/garbage.c: from the tables on).
 abbrev pub is_due : World → Marked → ℕ → Bool
 is_due w m f = nat_lt 0 (tabled w f) && (nat_lt f m.bound && is_white m f)
 
--- How many units a visit takes: one, and one more if the file was scanned too (this project's profile: what a budget counts).
+-- How many units a visit takes: one, and one more if the file was scanned too (this project's
+-- profile: what a budget counts).
 abbrev pub units_of : Bool → ℕ
 units_of false = 1
 units_of true = 2

@@ -4,7 +4,8 @@ use Rattle.std.specs.FinMap as map
 use Rattle.af_base.specs.World.{World, Process}
 use Rattle.af_base.specs.Refusals.{process_at}
 
--- The number is below the limit of the process, if the process is there (getrlimit(2), RLIMIT_NOFILE).
+-- The number is below the limit of the process, if the process is there (getrlimit(2),
+-- RLIMIT_NOFILE).
 abbrev pub IsBelowLimit : World → ℕ → ℕ → Type 0
 IsBelowLimit w p n = (q : Process) → map.get w.processes p ≡ Some q → n < q.limit
 

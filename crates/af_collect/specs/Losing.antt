@@ -1,4 +1,5 @@
--- The world after a file lost the first of the files that it holds. The definition that names no manual page is of this project's profile (docs/PROFILE.md).
+-- The world after a file lost the first of the files that it holds. The definition that names no
+-- manual page is of this project's profile (docs/PROFILE.md).
 use Rattle.std.specs.Prelude.{ℕ, ◌+◌, drop, length, nat_eq, if◌then◌else◌}
 use Rattle.af_base.specs.World.{World}
 use Rattle.af_base.specs.Places.{backlog_at, queue_at}

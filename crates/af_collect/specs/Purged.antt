@@ -5,7 +5,8 @@ use Rattle.af_base.specs.World.{World}
 use Rattle.af_base.specs.Pass.{Purges}
 use Rattle.af_base.specs.Reached.{Garbage}
 
--- `now` is `old` with at most n files purged, all garbage of the begin (net/unix/garbage.c: queues of garbage are emptied).
+-- `now` is `old` with at most n files purged, all garbage of the begin (net/unix/garbage.c: queues
+-- of garbage are emptied).
 pub record ArePurged (begun old now : World) (n : ℕ) : Type 0 where
   pub files : List ℕ
   pub few : length files ≤ n

@@ -4,6 +4,7 @@ use Rattle.af_base.specs.World.{World}
 use Rattle.af_base.specs.Refusals.{no_socket, socket_at}
 use Rattle.af_base.specs.Take.{Taken, take_from}
 
--- The result of a receive of at most n bytes from the queue of s, and the rest of the queue (recvmsg(2)).
+-- The result of a receive of at most n bytes from the queue of s, and the rest of the queue
+-- (recvmsg(2)).
 abbrev pub taken_at : World → ℕ → ℕ → Taken
 taken_at w s n = let x = unwrap_or (socket_at w s) no_socket in take_from x.kind x.queue n

@@ -1,4 +1,5 @@
--- The invariant of a running pass, over the world at its begin and the world now. Definitions that name no manual page are of this project's profile (docs/PROFILE.md).
+-- The invariant of a running pass, over the world at its begin and the world now. Definitions that
+-- name no manual page are of this project's profile (docs/PROFILE.md).
 use Rattle.std.specs.Prelude.{◌≡◌, ◌≤◌, ◌<◌, ◌+◌, ◌*◌, ℕ, Bool, true, false, not, ◌&&◌, ◌||◌, nat_eq, ◌⊎◌}
 use Rattle.std.specs.List.{count_by}
 use Rattle.std.specs.Option.{option_map_or}
@@ -21,12 +22,14 @@ abbrev pub left_count : World → World → (ℕ → Bool) → ℕ
 left_count begun now marked = count_by (λ e. is_socket e.1 && (is_live now e.0 && not (marked e.0)))
     (map.entries begun.files)
 
--- A holder of garbage of the begin is garbage of the begin, and no table holds any: none strays to where a process could reach it (net/unix/garbage.c: garbage stays out of reach).
+-- A holder of garbage of the begin is garbage of the begin, and no table holds any: none strays to
+-- where a process could reach it (net/unix/garbage.c: garbage stays out of reach).
 pub record NoneStray (begun now : World) : Type 0 where
   pub queues : (s f : ℕ) → Holds now s f → Garbage begun f → Garbage begun s
   pub tables : (f : ℕ) → Garbage begun f → ¬ (InTable now f)
 
--- The begin was sound; its files are those below the bound, as long as they live, and no other file becomes one of them (this project's profile: a number is never used again).
+-- The begin was sound; its files are those below the bound, as long as they live, and no other file
+-- becomes one of them (this project's profile: a number is never used again).
 pub record IsSince (begun now : World) (bound : ℕ) : Type 0 where
   pub sound : IsSound begun
   pub below : (f : ℕ) → IsLive begun f → f < bound
@@ -38,7 +41,9 @@ pub record IsSince (begun now : World) (bound : ℕ) : Type 0 where
 abbrev pub is_scanned : (ℕ → Bool) → (ℕ → Bool) → ℕ → Bool
 is_scanned marked grey f = marked f && not (grey f)
 
--- A file that a reached file of the begin held is marked, or freed, or its holder is live, not scanned, and holds it still; a file that a table held is marked, or freed, or not visited and in a table; no garbage is marked (net/unix/garbage.c: from the tables on).
+-- A file that a reached file of the begin held is marked, or freed, or its holder is live, not
+-- scanned, and holds it still; a file that a table held is marked, or freed, or not visited and in
+-- a table; no garbage is marked (net/unix/garbage.c: from the tables on).
 pub record AreMarks (begun now : World) (marked grey visited : ℕ → Bool) : Type 0 where
   pub queues : (s f : ℕ) → Reached begun s → Holds begun s f
       → (marked f ≡ true) ⊎ ((is_live now f ≡ false)
@@ -47,20 +52,23 @@ pub record AreMarks (begun now : World) (marked grey visited : ℕ → Bool) : T
       → (marked f ≡ true) ⊎ ((is_live now f ≡ false) ⊎ ((visited f ≡ false) × InTable now f))
   pub only_reached : (f : ℕ) → Garbage begun f → marked f ≡ false
 
--- Marking continues: the marks are as they should be, and the garbage of the begin is live and keeps its places.
+-- Marking continues: the marks are as they should be, and the garbage of the begin is live and
+-- keeps its places.
 pub record IsMarking (begun now : World) (marked grey visited : ℕ → Bool) : Type 0 where
   pub marks : AreMarks begun now marked grey visited
   pub live : (f : ℕ) → Garbage begun f → IsLive now f
   pub queues : (s f : ℕ) → Garbage begun f → Holds begun s f → Holds now s f
 
--- Marking has ended: each unmarked file is garbage of the begin, the swept ones hold none of it, and the freed sockets of it were counted.
+-- Marking has ended: each unmarked file is garbage of the begin, the swept ones hold none of it,
+-- and the freed sockets of it were counted.
 pub record IsSweeping (begun now : World) (marked swept : ℕ → Bool) (reclaimed : ℕ) : Type 0 where
   pub unmarked : (f : ℕ) → IsLive begun f → IsLive now f → marked f ≡ false → Garbage begun f
   pub only_reached : (f : ℕ) → Garbage begun f → marked f ≡ false
   pub empty : (s f : ℕ) → swept s ≡ true → Holds now s f → ¬ (Garbage begun f)
   pub counted : IsGarbageCount begun (reclaimed + left_count begun now marked)
 
--- Each unit looked at one file of the begin, and no file is visited, scanned or swept twice (this project's profile: what a budget counts).
+-- Each unit looked at one file of the begin, and no file is visited, scanned or swept twice (this
+-- project's profile: what a budget counts).
 pub record AreCounted (begun now : World) (visited scanned swept : ℕ → Bool) (looked : ℕ) : Type 0 where
   pub at_least : live_count begun now visited + live_count begun now scanned
       + live_count begun now swept ≤ looked
@@ -68,7 +76,8 @@ pub record AreCounted (begun now : World) (visited scanned swept : ℕ → Bool)
       + live_count begun now (λ f. not (scanned f)) + live_count begun now (λ f. not (swept f))
       ≤ 3 * map.len begun.files
 
--- A change of places, or a file more: the files of the begin stay as they were, and no garbage of the begin is in a new place.
+-- A change of places, or a file more: the files of the begin stay as they were, and no garbage of
+-- the begin is in a new place.
 pub record Moves (begun old new : World) : Type 0 where
   pub live_same : (f : ℕ) → IsLive begun f → is_live new f ≡ is_live old f
   pub live_stay : (f : ℕ) → IsLive old f → IsLive new f

@@ -1,4 +1,5 @@
--- The text of a picture: a world in the language of Graphviz. Definitions that name no manual page are of this project's profile (docs/PROFILE.md).
+-- The text of a picture: a world in the language of Graphviz. Definitions that name no manual page
+-- are of this project's profile (docs/PROFILE.md).
 use Rattle.std.specs.Prelude.{◌≡◌, ℕ, Bool, true, false, List, [], ◌++◌, Option, Some, None, codes, nat_eq}
 use Rattle.std.specs.List.{flat_map, list_any}
 use Rattle.std.specs.FinMap as map
@@ -84,7 +85,8 @@ file_text w lost f x = node_text w lost f x ++ peer_of f x
 
 -- ---- what waits at files
 
--- A file that travels with a message: an edge with the user who is charged for it (unix(7), SCM_RIGHTS).
+-- A file that travels with a message: an edge with the user who is charged for it (unix(7),
+-- SCM_RIGHTS).
 abbrev pub attached_text : ℕ → ℕ → ℕ → List ℕ
 attached_text f user g = edge_text f g
     (codes " [color=blue, label=\"user " ++ (decimal user ++ codes "\"]\n"))

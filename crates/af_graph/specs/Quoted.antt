@@ -1,4 +1,5 @@
--- How a name is written: no byte of it can leave its quotes. The definition that names no manual page is of this project's profile (docs/PROFILE.md).
+-- How a name is written: no byte of it can leave its quotes. The definition that names no manual
+-- page is of this project's profile (docs/PROFILE.md).
 use Rattle.std.specs.Prelude.{ℕ, ◌≡◌, ◌≢◌, ◌≤◌, ◌<◌, ◌+◌, ◌/◌, ◌%◌, nat_lt, true, List, [], ◌∷◌, if◌then◌else◌}
 use Rattle.std.specs.List.{All, flat_map}
 use Rattle.af_base.specs.Names.{is_name, is_name_byte}

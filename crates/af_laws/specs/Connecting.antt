@@ -49,13 +49,15 @@ abbrev pub ListenChangesNoCount : Type 0
 ListenChangesNoCount = (old new : World) (p n b : ℕ) (r : Reply) → IsSettled old
     → ProcessStep old p (step.Listen n b) r new → SameCounts old new
 
--- A connect makes a live embryo; the listener's backlog is its only place (connect(2); the embryo is this project's own).
+-- A connect makes a live embryo; the listener's backlog is its only place (connect(2); the embryo
+-- is this project's own).
 abbrev pub ConnectMakesAnEmbryo : Type 0
 ConnectMakesAnEmbryo = (old new : World) (p n : ℕ) (name : List ℕ) → IsSound old
     → ProcessStep old p (step.Connect n name) reply.Ok new
     → IsEmbryoOf new (ino_named old name) old.next_ino
 
--- A connect is one reference more to the embryo, and none to any other file; nothing more is in flight.
+-- A connect is one reference more to the embryo, and none to any other file; nothing more is in
+-- flight.
 abbrev pub ConnectCounts : Type 0
 ConnectCounts = (old new : World) (p n f : ℕ) (name : List ℕ) → IsSound old
     → ProcessStep old p (step.Connect n name) reply.Ok new
@@ -67,7 +69,8 @@ ConnectChargesNobody = (old new : World) (p n u : ℕ) (name : List ℕ) → IsS
     → ProcessStep old p (step.Connect n name) reply.Ok new
     → (charged new u ≡ charged old u) × (total new ≡ total old)
 
--- An accept keeps all reference counts, that of the embryo too: a number takes the place of the backlog (accept(2)).
+-- An accept keeps all reference counts, that of the embryo too: a number takes the place of the
+-- backlog (accept(2)).
 abbrev pub AcceptKeepsReferences : Type 0
 AcceptKeepsReferences = (old new : World) (p n m f : ℕ) → IsSound old
     → ProcessStep old p (step.Accept n) (reply.Fd m) new → refs new f ≡ refs old f

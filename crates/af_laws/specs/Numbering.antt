@@ -22,7 +22,8 @@ abbrev pub GivenInOrder : Type 0
 GivenInOrder = (k : ℕ) (p : Process) (i j : ℕ) → i < j → j < length (lowest_free k p)
     → slice_index (lowest_free k p) i < slice_index (lowest_free k p) j
 
--- None is given while a lower free one is passed over (open(2): the lowest-numbered descriptor not open).
+-- None is given while a lower free one is passed over (open(2): the lowest-numbered descriptor not
+-- open).
 abbrev pub NoLowerIsPassedOver : Type 0
 NoLowerIsPassedOver = (k : ℕ) (p : Process) (n m : ℕ) → Contains (lowest_free k p) n → IsFree p m
     → m < n → Contains (lowest_free k p) m

@@ -1,4 +1,5 @@
--- Laws of a peek, and of a changed limit. The definition that names no manual page is of this project's profile (docs/PROFILE.md).
+-- Laws of a peek, and of a changed limit. The definition that names no manual page is of this
+-- project's profile (docs/PROFILE.md).
 use Rattle.std.specs.Prelude.{◌≡◌, ℕ}
 use Rattle.af_base.specs.declared.events.Reply.{Reply}
 use Rattle.af_base.specs.declared.events.Step.TheVariants as step
@@ -8,7 +9,8 @@ use Rattle.af_base.specs.Counts.{charged, inflight}
 use Rattle.af_base.specs.Unheld.{IsSettled}
 use Rattle.af_base.specs.Steps.{ProcessStep, taken_on}
 
--- A peek leaves every queue as it is, with all that travels in it, whatever the answer (recvmsg(2), MSG_PEEK).
+-- A peek leaves every queue as it is, with all that travels in it, whatever the answer (recvmsg(2),
+-- MSG_PEEK).
 abbrev pub PeekChangesNoQueue : Type 0
 PeekChangesNoQueue = (old new : World) (p n max_bytes max_fds : ℕ) (r : Reply) → IsSettled old
     → ProcessStep old p (step.Peek n max_bytes max_fds) r new
@@ -26,13 +28,15 @@ PeekChangesNoFlight = (old new : World) (p n max_bytes max_fds : ℕ) (r : Reply
     → ProcessStep old p (step.Peek n max_bytes max_fds) r new
     → (f : ℕ) → inflight new f ≡ inflight old f
 
--- After a peek, a receive or another peek gives what it would have given before: the same bytes and files (recvmsg(2), MSG_PEEK).
+-- After a peek, a receive or another peek gives what it would have given before: the same bytes and
+-- files (recvmsg(2), MSG_PEEK).
 abbrev pub PeekSeesWhatIsReceived : Type 0
 PeekSeesWhatIsReceived = (old new : World) (p n max_bytes max_fds : ℕ) (r : Reply) → IsSettled old
     → ProcessStep old p (step.Peek n max_bytes max_fds) r new
     → (asked : ℕ) → taken_on new p n asked ≡ taken_on old p n asked
 
--- A changed limit closes nothing: each descriptor refers to the same file, whatever the reply (setrlimit(2), RLIMIT_NOFILE).
+-- A changed limit closes nothing: each descriptor refers to the same file, whatever the reply
+-- (setrlimit(2), RLIMIT_NOFILE).
 abbrev pub LimitClosesNothing : Type 0
 LimitClosesNothing = (old new : World) (p limit : ℕ) (r : Reply) → IsSettled old
     → ProcessStep old p (step.Limit limit) r new → (q n : ℕ) → table_at new q n ≡ table_at old q n

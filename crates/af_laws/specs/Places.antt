@@ -1,4 +1,5 @@
--- Laws of places and of their counts. The definition that names no manual page is of this project's profile (docs/PROFILE.md).
+-- Laws of places and of their counts. The definition that names no manual page is of this project's
+-- profile (docs/PROFILE.md).
 use Rattle.std.specs.Prelude.{◌≡◌, ◌≢◌, ◌⊎◌, ◌↔◌, ℕ, ◌+◌, IsTrue, List, ◌∷◌, length, Some, None}
 use Rattle.std.specs.FinMap as map
 use Rattle.af_base.specs.World.{World, Process, Message, Socket, AsSocket}
@@ -29,7 +30,8 @@ NoneWhereNotInFlight = (w : World) (f : ℕ) → (inflight w f ≡ 0) ↔ ((s : 
 abbrev pub NoneWhereNotWaiting : Type 0
 NoneWhereNotWaiting = (w : World) (f : ℕ) → (waiting w f ≡ 0) ↔ ((s : ℕ) → ¬ (InBacklog w s f))
 
--- The reference count is what tables, queues and backlogs have of the file, each place counted once.
+-- The reference count is what tables, queues and backlogs have of the file, each place counted
+-- once.
 abbrev pub ReferencesAddUp : Type 0
 ReferencesAddUp = (w : World) (f : ℕ) → refs w f ≡ tabled w f + inflight w f + waiting w f
 
@@ -43,17 +45,20 @@ abbrev pub UninstallCounts : Type 0
 UninstallCounts = (w : World) (p n g f : ℕ) → table_at w p n ≡ Some g
     → refs (uninstall w p n) f + one f g ≡ refs w f
 
--- A dup2 to an open descriptor lowers the count of the old file by one, raises that of the new one by one, and keeps all others (dup2(2)).
+-- A dup2 to an open descriptor lowers the count of the old file by one, raises that of the new one
+-- by one, and keeps all others (dup2(2)).
 abbrev pub ReplaceCounts : Type 0
 ReplaceCounts = (w : World) (p n g h f : ℕ) → table_at w p n ≡ Some h
     → refs (install w p n g) f + one f h ≡ refs w f + one f g
 
--- A child is as many references more to a file as the table that it copies has numbers for it (fork(2)).
+-- A child is as many references more to a file as the table that it copies has numbers for it
+-- (fork(2)).
 abbrev pub ForkCounts : Type 0
 ForkCounts = (w : World) (f : ℕ) (q : Process) → IsWhole w
     → refs (add_process w q) f ≡ refs w f + total_of (one f) q.table
 
--- A process that is gone is as many references less to a file as its table had numbers for it (_exit(2)).
+-- A process that is gone is as many references less to a file as its table had numbers for it
+-- (_exit(2)).
 abbrev pub ExitCounts : Type 0
 ExitCounts = (w : World) (p f : ℕ) (q : Process) → map.get w.processes p ≡ Some q
     → refs (remove_process w p) f + total_of (one f) q.table ≡ refs w f
@@ -62,27 +67,31 @@ ExitCounts = (w : World) (p f : ℕ) (q : Process) → map.get w.processes p ≡
 abbrev pub ExitKeepsCharges : Type 0
 ExitKeepsCharges = (w : World) (p u : ℕ) → charged (remove_process w p) u ≡ charged w u
 
--- A message that is sent is as many references more to a file, and as many more in flight, as it carries the file.
+-- A message that is sent is as many references more to a file, and as many more in flight, as it
+-- carries the file.
 abbrev pub SendCounts : Type 0
 SendCounts = (w : World) (s f : ℕ) (m : Message) (x : Socket) → map.get w.files s ≡ Some (AsSocket x)
     → (refs (push_message w s m) f ≡ refs w f + count_in f m.attached)
     × (inflight (push_message w s m) f ≡ inflight w f + count_in f m.attached)
 
--- A message that is received whole gives back as many references as it carried, before they are installed.
+-- A message that is received whole gives back as many references as it carried, before they are
+-- installed.
 abbrev pub ReceiveCounts : Type 0
 ReceiveCounts = (w : World) (s f : ℕ) (m : Message) (rest : List Message) (x : Socket)
     → map.get w.files s ≡ Some (AsSocket x) → x.queue ≡ m ∷ rest
     → (refs (with_queue w s rest) f + count_in f m.attached ≡ refs w f)
     × (inflight (with_queue w s rest) f + count_in f m.attached ≡ inflight w f)
 
--- A message that is sent is charged to the user that it names, a place for each file that it carries, and to nobody else (unix(7), ETOOMANYREFS; whom it counts is this project's profile).
+-- A message that is sent is charged to the user that it names, a place for each file that it
+-- carries, and to nobody else (unix(7), ETOOMANYREFS; whom it counts is this project's profile).
 abbrev pub SendCharges : Type 0
 SendCharges = (w : World) (s u : ℕ) (m : Message) (x : Socket) → map.get w.files s ≡ Some (AsSocket x)
     → (charged (push_message w s m) m.user ≡ charged w m.user + length m.attached)
     × (u ≢ m.user → charged (push_message w s m) u ≡ charged w u)
     × (total (push_message w s m) ≡ total w + length m.attached)
 
--- A whole receive ends the message's charge to the user that it names, whoever receives it, and keeps all other charges.
+-- A whole receive ends the message's charge to the user that it names, whoever receives it, and
+-- keeps all other charges.
 abbrev pub ReceiveDischarges : Type 0
 ReceiveDischarges = (w : World) (s u : ℕ) (m : Message) (rest : List Message) (x : Socket)
     → map.get w.files s ≡ Some (AsSocket x) → x.queue ≡ m ∷ rest

@@ -69,7 +69,8 @@ IsSlice event.Begin = ⊥
 IsSlice (event.Slice b) = Unit {0}
 IsSlice event.Pass = ⊥
 
--- A begin, and slices with no steps between them, the last of them done, are a whole pass, however they are cut: it may have the same reply, and lead to the same machine.
+-- A begin, and slices with no steps between them, the last of them done, are a whole pass, however
+-- they are cut: it may have the same reply, and lead to the same machine.
 abbrev pub SlicesAreAPass : Type 0
 SlicesAreAPass = (old new : Machine) (slices : List Entry) (started b pass count : ℕ)
     → IsSettled old.world → All (λ e. IsSlice e.0) slices

@@ -35,14 +35,16 @@ SendKeepsReached = (w : World) (s : ℕ) (m : Message) (f : ℕ) → Reached w f
 abbrev pub ReachedIsHeld : Type 0
 ReachedIsHeld = (w : World) (f : ℕ) → Reached w f → ¬ (Unheld w f)
 
--- Live files that no table holds, and that only they themselves hold, are garbage: a listener in the queue of its own embryo, and the embryo in its backlog (net/unix/garbage.c).
+-- Live files that no table holds, and that only they themselves hold, are garbage: a listener in
+-- the queue of its own embryo, and the embryo in its backlog (net/unix/garbage.c).
 abbrev pub GroupsOfTheirOwnAreGarbage : Type 0
 GroupsOfTheirOwnAreGarbage = (w : World) (group : ℕ → Bool)
     → ((f : ℕ) → group f ≡ true → IsLive w f × (¬ (InTable w f)))
     → ((s f : ℕ) → group f ≡ true → Holds w s f → group s ≡ true)
     → (f : ℕ) → group f ≡ true → Garbage w f
 
--- A settled world with nothing in flight, and no embryo in a backlog, has no garbage: a table holds each live file.
+-- A settled world with nothing in flight, and no embryo in a backlog, has no garbage: a table holds
+-- each live file.
 abbrev pub NothingInFlightIsNoGarbage : Type 0
 NothingInFlightIsNoGarbage = (w : World) → IsSettled w → total w ≡ 0 → ((f : ℕ) → waiting w f ≡ 0)
     → ((f : ℕ) → IsLive w f → InTable w f) × ((f : ℕ) → ¬ (Garbage w f))

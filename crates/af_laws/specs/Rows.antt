@@ -76,7 +76,8 @@ PacketIsCut = take_seqpacket (bcd ∷ ee ∷ []) 2 ≡ record {
   rest = ee ∷ [];
 }
 
--- The smallest cycle: a process makes a pair of sockets, sends one of them through the other, so to itself, and closes it.
+-- The smallest cycle: a process makes a pair of sockets, sends one of them through the other, so to
+-- itself, and closes it.
 abbrev pub cycle_events : List Entry
 cycle_events =
     (event.Spawn 1000 16 false, reply.Pid 1)
@@ -85,7 +86,8 @@ cycle_events =
     ∷ (event.Proc 1 (step.Close 0), reply.Ok)
     ∷ []
 
--- Both sockets are live. The first is held by its own queue alone: it is garbage, the only one, and its user is charged for it. The second is reached.
+-- Both sockets are live. The first is held by its own queue alone: it is garbage, the only one, and
+-- its user is charged for it. The second is reached.
 pub record IsSmallestCycle (w : World) : Type 0 where
   pub live : map.len w.files ≡ 2
   pub in_own_queue : InQueue w 1 1

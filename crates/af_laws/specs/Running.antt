@@ -1,4 +1,5 @@
--- Laws of steps and of runs. Definitions that name no manual page are of this project's profile (docs/PROFILE.md).
+-- Laws of steps and of runs. Definitions that name no manual page are of this project's profile
+-- (docs/PROFILE.md).
 use Rattle.std.specs.Prelude.{◌≡◌, ◌≤◌, ◌⊎◌, ◌↔◌, ◌+◌, ◌*◌, ◌||◌, ℕ, IsTrue, List, ◌++◌, nat_eq, nat_lt}
 use Rattle.std.specs.List.{All}
 use Rattle.std.specs.FinMap as map
@@ -13,13 +14,15 @@ use Rattle.af_base.specs.Run.{Entry, Run, Step, fresh}
 use Rattle.af_base.specs.Whole.{IsSound}
 use Rattle.af_base.specs.World.{empty_world}
 
--- A slice of this budget is refused, or may go on: no pass runs, or the budget is out of range, or with it the budgets are within three times the files of the begin.
+-- A slice of this budget is refused, or may go on: no pass runs, or the budget is out of range, or
+-- with it the budgets are within three times the files of the begin.
 abbrev pub HasBudget : Pass → ℕ → Type 0
 HasBudget Idle b = Unit {0}
 HasBudget (Running begun spent) b = IsTrue (nat_eq b 0 || nat_lt MAX_BUDGET b)
     ⊎ (spent + b ≤ 3 * map.len begun.files)
 
--- The event is no slice whose budgets are spent: such a slice is done or has no reply, since a collector that wasted the slices before may have garbage left.
+-- The event is no slice whose budgets are spent: such a slice is done or has no reply, since a
+-- collector that wasted the slices before may have garbage left.
 abbrev pub IsAnswered : Pass → Event → Type 0
 IsAnswered p (event.Spawn uid nofile privileged) = Unit {0}
 IsAnswered p (event.Proc pid s) = Unit {0}
@@ -27,12 +30,14 @@ IsAnswered p event.Begin = Unit {0}
 IsAnswered p (event.Slice b) = HasBudget p b
 IsAnswered p event.Pass = Unit {0}
 
--- From every machine whose world is sound each event, but a slice whose budgets are spent, has a reply and leads somewhere.
+-- From every machine whose world is sound each event, but a slice whose budgets are spent, has a
+-- reply and leads somewhere.
 abbrev pub EventsHaveReplies : Type 0
 EventsHaveReplies = (old : Machine) (e : Event) → IsSound old.world → IsAnswered old.pass e
     → (r : Reply) × (new : Machine) × Step old e r new
 
--- The event, with its reply, leaves nothing to choose. A slice of a pass does: which files it empties, and when the pass is done, is the collector's choice.
+-- The event, with its reply, leaves nothing to choose. A slice of a pass does: which files it
+-- empties, and when the pass is done, is the collector's choice.
 abbrev pub LeavesNoChoice : Event → Type 0
 LeavesNoChoice (event.Spawn uid nofile privileged) = Unit {0}
 LeavesNoChoice (event.Proc p s) = Unit {0}

@@ -32,7 +32,8 @@ IsHeld w f = InTable w f ⊎ ((s : ℕ) × Holds w s f)
 abbrev pub HeldWorldIsSettled : Type 0
 HeldWorldIsSettled = (w : World) → ((f : ℕ) → IsLive w f → IsHeld w f) → IsSettled w
 
--- Files that hold one another never go by themselves: of any files of which each is held by one of them, none is unheld.
+-- Files that hold one another never go by themselves: of any files of which each is held by one of
+-- them, none is unheld.
 abbrev pub CyclesStay : Type 0
 CyclesStay = (w : World) (cycle : ℕ → Bool)
     → ((f : ℕ) → cycle f ≡ true → (s : ℕ) × (cycle s ≡ true) × Holds w s f)

@@ -1,4 +1,5 @@
--- Laws of single steps of a process. The definition that names no manual page is of this project's profile (docs/PROFILE.md).
+-- Laws of single steps of a process. The definition that names no manual page is of this project's
+-- profile (docs/PROFILE.md).
 use Rattle.std.specs.Prelude.{◌≡◌, ◌≢◌, ℕ, ◌+◌, IsTrue, List, length, Some, None, nat_eq, if◌then◌else◌}
 use Rattle.std.specs.FinMap as map
 use Rattle.af_base.specs.declared.events.Reply.{Reply}
@@ -37,7 +38,9 @@ abbrev pub Dup2ToItselfChangesNothing : Type 0
 Dup2ToItselfChangesNothing = (old new : World) (p n : ℕ) (r : Reply) → IsSettled old
     → ProcessStep old p (step.Dup2 n n) r new → new ≡ old
 
--- A send that nothing refuses is charged to the user of the process that sends, a place for each number that it names, repeats included, and to nobody else (unix(7), ETOOMANYREFS; whom it counts is this project's profile).
+-- A send that nothing refuses is charged to the user of the process that sends, a place for each
+-- number that it names, repeats included, and to nobody else (unix(7), ETOOMANYREFS; whom it counts
+-- is this project's profile).
 abbrev pub SendIsChargedToItsSender : Type 0
 SendIsChargedToItsSender = (w : World) (p n u : ℕ) (bytes attach : List ℕ) → IsWhole w
     → refusal w p (step.Send n bytes attach) ≡ None

@@ -80,7 +80,8 @@ takes kind (n ∷ ns) q = let first = take_from kind q n
       rest = others.rest;
     }
 
--- Receives from a stream lose no byte and give none twice, however many bytes each asks for: what they took and what is left are what was there.
+-- Receives from a stream lose no byte and give none twice, however many bytes each asks for: what
+-- they took and what is left are what was there.
 abbrev pub ReceivesKeepBytes : Type 0
 ReceivesKeepBytes = (ns : List ℕ) (q : List Message) →
     let all = takes Stream ns q in
@@ -92,7 +93,8 @@ ReceivesKeepFiles = (kind : SockType) (ns : List ℕ) (q : List Message) → Hav
     let all = takes kind ns q in
     all.attached ++ carried all.rest ≡ carried q
 
--- If each message of a stream has a byte, one receive equals as many receives of one byte as it took bytes: they give the same bytes and files, and leave the same queue.
+-- If each message of a stream has a byte, one receive equals as many receives of one byte as it
+-- took bytes: they give the same bytes and files, and leave the same queue.
 abbrev pub OneByteAtATime : Type 0
 OneByteAtATime = (q : List Message) (n : ℕ) → HaveBytes q →
     let taken = take_stream q n in

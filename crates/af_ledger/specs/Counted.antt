@@ -1,4 +1,5 @@
--- The numbers of one file, and how a place more or less changes them. Definitions that name no manual page are this project's own.
+-- The numbers of one file, and how a place more or less changes them. Definitions that name no
+-- manual page are this project's own.
 use Rattle.std.specs.Prelude.{ℕ, ◌+◌, ◌-◌, ◌<◌, ◌^◌}
 use Rattle.af_ledger.specs.declared.count.Count.{Count}
 use Rattle.af_ledger.specs.declared.place.Place.{Place}

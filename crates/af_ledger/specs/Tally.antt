@@ -1,4 +1,5 @@
--- The content of a ledger, and how one place more or less changes it. Definitions that name no manual page are this project's own.
+-- The content of a ledger, and how one place more or less changes it. Definitions that name no
+-- manual page are this project's own.
 use Rattle.std.specs.Prelude.{ℕ, ◌+◌, ◌-◌, ◌<◌, ◌≤◌, ◌^◌, Bool, false, IsTrue, List, [], ◌∷◌, ◌++◌, length, nat_eq, unwrap_or, if◌then◌else◌}
 use Rattle.std.specs.FinMap as map
 use Rattle.std.specs.List.{Contains, list_any}
@@ -11,7 +12,8 @@ use Rattle.af_ledger.specs.declared.count.Count.{Count}
 use Rattle.af_ledger.specs.declared.place.Place.{Place}
 use Rattle.af_ledger.specs.declared.place.Place.TheVariants.{Table, Queue, Backlog}
 
--- Each user with what it is charged, in the order in which they came, and what is charged to all together.
+-- Each user with what it is charged, in the order in which they came, and what is charged to all
+-- together.
 pub record Charged : Type 0 where
   pub users : List (ℕ × ℕ)
   pub total : ℕ
@@ -38,7 +40,8 @@ count_of k f = count_in_map k.counts f
 abbrev pub has_count : Tally → ℕ → Bool
 has_count k f = map.contains_key k.counts f
 
--- Whether f is unreferenced: its counts are kept, and no place holds it (close(2): a description is freed with its last reference).
+-- Whether f is unreferenced: its counts are kept, and no place holds it (close(2): a description is
+-- freed with its last reference).
 abbrev pub is_waiting : Map Count → ℕ → Bool
 is_waiting m f = option_map_or (λ c. nat_eq (places_in c) 0) (map.get m f) false
 
@@ -50,7 +53,8 @@ AreWaiting m fs = ListsExactly (λ c. nat_eq (places_in c) 0) m fs
 abbrev pub refs_of : Tally → ℕ → ℕ
 refs_of k f = places_in (count_of k f)
 
--- The charge of a user; 0 for an unknown one (unix(7), ETOOMANYREFS; whom it counts is this project's own).
+-- The charge of a user; 0 for an unknown one (unix(7), ETOOMANYREFS; whom it counts is this
+-- project's own).
 abbrev pub charge_in : List (ℕ × ℕ) → ℕ → ℕ
 charge_in us u = unwrap_or (lookup (nat_eq u) us) 0
 

@@ -1,4 +1,5 @@
--- The colours behind the marks, and the list of the grey files beside them. Definitions that name no manual page are this project's own.
+-- The colours behind the marks, and the list of the grey files beside them. Definitions that name
+-- no manual page are this project's own.
 use Rattle.std.specs.Prelude.{◌≡◌, ◌≤◌, ℕ, List, nat_eq, Some, if◌then◌else◌}
 use Rattle.std.specs.FinMap as map
 use Rattle.af_base.specs.Counts.{ListsExactly}
@@ -33,7 +34,8 @@ AreUpTo epoch m = (f : ℕ) (x : Mark) → map.get m f ≡ Some x → x.epoch �
 abbrev pub AreGrey : Map Color → List ℕ → Type 0
 AreGrey colors fs = ListsExactly is_grey_color colors fs
 
--- The marks are of this pass or earlier ones, and the list has just the grey files, and room for as many as have a mark.
+-- The marks are of this pass or earlier ones, and the list has just the grey files, and room for as
+-- many as have a mark.
 abbrev pub AreListed : Map Mark → ℕ → List ℕ → ℕ → Type 0
 AreListed marks epoch grey room = AreUpTo epoch marks × AreGrey (colors_in epoch marks) grey
     × (map.len marks ≤ room)

@@ -1,4 +1,5 @@
--- When numbers that were kept are the recounts. Definitions that name no manual page are of this project's profile (docs/PROFILE.md).
+-- When numbers that were kept are the recounts. Definitions that name no manual page are of this
+-- project's profile (docs/PROFILE.md).
 use Rattle.std.specs.Prelude.{◌≡◌}
 use Rattle.std.specs.List.{All}
 use Rattle.af_base.specs.Counts.{charged, inflight, refs, total}

@@ -1,4 +1,5 @@
--- Laws of bare worlds. Definitions that name no manual page are of this project's profile (docs/PROFILE.md).
+-- Laws of bare worlds. Definitions that name no manual page are of this project's profile
+-- (docs/PROFILE.md).
 use Rattle.std.specs.Prelude.{◌≡◌, ◌↔◌, ℕ}
 use Rattle.af_base.specs.Bare.{bare}
 use Rattle.af_base.specs.Counts.{charged, inflight, refs, total}

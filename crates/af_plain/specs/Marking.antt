@@ -1,4 +1,5 @@
--- How far a search is, and what its list is of. Definitions that name no manual page are of this project's profile (docs/PROFILE.md).
+-- How far a search is, and what its list is of. Definitions that name no manual page are of this
+-- project's profile (docs/PROFILE.md).
 use Rattle.std.specs.Prelude.{◌≡◌, ◌≤◌, ◌⊎◌, ◌↔◌, ℕ, ◌+◌, true, not, List, [], length}
 use Rattle.std.specs.List.{Contains, count_by}
 use Rattle.std.specs.List.Sorted.{IsStrictlyIncreasing}

@@ -1,4 +1,5 @@
--- Messages of many queues in one slab, each linked to the one behind it. Definitions that name no manual page are this project's own.
+-- Messages of many queues in one slab, each linked to the one behind it. Definitions that name no
+-- manual page are this project's own.
 use Rattle.std.specs.Prelude.{◌≡◌, ◌&&◌, Bool, nat_lt, ◌≢◌, ◌<◌, ◌≤◌, ◌+◌, ◌^◌, ℕ, zero, suc, List, [], ◌∷◌, Some, nat_eq, false}
 use Rattle.std.specs.List.{list_any}
 use Rattle.std.specs.Option.{option_map_or}
@@ -28,7 +29,8 @@ messages_from s k (suc n) = option_map_or (λ x. x.message ∷ messages_from s x
 abbrev pub messages_of : Slab Node → Chain → List Message
 messages_of s c = messages_from s c.first c.len
 
--- The n nodes from this one on exist, belong to f, and are distinct, and each message is within the limits; the last has key l.
+-- The n nodes from this one on exist, belong to f, and are distinct, and each message is within the
+-- limits; the last has key l.
 abbrev pub IsPath : Slab Node → ℕ → ℕ → ℕ → ℕ → Type 0
 IsPath s f l k zero = k ≡ k
 IsPath s f l k (suc n) =

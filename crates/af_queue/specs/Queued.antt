@@ -1,4 +1,5 @@
--- Messages within the limits. The definition that names no manual page is of this project's profile (docs/PROFILE.md).
+-- Messages within the limits. The definition that names no manual page is of this project's profile
+-- (docs/PROFILE.md).
 use Rattle.std.specs.Prelude.{List}
 use Rattle.std.specs.List.{AllByRecursion}
 use Rattle.af_base.specs.World.{Message}

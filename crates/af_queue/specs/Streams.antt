@@ -3,7 +3,8 @@ use Rattle.std.specs.Prelude.{ℕ, ◌+◌, ◌-◌, ◌||◌, List, [], ◌∷�
 use Rattle.af_base.specs.World.{Message}
 use Rattle.af_base.specs.Take.{has_files}
 
--- How many bytes a receive of at most n takes: it ends with the first message that has files, or that has as many bytes as are still asked for (unix(7), SOCK_STREAM).
+-- How many bytes a receive of at most n takes: it ends with the first message that has files, or
+-- that has as many bytes as are still asked for (unix(7), SOCK_STREAM).
 abbrev pub stream_cut : ℕ → List Message → ℕ
 stream_cut n [] = 0
 stream_cut n (m ∷ q) =

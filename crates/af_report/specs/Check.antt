@@ -1,4 +1,5 @@
--- The text of a check: what an independent recount says. Definitions that name no manual page are of this project's profile (docs/PROFILE.md).
+-- The text of a check: what an independent recount says. Definitions that name no manual page are
+-- of this project's profile (docs/PROFILE.md).
 use Rattle.std.specs.Prelude.{◌≡◌, ℕ, List, [], ◌∷◌, ◌++◌, length, codes}
 use Rattle.std.specs.Fmt.{decimal}
 use Rattle.std.specs.FinMap as map

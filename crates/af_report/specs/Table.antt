@@ -1,4 +1,5 @@
--- The text of a table: a header, and a line for each live file. Definitions that name no manual page are of this project's profile (docs/PROFILE.md).
+-- The text of a table: a header, and a line for each live file. Definitions that name no manual
+-- page are of this project's profile (docs/PROFILE.md).
 use Rattle.std.specs.Prelude.{ℕ, ◌-◌, List, [], ◌∷◌, ◌++◌, Option, Some, None, codes, length, replicate}
 use Rattle.std.specs.List.{flat_map}
 use Rattle.std.specs.FinMap as map
@@ -75,7 +76,8 @@ name_of (AsSocket s) = name_text s.name
 
 -- ---- lines
 
--- The columns of a file: its number, its two counts, what it is, whom it can talk to, how many messages and embryos wait, its peer and its name.
+-- The columns of a file: its number, its two counts, what it is, whom it can talk to, how many
+-- messages and embryos wait, its peer and its name.
 abbrev pub columns : World → ℕ → File → List (List ℕ)
 columns w f x =
     right 8 f ∷ right 7 (refs w f) ∷ right 7 (inflight w f) ∷ left 9 (kind_of x) ∷ left 9 (state_of x)

@@ -1,4 +1,5 @@
--- The text of totals: a line for each user. Definitions that name no manual page are of this project's profile (docs/PROFILE.md).
+-- The text of totals: a line for each user. Definitions that name no manual page are of this
+-- project's profile (docs/PROFILE.md).
 use Rattle.std.specs.Prelude.{ℕ, List, [], ◌∷◌, ◌++◌, codes}
 use Rattle.std.specs.List.{flat_map}
 use Rattle.std.specs.Fmt.{decimal}

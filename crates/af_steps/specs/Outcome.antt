@@ -1,4 +1,5 @@
--- The outcome of a call of the engine. Definitions that name no manual page are of this project's profile (docs/PROFILE.md).
+-- The outcome of a call of the engine. Definitions that name no manual page are of this project's
+-- profile (docs/PROFILE.md).
 use Rattle.std.specs.Prelude.{◌≡◌, ℕ, Bool, true, false, Option, Some, None}
 use Rattle.af_base.specs.declared.errno.Errno.{Errno}
 use Rattle.af_base.specs.declared.errno.Errno.TheVariants.{ENOMEM}
@@ -16,18 +17,21 @@ use Rattle.af_steps.specs.declared.passes.Finished.{Finished}
 use Rattle.af_steps.specs.declared.passes.Progress.{Progress}
 use Rattle.af_steps.specs.declared.passes.Progress.TheVariants as progress
 
--- Process p did the step: no test of its row fits, this is the answer, and the changed world is settled. The collector does nothing.
+-- Process p did the step: no test of its row fits, this is the answer, and the changed world is
+-- settled. The collector does nothing.
 abbrev pub Does : Machine → ℕ → Step → Reply → Machine → Type 0
 Does old p s r new = (refusal old.world p s ≡ None) × (r ≡ answer old.world p s)
     × Settles (effect old.world p s) new.world × SamePass old new
 
--- A process was started: no test of the row fits, this is its number, and the world with it is settled. The collector does nothing.
+-- A process was started: no test of the row fits, this is its number, and the world with it is
+-- settled. The collector does nothing.
 abbrev pub Starts : Machine → ℕ → ℕ → Bool → ℕ → Machine → Type 0
 Starts old uid nofile privileged p new =
     (spawn_refusal old.world nofile ≡ None) × (p ≡ old.world.next_pid)
     × Settles (spawned old.world uid nofile privileged) new.world × SamePass old new
 
--- The error of a row: that of the first test that fits; if none fits it may be out of memory, unless no memory is needed.
+-- The error of a row: that of the first test that fits; if none fits it may be out of memory,
+-- unless no memory is needed.
 abbrev pub error_of : Option Errno → Bool → Option Errno
 error_of (Some e) frugal = Some e
 error_of None true = None

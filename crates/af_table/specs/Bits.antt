@@ -1,4 +1,5 @@
--- Bits in words of 64. Definitions that name no manual page are of this project's profile (docs/PROFILE.md).
+-- Bits in words of 64. Definitions that name no manual page are of this project's profile
+-- (docs/PROFILE.md).
 use Rattle.std.specs.Prelude.{◌≡◌, ℕ, ◌/◌, ◌%◌, ◌≤◌, ◌<◌, Bool, not, List, slice_index, nat_eq}
 use Rattle.std.specs.Int.{bit_at}
 

@@ -1,4 +1,5 @@
--- A table in a row of slots under bits, and a process with its table. Definitions that name no manual page are of this project's profile (docs/PROFILE.md).
+-- A table in a row of slots under bits, and a process with its table. Definitions that name no
+-- manual page are of this project's profile (docs/PROFILE.md).
 use Rattle.std.specs.Prelude.{◌≡◌, ℕ, ◌+◌, ◌≤◌, List, [], ◌∷◌, false, if◌then◌else◌}
 use Rattle.std.specs.FinMap as map
 use Rattle.af_base.specs.World.{Map, Process}

@@ -8,6 +8,7 @@ use Rattle.example_audit.specs.declared.places.Place.{Place}
 abbrev pub files_of : List Place → List ℕ
 files_of places = map (λ p. p.file) places
 
--- Each file occurs in the list as often as a place of the world holds it (close(2): its reference count).
+-- Each file occurs in the list as often as a place of the world holds it (close(2): its reference
+-- count).
 abbrev pub ListsAll : World → List Place → Type 0
 ListsAll w places = (f : ℕ) → count_in f (files_of places) ≡ refs w f

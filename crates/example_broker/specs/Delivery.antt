@@ -11,7 +11,8 @@ use Rattle.jaywardrobe.specs.Places.{table_at}
 use Rattle.jaywardrobe.specs.Refusals.{ino_on, socket_at, socket_on}
 use Rattle.jaywardrobe.specs.World.{World}
 
--- A descriptor of process q refers to the file of a descriptor of process p (unix(7), SCM_RIGHTS: an open file description travels).
+-- A descriptor of process q refers to the file of a descriptor of process p (unix(7), SCM_RIGHTS:
+-- an open file description travels).
 abbrev pub Delivers : World → ℕ → ℕ → World → ℕ → ℕ → Type 0
 Delivers old p n new q m = (f : ℕ) × (table_at old p n ≡ Some f) × (table_at new q m ≡ Some f)
 

@@ -11,7 +11,8 @@ abbrev pub slice_reply : Option Finished → Reply
 slice_reply None = reply.Working
 slice_reply (Some f) = finished_reply f
 
--- Without a running pass the next one begins, and reports nothing; else the running one continues by a slice.
+-- Without a running pass the next one begins, and reports nothing; else the running one continues
+-- by a slice.
 abbrev pub Collects : Pass → Machine → Option Finished → Machine → Type 0
 Collects Idle old finished new = (finished ≡ None)
     × Begins Idle old (reply.Started (next_pass old.last_pass)) new

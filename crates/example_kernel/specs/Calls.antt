@@ -64,7 +64,8 @@ send_asked r m = Ok (step.Send r.first m.bytes m.fds)
 abbrev pub recv_asked : Registers → Result Step ℕ
 recv_asked r = Ok (step.Recv r.first r.second r.third)
 
--- The step that a call asks for, by its number on x86-64 (syscalls(2)); or the error's number where there is none (ENOSYS).
+-- The step that a call asks for, by its number on x86-64 (syscalls(2)); or the error's number where
+-- there is none (ENOSYS).
 abbrev pub asked : Registers → Memory → Result Step ℕ
 asked r m =
     if nat_eq r.number CLOSE then Ok (step.Close r.first)
@@ -76,7 +77,8 @@ asked r m =
     else if nat_eq r.number EXIT then Ok step.Exit
     else Err 38
 
--- A reply as the number that a call answers: a pid, a descriptor, how many bytes, or 0 (the manual page of each call).
+-- A reply as the number that a call answers: a pid, a descriptor, how many bytes, or 0 (the manual
+-- page of each call).
 abbrev pub value_of : Reply → ℤ
 value_of (reply.Pid p) = pos p
 value_of (reply.Fd n) = pos n

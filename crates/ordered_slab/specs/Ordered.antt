@@ -2,7 +2,8 @@
 use Rattle.std.specs.Prelude.{ℕ}
 use Rattle.af_base.specs.World.{Map}
 
--- Each number that is there with its key, the last number that there was, and for how many more there is room.
+-- Each number that is there with its key, the last number that there was, and for how many more
+-- there is room.
 pub record Ordered : Type 0 where
   pub keys : Map ℕ
   pub last : ℕ

@@ -24,7 +24,8 @@ Rise rows = (i j : ℕ) → i < j → j < length rows → (row_at rows i).ino < 
 abbrev pub AreUpTo : ℕ → List Row → Type 0
 AreUpTo last rows = (i : ℕ) → i < length rows → (row_at rows i).ino ≤ last
 
--- Both lists rise to the last number, each packed number is below each live one of the rows, and the rows that were read are dead.
+-- Both lists rise to the last number, each packed number is below each live one of the rows, and
+-- the rows that were read are dead.
 pub record AreRows (packed rows : List Row) (read last : ℕ) : Type 0 where
   pub packed_rise : Rise packed
   pub rows_rise : Rise rows

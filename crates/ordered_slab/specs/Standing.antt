@@ -1,4 +1,5 @@
--- Values in a slab, under keys that are used again. Definitions that name no manual page are this project's own.
+-- Values in a slab, under keys that are used again. Definitions that name no manual page are this
+-- project's own.
 use Rattle.std.specs.Prelude.{◌≡◌, ℕ, List, [], ◌∷◌, Option, Some, None}
 use Rattle.std.specs.Option.{option_map, option_map_or}
 use Rattle.std.specs.FinMap as map
@@ -25,7 +26,9 @@ values_from m (q ∷ qs) s = option_map_or (map.insert (values_from m qs s) q) (
 unfoldable pub values_of : {V : Type 0} → Map ℕ → Slab (Entry V) → Map V
 values_of m s = values_from m (map.keys m) s
 
--- The key of each number has this number's entry, and there are no other entries, so there are as many values as entries: no two numbers share a key, and a key that is used again is never taken for the old one.
+-- The key of each number has this number's entry, and there are no other entries, so there are as
+-- many values as entries: no two numbers share a key, and a key that is used again is never taken
+-- for the old one.
 pub record AreInPlace {V : Type 0} (m : Map ℕ) (s : Slab (Entry V)) : Type 0 where
   pub kept : (q k : ℕ) → map.get m q ≡ Some k → option_map (λ x. x.ino) (slab.get s k) ≡ Some q
   pub found : (k : ℕ) (x : Entry V) → slab.get s k ≡ Some x → map.get m x.ino ≡ Some k

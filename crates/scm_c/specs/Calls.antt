@@ -21,7 +21,8 @@ abbrev pub Calls : Option Machine → Event → ℤ → Option Machine → Type 
 Calls old event result new = ((r : Reply) × Does old event r new × (result ≡ code_of r))
     ⊎ Lacks old result new
 
--- The same, of a call that writes to the caller's places too: by the reply, `x` there becomes `y`. Without an engine it writes nothing.
+-- The same, of a call that writes to the caller's places too: by the reply, `x` there becomes `y`.
+-- Without an engine it writes nothing.
 abbrev pub CallsInto : {X : Type 0} → Option Machine → Event → (Reply → X → X) → X → ℤ → X
     → Option Machine → Type 0
 CallsInto old event written x result y new =
@@ -36,12 +37,14 @@ Refuses old e result new = (result ≡ error_code e) × (new ≡ old)
 abbrev pub Makes : ℤ → Option Machine → Type 0
 Makes result new = ((result ≡ pos 0) × (new ≡ Some fresh)) ⊎ ((result ≡ error_code ENOMEM) × (new ≡ None))
 
--- The call answers 0 and writes `y`, of which this holds; or there is no engine, and it writes nothing.
+-- The call answers 0 and writes `y`, of which this holds; or there is no engine, and it writes
+-- nothing.
 abbrev pub Tells : {X : Type 0} → Option Machine → (Machine → X → Type 0) → X → ℤ → X → Type 0
 Tells (Some m) holds x result y = (result ≡ pos 0) × holds m y
 Tells None holds x result y = (result ≡ no_engine) × (y ≡ x)
 
--- The call answers a number and writes `y`, of which this holds; or there is no engine, and it writes nothing.
+-- The call answers a number and writes `y`, of which this holds; or there is no engine, and it
+-- writes nothing.
 abbrev pub Asks : {X : Type 0} → Option Machine → (Machine → ℤ → X → Type 0) → X → ℤ → X → Type 0
 Asks (Some m) holds x result y = holds m result y
 Asks None holds x result y = (result ≡ no_engine) × (y ≡ x)

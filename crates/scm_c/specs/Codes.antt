@@ -15,11 +15,14 @@ below n = pos 0 -ℤ pos n
 abbrev pub error_code : Errno → ℤ
 error_code e = below (number_of e)
 
--- The answer of a call on a handle without an engine (this project's own: no error number of the engine).
+-- The answer of a call on a handle without an engine (this project's own: no error number of the
+-- engine).
 abbrev pub no_engine : ℤ
 no_engine = below 100
 
--- A reply as the number that a call answers (the manual page of each call: a pid, a descriptor, how many bytes; 0 at the end of a connection, and without a number to report; 1 for a pass with work left).
+-- A reply as the number that a call answers (the manual page of each call: a pid, a descriptor, how
+-- many bytes; 0 at the end of a connection, and without a number to report; 1 for a pass with work
+-- left).
 abbrev pub code_of : Reply → ℤ
 code_of (reply.Pid p) = pos p
 code_of (reply.Fd n) = pos n
@@ -33,7 +36,8 @@ code_of reply.Working = pos 1
 code_of (reply.Done n k) = pos 0
 code_of (reply.Refused e) = error_code e
 
--- The type of a socket that C names by a number: 1 is a stream, 2 a seqpacket socket (the header's JW_STREAM, JW_SEQPACKET).
+-- The type of a socket that C names by a number: 1 is a stream, 2 a seqpacket socket (the header's
+-- JW_STREAM, JW_SEQPACKET).
 abbrev pub type_named : ℕ → Option SockType
 type_named n = if nat_eq n 1 then Some Stream else (if nat_eq n 2 then Some Seqpacket else None)
 

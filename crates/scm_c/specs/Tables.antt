@@ -10,14 +10,16 @@ use Rattle.af_base.specs.Refusals.{first_fit, ino_on, on_number, on_process}
 use Rattle.scm_c.specs.Codes.{error_code}
 use Rattle.scm_c.specs.declared.tables.Ready.{Ready}
 
--- The answer r is the lowest open descriptor of process p from this one on, and its file is written; or none is open there, the answer says so, and nothing is written.
+-- The answer r is the lowest open descriptor of process p from this one on, and its file is
+-- written; or none is open there, the answer says so, and nothing is written.
 abbrev pub IsNextOpen : World → ℕ → ℕ → ℕ → ℤ → ℕ → Type 0
 IsNextOpen w p from old r new =
     ((n : ℕ) × (r ≡ pos n) × (from ≤ n) × (table_at w p n ≡ Some new)
     × ((q : ℕ) → from ≤ q → q < n → table_at w p q ≡ None))
     ⊎ ((r ≡ error_code EBADF) × (new ≡ old) × ((q : ℕ) → from ≤ q → table_at w p q ≡ None))
 
--- The readiness of descriptor n of process p is written, with the answer 0; or the answer is the error, and nothing is written (poll(2)).
+-- The readiness of descriptor n of process p is written, with the answer 0; or the answer is the
+-- error, and nothing is written (poll(2)).
 abbrev pub IsPolled : World → ℕ → ℕ → Ready → ℤ → Ready → Type 0
 IsPolled w p n old r new =
     ((r ≡ pos 0)

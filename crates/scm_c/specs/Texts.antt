@@ -7,12 +7,14 @@ use Rattle.af_graph.specs.Graph.{IsGraph}
 use Rattle.scm_c.specs.Codes.{error_code}
 use Rattle.scm_c.specs.Written.{over}
 
--- The answer is how long the name of the file f is, and as much of it as fits is written; a file without one has an empty name (unix(7)).
+-- The answer is how long the name of the file f is, and as much of it as fits is written; a file
+-- without one has an empty name (unix(7)).
 abbrev pub IsNameWritten : World → ℕ → List ℕ → ℤ → List ℕ → Type 0
 IsNameWritten w f old r new = let name = unwrap_or (name_at w f) [] in (r ≡ pos (length name))
     × (new ≡ over name old)
 
--- The answer is the length of a picture of the world, and as much of it as fits is written; or it is out of memory, and nothing is written.
+-- The answer is the length of a picture of the world, and as much of it as fits is written; or it
+-- is out of memory, and nothing is written.
 abbrev pub IsPictureWritten : World → List ℕ → ℤ → List ℕ → Type 0
 IsPictureWritten w old r new =
     ((text : List ℕ) × IsGraph w text × (r ≡ pos (length text)) × (new ≡ over text old))

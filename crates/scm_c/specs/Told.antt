@@ -1,4 +1,5 @@
--- The calls on the list of freed files, and on that of the sockets whose readiness may have changed. Definitions that name no manual page are this project's own.
+-- The calls on the list of freed files, and on that of the sockets whose readiness may have
+-- changed. Definitions that name no manual page are this project's own.
 use Rattle.std.specs.Prelude.{◌≡◌, ◌⊎◌, ℕ, ℤ, pos, true, List, length, Option, Some, None}
 use Rattle.af_base.specs.Pass.{Machine}
 use Rattle.af_base.specs.Told.{TellsChanged, TellsReleased}
@@ -49,7 +50,8 @@ abbrev pub IsReleasedWritten : World → Since → List ℕ → ℤ → List ℕ
 IsReleasedWritten w since old r new = (told : List ℕ) × TellsReleased w since told
     × (r ≡ pos (length told)) × (new ≡ over told old)
 
--- The answer is how long the list of the sockets whose readiness may have changed is, and as much of it as fits is written.
+-- The answer is how long the list of the sockets whose readiness may have changed is, and as much
+-- of it as fits is written.
 abbrev pub IsChangedWritten : World → Since → List ℕ → ℤ → List ℕ → Type 0
 IsChangedWritten w since old r new = (told : List ℕ) × TellsChanged w since told
     × (r ≡ pos (length told)) × (new ≡ over told old)

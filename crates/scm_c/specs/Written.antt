@@ -1,4 +1,5 @@
--- The values that a call writes to the caller's places. Definitions that name no manual page are of this project's profile (docs/PROFILE.md).
+-- The values that a call writes to the caller's places. Definitions that name no manual page are of
+-- this project's profile (docs/PROFILE.md).
 use Rattle.std.specs.Prelude.{◌≡◌, ◌⊎◌, ◌<◌, ℕ, ◌++◌, Bool, true, false, List, length, take, drop, min, Option, Some, None}
 use Rattle.af_base.specs.World.{World, is_live, IsLive}
 use Rattle.af_base.specs.declared.limits.TheConstants.{MAX_BYTES}
@@ -34,7 +35,8 @@ finished_written r old = old
 abbrev pub over : List ℕ → List ℕ → List ℕ
 over xs old = take (length old) xs ++ drop (length xs) old
 
--- How many bytes a receive asks for where there is room for n: no message has more (this project's own; recvmsg(2) takes any room).
+-- How many bytes a receive asks for where there is room for n: no message has more (this project's
+-- own; recvmsg(2) takes any room).
 abbrev pub room : ℕ → ℕ
 room n = min n MAX_BYTES
 
@@ -46,7 +48,9 @@ as_u32 n = min n 4294967295
 abbrev pub Places : Type 0
 Places = List ℕ × List ℕ × Received
 
--- The values that a receive writes: the bytes and numbers that it got, how many numbers, and whether some bytes or descriptors were dropped; at the end of a connection, that there are no numbers (recvmsg(2); cmsg(3)).
+-- The values that a receive writes: the bytes and numbers that it got, how many numbers, and
+-- whether some bytes or descriptors were dropped; at the end of a connection, that there are no
+-- numbers (recvmsg(2); cmsg(3)).
 abbrev pub received_written : Reply → Places → Places
 received_written (reply.Got bytes fds trunc ctrunc) (xs, ns, old) = (
   over bytes xs,

@@ -52,7 +52,8 @@ abbrev pub PlayedScript : Option (List ℕ) → Option (List ℕ) → Option (Li
 PlayedScript told before after = (style : Style)
     × ((input : List ℕ) → told ≡ Some input → Played style input before after)
 
--- The task was done to its end: the script on the input was run or played; or that of a file was played, or there was a race, and the input was not read.
+-- The task was done to its end: the script on the input was run or played; or that of a file was
+-- played, or there was a race, and the input was not read.
 abbrev pub Did : Task → Option (List ℕ) → Option (List ℕ) → Option (List ℕ) → Option (List ℕ) → Type 0
 Did Run told left before after = (events : ℕ) × RanToEnd told left before after events
 Did (Play None) told left before after = PlayedScript told before after

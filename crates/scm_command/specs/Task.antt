@@ -53,7 +53,8 @@ bare_app = let app = new_app (codes "scmgc") in record app {
 abbrev pub whole_app : App
 whole_app = with_subcommand (with_subcommand (with_subcommand bare_app run_app.top) play_app.top) race_app.top
 
--- The value of the option of this name is the number n, within these bounds: it is what the text says that `clap` found for the option. A plus may precede its digits.
+-- The value of the option of this name is the number n, within these bounds: it is what the text
+-- says that `clap` found for the option. A plus may precede its digits.
 pub record HasNumber (rows : List Row) (name : Text) (least most n : ℕ) : Type 0 where
   pub text : Text
   pub found : one_of name rows ≡ Some text
@@ -83,7 +84,8 @@ StandsFor (Some found) (Play file) = (bytes_eq found.0 (codes "play") ≡ true)
 StandsFor (Some found) (Race workers steps seed budget checkpoint) =
     (bytes_eq found.0 (codes "race") ≡ true) × IsRace found.1 workers steps seed budget checkpoint
 
--- The words of a command line fit the whole command: no fault is found in them. A call for help or for the version is one.
+-- The words of a command line fit the whole command: no fault is found in them. A call for help or
+-- for the version is one.
 unfoldable pub fits : List Text → Bool
 fits words = length (fault_of whole_app words) == 0
 

@@ -22,7 +22,8 @@ use Rattle.scm_lines.specs.declared.reason.Reason.{Reason}
 use Rattle.scm_lines.specs.declared.reason.Reason.TheVariants as reason
 use Rattle.scm_lines.specs.declared.version.Version.{Version}
 
--- Why digits that are no number are none: there is none of them, a 0 leads them, or they say too much.
+-- Why digits that are no number are none: there is none of them, a 0 leads them, or they say too
+-- much.
 abbrev pub digits_reason : List ℕ → Reason
 digits_reason [] = reason.NotANumber
 digits_reason (b ∷ []) = reason.NumberTooLarge

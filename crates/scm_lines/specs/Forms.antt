@@ -56,7 +56,8 @@ value_in k words = word_as (value_of k) words
 
 -- ---- forms
 
--- The words of a form behind its keyword, and what they make: no word; priv or no word; items; or a word of a kind, and others.
+-- The words of a form behind its keyword, and what they make: no word; priv or no word; items; or a
+-- word of a kind, and others.
 infixr 20 ◌◂◌
 pub data Form (A : Type 0) : Type 0 where
   end : A → Form A

@@ -43,7 +43,8 @@ abbrev pub at_most : ℕ → Option (List ℕ) → Option (List ℕ)
 at_most n None = None
 at_most n (Some items) = if nat_le (length items) n then Some items else None
 
--- The bytes of a word: n times the letter x for * and the number n, else those of its characters; at most 65,537.
+-- The bytes of a word: n times the letter x for * and the number n, else those of its characters;
+-- at most 65,537.
 abbrev pub payload_of : List ℕ → Option (List ℕ)
 payload_of [] = None
 payload_of (a ∷ word) =

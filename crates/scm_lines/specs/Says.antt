@@ -24,7 +24,8 @@ abbrev pub Says : List (List ℕ) → Line → Type 0
 Says [] said = line.Silence ≡ said
 Says (word ∷ words) said = SaysProcess word words said ⊎ SaysRow line_row word words said
 
--- A line, without its end, that says this: a comment is silent, and any other line has printable bytes and words of the table.
+-- A line, without its end, that says this: a comment is silent, and any other line has printable
+-- bytes and words of the table.
 abbrev pub IsLine : List ℕ → Line → Type 0
 IsLine bytes said = (length bytes ≤ MAX_LINE)
     × (((is_comment bytes ≡ true) × (said ≡ line.Silence))

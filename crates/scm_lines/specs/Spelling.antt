@@ -1,4 +1,5 @@
--- The spelling of words of a line: numbers, the bytes of a message, items, and names of types. This project's profile.
+-- The spelling of words of a line: numbers, the bytes of a message, items, and names of types. This
+-- project's profile.
 use Rattle.std.specs.Prelude.{◌≡◌, ◌≤◌, ◌<◌, ◌⊎◌, ℕ, ◌+◌, ◌*◌, ◌^◌, List, [], ◌∷◌, ◌++◌, length, replicate, Bool, true, false, codes, Some}
 use Rattle.std.specs.Fmt.{decimal}
 use Rattle.af_base.specs.declared.events.SockType.{SockType}
@@ -9,7 +10,8 @@ use Rattle.scm_lines.specs.Payload.{hex_value, is_plain}
 abbrev pub IsNumber : List ℕ → ℕ → Type 0
 IsNumber word n = (n < 2 ^ 32) × (word ≡ decimal n)
 
--- A word that begins with characters for one byte, the byte, and the rest of the word: the byte itself where it is plain, else % and two hexadecimal digits.
+-- A word that begins with characters for one byte, the byte, and the rest of the word: the byte
+-- itself where it is plain, else % and two hexadecimal digits.
 abbrev pub SpellsByte : List ℕ → ℕ → List ℕ → Type 0
 SpellsByte word b rest =
     ((is_plain b ≡ true) × (word ≡ b ∷ rest))
@@ -21,7 +23,8 @@ abbrev pub Spells : List ℕ → List ℕ → Type 0
 Spells word [] = word ≡ []
 Spells word (b ∷ bytes) = (rest : List ℕ) × (SpellsByte word b rest × Spells rest bytes)
 
--- A word for the bytes of a message, at most 65,537: * and the number n for n times the letter x, or the characters for one byte or more.
+-- A word for the bytes of a message, at most 65,537: * and the number n for n times the letter x,
+-- or the characters for one byte or more.
 abbrev pub IsPayload : List ℕ → List ℕ → Type 0
 IsPayload word bytes = (length bytes ≤ 65537)
     × (((digits : List ℕ) × ((n : ℕ) × (word ≡ 42 ∷ digits) × IsNumber digits n × (bytes ≡ replicate n 120)))

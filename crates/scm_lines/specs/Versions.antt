@@ -1,4 +1,5 @@
--- The versions of the language: which lines a script may have, by the lines before. This project's profile.
+-- The versions of the language: which lines a script may have, by the lines before. This project's
+-- profile.
 use Rattle.std.specs.Prelude.{Bool, true, false, not, ◌||◌, List, ℕ, if◌then◌else◌, Option, Some, None}
 use Rattle.af_base.specs.declared.events.Step.{Step}
 use Rattle.af_base.specs.declared.events.Step.TheVariants as step
@@ -33,13 +34,15 @@ is_of_first line.Version2 = false
 is_of_first (line.Event (event.Proc pid does)) = not (is_later does)
 is_of_first other = true
 
--- Whether such a line may come now: version 2 before all but silence, and what is of version 2 in it.
+-- Whether such a line may come now: version 2 before all but silence, and what is of version 2 in
+-- it.
 abbrev pub has_line : Version → Line → Bool
 has_line v line.Version2 = is_unknown v
 has_line v (line.Event (event.Proc pid does)) = not (is_later does) || is_second v
 has_line v other = true
 
--- The version after such a line: a silent line keeps it, and any other first line but version 2 sets version 1.
+-- The version after such a line: a silent line keeps it, and any other first line but version 2
+-- sets version 1.
 abbrev pub version_after : Version → Line → Version
 version_after v line.Silence = v
 version_after v line.Version2 = version.Second

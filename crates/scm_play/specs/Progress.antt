@@ -7,7 +7,8 @@ use Rattle.scm_play.specs.Played.{Answers}
 use Rattle.scm_play.specs.Shown.{entry_text, prompt_text}
 use Rattle.scm_play.specs.declared.show.Style.{Style}
 
--- The first line of this input was played, from old to new, and is shown; the reader has the rest of the input.
+-- The first line of this input was played, from old to new, and is shown; the reader has the rest
+-- of the input.
 pub record Goes (style : Style) (number : ℕ) (input : List ℕ) (left before after : Option (List ℕ))
     (old new : Point) : Type 0 where
   pub line : List ℕ

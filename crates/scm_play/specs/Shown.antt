@@ -21,7 +21,8 @@ ends_at answer (Some i) = i + 1 == length answer
 abbrev pub is_one_line : List ℕ → Bool
 is_one_line answer = ends_at answer (position (λ b. b == 10) answer)
 
--- An answer of one line is beside the line that is shown, from column 40 on but two spaces behind it at least; any other is below it.
+-- An answer of one line is beside the line that is shown, from column 40 on but two spaces behind
+-- it at least; any other is below it.
 abbrev pub beside : List ℕ → List ℕ → List ℕ
 beside front answer =
     if is_one_line answer then front ++ (replicate (max (40 - length front) 2) 32 ++ answer)

@@ -1,4 +1,5 @@
--- The fault of a race for each fault of the layer; out of memory is reported apart, as in this project's profile.
+-- The fault of a race for each fault of the layer; out of memory is reported apart, as in this
+-- project's profile.
 use Rattle.af_base.specs.declared.errno.Errno.TheVariants.{ENOMEM}
 use Rattle.af_base.specs.declared.events.Reply.{Reply}
 use Rattle.af_base.specs.declared.events.Reply.TheVariants as reply

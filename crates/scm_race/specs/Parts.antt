@@ -24,7 +24,8 @@ AreFresh n = SeatsHave n (λ i list. list ≡ [])
 abbrev pub LogHas : ℕ → (ℕ → List Pair → Type 0) → List Entry → Type 0
 LogHas n P log = (i : ℕ) → i < n → P i (of_seat (i + 1) log)
 
--- A part of a race on a book: its log is legal from a machine of which `begins` holds, and each seat has of it what P says.
+-- A part of a race on a book: its log is legal from a machine of which `begins` holds, and each
+-- seat has of it what P says.
 pub record IsPart (begins : ℕ → Machine → Type 0) (n : ℕ) (P : ℕ → List Pair → Type 0)
     (b : Logged) : Type 0 where
   pub origin : begins b.seats b.start
@@ -39,7 +40,8 @@ taken b = record b { start = b.machine; log = [] }
 abbrev pub IsOfStart : ℕ → ℕ → List Pair → Type 0
 IsOfStart workers i list = (i ≤ workers → list ≡ []) × (i ≡ workers + 1 → list ≡ spawned workers)
 
--- From one checkpoint to the next each worker has done these steps, and the collector behind them so many turns.
+-- From one checkpoint to the next each worker has done these steps, and the collector behind them
+-- so many turns.
 abbrev pub IsOfPart : List (List Event) → ℕ → ℕ → ℕ → List Pair → Type 0
 IsOfPart steps turns budget i list = (i < length steps → events_of list ≡ slice_index_or steps i [])
     × (i ≡ length steps → Turned budget [] turns list)
@@ -61,7 +63,9 @@ pub record AreNext (count : ℕ) (old : List (List Event)) (parts new : List (Li
   pub made : (i : ℕ) → i < length old → slice_index_or parts i [] ≡ take count (slice_index_or old i [])
   pub left : (i : ℕ) → i < length old → slice_index_or new i [] ≡ drop count (slice_index_or old i [])
 
--- A race after so many steps of each worker. The logs that were taken, put together, are one legal log. In it the workers have done so much of their scripts, and the collector as many turns; the main thread started the processes first.
+-- A race after so many steps of each worker. The logs that were taken, put together, are one legal
+-- log. In it the workers have done so much of their scripts, and the collector as many turns; the
+-- main thread started the processes first.
 pub record GoesOn (workers steps seed budget done : ℕ) (b : Logged) : Type 0 where
   pub here : b.start ≡ b.machine
   pub log : List Entry

@@ -28,7 +28,8 @@ scripts_of zero workers steps seed = []
 scripts_of (suc n) workers steps seed = scripts_of n workers steps seed
     ++ script_of (suc n) workers steps seed ∷ []
 
--- The work of a race: the workers' scripts, and as many turns of the collector as a script has events.
+-- The work of a race: the workers' scripts, and as many turns of the collector as a script has
+-- events.
 abbrev pub works_of_race : ℕ → ℕ → ℕ → ℕ → List Work
 works_of_race workers steps seed budget = map Script (scripts_of workers workers steps seed)
     ++ Collects steps budget ∷ []
@@ -55,7 +56,9 @@ abbrev pub EndsInPass : List Pair → List Pair → Type 0
 EndsInPass old new = (between : List Pair) × (pass : ℕ) × (reclaimed : ℕ)
     × (new ≡ old ++ between ++ (event.Pass, reply.Done pass reclaimed) ∷ [])
 
--- The log of a race that ended well: it is a run of the machine; each worker did its script, and the collector so many turns, as `Turns` says; the main thread started the processes first, and ended with a whole pass that was done.
+-- The log of a race that ended well: it is a run of the machine; each worker did its script, and
+-- the collector so many turns, as `Turns` says; the main thread started the processes first, and
+-- ended with a whole pass that was done.
 pub record RacedBy (Turns : ℕ → List Pair → Type 0) (workers steps seed : ℕ) (b : Logged) : Type 0 where
   pub legal : IsLegal b.seats b.machine b.log
   pub scripts : (k : ℕ) → 1 ≤ k → k ≤ workers → events_of (of_seat k b.log) ≡ script_of k workers steps seed
@@ -85,7 +88,8 @@ abbrev pub race_lines : ℕ → ℕ → List ℕ
 race_lines steps left = codes "steps "
     ++ (decimal steps ++ (codes "\naudit ok\nleft " ++ (decimal left ++ 10 ∷ [])))
 
--- The lines that report a race of this many workers, by the closed book: how many entries the workers have, and how many files are live.
+-- The lines that report a race of this many workers, by the closed book: how many entries the
+-- workers have, and how many files are live.
 abbrev pub outcome_text : ℕ → Logged → List ℕ
 outcome_text workers b = race_lines (worker_steps workers b.log) (finmap.len b.machine.world.files)
 

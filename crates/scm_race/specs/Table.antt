@@ -27,7 +27,8 @@ attached_of extra first second =
     else if nat_le extra 5 then first ∷ second ∷ []
     else []
 
--- The step of a word with n workers: its lowest five bits choose a row, and each row applies up to the number that is tested.
+-- The step of a word with n workers: its lowest five bits choose a row, and each row applies up to
+-- the number that is tested.
 abbrev pub step_of_word : ℕ → ℕ → Step
 step_of_word workers word =
     let row = part word 0 32 in

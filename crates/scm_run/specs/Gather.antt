@@ -1,4 +1,5 @@
--- The text that is gathered, and written later. Definitions that name no manual page are this project's own.
+-- The text that is gathered, and written later. Definitions that name no manual page are this
+-- project's own.
 use Rattle.std.specs.Prelude.{◌≡◌, ◌⊎◌, ℕ, List, ◌++◌, Option}
 use Rattle.std.specs.Io.KnownBytes.{Appends}
 use Rattle.scm_run.specs.Watched.{AppendsFront}
@@ -11,14 +12,16 @@ pub record Moves (old new : List ℕ) (before after : Option (List ℕ)) : Type 
   pub split : old ≡ front ++ new
   pub wrote : Appends before after front
 
--- A fault where text was to be moved: of the writer, which holds a beginning of what was gathered, or of memory.
+-- A fault where text was to be moved: of the writer, which holds a beginning of what was gathered,
+-- or of memory.
 abbrev pub MoveStops : List ℕ → List ℕ → Option (List ℕ) → Option (List ℕ) → RunFault → Type 0
 MoveStops old new before after (fault.Unreadable n) = ⊥
 MoveStops old new before after fault.Read = ⊥
 MoveStops old new before after fault.Write = AppendsFront before after old
 MoveStops old new before after fault.Memory = Moves old new before after
 
--- A fault is answered once what is gathered is written, and the writer's in its place where that fails; after the writer's nothing is written.
+-- A fault is answered once what is gathered is written, and the writer's in its place where that
+-- fails; after the writer's nothing is written.
 abbrev pub Settles : RunFault → RunFault → List ℕ → Option (List ℕ) → Option (List ℕ) → Type 0
 Settles fault.Write answer gathered before after = (answer ≡ fault.Write) × (after ≡ before)
 Settles f answer gathered before after = ((answer ≡ f) × Appends before after gathered)

@@ -37,7 +37,9 @@ LineStops v bytes number gathered left before after fault.Read = ⊥
 LineStops v bytes number gathered left before after fault.Write = AppendsFront before after gathered
 LineStops v bytes number gathered left before after fault.Memory = Moves gathered left before after
 
--- What came of the step of process p that this verb and the bytes behind it say: it was done, and the line of its reply stands behind the text; or its words cannot be read, or memory for them was refused, and the text is as before.
+-- What came of the step of process p that this verb and the bytes behind it say: it was done, and
+-- the line of its reply stands behind the text; or its words cannot be read, or memory for them was
+-- refused, and the text is as before.
 abbrev pub StepDone : Verb → Machine → ℕ → List ℕ → List ℕ → Result (Unit {0}) LineFault → List ℕ
     → Machine → Type 0
 StepDone k old p rest before (Ok _) after new =
@@ -47,7 +49,8 @@ StepDone k old p rest before (Err unread.Unreadable) after new =
     (read_form (step_row k).1 (words_of rest) ≡ None) × (after ≡ before)
 StepDone k old p rest before (Err unread.Memory) after new = after ≡ before
 
--- What came of the bytes of a line at this point: they were done, and their text stands behind what was there; or they cannot be read, or memory for them was refused, and the text is as before.
+-- What came of the bytes of a line at this point: they were done, and their text stands behind what
+-- was there; or they cannot be read, or memory for them was refused, and the text is as before.
 abbrev pub LineRead : Point → List ℕ → List ℕ → Result ℕ LineFault → List ℕ → Point → Type 0
 LineRead old bytes before (Ok events) after new = (text : List ℕ)
     × LineText old bytes events text new × (after ≡ before ++ text)

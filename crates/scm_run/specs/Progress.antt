@@ -8,7 +8,8 @@ use Rattle.scm_run.specs.Script.{IsCut, Point, RunText, FaultAt, first_point}
 use Rattle.scm_run.specs.declared.fault.RunFault.{RunFault}
 use Rattle.scm_run.specs.declared.fault.RunFault.TheVariants as fault
 
--- The state of a script, the bytes after the last line feed, the text that is not written yet, and how many events and lines were done.
+-- The state of a script, the bytes after the last line feed, the text that is not written yet, and
+-- how many events and lines were done.
 pub record Progress : Type 0 where
   pub point : Point
   pub pending : List ℕ
@@ -27,7 +28,8 @@ pub record Runs (taken text : List ℕ) (state : Progress) : Type 0 where
   pub runs : RunText first_point (map strip_carriage_return whole) state.events text state.point
   pub counted : state.done ≡ length whole
 
--- These bytes were taken, the whole lines in them were run, and their text was written but for what is gathered.
+-- These bytes were taken, the whole lines in them were run, and their text was written but for what
+-- is gathered.
 pub record Ran (taken : List ℕ) (before after : Option (List ℕ)) (state : Progress) : Type 0 where
   pub written : List ℕ
   pub runs : Runs taken (written ++ state.gathered) state
@@ -44,7 +46,8 @@ pub record RanAll (input : List ℕ) (before after : Option (List ℕ)) (state :
   pub runs : RunText first_point (lines input) state.events (written ++ state.gathered) state.point
   pub wrote : Appends before after written
 
--- A line that begins with these bytes may be short enough, the one carriage return at its end left out.
+-- A line that begins with these bytes may be short enough, the one carriage return at its end left
+-- out.
 abbrev pub may_fit : List ℕ → Bool
 may_fit bytes = nat_le (length (strip_carriage_return bytes)) MAX_LINE
 
@@ -59,7 +62,8 @@ TooLong done fault.Memory = Unit {0}
 abbrev pub FaultIn : List ℕ → Option (List ℕ) → Option (List ℕ) → RunFault → Type 0
 FaultIn bytes before after f = (more : List ℕ) → FaultAt (bytes ++ more) before after f
 
--- Some text was written and some is gathered: the fault is so once all of it is written, and it is the writer's where only a beginning is.
+-- Some text was written and some is gathered: the fault is so once all of it is written, and it is
+-- the writer's where only a beginning is.
 pub record Waits (says : Option (List ℕ) → RunFault → Type 0) (before after : Option (List ℕ))
     (gathered : List ℕ) (f : RunFault) : Type 0 where
   pub written : List ℕ

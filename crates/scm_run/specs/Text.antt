@@ -22,7 +22,8 @@ all_plain (b ∷ bytes) = is_plain b && all_plain bytes
 abbrev pub hex_digit : ℕ → ℕ
 hex_digit d = if nat_lt d 10 then 48 + d else 55 + d
 
--- A byte as itself where it is plain, else % and its two hexadecimal digits. This project's profile.
+-- A byte as itself where it is plain, else % and its two hexadecimal digits. This project's
+-- profile.
 abbrev pub escaped : ℕ → List ℕ
 escaped b = if is_plain b then b ∷ [] else 37 ∷ hex_digit (b / 16) ∷ hex_digit (b % 16) ∷ []
 
@@ -67,7 +68,8 @@ reply_of tells (Err error) = reply.Refused error
 unfoldable pub reply_line : Reply → List ℕ
 reply_line answer = reply_text answer ++ 10 ∷ []
 
--- The reply is no longer than a step can make it: at most this many bytes and numbers of a receive. This project's profile.
+-- The reply is no longer than a step can make it: at most this many bytes and numbers of a receive.
+-- This project's profile.
 abbrev pub IsShort : Reply → Type 0
 IsShort (reply.Got bytes fds trunc ctrunc) = (length bytes ≤ MAX_BYTES) × (length fds ≤ SCM_MAX_FD)
 IsShort other = Unit {0}
