@@ -21,7 +21,8 @@ list_at seats i = (slice_index_or seats i nobody).list
 
 -- The seat at place i has a number from 1 to n, and none before it has the same.
 abbrev pub IsKnown : ℕ → List Seated → ℕ → Type 0
-IsKnown n seats i = (is_seat n (number_at seats i) ≡ true) × ((j : ℕ) → j < i → number_at seats j ≢ number_at seats i)
+IsKnown n seats i = (is_seat n (number_at seats i) ≡ true)
+    × ((j : ℕ) → j < i → number_at seats j ≢ number_at seats i)
 
 -- So it is with all seats.
 abbrev pub NoStranger : ℕ → List Seated → Type 0
@@ -30,7 +31,8 @@ NoStranger n seats = (i : ℕ) → i < length seats → IsKnown n seats i
 -- The first seat that is not known has the number k.
 abbrev pub IsStranger : ℕ → List Seated → ℕ → Type 0
 IsStranger n seats k =
-    (i : ℕ) × (i < length seats) × (number_at seats i ≡ k) × ((is_seat n k ≡ false) ⊎ ((j : ℕ) × (j < i) × (number_at seats j ≡ k)))
+    (i : ℕ) × (i < length seats) × (number_at seats i ≡ k)
+    × ((is_seat n k ≡ false) ⊎ ((j : ℕ) × (j < i) × (number_at seats j ≡ k)))
     × ((m : ℕ) → m < i → IsKnown n seats m)
 
 -- A seat has the number k.
@@ -43,7 +45,8 @@ NoneMissing n seats = (k : ℕ) → 1 ≤ k → k ≤ n → Has seats k
 
 -- The least number without a seat is k.
 abbrev pub IsMissing : ℕ → List Seated → ℕ → Type 0
-IsMissing n seats k = (1 ≤ k) × (k ≤ n) × ((i : ℕ) → i < length seats → number_at seats i ≢ k) × ((j : ℕ) → 1 ≤ j → j < k → Has seats j)
+IsMissing n seats k = (1 ≤ k) × (k ≤ n) × ((i : ℕ) → i < length seats → number_at seats i ≢ k)
+    × ((j : ℕ) → 1 ≤ j → j < k → Has seats j)
 
 -- The seats of the number k hold their part of the log.
 abbrev pub IsAudited : List Entry → List Seated → ℕ → Type 0
@@ -65,7 +68,8 @@ pub record IsWhole (b : Logged) (seats : List Seated) : Type 0 where
 abbrev pub HasFault : Logged → List Seated → CloseFault → Type 0
 HasFault b seats (fault.Stranger k) = IsStranger b.seats seats k
 HasFault b seats (fault.Missing k) = NoStranger b.seats seats × IsMissing b.seats seats k
-HasFault b seats (fault.Audit k) = NoStranger b.seats seats × NoneMissing b.seats seats × (1 ≤ k) × (k ≤ b.seats) × IsWrong b.log seats k
+HasFault b seats (fault.Audit k) = NoStranger b.seats seats × NoneMissing b.seats seats
+    × (1 ≤ k) × (k ≤ b.seats) × IsWrong b.log seats k
 
 -- The seats are there in their order, with their numbers and with empty lists.
 pub record AreEmptied (old new : List Seated) : Type 0 where

@@ -1,4 +1,5 @@
--- The effect of a call, and when it does nothing. The definition that names no manual page is of this project's profile (docs/PROFILE.md).
+-- The effect of a call, and when it does nothing. The definition that names no manual page is of
+-- this project's profile (docs/PROFILE.md).
 use Rattle.std.specs.Prelude.{◌≡◌, ◌++◌, ◌∷◌, [], ◌&&◌, Bool, if◌then◌else◌, ℕ, Option, Some, None, Result, Err, IfErr, length, nat_le}
 use Rattle.af_base.specs.declared.events.Event.{Event}
 use Rattle.af_base.specs.declared.events.Reply.{Reply}
@@ -12,16 +13,19 @@ use Rattle.af_layer.specs.Log.{Logged}
 abbrev pub is_seat : ℕ → ℕ → Bool
 is_seat seats k = nat_le 1 k && nat_le k seats
 
--- Why a call does nothing, but for out of memory, in this order: there is no such seat, or the log is full.
+-- Why a call does nothing, but for out of memory, in this order: there is no such seat, or the log
+-- is full.
 abbrev pub refusal : Logged → ℕ → Option CallError
-refusal b k = if is_seat b.seats k then (if nat_le MAX_LOG (length b.log) then Some fault.LogFull else None) else Some fault.NoSeat
+refusal b k = if is_seat b.seats k
+    then (if nat_le MAX_LOG (length b.log) then Some fault.LogFull else None) else Some fault.NoSeat
 
 -- A refusal is what is answered; where there is none, only memory may be refused.
 abbrev pub Answers : {R : Type 0} → Option CallError → Result R CallError → Type 0
 Answers (Some e) r = r ≡ Err e
 Answers None r = IfErr r (λ e. e ≡ fault.NoRoom)
 
--- A call: the machine does one step, and the book appends the entry of this seat with the event and its reply.
+-- A call: the machine does one step, and the book appends the entry of this seat with the event and
+-- its reply.
 pub record Calls (old : Logged) (seat : ℕ) (e : Event) (r : Reply) (new : Logged) : Type 0 where
   pub log : new.log ≡ old.log ++ record { seat = seat; event = e; reply = r } ∷ []
   pub step : Step old.machine e r new.machine

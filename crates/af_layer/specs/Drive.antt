@@ -22,7 +22,8 @@ WentOn old events new = (more : List Pair) × (new ≡ old ++ more) × (events_o
 
 -- A list was extended by a beginning of these events, and not by all.
 abbrev pub FellShort : List Pair → List Event → List Pair → Type 0
-FellShort old events new = (done : List Event) × (next : Event) × (rest : List Event) × (events ≡ done ++ next ∷ rest) × WentOn old done new
+FellShort old events new = (done : List Event) × (next : Event) × (rest : List Event)
+    × (events ≡ done ++ next ∷ rest) × WentOn old done new
 
 -- The collector's event after this reply: it continues a pass that it began.
 abbrev pub turn_after : ℕ → Option Pair → Event
@@ -37,7 +38,8 @@ next_turn budget list = turn_after budget (slice_get list (length list - 1))
 -- So many turns were made, each with the event that the list asked for.
 pub data Turned (budget : ℕ) (old : List Pair) : ℕ → List Pair → Type 0 where
   NoTurn : Turned budget old 0 old
-  OneMore : (n : ℕ) → (list : List Pair) → (r : Reply) → Turned budget old n list → Turned budget old (n + 1) (list ++ (next_turn budget list, r) ∷ [])
+  OneMore : (n : ℕ) → (list : List Pair) → (r : Reply) → Turned budget old n list
+      → Turned budget old (n + 1) (list ++ (next_turn budget list, r) ∷ [])
 
 -- The work of a seat: a script, or a number of turns of a collector.
 pub data Work : Type 0 where
@@ -69,18 +71,23 @@ turns_of (Some t) = Collects t.turns t.budget ∷ []
 abbrev pub works_of : List (Vec Event Global) → Option Turns → List Work
 works_of scripts collector = map (λ v. Script v.items) scripts ++ turns_of collector
 
--- All seats are there in their order, with their numbers; R holds between the list of the i-th and the i-th work, and the other seats have none.
-pub record Driven (R : Option Work → List Pair → List Pair → Type 0) (seats : List Seated) (works : List Work) (after : List Seated) : Type 0 where
+-- All seats are there in their order, with their numbers; R holds between the list of the i-th and
+-- the i-th work, and the other seats have none.
+pub record Driven (R : Option Work → List Pair → List Pair → Type 0) (seats : List Seated)
+    (works : List Work) (after : List Seated) : Type 0 where
   pub count : length after ≡ length seats
   pub numbers : (i : ℕ) → i < length seats → number_at after i ≡ number_at seats i
   pub lists : (i : ℕ) → i < length seats → R (slice_get works i) (list_at seats i) (list_at after i)
 
 -- The list of a seat of number k falls short, and all was done from each seat with a lower number.
 pub record IsFirstShort (k : ℕ) (seats : List Seated) (works : List Work) (after : List Seated) : Type 0 where
-  pub short : (i : ℕ) × (i < length seats) × (number_at seats i ≡ k) × Short (slice_get works i) (list_at seats i) (list_at after i)
-  pub below : (i : ℕ) → i < length seats → number_at seats i < k → Made (slice_get works i) (list_at seats i) (list_at after i)
+  pub short : (i : ℕ) × (i < length seats) × (number_at seats i ≡ k)
+      × Short (slice_get works i) (list_at seats i) (list_at after i)
+  pub below : (i : ℕ) → i < length seats → number_at seats i < k
+      → Made (slice_get works i) (list_at seats i) (list_at after i)
 
--- The meaning of a fault: the named seat is the least whose list falls short; with the other faults nothing was started.
+-- The meaning of a fault: the named seat is the least whose list falls short; with the other faults
+-- nothing was started.
 abbrev pub AtFault : List Seated → List Work → DriveFault → List Seated → Type 0
 AtFault seats works (fault.Call k e) after = IsFirstShort k seats works after
 AtFault seats works other after = after ≡ seats

@@ -1,4 +1,5 @@
--- A log of all that was done, and when it is legal. The definition that names no manual page is this project's own.
+-- A log of all that was done, and when it is legal. The definition that names no manual page is
+-- this project's own.
 use Rattle.std.specs.Prelude.{◌≤◌, ◌∷◌, ℕ, List, [], map, if◌then◌else◌, nat_eq}
 use Rattle.std.specs.List.{All}
 use Rattle.af_base.specs.declared.events.Event.{Event}
@@ -21,7 +22,8 @@ abbrev pub of_seat : ℕ → List Entry → List Pair
 of_seat k [] = []
 of_seat k (e ∷ log) = if nat_eq e.seat k then pair_of e ∷ of_seat k log else of_seat k log
 
--- A log is legal from the first machine to the second: each entry is of a seat from 1 to the number of seats, and the events with their replies are a run from one to the other.
+-- A log is legal from the first machine to the second: each entry is of a seat from 1 to the number
+-- of seats, and the events with their replies are a run from one to the other.
 pub record IsLegalFrom (start : Machine) (seats : ℕ) (machine : Machine) (log : List Entry) : Type 0 where
   pub some_seat : 1 ≤ seats
   pub few_seats : seats ≤ MAX_SEATS
@@ -36,7 +38,8 @@ IsLegal = IsLegalFrom fresh
 abbrev pub IsReached : ℕ → Machine → Type 0
 IsReached seats machine = (earlier : List Entry) × IsLegal seats machine earlier
 
--- The view of a book: the number of seats, the machine from which its log runs, the machine now, and the log between them.
+-- The view of a book: the number of seats, the machine from which its log runs, the machine now,
+-- and the log between them.
 pub record Logged : Type 0 where
   pub seats : ℕ
   pub start : Machine

@@ -1,4 +1,5 @@
--- How long the answer to an event can be. The definition that names no manual page is of this project's profile (docs/PROFILE.md).
+-- How long the answer to an event can be. The definition that names no manual page is of this
+-- project's profile (docs/PROFILE.md).
 use Rattle.std.specs.Prelude.{◌≤◌, ℕ, length, min}
 use Rattle.af_base.specs.declared.events.Event.{Event}
 use Rattle.af_base.specs.declared.events.Event.TheVariants as event
@@ -12,7 +13,8 @@ pub record Room : Type 0 where
   pub bytes : ℕ
   pub fds : ℕ
 
--- The most bytes that the answer to an event has: a receive's or a peek's own limit, and never more than a message.
+-- The most bytes that the answer to an event has: a receive's or a peek's own limit, and never more
+-- than a message.
 abbrev pub most_bytes : Event → ℕ
 most_bytes (event.Proc p (step.Recv on max_bytes max_fds)) = min MAX_BYTES max_bytes
 most_bytes (event.Proc p (step.Peek on max_bytes max_fds)) = min MAX_BYTES max_bytes

@@ -1,4 +1,5 @@
--- The reports about a call under a lock. Definitions that name no manual page are this project's own.
+-- The reports about a call under a lock. Definitions that name no manual page are this project's
+-- own.
 use Rattle.std.specs.Prelude.{ℕ, Result, Ok, Err}
 use Rattle.af_base.specs.declared.errno.Errno.{Errno}
 use Rattle.af_base.specs.declared.events.Event.{Event}
@@ -14,7 +15,8 @@ use Rattle.af_base.specs.Whole.{IsSound}
 abbrev pub IsReplyTo : Event → Reply → Type 0
 IsReplyTo e r = (old : Machine) × (new : Machine) × IsSound old.world × run.Step old e r new
 
--- The outcome of a call as a reply to the event: its value by this function, its error as a refusal.
+-- The outcome of a call as a reply to the event: its value by this function, its error as a
+-- refusal.
 abbrev pub TellsReply : {T : Type 0} → Event → (T → Reply) → Result T Errno → Type 0
 TellsReply e tells (Ok a) = IsReplyTo e (tells a)
 TellsReply e tells (Err error) = IsReplyTo e (reply.Refused error)

@@ -18,15 +18,18 @@ pub record ArePlaces (n : ℕ) (seats : List Seated) (places : List ℕ) : Type 
   pub within : (k : ℕ) → k < length places → slice_index places k < length seats
   pub right : (k : ℕ) → 1 ≤ k → k ≤ n → number_at seats (slice_index places k) ≡ k
 
--- After i entries the rest of a list is what the rest of the log has of its seat, exactly where the whole is the whole.
+-- After i entries the rest of a list is what the rest of the log has of its seat, exactly where the
+-- whole is the whole.
 abbrev pub Leaves : List Entry → ℕ → List Pair → ℕ → List Pair → Type 0
 Leaves log k list i rest = (list ≡ of_seat k log) ↔ (rest ≡ of_seat k (drop i log))
 
--- After i entries there is no cursor, and the list differs; or this much of the list was in the log.
+-- After i entries there is no cursor, and the list differs; or this much of the list was in the
+-- log.
 abbrev pub Tracks : List Entry → List Pair → ℕ → ℕ → Option ℕ → Type 0
 Tracks log list k i None = list ≢ of_seat k log
 Tracks log list k i (Some cursor) = (cursor ≤ length list) × Leaves log k list i (drop cursor list)
 
 -- So it is with all cursors.
 abbrev pub AllTrack : List Entry → List Seated → List ℕ → ℕ → List (Option ℕ) → Type 0
-AllTrack log seats places i cursors = (k : ℕ) → k < length places → Tracks log (list_at seats (slice_index places k)) k i (slice_index_or cursors k None)
+AllTrack log seats places i cursors = (k : ℕ) → k < length places
+    → Tracks log (list_at seats (slice_index places k)) k i (slice_index_or cursors k None)

@@ -31,7 +31,8 @@ pub record Worked (old new : Job) : Type 0 where
 
 -- So it is with all jobs.
 abbrev pub AllWorked : List Job → List Job → Type 0
-AllWorked old new = (i : ℕ) (other : Job) → i < length old → Worked (slice_index_or old i other) (slice_index_or new i other)
+AllWorked old new = (i : ℕ) (other : Job) → i < length old
+    → Worked (slice_index_or old i other) (slice_index_or new i other)
 
 -- A job that was not begun.
 abbrev pub job : Seated → Option Work → Job
@@ -51,8 +52,10 @@ seats_of jobs = map (λ j. j.seat) jobs
 abbrev pub LeastBelow : List Job → ℕ → Option (ℕ × CallError) → Type 0
 LeastBelow jobs n None = (i : ℕ) (other : Job) → i < n → (slice_index_or jobs i other).fault ≡ None
 LeastBelow jobs n (Some f) =
-    ((i : ℕ) × (i < n) × ((other : Job) → ((slice_index_or jobs i other).seat.number ≡ f.0) × ((slice_index_or jobs i other).fault ≡ Some f.1)))
-    × ((i : ℕ) (other : Job) → i < n → IfSome (slice_index_or jobs i other).fault (λ e. f.0 ≤ (slice_index_or jobs i other).seat.number))
+    ((i : ℕ) × (i < n) × ((other : Job) → ((slice_index_or jobs i other).seat.number ≡ f.0)
+    × ((slice_index_or jobs i other).fault ≡ Some f.1)))
+    × ((i : ℕ) (other : Job) → i < n → IfSome (slice_index_or jobs i other).fault
+    (λ e. f.0 ≤ (slice_index_or jobs i other).seat.number))
 
 -- So much of a script was done, and the rest is left.
 pub record Progress (old : List Pair) (script rest : List Event) (new : List Pair) : Type 0 where

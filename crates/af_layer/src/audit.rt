@@ -1,7 +1,9 @@
 //! The audit: each seat's list is its part of the log. It takes no memory, and reads the log once.
-ghost use Rattle.std.specs.Prelude.{◌≡◌, ◌≢◌, ◌↔◌, ◌<◌, ◌≤◌, ◌+◌, ◌∷◌, ℕ, All, IsTrue, List, MatchBool, MatchOption, drop, length, slice_index};
+ghost use Rattle.std.specs.Prelude.{◌≡◌, ◌≢◌, ◌↔◌, ◌<◌, ◌≤◌, ◌+◌, ◌∷◌, ℕ, All, IsTrue, List};
+ghost use Rattle.std.specs.Prelude.{MatchBool, MatchOption, drop, length, slice_index};
 ghost use Rattle.af_layer.specs.declared.book.Entry.{Entry as LogEntry};
-ghost use Rattle.af_layer.specs.Audit.{HasFault, IsAudited, IsMissing, IsStranger, IsWhole, IsWrong, NoStranger, NoneMissing, number_at};
+ghost use Rattle.af_layer.specs.Audit.{HasFault, IsAudited, IsMissing, IsStranger, IsWhole};
+ghost use Rattle.af_layer.specs.Audit.{IsWrong, NoStranger, NoneMissing, number_at};
 ghost use Rattle.af_layer.specs.Log.{pair_of};
 ghost use Rattle.af_layer.specs.Walk.{AllTrack, ArePlaces, Tracks};
 

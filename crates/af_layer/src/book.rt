@@ -65,7 +65,12 @@ impl Model for Book {
 
     ghost coded = { Prim.hlevel (codes, map.code) };
 
-    ghost view = { λ b. record { seats = b.seats; start = b.start.value; machine = b.engine; log = b.log.items } };
+    ghost view = { λ b. record {
+      seats = b.seats;
+      start = b.start.value;
+      machine = b.engine;
+      log = b.log.items;
+    } };
 
     ghost invariant = { λ b. IsLegalFrom b.start.value b.seats b.engine b.log.items };
 }
@@ -96,8 +101,8 @@ impl Book {
         self.seats
     }
 
-    /// Returns all that was done since the log was taken last, in order: a run from the machine then
-    /// to the engine as it is. Where it was never taken, that is the fresh machine.
+    /// Returns all that was done since the log was taken last, in order: a run from the machine
+    /// then to the engine as it is. Where it was never taken, that is the fresh machine.
     pub fn log(&self) -> &[Entry]
         ensures value { result.now ≡ self.now.log }
         ensures legal { IsLegalFrom self.now.start self.now.seats self.now.machine self.now.log }

@@ -10,8 +10,8 @@ impl Book {
     /// Audits the seats as [`Layer::close`](crate::Layer::close) does, hands over the log as
     /// [`Book::take_log`] does, and empties the list of each seat.
     ///
-    /// The error is what the audit found, and nothing has changed then. It takes no memory. Its cost
-    /// is linear in the log and in the lists.
+    /// The error is what the audit found, and nothing has changed then. It takes no memory. Its
+    /// cost is linear in the log and in the lists.
     pub fn checkpoint(&mut self, seats: &mut [Seat]) -> Result<Vec<Entry>, CloseFault>
         ensures whole { OnOk result (IsWhole self.old seats.old) }
         ensures log { IfOk result (λ log. log.items ≡ self.old.log) }

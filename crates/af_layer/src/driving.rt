@@ -1,5 +1,6 @@
 //! A drive: scripts, and a collector beside them, each from a seat of its own.
-ghost use Rattle.std.specs.Prelude.{◌≡◌, ◌<◌, ◌≤◌, ◌↔◌, [], IfErr, IfOk, IsTrue, OnOk, length, vec_capacity, vec_len};
+ghost use Rattle.std.specs.Prelude.{◌≡◌, ◌<◌, ◌≤◌, ◌↔◌, [], IfErr, IfOk, IsTrue, OnOk, length};
+ghost use Rattle.std.specs.Prelude.{vec_capacity, vec_len};
 ghost use Rattle.af_layer.specs.Drive.{AtFault, Driven, Made, Part, works_of};
 ghost use Rattle.af_layer.specs.Workers.{LeastBelow, jobs_of, seats_of};
 

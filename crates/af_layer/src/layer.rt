@@ -1,5 +1,6 @@
 //! The layer: its lock, and the audit that closes it.
-ghost use Rattle.std.specs.Prelude.{◌≡◌, ◌+◌, ◌<◌, ℕ, [], Err, IfErr, IfOk, MatchBool, OnErr, OnOk, slice_index_or, vec_len};
+ghost use Rattle.std.specs.Prelude.{◌≡◌, ◌+◌, ◌<◌, ℕ, [], Err, IfErr, IfOk, MatchBool, OnErr, OnOk};
+ghost use Rattle.std.specs.Prelude.{slice_index_or, vec_len};
 ghost use Rattle.af_base.specs.declared.events.Reply.{Reply as Answer};
 ghost use Rattle.af_layer.specs.Audit.{AreEmptied, HasFault, IsWhole};
 ghost use Rattle.af_layer.specs.Calls.{is_seat};
@@ -148,12 +149,12 @@ impl Layer {
 }
 
 impl Layer<Reached> {
-    /// Waits for the lock, audits the seats as [`Layer::close`] does, hands over the log and empties
-    /// the list of each seat. The log begins where the last checkpoint ended.
+    /// Waits for the lock, audits the seats as [`Layer::close`] does, hands over the log and
+    /// empties the list of each seat. The log begins where the last checkpoint ended.
     ///
-    /// The error is what the audit found, and nothing has changed then. A seat that is not at hand is
-    /// missing, so no other thread calls meanwhile. It takes no memory. Its cost is linear in the log
-    /// and in the lists.
+    /// The error is what the audit found, and nothing has changed then. A seat that is not at hand
+    /// is missing, so no other thread calls meanwhile. It takes no memory. Its cost is linear in
+    /// the log and in the lists.
     pub fn checkpoint<R: Wait>(&self, rt: &R, seats: &mut [Seat]) -> Result<Vec<Entry>, CloseFault>
         ensures taken { IfOk result (λ log. (book : Logged)
             × HasLegalLog book × (log.items ≡ book.log) × IsWhole book seats.old) }

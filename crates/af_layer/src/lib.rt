@@ -1,10 +1,10 @@
 //! One lock round an engine, a log of all that was done, and seats that each keep their part of it.
 //!
-//! A [`Layer`] is opened with a number of seats. Each thread takes a [`Seat`] and makes calls through
-//! the layer: a call waits for the lock, does one event, and puts it with its reply into the log
-//! ([`Book`]) and into the seat's own list. [`Layer::close`] compares all lists with the log.
-//! [`drive`] runs scripts, and a collector beside them, each from a seat and in a thread of its own.
-//! A [`Shared`] is an engine behind the same lock, without log and seats.
+//! A [`Layer`] is opened with a number of seats. Each thread takes a [`Seat`] and makes calls
+//! through the layer: a call waits for the lock, does one event, and puts it with its reply into
+//! the log ([`Book`]) and into the seat's own list. [`Layer::close`] compares all lists with the
+//! log. [`drive`] runs scripts, and a collector beside them, each from a seat and in a thread of
+//! its own. A [`Shared`] is an engine behind the same lock, without log and seats.
 #![tactic(auto)]
 
 mod audit;

@@ -1,5 +1,6 @@
 //! A seat: who calls, and what was answered to it.
-ghost use Rattle.std.specs.Prelude.{◌≡◌, ◌<◌, ◌⊎◌, [], IfErr, IfOk, None, OnErr, OnOk, Some, vec_capacity, vec_len};
+ghost use Rattle.std.specs.Prelude.{◌≡◌, ◌<◌, ◌⊎◌, [], IfErr, IfOk, None, OnErr, OnOk, Some};
+ghost use Rattle.std.specs.Prelude.{vec_capacity, vec_len};
 ghost use Rattle.af_base.specs.declared.events.Reply.{Reply as Answer};
 ghost use Rattle.af_layer.specs.Calls.{Calls, refusal};
 ghost use Rattle.af_layer.specs.Seats.{grown};

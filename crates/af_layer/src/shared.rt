@@ -36,8 +36,8 @@ impl Shared {
         }
     }
 
-    /// Waits for the lock, and lends the engine until the guard is dropped. It is for views, and for
-    /// calls that no other thread may come between.
+    /// Waits for the lock, and lends the engine until the guard is dropped. It is for views, and
+    /// for calls that no other thread may come between.
     pub fn lock<R: Wait>(&self, rt: &R) -> MutexGuard<'_, Engine>
         ensures { IsSound (mutex_guard_value result).world }
     {
