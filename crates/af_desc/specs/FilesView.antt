@@ -1,4 +1,5 @@
--- Files under numbers that are never used again. Definitions that name no manual page are this project's own.
+-- Files under numbers that are never used again. Definitions that name no manual page are this
+-- project's own.
 use Rattle.std.specs.Prelude.{◌≡◌, ◌↔◌, ◌&&◌, ◌<◌, ◌≤◌, ℕ, ◌+◌, ◌-◌, ◌^◌, Bool, List, Option, Some, drop, false, is_some, nat_lt, unwrap_or, if◌then◌else◌}
 use Rattle.std.specs.Option.{option_and_then, option_map_or}
 use Rattle.af_base.specs.declared.events.SockType.{SockType}
@@ -24,7 +25,9 @@ use Rattle.af_mark.specs.Marked.{Marked, born, forgotten, is_unmarked, white_cou
 use Rattle.af_queue.specs.Received.{Received, received}
 use Rattle.af_desc.specs.RowsView.{RowsView}
 
--- The world's files, how many places hold each, what a pass knows of each, what there was when the lists were emptied last, the number that the next one gets, and whether there is room for a message more.
+-- The world's files, how many places hold each, what a pass knows of each, what there was when the
+-- lists were emptied last, the number that the next one gets, and whether there is room for a
+-- message more.
 pub record FilesView : Type 0 where
   pub files : Map File
   pub counts : Map Count
@@ -115,7 +118,8 @@ name_of x = option_and_then (λ s. s.name) (socket_of x)
 abbrev pub name_in : Map File → ℕ → Option (List ℕ)
 name_in files f = option_and_then (λ s. s.name) (socket_in files f)
 
--- The names are just those of these files: a name leads to the one socket that has it (unix(7), abstract names).
+-- The names are just those of these files: a name leads to the one socket that has it (unix(7),
+-- abstract names).
 pub record AreNamed (names : Named) (files : Map File) : Type 0 where
   pub each : (name : List ℕ) (f : ℕ) → (map.get names name ≡ Some f) ↔ (name_in files f ≡ Some name)
 
@@ -135,12 +139,15 @@ without_embryo Table n = n
 without_embryo (Queue u) n = n
 without_embryo Backlog n = if nat_lt n (2 ^ 64 - 1) then n - 1 else n
 
--- No more files than this number were born before the pass, and are not marked: they are those below the bound, which is no later than the next number.
+-- No more files than this number were born before the pass, and are not marked: they are those
+-- below the bound, which is no later than the next number.
 abbrev pub AreWhite : Map Mark → ℕ → ℕ → ℕ → ℕ → Type 0
 AreWhite marks epoch bound next n = (bound ≤ next)
     × (white_count (record { colors = colors_in epoch marks; bound = bound }) ≤ n)
 
--- The rows fit all else: numbers begin at 1 and rise, the names are those of the files, the lists have just the files that wait and those that are grey, with room for all, and the embryos, and the files that a pass has still to mark, are counted.
+-- The rows fit all else: numbers begin at 1 and rise, the names are those of the files, the lists
+-- have just the files that wait and those that are grey, with room for all, and the embryos, and
+-- the files that a pass has still to mark, are counted.
 pub record FilesInvariant (rows : RowsView) (waiting : List ℕ) (room : ℕ) (names : Named)
     (next epoch : ℕ) (grey : List ℕ) (most embryos bound white : ℕ) : Type 0 where
   pub last : rows.last + 1 ≡ next

@@ -1,9 +1,11 @@
--- One row for each file, and the messages of all, seen as three maps. Definitions that name no manual page are this project's own.
+-- One row for each file, and the messages of all, seen as three maps. Definitions that name no
+-- manual page are this project's own.
 use Rattle.std.specs.Prelude.{◌≡◌, ◌&&◌, ℕ, Bool, List, Option, Some, false, nat_lt, not, option_map, if◌then◌else◌}
 use Rattle.std.specs.Option.{option_map_or}
 use Rattle.std.specs.FinMap as map
 use Rattle.slab.specs.Slab.{Slab}
 use Rattle.af_base.specs.World.{AsSocket, File, Map, Message, Plain, Since, Socket}
+use Rattle.af_base.specs.Changes.{change_socket_at}
 use Rattle.af_ledger.specs.Counted.{more, uncounted}
 use Rattle.af_ledger.specs.declared.count.Count.{Count}
 use Rattle.af_ledger.specs.declared.place.Place.{Place}
@@ -17,7 +19,9 @@ use Rattle.af_queue.specs.Chains.{messages_of, IsChain}
 use Rattle.af_queue.specs.declared.chain.Node.{Node}
 use Rattle.af_desc.specs.declared.row.Row.{Row}
 
--- The files, how many places hold each, the mark of each, what there was when the lists were emptied last, the last number that there was, for how many more there is room, and whether there is room for a message more.
+-- The files, how many places hold each, the mark of each, what there was when the lists were
+-- emptied last, the last number that there was, for how many more there is room, and whether there
+-- is room for a message more.
 pub record RowsView : Type 0 where
   pub files : Map File
   pub counts : Map Count
@@ -27,7 +31,8 @@ pub record RowsView : Type 0 where
   pub room : ℕ
   pub message_room : Bool
 
--- A row more, of this file, which this place holds and no pass has marked; there is so much room then.
+-- A row more, of this file, which this place holds and no pass has marked; there is so much room
+-- then.
 abbrev pub with_row : ℕ → File → Place → ℕ → RowsView → RowsView
 with_row f x p room r = record r {
   files = map.insert r.files f x;
@@ -44,6 +49,17 @@ without_row f room r = record r {
   counts = map.remove r.counts f;
   marks = map.remove r.marks f;
   room = room;
+}
+
+-- The file f is changed so, if it is a socket.
+abbrev pub with_socket : RowsView → ℕ → (Socket → Socket) → RowsView
+with_socket r f g = record r { files = change_socket_at g r.files f }
+
+-- The same, with this room for a message more.
+abbrev pub with_socket_and_room : RowsView → ℕ → (Socket → Socket) → Bool → RowsView
+with_socket_and_room r f g room = record r {
+  files = change_socket_at g r.files f;
+  message_room = room;
 }
 
 -- A plain file, or this socket.

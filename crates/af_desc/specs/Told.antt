@@ -1,4 +1,5 @@
--- The lists of the files that were freed and of the sockets whose readiness may have changed, beside the rows. Definitions that name no manual page are this project's own.
+-- The lists of the files that were freed and of the sockets whose readiness may have changed,
+-- beside the rows. Definitions that name no manual page are this project's own.
 use Rattle.std.specs.Prelude.{◌≡◌, ◌≤◌, ◌<◌, ◌+◌, ◌-◌, ℕ, Bool, true, false, List, Some, IsTrue, length, min, if◌then◌else◌}
 use Rattle.std.specs.FinMap as map
 use Rattle.af_base.specs.Counts.{ListsExactly}
@@ -26,14 +27,16 @@ room_in since room noted many freed all = min room
     (min (if since.changed then noted - many else room)
     (if since.released then freed - all else room))
 
--- The list has just the noted files; where it is kept it has room for all, and a socket that is not noted has the face that it had.
+-- The list has just the noted files; where it is kept it has room for all, and a socket that is not
+-- noted has the face that it had.
 pub record AreNoted (lines : LinesView) (fs : List ℕ) (space : ℕ) (since : Since) : Type 0 where
   pub listed : AreListed lines.noted fs
   pub fits : since.changed ≡ true → map.len lines.noted ≤ space
   pub same : since.changed ≡ true → (f : ℕ) → IsTrue (is_socket_in lines.files f)
       → map.get lines.noted f ≡ Some false → face_in lines.files f ≡ face_in since.files f
 
--- Numbers rise; and if freed files are reported, each number is accounted for, and the list has room for all live files.
+-- Numbers rise; and if freed files are reported, each number is accounted for, and the list has
+-- room for all live files.
 pub record AreAccounted (lines : LinesView) (gone : List ℕ) (space : ℕ) (since : Since) : Type 0 where
   pub later : since.next ≤ lines.last + 1
   pub below : (f : ℕ) → lines.last < f → map.contains_key lines.counts f ≡ false
@@ -46,7 +49,8 @@ pub record AreTold (lines : LinesView) (fs : List ℕ) (space : ℕ) (gone : Lis
   pub noted : AreNoted lines fs space since
   pub accounted : AreAccounted lines gone wide since
 
--- The file f becomes noted if it is a socket and readiness is reported; nothing else changes, and noted files stay noted.
+-- The file f becomes noted if it is a socket and readiness is reported; nothing else changes, and
+-- noted files stay noted.
 pub record Notes (asked : Bool) (old new : LinesView) (f : ℕ) : Type 0 where
   pub rest : new ≡ record old { noted = new.noted }
   pub noted : asked ≡ true → IsTrue (is_socket_in old.files f) → map.get new.noted f ≡ Some false → ⊥

@@ -4,15 +4,15 @@ ghost use Rattle.std.specs.Prelude.{IfSome, IfNone, IfErr, IfOk, OnOk, OnErr, dr
 ghost use Rattle.std.specs.Prelude.{is_some, length, nat_eq, option_copied, true};
 ghost use Rattle.std.specs.FinMap as map;
 ghost use Rattle.std.specs.Option.{option_map_or};
-ghost use Rattle.af_base.specs.Changes.{bound, change_socket_at, connected, dequeued, listening};
-ghost use Rattle.af_base.specs.Changes.{pushed, queued};
+ghost use Rattle.af_base.specs.Changes.{bound, connected, dequeued, listening, pushed, queued};
 ghost use Rattle.af_base.specs.Places.{backlog_in, held_in, queue_in};
 ghost use Rattle.af_base.specs.Refusals.{room_of};
 ghost use Rattle.af_base.specs.Whole.{IsMessageWithin};
 ghost use Rattle.af_ledger.specs.Counted.{fewer, more, places_in, IsCountable, IsCounted};
 ghost use Rattle.af_ledger.specs.Tally.{count_in_map};
 ghost use Rattle.af_desc.specs.FilesView.{hung_up, popped, received_from, received_of, socket_in};
-ghost use Rattle.af_desc.specs.LinesView.{with_line, without_line};
+ghost use Rattle.af_desc.specs.LinesView.{with_line, with_socket, with_socket_and_room};
+ghost use Rattle.af_desc.specs.LinesView.{without_line};
 ghost use Rattle.af_desc.specs.RowsView.{file_of, is_due, is_white_in, marking};
 
 use crate::row::Row;
@@ -194,8 +194,7 @@ impl Lines {
     #[inline(always)]
     #[tactic(auto, using(crate::proofs::RowsView::rows, ordered_slab::proofs::Parts::parts))]
     pub fn hang_up(&mut self, file: &FileRef)
-        ensures { self.new
-            ≡ record self.old { files = change_socket_at hung_up self.old.files file.now } }
+        ensures { self.new ≡ with_socket self.old file.now hung_up }
     {
         let Some(row) = self.rows.get_mut(file) else {
             return;
@@ -210,9 +209,7 @@ impl Lines {
     #[inline(always)]
     #[tactic(auto, using(crate::proofs::RowsView::rows, ordered_slab::proofs::Parts::parts))]
     pub fn connect(&mut self, file: &FileRef, peer: &FileRef)
-        ensures { self.new ≡ record self.old {
-          files = change_socket_at (connected peer.now) self.old.files file.now;
-        } }
+        ensures { self.new ≡ with_socket self.old file.now (connected peer.now) }
     {
         let Some(row) = self.rows.get_mut(file) else {
             return;
@@ -228,8 +225,7 @@ impl Lines {
     #[tactic(auto, using(crate::proofs::RowsView::rows, ordered_slab::proofs::Parts::parts))]
     pub fn bind(&mut self, file: &FileRef, alloc: Global, name: Items<u8>) -> Result<(), AllocError>
         requires { IfSome (socket_in self.old.files file.now) (λ s. s.name ≡ None) }
-        ensures ok { OnOk result (self.new
-            ≡ record self.old { files = change_socket_at (bound name) self.old.files file.now }) }
+        ensures ok { OnOk result (self.new ≡ with_socket self.old file.now (bound name)) }
         ensures err { OnErr result (self.new ≡ self.old) }
     {
         let Some(row) = self.rows.get_mut(file) else {
@@ -248,9 +244,7 @@ impl Lines {
     pub fn listen(&mut self, file: &FileRef, alloc: Global, most: u32) -> Result<(), AllocError>
         requires named { IfSome (socket_in self.old.files file.now) (λ s. is_none s.name ≡ false) }
         requires nobody { IfSome (socket_in self.old.files file.now) (λ s. s.backlog ≡ []) }
-        ensures ok { OnOk result (self.new ≡ record self.old {
-          files = change_socket_at (listening most) self.old.files file.now;
-        }) }
+        ensures ok { OnOk result (self.new ≡ with_socket self.old file.now (listening most)) }
         ensures err { OnErr result (self.new ≡ self.old) }
     {
         let Some(row) = self.rows.get_mut(file) else {
@@ -268,8 +262,7 @@ impl Lines {
     pub fn enqueue(&mut self, file: &FileRef, embryo: FileRef)
         requires { IfSome (socket_in self.old.files file.now) (λ s.
             length s.backlog < room_of s.state) }
-        ensures { self.new
-            ≡ record self.old { files = change_socket_at (queued embryo) self.old.files file.now } }
+        ensures { self.new ≡ with_socket self.old file.now (queued embryo) }
     {
         let Some(row) = self.rows.get_mut(file) else {
             return;
@@ -287,8 +280,7 @@ impl Lines {
         ensures some { IfSome result (λ f.
             backlog_in self.old.files file.now ≡ f ∷ drop 1 (backlog_in self.old.files file.now)) }
         ensures none { IfNone result (backlog_in self.old.files file.now ≡ []) }
-        ensures rest { self.new
-            ≡ record self.old { files = change_socket_at dequeued self.old.files file.now } }
+        ensures rest { self.new ≡ with_socket self.old file.now dequeued }
     {
         let Some(row) = self.rows.get_mut(file) else {
             return None;
@@ -316,10 +308,8 @@ impl Lines {
         requires few { length (queue_in self.old.files file.now) < MAX_MESSAGES }
         requires within { IsMessageWithin message }
         requires room { self.old.message_room ≡ true }
-        ensures { self.new ≡ record self.old {
-          files = change_socket_at (pushed message) self.old.files file.now;
-          message_room = self.new.message_room;
-        } }
+        ensures { self.new
+            ≡ with_socket_and_room self.old file.now (pushed message) self.new.message_room }
     {
         if let Some(row) = self.rows.get_mut(file) {
             row.push(&mut self.nodes, file.ino(), message);
@@ -333,10 +323,8 @@ impl Lines {
         ensures some { IfSome result (λ m.
             queue_in self.old.files file.now ≡ m ∷ drop 1 (queue_in self.old.files file.now)) }
         ensures none { IfNone result (queue_in self.old.files file.now ≡ []) }
-        ensures rest { self.new ≡ record self.old {
-          files = change_socket_at popped self.old.files file.now;
-          message_room = self.new.message_room;
-        } }
+        ensures rest { self.new
+            ≡ with_socket_and_room self.old file.now popped self.new.message_room }
     {
         let row = self.rows.get_mut(file)?;
         row.pop(&mut self.nodes, file.ino())
@@ -349,10 +337,8 @@ impl Lines {
     pub fn take(&mut self, file: &FileRef, alloc: Global, max: usize) -> Result<Taken, AllocError>
         requires { 0 < max }
         ensures taken { IfOk result (λ t. t ≡ received_of (socket_in self.old.files file.now) max) }
-        ensures rest { OnOk result (self.new ≡ record self.old {
-          files = change_socket_at (received_from max) self.old.files file.now;
-          message_room = self.new.message_room;
-        }) }
+        ensures rest { OnOk result (self.new
+            ≡ with_socket_and_room self.old file.now (received_from max) self.new.message_room) }
         ensures err { OnErr result (self.new ≡ self.old) }
     {
         let Some(row) = self.rows.get_mut(file) else {

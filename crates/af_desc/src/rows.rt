@@ -1,7 +1,9 @@
 //! The rows of all files, and beside them the lists of freed files and changed sockets.
-ghost use Rattle.std.specs.Prelude.{◌≡◌, ℕ, ◌+◌, ◌≤◌, ◌<◌, ◌∷◌, [], true, false, None, IsTrue, IsOk, IfSome, IfNone, IfErr, IfOk, OnOk, OnErr, drop, is_none, is_some, length, nat_eq, option_copied, vec_capacity, cond};
+ghost use Rattle.std.specs.Prelude.{◌≡◌, ℕ, ◌+◌, ◌≤◌, ◌<◌, ◌∷◌, [], true, false, None, IsTrue};
+ghost use Rattle.std.specs.Prelude.{IsOk, IfSome, IfNone, IfErr, IfOk, OnOk, OnErr, drop, is_none};
+ghost use Rattle.std.specs.Prelude.{is_some, length, nat_eq, option_copied, vec_capacity, cond};
 ghost use Rattle.std.specs.FinMap as map;
-ghost use Rattle.af_base.specs.Changes.{bound, change_socket_at, connected, dequeued, listening, pushed, queued};
+ghost use Rattle.af_base.specs.Changes.{bound, connected, dequeued, listening, pushed, queued};
 ghost use Rattle.af_base.specs.Counts.{count_in};
 ghost use Rattle.af_base.specs.Places.{backlog_in, held_in, queue_in};
 ghost use Rattle.af_base.specs.Refusals.{room_of};
@@ -10,7 +12,8 @@ ghost use Rattle.af_base.specs.World.{untold};
 ghost use Rattle.af_ledger.specs.Counted.{fewer, more, places_in, IsCountable, IsCounted};
 ghost use Rattle.af_ledger.specs.Tally.{count_in_map};
 ghost use Rattle.af_desc.specs.FilesView.{hung_up, popped, received_from, received_of, socket_in};
-ghost use Rattle.af_desc.specs.RowsView.{file_of, is_due, is_white_in, marking, with_row, without_row};
+ghost use Rattle.af_desc.specs.RowsView.{file_of, is_due, is_white_in, marking, with_row};
+ghost use Rattle.af_desc.specs.RowsView.{with_socket, with_socket_and_room, without_row};
 ghost use Rattle.af_base.specs.Told.{AreChanged, AreReleased};
 ghost use Rattle.af_desc.specs.Told.{AreListed, Notes};
 
@@ -27,9 +30,9 @@ use std::alloc::{AllocError, Global};
 use std::marker::Model;
 use std::snapshot::Snapshot;
 
-/// The rows of all files; and, where a program asks for it, the list of the files that were freed and
-/// that of the sockets whose readiness may have changed, since both were emptied last. A contract sees
-/// the files as they were then, and not the lists.
+/// The rows of all files; and, where a program asks for it, the list of the files that were freed
+/// and that of the sockets whose readiness may have changed, since both were emptied last. A
+/// contract sees the files as they were then, and not the lists.
 #[derive(Drop)]
 pub struct Rows {
     lines: Lines,
@@ -56,9 +59,21 @@ impl Model for Rows {
 
     ghost coded = { Prim.hlevel (codes, map.code) };
 
-    ghost view = { λ a. record { files = a.lines.files; counts = a.lines.counts; marks = a.lines.marks; since = since_of a.tells_changed a.tells_released a.since.value; last = a.lines.last; room = room_in (since_of a.tells_changed a.tells_released a.since.value) a.lines.room (vec_capacity a.changed) (map.len a.lines.noted) (vec_capacity a.released) (length a.released.items + map.len a.lines.counts); message_room = a.lines.message_room } };
+    ghost view = { λ a. record {
+      files = a.lines.files;
+      counts = a.lines.counts;
+      marks = a.lines.marks;
+      since = since_of a.tells_changed a.tells_released a.since.value;
+      last = a.lines.last;
+      room = room_in (since_of a.tells_changed a.tells_released a.since.value) a.lines.room
+          (vec_capacity a.changed) (map.len a.lines.noted) (vec_capacity a.released)
+          (length a.released.items + map.len a.lines.counts);
+      message_room = a.lines.message_room;
+    } };
 
-    ghost invariant = { λ a. AreTold a.lines a.changed.items (vec_capacity a.changed) a.released.items (vec_capacity a.released) (since_of a.tells_changed a.tells_released a.since.value) };
+    ghost invariant = { λ a. AreTold a.lines a.changed.items
+        (vec_capacity a.changed) a.released.items (vec_capacity a.released)
+        (since_of a.tells_changed a.tells_released a.since.value) };
 }
 
 impl Rows {
@@ -121,7 +136,8 @@ impl Rows {
         requires room { 0 < self.old.room }
         requires next { ino ≡ self.old.last + 1 }
         ensures file { result ≡ ino }
-        ensures pushed { self.new ≡ with_row ino (file_of endpoint) place.now self.new.room self.old }
+        ensures pushed { self.new
+            ≡ with_row ino (file_of endpoint) place.now self.new.room self.old }
         ensures new { map.contains_key self.old.files ino ≡ false }
         ensures uncounted { map.contains_key self.old.counts ino ≡ false }
         ensures unmarked { map.contains_key self.old.marks ino ≡ false }
@@ -179,7 +195,7 @@ impl Rows {
     /// Marks the peer of that socket as gone.
     #[inline(always)]
     pub fn hang_up(&mut self, file: &FileRef)
-        ensures { self.new ≡ record self.old { files = change_socket_at hung_up self.old.files file.now } }
+        ensures { self.new ≡ with_socket self.old file.now hung_up }
     {
         note(self.tells_changed, &mut self.lines, &mut self.changed, file);
         self.lines.hang_up(file);
@@ -188,7 +204,7 @@ impl Rows {
     /// Connects that socket to this peer.
     #[inline(always)]
     pub fn connect(&mut self, file: &FileRef, peer: &FileRef)
-        ensures { self.new ≡ record self.old { files = change_socket_at (connected peer.now) self.old.files file.now } }
+        ensures { self.new ≡ with_socket self.old file.now (connected peer.now) }
     {
         note(self.tells_changed, &mut self.lines, &mut self.changed, file);
         self.lines.connect(file, peer);
@@ -198,7 +214,7 @@ impl Rows {
     #[inline(always)]
     pub fn bind(&mut self, file: &FileRef, alloc: Global, name: Items<u8>) -> Result<(), AllocError>
         requires { IfSome (socket_in self.old.files file.now) (λ s. s.name ≡ None) }
-        ensures ok { OnOk result (self.new ≡ record self.old { files = change_socket_at (bound name) self.old.files file.now }) }
+        ensures ok { OnOk result (self.new ≡ with_socket self.old file.now (bound name)) }
         ensures err { OnErr result (self.new ≡ self.old) }
     {
         self.lines.bind(file, alloc, name)
@@ -210,7 +226,7 @@ impl Rows {
     pub fn listen(&mut self, file: &FileRef, alloc: Global, most: u32) -> Result<(), AllocError>
         requires named { IfSome (socket_in self.old.files file.now) (λ s. is_none s.name ≡ false) }
         requires nobody { IfSome (socket_in self.old.files file.now) (λ s. s.backlog ≡ []) }
-        ensures ok { OnOk result (self.new ≡ record self.old { files = change_socket_at (listening most) self.old.files file.now }) }
+        ensures ok { OnOk result (self.new ≡ with_socket self.old file.now (listening most)) }
         ensures err { OnErr result (self.new ≡ self.old) }
     {
         self.lines.listen(file, alloc, most)?;
@@ -221,8 +237,9 @@ impl Rows {
     /// Appends an embryo to the backlog of that listener, which has room for it.
     #[inline(always)]
     pub fn enqueue(&mut self, file: &FileRef, embryo: FileRef)
-        requires { IfSome (socket_in self.old.files file.now) (λ s. length s.backlog < room_of s.state) }
-        ensures { self.new ≡ record self.old { files = change_socket_at (queued embryo) self.old.files file.now } }
+        requires { IfSome (socket_in self.old.files file.now) (λ s.
+            length s.backlog < room_of s.state) }
+        ensures { self.new ≡ with_socket self.old file.now (queued embryo) }
     {
         note(self.tells_changed, &mut self.lines, &mut self.changed, file);
         self.lines.enqueue(file, embryo);
@@ -231,9 +248,10 @@ impl Rows {
     /// Removes the first embryo of that listener, if there is one.
     #[inline(always)]
     pub fn dequeue(&mut self, file: &FileRef) -> Option<FileRef>
-        ensures some { IfSome result (λ f. backlog_in self.old.files file.now ≡ f ∷ drop 1 (backlog_in self.old.files file.now)) }
+        ensures some { IfSome result (λ f.
+            backlog_in self.old.files file.now ≡ f ∷ drop 1 (backlog_in self.old.files file.now)) }
         ensures none { IfNone result (backlog_in self.old.files file.now ≡ []) }
-        ensures rest { self.new ≡ record self.old { files = change_socket_at dequeued self.old.files file.now } }
+        ensures rest { self.new ≡ with_socket self.old file.now dequeued }
     {
         let embryo = self.lines.dequeue(file)?;
         note(self.tells_changed, &mut self.lines, &mut self.changed, file);
@@ -256,7 +274,8 @@ impl Rows {
         requires few { length (queue_in self.old.files file.now) < MAX_MESSAGES }
         requires within { IsMessageWithin message }
         requires room { self.old.message_room ≡ true }
-        ensures { self.new ≡ record self.old { files = change_socket_at (pushed message) self.old.files file.now; message_room = self.new.message_room } }
+        ensures { self.new
+            ≡ with_socket_and_room self.old file.now (pushed message) self.new.message_room }
     {
         note(self.tells_changed, &mut self.lines, &mut self.changed, file);
         self.lines.push_message(file, message);
@@ -265,9 +284,11 @@ impl Rows {
     /// Removes the first message from the queue of that socket, if there is one. Takes no memory.
     #[inline(always)]
     pub fn pop_message(&mut self, file: &FileRef) -> Option<Msg>
-        ensures some { IfSome result (λ m. queue_in self.old.files file.now ≡ m ∷ drop 1 (queue_in self.old.files file.now)) }
+        ensures some { IfSome result (λ m.
+            queue_in self.old.files file.now ≡ m ∷ drop 1 (queue_in self.old.files file.now)) }
         ensures none { IfNone result (queue_in self.old.files file.now ≡ []) }
-        ensures rest { self.new ≡ record self.old { files = change_socket_at popped self.old.files file.now; message_room = self.new.message_room } }
+        ensures rest { self.new
+            ≡ with_socket_and_room self.old file.now popped self.new.message_room }
     {
         let message = self.lines.pop_message(file)?;
         note(self.tells_changed, &mut self.lines, &mut self.changed, file);
@@ -280,7 +301,8 @@ impl Rows {
     pub fn take(&mut self, file: &FileRef, alloc: Global, max: usize) -> Result<Taken, AllocError>
         requires { 0 < max }
         ensures taken { IfOk result (λ t. t ≡ received_of (socket_in self.old.files file.now) max) }
-        ensures rest { OnOk result (self.new ≡ record self.old { files = change_socket_at (received_from max) self.old.files file.now; message_room = self.new.message_room }) }
+        ensures rest { OnOk result (self.new
+            ≡ with_socket_and_room self.old file.now (received_from max) self.new.message_room) }
         ensures err { OnErr result (self.new ≡ self.old) }
     {
         let taken = self.lines.take(file, alloc, max)?;
@@ -293,7 +315,10 @@ impl Rows {
     pub fn add_place(&mut self, place: &Place, file: &FileRef) -> bool
         requires known { IsTrue (map.contains_key self.old.counts file.now) }
         requires countable { IsCountable place.now (count_in_map self.old.counts file.now) }
-        ensures counts { self.new ≡ record self.old { counts = map.insert self.old.counts file.now (more place.now (count_in_map self.old.counts file.now)) } }
+        ensures counts { self.new ≡ record self.old {
+          counts = map.insert self.old.counts file.now
+              (more place.now (count_in_map self.old.counts file.now));
+        } }
         ensures len { map.len self.new.counts ≡ map.len self.old.counts }
         ensures first { result ≡ nat_eq (places_in (count_in_map self.old.counts file.now)) 0 }
     {
@@ -304,7 +329,10 @@ impl Rows {
     #[inline(always)]
     pub fn sub_place(&mut self, place: &Place, file: &FileRef) -> bool
         requires { IsCounted place.now (count_in_map self.old.counts file.now) }
-        ensures counts { self.new ≡ record self.old { counts = map.insert self.old.counts file.now (fewer place.now (count_in_map self.old.counts file.now)) } }
+        ensures counts { self.new ≡ record self.old {
+          counts = map.insert self.old.counts file.now
+              (fewer place.now (count_in_map self.old.counts file.now));
+        } }
         ensures len { map.len self.new.counts ≡ map.len self.old.counts }
         ensures last { result ≡ nat_eq (places_in (count_in_map self.old.counts file.now)) 1 }
     {
@@ -323,21 +351,25 @@ impl Rows {
     #[inline(always)]
     pub fn set_mark(&mut self, file: &FileRef, mark: Mark)
         requires { IsTrue (map.contains_key self.old.marks file.now) }
-        ensures set { self.new ≡ record self.old { marks = map.insert self.old.marks file.now mark } }
+        ensures set { self.new
+            ≡ record self.old { marks = map.insert self.old.marks file.now mark } }
         ensures len { map.len self.new.marks ≡ map.len self.old.marks }
     {
         self.lines.set_mark(file, mark);
     }
 
-    /// Marks a file that a table holds, if it is not marked in this pass. It is grey, with this place
-    /// in the list, or black at once, if it holds nothing and may be scanned. Returns whether it is
-    /// black, and nothing where it was not marked now.
+    /// Marks a file that a table holds, if it is not marked in this pass. It is grey, with this
+    /// place in the list, or black at once, if it holds nothing and may be scanned. Returns whether
+    /// it is black, and nothing where it was not marked now.
     #[inline(always)]
     pub fn visit(&mut self, file: &FileRef, epoch: u64, at: u32, may_scan: bool) -> Option<bool>
         ensures due { is_some result ≡ is_due epoch self.old.counts self.old.marks file.now }
-        ensures marked { IfSome result (λ black. self.new ≡ record self.old { marks = map.insert self.old.marks file.now (marking epoch at black) }) }
+        ensures marked { IfSome result (λ black. self.new ≡ record self.old {
+          marks = map.insert self.old.marks file.now (marking epoch at black);
+        }) }
         ensures len { map.len self.new.marks ≡ map.len self.old.marks }
-        ensures bare { IfSome result (λ black. black ≡ true → held_in self.old.files file.now ≡ []) }
+        ensures bare { IfSome result (λ black.
+            black ≡ true → held_in self.old.files file.now ≡ []) }
         ensures asked { IfSome result (λ black. black ≡ true → may_scan ≡ true) }
         ensures none { IfNone result (self.new ≡ self.old) }
     {
@@ -354,7 +386,8 @@ impl Rows {
     /// Returns the key of the row of a number, if there is one, by a search. A `FileRef` needs
     /// none.
     pub fn find(&self, ino: Ino) -> Option<FileRef>
-        ensures there { IfSome result (λ f. (f ≡ ino) × IsTrue (map.contains_key self.now.files ino)) }
+        ensures there { IfSome result (λ f.
+            (f ≡ ino) × IsTrue (map.contains_key self.now.files ino)) }
         ensures none { IfNone result (map.contains_key self.now.files ino ≡ false) }
         ensures uncounted { IfNone result (map.contains_key self.now.counts ino ≡ false) }
     {
@@ -367,8 +400,10 @@ impl Rows {
     pub fn next_after(&self, ino: Ino, at: usize) -> Option<(FileRef, usize)>
         ensures above { IfSome result (λ n. ino < n.0) }
         ensures there { IfSome result (λ n. IsTrue (map.contains_key self.now.files n.0)) }
-        ensures least { IfSome result (λ n. (q : ℕ) → ino < q → q < n.0 → map.contains_key self.now.files q ≡ false) }
-        ensures none { IfNone result ((q : ℕ) → ino < q → map.contains_key self.now.files q ≡ false) }
+        ensures least { IfSome result (λ n.
+            (q : ℕ) → ino < q → q < n.0 → map.contains_key self.now.files q ≡ false) }
+        ensures none { IfNone result
+            ((q : ℕ) → ino < q → map.contains_key self.now.files q ≡ false) }
     {
         self.lines.next_after(ino, at)
     }
@@ -376,7 +411,15 @@ impl Rows {
     /// Tells from now on which files are freed. Both lists are empty then. On an error nothing has
     /// changed, but for room.
     pub fn tell_released(&mut self) -> Result<(), AllocError>
-        ensures ok { OnOk result (self.new ≡ record self.old { since = record { changed = self.old.since.changed; released = true; files = self.old.files; next = self.old.last + 1 }; room = self.new.room }) }
+        ensures ok { OnOk result (self.new ≡ record self.old {
+          since = record {
+            changed = self.old.since.changed;
+            released = true;
+            files = self.old.files;
+            next = self.old.last + 1;
+          };
+          room = self.new.room;
+        }) }
         ensures err { OnErr result (self.new ≡ record self.old { room = self.new.room }) }
     {
         widen(&mut self.released, self.lines.len())?;
@@ -391,7 +434,15 @@ impl Rows {
     /// Tells from now on whose readiness may have changed. Both lists are empty then. On an error
     /// nothing has changed, but for room.
     pub fn tell_changed(&mut self) -> Result<(), AllocError>
-        ensures ok { OnOk result (self.new ≡ record self.old { since = record { changed = true; released = self.old.since.released; files = self.old.files; next = self.old.last + 1 }; room = self.new.room }) }
+        ensures ok { OnOk result (self.new ≡ record self.old {
+          since = record {
+            changed = true;
+            released = self.old.since.released;
+            files = self.old.files;
+            next = self.old.last + 1;
+          };
+          room = self.new.room;
+        }) }
         ensures err { OnErr result (self.new ≡ record self.old { room = self.new.room }) }
     {
         widen(&mut self.changed, self.lines.len())?;
@@ -406,7 +457,8 @@ impl Rows {
     /// Returns the numbers of the files that were freed since the lists were last emptied, each
     /// once, if that list is kept.
     pub fn released(&self) -> &[Ino]
-        ensures { self.now.since.released ≡ true → AreReleased self.now.files (self.now.last + 1) self.now.since result.now }
+        ensures { self.now.since.released ≡ true
+            → AreReleased self.now.files (self.now.last + 1) self.now.since result.now }
     {
         self.lines.lemma_are_one();
         self.released.as_slice()
@@ -415,7 +467,8 @@ impl Rows {
     /// Returns the sockets whose readiness may have changed since the lists were last emptied, each
     /// once, if that list is kept.
     pub fn changed(&self) -> &[FileRef]
-        ensures { self.now.since.changed ≡ true → AreChanged self.now.files self.now.since result.now }
+        ensures { self.now.since.changed ≡ true
+            → AreChanged self.now.files self.now.since result.now }
     {
         self.lines.lemma_are_one();
         self.changed.as_slice()
@@ -423,7 +476,10 @@ impl Rows {
 
     /// Empties both lists. It takes no memory.
     pub fn clear_told(&mut self)
-        ensures { self.new ≡ record self.old { since = record self.old.since { files = self.old.files; next = self.old.last + 1 }; room = self.new.room } }
+        ensures { self.new ≡ record self.old {
+          since = record self.old.since { files = self.old.files; next = self.old.last + 1 };
+          room = self.new.room;
+        } }
     {
         self.lines.lemma_are_one();
         unnote(&mut self.lines, &mut self.changed);
@@ -473,9 +529,14 @@ fn note(asked: bool, lines: &mut Lines, changed: &mut Vec<FileRef>, file: &FileR
 /// an unknown file. Takes no memory.
 #[inline(always)]
 fn tell_released(asked: bool, lines: &Lines, released: &mut Vec<Ino>, file: &FileRef)
-    requires fits { asked ≡ true → length released.old.items + map.len lines.now.counts ≤ vec_capacity released.old }
-    ensures goes { asked ≡ true → (f : ℕ) → count_in f released.new.items + cond (map.contains_key (map.remove lines.now.counts file.now) f) 1 0 ≡ count_in f released.old.items + cond (map.contains_key lines.now.counts f) 1 0 }
-    ensures len { asked ≡ true → length released.new.items + map.len (map.remove lines.now.counts file.now) ≡ length released.old.items + map.len lines.now.counts }
+    requires fits { asked ≡ true
+        → length released.old.items + map.len lines.now.counts ≤ vec_capacity released.old }
+    ensures goes { asked ≡ true → (f : ℕ) → count_in f released.new.items
+        + cond (map.contains_key (map.remove lines.now.counts file.now) f) 1 0
+        ≡ count_in f released.old.items + cond (map.contains_key lines.now.counts f) 1 0 }
+    ensures len { asked ≡ true
+        → length released.new.items + map.len (map.remove lines.now.counts file.now)
+        ≡ length released.old.items + map.len lines.now.counts }
     ensures still { asked ≡ false → released.new.items ≡ released.old.items }
     ensures capacity { vec_capacity released.new ≡ vec_capacity released.old }
 {
