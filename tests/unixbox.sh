@@ -51,6 +51,7 @@ same() {
 # Runs the programs under a build of unixbox.
 plays() {
     same "$1" "$user" "$room/descriptors"
+    same "$1" "" "$room/waits"
     same "$1" "" python3 tests/unixbox/descriptors.py
     if timeout 60 "$1" --gc=none -- "$room/descriptors" cycle > "$room/layer" 2> "$room/said"; then
         fails "a cycle is freed with --gc=none"
@@ -58,8 +59,8 @@ plays() {
     echo "unixbox: the programs passed$2"
 }
 
-for name in notification descriptors cost; do
-    $cc $checks -pedantic "tests/unixbox/$name.c" -o "$room/$name"
+for name in notification descriptors waits cost; do
+    $cc $checks -pedantic "tests/unixbox/$name.c" -o "$room/$name" -lpthread
 done
 if ! $user "$room/notification" 2> "$room/why"; then
     echo "unixbox: no seccomp notification ($(cat "$room/why")), so nothing was run under it"

@@ -4,19 +4,19 @@
 enum { MOST_LOOKS = 40, LOOK_MICROSECONDS = 50 };
 
 static void close_fd(const struct process *process, uint32_t fd) {
-    record(process->pid, jw_close(&engine, process->pid, fd), "ok", "close %u", fd);
+    record(process->pid, jw_close(&engine, process->pid, fd), "close %u", fd);
     is_collection_due = true;
 }
 
 static long duplicate_at(const struct process *process, uint32_t from, uint32_t to) {
     is_collection_due = true;
-    return record(process->pid, jw_dup2(&engine, process->pid, from, to), "fd %ld", "dup2 %u %u",
+    return record(process->pid, jw_dup2(&engine, process->pid, from, to), "dup2 %u %u",
                   from, to);
 }
 
 /* Opens a plain file at a number that is free. */
 static void open_at(const struct process *process, uint32_t fd) {
-    long lowest = record(process->pid, jw_open(&engine, process->pid), "fd %ld", "open");
+    long lowest = record(process->pid, jw_open(&engine, process->pid), "open");
     uint64_t ino = 0;
     if (lowest < 0) return;
     jw_ino(&engine, process->pid, (uint32_t)lowest, &ino);
@@ -53,25 +53,56 @@ void sync_table(struct process *process) {
         if (is_open[fd] && file_of(process, fd) == NULL) open_at(process, fd);
 }
 
-/* Puts what the layer has opened at `fd` there in the caller's table. If the number is not fixed,
- * the kernel chooses it, and should choose this one. A plain file is copied from `from`. */
-long install(struct call *call, uint32_t fd, int from, bool is_fixed, bool closes_on_exec) {
-    const struct file *file = file_of(call->process, fd);
-    bool is_ours = file != NULL && file->host >= 0;
-    int host = is_ours ? file->host : (int)syscall(SYS_pidfd_getfd, call->process->pidfd, from, 0);
+/* Returns the lowest number from here on that is free in the layer. */
+static uint32_t lowest_free(const struct process *process, uint64_t from) {
+    while (from < JW_MAX_NOFILE && file_of(process, from) != NULL) from++;
+    return from < JW_MAX_NOFILE ? (uint32_t)from : JW_MAX_NOFILE;
+}
+
+/* Gives a file to the caller at a number that the kernel chooses, or at a fixed one. A plain file
+ * is copied from the caller's descriptor `from`. Returns the number, or a negative errno. */
+static long give(const struct call *call, struct file *file, uint32_t from, bool is_fixed,
+                 uint32_t to, bool closes_on_exec) {
+    if (file->host < 0 && file->kind != JW_PLAIN) reopen(file);
+    int copy = file->host < 0 ? (int)syscall(SYS_pidfd_getfd, call->process->pidfd, from, 0) : -1;
     struct seccomp_notif_addfd descriptor = {
-        .id = call->id, .flags = is_fixed ? SECCOMP_ADDFD_FLAG_SETFD : 0, .srcfd = (uint32_t)host,
-        .newfd = is_fixed ? fd : 0, .newfd_flags = closes_on_exec ? O_CLOEXEC : 0};
-    int number = ioctl(notifications, SECCOMP_IOCTL_NOTIF_ADDFD, &descriptor), error = errno;
-    if (!is_ours) close(host);
-    if (number == (int)fd) return number;
-    /* What O_PATH opened cannot be given. */
-    if (number < 0 && error == EBADF && from >= 0) return KERNEL_DOES_IT;
-    /* Beside threads other numbers are no fault: one may open something after the last look. */
-    counts.other_numbers += !is_fixed && !call->process->has_threads && number >= 0;
-    if (number >= 0) duplicate_at(call->process, fd, (uint32_t)number);
-    close_fd(call->process, fd);
-    return number >= 0 ? number : -error;
+        .id = call->id, .flags = is_fixed ? SECCOMP_ADDFD_FLAG_SETFD : 0,
+        .srcfd = (uint32_t)(file->host < 0 ? copy : file->host), .newfd = is_fixed ? to : 0,
+        .newfd_flags = closes_on_exec ? O_CLOEXEC : 0};
+    long number = ioctl(notifications, SECCOMP_IOCTL_NOTIF_ADDFD, &descriptor);
+    number = number < 0 ? -errno : number;
+    if (copy >= 0) close(copy);
+    return number;
+}
+
+/* Moves what the layer has opened at `fd` to another number. If that is an errno, closes it. */
+static void move(const struct process *process, uint32_t fd, long to) {
+    if (to == fd) return;
+    if (to >= 0) duplicate_at(process, fd, (uint32_t)to);
+    close_fd(process, fd);
+}
+
+/* Puts what the layer has opened at these numbers into the caller's table. The kernel chooses the
+ * numbers, and chooses others if another thread opens or closes something beside this. Then the
+ * layer follows. Returns how many there are, or a negative errno if there is none. */
+long install(struct call *call, uint32_t *fds, size_t count, bool closes_on_exec) {
+    const struct process *process = call->process;
+    long numbers[JW_MAX_FD], highest = 0, installed = 0;
+    for (size_t i = 0; i < count; i++) {
+        numbers[i] = give(call, file_of(process, fds[i]), 0, false, 0, closes_on_exec);
+        highest = numbers[i] > highest ? numbers[i] : highest;
+        if (numbers[i] >= 0 && numbers[i] != fds[i]) counts.other_numbers += !process->has_threads;
+    }
+    for (size_t i = 0; i < count; i++) {
+        for (size_t j = i + 1; numbers[i] != fds[i] && j < count; j++) {
+            if (fds[j] != numbers[i]) continue; /* It leaves the place of this one. */
+            fds[j] = lowest_free(process, (uint64_t)highest + 1);
+            move(process, (uint32_t)numbers[i], fds[j]);
+        }
+        move(process, fds[i], numbers[i]);
+        if (numbers[i] >= 0) fds[installed++] = (uint32_t)numbers[i];
+    }
+    return installed > 0 || count == 0 ? installed : numbers[0];
 }
 
 /* A close can only be left to the kernel. */
@@ -81,31 +112,27 @@ long serve_close(struct call *call) {
     return KERNEL_DOES_IT;
 }
 
-/* dup(2), dup2(2) and dup3(2). Left to the kernel, they could be behind another thread's look. */
+/* dup(2), dup2(2), dup3(2), and fcntl(2) with F_DUPFD. Left to the kernel, they could be behind
+ * another thread's look. What the kernel refuses here, it refuses by itself. */
 long serve_dup(struct call *call) {
-    bool closes_on_exec = call->number == SYS_dup3 && (call->args[2] & O_CLOEXEC);
-    bool is_fixed = call->number != SYS_dup;
-    uint32_t to = (uint32_t)call->args[1];
+    bool is_fcntl = call->number == SYS_fcntl, is_dup3 = call->number == SYS_dup3;
+    bool is_fixed = is_dup3 || call->number == SYS_dup2;
+    bool closes_on_exec = is_fcntl ? call->args[1] == F_DUPFD_CLOEXEC
+                                   : is_dup3 && (call->args[2] & O_CLOEXEC);
+    uint64_t from = is_fcntl ? call->args[2] : 0, to = call->args[1];
+    if (is_fcntl && !closes_on_exec && call->args[1] != F_DUPFD) return KERNEL_DOES_IT;
     sync_table(call->process);
-    if (file_of(call->process, call->fd) == NULL) return -EBADF;
-    if (is_fixed && call->fd == to) return KERNEL_DOES_IT;
-    long fd = is_fixed ? duplicate_at(call->process, call->fd, to)
-                       : record(call->pid, jw_dup(&engine, call->pid, call->fd), "fd %ld",
-                                "dup %u", call->fd);
-    return fd < 0 ? fd : install(call, (uint32_t)fd, (int)call->fd, is_fixed, closes_on_exec);
-}
-
-/* fcntl(2) with F_DUPFD: the lowest free number from the argument on. */
-long serve_fcntl(struct call *call) {
-    bool closes_on_exec = call->args[1] == F_DUPFD_CLOEXEC;
-    if (call->args[1] != F_DUPFD && !closes_on_exec) return KERNEL_DOES_IT;
-    sync_table(call->process);
-    for (uint64_t to = call->args[2]; to < JW_MAX_NOFILE; to++) {
-        if (file_of(call->process, to) != NULL) continue;
-        long number = duplicate_at(call->process, call->fd, (uint32_t)to);
-        if (number < 0) break;
-        number = install(call, (uint32_t)to, (int)call->fd, true, closes_on_exec);
-        if (number != -EBUSY) return number; /* A thread in accept(2) has reserved that one. */
+    struct file *file = file_of(call->process, call->fd);
+    if (file == NULL || (is_fixed && (call->fd == to || to >= JW_MAX_NOFILE)))
+        return KERNEL_DOES_IT;
+    for (long number = -EBUSY; number == -EBUSY; from = to + 1) { /* accept(2) reserves one. */
+        bool has_choice = !is_fixed && lowest_free(call->process, 0) >= from;
+        if (!is_fixed) to = lowest_free(call->process, from);
+        if (duplicate_at(call->process, call->fd, (uint32_t)to) < 0) break;
+        number = give(call, file, call->fd, !has_choice, (uint32_t)to, closes_on_exec);
+        if (number == -EBADF) return KERNEL_DOES_IT; /* What O_PATH opened cannot be given. */
+        move(call->process, (uint32_t)to, number);
+        if (number != -EBUSY || is_fixed) return number;
     }
-    return KERNEL_DOES_IT; /* It has no such descriptor, or no number: the kernel says which. */
+    return KERNEL_DOES_IT;
 }

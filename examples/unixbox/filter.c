@@ -2,12 +2,16 @@
 #include "unixbox.h"
 #include <linux/audit.h>
 #include <linux/filter.h>
-#include <pthread.h>
+#include <stdatomic.h>
+#include <time.h>
 
 enum { RESTART = -512, MOST_NUMBERS = 512 };
+#define NEVER UINT64_MAX /* A deadline. */
 
 int notifications = -1;
+pthread_mutex_t serving = PTHREAD_MUTEX_INITIALIZER;
 static struct call *waiting; /* Calls that wait. */
+static atomic_bool is_alone; /* There is one process, with one thread. */
 
 /* Refuses what would move bytes or descriptors past the layer, or tell of placeholders. */
 static long refuse(struct call *call) {
@@ -29,7 +33,7 @@ static handler *const socket_handlers[MOST_NUMBERS] = {
 static handler *const handlers[MOST_NUMBERS] = {
     [SYS_socket] = serve_socket, [SYS_socketpair] = serve_socket, [SYS_close] = serve_close,
     [SYS_dup] = serve_dup, [SYS_dup2] = serve_dup, [SYS_dup3] = serve_dup,
-    [SYS_fcntl] = serve_fcntl, [SYS_fork] = serve_fork, [SYS_vfork] = serve_fork,
+    [SYS_fcntl] = serve_dup, [SYS_fork] = serve_fork, [SYS_vfork] = serve_fork,
     [SYS_clone] = serve_fork, [SYS_clone3] = serve_fork, [SYS_execve] = serve_change,
     [SYS_execveat] = serve_change, [SYS_exit_group] = serve_change, [SYS_setuid] = serve_change,
     [SYS_setgid] = serve_change, [SYS_setreuid] = serve_change, [SYS_setregid] = serve_change,
@@ -59,23 +63,6 @@ int install_filter(void) {
                         SECCOMP_FILTER_FLAG_WAIT_KILLABLE_RECV, &all);
 }
 
-/* Receives notifications, in a thread that does nothing else: until a call is received, any signal
- * ends it, and a close(2) would answer EINTR. */
-void *receive(void *out) {
-    struct seccomp_notif notif;
-    struct pollfd ask = {notifications, POLLIN, 0};
-    pthread_setschedparam(pthread_self(), SCHED_FIFO, &(struct sched_param){.sched_priority = 1});
-    while (!(ask.revents & (POLLHUP | POLLERR))) {
-        memset(&notif, 0, sizeof notif);
-        if (ioctl(notifications, SECCOMP_IOCTL_NOTIF_RECV, &notif) < 0)
-            poll(&ask, 1, 0); /* Whether a program is left. */
-        else if (write(*(int *)out, &notif, sizeof notif) < 0)
-            break;
-    }
-    close(*(int *)out);
-    return NULL;
-}
-
 bool read_memory(const struct call *call, void *to, uint64_t from, size_t length) {
     struct iovec here = {to, length}, there = {(void *)from, length};
     return process_vm_readv(call->tid, &here, 1, &there, 1, 0) == (ssize_t)length;
@@ -87,13 +74,14 @@ bool write_memory(const struct call *call, uint64_t to, const void *from, size_t
 }
 
 static void answer(struct call *call, long result) {
+    if (call->moved > 0) result = (long)call->moved; /* Whatever ended it. */
     struct seccomp_notif_resp response = {.id = call->id, .val = result >= 0 ? result : 0};
     response.flags = result == KERNEL_DOES_IT ? SECCOMP_USER_NOTIF_FLAG_CONTINUE : 0;
     response.error = result < 0 && result != KERNEL_DOES_IT ? (int)result : 0;
     if (call->raises_sigpipe && result == -EPIPE)
         syscall(SYS_tgkill, call->process->tgid, call->tid, SIGPIPE);
     if (ioctl(notifications, SECCOMP_IOCTL_NOTIF_SEND, &response) < 0)
-        counts.lost += call->has_taken;
+        counts.lost += call->moved > 0 && socket_handlers[call->number] == serve_recv;
     free(call);
 }
 
@@ -121,7 +109,7 @@ static void run(struct call *call) {
     *end = call;
 }
 
-void run_call(const struct seccomp_notif *notif) {
+static void serve_call(const struct seccomp_notif *notif) {
     struct call *call = allocate(sizeof *call);
     *call = (struct call){.id = notif->id, .number = notif->data.nr, .tid = (pid_t)notif->pid,
                           .fd = (uint32_t)notif->data.args[0], .process = process_of(notif->pid)};
@@ -129,14 +117,53 @@ void run_call(const struct seccomp_notif *notif) {
     call->pid = call->process != NULL ? call->process->pid : 0;
     counts.calls++;
     run(call);
+    rerun_woken_calls();
+    collect();
+    rerun_woken_calls();
+    is_alone = processes != NULL && processes->next == NULL && !processes->has_threads;
 }
 
-/* Returns EAGAIN where the call may not wait; else lets it wait until this socket changes. */
+/* Receives calls and serves them, in each of two threads. Until a call is received, any signal
+ * ends it, and a close(2) answers EINTR: so one thread receives while the other serves. */
+void *serve_calls(void *none) {
+    static pthread_mutex_t receiving = PTHREAD_MUTEX_INITIALIZER;
+    struct pollfd ask = {notifications, POLLIN, 0};
+    bool is_receiver = false, has_call = true;
+    while (!(ask.revents & (POLLHUP | POLLERR))) {
+        struct seccomp_notif notif = {0};
+        if (!is_receiver) pthread_mutex_lock(&receiving);
+        has_call = ioctl(notifications, SECCOMP_IOCTL_NOTIF_RECV, &notif) == 0;
+        if (!has_call) poll(&ask, 1, 0); /* Whether a program is left. */
+        is_receiver = has_call && is_alone;
+        if (!is_receiver) pthread_mutex_unlock(&receiving);
+        if (!has_call) continue;
+        pthread_mutex_lock(&serving);
+        serve_call(&notif);
+        pthread_mutex_unlock(&serving);
+    }
+    return none;
+}
+
+static uint64_t now(void) {
+    struct timespec time;
+    clock_gettime(CLOCK_MONOTONIC, &time);
+    return (uint64_t)time.tv_sec * 1000 + (uint64_t)time.tv_nsec / 1000000;
+}
+
+/* Lets a call wait until this socket changes. Returns EAGAIN where it may not, or no longer. */
 long wait_for(struct call *call, int flags, uint64_t ino) {
+    handler *serve = socket_handlers[call->number];
     bool may_wait = !(flags & MSG_DONTWAIT) && !(fcntl(call->file->host, F_GETFL) & O_NONBLOCK);
+    if (call->deadline == 0) {
+        int option = serve == serve_recv || serve == serve_accept ? SO_RCVTIMEO : SO_SNDTIMEO;
+        struct timeval limit = {0, 0};
+        getsockopt(call->file->host, SOL_SOCKET, option, &limit, &(socklen_t){sizeof limit});
+        uint64_t wait = (uint64_t)limit.tv_sec * 1000 + (uint64_t)limit.tv_usec / 1000;
+        call->deadline = wait > 0 ? now() + wait : NEVER;
+    }
     call->waits_for = ino;
     call->is_woken = false;
-    return may_wait ? CALL_WAITS : -EAGAIN;
+    return may_wait && now() < call->deadline ? CALL_WAITS : -EAGAIN;
 }
 
 /* Wakes the calls that wait for a socket, or all. */
@@ -156,7 +183,7 @@ void rerun_woken_calls(void) {
         }
         *at = call->next;
         if (!read_status(call->tid, &status) || status.is_signalled)
-            answer(call, RESTART);
+            answer(call, call->deadline == NEVER ? RESTART : -EINTR);
         else
             run(call);
         at = &waiting; /* It may have woken those before it. */

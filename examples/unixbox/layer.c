@@ -14,28 +14,23 @@ jw_engine engine = JW_ENGINE_INIT;
 struct counts counts;
 bool is_collection_due;
 static bool is_running;
-static FILE *script, *replies;
+static FILE *script;
 
 bool open_script(const char *path) {
-    char name[PATH_MAX];
-    snprintf(name, sizeof name, "%s.replies", path);
     script = fopen(path, "we");
-    replies = fopen(name, "we");
-    return script != NULL && replies != NULL && fprintf(script, "version 2\n") > 0;
+    return script != NULL && fputs("version 2\n", script) >= 0;
 }
 
 /* Records a step of a process (0: of none), and returns its answer, or a negative errno. */
-long record(uint32_t pid, int64_t answer, const char *reply, const char *line, ...) {
+long record(uint32_t pid, int64_t answer, const char *line, ...) {
     counts.steps++;
     if (script != NULL) {
         va_list arguments;
         va_start(arguments, line);
         if (pid > 0) fprintf(script, "%u ", pid);
         vfprintf(script, line, arguments);
-        va_end(arguments);
-        fprintf(replies, answer < 0 ? jw_strerror(answer) : reply, answer);
         fputc('\n', script);
-        fputc('\n', replies);
+        va_end(arguments);
     }
     return answer >= 0 ? answer : -jw_errno(answer);
 }
@@ -50,38 +45,21 @@ const char *fds_text(const uint32_t *fds, size_t count) {
     return text;
 }
 
-/* Returns the reply to a receive. The script sends bytes `x` in place of the program's. */
-const char *received_text(int64_t answer, const uint32_t *fds, const struct jw_received *got) {
-    static char text[JW_MAX_BYTES + 16 * JW_MAX_FD];
-    if (script == NULL || answer <= 0) return "end";
-    memset(text, 'x', sizeof text);
-    memcpy(text, "got ", 4);
-    sprintf(text + 4 + answer, "%s%s%s%s", got->fds > 0 ? " fds" : "", fds_text(fds, got->fds),
-            got->trunc ? " trunc" : "", got->ctrunc ? " ctrunc" : "");
-    return text;
-}
-
 /* Does one slice or one pass, if one is due. Returns whether more is to do. */
 bool collect(void) {
     struct jw_finished over = {0, 0};
     uint64_t in_flight = 0, pass = 0;
-    char text[64];
     jw_total(&engine, &in_flight);
     if (!is_running) {
         bool is_due = is_collection_due && in_flight > 0 && options.collector != COLLECT_NEVER;
         is_collection_due = false;
         if (!is_due) return false;
-        if (options.collector == COLLECT_SLICES && jw_begin(&engine, &pass) == 0)
-            record(0, (int64_t)pass, "started %ld", "begin");
+        if (options.collector == COLLECT_SLICES)
+            is_running = record(0, jw_begin(&engine, &pass), "begin") == 0;
     }
-    bool in_slices = is_running || pass > 0;
-    int64_t answer = in_slices ? jw_slice(&engine, options.budget, &over)
-                               : jw_pass(&engine, &over);
-    snprintf(text, sizeof text, "pass %lu reclaimed %lu", over.pass, over.reclaimed);
-    if (in_slices)
-        record(0, answer, answer == 1 ? "working" : text, "slice %u", options.budget);
-    else
-        record(0, answer, text, "pass");
+    int64_t answer = is_running
+        ? record(0, jw_slice(&engine, options.budget, &over), "slice %u", options.budget)
+        : record(0, jw_pass(&engine, &over), "pass");
     is_running = answer == 1;
     counts.passes += answer == 0;
     counts.reclaimed += over.reclaimed;
@@ -93,7 +71,6 @@ bool collect(void) {
 void inspect(void) {
     struct jw_checked checked = {0, 0};
     uint64_t ino, refs, inflight;
-    char text[64];
     for (struct process *it = processes; options.verifies && it != NULL; it = it->next)
         for (int64_t fd = 0; (fd = jw_next_fd(&engine, it->pid, (uint32_t)fd, &ino)) >= 0; fd++)
             file_at(ino)->places++;
@@ -104,10 +81,8 @@ void inspect(void) {
             counts.wrong_counts += refs != it->places + inflight + it->is_embryo;
             it->places = 0;
         }
-    if (!options.checks) return;
-    int64_t answer = jw_check(&engine, &checked);
-    snprintf(text, sizeof text, "check ok live %lu garbage %lu", checked.live, checked.garbage);
-    counts.failed_checks += record(0, answer, text, "check") < 0;
+    if (options.checks)
+        counts.failed_checks += record(0, jw_check(&engine, &checked), "check") < 0;
 }
 
 /* Counts a file that the collector frees, by who sent it last. The last row is for all others. */

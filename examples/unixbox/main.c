@@ -2,15 +2,14 @@
 #include "unixbox.h"
 #include <err.h>
 #include <getopt.h>
-#include <pthread.h>
 #include <sys/epoll.h>
 #include <sys/wait.h>
 
-enum { TICK = 10, TICK_CALLS = 64, FAILED = 125 }; /* A tick is in milliseconds. */
+enum { TICK = 10, TICK_SLICES = 64, FAILED = 125 }; /* A tick is in milliseconds. */
 
 struct options options = {.collector = COLLECT_SLICES, .budget = 4};
 int watches;
-static int program, status, ends[2]; /* Its pid and its status; the pipe from the receiver. */
+static int program, status; /* Its pid and its status. */
 
 /* Reads the options. Returns the place of the program. */
 static int read_options(int argc, char **argv) {
@@ -59,10 +58,9 @@ static void start_program(char **arguments) {
 }
 
 static void prepare(void) {
-    struct epoll_event event = {.events = EPOLLIN, .data.ptr = NULL};
+    struct epoll_event event = {.events = EPOLLHUP, .data.ptr = NULL}; /* No program is left. */
     struct rlimit limit = {2 * JW_MAX_FILES, 2 * JW_MAX_FILES}; /* A placeholder each. */
-    pthread_t thread;
-    /* A struct sched_attr: slices of 0.1 ms, so that both threads run soon after they are woken. */
+    /* A struct sched_attr: slices of 0.1 ms, so that all threads run soon after they are woken. */
     syscall(SYS_sched_setattr, 0, (uint32_t[12]){[0] = 48, [6] = 100000}, 0);
     ioctl(notifications, SECCOMP_IOW(4, __u64), 1UL); /* SECCOMP_USER_NOTIF_FD_SYNC_WAKE_UP */
     if (setrlimit(RLIMIT_NOFILE, &limit) < 0) { /* Without privileges, as many as there may be. */
@@ -75,10 +73,8 @@ static void prepare(void) {
     options.mask = umask(0); /* A pathname gets the mode that its program asks for. */
     prctl(PR_SET_CHILD_SUBREAPER, 1);
     if (jw_engine_new(&engine) < 0 || jw_tell_released(&engine) < 0 ||
-        jw_tell_changed(&engine) < 0 || pipe2(ends, O_CLOEXEC) < 0 ||
-        (watches = epoll_create1(EPOLL_CLOEXEC)) < 0 ||
-        epoll_ctl(watches, EPOLL_CTL_ADD, ends[0], &event) < 0 ||
-        pthread_create(&thread, NULL, receive, &ends[1]) != 0)
+        jw_tell_changed(&engine) < 0 || (watches = epoll_create1(EPOLL_CLOEXEC)) < 0 ||
+        epoll_ctl(watches, EPOLL_CTL_ADD, notifications, &event) < 0)
         err(FAILED, "the start");
 }
 
@@ -88,37 +84,42 @@ static void reap(int flags) {
         if (pid == program) status = WIFEXITED(ended) ? WEXITSTATUS(ended) : 128 + WTERMSIG(ended);
 }
 
-/* Waits for a call, and serves it. Returns false where no program is left. */
-static bool serve_call(bool is_busy) {
+/* Waits for the end of a process, or for a tick. Returns false where no program is left. */
+static bool watch(void) {
+    static bool is_busy;
     struct epoll_event event;
-    struct seccomp_notif notif;
-    int count = epoll_wait(watches, &event, 1, is_busy ? 0 : TICK);
-    if (count == 1 && event.data.ptr != NULL) {
+    int count = epoll_wait(watches, &event, 1, is_busy ? 1 : TICK);
+    if (count == 1 && event.data.ptr == NULL) return false;
+    pthread_mutex_lock(&serving);
+    if (count == 1) {
         forget_process(event.data.ptr);
         reap(WNOHANG);
         settle(false);
-    } else if (count == 1) {
-        if (read(ends[0], &notif, sizeof notif) <= 0) return false;
-        run_call(&notif);
+    } else {
+        wake(EVERYONE); /* A signal may have come. */
     }
-    if (count == 0 || counts.calls % TICK_CALLS == 0) wake(EVERYONE); /* A signal may have come. */
+    for (int i = 0; i == 0 || (i < TICK_SLICES && is_busy); i++) {
+        rerun_woken_calls();
+        is_busy = collect();
+    }
     rerun_woken_calls();
+    pthread_mutex_unlock(&serving);
     return true;
 }
 
 int main(int argc, char **argv) {
-    bool is_root = geteuid() == 0, is_busy = false;
+    bool is_root = geteuid() == 0;
+    pthread_t threads[2];
     start_program(argv + read_options(argc, argv));
     prepare();
     int64_t answer = jw_spawn(&engine, geteuid(), JW_MAX_NOFILE, is_root);
-    record(0, answer, "pid %ld", is_root ? "spawn %u %u priv" : "spawn %u %u", geteuid(),
-           JW_MAX_NOFILE);
+    record(0, answer, is_root ? "spawn %u %u priv" : "spawn %u %u", geteuid(), JW_MAX_NOFILE);
     bind_process(add_process((uint32_t)answer, getpid(), getpid()), program);
+    for (int i = 0; i < 2; i++)
+        if (pthread_create(&threads[i], NULL, serve_calls, NULL) != 0) err(FAILED, "a thread");
     kill(program, SIGCONT);
-    while (serve_call(is_busy)) {
-        is_busy = collect();
-        rerun_woken_calls();
-    }
+    while (watch()) continue;
+    for (int i = 0; i < 2; i++) pthread_join(threads[i], NULL);
     while (processes != NULL) forget_process(processes);
     settle(false);
     reap(0);

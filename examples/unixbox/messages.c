@@ -1,52 +1,71 @@
-/* Messages: what sends and receives carry. A call moves at most JW_MAX_BYTES of a stream. */
+/* Messages: what sends and receives carry. The layer moves at most JW_MAX_BYTES at once, so longer
+ * sends on a stream, and receives with MSG_WAITALL, are served in parts. */
 #include "unixbox.h"
 
-enum { MOST_PARTS = IOV_MAX, MOST_CONTROL = 20480, USER_SPACE = CMSG_SPACE(sizeof(struct ucred)) };
+enum { MOST_CONTROL = 20480, USER_SPACE = CMSG_SPACE(sizeof(struct ucred)) };
 
 static struct message {
     uint64_t at; /* Where the caller's msghdr is. 0: it has none. */
     struct msghdr header;
-    struct iovec parts[MOST_PARTS];
-    size_t total, length, fd_count; /* Bytes of all parts, and how many are moved. */
+    struct iovec parts[IOV_MAX];
+    size_t total, length, fd_count; /* Bytes left in all parts, and how many to move. */
     int flags;
     uint32_t fds[JW_MAX_FD];
     struct ucred user; /* SCM_CREDENTIALS */
 } message;
 static uint8_t bytes[JW_MAX_BYTES];
+static _Alignas(struct cmsghdr) char control[MOST_CONTROL];
 
-/* Reads where the bytes of a call are, and its flags. */
-static long read_message(const struct call *call) {
+/* Reads the parts of a call's bytes, and the control data of a sendmsg(2). */
+static long read_parts(const struct call *call) {
+    struct msghdr *header = &message.header;
+    size_t size = header->msg_iovlen * sizeof *message.parts;
+    size_t length = call->number == SYS_sendmsg ? header->msg_controllen : 0;
+    struct iovec here[] = {{message.parts, size}, {control, length}};
+    struct iovec there[] = {{header->msg_iov, size}, {header->msg_control, length}};
+    if (header->msg_iovlen > IOV_MAX) return message.at != 0 ? -EMSGSIZE : -EINVAL;
+    if (length > sizeof control) return -ENOBUFS;
+    ssize_t got = process_vm_readv(call->tid, here, 2, there, 2, 0);
+    return got == (ssize_t)(size + length) ? 0 : -EFAULT;
+}
+
+/* Reads what a call is to move, without what it has moved before, and its flags. */
+static long read_message(struct call *call) {
     bool has_header = call->number == SYS_sendmsg || call->number == SYS_recvmsg;
     bool has_flags = call->number == SYS_sendto || call->number == SYS_recvfrom;
     struct msghdr *header = &message.header;
+    size_t moved = call->moved;
     message.at = has_header ? call->args[1] : 0;
     message.flags = has_header ? (int)call->args[2] : has_flags ? (int)call->args[3] : 0;
     message.total = message.fd_count = 0;
     *header = (struct msghdr){.msg_iov = (void *)call->args[1], .msg_iovlen = call->args[2]};
     if (has_header && !read_memory(call, header, message.at, sizeof *header)) return -EFAULT;
     if (header->msg_control == NULL) header->msg_controllen = 0;
+    if (moved == 0) call->room = header->msg_controllen;
+    header->msg_controllen = call->room;
     if (has_header || call->number == SYS_readv || call->number == SYS_writev) {
-        if (header->msg_iovlen > MOST_PARTS) return has_header ? -EMSGSIZE : -EINVAL;
-        size_t size = header->msg_iovlen * sizeof *message.parts;
-        if (!read_memory(call, message.parts, (uint64_t)header->msg_iov, size)) return -EFAULT;
+        long result = read_parts(call);
+        if (result < 0) return result;
     } else {
         message.parts[0] = (struct iovec){header->msg_iov, header->msg_iovlen & INT_MAX};
         header->msg_iovlen = 1;
         header->msg_namelen = call->number == SYS_sendto && call->args[4] ? call->args[5] : 0;
     }
-    for (size_t i = 0; i < header->msg_iovlen; i++) message.total += message.parts[i].iov_len;
+    for (struct iovec *it = message.parts; it < message.parts + header->msg_iovlen; it++) {
+        size_t skipped = moved < it->iov_len ? moved : it->iov_len;
+        *it = (struct iovec){(char *)it->iov_base + skipped, it->iov_len - skipped};
+        moved -= skipped;
+        message.total += it->iov_len;
+    }
     message.length = message.total < JW_MAX_BYTES ? message.total : JW_MAX_BYTES;
     return message.total <= SSIZE_MAX ? 0 : -EINVAL;
 }
 
-/* Reads the descriptors and the credentials that go with a message. */
+/* Finds the descriptors and the credentials that go with a message. */
 static long read_control(const struct call *call) {
-    static _Alignas(struct cmsghdr) char control[MOST_CONTROL];
     size_t length = message.header.msg_controllen;
     struct msghdr copy = {.msg_control = control, .msg_controllen = length};
     message.user = call->process->status.user;
-    if (length > sizeof control) return -ENOBUFS;
-    if (!read_memory(call, control, (uint64_t)message.header.msg_control, length)) return -EFAULT;
     for (struct cmsghdr *it = CMSG_FIRSTHDR(&copy); it != NULL; it = CMSG_NXTHDR(&copy, it)) {
         size_t size = it->cmsg_len - CMSG_LEN(0), count = size / sizeof(int);
         if (it->cmsg_len < CMSG_LEN(0) || it->cmsg_len > (size_t)(control + length - (char *)it))
@@ -64,6 +83,17 @@ static long read_control(const struct call *call) {
     return message.user.pid == call->process->tgid || geteuid() == 0 ? 0 : -EPERM;
 }
 
+/* Copies the plain files that a message sends, for its receiver. */
+static long copy_files(const struct process *process) {
+    for (size_t i = 0; i < message.fd_count; i++) {
+        struct file *file = file_of(process, message.fds[i]);
+        if (file == NULL || file->host >= 0) continue; /* The layer refuses what is not open. */
+        file->host = (int)syscall(SYS_pidfd_getfd, process->pidfd, message.fds[i], 0);
+        if (file->host < 0) return errno == EMFILE ? -ENFILE : -errno;
+    }
+    return 0;
+}
+
 long serve_send(struct call *call) {
     struct process *process = call->process;
     struct file *peer = peer_of(call->file);
@@ -77,6 +107,8 @@ long serve_send(struct call *call) {
     call->raises_sigpipe = is_stream && !(message.flags & MSG_NOSIGNAL);
     if ((call->file->shut & 2) || (peer != NULL && (peer->shut & 1))) return -EPIPE;
     if (message.fd_count > 0) sync_table(process);
+    result = copy_files(process);
+    if (result < 0) return result;
     if (message.fd_count + message.total == 0 && is_stream) /* The layer has no such message. */
         return peer != NULL ? 0 : -ENOTCONN;
     struct iovec here = {bytes, message.length};
@@ -84,19 +116,17 @@ long serve_send(struct call *call) {
     if (result != (long)message.length) return -EFAULT;
     int64_t answer = jw_send(&engine, call->pid, call->fd, bytes, message.length, message.fds,
                               message.fd_count);
-    result = record(call->pid, answer, "sent %ld", "send %u *%zu%s", call->fd, message.length,
+    result = record(call->pid, answer, "send %u *%zu%s", call->fd, message.length,
                     fds_text(message.fds, message.fd_count));
     if (result == -EAGAIN) return wait_for(call, message.flags, call->file->ino);
     if (result < 0) return result;
-    for (size_t i = 0; i < message.fd_count; i++) { /* A copy of plain files, for the receiver. */
-        struct file *file = file_of(process, message.fds[i]);
-        if (file->host < 0)
-            file->host = (int)syscall(SYS_pidfd_getfd, process->pidfd, message.fds[i], 0);
-        file->sender = process->status;
-    }
+    for (size_t i = 0; i < message.fd_count; i++)
+        file_of(process, message.fds[i])->sender = process->status;
     peer->last = message.user;
     refresh(peer);
-    return result;
+    call->moved += (size_t)result;
+    call->room = 0; /* Descriptors go with the first part. */
+    return is_stream && (size_t)result < message.total ? serve_send(call) : result;
 }
 
 /* Receives into the caller's places, with at most so many descriptors. */
@@ -106,19 +136,16 @@ static long take(struct call *call, size_t room) {
     struct jw_received got = {0, false, false};
     int64_t answer = (peeks ? jw_peek : jw_recv)(&engine, call->pid, call->fd, bytes,
                                                    message.length, message.fds, room, &got);
-    long result = record(call->pid, answer, received_text(answer, message.fds, &got),
-                         "%s %u %zu %zu", peeks ? "peek" : "recv", call->fd, message.length, room);
+    long result = record(call->pid, answer, "%s %u %zu %zu", peeks ? "peek" : "recv", call->fd,
+                         message.length, room);
     if (result == -EAGAIN && ((file->shut & 1) || (peer != NULL && (peer->shut & 2)))) return 0;
     if (result == -EAGAIN) return wait_for(call, message.flags, file->ino);
     if (result < 0) return file->kind == JW_STREAM && result == -ENOTCONN ? -EINVAL : result;
-    call->has_taken = result > 0 && !peeks;
     is_collection_due = is_collection_due || got.ctrunc;
     message.header.msg_flags |= (got.trunc ? MSG_TRUNC : 0) | (got.ctrunc ? MSG_CTRUNC : 0);
-    for (size_t i = 0; i < got.fds; i++) {
-        long fd = install(call, message.fds[i], -1, false, message.flags & MSG_CMSG_CLOEXEC);
-        message.header.msg_flags |= fd < 0 ? MSG_CTRUNC : 0;
-        if (fd >= 0) message.fds[message.fd_count++] = (uint32_t)fd;
-    }
+    long installed = install(call, message.fds, got.fds, message.flags & MSG_CMSG_CLOEXEC);
+    message.fd_count = installed > 0 ? (size_t)installed : 0;
+    message.header.msg_flags |= message.fd_count < got.fds ? MSG_CTRUNC : 0;
     struct iovec here = {bytes, (size_t)result};
     unsigned long count = message.header.msg_iovlen;
     if (process_vm_writev(call->tid, &here, 1, message.parts, count, 0) != result) return -EFAULT;
@@ -126,7 +153,7 @@ static long take(struct call *call, size_t room) {
 }
 
 /* Adds a control message, if there is room for it. Returns the length of all. */
-static size_t add_control(char *control, size_t used, int type, const void *data, size_t size) {
+static size_t add_control(size_t used, int type, const void *data, size_t size) {
     struct cmsghdr *header = (struct cmsghdr *)(control + used);
     bool fits = used + CMSG_LEN(size) <= message.header.msg_controllen;
     message.header.msg_flags |= fits ? 0 : MSG_CTRUNC;
@@ -138,32 +165,40 @@ static size_t add_control(char *control, size_t used, int type, const void *data
 
 /* Writes what a receive tells beside its bytes. The name of a peer is not among it. */
 static void write_header(const struct call *call, bool has_user) {
-    _Alignas(struct cmsghdr) char control[USER_SPACE + CMSG_SPACE(JW_MAX_FD * sizeof(int))] = {0};
     struct msghdr *header = &message.header;
     size_t used = 0;
     if (call->number == SYS_recvfrom) write_memory(call, call->args[5], &(int){0}, sizeof(int));
     if (message.at == 0) return;
     if (has_user)
-        used = add_control(control, used, SCM_CREDENTIALS, &call->file->last, sizeof(struct ucred));
+        used = add_control(used, SCM_CREDENTIALS, &call->file->last, sizeof(struct ucred));
     if (message.fd_count > 0)
-        used = add_control(control, used, SCM_RIGHTS, message.fds, message.fd_count * sizeof(int));
+        used = add_control(used, SCM_RIGHTS, message.fds, message.fd_count * sizeof(int));
     header->msg_controllen = used < header->msg_controllen ? used : header->msg_controllen;
     header->msg_namelen = 0;
-    write_memory(call, (uint64_t)header->msg_control, control, header->msg_controllen);
-    write_memory(call, message.at, header, sizeof *header);
+    struct iovec here[] = {{control, header->msg_controllen}, {header, sizeof *header}};
+    struct iovec there[] = {{header->msg_control, header->msg_controllen},
+                            {(void *)message.at, sizeof *header}};
+    process_vm_writev(call->tid, here, 2, there, 2, 0);
 }
 
 long serve_recv(struct call *call) {
-    int has_user = 0;
+    int has_user = 0; /* SO_PASSCRED */
+    socklen_t size = sizeof has_user;
     long result = read_message(call);
-    if (result == 0 && (message.flags & (MSG_OOB | MSG_WAITALL))) result = -EINVAL;
+    bool peeks = message.flags & MSG_PEEK;
+    if (result == 0 && (message.flags & MSG_OOB)) result = -EINVAL;
     if (result < 0 || message.total == 0) return result;
     message.header.msg_flags = message.flags & MSG_CMSG_CLOEXEC;
-    getsockopt(call->file->host, SOL_SOCKET, SO_PASSCRED, &has_user, &(socklen_t){sizeof has_user});
+    getsockopt(call->file->host, SOL_SOCKET, SO_PASSCRED, &has_user, &size);
     size_t room = message.header.msg_controllen, other = CMSG_LEN(0) + (has_user ? USER_SPACE : 0);
     room = room > other ? (room - other) / sizeof(int) : 0;
     if (room > 0) sync_table(call->process);
     result = take(call, room < JW_MAX_FD ? room : JW_MAX_FD);
-    if (result >= 0) write_header(call, has_user);
-    return result;
+    if (result < 0) return result;
+    write_header(call, has_user);
+    call->moved += peeks ? 0 : (size_t)result;
+    bool waits_for_all = (message.flags & MSG_WAITALL) && call->file->kind == JW_STREAM && !peeks;
+    bool is_whole = result == 0 || (size_t)result == message.total || message.fd_count > 0 ||
+                    (message.header.msg_flags & MSG_CTRUNC); /* Descriptors end a receive. */
+    return waits_for_all && !is_whole ? serve_recv(call) : result;
 }

@@ -53,6 +53,43 @@ void size_buffer(int host) {
     setsockopt(host, SOL_SOCKET, SO_SNDBUF, &bytes, sizeof bytes);
 }
 
+/* Closes the placeholders of sockets that are hung up and only in flight. Such a socket is ready
+ * for what any other is. Returns whether there were any. */
+static bool close_spare(void) {
+    bool has_closed = false;
+    for (struct file **slot = files; slot < files + FILE_SLOTS; slot++)
+        for (struct file *it = *slot; it != NULL; it = it->next) {
+            struct jw_file state;
+            uint64_t refs, inflight;
+            jw_file(&engine, it->ino, &state);
+            jw_refs(&engine, it->ino, &refs);
+            jw_inflight(&engine, it->ino, &inflight);
+            if (it->host < 0 || state.state != JW_HUNG_UP || refs > inflight) continue;
+            close(it->host);
+            it->host = -1;
+            has_closed = true;
+        }
+    return has_closed;
+}
+
+/* Opens one placeholder, or two that are connected. */
+long open_placeholders(int *hosts, size_t count, int type) {
+    do {
+        type |= SOCK_CLOEXEC;
+        hosts[0] = count == 1 ? socket(AF_UNIX, type, 0) : -1;
+        if (hosts[0] >= 0 || (count == 2 && socketpair(AF_UNIX, type, 0, hosts) == 0)) return 0;
+    } while (errno == EMFILE && close_spare());
+    return -ENFILE; /* The supervisor has no descriptor left. */
+}
+
+/* Opens the placeholder of a socket that is hung up. */
+void reopen(struct file *file) {
+    int hosts[2], type = file->kind == JW_STREAM ? SOCK_STREAM : SOCK_SEQPACKET;
+    if (open_placeholders(hosts, 2, type) < 0) return;
+    close(hosts[1]);
+    file->host = hosts[0];
+}
+
 /* Makes the bytes in the placeholder as many as the socket has messages. */
 void refresh(struct file *file) {
     struct jw_file state;

@@ -58,7 +58,7 @@ void bind_process(struct process *process, pid_t tgid) {
 }
 
 static void exit_process(struct process *process) {
-    if (!process->is_over) record(process->pid, jw_exit(&engine, process->pid), "ok", "exit");
+    if (!process->is_over) record(process->pid, jw_exit(&engine, process->pid), "exit");
     process->is_over = is_collection_due = true;
 }
 
@@ -117,7 +117,7 @@ long serve_fork(struct call *call) {
     if (flags == (CLONE_THREAD | CLONE_FILES)) return KERNEL_DOES_IT;
     if (flags != 0) return -EINVAL; /* Threads of a process, and no others, share a table. */
     sync_table(call->process);
-    long pid = record(call->pid, jw_fork(&engine, call->pid), "pid %ld", "fork");
+    long pid = record(call->pid, jw_fork(&engine, call->pid), "fork");
     if (pid < 0) return pid;
     add_process((uint32_t)pid, call->process->tgid, call->tid);
     return KERNEL_DOES_IT;
@@ -139,6 +139,6 @@ long serve_limit(struct call *call) {
     if (limit.rlim_cur > JW_MAX_NOFILE) return -EPERM;
     sync_table(process); /* The layer opens nothing above a lower limit. */
     int64_t answer = jw_limit(&engine, process->pid, (uint32_t)limit.rlim_cur);
-    long result = record(process->pid, answer, "ok", "limit %lu", limit.rlim_cur);
+    long result = record(process->pid, answer, "limit %lu", limit.rlim_cur);
     return result < 0 ? result : KERNEL_DOES_IT;
 }

@@ -4,49 +4,45 @@
 
 enum { KEY_ROOM = JW_MAX_NAME + 1, PATH_START = offsetof(struct sockaddr_un, sun_path) };
 
-/* Keeps a placeholder for a socket that the layer has just opened, and installs it. */
-static long add_socket(struct call *call, uint32_t fd, uint32_t kind, int host) {
+/* Keeps a placeholder for a socket that the layer has just opened. */
+static void add_socket(const struct call *call, uint32_t fd, uint32_t kind, int host) {
     uint64_t ino = 0;
     jw_ino(&engine, call->pid, fd, &ino);
     struct file *file = add_file(ino, kind);
     file->owner = call->process->status.user;
     size_buffer(file->host = host);
-    return install(call, fd, -1, false, (int)call->args[1] & SOCK_CLOEXEC);
 }
 
 long serve_socket(struct call *call) {
-    int flags = (int)call->args[1] | SOCK_CLOEXEC, type = flags & 0xf, hosts[2] = {-1, -1};
+    int type = (int)call->args[1] & 0xf, hosts[2];
     bool is_pair = call->number == SYS_socketpair, is_stream = type == SOCK_STREAM;
-    uint32_t kind = is_stream ? JW_STREAM : JW_SEQPACKET;
-    struct jw_pair pair = {0, 0};
-    char text[32];
+    uint32_t kind = is_stream ? JW_STREAM : JW_SEQPACKET, fds[2];
+    size_t count = is_pair ? 2 : 1;
     if (call->args[0] != AF_UNIX) return KERNEL_DOES_IT;
-    bool is_packet = type == SOCK_SEQPACKET || (type == SOCK_DGRAM && is_pair && options.datagrams);
-    if ((call->args[2] & ~(uint64_t)PF_UNIX) || (!is_stream && !is_packet)) return -EPROTONOSUPPORT;
+    bool is_served = is_stream || type == SOCK_SEQPACKET ||
+                     (type == SOCK_DGRAM && is_pair && options.datagrams);
+    if ((call->args[2] & ~(uint64_t)PF_UNIX) || !is_served) return -EPROTONOSUPPORT;
     if (options.networks) setns(call->process->pidfd, CLONE_NEWNET); /* To be counted there. */
-    if ((is_pair ? socketpair(AF_UNIX, flags, 0, hosts)
-                 : (hosts[0] = socket(AF_UNIX, flags, 0))) < 0)
-        return -ENFILE; /* The supervisor has no descriptor left for a placeholder. */
+    long result = open_placeholders(hosts, count, (int)call->args[1]);
+    if (result < 0) return result;
     sync_table(call->process);
+    struct jw_pair pair = {0, 0};
     int64_t answer = is_pair ? jw_pair(&engine, call->pid, kind, &pair)
                              : jw_socket(&engine, call->pid, kind);
-    snprintf(text, sizeof text, "fds %u %u", pair.first, pair.second);
-    long fd = record(call->pid, answer, is_pair ? text : "fd %ld", "%s %s",
-                     is_pair ? "pair" : "socket", is_stream ? "stream" : "seqpacket");
-    if (fd < 0) {
-        close(hosts[0]);
-        close(hosts[1]);
-        return fd;
-    }
-    if (!is_pair) return add_socket(call, (uint32_t)fd, kind, hosts[0]);
-    long first = add_socket(call, pair.first, kind, hosts[0]);
-    long second = add_socket(call, pair.second, kind, hosts[1]);
-    int fds[2] = {(int)first, (int)second};
-    if (first < 0 || second < 0) return first < 0 ? first : second;
+    result = record(call->pid, answer, "%s %s", is_pair ? "pair" : "socket",
+                    is_stream ? "stream" : "seqpacket");
+    fds[0] = is_pair ? pair.first : (uint32_t)result;
+    fds[1] = pair.second;
+    for (size_t i = 0; i < count; i++)
+        if (result < 0) close(hosts[i]);
+        else add_socket(call, fds[i], kind, hosts[i]);
+    if (result >= 0) result = install(call, fds, count, (int)call->args[1] & SOCK_CLOEXEC);
+    if (result < (long)count) return result < 0 ? result : -EMFILE;
+    if (!is_pair) return fds[0];
     return write_memory(call, call->args[3], fds, sizeof fds) ? 0 : -EFAULT;
 }
 
-/* A name as a call gives it, the layer's name for it, and how the supervisor reaches a pathname. */
+/* A name as a call gives it, the layer's name, and how the supervisor reaches a pathname. */
 struct name {
     struct address address;
     char key[KEY_ROOM], path[PATH_MAX];
@@ -119,7 +115,7 @@ long serve_bind(struct call *call) {
         call->file->path = open(name.path, O_PATH | O_NOFOLLOW | O_CLOEXEC);
     }
     int64_t answer = jw_bind(&engine, call->pid, call->fd, name.key, strlen(name.key));
-    result = record(call->pid, answer, "ok", "bind %u %s", call->fd, name.key);
+    result = record(call->pid, answer, "bind %u %s", call->fd, name.key);
     if (result == 0) call->file->own = name.address;
     if (result < 0 && name.path[0] != '\0') unlink(name.path);
     return result;
@@ -137,9 +133,10 @@ long serve_option(struct call *call) {
     const struct file *peer = call->file->listens ? call->file : peer_of(call->file);
     struct ucred owner = peer != NULL ? peer->owner : (struct ucred){0, (uid_t)-1, (gid_t)-1};
     socklen_t room = 0;
+    bool is_set = call->number == SYS_setsockopt;
     switch (call->args[2]) {
-    case SO_SNDBUF: case SO_SNDBUFFORCE: return call->number == SYS_setsockopt ? 0 : KERNEL_DOES_IT;
-    case SO_PEEK_OFF: case SO_RCVTIMEO: case SO_SNDTIMEO: return -ENOPROTOOPT;
+    case SO_SNDBUF: case SO_SNDBUFFORCE: return is_set ? 0 : KERNEL_DOES_IT;
+    case SO_PEEK_OFF: return -ENOPROTOOPT;
     case SO_PEERCRED: break;
     default: return KERNEL_DOES_IT;
     }
@@ -153,8 +150,8 @@ long serve_listen(struct call *call) {
     uint32_t most = (uint32_t)call->args[1] + 1; /* Linux lets one more wait, too. */
     if (most == 0 || most > JW_MAX_BACKLOG) most = JW_MAX_BACKLOG;
     if (call->file->listens) return 0;
-    long result = record(call->pid, jw_listen(&engine, call->pid, call->fd, most), "ok",
-                         "listen %u %u", call->fd, most);
+    int64_t answer = jw_listen(&engine, call->pid, call->fd, most);
+    long result = record(call->pid, answer, "listen %u %u", call->fd, most);
     if (result < 0) return result;
     call->file->listens = true;
     call->file->owner = call->process->status.user;
@@ -163,32 +160,38 @@ long serve_listen(struct call *call) {
     return 0;
 }
 
-long serve_connect(struct call *call) {
-    struct name name;
-    struct file *client = call->file, *listener = client;
+/* Connects the placeholder to that of the listener, one of those that the step has changed. */
+static const struct file *connect_placeholder(const struct file *client) {
+    const struct file *listener = client;
     struct sockaddr_un host;
     socklen_t length = sizeof host;
-    struct jw_file state;
     uint64_t inos[4];
+    int64_t count = jw_changed(&engine, inos, 4);
+    for (int64_t i = 0; i < count && i < 4; i++)
+        if (file_at(inos[i]) != NULL && file_at(inos[i])->listens) listener = file_at(inos[i]);
+    getsockname(listener->host, (struct sockaddr *)&host, &length);
+    connect(client->host, (struct sockaddr *)&host, length);
+    return listener;
+}
+
+long serve_connect(struct call *call) {
+    struct name name;
+    struct jw_file state;
     long result = read_name(call, &name);
     if (result == 0 && name.address.length == PATH_START) result = -EINVAL;
     if (result == 0 && name.path[0] != '\0')
         result = access(name.path, W_OK) < 0 ? -errno : stat_name(&name);
     if (result < 0) return result;
     int64_t answer = jw_connect(&engine, call->pid, call->fd, name.key, strlen(name.key));
-    result = record(call->pid, answer, "ok", "connect %u %s", call->fd, name.key);
+    result = record(call->pid, answer, "connect %u %s", call->fd, name.key);
     if (result < 0) return result == -EAGAIN ? wait_for(call, 0, EVERYONE) : result;
-    int64_t count = jw_changed(&engine, inos, 4); /* One of these is the listener. */
-    for (int64_t i = 0; i < count && i < 4; i++)
-        if (file_at(inos[i]) != NULL && file_at(inos[i])->listens) listener = file_at(inos[i]);
-    getsockname(listener->host, (struct sockaddr *)&host, &length);
-    connect(client->host, (struct sockaddr *)&host, length);
-    jw_file(&engine, client->ino, &state);
-    struct file *embryo = add_file(state.peer, client->kind);
+    const struct file *listener = connect_placeholder(call->file);
+    jw_file(&engine, call->file->ino, &state);
+    struct file *embryo = add_file(state.peer, call->file->kind);
     embryo->is_embryo = true;
     embryo->own = listener->own;
     embryo->owner = listener->owner;
-    client->owner = call->process->status.user;
+    call->file->owner = call->process->status.user;
     return 0;
 }
 
@@ -197,15 +200,17 @@ long serve_accept(struct call *call) {
     struct pollfd ask = {call->file->host, POLLIN, 0};
     if (call->file->shut & 1) return -EINVAL;
     sync_table(call->process);
-    long fd = record(call->pid, jw_accept(&engine, call->pid, call->fd), "fd %ld", "accept %u",
-                     call->fd);
-    if (fd < 0) return fd == -EAGAIN ? wait_for(call, 0, call->file->ino) : fd;
-    struct file *file = file_of(call->process, (uint64_t)fd);
+    int64_t answer = jw_accept(&engine, call->pid, call->fd);
+    long result = record(call->pid, answer, "accept %u", call->fd);
+    if (result < 0) return result == -EAGAIN ? wait_for(call, 0, call->file->ino) : result;
+    uint32_t fd = (uint32_t)result;
+    struct file *file = file_of(call->process, fd);
     file->is_embryo = false;
     if (poll(&ask, 1, 0) == 1) /* Connections wait in the order of the layer. */
         size_buffer(file->host = accept4(ask.fd, NULL, NULL, flags | SOCK_CLOEXEC));
-    fd = install(call, (uint32_t)fd, -1, false, flags & SOCK_CLOEXEC);
-    if (fd >= 0) write_address(call, call->args[1], call->args[2], peer_of(file));
+    result = install(call, &fd, 1, flags & SOCK_CLOEXEC);
+    if (result < 0) return result;
+    write_address(call, call->args[1], call->args[2], peer_of(file));
     return fd;
 }
 

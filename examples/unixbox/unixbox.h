@@ -1,9 +1,9 @@
-/* unixbox: runs an unmodified Linux program, and all that it forks, with its AF_UNIX sockets on the
- * layer of libjaywardrobe.a. A seccomp filter hands calls that concern descriptors to this supervisor
- * (seccomp_unotify(2)). It asks the layer, and answers in place of the kernel. Where a call opens a
- * socket, it installs a placeholder: a socket of the host that is ready for what the layer's socket
- * is ready for, so that poll(2), select(2) and epoll(7) work by themselves. Kernel and layer choose
- * the numbers of descriptors each for itself, and these are compared. */
+/* unixbox: runs an unmodified Linux program, and all that it forks, with its AF_UNIX sockets on
+ * the layer of libjaywardrobe.a. A seccomp filter hands calls that concern descriptors to this
+ * supervisor (seccomp_unotify(2)). It asks the layer, and answers in place of the kernel. Where a
+ * call opens a socket, it installs a placeholder: a socket of the host that is ready for what the
+ * layer's socket is ready for, so that poll(2), select(2) and epoll(7) work by themselves. Kernel
+ * and layer choose the numbers of descriptors each for itself, and these are compared. */
 #pragma once
 #define _GNU_SOURCE
 #include <dirent.h>
@@ -11,8 +11,9 @@
 #include <fcntl.h>
 #include <limits.h>
 #include <linux/seccomp.h>
-#include <poll.h>
 #include <jaywardrobe.h>
+#include <poll.h>
+#include <pthread.h>
 #include <signal.h>
 #include <stdio.h>
 #include <stdlib.h>
@@ -90,7 +91,9 @@ struct call {
     uint32_t pid, fd;     /* The layer's number of the process; the first argument. */
     struct file *file;    /* The socket of the layer that the first argument names, or NULL. */
     uint64_t waits_for;   /* The socket whose change it waits for, or EVERYONE. */
-    bool is_woken, raises_sigpipe, has_taken; /* It has taken a message. */
+    bool is_woken, raises_sigpipe;
+    size_t moved, room;   /* Bytes that it has moved; of its control data. */
+    uint64_t deadline;    /* In milliseconds. 0 until it waits. */
     struct call *next;
 };
 
@@ -98,21 +101,20 @@ extern jw_engine engine;
 extern bool is_collection_due; /* Something was closed since the last pass began. */
 extern struct process *processes;
 extern struct file *files[FILE_SLOTS];  /* Lists, by inode number modulo FILE_SLOTS. */
-extern int notifications, watches; /* The filter's listener, and an epoll(7) of all pidfds. */
+extern int notifications, watches; /* The filter's listener; an epoll(7) of it and all pidfds. */
+extern pthread_mutex_t serving; /* Whoever has it may use all else. */
 
 bool open_script(const char *path);
-long record(uint32_t pid, int64_t answer, const char *reply, const char *line, ...)
-    __attribute__((format(printf, 4, 5)));
+long record(uint32_t pid, int64_t answer, const char *line, ...)
+    __attribute__((format(printf, 3, 4)));
 const char *fds_text(const uint32_t *fds, size_t count);
-const char *received_text(int64_t answer, const uint32_t *fds, const struct jw_received *got);
 bool collect(void);
 void inspect(void);
 void note_leak(const struct file *file);
 void conclude(void);
 
 int install_filter(void);
-void *receive(void *out);
-void run_call(const struct seccomp_notif *notif);
+void *serve_calls(void *none);
 long wait_for(struct call *call, int flags, uint64_t ino);
 void wake(uint64_t ino);
 void rerun_woken_calls(void);
@@ -131,13 +133,15 @@ struct file *file_of(const struct process *process, uint64_t fd);
 struct file *peer_of(const struct file *file);
 struct file *add_file(uint64_t ino, uint32_t kind);
 void size_buffer(int host);
+long open_placeholders(int *hosts, size_t count, int type);
+void reopen(struct file *file);
 void refresh(struct file *file);
 void settle(bool is_collected);
 
 void sync_table(struct process *process);
-long install(struct call *call, uint32_t fd, int from, bool is_fixed, bool closes_on_exec);
+long install(struct call *call, uint32_t *fds, size_t count, bool closes_on_exec);
 
 typedef long handler(struct call *call);
 handler serve_socket, serve_bind, serve_listen, serve_connect, serve_accept, serve_shutdown,
-    serve_name, serve_option, serve_send, serve_recv, serve_close, serve_dup,
-    serve_fcntl, serve_fork, serve_change, serve_limit;
+    serve_name, serve_option, serve_send, serve_recv, serve_close, serve_dup, serve_fork,
+    serve_change, serve_limit;

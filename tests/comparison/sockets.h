@@ -173,11 +173,11 @@ static inline int new_listener(int type, int backlog, char name[40]) {
     return fd;
 }
 
-/* Sets the limit on descriptors (RLIMIT_NOFILE). */
+/* Sets the limit on descriptors (RLIMIT_NOFILE): this one, or the hard limit if that is lower. */
 static inline void set_limit(rlim_t limit) {
     struct rlimit now;
     MUST(getrlimit(RLIMIT_NOFILE, &now) == 0);
-    now.rlim_cur = limit;
+    now.rlim_cur = limit < now.rlim_max ? limit : now.rlim_max;
     MUST(setrlimit(RLIMIT_NOFILE, &now) == 0);
 }
 

@@ -3,27 +3,20 @@
  * Each check prints a line for each type of socket, the same natively and under unixbox. A word
  * names the check to run; without one all run. The status is 0 if all hold. */
 #define _GNU_SOURCE
-#include <errno.h>
+#include "must.h"
+#include <fcntl.h>
 #include <poll.h>
-#include <stdio.h>
-#include <stdlib.h>
-#include <string.h>
+#include <pthread.h>
+#include <stdatomic.h>
+#include <stdbool.h>
 #include <sys/resource.h>
 #include <sys/socket.h>
+#include <sys/stat.h>
 #include <sys/un.h>
 #include <sys/wait.h>
 #include <unistd.h>
 
-enum { ROOM = 2, WAIT_MS = 3000, LIMIT = 16, SENDS = 40 };
-
-#define MUST(condition) \
-    do { \
-        if (!(condition)) { \
-            fprintf(stderr, "descriptors: line %d: %s: not so: %s\n", __LINE__, \
-                    strerror(errno), #condition); \
-            exit(1); \
-        } \
-    } while (0)
+enum { ROOM = 2, WAIT_MS = 3000, LIMIT = 16, SENDS = 40, ROUNDS = 200, MOST_FREE = 10 };
 
 /* Sends a byte with these descriptors. Returns 0 or the error. */
 static int send_fds(int on, const int *fds, size_t count) {
@@ -180,11 +173,58 @@ static const char *check_fork(int type) {
     return "a child sends on an inherited socket, and its end is seen";
 }
 
+static atomic_bool is_over;
+
+/* Opens and closes files until the other thread is done. They take numbers from its sockets. */
+static void *open_files(void *none) {
+    while (!is_over) {
+        struct stat file;
+        int fds[2] = {open("/dev/null", O_RDONLY), fcntl(STDIN_FILENO, F_DUPFD, MOST_FREE)};
+        MUST(fds[0] >= 0 && fds[1] >= MOST_FREE);
+        MUST(fstat(fds[0], &file) == 0 && S_ISCHR(file.st_mode));
+        close_both(fds);
+    }
+    return none;
+}
+
+/* Receives two descriptors by one message. */
+static void recv_both(int on, int *fds) {
+    _Alignas(struct cmsghdr) char control[CMSG_SPACE(2 * sizeof(int))];
+    struct iovec place = {&(char){0}, 1};
+    struct msghdr message = {.msg_iov = &place, .msg_iovlen = 1, .msg_control = control};
+    message.msg_controllen = sizeof control;
+    MUST(recvmsg(on, &message, 0) == 1 && message.msg_flags == 0);
+    MUST(CMSG_FIRSTHDR(&message)->cmsg_len == CMSG_LEN(2 * sizeof(int)));
+    memcpy(fds, CMSG_DATA(CMSG_FIRSTHDR(&message)), 2 * sizeof *fds);
+}
+
+/* One thread passes pairs of sockets, while another opens and closes files. */
+static const char *check_threads(int type) {
+    pthread_t other;
+    is_over = false;
+    MUST(pthread_create(&other, NULL, open_files, NULL) == 0);
+    for (int round = 0; round < ROUNDS; round++) {
+        int way[2], pair[2], passed[2];
+        char byte = 0;
+        MUST(socketpair(AF_UNIX, type, 0, way) == 0 && socketpair(AF_UNIX, type, 0, pair) == 0);
+        MUST(send_fds(way[0], pair, 2) == 0);
+        close_both(pair);
+        recv_both(way[1], passed);
+        MUST(write(passed[0], "x", 1) == 1 && read(passed[1], &byte, 1) == 1 && byte == 'x');
+        close_both(passed);
+        close_both(way);
+    }
+    is_over = true;
+    MUST(pthread_join(other, NULL) == 0);
+    return "pairs of sockets pass while another thread opens files";
+}
+
 static const struct {
     const char *name, *(*run)(int type);
 } checks[] = {
     {"broker", check_broker},   {"cycle", check_cycle}, {"embryo", check_embryo},
     {"backlog", check_backlog}, {"fork", check_fork},   {"too_many", check_too_many},
+    {"threads", check_threads},
 };
 
 int main(int count, char **words) {
