@@ -1,6 +1,6 @@
 -- Three maps of one row, as a row is added, changed in one part, and removed; and the messages of all.
 use Rattle.std.proofs.Common.{◌≡◌, ℕ, ◌⊎◌, inl, inr, false, List, [], ◌++◌, refl, sym, ap, ◌∙◌, subst, nat_eq}
-use Rattle.std.specs.Prelude.{Option, Some, None, IfSome, option_map}
+use Rattle.std.specs.Prelude.{Option, Some, None, IfSome, nat_lt, option_map}
 use Rattle.std.specs.Option.{option_and_then}
 use Rattle.std.specs.FinMap as map
 use Rattle.std.specs.FinMap.{nat_cmp-IsAntisymmetric, same_map}
@@ -38,8 +38,8 @@ module _ (m : Map Row) (f : ℕ) (x : Row) (at : map.get m f ≡ Some x) where
   marks_kept y same = part_kept (λ r. r.mark) m f x y at same
 
   -- In another part: whether it is noted stays.
-  pub noted_kept : (y : Row) → y.noted ≡ x.noted → noted_of (map.insert m f y) ≡ noted_of m
-  noted_kept y same = part_kept (λ r. r.noted) m f x y at same
+  pub noted_kept : (y : Row) → nat_lt 0 y.noted_at ≡ nat_lt 0 x.noted_at → noted_of (map.insert m f y) ≡ noted_of m
+  noted_kept y same = part_kept (λ r. nat_lt 0 r.noted_at) m f x y at same
 
   module _ (s : Slab Node) where
     -- The file is what its row says, with its messages.

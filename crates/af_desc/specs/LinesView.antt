@@ -1,6 +1,6 @@
 -- One row for each file, and the messages of all, seen as four maps. Definitions that name no
 -- manual page are this project's own.
-use Rattle.std.specs.Prelude.{ℕ, Bool, false}
+use Rattle.std.specs.Prelude.{ℕ, Bool, false, nat_lt}
 use Rattle.std.specs.FinMap as map
 use Rattle.af_base.specs.World.{File, Map, Socket}
 use Rattle.af_base.specs.Changes.{change_socket_at}
@@ -59,4 +59,4 @@ with_socket_and_room r f g room = record r {
 
 -- Which of these rows are in that list.
 abbrev pub noted_of : Map Row → Map Bool
-noted_of m = part (λ r. r.noted) m
+noted_of m = part (λ r. nat_lt 0 r.noted_at) m

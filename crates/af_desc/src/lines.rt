@@ -128,8 +128,7 @@ impl Lines {
             chain: Chain::empty(),
             count,
             mark: Mark::none(),
-            noted: false,
-            place: 0,
+            noted_at: 0,
         };
         self.rows.push(ino, row)
     }
@@ -441,7 +440,7 @@ impl Lines {
         ensures { result ≡ map.get self.now.noted file.now }
     {
         let row = self.rows.get(file)?;
-        Some(row.noted)
+        Some(row.is_noted())
     }
 
     /// Returns whether a file is noted; an unknown one is not.
@@ -456,7 +455,7 @@ impl Lines {
     #[inline(always)]
     pub fn place(&self, file: &FileRef) -> usize {
         match self.rows.get(file) {
-            Some(row) => row.place as usize,
+            Some(row) => row.place(),
             None => 0,
         }
     }
@@ -470,7 +469,7 @@ impl Lines {
         let Some(row) = self.rows.get_mut(file) else {
             return;
         };
-        row.place = place;
+        row.put_place(place);
     }
 
     /// Notes a file, which is there, or strikes its note. It takes no memory.
@@ -483,7 +482,7 @@ impl Lines {
         ensures len { map.len self.new.noted ≡ map.len self.old.noted }
     {
         let row = self.rows.get_mut(file).unwrap();
-        row.noted = noted;
+        row.set_noted(noted);
     }
 
     /// Does nothing at run time. Shows that all parts of a file come and go together.

@@ -1,6 +1,6 @@
 //! The row of one file.
 ghost use Rattle.std.specs.Prelude.{◌≡◌, ◌<◌, ◌∷◌, [], IfSome, IfNone, IfOk, OnOk, OnErr, drop};
-ghost use Rattle.std.specs.Prelude.{length, true};
+ghost use Rattle.std.specs.Prelude.{length, nat_lt, true};
 ghost use Rattle.af_base.specs.Changes.{file_with, pushed};
 ghost use Rattle.af_base.specs.Places.{contents, queue_of};
 ghost use Rattle.af_base.specs.Refusals.{socket_of};
@@ -29,10 +29,9 @@ pub struct Row {
     pub count: Count,
     /// Its colour in a pass of the collector.
     pub mark: Mark,
-    /// Whether it is in the list of those whose readiness may have changed.
-    pub noted: bool,
-    /// Its position in that list: a hint.
-    pub place: u32,
+    /// Its position in the list of those whose readiness may have changed, counted from 1: a hint. It
+    /// is 0 where the file is not in that list.
+    pub noted_at: u32,
 }
 
 impl Row {
@@ -47,6 +46,41 @@ impl Row {
         match &self.endpoint {
             Some(endpoint) => endpoint.is_nameless(),
             None => true,
+        }
+    }
+
+    /// Returns whether it is noted.
+    #[inline(always)]
+    pub fn is_noted(&self) -> bool
+        ensures { result ≡ nat_lt 0 self.now.noted_at }
+    {
+        self.noted_at > 0
+    }
+
+    /// Notes it, at the first place of the list until `put_place` says otherwise, or strikes its
+    /// note.
+    #[inline(always)]
+    pub fn set_noted(&mut self, noted: bool)
+        ensures noted { nat_lt 0 self.new.noted_at ≡ noted }
+        ensures rest { self.new ≡ record self.old { noted_at = self.new.noted_at } }
+    {
+        self.noted_at = u32::from(noted);
+    }
+
+    /// Returns its position in the list of noted files: a hint.
+    #[inline(always)]
+    pub fn place(&self) -> usize {
+        self.noted_at.saturating_sub(1) as usize
+    }
+
+    /// Keeps its position in that list, if it is noted. It stays noted or not.
+    #[inline(always)]
+    pub fn put_place(&mut self, place: u32)
+        ensures noted { nat_lt 0 self.new.noted_at ≡ nat_lt 0 self.old.noted_at }
+        ensures rest { self.new ≡ record self.old { noted_at = self.new.noted_at } }
+    {
+        if self.noted_at > 0 {
+            self.noted_at = place.saturating_add(1);
         }
     }
 
