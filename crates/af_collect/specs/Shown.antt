@@ -1,4 +1,5 @@
--- The view of a store, and the invariant of its parts. Definitions that name no manual page are of this project's profile (docs/PROFILE.md).
+-- The view of a store, and the invariant of its parts. Definitions that name no manual page are of
+-- this project's profile (docs/PROFILE.md).
 use Rattle.std.specs.Prelude.{◌≡◌, ℕ, Bool, List, [], Option, None, Some, slice_get, true}
 use Rattle.std.specs.Option.{option_map_or}
 use Rattle.af_base.specs.declared.events.Reply.{Reply}
@@ -9,11 +10,12 @@ use Rattle.af_base.specs.World.{IsLive, Map, Since, World}
 use Rattle.af_table.specs.Procs.{row_in}
 use Rattle.af_collect.specs.HoldingsView.{HoldingsView}
 use Rattle.af_mark.specs.Marked.{Marked, is_marked}
-use Rattle.af_collect.specs.Keeping.{PassInvariant, is_marking}
+use Rattle.af_collect.specs.Keeping.{PassInvariant, is_marking, shaded_all}
 use Rattle.af_collect.specs.declared.progress.Progress.{Progress}
 use Rattle.af_collect.specs.declared.parts.Collector.{Collector}
 
--- The world, the size of each table, whether there is room for a message more, the running pass, its marks, its progress, and the reports.
+-- The world, the size of each table, whether there is room for a message more, the running pass,
+-- its marks, its progress, and the reports.
 pub record Shown : Type 0 where
   pub world : World
   pub rows : Map ℕ
@@ -39,9 +41,14 @@ KeepsPass p = KeepsPassWith p p.places
 abbrev pub with_marks : Marked → Collector → Collector
 with_marks m p = record p { places = record p.places { marks = m } }
 
+-- All these files are shaded, and nothing else changes.
+abbrev pub Shades : List ℕ → HoldingsView → HoldingsView → Type 0
+Shades files old new = new ≡ record old { marks = shaded_all files old.marks }
+
 -- Where a pass marks, each of these files that was there at its begin is marked.
 abbrev pub MarksAll : (ℕ → Type 0) → Collector → Collector → Type 0
-MarksAll these old new = is_marking old.progress.stage ≡ true → (f : ℕ) → these f → IsLive old.begun.value.world f → is_marked new.places.marks f ≡ true
+MarksAll these old new = is_marking old.progress.stage ≡ true → (f : ℕ) → these f
+    → IsLive old.begun.value.world f → is_marked new.places.marks f ≡ true
 
 -- The reply to a slice: the pass has work left, or it is done, and this many sockets were garbage.
 abbrev pub slice_reply : ℕ → Option ℕ → Reply

@@ -5,7 +5,7 @@ ghost use Rattle.std.specs.Option.{option_map_or};
 ghost use Rattle.af_base.specs.Places.{backlog_at, carried, held_by, queue_at};
 ghost use Rattle.af_base.specs.Refusals.{socket_at};
 ghost use Rattle.af_collect.specs.Keeping.{first_held, shaded_all, shaded_in};
-ghost use Rattle.af_collect.specs.Shown.{first_attached};
+ghost use Rattle.af_collect.specs.Shown.{Shades, first_attached};
 
 use crate::holdings::Holdings;
 use crate::progress::{Progress, Stage};
@@ -38,9 +38,7 @@ fn shade_all(files: &mut Files, taken: &[FileRef])
 #[tactic(auto, using(crate::proofs::Losing::held_parts, crate::proofs::Shaded::shaded_append))]
 #[inline(always)]
 pub fn shade_held(places: &mut Holdings, file: &FileRef)
-    ensures { places.new ≡ record places.old {
-      marks = shaded_all (held_by places.old.world file.now) places.old.marks;
-    } }
+    ensures { Shades (held_by places.old.world file.now) places.old places.new }
 {
     shade_queue(places, file);
     shade_backlog(places, file);
@@ -50,9 +48,7 @@ pub fn shade_held(places: &mut Holdings, file: &FileRef)
 #[tactic(auto, using(crate::proofs::Holding::carried_one))]
 #[inline(always)]
 fn shade_queue(places: &mut Holdings, file: &FileRef)
-    ensures { places.new ≡ record places.old {
-      marks = shaded_all (carried (queue_at places.old.world file.now)) places.old.marks;
-    } }
+    ensures { Shades (carried (queue_at places.old.world file.now)) places.old places.new }
 {
     // Most queues have one message at most.
     if messages(places, file) <= 1 {
@@ -65,9 +61,7 @@ fn shade_queue(places: &mut Holdings, file: &FileRef)
 /// Marks the same, some at a time.
 #[inline(never)]
 fn shade_carried(places: &mut Holdings, file: &FileRef)
-    ensures { places.new ≡ record places.old {
-      marks = shaded_all (carried (queue_at places.old.world file.now)) places.old.marks;
-    } }
+    ensures { Shades (carried (queue_at places.old.world file.now)) places.old places.new }
 {
     let mut from = 0;
     loop {
@@ -95,9 +89,7 @@ fn shade_some(places: &mut Holdings, held: &[FileRef])
 #[tactic(auto, using(crate::proofs::Holding::rest_next, crate::proofs::Shaded::shaded_append))]
 #[inline(always)]
 fn shade_backlog(places: &mut Holdings, file: &FileRef)
-    ensures { places.new ≡ record places.old {
-      marks = shaded_all (backlog_at places.old.world file.now) places.old.marks;
-    } }
+    ensures { Shades (backlog_at places.old.world file.now) places.old places.new }
 {
     for at in 0..embryos(places, file) {
         shade_embryo(places, file, at);
@@ -107,9 +99,7 @@ fn shade_backlog(places: &mut Holdings, file: &FileRef)
 /// Marks the files attached to the first message of the file's queue.
 #[inline(always)]
 fn shade_message(places: &mut Holdings, file: &FileRef)
-    ensures { places.new ≡ record places.old {
-      marks = shaded_all (first_attached places.old.world file.now) places.old.marks;
-    } }
+    ensures { Shades (first_attached places.old.world file.now) places.old places.new }
 {
     for index in 0..attached(places, file).len() {
         let held = attached(places, file)[index].duplicate();
@@ -121,9 +111,7 @@ fn shade_message(places: &mut Holdings, file: &FileRef)
 /// embryo.
 #[tactic(auto, using(crate::proofs::Holding::carried_first))]
 pub fn shade_first(places: &mut Holdings, file: &FileRef)
-    ensures { places.new ≡ record places.old {
-      marks = shaded_all (first_held places.old.world file.now) places.old.marks;
-    } }
+    ensures { Shades (first_held places.old.world file.now) places.old places.new }
 {
     if messages(places, file) > 0 {
         shade_message(places, file);
@@ -136,9 +124,8 @@ pub fn shade_first(places: &mut Holdings, file: &FileRef)
 #[tactic(auto, using(crate::proofs::Holding::first_left, crate::proofs::Holding::none_left))]
 #[inline(always)]
 pub fn shade_embryo(places: &mut Holdings, file: &FileRef, at: usize)
-    ensures { places.new ≡ record places.old {
-      marks = shaded_all (take 1 (drop at (backlog_at places.old.world file.now))) places.old.marks;
-    } }
+    ensures { Shades
+        (take 1 (drop at (backlog_at places.old.world file.now))) places.old places.new }
 {
     if let Some(embryo) = embryo_at(places, file, at) {
         places.shade(&embryo);

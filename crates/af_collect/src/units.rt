@@ -1,12 +1,13 @@
 //! A pass, unit by unit: a file is visited, scanned or swept.
 ghost use Rattle.std.specs.Prelude.{◌≡◌, ◌<◌, ◌≤◌, ◌+◌, ℕ, true, false, IfSome, IfNone};
-ghost use Rattle.af_base.specs.World.{IsLive, is_live};
-ghost use Rattle.af_base.specs.Reached.{Garbage, IsGarbageCount};
+ghost use Rattle.af_base.specs.World.{IsLive};
+ghost use Rattle.af_base.specs.Reached.{IsGarbageCount};
 ghost use Rattle.af_base.specs.Whole.{IsSound};
 ghost use Rattle.af_mark.specs.Marked.{is_grey, is_marked};
 ghost use Rattle.af_collect.specs.declared.progress.Stage.TheVariants as stage;
 ghost use Rattle.af_collect.specs.Keeping.{is_running};
 ghost use Rattle.af_collect.specs.Purged.{ArePurged};
+ghost use Rattle.af_collect.specs.Collecting.{NoneLeft, NoneLive};
 ghost use Rattle.af_collect.specs.Shown.{KeepsPass};
 
 use crate::parts::Collector;
@@ -59,8 +60,7 @@ impl Collector {
         ensures rises { self.old.progress.looked ≤ self.new.progress.looked }
         ensures working { result ≡ false
             → self.new.progress.looked ≡ self.old.progress.looked + budget }
-        ensures gone { result ≡ true → (f : ℕ) → Garbage self.old.begun.value.world f
-            → ¬ (IsLive self.new.places.world f) }
+        ensures gone { result ≡ true → NoneLeft self.old.begun.value.world self.new.places.world }
         ensures counted { result ≡ true
             → IsGarbageCount self.old.begun.value.world self.new.progress.reclaimed }
     {
@@ -97,8 +97,7 @@ impl Collector {
         ensures purged { ArePurged self.old.begun.value.world self.old.places.world
             self.new.places.world result }
         ensures looked { self.new.progress.looked ≡ self.old.progress.looked + result }
-        ensures gone { result ≡ 0 → (f : ℕ) → Garbage self.old.begun.value.world f
-            → ¬ (IsLive self.new.places.world f) }
+        ensures gone { result ≡ 0 → NoneLeft self.old.begun.value.world self.new.places.world }
         ensures counted { result ≡ 0
             → IsGarbageCount self.old.begun.value.world self.new.progress.reclaimed }
     {
@@ -160,8 +159,7 @@ impl Collector {
         ensures purged { ArePurged self.old.begun.value.world self.old.places.world
             self.new.places.world result }
         ensures looked { self.new.progress.looked ≡ self.old.progress.looked + result }
-        ensures gone { result ≡ 0 → (f : ℕ) → Garbage self.old.begun.value.world f
-            → ¬ (IsLive self.new.places.world f) }
+        ensures gone { result ≡ 0 → NoneLeft self.old.begun.value.world self.new.places.world }
         ensures counted { result ≡ 0
             → IsGarbageCount self.old.begun.value.world self.new.progress.reclaimed }
     {
@@ -179,10 +177,9 @@ impl Collector {
     fn next_from(&self, from: u64) -> Option<(FileRef, usize)>
         ensures live { IfSome result (λ f. IsLive self.now.places.world f.0) }
         ensures within { IfSome result (λ f. (from ≤ f.0) × (f.0 < self.now.places.marks.bound)) }
-        ensures least { IfSome result (λ f.
-            (g : ℕ) → from ≤ g → g < f.0 → is_live self.now.places.world g ≡ false) }
-        ensures none { IfNone result ((g : ℕ) → from ≤ g → g < self.now.places.marks.bound
-            → is_live self.now.places.world g ≡ false) }
+        ensures least { IfSome result (λ f. NoneLive self.now.places.world from f.0) }
+        ensures none { IfNone result
+            (NoneLive self.now.places.world from self.now.places.marks.bound) }
     {
         let bound = self.places.files().bound();
         if from >= bound.0 {
@@ -206,8 +203,7 @@ impl Collector {
         requires live { IsLive self.old.places.world file.now }
         requires within { (self.old.progress.visited ≤ file.now)
             × (file.now < self.old.places.marks.bound) }
-        requires least { (g : ℕ) → self.old.progress.visited ≤ g → g < file.now
-            → is_live self.old.places.world g ≡ false }
+        requires least { NoneLive self.old.places.world self.old.progress.visited file.now }
         ensures kept { KeepsPass self.new }
         ensures places { self.new.places
             ≡ record self.old.places { marks = self.new.places.marks } }
@@ -256,8 +252,7 @@ impl Collector {
         requires live { IsLive self.old.places.world file.now }
         requires within { (self.old.progress.swept ≤ file.now)
             × (file.now < self.old.places.marks.bound) }
-        requires least { (g : ℕ) → self.old.progress.swept ≤ g → g < file.now
-            → is_live self.old.places.world g ≡ false }
+        requires least { NoneLive self.old.places.world self.old.progress.swept file.now }
         ensures kept { KeepsPass self.new }
         ensures sound { IsSound self.new.places.world }
         ensures rows { self.new.places.rows ≡ self.old.places.rows }
