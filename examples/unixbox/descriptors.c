@@ -10,8 +10,7 @@ static void close_fd(const struct process *process, uint32_t fd) {
 
 static long duplicate_at(const struct process *process, uint32_t from, uint32_t to) {
     is_collection_due = true;
-    return record(process->pid, jw_dup2(&engine, process->pid, from, to), "dup2 %u %u",
-                  from, to);
+    return record(process->pid, jw_dup2(&engine, process->pid, from, to), "dup2 %u %u", from, to);
 }
 
 /* Opens a plain file at a number that is free. */
@@ -59,18 +58,18 @@ static uint32_t lowest_free(const struct process *process, uint64_t from) {
     return from < JW_MAX_NOFILE ? (uint32_t)from : JW_MAX_NOFILE;
 }
 
-/* Gives a file to the caller at a number that the kernel chooses, or at a fixed one. A plain file
- * is copied from the caller's descriptor `from`. Returns the number, or a negative errno. */
-static long give(const struct call *call, struct file *file, uint32_t from, bool is_fixed,
-                 uint32_t to, bool closes_on_exec) {
+/* Gives a file to the caller: at a number, or where that is negative, at one that the kernel
+ * chooses. A plain file that was never sent is copied from the caller's descriptor `from`. Returns
+ * the number, or a negative errno. */
+static long give(const struct call *call, struct file *file, int from, long to, bool closes) {
     if (file->host < 0 && file->kind != JW_PLAIN) reopen(file);
     int copy = file->host < 0 ? (int)syscall(SYS_pidfd_getfd, call->process->pidfd, from, 0) : -1;
     struct seccomp_notif_addfd descriptor = {
-        .id = call->id, .flags = is_fixed ? SECCOMP_ADDFD_FLAG_SETFD : 0,
-        .srcfd = (uint32_t)(file->host < 0 ? copy : file->host), .newfd = is_fixed ? to : 0,
-        .newfd_flags = closes_on_exec ? O_CLOEXEC : 0};
+        .id = call->id, .srcfd = (uint32_t)(copy >= 0 ? copy : file->host),
+        .flags = to >= 0 ? SECCOMP_ADDFD_FLAG_SETFD : 0, .newfd = to >= 0 ? (uint32_t)to : 0,
+        .newfd_flags = closes ? O_CLOEXEC : 0}; /* At an exec(2). */
     long number = ioctl(notifications, SECCOMP_IOCTL_NOTIF_ADDFD, &descriptor);
-    number = number < 0 ? -errno : number;
+    if (number < 0) number = -errno;
     if (copy >= 0) close(copy);
     return number;
 }
@@ -85,11 +84,11 @@ static void move(const struct process *process, uint32_t fd, long to) {
 /* Puts what the layer has opened at these numbers into the caller's table. The kernel chooses the
  * numbers, and chooses others if another thread opens or closes something beside this. Then the
  * layer follows. Returns how many there are, or a negative errno if there is none. */
-long install(struct call *call, uint32_t *fds, size_t count, bool closes_on_exec) {
+long install(struct call *call, uint32_t *fds, size_t count, bool closes) {
     const struct process *process = call->process;
     long numbers[JW_MAX_FD], highest = 0, installed = 0;
     for (size_t i = 0; i < count; i++) {
-        numbers[i] = give(call, file_of(process, fds[i]), 0, false, 0, closes_on_exec);
+        numbers[i] = give(call, file_of(process, fds[i]), -1, -1, closes);
         highest = numbers[i] > highest ? numbers[i] : highest;
         if (numbers[i] >= 0 && numbers[i] != fds[i]) counts.other_numbers += !process->has_threads;
     }
@@ -117,10 +116,10 @@ long serve_close(struct call *call) {
 long serve_dup(struct call *call) {
     bool is_fcntl = call->number == SYS_fcntl, is_dup3 = call->number == SYS_dup3;
     bool is_fixed = is_dup3 || call->number == SYS_dup2;
-    bool closes_on_exec = is_fcntl ? call->args[1] == F_DUPFD_CLOEXEC
-                                   : is_dup3 && (call->args[2] & O_CLOEXEC);
+    bool closes = is_fcntl ? call->args[1] == F_DUPFD_CLOEXEC
+                           : is_dup3 && (call->args[2] & O_CLOEXEC);
     uint64_t from = is_fcntl ? call->args[2] : 0, to = call->args[1];
-    if (is_fcntl && !closes_on_exec && call->args[1] != F_DUPFD) return KERNEL_DOES_IT;
+    if (is_fcntl && !closes && call->args[1] != F_DUPFD) return KERNEL_DOES_IT;
     sync_table(call->process);
     struct file *file = file_of(call->process, call->fd);
     if (file == NULL || (is_fixed && (call->fd == to || to >= JW_MAX_NOFILE)))
@@ -129,7 +128,7 @@ long serve_dup(struct call *call) {
         bool has_choice = !is_fixed && lowest_free(call->process, 0) >= from;
         if (!is_fixed) to = lowest_free(call->process, from);
         if (duplicate_at(call->process, call->fd, (uint32_t)to) < 0) break;
-        number = give(call, file, call->fd, !has_choice, (uint32_t)to, closes_on_exec);
+        number = give(call, file, (int)call->fd, has_choice ? -1 : (long)to, closes);
         if (number == -EBADF) return KERNEL_DOES_IT; /* What O_PATH opened cannot be given. */
         move(call->process, (uint32_t)to, number);
         if (number != -EBUSY || is_fixed) return number;

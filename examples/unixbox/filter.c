@@ -117,14 +117,13 @@ static void serve_call(const struct seccomp_notif *notif) {
     call->pid = call->process != NULL ? call->process->pid : 0;
     counts.calls++;
     run(call);
-    rerun_woken_calls();
     collect();
     rerun_woken_calls();
     is_alone = processes != NULL && processes->next == NULL && !processes->has_threads;
 }
 
-/* Receives calls and serves them, in each of two threads. Until a call is received, any signal
- * ends it, and a close(2) answers EINTR: so one thread receives while the other serves. */
+/* Receives calls and serves them, in each of several threads. Until a call is received, any signal
+ * ends it, and a close(2) answers EINTR: so one receives while others serve or wait to. */
 void *serve_calls(void *none) {
     static pthread_mutex_t receiving = PTHREAD_MUTEX_INITIALIZER;
     struct pollfd ask = {notifications, POLLIN, 0};

@@ -5,7 +5,7 @@
 #include <sys/epoll.h>
 #include <sys/wait.h>
 
-enum { TICK = 10, TICK_SLICES = 64, FAILED = 125 }; /* A tick is in milliseconds. */
+enum { TICK = 10, TICK_SLICES = 256, THREADS = 4, FAILED = 125 }; /* A tick is 10 ms. */
 
 struct options options = {.collector = COLLECT_SLICES, .budget = 4};
 int watches;
@@ -86,9 +86,8 @@ static void reap(int flags) {
 
 /* Waits for the end of a process, or for a tick. Returns false where no program is left. */
 static bool watch(void) {
-    static bool is_busy;
     struct epoll_event event;
-    int count = epoll_wait(watches, &event, 1, is_busy ? 1 : TICK);
+    int count = epoll_wait(watches, &event, 1, TICK);
     if (count == 1 && event.data.ptr == NULL) return false;
     pthread_mutex_lock(&serving);
     if (count == 1) {
@@ -98,10 +97,7 @@ static bool watch(void) {
     } else {
         wake(EVERYONE); /* A signal may have come. */
     }
-    for (int i = 0; i == 0 || (i < TICK_SLICES && is_busy); i++) {
-        rerun_woken_calls();
-        is_busy = collect();
-    }
+    for (int i = 0; i < TICK_SLICES && collect(); i++) continue;
     rerun_woken_calls();
     pthread_mutex_unlock(&serving);
     return true;
@@ -109,17 +105,17 @@ static bool watch(void) {
 
 int main(int argc, char **argv) {
     bool is_root = geteuid() == 0;
-    pthread_t threads[2];
+    pthread_t threads[THREADS];
     start_program(argv + read_options(argc, argv));
     prepare();
     int64_t answer = jw_spawn(&engine, geteuid(), JW_MAX_NOFILE, is_root);
     record(0, answer, is_root ? "spawn %u %u priv" : "spawn %u %u", geteuid(), JW_MAX_NOFILE);
     bind_process(add_process((uint32_t)answer, getpid(), getpid()), program);
-    for (int i = 0; i < 2; i++)
+    for (int i = 0; i < THREADS; i++)
         if (pthread_create(&threads[i], NULL, serve_calls, NULL) != 0) err(FAILED, "a thread");
     kill(program, SIGCONT);
     while (watch()) continue;
-    for (int i = 0; i < 2; i++) pthread_join(threads[i], NULL);
+    for (int i = 0; i < THREADS; i++) pthread_join(threads[i], NULL);
     while (processes != NULL) forget_process(processes);
     settle(false);
     reap(0);

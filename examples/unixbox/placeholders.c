@@ -75,9 +75,8 @@ static bool close_spare(void) {
 /* Opens one placeholder, or two that are connected. */
 long open_placeholders(int *hosts, size_t count, int type) {
     do {
-        type |= SOCK_CLOEXEC;
-        hosts[0] = count == 1 ? socket(AF_UNIX, type, 0) : -1;
-        if (hosts[0] >= 0 || (count == 2 && socketpair(AF_UNIX, type, 0, hosts) == 0)) return 0;
+        if (count == 2 && socketpair(AF_UNIX, type | SOCK_CLOEXEC, 0, hosts) == 0) return 0;
+        if (count == 1 && (*hosts = socket(AF_UNIX, type | SOCK_CLOEXEC, 0)) >= 0) return 0;
     } while (errno == EMFILE && close_spare());
     return -ENFILE; /* The supervisor has no descriptor left. */
 }

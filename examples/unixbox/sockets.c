@@ -160,23 +160,13 @@ long serve_listen(struct call *call) {
     return 0;
 }
 
-/* Connects the placeholder to that of the listener, one of those that the step has changed. */
-static const struct file *connect_placeholder(const struct file *client) {
-    const struct file *listener = client;
-    struct sockaddr_un host;
-    socklen_t length = sizeof host;
-    uint64_t inos[4];
-    int64_t count = jw_changed(&engine, inos, 4);
-    for (int64_t i = 0; i < count && i < 4; i++)
-        if (file_at(inos[i]) != NULL && file_at(inos[i])->listens) listener = file_at(inos[i]);
-    getsockname(listener->host, (struct sockaddr *)&host, &length);
-    connect(client->host, (struct sockaddr *)&host, length);
-    return listener;
-}
-
 long serve_connect(struct call *call) {
     struct name name;
+    struct file *client = call->file, *listener = client;
+    struct sockaddr_un host;
+    socklen_t length = sizeof host;
     struct jw_file state;
+    uint64_t inos[4];
     long result = read_name(call, &name);
     if (result == 0 && name.address.length == PATH_START) result = -EINVAL;
     if (result == 0 && name.path[0] != '\0')
@@ -185,13 +175,17 @@ long serve_connect(struct call *call) {
     int64_t answer = jw_connect(&engine, call->pid, call->fd, name.key, strlen(name.key));
     result = record(call->pid, answer, "connect %u %s", call->fd, name.key);
     if (result < 0) return result == -EAGAIN ? wait_for(call, 0, EVERYONE) : result;
-    const struct file *listener = connect_placeholder(call->file);
-    jw_file(&engine, call->file->ino, &state);
-    struct file *embryo = add_file(state.peer, call->file->kind);
+    int64_t count = jw_changed(&engine, inos, 4); /* One of these is the listener. */
+    for (int64_t i = 0; i < count && i < 4; i++)
+        if (file_at(inos[i]) != NULL && file_at(inos[i])->listens) listener = file_at(inos[i]);
+    getsockname(listener->host, (struct sockaddr *)&host, &length);
+    connect(client->host, (struct sockaddr *)&host, length);
+    jw_file(&engine, client->ino, &state);
+    struct file *embryo = add_file(state.peer, client->kind);
     embryo->is_embryo = true;
     embryo->own = listener->own;
     embryo->owner = listener->owner;
-    call->file->owner = call->process->status.user;
+    client->owner = call->process->status.user;
     return 0;
 }
 

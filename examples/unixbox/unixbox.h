@@ -139,7 +139,7 @@ void refresh(struct file *file);
 void settle(bool is_collected);
 
 void sync_table(struct process *process);
-long install(struct call *call, uint32_t *fds, size_t count, bool closes_on_exec);
+long install(struct call *call, uint32_t *fds, size_t count, bool closes);
 
 typedef long handler(struct call *call);
 handler serve_socket, serve_bind, serve_listen, serve_connect, serve_accept, serve_shutdown,
