@@ -117,7 +117,7 @@ clients: unixbox
 
 bench-c: lib
 	$(need) $(firstword $(CC))
-	$(CC) -O2 -Iinclude examples/c/bench.c $(LIBRARY) -o out/bench_c
+	$(CC) -O2 -Iinclude examples/c/bench.c $(LIBRARY) -pthread -o out/bench_c
 	out/bench_c
 
 unixbox:

@@ -1,12 +1,15 @@
 //! Measures what events cost, of an engine alone or from threads.
 //!
 //! `af_bench script SETUP EVENTS RUNS` does a script from standard input over and over on one
-//! engine, and `af_bench layer THREADS EVENTS RUNS` makes calls of a layer from threads beside each
-//! other. A line on standard output for each run says how many nanoseconds it took.
+//! engine. `layer` and `shared`, with `THREADS EVENTS RUNS`, make calls of an engine behind a lock,
+//! with a log or without one. `engine` and `lock`, with `EVENTS RUNS`, make the calls of an engine
+//! alone, and take the lock alone. A line on standard output for each run says how many nanoseconds
+//! it took.
 //!
 //! With no argument nothing is read, and nothing is printed.
 #![tactic(auto)]
 
+mod calls;
 mod layer;
 mod runs;
 mod script;
@@ -19,20 +22,45 @@ use std::{env, io};
 enum Task {
     /// Measures a script, without its first lines, this many.
     Script(usize, Runs),
-    /// Measures calls from this many threads.
+    /// Measures calls of a layer from this many threads.
     Layer(u32, Runs),
+    /// Measures calls of an engine behind a lock from this many threads.
+    Shared(u32, Runs),
+    /// Measures calls of an engine alone.
+    Engine(Runs),
+    /// Measures the lock alone.
+    Lock(Runs),
 }
 
 impl Task {
     /// Returns the task that the words of a command line name, the program's own name first.
     fn of(words: &[String]) -> Option<Task> {
-        let [_, form, first, events, count] = words else {
-            return None;
-        };
-        let runs = Runs::of(events, count)?;
-        match form.as_str() {
+        match words {
+            [_, form, events, count] => {
+                Task::of_one_thread(form.as_str(), Runs::of(events, count)?)
+            }
+            [_, form, first, events, count] => {
+                Task::of_threads(form.as_str(), first, Runs::of(events, count)?)
+            }
+            _ => None,
+        }
+    }
+
+    /// Returns the task of this form, which names nothing but its runs.
+    fn of_one_thread(form: &str, runs: Runs) -> Option<Task> {
+        match form {
+            "engine" => Some(Task::Engine(runs)),
+            "lock" => Some(Task::Lock(runs)),
+            _ => None,
+        }
+    }
+
+    /// Returns the task of this form, which names a number before its runs.
+    fn of_threads(form: &str, first: &str, runs: Runs) -> Option<Task> {
+        match form {
             "script" => Some(Task::Script(first.parse().ok()?, runs)),
             "layer" => Some(Task::Layer(first.parse().ok()?, runs)),
+            "shared" => Some(Task::Shared(first.parse().ok()?, runs)),
             _ => None,
         }
     }
@@ -46,11 +74,17 @@ fn main(rt: HostRuntime) -> io::Result<()> {
     match Task::of(words.as_slice()) {
         Some(Task::Script(setup, runs)) => script::measure_input(&rt, setup, runs),
         Some(Task::Layer(threads, runs)) => layer::measure(&rt, rt.alloc(), threads, runs),
+        Some(Task::Shared(threads, runs)) => calls::measure_shared(&rt, rt.alloc(), threads, runs),
+        Some(Task::Engine(runs)) => calls::measure_engine(&rt, rt.alloc(), runs),
+        Some(Task::Lock(runs)) => calls::measure_lock(&rt, rt.alloc(), runs),
         None => usage(),
     }
 }
 
 /// Returns the fault of a command line that names no task.
 fn usage() -> io::Result<()> {
-    Err(io::Error::other("usage: af_bench [script SETUP EVENTS RUNS | layer THREADS EVENTS RUNS]"))
+    Err(io::Error::other(
+        "usage: af_bench [script SETUP EVENTS RUNS | layer THREADS EVENTS RUNS | \
+         shared THREADS EVENTS RUNS | engine EVENTS RUNS | lock EVENTS RUNS]",
+    ))
 }
