@@ -39,8 +39,8 @@ first-place p (Some c) e = absurd (false≢true (sym e))
 
 module _ {embryos bound white : ℕ} (old new : RowsView) (ws : List ℕ) (room : ℕ) (names : Named) (next epoch : ℕ) (grey : List ℕ) (most : ℕ) (h : FilesInvariant old ws room names next epoch grey most embryos bound white) where
   -- More room changes nothing.
-  pub filed-reserved : (vs : List ℕ) (space : ℕ) (gs : List ℕ) (wide : ℕ) → new ≡ record old { room = new.room } → vs ≡ ws → room ≤ space → gs ≡ grey → most ≤ wide → FilesInvariant new vs space names next epoch gs wide embryos bound white
-  filed-reserved vs space gs wide is waiting more greys wider = let low = h.last in let fits = h.fits in record {
+  pub filed-reserved : (vs : List ℕ) (space : ℕ) (gs : List ℕ) (wide : ℕ) → new ≡ record old { room = new.room; space = new.space } → vs ≡ ws → room ≤ space → gs ≡ grey → most ≤ wide → new.space ≤ space → new.space ≤ wide → FilesInvariant new vs space names next epoch gs wide embryos bound white
+  filed-reserved vs space gs wide is waiting more greys wider few least = let low = h.last in let fits = h.fits in record {
     last = omega (arith, low, ap (λ r. r.last) is);
     begins = ap (λ r. map.contains_key r.files 0) is ∙ h.begins;
     named = subst (AreNamed names) (sym (ap (λ r. r.files) is)) h.named;
@@ -49,27 +49,28 @@ module _ {embryos bound white : ℕ} (old new : RowsView) (ws : List ℕ) (room 
     listed = listed-same old.marks new.marks epoch grey most h.listed gs wide (ap (λ r. r.marks) is) greys wider;
     backlogged = subst (λ m. AreEmbryos m embryos) (sym (ap (λ r. r.counts) is)) h.backlogged;
     whites = subst (λ m. AreWhite m epoch bound next white) (sym (ap (λ r. r.marks) is)) h.whites;
+    space = (few, least);
   }
 
   -- Other marks of the same files, in another pass.
-  pub filed-renewed : (m : Map Mark) (e b : ℕ) (gs : List ℕ) (wide : ℕ) → new ≡ record old { marks = m } → AreListed m e gs wide → (n : ℕ) → AreWhite m e b next n → FilesInvariant new ws room names next e gs wide embryos b n
-  filed-renewed m e b gs wide is listed n whites =
-      subst (λ r. FilesInvariant r ws room names next e gs wide embryos b n) (sym is) (record { last = h.last; begins = h.begins; named = h.named; waits = h.waits; fits = h.fits; listed = listed; backlogged = h.backlogged; whites = whites })
+  pub filed-renewed : (m : Map Mark) (e b : ℕ) (gs : List ℕ) (wide : ℕ) → new ≡ record old { marks = m } → AreListed m e gs wide → most ≤ wide → (n : ℕ) → AreWhite m e b next n → FilesInvariant new ws room names next e gs wide embryos b n
+  filed-renewed m e b gs wide is listed wider n whites =
+      subst (λ r. FilesInvariant r ws room names next e gs wide embryos b n) (sym is) (record { last = h.last; begins = h.begins; named = h.named; waits = h.waits; fits = h.fits; listed = listed; backlogged = h.backlogged; whites = whites; space = (h.space.0, let least = h.space.1 in omega (arith, least, wider)) })
 
   -- Other marks of the same files, the list of those that are grey then, and how many are still to be marked.
-  pub filed-marked : (m : Map Mark) (gs : List ℕ) (wide : ℕ) → new ≡ record old { marks = m } → AreListed m epoch gs wide → (n : ℕ) → AreWhite m epoch bound next n → FilesInvariant new ws room names next epoch gs wide embryos bound n
-  filed-marked m gs wide is listed n whites = filed-renewed m epoch bound gs wide is listed n whites
+  pub filed-marked : (m : Map Mark) (gs : List ℕ) (wide : ℕ) → new ≡ record old { marks = m } → AreListed m epoch gs wide → most ≤ wide → (n : ℕ) → AreWhite m epoch bound next n → FilesInvariant new ws room names next epoch gs wide embryos bound n
+  filed-marked m gs wide is listed wider n whites = filed-renewed m epoch bound gs wide is listed wider n whites
 
   -- Other files of the same numbers, with the names that are theirs.
   pub filed-named : (fs : Map File) (left : Named) → new ≡ record old { files = fs } → map.contains_key fs 0 ≡ false → AreNamed left fs → FilesInvariant new ws room left next epoch grey most embryos bound white
-  filed-named fs left is begins named = subst (λ r. FilesInvariant r ws room left next epoch grey most embryos bound white) (sym is) (record { last = h.last; begins = begins; named = named; waits = h.waits; fits = h.fits; listed = h.listed; backlogged = h.backlogged; whites = h.whites })
+  filed-named fs left is begins named = subst (λ r. FilesInvariant r ws room left next epoch grey most embryos bound white) (sym is) (record { last = h.last; begins = begins; named = named; waits = h.waits; fits = h.fits; listed = h.listed; backlogged = h.backlogged; whites = h.whites; space = h.space })
 
   -- A socket changes, but for its name, and there is room for a message more or less.
   pub socket_changed : {b : Bool} (f : ℕ) (g : Socket → Socket) → ((s : Socket) → (g s).name ≡ s.name) → new ≡ record old { files = change_socket_at g old.files f; message_room = b } → FilesInvariant new ws room names next epoch grey most embryos bound white
   socket_changed f g same is =
       let begins = changed-live (file_with g) old.files f 0 ∙ h.begins in
       subst (λ r. FilesInvariant r ws room names next epoch grey most embryos bound white) (sym is)
-      (record { last = h.last; begins = begins; named = named-changed names old.files f g same h.named; waits = h.waits; fits = h.fits; listed = h.listed; backlogged = h.backlogged; whites = h.whites })
+      (record { last = h.last; begins = begins; named = named-changed names old.files f g same h.named; waits = h.waits; fits = h.fits; listed = h.listed; backlogged = h.backlogged; whites = h.whites; space = h.space })
 
   -- Or nothing does, where memory is refused.
   pub socket_either : {A B : Type 0} (b : Bool) (r : Result A B) (f : ℕ) (g : Socket → Socket) → ((s : Socket) → (g s).name ≡ s.name) → OnOk r (new ≡ record old { files = change_socket_at g old.files f; message_room = b }) → OnErr r (new ≡ old) → FilesInvariant new ws room names next epoch grey most embryos bound white
@@ -81,7 +82,7 @@ module _ {embryos bound white : ℕ} (old new : RowsView) (ws : List ℕ) (room 
   filed-counted m vs space is waits many more n counted =
       let fits = h.fits in
       let few : map.len m ≤ space = omega (arith, fits, many, more, ap (λ r. map.len r.counts) is) in
-      subst (λ r. FilesInvariant r vs space names next epoch grey most n bound white) (sym is) (record { last = h.last; begins = h.begins; named = h.named; waits = waits; fits = few; listed = h.listed; backlogged = counted; whites = h.whites })
+      subst (λ r. FilesInvariant r vs space names next epoch grey most n bound white) (sym is) (record { last = h.last; begins = h.begins; named = h.named; waits = waits; fits = few; listed = h.listed; backlogged = counted; whites = h.whites; space = (let low = h.space.0 in omega (arith, low, more), h.space.1) })
 
   -- A file more, without a name, which a place holds: there is room for it in both lists, and it is in none.
   pub filed-entered : (x : File) (p : Place) → new ≡ with_row next x p new.room old → map.contains_key old.files next ≡ false → map.contains_key old.counts next ≡ false → map.contains_key old.marks next ≡ false → name_of x ≡ None
@@ -95,13 +96,14 @@ module _ {embryos bound white : ℕ} (old new : RowsView) (ws : List ℕ) (room 
     listed = listed-born old.marks new.marks epoch grey most h.listed next most (ap (λ r. r.marks) is) unmarked_before (omega (arith, few, ap (λ r. map.len r.marks) is, len-insert_most old.marks next unmarked));
     backlogged = subst (λ m. AreEmbryos m k) (sym (ap (λ r. r.counts) is)) (embryos-entered old.counts next p embryos k embryo h.backlogged);
     whites = white-entered old.marks new.marks epoch bound next white h.whites (ap (λ r. r.marks) is);
+    space = (let most = h.space.0 in omega (arith, most, ap (λ r. r.space) is), let least = h.space.1 in omega (arith, least, ap (λ r. r.space) is));
   }
 
   -- A file less that was not grey, with the names that are left, and those that wait without it.
-  pub filed-removed : (k : ℕ) (left : Named) (vs : List ℕ) (space : ℕ) → new ≡ without_row k new.room old → AreNamed left (map.remove old.files k) → ((f : ℕ) → count_in f vs ≡ count_in f ws - one f k) → room ≤ space
+  pub filed-removed : (k : ℕ) (left : Named) (vs : List ℕ) (space : ℕ) → new ≡ without_row k new.room new.space old → new.space ≤ old.space → AreNamed left (map.remove old.files k) → ((f : ℕ) → count_in f vs ≡ count_in f ws - one f k) → room ≤ space
       → option_map_or is_grey_color (map.get (colors_in epoch old.marks) k) false ≡ false → (n : ℕ) → white_count (record { colors = map.remove (colors_in epoch old.marks) k; bound = bound }) ≤ n
       → FilesInvariant new vs space left next epoch grey most embryos bound n
-  filed-removed k left vs space is named off more spared n few = let low = h.last in let fits = h.fits in record {
+  filed-removed k left vs space is narrow named off more spared n few = let low = h.last in let fits = h.fits in record {
     last = omega (arith, low, ap (λ r. r.last) is);
     begins = ap (λ r. map.contains_key r.files 0) is ∙ begun-removed old.files k h.begins;
     named = subst (AreNamed left) (sym (ap (λ r. r.files) is)) named;
@@ -110,6 +112,7 @@ module _ {embryos bound white : ℕ} (old new : RowsView) (ws : List ℕ) (room 
     listed = listed-gone old.marks new.marks epoch grey most h.listed k (ap (λ r. r.marks) is) spared;
     backlogged = subst (λ m. AreEmbryos m embryos) (sym (ap (λ r. r.counts) is)) (embryos-removed old.counts k embryos h.backlogged);
     whites = (h.whites.0, subst (λ cs. white_count (record { colors = cs; bound = bound }) ≤ n) (sym (color_without epoch old.marks new.marks k (ap (λ r. r.marks) is))) few);
+    space = (let low = h.space.0 in omega (arith, low, narrow, more), let low = h.space.1 in omega (arith, low, narrow));
   }
 
 -- The view of rows in a pass, with this bound and this next number.
@@ -124,5 +127,5 @@ module _ (epoch bound : ℕ) where
       ap {B = FilesView} (λ cs. record (entered p x (seen r next)) { marks = record { colors = cs; bound = bound } }) colors
 
   -- And of one less.
-  pub seen-without : (r : RowsView) (next room f : ℕ) → seen (without_row f room r) next ≡ without f (seen r next)
-  seen-without r next room f = ap {B = FilesView} (λ cs. record (without f (seen r next)) { marks = record { colors = cs; bound = bound } }) (color_without epoch r.marks _ f refl)
+  pub seen-without : (r : RowsView) (next room space f : ℕ) → seen (without_row f room space r) next ≡ without f (seen r next)
+  seen-without r next room space f = ap {B = FilesView} (λ cs. record (without f (seen r next)) { marks = record { colors = cs; bound = bound } }) (color_without epoch r.marks _ f refl)

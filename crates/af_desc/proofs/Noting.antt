@@ -22,6 +22,7 @@ use Rattle.ordered_slab.proofs.Values.{gone_few}
 use Rattle.af_ledger.specs.declared.place.Place.{Place}
 use Rattle.af_desc.specs.LinesView.{LinesView, with_line, without_line}
 use Rattle.af_base.specs.Told.{is_socket_in}
+use Rattle.af_desc.specs.RowsView.{file_of}
 use Rattle.af_desc.specs.Told.{AreListed, AreNoted, Notes}
 
 -- Whether a face is a socket's.
@@ -199,6 +200,17 @@ module _ (asked : Bool) (old new : LinesView) (f : ℕ) (is : new ≡ record old
 
   pub listed-set : (fs : List ℕ) → AreListed old.noted fs → map.get old.noted f ≡ Some false → AreListed new.noted (fs ++ f ∷ []) × (length fs < map.len new.noted)
   listed-set fs h at = just-pushed (λ b. b) old.noted new.noted fs f h true (ap (λ l. l.noted) is) refl (ap (λ o. option_map_or (λ b. b) o false) at)
+
+-- A plain file needs no note.
+pub notes-socket : (asked note : Bool) (old new : LinesView) (f : ℕ) → Notes note old new f → (asked ≡ true → is_socket_in old.files f ≡ true → note ≡ true) → Notes asked old new f
+notes-socket asked note old new f n same = record { rest = n.rest; noted = λ a s e. n.noted (same a s) s e; others = n.others; len = n.len }
+
+-- A new file is a socket if it has an endpoint.
+pub socket-new : (files : Map File) (f : ℕ) (o : Option Socket) → is_socket_in (map.insert files f (file_of o)) f ≡ is_some o
+socket-new files f o = ap (λ q. is_some (option_and_then socket_of q)) (insert-here files f (file_of o)) ∙ by o where
+  by : (o : Option Socket) → is_some (socket_of (file_of o)) ≡ is_some o
+  by None = refl
+  by (Some s) = refl
 
 -- Nothing counts in an empty list.
 none-counts : (g : ℕ) (fs : List ℕ) → length fs ≡ 0 → count_in g fs ≡ 0

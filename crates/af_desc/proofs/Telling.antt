@@ -23,7 +23,7 @@ use Rattle.af_mark.specs.declared.mark.Mark.{Mark}
 use Rattle.af_desc.specs.FilesView.{popped}
 use Rattle.af_desc.specs.LinesView.{LinesView, with_line, without_line}
 use Rattle.af_base.specs.Told.{AreChanged, AreReleased, was_given}
-use Rattle.af_desc.specs.Told.{AreAccounted, AreListed, AreNoted, AreTold, Notes, room_in}
+use Rattle.af_desc.specs.Told.{AreAccounted, AreListed, AreNoted, AreTold, HaveSpace, Notes}
 use Rattle.af_desc.proofs.Noting.{face-still, noted-absent, noted-after, noted-bound, noted-changed, noted-counted, noted-faces, noted-marked, noted-none, noted-roomy, socket-there}
 
 -- One where it holds.
@@ -137,8 +137,8 @@ noted-anew lines fs space since files listed fits = record {
 -- ---- both lists
 
 -- A new layer tells nothing.
-pub told-none : (l : LinesView) (fs : List ℕ) (space : ℕ) (gone : List ℕ) (wide : ℕ) (since : Since) → l.noted ≡ map.empty → l.counts ≡ map.empty → l.last ≡ 0 → fs ≡ [] → since.changed ≡ false → since.released ≡ false → since.next ≡ 1 → AreTold l fs space gone wide since
-told-none l fs space gone wide since none uncounted first empty off mute next = record {
+pub told-none : (l : LinesView) (fs : List ℕ) (space : ℕ) (gone : List ℕ) (wide all : ℕ) (since : Since) → l.noted ≡ map.empty → l.counts ≡ map.empty → l.last ≡ 0 → fs ≡ [] → since.changed ≡ false → since.released ≡ false → since.next ≡ 1 → AreTold l fs space gone wide all since
+told-none l fs space gone wide all since none uncounted first empty off mute next = record {
   noted = noted-none l fs space since none empty off;
   accounted = record {
     later = omega (arith, first, next);
@@ -146,115 +146,97 @@ told-none l fs space gone wide since none uncounted first empty off mute next = 
     each = λ a. absurd (false≢true (sym mute ∙ a));
     fits = λ a. absurd (false≢true (sym mute ∙ a));
   };
+  roomy = record { changed = λ a. absurd (false≢true (sym off ∙ a)); released = λ a. absurd (false≢true (sym mute ∙ a)) };
 }
 
-module _ (old new : LinesView) (fs : List ℕ) (space : ℕ) (gone : List ℕ) (wide : ℕ) (since : Since) (h : AreTold old fs space gone wide since) where
+module _ (old new : LinesView) (fs : List ℕ) (space : ℕ) (gone : List ℕ) (wide all : ℕ) (since : Since) (h : AreTold old fs space gone wide all since) where
   -- Nothing changes.
-  pub told-still : new ≡ old → AreTold new fs space gone wide since
-  told-still is = subst (λ l. AreTold l fs space gone wide since) (sym is) h
+  pub told-still : new ≡ old → AreTold new fs space gone wide all since
+  told-still is = subst (λ l. AreTold l fs space gone wide all since) (sym is) h
 
   -- Other marks.
-  pub told-marked : (m : Map Mark) → new ≡ record old { marks = m } → AreTold new fs space gone wide since
+  pub told-marked : (m : Map Mark) → new ≡ record old { marks = m } → AreTold new fs space gone wide all since
   told-marked m is = record {
     noted = noted-marked old new fs space since h.noted m is;
     accounted = accounted-same old new gone wide since h.accounted wide (ap (λ l. l.last) is) (ap (λ l. l.counts) is) (omega arith);
+    roomy = h.roomy;
   }
 
   -- Room for a message more.
-  pub told-roomed : (b : Bool) → new ≡ record old { message_room = b } → AreTold new fs space gone wide since
-  told-roomed b is = subst (λ l. AreTold l fs space gone wide since) (sym is) (record { noted = record { listed = h.noted.listed; fits = h.noted.fits; same = h.noted.same }; accounted = record { later = h.accounted.later; below = h.accounted.below; each = h.accounted.each; fits = h.accounted.fits } })
+  pub told-roomed : (b : Bool) → new ≡ record old { message_room = b } → AreTold new fs space gone wide all since
+  told-roomed b is = subst (λ l. AreTold l fs space gone wide all since) (sym is) (record { noted = record { listed = h.noted.listed; fits = h.noted.fits; same = h.noted.same }; accounted = record { later = h.accounted.later; below = h.accounted.below; each = h.accounted.each; fits = h.accounted.fits }; roomy = h.roomy })
 
   -- Other counts of one that is there.
-  pub told-counted : (f : ℕ) (c : Count) → new ≡ record old { counts = map.insert old.counts f c } → map.contains_key old.counts f ≡ true → map.len new.counts ≡ map.len old.counts → AreTold new fs space gone wide since
+  pub told-counted : (f : ℕ) (c : Count) → new ≡ record old { counts = map.insert old.counts f c } → map.contains_key old.counts f ≡ true → map.len new.counts ≡ map.len old.counts → AreTold new fs space gone wide all since
   told-counted f c is there len = record {
     noted = noted-counted old new fs space since h.noted (map.insert old.counts f c) is;
     accounted = accounted-alike old new gone wide since h.accounted wide (ap (λ l. l.last) is) (λ q. ap (λ l. map.contains_key l.counts q) is ∙ elim (same_or_not q f) [
       | inl here ↦ ap is_some (ap (map.get (map.insert old.counts f c)) here ∙ insert-here old.counts f c) ∙ sym (ap (map.contains_key old.counts) here ∙ there)
       | inr apart ↦ ap is_some (insert-other old.counts f c q apart)
     ]) len (omega arith);
+    roomy = h.roomy;
   }
 
   -- More room.
-  pub told-roomy : (most more : ℕ) → new ≡ record old { room = new.room } → space ≤ most → wide ≤ more → AreTold new fs most gone more since
-  told-roomy most more is wider widest = record {
+  pub told-roomy : (most more many : ℕ) → new ≡ record old { room = new.room } → space ≤ most → wide ≤ more → HaveSpace many most gone more since → AreTold new fs most gone more many since
+  told-roomy most more many is wider widest roomy = record {
     noted = noted-roomy old new fs space since h.noted most is wider;
     accounted = accounted-same old new gone wide since h.accounted more (ap (λ l. l.last) is) (ap (λ l. l.counts) is) widest;
+    roomy = roomy;
   }
 
   -- A name, which shows in no face.
-  pub told-bound : {A B : Type 0} (r : Result A B) (f : ℕ) (name : List ℕ) → OnOk r (new ≡ record old { files = change_socket_at (bound name) old.files f }) → OnErr r (new ≡ old) → AreTold new fs space gone wide since
-  told-bound {A} {B} r f name ok err = record { noted = noted-bound old new fs space since h.noted r f name ok err; accounted = by r ok err } where
+  pub told-bound : {A B : Type 0} (r : Result A B) (f : ℕ) (name : List ℕ) → OnOk r (new ≡ record old { files = change_socket_at (bound name) old.files f }) → OnErr r (new ≡ old) → AreTold new fs space gone wide all since
+  told-bound {A} {B} r f name ok err = record { noted = noted-bound old new fs space since h.noted r f name ok err; accounted = by r ok err; roomy = h.roomy } where
     by : (r : Result A B) → OnOk r (new ≡ record old { files = change_socket_at (bound name) old.files f }) → OnErr r (new ≡ old) → AreAccounted new gone wide since
     by (Ok a) ok err = accounted-same old new gone wide since h.accounted wide (ap (λ l. l.last) ok) (ap (λ l. l.counts) ok) (omega arith)
     by (Err b) ok err = accounted-same old new gone wide since h.accounted wide (ap (λ l. l.last) err) (ap (λ l. l.counts) err) (omega arith)
 
 -- A file is noted, and changes then.
-module _ (old mid : LinesView) (fs gs : List ℕ) (space most : ℕ) (gone : List ℕ) (wide : ℕ) (since : Since) (f : ℕ) (h : AreTold old fs space gone wide since) (n : Notes since.changed old mid f) (listed : AreListed mid.noted gs) (same : most ≡ space) where
+module _ (old mid : LinesView) (fs gs : List ℕ) (space most : ℕ) (gone : List ℕ) (wide all : ℕ) (since : Since) (f : ℕ) (h : AreTold old fs space gone wide all since) (n : Notes since.changed old mid f) (listed : AreListed mid.noted gs) (same : most ≡ space) where
   accounted-noted : AreAccounted mid gone wide since
   accounted-noted = accounted-same old mid gone wide since h.accounted wide (ap (λ l. l.last) n.rest) (ap (λ l. l.counts) n.rest) (omega arith)
 
-  pub told-changed : (b : Bool) (new : LinesView) (g : Socket → Socket) → new ≡ record mid { files = change_socket_at g mid.files f; message_room = b } → AreTold new gs most gone wide since
+  roomy-noted : HaveSpace all most gone wide since
+  roomy-noted = record { changed = λ a. let few = h.roomy.changed a in omega (arith, few, same); released = h.roomy.released }
+
+  pub told-changed : (b : Bool) (new : LinesView) (g : Socket → Socket) → new ≡ record mid { files = change_socket_at g mid.files f; message_room = b } → AreTold new gs most gone wide all since
   told-changed b new g is = record {
     noted = noted-changed old mid fs gs space most since f h.noted n listed (omega (arith, same)) new g is;
     accounted = accounted-same mid new gone wide since accounted-noted wide (ap (λ l. l.last) is) (ap (λ l. l.counts) is) (omega arith);
+    roomy = roomy-noted;
   }
 
 -- A file changes, and is noted then.
-pub told-after : (old mid new : LinesView) (fs gs : List ℕ) (space most : ℕ) (gone : List ℕ) (wide : ℕ) (since : Since) (f : ℕ) (g : Socket → Socket) (b : Bool) → AreTold old fs space gone wide since
-    → mid ≡ record old { files = change_socket_at g old.files f; message_room = b } → Notes since.changed mid new f → AreListed new.noted gs → most ≡ space → AreTold new gs most gone wide since
-told-after old mid new fs gs space most gone wide since f g b h is n listed same = record {
+pub told-after : (old mid new : LinesView) (fs gs : List ℕ) (space most : ℕ) (gone : List ℕ) (wide all : ℕ) (since : Since) (f : ℕ) (g : Socket → Socket) (b : Bool) → AreTold old fs space gone wide all since
+    → mid ≡ record old { files = change_socket_at g old.files f; message_room = b } → Notes since.changed mid new f → AreListed new.noted gs → most ≡ space → AreTold new gs most gone wide all since
+told-after old mid new fs gs space most gone wide all since f g b h is n listed same = record {
   noted = noted-after old mid new fs gs space most since f g b h.noted is n listed (omega (arith, same));
   accounted = accounted-same old new gone wide since h.accounted wide (ap (λ l. l.last) n.rest ∙ ap (λ l. l.last) is) (ap (λ l. l.counts) n.rest ∙ ap (λ l. l.counts) is) (omega arith);
+  roomy = record { changed = λ a. let few = h.roomy.changed a in omega (arith, few, same); released = h.roomy.released };
 }
 
 -- No embryo comes out, and nothing shows.
-pub told-nobody : (old new : LinesView) (fs : List ℕ) (space : ℕ) (gone : List ℕ) (wide : ℕ) (since : Since) (f : ℕ) → AreTold old fs space gone wide since → backlog_in old.files f ≡ []
-    → new ≡ record old { files = change_socket_at dequeued old.files f } → AreTold new fs space gone wide since
-told-nobody old new fs space gone wide since f h none is = record {
+pub told-nobody : (old new : LinesView) (fs : List ℕ) (space : ℕ) (gone : List ℕ) (wide all : ℕ) (since : Since) (f : ℕ) → AreTold old fs space gone wide all since → backlog_in old.files f ≡ []
+    → new ≡ record old { files = change_socket_at dequeued old.files f } → AreTold new fs space gone wide all since
+told-nobody old new fs space gone wide all since f h none is = record {
   noted = noted-faces old new fs space since h.noted (ap (λ l. l.noted) is) (λ q. ap (λ l. face_in l.files q) is ∙ face-still old.files f q dequeued (λ s at.
       let empty : s.backlog ≡ [] = sym (ap (λ o. option_map_or backlog_of o []) at) ∙ none in
       ap (λ xs. face_of (AsSocket (record s { backlog = drop 1 xs }))) empty ∙ sym (ap (λ xs. face_of (AsSocket (record s { backlog = xs }))) empty)));
   accounted = accounted-same old new gone wide since h.accounted wide (ap (λ l. l.last) is) (ap (λ l. l.counts) is) (omega arith);
+  roomy = h.roomy;
 }
 
 -- Nor does a message.
-pub told-silent : (old new : LinesView) (fs : List ℕ) (space : ℕ) (gone : List ℕ) (wide : ℕ) (since : Since) (f : ℕ) (b : Bool) → AreTold old fs space gone wide since → queue_in old.files f ≡ []
-    → new ≡ record old { files = change_socket_at popped old.files f; message_room = b } → AreTold new fs space gone wide since
-told-silent old new fs space gone wide since f b h none is = record {
+pub told-silent : (old new : LinesView) (fs : List ℕ) (space : ℕ) (gone : List ℕ) (wide all : ℕ) (since : Since) (f : ℕ) (b : Bool) → AreTold old fs space gone wide all since → queue_in old.files f ≡ []
+    → new ≡ record old { files = change_socket_at popped old.files f; message_room = b } → AreTold new fs space gone wide all since
+told-silent old new fs space gone wide all since f b h none is = record {
   noted = noted-faces old new fs space since h.noted (ap (λ l. l.noted) is) (λ q. ap (λ l. face_in l.files q) is ∙ face-still old.files f q popped (λ s at.
       let empty : s.queue ≡ [] = sym (ap (λ o. option_map_or queue_of o []) at) ∙ none in
       ap (λ xs. face_of (AsSocket (record s { queue = drop 1 xs }))) empty ∙ sym (ap (λ xs. face_of (AsSocket (record s { queue = xs }))) empty)));
   accounted = accounted-same old new gone wide since h.accounted wide (ap (λ l. l.last) is) (ap (λ l. l.counts) is) (omega arith);
+  roomy = h.roomy;
 }
-
--- A list with room for one more has room for it.
-module _ (since : Since) (room noted many freed all v : ℕ) (seen : room_in since room noted many freed all ≡ v) (some : 0 < v) where
-  pub room-noted : since.changed ≡ true → many + 1 ≤ noted
-  room-noted a =
-      let most : min room (min (noted - many) (cond since.released (freed - all) room)) ≡ v = ap (λ b. min room (min (cond b (noted - many) room) (cond since.released (freed - all) room))) (sym a) ∙ seen in
-      omega (arith, most, some)
-
-  pub room-freed : since.released ≡ true → all + 1 ≤ freed
-  room-freed a =
-      let most : min room (min (cond since.changed (noted - many) room) (freed - all)) ≡ v = ap (λ b. min room (min (cond since.changed (noted - many) room) (cond b (freed - all) room))) (sym a) ∙ seen in
-      omega (arith, most, some)
-
--- For one file less, or one more, there is room as before.
-pub room-less : (since : Since) (room noted many freed all v more space fewer wide less : ℕ) → room_in since room noted many freed all ≡ v → room ≤ more → noted ≡ space → fewer ≤ many → freed ≡ wide → (since.released ≡ true → less ≤ all) → v ≤ room_in since more space fewer wide less
-room-less since room noted many freed all v more space fewer wide less is a b d e f = by since.changed since.released is f where
-  by : (x y : Bool) → min room (min (cond x (noted - many) room) (cond y (freed - all) room)) ≡ v → (y ≡ true → less ≤ all) → v ≤ min more (min (cond x (space - fewer) more) (cond y (wide - less) more))
-  by true true is f = let low = f refl in omega (arith, is, a, b, d, e, low)
-  by true false is f = omega (arith, is, a, b, d)
-  by false true is f = let low = f refl in omega (arith, is, a, e, low)
-  by false false is f = omega (arith, is, a)
-
-pub room-more : (since : Since) (room noted many freed all v less space further wide more : ℕ) → room_in since room noted many freed all ≡ v → room ≤ less + 1 → space ≡ noted → further ≤ many + 1 → freed ≡ wide → more ≤ all + 1 → v ≤ room_in since less space further wide more + 1
-room-more since room noted many freed all v less space further wide more is a b d e f = by since.changed since.released is where
-  by : (x y : Bool) → min room (min (cond x (noted - many) room) (cond y (freed - all) room)) ≡ v → v ≤ min less (min (cond x (space - further) less) (cond y (wide - more) less)) + 1
-  by true true is = omega (arith, is, a, b, d, e, f)
-  by true false is = omega (arith, is, a, b, d)
-  by false true is = omega (arith, is, a, e, f)
-  by false false is = omega (arith, is, a)
 
 -- Where a file is there are some.
 pub lived : {V : Type 0} (m : Map V) (k : ℕ) → map.contains_key m k ≡ true → 0 < map.len m

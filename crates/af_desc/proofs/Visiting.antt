@@ -1,5 +1,5 @@
 -- A file that a pass visits.
-use Rattle.std.proofs.Common.{◌≡◌, ◌≤◌, ◌<◌, ◌-◌, ℕ, ◌&&◌, Bool, true, false, not, List, [], ◌∷◌, ◌++◌, length, refl, sym, ap, ◌∙◌, cond, nat_lt}
+use Rattle.std.proofs.Common.{◌≡◌, ◌≤◌, ◌<◌, ◌-◌, ℕ, ◌&&◌, Bool, true, false, not, List, [], ◌∷◌, ◌++◌, length, refl, sym, ap, ◌∙◌, cond, nat_lt, arith}
 use Rattle.std.specs.Prelude.{Option, None, Some, option_map, is_some, if◌then◌else◌}
 use Rattle.std.specs.FinMap as map
 use Rattle.std.specs.Option.{option_map_or}
@@ -84,10 +84,10 @@ module _ (epoch bound : ℕ) (r : RowsView) (f : ℕ) where
     pub visit-bare : bare ≡ true → FilesInvariant new waiting room names next epoch grey most embryos bound (white - 1)
     visit-bare e =
         filed-marked r new _ _ _ _ _ _ _ h _ grey most is
-        (listed-bare r.marks _ epoch grey most h.listed f (marking epoch at bare) refl refl many (ap (λ b. if b then Black else Grey) e) spared) (white - 1) left.1
+        (listed-bare r.marks _ epoch grey most h.listed f (marking epoch at bare) refl refl many (ap (λ b. if b then Black else Grey) e) spared) (omega arith) (white - 1) left.1
 
     -- Another is to be scanned.
     pub visit-grey : bare ≡ false → (length grey < most) × ((gs : List ℕ) (wide : ℕ) → gs ≡ grey ++ f ∷ [] → most ≤ wide → FilesInvariant new waiting room names next epoch gs wide embryos bound (white - 1))
     visit-grey e =
         let listed = listed-grey r.marks _ epoch grey most h.listed f (marking epoch at bare) refl refl many (ap (λ b. if b then Black else Grey) e) spared in
-        (listed.0, λ gs wide same more. filed-marked r new _ _ _ _ _ _ _ h _ gs wide is (listed-same (map.insert r.marks f (marking epoch at bare)) _ epoch (grey ++ f ∷ []) most listed.1 gs wide refl same more) (white - 1) left.1)
+        (listed.0, λ gs wide same more. filed-marked r new _ _ _ _ _ _ _ h _ gs wide is (listed-same (map.insert r.marks f (marking epoch at bare)) _ epoch (grey ++ f ∷ []) most listed.1 gs wide refl same more) more (white - 1) left.1)

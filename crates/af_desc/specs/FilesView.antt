@@ -146,8 +146,8 @@ AreWhite marks epoch bound next n = (bound ≤ next)
     × (white_count (record { colors = colors_in epoch marks; bound = bound }) ≤ n)
 
 -- The rows fit all else: numbers begin at 1 and rise, the names are those of the files, the lists
--- have just the files that wait and those that are grey, with room for all, and the embryos, and
--- the files that a pass has still to mark, are counted.
+-- have just the files that wait and those that are grey, with room for all, and for as many as the
+-- rows say, and the embryos, and the files that a pass has still to mark, are counted.
 pub record FilesInvariant (rows : RowsView) (waiting : List ℕ) (room : ℕ) (names : Named)
     (next epoch : ℕ) (grey : List ℕ) (most embryos bound white : ℕ) : Type 0 where
   pub last : rows.last + 1 ≡ next
@@ -158,3 +158,4 @@ pub record FilesInvariant (rows : RowsView) (waiting : List ℕ) (room : ℕ) (n
   pub listed : AreListed rows.marks epoch grey most
   pub backlogged : AreEmbryos rows.counts embryos
   pub whites : AreWhite rows.marks epoch bound next white
+  pub space : (rows.space ≤ room) × (rows.space ≤ most)

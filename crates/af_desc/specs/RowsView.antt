@@ -20,8 +20,8 @@ use Rattle.af_queue.specs.declared.chain.Node.{Node}
 use Rattle.af_desc.specs.declared.row.Row.{Row}
 
 -- The files, how many places hold each, the mark of each, what there was when the lists were
--- emptied last, the last number that there was, for how many more there is room, and whether there
--- is room for a message more.
+-- emptied last, the last number that there was, for how many more there is room, for how many in
+-- all each list of files has room, and whether there is room for a message more.
 pub record RowsView : Type 0 where
   pub files : Map File
   pub counts : Map Count
@@ -29,6 +29,7 @@ pub record RowsView : Type 0 where
   pub since : Since
   pub last : ℕ
   pub room : ℕ
+  pub space : ℕ
   pub message_room : Bool
 
 -- A row more, of this file, which this place holds and no pass has marked; there is so much room
@@ -43,12 +44,13 @@ with_row f x p room r = record r {
 }
 
 -- A row less.
-abbrev pub without_row : ℕ → ℕ → RowsView → RowsView
-without_row f room r = record r {
+abbrev pub without_row : ℕ → ℕ → ℕ → RowsView → RowsView
+without_row f room space r = record r {
   files = map.remove r.files f;
   counts = map.remove r.counts f;
   marks = map.remove r.marks f;
   room = room;
+  space = space;
 }
 
 -- The file f is changed so, if it is a socket.

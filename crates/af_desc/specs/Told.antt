@@ -1,6 +1,6 @@
 -- The lists of the files that were freed and of the sockets whose readiness may have changed,
 -- beside the rows. Definitions that name no manual page are this project's own.
-use Rattle.std.specs.Prelude.{◌≡◌, ◌≤◌, ◌<◌, ◌+◌, ◌-◌, ℕ, Bool, true, false, List, Some, IsTrue, length, min, if◌then◌else◌}
+use Rattle.std.specs.Prelude.{◌≡◌, ◌≤◌, ◌<◌, ◌+◌, ℕ, Bool, true, false, List, Some, IsTrue, length}
 use Rattle.std.specs.FinMap as map
 use Rattle.af_base.specs.Counts.{ListsExactly}
 use Rattle.af_base.specs.Ready.{face_in}
@@ -21,12 +21,6 @@ since_of changed released lines = record {
 abbrev pub AreListed : Map Bool → List ℕ → Type 0
 AreListed noted fs = ListsExactly (λ b. b) noted fs
 
--- For how many files more there is room: in the lists too, where they are kept.
-abbrev pub room_in : Since → ℕ → ℕ → ℕ → ℕ → ℕ → ℕ
-room_in since room noted many freed all = min room
-    (min (if since.changed then noted - many else room)
-    (if since.released then freed - all else room))
-
 -- The list has just the noted files; where it is kept it has room for all, and a socket that is not
 -- noted has the face that it had.
 pub record AreNoted (lines : LinesView) (fs : List ℕ) (space : ℕ) (since : Since) : Type 0 where
@@ -43,11 +37,17 @@ pub record AreAccounted (lines : LinesView) (gone : List ℕ) (space : ℕ) (sin
   pub each : since.released ≡ true → AreReleased lines.counts (lines.last + 1) since gone
   pub fits : since.released ≡ true → length gone + map.len lines.counts ≤ space
 
+-- The lists that are kept have room for so many live files in all.
+pub record HaveSpace (all space : ℕ) (gone : List ℕ) (wide : ℕ) (since : Since) : Type 0 where
+  pub changed : since.changed ≡ true → all ≤ space
+  pub released : since.released ≡ true → length gone + all ≤ wide
+
 -- Both lists are right.
-pub record AreTold (lines : LinesView) (fs : List ℕ) (space : ℕ) (gone : List ℕ) (wide : ℕ)
+pub record AreTold (lines : LinesView) (fs : List ℕ) (space : ℕ) (gone : List ℕ) (wide all : ℕ)
     (since : Since) : Type 0 where
   pub noted : AreNoted lines fs space since
   pub accounted : AreAccounted lines gone wide since
+  pub roomy : HaveSpace all space gone wide since
 
 -- The file f becomes noted if it is a socket and readiness is reported; nothing else changes, and
 -- noted files stay noted.

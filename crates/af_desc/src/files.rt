@@ -485,8 +485,8 @@ impl Files {
     }
 }
 
-/// Reserves room for this many further files, and for all files to be unreferenced, and to be grey,
-/// at once. Nothing else changes, also on an error.
+/// Reserves room for this many further files, and for all files in each list of files at once. Nothing
+/// else changes, also on an error.
 #[inline(always)]
 fn reserve(
     rows: &mut Rows,
@@ -494,19 +494,27 @@ fn reserve(
     grey: &mut Vec<FileRef>,
     files: usize,
 ) -> Result<(), AllocError>
-    ensures rows { rows.new ≡ record rows.old { room = rows.new.room } }
+    requires waiting { rows.old.space ≤ vec_capacity waiting.old }
+    requires grey { rows.old.space ≤ vec_capacity grey.old }
+    ensures rows { rows.new ≡ record rows.old { room = rows.new.room; space = rows.new.space } }
     ensures waiting { waiting.new.items ≡ waiting.old.items }
     ensures grey { grey.new.items ≡ grey.old.items }
     ensures room { OnOk result (files ≤ rows.new.room) }
-    ensures fits { OnOk result (map.len rows.old.counts + files ≤ vec_capacity waiting.new) }
-    ensures marks { OnOk result (map.len rows.old.marks + files ≤ vec_capacity grey.new) }
+    ensures counts { OnOk result (map.len rows.old.counts + files ≤ rows.new.space) }
+    ensures marks { OnOk result (map.len rows.old.marks + files ≤ rows.new.space) }
+    ensures fits { rows.new.space ≤ vec_capacity waiting.new }
+    ensures grey_fits { rows.new.space ≤ vec_capacity grey.new }
     ensures capacity { vec_capacity waiting.old ≤ vec_capacity waiting.new }
     ensures greys { vec_capacity grey.old ≤ vec_capacity grey.new }
 {
     rows.reserve(files)?;
     let all = rows.len().saturating_add(files);
+    if all <= rows.space() {
+        return Ok(());
+    }
     widen(waiting, all)?;
-    widen(grey, all)
+    widen(grey, all)?;
+    rows.widen_lists(all, waiting.capacity().min(grey.capacity()))
 }
 
 /// Reserves room for this many files in a list. Nothing else changes, also on an error.

@@ -494,6 +494,7 @@ impl Lines {
             ≡ map.contains_key self.now.files f }
         ensures noted { (f : ℕ) → map.contains_key self.now.noted f
             ≡ map.contains_key self.now.files f }
+        ensures len { map.len self.now.noted ≡ map.len self.now.counts }
     {
         // The view says it: it is enough to look at a field.
         let _rows = &self.rows;

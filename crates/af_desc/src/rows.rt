@@ -36,6 +36,8 @@ use std::snapshot::Snapshot;
 #[derive(Drop)]
 pub struct Rows {
     lines: Lines,
+    /// For how many files in all each list of files has room: these two, and those of `Files`.
+    space: usize,
     /// Whether the list of changed sockets is kept.
     tells_changed: bool,
     /// The files that are noted.
@@ -51,8 +53,8 @@ pub struct Rows {
 impl Model for Rows {
     ghost use Rattle.std.specs.FinMap as map;
     ghost use Rattle.std.specs.Coded.{codes};
-    ghost use Rattle.std.specs.Prelude.{◌+◌, length, vec_capacity};
-    ghost use Rattle.af_desc.specs.Told.{AreTold, room_in, since_of};
+    ghost use Rattle.std.specs.Prelude.{◌+◌, vec_capacity};
+    ghost use Rattle.af_desc.specs.Told.{AreTold, since_of};
     ghost use Rattle.af_desc.specs.RowsView.{RowsView};
 
     ghost Value = { RowsView };
@@ -65,14 +67,13 @@ impl Model for Rows {
       marks = a.lines.marks;
       since = since_of a.tells_changed a.tells_released a.since.value;
       last = a.lines.last;
-      room = room_in (since_of a.tells_changed a.tells_released a.since.value) a.lines.room
-          (vec_capacity a.changed) (map.len a.lines.noted) (vec_capacity a.released)
-          (length a.released.items + map.len a.lines.counts);
+      room = a.lines.room;
+      space = a.space;
       message_room = a.lines.message_room;
     } };
 
     ghost invariant = { λ a. AreTold a.lines a.changed.items
-        (vec_capacity a.changed) a.released.items (vec_capacity a.released)
+        (vec_capacity a.changed) a.released.items (vec_capacity a.released) a.space
         (since_of a.tells_changed a.tells_released a.since.value) };
 }
 
@@ -84,11 +85,13 @@ impl Rows {
         ensures marks { result.marks ≡ map.empty }
         ensures since { result.since ≡ untold }
         ensures last { result.last ≡ 0 }
+        ensures space { result.space ≡ 0 }
     {
         let lines = Lines::new(alloc);
         let since = Snapshot::of(&lines);
         Rows {
             lines,
+            space: 0,
             tells_changed: false,
             changed: Vec::new(alloc),
             tells_released: false,
@@ -107,8 +110,15 @@ impl Rows {
         self.lines.len()
     }
 
-    /// Reserves room for this many rows more: then `push` needs no memory for them, and no other
-    /// call ever does. Nothing else changes, also on an error.
+    /// Returns for how many files in all each list of files has room.
+    #[inline(always)]
+    pub fn space(&self) -> usize
+        ensures { result ≡ self.now.space }
+    {
+        self.space
+    }
+
+    /// Reserves room for this many rows more. Nothing else changes, also on an error.
     #[inline(always)]
     pub fn reserve(&mut self, rows: usize) -> Result<(), AllocError>
         ensures same { self.new ≡ record self.old { room = self.new.room } }
@@ -116,24 +126,39 @@ impl Rows {
         ensures room { self.old.room ≤ self.new.room }
         ensures succeeds { rows ≤ self.old.room → IsOk result }
     {
-        self.lines.reserve(rows)?;
+        self.lines.reserve(rows)
+    }
+
+    /// Reserves room for this many files in all in both lists, so far as they are kept. The other
+    /// lists of files have room for `most`. Nothing else changes, also on an error.
+    #[inline(always)]
+    pub fn widen_lists(&mut self, all: usize, most: usize) -> Result<(), AllocError>
+        requires { all ≤ most }
+        ensures same { self.new ≡ record self.old { space = self.new.space } }
+        ensures ok { OnOk result (all ≤ self.new.space) }
+        ensures most { OnOk result (self.new.space ≤ most) }
+        ensures err { OnErr result (self.new.space ≡ self.old.space) }
+    {
+        let mut space = most;
         if self.tells_changed {
-            let all = self.lines.len().saturating_add(rows);
             widen(&mut self.changed, all)?;
+            space = space.min(self.changed.capacity());
         }
         if self.tells_released {
-            let all = self.lines.len().saturating_add(rows);
-            let all = all.saturating_add(self.released.len());
-            widen(&mut self.released, all)?;
+            let freed = self.released.len();
+            widen(&mut self.released, all.saturating_add(freed))?;
+            space = space.min(self.released.capacity() - freed);
         }
+        self.space = space;
         Ok(())
     }
 
     /// Adds a file, under the number after the last, with an empty queue, unmarked, and with this
-    /// place as its first reference. There is room for it.
+    /// place as its first reference. There is room for it, also in the lists.
     #[inline(always)]
     pub fn push(&mut self, ino: Ino, endpoint: Option<Endpoint>, place: &Place) -> FileRef
         requires room { 0 < self.old.room }
+        requires space { map.len self.old.counts < self.old.space }
         requires next { ino ≡ self.old.last + 1 }
         ensures file { result ≡ ino }
         ensures pushed { self.new
@@ -143,9 +168,11 @@ impl Rows {
         ensures unmarked { map.contains_key self.old.marks ino ≡ false }
         ensures room { self.old.room ≤ self.new.room + 1 }
     {
+        self.lines.lemma_are_one();
+        let is_socket = endpoint.is_some();
         let file = self.lines.push(ino, endpoint, place);
         note(
-            self.tells_changed,
+            self.tells_changed && is_socket,
             &mut self.lines,
             &mut self.changed,
             &file,
@@ -160,10 +187,17 @@ impl Rows {
         requires silent { queue_in self.old.files file.now ≡ [] }
         ensures socket { result.0 ≡ socket_in self.old.files file.now }
         ensures white { result.1 ≡ is_white_in epoch self.old.marks file.now }
-        ensures removed { self.new ≡ without_row file.now self.new.room self.old }
+        ensures removed { self.new ≡ without_row file.now self.new.room self.new.space self.old }
         ensures room { self.old.room ≤ self.new.room }
+        ensures space { self.new.space ≤ self.old.space }
     {
-        tell_released(self.tells_released, &self.lines, &mut self.released, file);
+        tell_released(
+            self.tells_released,
+            &self.lines,
+            &mut self.released,
+            &mut self.space,
+            file,
+        );
         remove_listed(&mut self.lines, &mut self.changed, file);
         self.lines.remove(file, epoch)
     }
@@ -409,7 +443,7 @@ impl Rows {
     }
 
     /// Tells from now on which files are freed. Both lists are empty then. On an error nothing has
-    /// changed, but for room.
+    /// changed.
     pub fn tell_released(&mut self) -> Result<(), AllocError>
         ensures ok { OnOk result (self.new ≡ record self.old {
           since = record {
@@ -418,9 +452,10 @@ impl Rows {
             files = self.old.files;
             next = self.old.last + 1;
           };
-          room = self.new.room;
+          space = self.new.space;
         }) }
-        ensures err { OnErr result (self.new ≡ record self.old { room = self.new.room }) }
+        ensures space { self.new.space ≤ self.old.space }
+        ensures err { OnErr result (self.new ≡ self.old) }
     {
         widen(&mut self.released, self.lines.len())?;
         self.lines.lemma_are_one();
@@ -428,11 +463,12 @@ impl Rows {
         self.released.clear();
         self.since = Snapshot::of(&self.lines);
         self.tells_released = true;
+        self.space = self.space.min(self.released.capacity());
         Ok(())
     }
 
     /// Tells from now on whose readiness may have changed. Both lists are empty then. On an error
-    /// nothing has changed, but for room.
+    /// nothing has changed.
     pub fn tell_changed(&mut self) -> Result<(), AllocError>
         ensures ok { OnOk result (self.new ≡ record self.old {
           since = record {
@@ -441,9 +477,10 @@ impl Rows {
             files = self.old.files;
             next = self.old.last + 1;
           };
-          room = self.new.room;
+          space = self.new.space;
         }) }
-        ensures err { OnErr result (self.new ≡ record self.old { room = self.new.room }) }
+        ensures space { self.new.space ≤ self.old.space }
+        ensures err { OnErr result (self.new ≡ self.old) }
     {
         widen(&mut self.changed, self.lines.len())?;
         self.lines.lemma_are_one();
@@ -451,6 +488,7 @@ impl Rows {
         self.released.clear();
         self.since = Snapshot::of(&self.lines);
         self.tells_changed = true;
+        self.space = self.space.min(self.changed.capacity());
         Ok(())
     }
 
@@ -478,7 +516,6 @@ impl Rows {
     pub fn clear_told(&mut self)
         ensures { self.new ≡ record self.old {
           since = record self.old.since { files = self.old.files; next = self.old.last + 1 };
-          room = self.new.room;
         } }
     {
         self.lines.lemma_are_one();
@@ -494,7 +531,6 @@ fn widen<T>(list: &mut Vec<T>, files: usize) -> Result<(), AllocError>
     ensures items { list.new.items ≡ list.old.items }
     ensures ok { OnOk result (files ≤ vec_capacity list.new) }
     ensures capacity { vec_capacity list.old ≤ vec_capacity list.new }
-    ensures ready { files ≤ vec_capacity list.old → IsOk result }
 {
     if files <= list.capacity() {
         return Ok(());
@@ -526,11 +562,19 @@ fn note(asked: bool, lines: &mut Lines, changed: &mut Vec<FileRef>, file: &FileR
 }
 
 /// Adds a file that is freed to the list of freed ones, if that list is kept; it has room. Ignores
-/// an unknown file. Takes no memory.
+/// an unknown file. There is room then for fewer live files. Takes no memory.
 #[inline(always)]
-fn tell_released(asked: bool, lines: &Lines, released: &mut Vec<Ino>, file: &FileRef)
+fn tell_released(
+    asked: bool,
+    lines: &Lines,
+    released: &mut Vec<Ino>,
+    space: &mut usize,
+    file: &FileRef,
+)
     requires fits { asked ≡ true
         → length released.old.items + map.len lines.now.counts ≤ vec_capacity released.old }
+    requires space { asked ≡ true
+        → length released.old.items + space.old ≤ vec_capacity released.old }
     ensures goes { asked ≡ true → (f : ℕ) → count_in f released.new.items
         + cond (map.contains_key (map.remove lines.now.counts file.now) f) 1 0
         ≡ count_in f released.old.items + cond (map.contains_key lines.now.counts f) 1 0 }
@@ -539,10 +583,17 @@ fn tell_released(asked: bool, lines: &Lines, released: &mut Vec<Ino>, file: &Fil
         ≡ length released.old.items + map.len lines.now.counts }
     ensures still { asked ≡ false → released.new.items ≡ released.old.items }
     ensures capacity { vec_capacity released.new ≡ vec_capacity released.old }
+    ensures space { asked ≡ true → length released.new.items + space.new ≤ vec_capacity released.new }
+    ensures less { space.new ≤ space.old }
 {
-    if asked && lines.count(file).is_some() {
-        released.push_reserved(file.ino());
+    if !asked {
+        return;
     }
+    if lines.count(file).is_none() {
+        return;
+    }
+    released.push_reserved(file.ino());
+    *space = (*space).min(released.capacity() - released.len());
 }
 
 /// Removes a freed file from the list of noted ones.

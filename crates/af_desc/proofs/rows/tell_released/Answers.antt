@@ -11,28 +11,28 @@ push_reserved-requires c =
     let some = lived c.args.lines.now.counts c.args.file.now there in
     omega (arith, fits, some, c.args.released.now.ok.0)
 
-pub returns-then-is_some-clause-goes : goal.returns-then-is_some-clause-goes
-returns-then-is_some-clause-goes c = λ asked.
+pub returns-clause-goes : goal.returns-clause-goes
+returns-clause-goes c = λ asked.
     let k = c.args.file.now in
     let there : map.contains_key c.args.lines.now.counts k ≡ true = search rules in
     let items : c.push_reserved.new.self.items ≡ c.args.released.now.items ++ k ∷ [] = search rules in
     freed-listed c.args.lines.now.counts k c.args.released.now.items c.push_reserved.new.self.items items there
 
-pub returns-then-is_some-clause-len : goal.returns-then-is_some-clause-len
-returns-then-is_some-clause-len c = λ asked.
+pub returns-clause-len : goal.returns-clause-len
+returns-clause-len c = λ asked.
     let k = c.args.file.now in
     let there : map.contains_key c.args.lines.now.counts k ≡ true = search rules in
     let items : c.push_reserved.new.self.items ≡ c.args.released.now.items ++ k ∷ [] = search rules in
     freed-len c.args.lines.now.counts k c.args.released.now.items c.push_reserved.new.self.items items there
 
-pub returns-else-asked-clause-goes : goal.returns-else-asked-clause-goes
-returns-else-asked-clause-goes c = λ asked.
+pub returns-then-is_none-clause-goes : goal.returns-then-is_none-clause-goes
+returns-then-is_none-clause-goes c = λ asked.
     let k = c.args.file.now in
     let none : map.contains_key c.args.lines.now.counts k ≡ false = search rules in
     freed-absent c.args.lines.now.counts k c.args.released.now.items c.args.released.now.items refl none
 
-pub returns-else-asked-clause-len : goal.returns-else-asked-clause-len
-returns-else-asked-clause-len c = λ asked.
+pub returns-then-is_none-clause-len : goal.returns-then-is_none-clause-len
+returns-then-is_none-clause-len c = λ asked.
     let k = c.args.file.now in
     let none : map.contains_key c.args.lines.now.counts k ≡ false = search rules in
     absent-len c.args.lines.now.counts k c.args.released.now.items c.args.released.now.items refl none

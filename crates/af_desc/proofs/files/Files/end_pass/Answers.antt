@@ -1,4 +1,4 @@
-use Rattle.std.proofs.Common.{rules, sym, ap, ◌∙◌}
+use Rattle.std.proofs.Common.{rules, sym, ap, ◌∙◌, arith}
 use Rattle.std.specs.Prelude.{vec_capacity}
 use Rattle.std.specs.FinMap as map
 use Rattle.af_mark.proofs.Colors.{color_known}
@@ -15,4 +15,4 @@ pub invariant_of-self : goal.invariant_of-self
 invariant_of-self c =
     let a = c.self.inside in
     let n = c.next_epoch-self-inside in
-    filed-renewed a.rows n.new.rows _ _ _ _ _ _ _ c.self.invariant n.new.rows.marks n.result 0 c.clear.new.self.items (vec_capacity c.clear.new.self) n.ensures.rest (search rules) 0 (white-none n.new.rows.marks n.result a.next)
+    filed-renewed a.rows n.new.rows _ _ _ _ _ _ _ c.self.invariant n.new.rows.marks n.result 0 c.clear.new.self.items (vec_capacity c.clear.new.self) n.ensures.rest (search rules) (omega (arith, c.clear.ensures.capacity)) 0 (white-none n.new.rows.marks n.result a.next)

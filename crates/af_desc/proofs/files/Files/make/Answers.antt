@@ -10,22 +10,22 @@ pub push-file-requires : goal.push-file-requires
 push-file-requires c =
     let low = c.self.invariant.last in
     let room = c.in_ok-reserve.ensures.room in
-    record { room = omega (arith, room); next = omega (arith, low, ap (λ r. r.last) c.reserve.ensures.rows) }
+    record { room = omega (arith, room); space = omega (arith, c.in_ok-reserve.ensures.counts, ap (λ r. map.len r.counts) c.reserve.ensures.rows); next = omega (arith, low, ap (λ r. r.last) c.reserve.ensures.rows) }
 
 pub invariant_of-self : goal.invariant_of-self
 invariant_of-self c =
     let more = c.reserve.ensures in
-    filed-reserved c.self.inside.rows c.reserve.new.rows _ _ _ _ _ _ _ c.self.invariant _ (vec_capacity c.reserve.new.waiting) _ (vec_capacity c.reserve.new.grey) more.rows more.waiting more.capacity more.grey more.greys
+    filed-reserved c.self.inside.rows c.reserve.new.rows _ _ _ _ _ _ _ c.self.invariant _ (vec_capacity c.reserve.new.waiting) _ (vec_capacity c.reserve.new.grey) more.rows more.waiting more.capacity more.grey more.greys more.fits more.grey_fits
 
 pub invariant_of-self-2 : goal.invariant_of-self-2
 invariant_of-self-2 c =
     let more = c.reserve.ensures in
-    let reserved = filed-reserved c.self.inside.rows c.reserve.new.rows _ _ _ _ _ _ _ c.self.invariant _ (vec_capacity c.reserve.new.waiting) _ (vec_capacity c.reserve.new.grey) more.rows more.waiting more.capacity more.grey more.greys in
+    let reserved = filed-reserved c.self.inside.rows c.reserve.new.rows _ _ _ _ _ _ _ c.self.invariant _ (vec_capacity c.reserve.new.waiting) _ (vec_capacity c.reserve.new.grey) more.rows more.waiting more.capacity more.grey more.greys more.fits more.grey_fits in
     let p = c.push-file.ensures in
-    let fits = c.in_ok-reserve.ensures.fits in
+    let all = c.in_ok-reserve.ensures.counts in
     let marks = c.in_ok-reserve.ensures.marks in
     filed-entered c.reserve.new.rows c.push-file.new.self _ _ _ _ _ _ _ reserved (file_of c.args.endpoint) c.args.place.now p.pushed p.new p.uncounted p.unmarked c.requires.nameless
-    (omega (arith, fits, ap (λ r. map.len r.counts) more.rows)) (omega (arith, marks, ap (λ r. map.len r.marks) more.rows)) _ c.with_embryo-self-inside.ensures
+    (omega (arith, all, more.fits, ap (λ r. map.len r.counts) more.rows)) (omega (arith, marks, more.grey_fits, ap (λ r. map.len r.marks) more.rows)) _ c.with_embryo-self-inside.ensures
 
 pub returns-clause-ok : goal.returns-clause-ok
 returns-clause-ok c =

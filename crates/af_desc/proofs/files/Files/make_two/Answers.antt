@@ -15,38 +15,38 @@ pub push-first-requires : goal.push-first-requires
 push-first-requires c =
     let low = c.self.invariant.last in
     let room = c.in_ok-reserve.ensures.room in
-    record { room = omega (arith, room); next = omega (arith, low, ap (λ r. r.last) c.reserve.ensures.rows) }
+    record { room = omega (arith, room); space = omega (arith, c.in_ok-reserve.ensures.counts, ap (λ r. map.len r.counts) c.reserve.ensures.rows); next = omega (arith, low, ap (λ r. r.last) c.reserve.ensures.rows) }
 
 pub push-second-requires : goal.push-second-requires
 push-second-requires c =
     let room = c.in_ok-reserve.ensures.room in
-    record { room = omega (arith, room, c.push-first.ensures.room); next = omega (arith, ap (λ r. r.last) c.push-first.ensures.pushed) }
+    record { room = omega (arith, room, c.push-first.ensures.room); space = omega (arith, c.in_ok-reserve.ensures.counts, ap (λ r. map.len r.counts) c.reserve.ensures.rows, ap (λ r. map.len r.counts) c.push-first.ensures.pushed, ap (λ r. r.space) c.push-first.ensures.pushed, len-insert_most c.reserve.new.rows.counts c.self.inside.next (more c.args.place.now uncounted)); next = omega (arith, ap (λ r. r.last) c.push-first.ensures.pushed) }
 
 pub invariant_of-self : goal.invariant_of-self
 invariant_of-self c =
     let more = c.reserve.ensures in
-    filed-reserved c.self.inside.rows c.reserve.new.rows _ _ _ _ _ _ _ c.self.invariant _ (vec_capacity c.reserve.new.waiting) _ (vec_capacity c.reserve.new.grey) more.rows more.waiting more.capacity more.grey more.greys
+    filed-reserved c.self.inside.rows c.reserve.new.rows _ _ _ _ _ _ _ c.self.invariant _ (vec_capacity c.reserve.new.waiting) _ (vec_capacity c.reserve.new.grey) more.rows more.waiting more.capacity more.grey more.greys more.fits more.grey_fits
 
 pub invariant_of-self-2 : goal.invariant_of-self-2
 invariant_of-self-2 c =
     let a = c.self.inside in
     let roomy = c.reserve.ensures in
     let p = c.args.place.now in
-    let reserved = filed-reserved a.rows c.reserve.new.rows _ _ _ _ _ _ _ c.self.invariant _ (vec_capacity c.reserve.new.waiting) _ (vec_capacity c.reserve.new.grey) roomy.rows roomy.waiting roomy.capacity roomy.grey roomy.greys in
+    let reserved = filed-reserved a.rows c.reserve.new.rows _ _ _ _ _ _ _ c.self.invariant _ (vec_capacity c.reserve.new.waiting) _ (vec_capacity c.reserve.new.grey) roomy.rows roomy.waiting roomy.capacity roomy.grey roomy.greys roomy.fits roomy.grey_fits in
     let first = c.push-first in
     let second = c.push-second in
-    let fits = c.in_ok-reserve.ensures.fits in
+    let fits = c.in_ok-reserve.ensures.counts in
     let counts = ap (λ r. map.len r.counts) roomy.rows in
     let greys = c.in_ok-reserve.ensures.marks in
     let marks = ap (λ r. map.len r.marks) roomy.rows in
     let one = filed-entered c.reserve.new.rows first.new.self _ _ _ _ _ _ _ reserved (AsSocket c.connected-endpoint.result) p first.ensures.pushed first.ensures.new first.ensures.uncounted first.ensures.unmarked (ap (λ s. s.name) c.connected-endpoint.ensures)
-    (omega (arith, fits, counts)) (omega (arith, greys, marks)) _ c.with_embryo-self-inside.ensures in
+    (omega (arith, fits, roomy.fits, counts)) (omega (arith, greys, roomy.grey_fits, marks)) _ c.with_embryo-self-inside.ensures in
     let two = filed-entered first.new.self second.new.self _ _ _ _ _ _ _ one (AsSocket c.connected-endpoint-2.result) p second.ensures.pushed second.ensures.new second.ensures.uncounted second.ensures.unmarked (ap (λ s. s.name) c.connected-endpoint-2.ensures)
-    (omega (arith, fits, counts, ap (λ r. map.len r.counts) first.ensures.pushed, len-insert_most c.reserve.new.rows.counts a.next (more p uncounted)))
-    (omega (arith, greys, marks, ap (λ r. map.len r.marks) first.ensures.pushed, len-insert_most c.reserve.new.rows.marks a.next unmarked)) _ c.with_embryo-self-inside-2.ensures in
+    (omega (arith, fits, roomy.fits, counts, ap (λ r. map.len r.counts) first.ensures.pushed, len-insert_most c.reserve.new.rows.counts a.next (more p uncounted)))
+    (omega (arith, greys, roomy.grey_fits, marks, ap (λ r. map.len r.marks) first.ensures.pushed, len-insert_most c.reserve.new.rows.marks a.next unmarked)) _ c.with_embryo-self-inside-2.ensures in
     let all = filed-named second.new.self c.point.new.self _ _ _ _ _ _ _ two second.new.self.files a.names c.point.ensures two.begins two.named in
     let low = all.last in
-    record { last = omega (arith, low); begins = all.begins; named = all.named; waits = all.waits; fits = all.fits; listed = all.listed; backlogged = all.backlogged; whites = (let bound = all.whites.0 in omega (arith, bound), all.whites.1) }
+    record { last = omega (arith, low); begins = all.begins; named = all.named; waits = all.waits; fits = all.fits; listed = all.listed; backlogged = all.backlogged; whites = (let bound = all.whites.0 in omega (arith, bound), all.whites.1); space = all.space }
 
 pub returns-clause-ok : goal.returns-clause-ok
 returns-clause-ok c =

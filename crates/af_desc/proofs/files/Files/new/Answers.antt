@@ -34,6 +34,7 @@ invariant_of-result c =
       );
       backlogged = embryos-empty c.new.result.counts 0 uncounted;
       whites = white-none m 0 1;
+      space = (omega (arith, c.new.ensures.space), omega (arith, c.new.ensures.space));
     }
 
 pub returns-clause-marks : goal.returns-clause-marks

@@ -32,7 +32,7 @@ invariant_of-self c =
     let listed = listed-grey a.rows.marks c.set_mark.new.self.marks a.epoch a.grey.items (vec_capacity a.grey) c.self.invariant.listed f (record { epoch = a.epoch; color = Grey; at = c.noted.result }) (ap (λ r. r.marks) c.set_mark.ensures.set) refl c.set_mark.ensures.len refl white in
     let items : c.push_reserved.new.self.items ≡ a.grey.items ++ f ∷ [] = search rules in
     let same = listed-same c.set_mark.new.self.marks _ a.epoch (a.grey.items ++ f ∷ []) (vec_capacity a.grey) listed.1 _ (vec_capacity c.push_reserved.new.self) (sym (ap (λ r. r.marks) c.set_mark.ensures.set)) items (omega (arith, c.push_reserved.ensures.capacity)) in
-    filed-marked a.rows _ _ _ _ _ _ _ _ c.self.invariant _ _ _ c.set_mark.ensures.set same (a.white - 1)
+    filed-marked a.rows _ _ _ _ _ _ _ _ c.self.invariant _ _ _ c.set_mark.ensures.set same (omega (arith, c.push_reserved.ensures.capacity)) (a.white - 1)
     (white-shaded a.rows.marks _ a.epoch a.bound a.next a.white c.self.invariant.whites f (record { epoch = a.epoch; color = Grey; at = c.noted.result }) refl (color_now a.epoch (record { epoch = a.epoch; color = Grey; at = c.noted.result }) refl)
     (ap (λ v. is_white v.marks f) c.self.view_is ∙ c.requires.white) (subst (λ (v : FilesView). f < v.marks.bound) (sym c.self.view_is) c.requires.within)).1
 

@@ -18,7 +18,7 @@ invariant_of-self c =
     let k = c.args.file.now in
     let left = white-gone a.rows.marks a.rows.marks a.epoch a.bound a.next a.white c.self.invariant.whites k _ _ _ (c.unmarked.view_is ∙ c.ino.ensures) c.remove-endpoint.ensures.white c.from.ensures in
     let off : (f : ℕ) → count_in f c.swap_remove_file.new.files.items ≡ count_in f a.waiting.items - one f k = search rules in
-    filed-removed a.rows c.remove-endpoint.new.self _ _ _ _ _ _ _ c.self.invariant k c.free_name.new.names c.swap_remove_file.new.files.items (vec_capacity c.swap_remove_file.new.files) c.remove-endpoint.ensures.removed
+    filed-removed a.rows c.remove-endpoint.new.self _ _ _ _ _ _ _ c.self.invariant k c.free_name.new.names c.swap_remove_file.new.files.items (vec_capacity c.swap_remove_file.new.files) c.remove-endpoint.ensures.removed c.remove-endpoint.ensures.space
     (c.free_name.ensures a.rows.files k c.self.invariant.named c.remove-endpoint.ensures.socket) off (omega (arith, c.swap_remove_file.ensures.capacity)) (ap (λ v. is_grey v.marks k) c.self.view_is ∙ c.requires.white) (a.white - c.from.result) left.1
 
 pub returns-clause-unmarked : goal.returns-clause-unmarked
@@ -30,4 +30,4 @@ returns-clause-unmarked c =
 pub returns-clause-gone : goal.returns-clause-gone
 returns-clause-gone c =
     let a = c.self.inside in
-    ap (λ r. seen a.epoch a.bound r a.next) c.remove-endpoint.ensures.removed ∙ seen-without a.epoch a.bound a.rows a.next c.remove-endpoint.new.self.room c.args.file.now ∙ ap (without c.args.file.now) c.self.view_is
+    ap (λ r. seen a.epoch a.bound r a.next) c.remove-endpoint.ensures.removed ∙ seen-without a.epoch a.bound a.rows a.next c.remove-endpoint.new.self.room c.remove-endpoint.new.self.space c.args.file.now ∙ ap (without c.args.file.now) c.self.view_is

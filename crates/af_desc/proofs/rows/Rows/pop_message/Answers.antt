@@ -4,10 +4,10 @@ use Rattle.af_desc.proofs.Telling.{told-silent, told-after}
 use Rattle.af_desc.proofs.rows.Rows.pop_message.Goals as goal
 
 pub invariant_of-self : goal.invariant_of-self
-invariant_of-self c = told-silent c.self.inside.lines c.pop_message.new.self _ _ _ _ _ c.args.file.now _ c.self.invariant c.in_err-message.ensures.none c.pop_message.ensures.rest
+invariant_of-self c = told-silent c.self.inside.lines c.pop_message.new.self _ _ _ _ _ _ c.args.file.now _ c.self.invariant c.in_err-message.ensures.none c.pop_message.ensures.rest
 
 pub invariant_of-self-2 : goal.invariant_of-self-2
 invariant_of-self-2 c =
     let a = c.self.inside in
     let n = c.note.ensures in
-    told-after a.lines c.pop_message.new.self c.note.new.lines a.changed.items _ (vec_capacity a.changed) _ a.released.items (vec_capacity a.released) _ c.args.file.now popped _ c.self.invariant c.pop_message.ensures.rest n.notes n.listed n.capacity
+    told-after a.lines c.pop_message.new.self c.note.new.lines a.changed.items _ (vec_capacity a.changed) _ a.released.items (vec_capacity a.released) _ _ c.args.file.now popped _ c.self.invariant c.pop_message.ensures.rest n.notes n.listed n.capacity
