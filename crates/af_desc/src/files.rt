@@ -485,8 +485,8 @@ impl Files {
     }
 }
 
-/// Reserves room for this many further files, and for all files in each list of files at once. Nothing
-/// else changes, also on an error.
+/// Reserves room for this many further files, and for all files in each list of files at once.
+/// Nothing else changes, also on an error.
 #[inline(always)]
 fn reserve(
     rows: &mut Rows,

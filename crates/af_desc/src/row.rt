@@ -29,8 +29,8 @@ pub struct Row {
     pub count: Count,
     /// Its colour in a pass of the collector.
     pub mark: Mark,
-    /// Its position in the list of those whose readiness may have changed, counted from 1: a hint. It
-    /// is 0 where the file is not in that list.
+    /// Its position in the list of those whose readiness may have changed, counted from 1: a hint.
+    /// It is 0 where the file is not in that list.
     pub noted_at: u32,
 }
 

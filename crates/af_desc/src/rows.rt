@@ -583,7 +583,8 @@ fn tell_released(
         ≡ length released.old.items + map.len lines.now.counts }
     ensures still { asked ≡ false → released.new.items ≡ released.old.items }
     ensures capacity { vec_capacity released.new ≡ vec_capacity released.old }
-    ensures space { asked ≡ true → length released.new.items + space.new ≤ vec_capacity released.new }
+    ensures space { asked ≡ true
+        → length released.new.items + space.new ≤ vec_capacity released.new }
     ensures less { space.new ≤ space.old }
 {
     if !asked {

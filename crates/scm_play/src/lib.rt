@@ -2,8 +2,8 @@
 //! answer beside it, and of a line that cannot be read why.
 //!
 //! A caller wants [`play`], [`Style`] and [`PlayFault`]. Each line is read by `scm_lines` and done
-//! as in a run (`scm_run`). `own` has the lines that only this program has, `who` the answer to one,
-//! and `show` the layout.
+//! as in a run (`scm_run`). `own` has the lines that only this program has, `who` the answer to
+//! one, and `show` the layout.
 #![tactic(auto)]
 
 mod answers;
