@@ -61,13 +61,14 @@ static uint32_t lowest_free(const struct process *process, uint64_t from) {
 /* Gives a file to the caller: at a number, or where that is negative, at one that the kernel
  * chooses. A plain file that was never sent is copied from the caller's descriptor `from`. Returns
  * the number, or a negative errno. */
-static long give(const struct call *call, struct file *file, int from, long to, bool closes) {
-    if (file->host < 0 && file->kind != JW_PLAIN) reopen(file);
+static long give(const struct call *call, struct file *file, int from, long to,
+                 bool closes_on_exec) {
+    if (file->host < 0 && file->kind != JW_PLAIN) reopen_placeholder(file);
     int copy = file->host < 0 ? (int)syscall(SYS_pidfd_getfd, call->process->pidfd, from, 0) : -1;
     struct seccomp_notif_addfd descriptor = {
         .id = call->id, .srcfd = (uint32_t)(copy >= 0 ? copy : file->host),
         .flags = to >= 0 ? SECCOMP_ADDFD_FLAG_SETFD : 0, .newfd = to >= 0 ? (uint32_t)to : 0,
-        .newfd_flags = closes ? O_CLOEXEC : 0}; /* At an exec(2). */
+        .newfd_flags = closes_on_exec ? O_CLOEXEC : 0};
     long number = ioctl(notifications, SECCOMP_IOCTL_NOTIF_ADDFD, &descriptor);
     if (number < 0) number = -errno;
     if (copy >= 0) close(copy);
@@ -75,7 +76,7 @@ static long give(const struct call *call, struct file *file, int from, long to, 
 }
 
 /* Moves what the layer has opened at `fd` to another number. If that is an errno, closes it. */
-static void move(const struct process *process, uint32_t fd, long to) {
+static void move_fd(const struct process *process, uint32_t fd, long to) {
     if (to == fd) return;
     if (to >= 0) duplicate_at(process, fd, (uint32_t)to);
     close_fd(process, fd);
@@ -84,11 +85,11 @@ static void move(const struct process *process, uint32_t fd, long to) {
 /* Puts what the layer has opened at these numbers into the caller's table. The kernel chooses the
  * numbers, and chooses others if another thread opens or closes something beside this. Then the
  * layer follows. Returns how many there are, or a negative errno if there is none. */
-long install(struct call *call, uint32_t *fds, size_t count, bool closes) {
+long install(struct call *call, uint32_t *fds, size_t count, bool closes_on_exec) {
     const struct process *process = call->process;
     long numbers[JW_MAX_FD], highest = 0, installed = 0;
     for (size_t i = 0; i < count; i++) {
-        numbers[i] = give(call, file_of(process, fds[i]), -1, -1, closes);
+        numbers[i] = give(call, file_of(process, fds[i]), -1, -1, closes_on_exec);
         highest = numbers[i] > highest ? numbers[i] : highest;
         if (numbers[i] >= 0 && numbers[i] != fds[i]) counts.other_numbers += !process->has_threads;
     }
@@ -96,9 +97,9 @@ long install(struct call *call, uint32_t *fds, size_t count, bool closes) {
         for (size_t j = i + 1; numbers[i] != fds[i] && j < count; j++) {
             if (fds[j] != numbers[i]) continue; /* It leaves the place of this one. */
             fds[j] = lowest_free(process, (uint64_t)highest + 1);
-            move(process, (uint32_t)numbers[i], fds[j]);
+            move_fd(process, (uint32_t)numbers[i], fds[j]);
         }
-        move(process, fds[i], numbers[i]);
+        move_fd(process, fds[i], numbers[i]);
         if (numbers[i] >= 0) fds[installed++] = (uint32_t)numbers[i];
     }
     return installed > 0 || count == 0 ? installed : numbers[0];
@@ -116,21 +117,21 @@ long serve_close(struct call *call) {
 long serve_dup(struct call *call) {
     bool is_fcntl = call->number == SYS_fcntl, is_dup3 = call->number == SYS_dup3;
     bool is_fixed = is_dup3 || call->number == SYS_dup2;
-    bool closes = is_fcntl ? call->args[1] == F_DUPFD_CLOEXEC
-                           : is_dup3 && (call->args[2] & O_CLOEXEC);
+    bool closes_on_exec = is_fcntl ? call->args[1] == F_DUPFD_CLOEXEC
+                                   : is_dup3 && (call->args[2] & O_CLOEXEC);
     uint64_t from = is_fcntl ? call->args[2] : 0, to = call->args[1];
-    if (is_fcntl && !closes && call->args[1] != F_DUPFD) return KERNEL_DOES_IT;
+    if (is_fcntl && !closes_on_exec && call->args[1] != F_DUPFD) return KERNEL_DOES_IT;
     sync_table(call->process);
     struct file *file = file_of(call->process, call->fd);
     if (file == NULL || (is_fixed && (call->fd == to || to >= JW_MAX_NOFILE)))
         return KERNEL_DOES_IT;
-    for (long number = -EBUSY; number == -EBUSY; from = to + 1) { /* accept(2) reserves one. */
+    for (long number = -EBUSY; number == -EBUSY; from = to + 1) { /* An accept(2) has that one. */
         bool has_choice = !is_fixed && lowest_free(call->process, 0) >= from;
         if (!is_fixed) to = lowest_free(call->process, from);
         if (duplicate_at(call->process, call->fd, (uint32_t)to) < 0) break;
-        number = give(call, file, (int)call->fd, has_choice ? -1 : (long)to, closes);
+        number = give(call, file, (int)call->fd, has_choice ? -1 : (long)to, closes_on_exec);
         if (number == -EBADF) return KERNEL_DOES_IT; /* What O_PATH opened cannot be given. */
-        move(call->process, (uint32_t)to, number);
+        move_fd(call->process, (uint32_t)to, number);
         if (number != -EBUSY || is_fixed) return number;
     }
     return KERNEL_DOES_IT;

@@ -101,10 +101,10 @@ void conclude(void) {
     static uint8_t picture[MOST_PICTURE];
     uint64_t live = 0;
     size_t length = (size_t)jw_graph(&engine, picture, sizeof picture);
-    umask(options.mask);
-    FILE *file = options.graph != NULL ? fopen(options.graph, "w") : NULL;
-    if (file != NULL) fwrite(picture, 1, length < MOST_PICTURE ? length : MOST_PICTURE, file);
-    if (options.graph != NULL && (file == NULL || fclose(file) != 0)) perror(options.graph);
+    length = length < MOST_PICTURE ? length : MOST_PICTURE;
+    if (options.graph != NULL &&
+        (fwrite(picture, 1, length, options.graph) != length || fclose(options.graph) != 0))
+        perror("the picture");
     options.collector = COLLECT_PASSES;
     do is_collection_due = true; while (collect());
     jw_live(&engine, &live);

@@ -25,8 +25,9 @@ static int read_options(int argc, char **argv) {
         for (i = 0; option == 'g' && i < 3 && strcmp(collectors[i], optarg) != 0; i++) continue;
         if (option == 'g') options.collector = i;
         if (option == 'b') options.budget = (uint32_t)strtoul(optarg, NULL, 10);
-        if (option == 'p') options.graph = optarg;
-        if (option == 's' && !open_script(optarg)) err(FAILED, "%s", optarg);
+        if (option == 'p') options.graph = fopen(optarg, "we");
+        if ((option == 'p' && options.graph == NULL) || (option == 's' && !open_script(optarg)))
+            err(FAILED, "%s", optarg);
         fits = fits && option != '?' && i < 3;
     }
     if (fits && options.budget >= 1 && options.budget <= JW_MAX_BUDGET && optind < argc)
@@ -70,7 +71,7 @@ static void prepare(void) {
     }
     signal(SIGINT, SIG_IGN); /* The program answers the terminal. */
     signal(SIGQUIT, SIG_IGN);
-    options.mask = umask(0); /* A pathname gets the mode that its program asks for. */
+    umask(0); /* A pathname gets the mode that its program asks for. */
     prctl(PR_SET_CHILD_SUBREAPER, 1);
     if (jw_engine_new(&engine) < 0 || jw_tell_released(&engine) < 0 ||
         jw_tell_changed(&engine) < 0 || (watches = epoll_create1(EPOLL_CLOEXEC)) < 0 ||

@@ -158,6 +158,7 @@ static size_t add_control(size_t used, int type, const void *data, size_t size) 
     bool fits = used + CMSG_LEN(size) <= message.header.msg_controllen;
     message.header.msg_flags |= fits ? 0 : MSG_CTRUNC;
     if (!fits) return used;
+    memset(header, 0, CMSG_SPACE(size));
     *header = (struct cmsghdr){CMSG_LEN(size), SOL_SOCKET, type};
     memcpy(CMSG_DATA(header), data, size);
     return used + CMSG_SPACE(size);

@@ -55,7 +55,7 @@ void size_buffer(int host) {
 
 /* Closes the placeholders of sockets that are hung up and only in flight. Such a socket is ready
  * for what any other is. Returns whether there were any. */
-static bool close_spare(void) {
+static bool close_spare_placeholders(void) {
     bool has_closed = false;
     for (struct file **slot = files; slot < files + FILE_SLOTS; slot++)
         for (struct file *it = *slot; it != NULL; it = it->next) {
@@ -77,12 +77,12 @@ long open_placeholders(int *hosts, size_t count, int type) {
     do {
         if (count == 2 && socketpair(AF_UNIX, type | SOCK_CLOEXEC, 0, hosts) == 0) return 0;
         if (count == 1 && (*hosts = socket(AF_UNIX, type | SOCK_CLOEXEC, 0)) >= 0) return 0;
-    } while (errno == EMFILE && close_spare());
+    } while (errno == EMFILE && close_spare_placeholders());
     return -ENFILE; /* The supervisor has no descriptor left. */
 }
 
 /* Opens the placeholder of a socket that is hung up. */
-void reopen(struct file *file) {
+void reopen_placeholder(struct file *file) {
     int hosts[2], type = file->kind == JW_STREAM ? SOCK_STREAM : SOCK_SEQPACKET;
     if (open_placeholders(hosts, 2, type) < 0) return;
     close(hosts[1]);

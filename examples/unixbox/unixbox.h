@@ -36,8 +36,7 @@ extern struct options {
     uint32_t budget;                       /* Of a slice, in files. */
     int verifies, checks;                  /* Whether all is recounted after each step. */
     int datagrams, oob, networks;          /* What is served beside the usual. */
-    const char *graph;                     /* Where the picture goes. */
-    mode_t mask;                           /* That of the supervisor, umask(2). */
+    FILE *graph;                           /* Where the picture goes, or NULL. */
 } options;
 
 extern struct counts { /* Of calls of programs, of calls of the layer (steps), and so on. */
@@ -92,7 +91,7 @@ struct call {
     struct file *file;    /* The socket of the layer that the first argument names, or NULL. */
     uint64_t waits_for;   /* The socket whose change it waits for, or EVERYONE. */
     bool is_woken, raises_sigpipe;
-    size_t moved, room;   /* Bytes that it has moved; of its control data. */
+    size_t moved, room;   /* Bytes that it has moved, and of control data that are left. */
     uint64_t deadline;    /* In milliseconds. 0 until it waits. */
     struct call *next;
 };
@@ -134,12 +133,12 @@ struct file *peer_of(const struct file *file);
 struct file *add_file(uint64_t ino, uint32_t kind);
 void size_buffer(int host);
 long open_placeholders(int *hosts, size_t count, int type);
-void reopen(struct file *file);
+void reopen_placeholder(struct file *file);
 void refresh(struct file *file);
 void settle(bool is_collected);
 
 void sync_table(struct process *process);
-long install(struct call *call, uint32_t *fds, size_t count, bool closes);
+long install(struct call *call, uint32_t *fds, size_t count, bool closes_on_exec);
 
 typedef long handler(struct call *call);
 handler serve_socket, serve_bind, serve_listen, serve_connect, serve_accept, serve_shutdown,

@@ -14,15 +14,13 @@ enum { LONG = 300000, PAUSE = 50000, TIMEOUT = 100000 }; /* Bytes; microseconds.
 
 static char bytes[LONG];
 
-/* Starts a process that has the other end of a new socket, and returns this process's end. The
- * other process gets -1. */
+/* Starts a process that has the other end of a new pair. Returns this process's end, and -1 in the
+ * new one. */
 static int start(int *other) {
     int pair[2];
     MUST(socketpair(AF_UNIX, SOCK_STREAM, 0, pair) == 0);
     pid_t child = fork();
-    MUST(child >= 0);
-    *other = pair[child != 0];
-    MUST(close(*other) == 0);
+    MUST(child >= 0 && close(pair[child != 0]) == 0);
     *other = pair[1];
     return child == 0 ? -1 : pair[0];
 }
@@ -91,7 +89,7 @@ static void ignore(int number) {
 
 /* A signal ends a receive: with what has come, or by EINTR. */
 static void check_signal(void) {
-    struct itimerval once = {.it_value = {0, 4 * PAUSE}};
+    struct itimerval once = {.it_value = {0, 10 * PAUSE}};
     char text[16] = {0};
     int other, on = start(&other);
     if (on < 0) {
