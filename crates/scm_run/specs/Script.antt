@@ -24,35 +24,47 @@ use Rattle.scm_run.specs.declared.fault.RunFault.TheVariants as fault
 
 -- ---- the text of a run
 
--- Silence and a version do nothing; an event is one step of the machine, and its text is the reply's line; a report changes nothing, and its text speaks of the world at that point, or is the line of ENOMEM.
+-- Silence and a version do nothing; an event is one step of the machine, and its text is the
+-- reply's line; a report changes nothing, and its text speaks of the world at that point, or is the
+-- line of ENOMEM.
 abbrev pub Does : Machine → Line → ℕ → List ℕ → Machine → Type 0
 Does old line.Silence events text new = (events ≡ 0) × (text ≡ []) × (new ≡ old)
 Does old line.Version2 events text new = (events ≡ 0) × (text ≡ []) × (new ≡ old)
-Does old (line.Event event) events text new = (events ≡ 1) × ((reply : Reply) × Step old event reply new × (text ≡ reply_line reply))
-Does old (line.Report report) events text new = (events ≡ 0) × (IsReportText old.world report text ⊎ (text ≡ reply_line (reply.Refused ENOMEM))) × (new ≡ old)
+Does old (line.Event event) events text new = (events ≡ 1)
+    × ((reply : Reply) × Step old event reply new × (text ≡ reply_line reply))
+Does old (line.Report report) events text new = (events ≡ 0)
+    × (IsReportText old.world report text ⊎ (text ≡ reply_line (reply.Refused ENOMEM)))
+    × (new ≡ old)
 
 -- The state of a script between two lines: the machine, and the version by its lines so far.
 pub record Point : Type 0 where
   pub machine : Machine
   pub version : Version
 
+-- The state of a script with this machine and this version.
+abbrev pub point_of : Machine → Version → Point
+point_of machine version = record { machine = machine; version = version }
+
 -- Where it begins: the fresh machine, and no version yet.
 abbrev pub first_point : Point
 first_point = record { machine = fresh; version = version.Unknown }
 
--- The bytes of a line can be read at this point, lead from old to new, do this many events and have this text.
+-- The bytes of a line can be read at this point, lead from old to new, do this many events and have
+-- this text.
 pub record LineText (old : Point) (bytes : List ℕ) (events : ℕ) (text : List ℕ) (new : Point) : Type 0 where
   pub says : Line
   pub read : read_in old.version bytes ≡ Some says
   pub does : Does old.machine says events text new.machine
   pub version : new.version ≡ version_after old.version says
 
--- These lines, one after another, can be read, lead from old to new, do this many events and have this text.
+-- These lines, one after another, can be read, lead from old to new, do this many events and have
+-- this text.
 abbrev pub RunText : Point → List (List ℕ) → ℕ → List ℕ → Point → Type 0
 RunText old [] events text new = (events ≡ 0) × (text ≡ []) × (new ≡ old)
 RunText old (bytes ∷ others) events text new =
     (mid : Point) × (first : ℕ) × (written : List ℕ) × (more : ℕ) × (rest : List ℕ)
-    × LineText old bytes first written mid × RunText mid others more rest new × (events ≡ first + more) × (text ≡ written ++ rest)
+    × LineText old bytes first written mid × RunText mid others more rest new
+    × (events ≡ first + more) × (text ≡ written ++ rest)
 
 -- The writer was given the text of a run of these lines from the first point.
 pub record Wrote (script : List (List ℕ)) (events : ℕ) (before after : Option (List ℕ)) : Type 0 where
@@ -83,7 +95,8 @@ pub record RanToEnd (told left before after : Option (List ℕ)) (events : ℕ) 
   pub ended : IsAtEnd left
   pub all : Wrote (lines input) events before after
 
--- The line of this number, from 1, is the first that cannot be read where the lines before it lead, and their text was written.
+-- The line of this number, from 1, is the first that cannot be read where the lines before it lead,
+-- and their text was written.
 pub record RanToUnreadable (input : List ℕ) (before after : Option (List ℕ)) (number : ℕ) : Type 0 where
   pub bad : List ℕ
   pub events : ℕ
@@ -106,7 +119,8 @@ pub record IsCut (bytes : List ℕ) (whole : List (List ℕ)) (rest : List ℕ) 
   pub each : AllByRecursion NoFeed whole
   pub open_end : NoFeed rest
 
--- Of the bytes that were read, just the lines whose end was read were run, and their text was written.
+-- Of the bytes that were read, just the lines whose end was read were run, and their text was
+-- written.
 pub record RanAsRead (told left before after : Option (List ℕ)) : Type 0 where
   pub taken : List ℕ
   pub whole : List (List ℕ)

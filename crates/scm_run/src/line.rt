@@ -5,7 +5,7 @@ ghost use Rattle.af_base.specs.declared.errno.Errno.TheVariants.{ENOMEM};
 ghost use Rattle.af_base.specs.declared.events.Reply.TheVariants as reply;
 ghost use Rattle.scm_run.specs.Report.{IsReportText};
 ghost use Rattle.scm_run.specs.Text.{reply_line};
-ghost use Rattle.scm_run.specs.Script.{Does, is_read_fault, is_write_fault};
+ghost use Rattle.scm_run.specs.Script.{Does, is_read_fault, is_write_fault, point_of};
 ghost use Rattle.scm_run.specs.Line.{LineDone, LineRead, LineStops};
 ghost use Rattle.scm_run.specs.declared.text.TheConstants.{MAX_REPLY_LINE};
 
@@ -82,9 +82,8 @@ fn do_any(
     text: &mut Vec<u8>,
 ) -> Result<u64, LineFault>
     requires { vec_len text.old + MAX_REPLY_LINE ≤ vec_capacity text.old }
-    ensures read { LineRead (record { machine = engine.old; version = version.old }) bytes.now
-        text.old.items result text.new.items
-        (record { machine = engine.new; version = version.new }) }
+    ensures read { LineRead (point_of engine.old version.old) bytes.now
+        text.old.items result text.new.items (point_of engine.new version.new) }
     ensures few { IfOk result (λ events. events ≤ 1) }
 {
     let says = read_in(alloc, *version, bytes)?;
@@ -102,9 +101,8 @@ fn do_bytes(
     text: &mut Vec<u8>,
 ) -> Result<u64, LineFault>
     requires { vec_len text.old + MAX_REPLY_LINE ≤ vec_capacity text.old }
-    ensures read { LineRead (record { machine = engine.old; version = version.old }) bytes.now
-        text.old.items result text.new.items
-        (record { machine = engine.new; version = version.new }) }
+    ensures read { LineRead (point_of engine.old version.old) bytes.now
+        text.old.items result text.new.items (point_of engine.new version.new) }
     ensures few { IfOk result (λ events. events ≤ 1) }
 {
     let Some((pid, verb, rest)) = verb_in(*version, bytes) else {
@@ -134,9 +132,9 @@ pub fn do_line<W: Write>(
 ) -> Result<u64, RunFault>
     requires { writer.old.has_failed ≡ false }
     ensures ok { IfOk result (λ events.
-        LineDone (record { machine = engine.old; version = version.old }) bytes.now text.old.items
-        text.new.items (W.contents writer.old.inner) (W.contents writer.new.inner) events
-        (record { machine = engine.new; version = version.new })) }
+        LineDone (point_of engine.old version.old) bytes.now text.old.items text.new.items
+        (W.contents writer.old.inner) (W.contents writer.new.inner) events
+        (point_of engine.new version.new)) }
     ensures err { IfErr result (LineStops version.old bytes.now number text.old.items text.new.items
         (W.contents writer.old.inner) (W.contents writer.new.inner)) }
     ensures few { IfOk result (λ events. events ≤ 1) }
