@@ -81,10 +81,12 @@ long open_placeholders(int *hosts, size_t count, int type) {
     return -ENFILE; /* The supervisor has no descriptor left. */
 }
 
-/* Opens the placeholder of a socket that is hung up. */
+/* Opens the placeholder of a socket once more, if that is hung up. */
 void reopen_placeholder(struct file *file) {
     int hosts[2], type = file->kind == JW_STREAM ? SOCK_STREAM : SOCK_SEQPACKET;
-    if (open_placeholders(hosts, 2, type) < 0) return;
+    struct jw_file state;
+    jw_file(&engine, file->ino, &state);
+    if (state.state != JW_HUNG_UP || open_placeholders(hosts, 2, type) < 0) return;
     close(hosts[1]);
     file->host = hosts[0];
 }
