@@ -113,7 +113,7 @@ long serve_close(struct call *call) {
 }
 
 /* dup(2), dup2(2), dup3(2), and fcntl(2) with F_DUPFD. Left to the kernel, they could be behind
- * another thread's look. What the kernel refuses here, it refuses by itself. */
+ * another thread's look. All that is refused here, the kernel refuses itself. */
 long serve_dup(struct call *call) {
     bool is_fcntl = call->number == SYS_fcntl, is_dup3 = call->number == SYS_dup3;
     bool is_fixed = is_dup3 || call->number == SYS_dup2;
