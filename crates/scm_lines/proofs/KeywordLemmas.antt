@@ -1,7 +1,7 @@
 -- The keywords of the tables.
-use Rattle.std.proofs.Common.{◌≡◌, ◌≢◌, ℕ, ◌≤◌, ◌<◌, ◌==◌, ◌||◌, List, true, length, get_or, nat_lt, Some, None, refl, sym, arith}
+use Rattle.std.proofs.Common.{◌≡◌, ◌≢◌, ℕ, ◌≤◌, ◌<◌, ◌==◌, ◌||◌, List, true, false, length, get_or, nat_lt, Some, None, refl, sym, arith}
 use Rattle.std.proofs.lemmas.Grind.{common_steps}
-use Rattle.scm_lines.specs.Words.{all_printable}
+use Rattle.scm_lines.specs.Words.{all_printable, begins_comment}
 use Rattle.scm_lines.specs.Numbers.{number_of}
 use Rattle.scm_lines.specs.Forms.{keywords, line_row, named, step_row, verbs}
 use Rattle.scm_lines.specs.declared.keywords.Keyword.{Keyword}
@@ -32,6 +32,11 @@ keyword_printable other = refl
 pub keyword_letters : (k : Keyword) → number_of (line_row k).0 ≡ None
 keyword_letters keyword.Spawn = refl
 keyword_letters other = refl
+
+-- no keyword begins a comment
+pub keyword_plain : (k : Keyword) → begins_comment (line_row k).0 ≡ false
+keyword_plain keyword.Spawn = refl
+keyword_plain other = refl
 
 -- verbs of five letters begin with c or l
 pub no_five : (word : List ℕ) → 5 ≤ length word → length word < 6 → get_or word 0 0 ≢ 99 → get_or word 0 0 ≢ 108 → None ≡ named step_row verbs word

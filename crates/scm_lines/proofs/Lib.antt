@@ -16,3 +16,4 @@ pub mod KeywordLemmas
 pub mod LineLemmas
 pub mod VersionsRead
 pub mod VerbsRead
+pub mod KeywordsRead

@@ -75,17 +75,18 @@ line_said bytes said e = elim (chosen (nat_lt MAX_LINE (length bytes)) None _ _ 
       | inr (f, e2) ↦ let (printable, e3) = allowed (all_printable bytes) _ said e2 in inr (f, printable, words_said (words_of bytes) said e3)
     ]
 
+-- a line within the limit passes its test
+within_line : (n : ℕ) → n ≤ MAX_LINE → nat_lt MAX_LINE n ≡ false
+within_line n h = grind (arith, common_steps)
+
 pub line_read : (bytes : List ℕ) (said : Line) → IsLine bytes said → line_of bytes ≡ Some said
 unfolding line_of
 line_read bytes said (short, which) =
-    let within : nat_lt MAX_LINE (length bytes) ≡ false = below (length bytes) short in
+    let within = within_line (length bytes) short in
     elim which [
       | inl (t, e) ↦ rw (within, t, e) refl
       | inr (f, printable, says) ↦ rw (within, f, printable, words_read (words_of bytes) said says) refl
     ]
-  where
-    below : (n : ℕ) → n ≤ MAX_LINE → nat_lt MAX_LINE n ≡ false
-    below n h = grind (arith, common_steps)
 
 -- ---- lines by their words
 
@@ -131,3 +132,10 @@ unfolding line_of
 line_by_words bytes =
     ap (λ (o : Option Line). cond (nat_lt MAX_LINE (length bytes)) None (cond (is_comment bytes) (Some line.Silence) o)) (printable_alone bytes)
     ∙ ap (λ b. cond (nat_lt MAX_LINE (length bytes)) None (cond b (Some line.Silence) (words_say (words_of bytes)))) (comment_by_word bytes)
+
+-- a short line that is no comment says what its words say
+pub line_said_by_words : (bytes : List ℕ) → length bytes ≤ MAX_LINE → is_comment_of (words_of bytes) ≡ false → line_of bytes ≡ words_say (words_of bytes)
+line_said_by_words bytes short other =
+    line_by_words bytes
+    ∙ ap (λ b. cond b None (cond (is_comment_of (words_of bytes)) (Some line.Silence) (words_say (words_of bytes)))) (within_line (length bytes) short)
+    ∙ ap (λ b. cond b (Some line.Silence) (words_say (words_of bytes))) other

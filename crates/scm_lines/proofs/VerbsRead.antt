@@ -10,7 +10,7 @@ use Rattle.scm_lines.specs.Numbers.{all_digits, is_digit, number_in, number_of}
 use Rattle.scm_lines.specs.Fitting.{has_verb}
 use Rattle.scm_lines.specs.Forms.{named, read_form, step_row, verbs}
 use Rattle.scm_lines.specs.Lines.{form_of, line_behind, step_of, words_say}
-use Rattle.scm_lines.specs.Versions.{has_line, is_later, is_second, read_in}
+use Rattle.scm_lines.specs.Versions.{allowed_in, has_line, is_later, is_second, read_in}
 use Rattle.scm_lines.specs.declared.keywords.Verb.{Verb}
 use Rattle.scm_lines.specs.declared.line.Line.{Line}
 use Rattle.scm_lines.specs.declared.line.Line.TheVariants as line
@@ -18,7 +18,7 @@ use Rattle.scm_lines.specs.declared.line.TheConstants.{MAX_LINE}
 use Rattle.scm_lines.specs.declared.version.Version.{Version}
 use Rattle.scm_lines.proofs.Choices.{split_and}
 use Rattle.scm_lines.proofs.NumberLemmas.{number_digits, number_said}
-use Rattle.scm_lines.proofs.LineLemmas.{is_comment_of, line_by_words}
+use Rattle.scm_lines.proofs.LineLemmas.{is_comment_of, line_said_by_words}
 use Rattle.scm_lines.proofs.VersionsFit.{made, verb_makes}
 
 -- what a number begins is no comment
@@ -76,11 +76,6 @@ read_by_verb v bytes word words more pid k short counted parted is has =
     let row = read_form (step_row k).1 more in
     let said : words_say (words_of bytes) ≡ option_map (does_line pid) row =
     words_process (words_of bytes) words pid counted ∙ ap (option_map (does_line pid)) (words_verb word words more k parted is) in
-    let whole = line_by_words bytes
-    ∙ ap (λ b. cond b None (cond (is_comment_of (words_of bytes)) (Some line.Silence) (words_say (words_of bytes)))) (within (length bytes) short)
-    ∙ ap (λ b. cond b (Some line.Silence) (words_say (words_of bytes))) (words_plain (words_of bytes) words pid counted) ∙ said in
-    ap (λ (o : Option Line). o >>= λ said. cond (has_line v said) (Some said) None) whole
+    let whole = line_said_by_words bytes short (words_plain (words_of bytes) words pid counted) ∙ said in
+    ap (allowed_in v) whole
     ∙ passes v pid k row (made (λ does. (not (is_later does) || is_second v) ≡ has_verb v k) (step_row k).1 (verb_makes v k) more) has
-  where
-    within : (n : ℕ) → n ≤ MAX_LINE → nat_lt MAX_LINE n ≡ false
-    within n h = grind (arith, common_steps)

@@ -48,6 +48,10 @@ version_after v line.Silence = v
 version_after v line.Version2 = version.Second
 version_after v other = if is_unknown v then version.First else v
 
+-- The meaning that was read, where the script may have such a line now.
+abbrev pub allowed_in : Version → Option Line → Option Line
+allowed_in v read = read >>= λ said. if has_line v said then Some said else None
+
 -- The meaning of the next line, if it can be read.
 abbrev pub read_in : Version → List ℕ → Option Line
-read_in v bytes = line_of bytes >>= λ said. if has_line v said then Some said else None
+read_in v bytes = allowed_in v (line_of bytes)

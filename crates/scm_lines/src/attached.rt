@@ -1,21 +1,24 @@
 //! The descriptors that go with a message, as the last words of a line list them.
-ghost use Rattle.std.specs.Prelude.{◌≡◌, ◌≤◌, ◌<◌, ◌==◌, ◌++◌, IfSome, OnOk, length, position};
-ghost use Rattle.std.specs.Prelude.{replicate};
+ghost use Rattle.std.specs.Prelude.{◌≡◌, ◌≤◌, ◌<◌, ◌==◌, ◌++◌, IfErr, IfOk, IfSome, None, OnOk, Some};
+ghost use Rattle.std.specs.Prelude.{length, position, replicate};
 ghost use Rattle.std.specs.Option.{option_map};
-ghost use Rattle.scm_lines.specs.Fault.{Reads};
 ghost use Rattle.scm_lines.specs.Words.{words_of};
 ghost use Rattle.scm_lines.specs.Attached.{item_of, attached_of};
 ghost use Rattle.scm_lines.specs.declared.attached.TheConstants.{MAX_ATTACHED};
+ghost use Rattle.scm_lines.specs.declared.fault.LineFault.TheVariants as fault;
 
 use crate::fault::LineFault;
 use crate::numbers::number;
 use crate::words::first_word;
-use af_base::items::Items;
 use af_base::names::Fd;
+use smallvec::SmallVec;
 use std::alloc::{AllocError, Global};
 
 /// The most descriptors of one item, and of all items of a line together.
 pub const MAX_ATTACHED: usize = 1024;
+
+/// The descriptors of a line. A few take no memory.
+pub type Descriptors = SmallVec<Fd, 4>;
 
 /// Returns the position of the first `*`.
 pub fn star_at(word: &[u8]) -> Option<usize>
@@ -45,7 +48,7 @@ pub fn item(word: &[u8]) -> Option<(Fd, usize)>
 }
 
 /// Copies of a descriptor at the end.
-fn push_copies(fds: &mut Vec<Fd>, fd: Fd, copies: usize) -> Result<(), AllocError>
+fn push_copies(fds: &mut Descriptors, fd: Fd, copies: usize) -> Result<(), AllocError>
     ensures { OnOk result (fds.new.items ≡ fds.old.items ++ replicate copies fd) }
 {
     for _ in 0..copies {
@@ -58,10 +61,11 @@ fn push_copies(fds: &mut Vec<Fd>, fd: Fd, copies: usize) -> Result<(), AllocErro
 /// have.
 #[tactic(auto, using(crate::proofs::AttachedLemmas::items_before_more, crate::proofs::AttachedLemmas::items_before_over))]
 #[inline(always)]
-pub fn attached(alloc: Global, bytes: &[u8]) -> Result<Items<Fd>, LineFault>
-    ensures { Reads (attached_of (words_of bytes.now)) result }
+pub fn attached(alloc: Global, bytes: &[u8]) -> Result<Descriptors, LineFault>
+    ensures ok { IfOk result (λ fds. attached_of (words_of bytes.now) ≡ Some fds.items) }
+    ensures err { IfErr result (λ f. f ≡ fault.Unreadable → attached_of (words_of bytes.now) ≡ None) }
 {
-    let mut fds = Vec::new(alloc);
+    let mut fds = SmallVec::new(alloc);
     let mut rest = bytes;
     while let Some((word, tail)) = first_word(rest) {
         let (fd, copies) = item(word).ok_or(LineFault::Unreadable)?;
@@ -71,5 +75,5 @@ pub fn attached(alloc: Global, bytes: &[u8]) -> Result<Items<Fd>, LineFault>
         push_copies(&mut fds, fd, copies)?;
         rest = tail;
     }
-    Ok(Items::of(fds))
+    Ok(fds)
 }

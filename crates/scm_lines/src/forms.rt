@@ -3,6 +3,7 @@
 //! A form that has words is a function that reads its row; where a row does not fit, [`step`] and
 //! [`line`] say so in one place.
 ghost use Rattle.std.specs.Prelude.{◌≡◌, IfErr, IfOk, None, Some};
+ghost use Rattle.af_base.specs.declared.events.Event.TheVariants as event;
 ghost use Rattle.af_base.specs.declared.events.Step.TheVariants as step;
 ghost use Rattle.std.specs.Option.{option_map};
 ghost use Rattle.scm_lines.specs.Fault.{Reads};
@@ -16,7 +17,7 @@ ghost use Rattle.scm_lines.specs.declared.keywords.Keyword.TheVariants as keywor
 ghost use Rattle.scm_lines.specs.declared.keywords.Verb.TheVariants as verb;
 ghost use Rattle.scm_lines.specs.declared.line.Line.TheVariants as line;
 
-use crate::attached::attached;
+use crate::attached::{Descriptors, attached};
 use crate::fault::LineFault;
 use crate::keywords::{Keyword, Verb, keyword_named, type_named, verb_named};
 use crate::line::{Line, Report};
@@ -155,9 +156,9 @@ pub fn accept(rest: &[u8]) -> Option<Fd>
 
 /// Reads `P send N BYTES ITEMS..`.
 #[inline(always)]
-pub fn send(alloc: Global, rest: &[u8]) -> Result<(Fd, Items<u8>, Items<Fd>), LineFault>
+pub fn send(alloc: Global, rest: &[u8]) -> Result<(Fd, Items<u8>, Descriptors), LineFault>
     ensures ok { IfOk result (λ found. read_form (step_row verb.Send).1 (words_of rest.now)
-        ≡ Some (step.Send found.0 found.1 found.2)) }
+        ≡ Some (step.Send found.0 found.1 found.2.items)) }
     ensures err { IfErr result (λ f. f ≡ fault.Unreadable
         → read_form (step_row verb.Send).1 (words_of rest.now) ≡ None) }
 {
@@ -230,6 +231,7 @@ fn send_step(alloc: Global, rest: &[u8]) -> Result<Step, LineFault>
     ensures { Reads (read_form (step_row verb.Send).1 (words_of rest.now)) result }
 {
     let (on, bytes, attach) = send(alloc, rest)?;
+    let attach = Items::of(attach.into_vec()?);
     Ok(Step::Send { on, bytes, attach })
 }
 
@@ -295,27 +297,35 @@ fn process(alloc: Global, bytes: &[u8]) -> Result<Step, LineFault>
 // ---- lines that no process's number begins
 
 /// Reads `spawn N N` and `spawn N N priv`.
-fn spawn(rest: &[u8]) -> Option<Event>
-    ensures { option_map line.Event result
+pub fn spawn(rest: &[u8]) -> Option<(Uid, u32, bool)>
+    ensures { option_map (λ found. line.Event (event.Spawn found.0 found.1 found.2)) result
         ≡ read_form (line_row keyword.Spawn).1 (words_of rest.now) }
 {
     let (uid, rest) = number_in(rest)?;
     let (nofile, rest) = number_in(rest)?;
     let privileged = privileged(rest)?;
-    Some(Event::Spawn {
-        uid: Uid(uid),
-        nofile,
-        privileged,
-    })
+    Some((Uid(uid), nofile, privileged))
 }
 
 /// Reads `slice N`.
-fn slice(rest: &[u8]) -> Option<Event>
-    ensures { option_map line.Event result
+pub fn slice(rest: &[u8]) -> Option<u32>
+    ensures { option_map (λ budget. line.Event (event.Slice budget)) result
         ≡ read_form (line_row keyword.Slice).1 (words_of rest.now) }
 {
     let (budget, rest) = number_in(rest)?;
-    is_end(rest).then_some(Event::Slice(budget))
+    is_end(rest).then_some(budget)
+}
+
+/// Reads the line `spawn`.
+fn spawn_line(rest: &[u8]) -> Option<Line>
+    ensures { result ≡ read_form (line_row keyword.Spawn).1 (words_of rest.now) }
+{
+    let (uid, nofile, privileged) = spawn(rest)?;
+    Some(Line::Event(Event::Spawn {
+        uid,
+        nofile,
+        privileged,
+    }))
 }
 
 /// Reads `version 2`: no other version may be named.
@@ -333,9 +343,9 @@ fn line(keyword: Keyword, rest: &[u8]) -> Result<Line, LineFault>
     ensures { Reads (read_form (line_row keyword).1 (words_of rest.now)) result }
 {
     let read = match keyword {
-        Keyword::Spawn => spawn(rest).map(Line::Event),
+        Keyword::Spawn => spawn_line(rest),
         Keyword::Begin => is_end(rest).then_some(Line::Event(Event::Begin)),
-        Keyword::Slice => slice(rest).map(Line::Event),
+        Keyword::Slice => slice(rest).map(|budget| Line::Event(Event::Slice(budget))),
         Keyword::Pass => is_end(rest).then_some(Line::Event(Event::Pass)),
         Keyword::Table => is_end(rest).then_some(Line::Report(Report::Table)),
         Keyword::Totals => is_end(rest).then_some(Line::Report(Report::Totals)),

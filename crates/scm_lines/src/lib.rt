@@ -23,8 +23,8 @@ mod words;
 
 pub use explain::why;
 pub use fault::LineFault;
-pub use keywords::Verb;
+pub use keywords::{Keyword, Verb};
 pub use line::{Line, MAX_LINE, Report, line_of};
 pub use reason::{Reason, Unreadable};
-pub use version::{Version, read_in, verb_in};
+pub use version::{Version, keyword_in, read_in, verb_in};
 pub use words::{is_end, only_word};

@@ -1,7 +1,8 @@
 -- The outcome of one line. Definitions that name no manual page are this project's own.
-use Rattle.std.specs.Prelude.{◌≡◌, ℕ, List, ◌++◌, Option, Some, None, Result, Ok, Err}
+use Rattle.std.specs.Prelude.{◌≡◌, ℕ, List, ◌++◌, Bool, true, false, Option, Some, None, Result, Ok, Err}
 use Rattle.af_base.specs.Pass.{Machine}
 use Rattle.af_base.specs.Run.{Step as MachineStep}
+use Rattle.af_base.specs.declared.events.Event.{Event}
 use Rattle.af_base.specs.declared.events.Event.TheVariants as event
 use Rattle.af_base.specs.declared.events.Reply.{Reply}
 use Rattle.af_base.specs.declared.events.Step.{Step}
@@ -11,6 +12,7 @@ use Rattle.scm_lines.specs.Words.{words_of}
 use Rattle.scm_lines.specs.declared.fault.LineFault.{LineFault}
 use Rattle.scm_lines.specs.declared.fault.LineFault.TheVariants as unread
 use Rattle.scm_lines.specs.declared.keywords.Verb.{Verb}
+use Rattle.scm_lines.specs.declared.line.Line.TheVariants as line
 use Rattle.scm_lines.specs.declared.version.Version.{Version}
 use Rattle.scm_run.specs.Watched.{AppendsFront}
 use Rattle.scm_run.specs.Gather.{Moves}
@@ -48,6 +50,18 @@ StepDone k old p rest before (Ok _) after new =
 StepDone k old p rest before (Err unread.Unreadable) after new =
     (read_form (step_row k).1 (words_of rest) ≡ None) × (after ≡ before)
 StepDone k old p rest before (Err unread.Memory) after new = after ≡ before
+
+-- What came of the bytes of a line that is read as an event's, whatever lines came before: it was
+-- done, and the line of its reply stands behind the text; or it is none, and nothing changed; or
+-- its words cannot be read, and the text is as before.
+abbrev pub EventDone : Machine → List ℕ → List ℕ → Result Bool LineFault → List ℕ → Machine → Type 0
+EventDone old bytes before (Ok true) after new =
+    (does : Event) × (answer : Reply) × ((v : Version) → read_in v bytes ≡ Some (line.Event does))
+    × MachineStep old does answer new × (after ≡ before ++ reply_line answer)
+EventDone old bytes before (Ok false) after new = (after ≡ before) × (new ≡ old)
+EventDone old bytes before (Err unread.Unreadable) after new =
+    ((v : Version) → read_in v bytes ≡ None) × (after ≡ before)
+EventDone old bytes before (Err unread.Memory) after new = after ≡ before
 
 -- What came of the bytes of a line at this point: they were done, and their text stands behind what
 -- was there; or they cannot be read, or memory for them was refused, and the text is as before.

@@ -11,8 +11,8 @@ ghost use Rattle.scm_run.specs.declared.text.TheConstants.{MAX_REPLY_LINE};
 
 use crate::fault::RunFault;
 use crate::gather::make_room;
-use crate::outcome::push_short;
-use crate::steps::do_step;
+use crate::steps::{do_event, do_step};
+use crate::text::push_reply;
 use crate::watched::Watched;
 use af_base::errno::Errno;
 use af_base::events::Reply;
@@ -44,7 +44,7 @@ fn answer_report(alloc: Global, engine: &Engine, report: Report, text: &mut Vec<
     {
         return;
     }
-    push_short(text, &Reply::Refused(Errno::ENOMEM));
+    push_reply(text, &Reply::Refused(Errno::ENOMEM));
 }
 
 /// Does what a line says, appends its text, and says how many events that were.
@@ -61,7 +61,7 @@ pub fn answer(alloc: Global, engine: &mut Engine, says: Line, text: &mut Vec<u8>
         Line::Event(event) => {
             // The reply of a sound world is short.
             engine.lemma_is_sound();
-            push_short(text, &engine.step_owned(event));
+            push_reply(text, &engine.step_owned(event));
             1
         }
         Line::Report(report) => {
@@ -86,6 +86,10 @@ fn do_any(
         text.old.items result text.new.items (point_of engine.new version.new) }
     ensures few { IfOk result (λ events. events ≤ 1) }
 {
+    if do_event(engine, bytes, text)? {
+        *version = version.after_event();
+        return Ok(1);
+    }
     let says = read_in(alloc, *version, bytes)?;
     *version = version.after(&says);
     Ok(answer(alloc, engine, says, text))

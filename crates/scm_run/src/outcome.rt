@@ -4,7 +4,7 @@
 //! made of it first: `text` reads a reply by what it is, and here that is known.
 ghost use Rattle.std.specs.Prelude.{◌≡◌, ◌≤◌, ◌+◌, ◌++◌, IfOk, vec_capacity, vec_len};
 ghost use Rattle.af_base.specs.declared.events.Reply.TheVariants as reply;
-ghost use Rattle.af_steps.specs.Outcome.{got_reply};
+ghost use Rattle.af_steps.specs.Outcome.{finished_reply, got_reply, progress_reply};
 ghost use Rattle.scm_run.specs.Text.{IsShort, reply_line, reply_of};
 ghost use Rattle.scm_run.specs.declared.text.TheConstants.{MAX_REPLY_LINE};
 
@@ -12,17 +12,7 @@ use crate::text::push_reply;
 use af_base::errno::Errno;
 use af_base::events::Reply;
 use af_base::names::{Fd, Pid};
-use af_steps::Received;
-
-/// Appends the line of a reply that is short, where there is room.
-#[inline(always)]
-pub fn push_short(text: &mut Vec<u8>, reply: &Reply)
-    requires room { vec_len text.old + MAX_REPLY_LINE ≤ vec_capacity text.old }
-    requires short { IsShort reply.now }
-    ensures { text.new.items ≡ text.old.items ++ reply_line reply.now }
-{
-    push_reply(text, reply).unwrap();
-}
+use af_steps::{Finished, Progress, Received};
 
 /// Appends the line of a refusal. It is apart, since most steps are done.
 #[inline(never)]
@@ -30,7 +20,7 @@ fn push_refusal(text: &mut Vec<u8>, error: Errno)
     requires { vec_len text.old + MAX_REPLY_LINE ≤ vec_capacity text.old }
     ensures { text.new.items ≡ text.old.items ++ reply_line (reply.Refused error) }
 {
-    push_short(text, &Reply::Refused(error));
+    push_reply(text, &Reply::Refused(error));
 }
 
 /// Appends the line of a call that answers a number.
@@ -40,7 +30,7 @@ pub fn push_fd(text: &mut Vec<u8>, outcome: Result<Fd, Errno>)
     ensures { text.new.items ≡ text.old.items ++ reply_line (reply_of reply.Fd outcome) }
 {
     match outcome {
-        Ok(fd) => push_short(text, &Reply::Fd(fd)),
+        Ok(fd) => push_reply(text, &Reply::Fd(fd)),
         Err(error) => push_refusal(text, error),
     }
 }
@@ -53,7 +43,7 @@ pub fn push_fds(text: &mut Vec<u8>, outcome: Result<(Fd, Fd), Errno>)
         ≡ text.old.items ++ reply_line (reply_of (λ fds. reply.Fds fds.0 fds.1) outcome) }
 {
     match outcome {
-        Ok((first, second)) => push_short(text, &Reply::Fds(first, second)),
+        Ok((first, second)) => push_reply(text, &Reply::Fds(first, second)),
         Err(error) => push_refusal(text, error),
     }
 }
@@ -65,7 +55,7 @@ pub fn push_pid(text: &mut Vec<u8>, outcome: Result<Pid, Errno>)
     ensures { text.new.items ≡ text.old.items ++ reply_line (reply_of reply.Pid outcome) }
 {
     match outcome {
-        Ok(pid) => push_short(text, &Reply::Pid(pid)),
+        Ok(pid) => push_reply(text, &Reply::Pid(pid)),
         Err(error) => push_refusal(text, error),
     }
 }
@@ -77,7 +67,7 @@ pub fn push_done(text: &mut Vec<u8>, outcome: Result<(), Errno>)
     ensures { text.new.items ≡ text.old.items ++ reply_line (reply_of (λ _. reply.Ok) outcome) }
 {
     match outcome {
-        Ok(()) => push_short(text, &Reply::Ok),
+        Ok(()) => push_reply(text, &Reply::Ok),
         Err(error) => push_refusal(text, error),
     }
 }
@@ -89,7 +79,7 @@ pub fn push_sent(text: &mut Vec<u8>, outcome: Result<u32, Errno>)
     ensures { text.new.items ≡ text.old.items ++ reply_line (reply_of reply.Sent outcome) }
 {
     match outcome {
-        Ok(count) => push_short(text, &Reply::Sent(count)),
+        Ok(count) => push_reply(text, &Reply::Sent(count)),
         Err(error) => push_refusal(text, error),
     }
 }
@@ -102,7 +92,44 @@ pub fn push_received(text: &mut Vec<u8>, outcome: Result<Received, Errno>)
     ensures { text.new.items ≡ text.old.items ++ reply_line (reply_of got_reply outcome) }
 {
     match outcome {
-        Ok(received) => push_short(text, &received.into()),
+        Ok(received) => push_reply(text, &received.into()),
+        Err(error) => push_refusal(text, error),
+    }
+}
+
+/// Appends the line of a begin.
+#[inline(always)]
+pub fn push_started(text: &mut Vec<u8>, outcome: Result<u64, Errno>)
+    requires { vec_len text.old + MAX_REPLY_LINE ≤ vec_capacity text.old }
+    ensures { text.new.items ≡ text.old.items ++ reply_line (reply_of reply.Started outcome) }
+{
+    match outcome {
+        Ok(pass) => push_reply(text, &Reply::Started(pass)),
+        Err(error) => push_refusal(text, error),
+    }
+}
+
+/// Appends the line of a slice.
+#[inline(always)]
+pub fn push_progress(text: &mut Vec<u8>, outcome: Result<Progress, Errno>)
+    requires { vec_len text.old + MAX_REPLY_LINE ≤ vec_capacity text.old }
+    ensures { text.new.items ≡ text.old.items ++ reply_line (reply_of progress_reply outcome) }
+{
+    match outcome {
+        Ok(Progress::Working) => push_reply(text, &Reply::Working),
+        Ok(Progress::Done(finished)) => push_finished(text, Ok(finished)),
+        Err(error) => push_refusal(text, error),
+    }
+}
+
+/// Appends the line of a whole pass.
+#[inline(always)]
+pub fn push_finished(text: &mut Vec<u8>, outcome: Result<Finished, Errno>)
+    requires { vec_len text.old + MAX_REPLY_LINE ≤ vec_capacity text.old }
+    ensures { text.new.items ≡ text.old.items ++ reply_line (reply_of finished_reply outcome) }
+{
+    match outcome {
+        Ok(Finished { pass, reclaimed }) => push_reply(text, &Reply::Done { pass, reclaimed }),
         Err(error) => push_refusal(text, error),
     }
 }

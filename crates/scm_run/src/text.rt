@@ -18,6 +18,9 @@ pub const MAX_REPLY_LINE: usize = 3 * MAX_BYTES + 21 * SCM_MAX_FD + 64;
 /// How many bytes of a message are appended at once.
 const BLOCK: usize = 256;
 
+/// How many bytes are many enough to look at all of them before any is appended.
+const MANY: usize = 8;
+
 /// Returns whether a byte is printed as itself.
 fn is_plain(byte: u8) -> bool
     ensures { result ≡ is_plain byte }
@@ -42,6 +45,7 @@ fn hex_digit(value: u8) -> u8
 // beginning may be in the text; room is never lost.
 
 /// Appends a word.
+#[inline(always)]
 fn push_word(text: &mut Vec<u8>, word: &str) -> Result<(), AllocError>
     ensures bytes { OnOk result (text.new.items ≡ text.old.items ++ word.now) }
     ensures most { OnOk result (vec_len text.new ≤ vec_len text.old + length word.now) }
@@ -101,7 +105,7 @@ fn push_block(text: &mut Vec<u8>, bytes: &[u8]) -> Result<(), AllocError>
     ensures room { vec_capacity text.old ≤ vec_capacity text.new }
     ensures full { OnErr result (vec_capacity text.old < vec_len text.old + 3 * length bytes.now) }
 {
-    if all_plain(bytes) {
+    if bytes.len() >= MANY && all_plain(bytes) {
         return text.extend_from_slice(bytes);
     }
     push_each(text, bytes)
@@ -124,6 +128,7 @@ fn push_bytes(text: &mut Vec<u8>, bytes: &[u8]) -> Result<(), AllocError>
 }
 
 /// Appends a word, and a number behind it.
+#[inline(always)]
 #[tactic(auto, using(std::proofs::lemmas::Fmt::decimal_digit))]
 fn push_named(text: &mut Vec<u8>, word: &str, number: u64) -> Result<(), AllocError>
     ensures bytes { OnOk result (text.new.items ≡ text.old.items ++ word.now ++ decimal number) }
@@ -138,6 +143,17 @@ fn push_named(text: &mut Vec<u8>, word: &str, number: u64) -> Result<(), AllocEr
         text.push(b'0' + number as u8)?;
         return Ok(());
     }
+    push_digits(text, number)
+}
+
+/// Appends the digits of a number. It is apart, so that a number of one digit costs little.
+#[inline(never)]
+fn push_digits(text: &mut Vec<u8>, number: u64) -> Result<(), AllocError>
+    ensures bytes { OnOk result (text.new.items ≡ text.old.items ++ decimal number) }
+    ensures most { OnOk result (vec_len text.new ≤ vec_len text.old + 20) }
+    ensures room { vec_capacity text.old ≤ vec_capacity text.new }
+    ensures full { OnErr result (vec_capacity text.old < vec_len text.old + 20) }
+{
     let mut buffer = Buffer::new();
     push_word(text, buffer.format(number))
 }
@@ -243,18 +259,15 @@ fn push_text(text: &mut Vec<u8>, reply: &Reply) -> Result<(), AllocError>
     }
 }
 
-/// Appends the line of a reply, with its line feed.
-///
-/// If memory runs out, some beginning of the line may be in the text. It does not with room for a
-/// line of `MAX_REPLY_LINE` bytes, if the reply is one that a step may give.
+/// Appends the line of a reply, with its line feed. There is room for the line of any reply that a
+/// step may give.
 #[inline(always)]
 #[tactic(auto, unfolding(crate::specs::Text::reply_line))]
-pub fn push_reply(text: &mut Vec<u8>, reply: &Reply) -> Result<(), AllocError>
-    ensures bytes { OnOk result (text.new.items ≡ text.old.items ++ reply_line reply.now) }
-    ensures full { OnErr result
-        (IsShort reply.now → vec_capacity text.old < vec_len text.old + MAX_REPLY_LINE) }
+pub fn push_reply(text: &mut Vec<u8>, reply: &Reply)
+    requires room { vec_len text.old + MAX_REPLY_LINE ≤ vec_capacity text.old }
+    requires short { IsShort reply.now }
+    ensures { text.new.items ≡ text.old.items ++ reply_line reply.now }
 {
-    push_text(text, reply)?;
-    text.push(b'\n')?;
-    Ok(())
+    push_text(text, reply).unwrap();
+    text.push_reserved(b'\n');
 }

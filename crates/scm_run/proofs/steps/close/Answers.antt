@@ -1,7 +1,0 @@
-use Rattle.af_base.specs.declared.events.Reply.TheVariants as reply
-use Rattle.scm_lines.specs.declared.keywords.Verb.TheVariants as verb
-use Rattle.scm_run.proofs.StepLemmas.{step_done}
-use Rattle.scm_run.proofs.steps.close.Goals as goal
-
-pub returns : goal.returns
-returns c = step_done verb.Close _ _ _ c.args.rest.now _ _ _ c.close-2.result (λ _. reply.Ok) c.in-Some.ensures c.close-2.ensures.done c.close-2.ensures.refused c.push_done.ensures
