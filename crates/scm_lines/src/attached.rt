@@ -1,6 +1,6 @@
 //! The descriptors that go with a message, as the last words of a line list them.
-ghost use Rattle.std.specs.Prelude.{◌≡◌, ◌≤◌, ◌<◌, ◌==◌, ◌++◌, IfErr, IfOk, IfSome, None, OnOk, Some};
-ghost use Rattle.std.specs.Prelude.{length, position, replicate};
+ghost use Rattle.std.specs.Prelude.{◌≡◌, ◌≤◌, ◌<◌, ◌==◌, ◌++◌, IfErr, IfOk, IfSome, None, OnOk};
+ghost use Rattle.std.specs.Prelude.{Some, length, position, replicate};
 ghost use Rattle.std.specs.Option.{option_map};
 ghost use Rattle.scm_lines.specs.Words.{words_of};
 ghost use Rattle.scm_lines.specs.Attached.{item_of, attached_of};
@@ -63,7 +63,8 @@ fn push_copies(fds: &mut Descriptors, fd: Fd, copies: usize) -> Result<(), Alloc
 #[inline(always)]
 pub fn attached(alloc: Global, bytes: &[u8]) -> Result<Descriptors, LineFault>
     ensures ok { IfOk result (λ fds. attached_of (words_of bytes.now) ≡ Some fds.items) }
-    ensures err { IfErr result (λ f. f ≡ fault.Unreadable → attached_of (words_of bytes.now) ≡ None) }
+    ensures err { IfErr result
+        (λ f. f ≡ fault.Unreadable → attached_of (words_of bytes.now) ≡ None) }
 {
     let mut fds = SmallVec::new(alloc);
     let mut rest = bytes;

@@ -8,7 +8,8 @@ ghost use Rattle.af_base.specs.declared.events.Event.TheVariants as event;
 ghost use Rattle.scm_lines.specs.Fault.{Reads};
 ghost use Rattle.scm_lines.specs.Fitting.{has_verb};
 ghost use Rattle.scm_lines.specs.Forms.{line_row, read_form, step_row};
-ghost use Rattle.scm_lines.specs.Versions.{allowed_in, has_line, is_later, is_unknown, read_in, version_after};
+ghost use Rattle.scm_lines.specs.Versions.{allowed_in, has_line, is_later, is_unknown, read_in};
+ghost use Rattle.scm_lines.specs.Versions.{version_after};
 ghost use Rattle.scm_lines.specs.Words.{words_of};
 ghost use Rattle.scm_lines.specs.declared.line.Line.TheVariants as line;
 ghost use Rattle.scm_lines.specs.declared.version.Version.TheVariants as version;
@@ -103,8 +104,8 @@ pub fn verb_in(version: Version, bytes: &[u8]) -> Option<(Pid, Verb, &[u8])>
     }
 }
 
-/// Returns the keyword that a line begins with, and the bytes after it. `None` says that [`read_in`]
-/// has to read the line.
+/// Returns the keyword that a line begins with, and the bytes after it. `None` says that
+/// [`read_in`] has to read the line.
 pub fn keyword_in(bytes: &[u8]) -> Option<(Keyword, &[u8])>
     ensures { IfSome result (λ found. (v : Version) → read_in v bytes.now
         ≡ allowed_in v (read_form (line_row found.0).1 (words_of found.1.now))) }
