@@ -1,6 +1,0 @@
-use Rattle.std.proofs.Common.{◌≡◌, ◌++◌, take}
-use Rattle.example_audit.specs.Places.{files_of}
-use Rattle.example_audit.proofs.places.push_all.Given as goal
-
-abbrev pub invariant-loop-file : goal.invariant-loop-file
-invariant-loop-file l = files_of l.places.items ≡ files_of l.fn.places.items ++ take l.file-index l.files

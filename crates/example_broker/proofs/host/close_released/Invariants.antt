@@ -1,6 +1,0 @@
--- Each round takes one value.
-use Rattle.std.specs.FinMap as map
-use Rattle.example_broker.proofs.host.close_released.Given as goal
-
-abbrev pub decreases-loop-file : goal.decreases-loop-file
-decreases-loop-file l = map.len l.engine.values

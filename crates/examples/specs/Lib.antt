@@ -1,0 +1,4 @@
+pub mod Calls
+pub mod Delivery
+pub mod Places
+pub mod Reclaim
