@@ -7,10 +7,10 @@ ghost use Rattle.af_base.specs.World as world;
 ghost use Rattle.af_base.specs.Names.{is_name, named};
 ghost use Rattle.af_base.specs.Counts.{waiting};
 ghost use Rattle.af_base.specs.Places.{backlog_at, table_at};
-ghost use Rattle.af_base.specs.Changes.{add_file, bound, connected, dequeued, install, listening};
-ghost use Rattle.af_base.specs.Changes.{queued, with_socket};
+ghost use Rattle.af_base.specs.Changes.{add_file, bound, dequeued, install, listening, queued};
+ghost use Rattle.af_base.specs.Changes.{with_socket};
 ghost use Rattle.af_base.specs.Refusals.{is_full, room_of, socket_at};
-ghost use Rattle.af_base.specs.Steps.{connected_socket, idle_socket};
+ghost use Rattle.af_base.specs.Steps.{idle_socket, with_embryo};
 ghost use Rattle.af_collect.specs.Limits.{IsBelowLimit};
 ghost use Rattle.af_collect.specs.Keeping.{Spares};
 ghost use Rattle.af_collect.specs.Shown.{room_at};
@@ -90,9 +90,7 @@ impl Store {
         requires room { IfSome (socket_at self.old.world listener.now) (λ s.
             length s.backlog < room_of s.state) }
         ensures ok { OnOk result (self.new ≡ record self.old {
-          world = with_socket (with_socket (add_file self.old.world
-              (world.AsSocket (connected_socket kind client.now))) client.now
-              (connected self.old.world.next_ino)) listener.now (queued self.old.world.next_ino);
+          world = with_embryo self.old.world client.now listener.now kind;
           marks = self.new.marks;
         }) }
         ensures err { OnErr result (self.new ≡ self.old) }
