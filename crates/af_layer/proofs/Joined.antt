@@ -7,8 +7,7 @@ use Rattle.af_base.specs.declared.limits.TheConstants.{MAX_SEATS}
 use Rattle.af_base.specs.Pass.{Machine}
 use Rattle.af_base.specs.Run.{Run}
 use Rattle.af_base.proofs.Runs.{run-append}
-use Rattle.af_layer.specs.declared.book.Entry.{Entry}
-use Rattle.af_layer.specs.Log.{IsLegalFrom, Pair, of_seat, pair_of}
+use Rattle.af_layer.specs.Log.{Entry, IsLegalFrom, Pair, of_seat, pair_of}
 use Rattle.af_layer.specs.Taken.{TakenLogsAreOne, TakenPartsAreOne, put_together}
 
 -- A log that is empty is legal from its machine on.

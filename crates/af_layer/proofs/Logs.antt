@@ -1,5 +1,5 @@
 -- A log grows by one entry as its machine makes one step.
-use Rattle.std.proofs.Common.{◌≡◌, ◌≤◌, ℕ, List, [], ◌∷◌, ◌++◌, map, sym, subst, ◌∙◌}
+use Rattle.std.proofs.Common.{◌≡◌, ◌≤◌, ℕ, List, [], ◌∷◌, ◌++◌, map, refl, sym, subst, ◌∙◌}
 use Rattle.std.specs.Prelude.{IsErrAnd, Option, Some, None, Result, Ok, Err}
 use Rattle.std.proofs.lemmas.List.Elements.{All-push}
 use Rattle.std.proofs.lemmas.List.{map-append}
@@ -7,9 +7,9 @@ use Rattle.af_base.specs.Pass.{Machine}
 use Rattle.af_base.specs.Run.{Run, Step}
 use Rattle.af_base.proofs.Runs.{run-push}
 use Rattle.af_layer.specs.declared.book.CallError.{CallError}
-use Rattle.af_layer.specs.declared.book.Entry.{Entry}
+use Rattle.af_layer.specs.declared.book.CallError.TheVariants as fault
 use Rattle.af_layer.specs.Calls.{Answers}
-use Rattle.af_layer.specs.Log.{IsLegalFrom, pair_of}
+use Rattle.af_layer.specs.Log.{Entry, IsLegalFrom, pair_of}
 
 -- An entry whose event and reply are one step is appended.
 pub logged : (n : ℕ) (a b c : Machine) (log room more : List Entry) (e : Entry) → room ≡ log → more ≡ room ++ e ∷ [] → 1 ≤ e.seat → e.seat ≤ n → IsLegalFrom a n b log → Step b e.event e.reply c → IsLegalFrom a n c more
@@ -31,3 +31,8 @@ answers-err A None e (Err x) made is = made ∙ is
 pub answers-ok : {A B : Type 0} (o : Option CallError) (a : A) (b : B) → Answers o (Ok a) → Answers o (Ok b)
 answers-ok (Some f) a b is = absurd cc
 answers-ok None a b is = is
+
+-- There it may also say that memory was refused.
+pub answers-no-room : {A : Type 0} (B : Type 0) (o : Option CallError) (a : A) → Answers o (Ok a) → Answers {R = B} o (Err fault.NoRoom)
+answers-no-room B (Some f) a is = absurd cc
+answers-no-room B None a is = refl

@@ -3,8 +3,7 @@ use Rattle.std.proofs.Common.{◌≡◌, ◌++◌, ℕ, List, [], sym, subst}
 use Rattle.std.specs.Prelude.{IfOk, OnErr, OnOk, Result, Ok, Err}
 use Rattle.af_base.specs.Pass.{Machine}
 use Rattle.af_base.specs.Run.{fresh}
-use Rattle.af_layer.specs.declared.book.Entry.{Entry}
-use Rattle.af_layer.specs.Log.{IsLegalFrom, IsReached, Logged}
+use Rattle.af_layer.specs.Log.{Entry, IsLegalFrom, IsReached, Logged}
 use Rattle.af_layer.proofs.Joined.{legal-append, legal-empty}
 
 -- The fresh machine is reached by a log without entries.

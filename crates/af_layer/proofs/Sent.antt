@@ -4,7 +4,9 @@ use denote.Param.Send.{IsSend, IsSync, sendable}
 use denote.Param.SendFields.{declared_send}
 use Rattle.std.proofs.Crossing.{crosses}
 use Rattle.af_steps.proofs.Crosses.{engine_send}
-use Rattle.af_layer.proofs.book.Entry.TheSendSync as entry
+use Rattle.af_base.proofs.events.Event.TheSendSync as event
+use Rattle.af_base.proofs.events.Reply.TheSendSync as reply
+use Rattle.af_layer.proofs.entry.Entry.TheSendSync as entry
 use Rattle.af_layer.specs.contracts.book.Book as Book
 use Rattle.af_layer.specs.contracts.book.Book.TheInside as BookInside
 use Rattle.af_layer.specs.contracts.layer.Layer as Layer
@@ -14,7 +16,7 @@ use Rattle.af_layer.specs.declared.origin.Origin as Origin
 use Rattle.af_layer.specs.contracts.shared.Shared as Shared
 
 book_inside : IsSend BookInside.the_row
-book_inside = declared_send BookInside.the_type (search (sendable, crosses) depth 20, (search sendable, (search (sendable, crosses) depth 20, (engine_send, (search (sendable, crosses, entry.the_send) depth 20, tt)))))
+book_inside = declared_send BookInside.the_type (search (sendable, crosses) depth 20, (search sendable, (search (sendable, crosses) depth 20, (engine_send, (search (sendable, crosses, entry.the_send) depth 20, (search (sendable, crosses, event.the_send, reply.the_send) depth 20, tt))))))
 
 book_send : IsSend Book.the_row
 book_send = search (sendable, book_inside) depth 10

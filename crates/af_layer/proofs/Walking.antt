@@ -5,9 +5,8 @@ use Rattle.std.specs.Option.{option_eq}
 use Rattle.std.proofs.lemmas.Bool.{cases_eq}
 use Rattle.std.proofs.lemmas.List.{get_or-set_other, get_or-set_same}
 use Rattle.af_base.proofs.Lookups.{none_some}
-use Rattle.af_layer.specs.declared.book.Entry.{Entry}
 use Rattle.af_layer.specs.Audit.{list_at}
-use Rattle.af_layer.specs.Log.{Pair, of_seat}
+use Rattle.af_layer.specs.Log.{Entry, Pair, of_seat}
 use Rattle.af_layer.specs.Seats.{Seated}
 use Rattle.af_layer.specs.Walk.{AllTrack, Tracks}
 

@@ -1,10 +1,9 @@
 -- The result of an audit.
 use Rattle.std.specs.Prelude.{◌≡◌, ◌≢◌, ◌⊎◌, ◌<◌, ◌≤◌, ℕ, List, [], length, slice_index_or, true, false}
-use Rattle.af_layer.specs.declared.book.Entry.{Entry}
 use Rattle.af_layer.specs.declared.audit.CloseFault.{CloseFault}
 use Rattle.af_layer.specs.declared.audit.CloseFault.TheVariants as fault
 use Rattle.af_layer.specs.Calls.{is_seat}
-use Rattle.af_layer.specs.Log.{Logged, Pair, of_seat}
+use Rattle.af_layer.specs.Log.{Entry, Logged, Pair, of_seat}
 use Rattle.af_layer.specs.Seats.{Seated}
 
 -- The seat at a position without one.

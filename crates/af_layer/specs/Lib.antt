@@ -6,6 +6,7 @@ pub mod Log
 pub mod Room
 pub mod Seats
 pub mod Shared
+pub mod Short
 pub mod Taken
 pub mod Walk
 pub mod Workers

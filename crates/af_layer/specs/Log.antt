@@ -7,7 +7,12 @@ use Rattle.af_base.specs.declared.events.Reply.{Reply}
 use Rattle.af_base.specs.declared.limits.TheConstants.{MAX_SEATS}
 use Rattle.af_base.specs.Pass.{Machine}
 use Rattle.af_base.specs.Run.{Run, fresh}
-use Rattle.af_layer.specs.declared.book.Entry.{Entry}
+
+-- One event that was done, from which seat, and what was answered.
+pub record Entry : Type 0 where
+  pub seat : ℕ
+  pub event : Event
+  pub reply : Reply
 
 -- An event and its reply.
 abbrev pub Pair : Type 0

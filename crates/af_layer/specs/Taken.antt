@@ -3,8 +3,7 @@ use Rattle.std.specs.Prelude.{◌≡◌, ◌≤◌, ◌∷◌, ℕ, List, []}
 use Rattle.std.specs.List.{flat_map}
 use Rattle.af_base.specs.declared.limits.TheConstants.{MAX_SEATS}
 use Rattle.af_base.specs.Pass.{Machine}
-use Rattle.af_layer.specs.declared.book.Entry.{Entry}
-use Rattle.af_layer.specs.Log.{IsLegalFrom, of_seat}
+use Rattle.af_layer.specs.Log.{Entry, IsLegalFrom, of_seat}
 
 -- Logs follow one another from the first machine to the second: each is legal from the machine
 -- where the one before it ended.

@@ -1,8 +1,7 @@
 -- One walk over the log, with a cursor for each seat.
 use Rattle.std.specs.Prelude.{◌≡◌, ◌≢◌, ◌<◌, ◌≤◌, ◌+◌, ◌↔◌, ℕ, List, Option, Some, None, drop, length, slice_index, slice_index_or}
 use Rattle.af_base.specs.declared.limits.TheConstants.{MAX_SEATS}
-use Rattle.af_layer.specs.declared.book.Entry.{Entry}
-use Rattle.af_layer.specs.Log.{Pair, of_seat}
+use Rattle.af_layer.specs.Log.{Entry, Pair, of_seat}
 use Rattle.af_layer.specs.Seats.{Seated}
 use Rattle.af_layer.specs.Audit.{list_at, number_at}
 

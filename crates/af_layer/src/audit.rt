@@ -1,16 +1,14 @@
 //! The audit: each seat's list is its part of the log. It takes no memory, and reads the log once.
-ghost use Rattle.std.specs.Prelude.{◌≡◌, ◌≢◌, ◌↔◌, ◌<◌, ◌≤◌, ◌+◌, ◌∷◌, ℕ, All, IsTrue, List};
+ghost use Rattle.std.specs.Prelude.{◌≡◌, ◌≢◌, ◌<◌, ◌≤◌, ◌+◌, ◌∷◌, ℕ, All, List};
 ghost use Rattle.std.specs.Prelude.{MatchBool, MatchOption, drop, length, slice_index};
-ghost use Rattle.af_layer.specs.declared.book.Entry.{Entry as LogEntry};
+ghost use Rattle.af_layer.specs.Log.{Entry as LogEntry};
 ghost use Rattle.af_layer.specs.Audit.{HasFault, IsAudited, IsMissing, IsStranger, IsWhole};
 ghost use Rattle.af_layer.specs.Audit.{IsWrong, NoStranger, NoneMissing, number_at};
-ghost use Rattle.af_layer.specs.Log.{pair_of};
 ghost use Rattle.af_layer.specs.Walk.{AllTrack, ArePlaces, Tracks};
 
-use crate::book::{Book, Entry};
+use crate::book::Book;
+use crate::entry::{Entry, EventReply};
 use crate::seat::Seat;
-use af_base::equality::{events_equal, replies_equal};
-use af_base::events::{Event, Reply};
 use af_base::limits::MAX_SEATS;
 
 /// The fault that an audit finds, in the order in which it looks.
@@ -26,13 +24,6 @@ pub enum CloseFault {
 
 /// One more than the largest number of a seat.
 const NUMBERS: usize = MAX_SEATS as usize + 1;
-
-/// Returns whether the entry has this event and this reply.
-fn is_pair(pair: &(Event, Reply), entry: &Entry) -> bool
-    ensures { IsTrue result ↔ (pair.now ≡ pair_of entry.now) }
-{
-    events_equal(&pair.0, &entry.event) && replies_equal(&pair.1, &entry.reply)
-}
 
 /// Returns whether one of the seats before this position has the number.
 fn is_before(seats: &[Seat], end: usize, number: u32) -> bool
@@ -94,14 +85,14 @@ fn places(seats: &[Seat], count: u32) -> [usize; NUMBERS]
 
 /// Returns how much of a list was in the log, after one entry more of its seat; `None` if the list
 /// differs.
-fn advance(list: &[(Event, Reply)], cursor: Option<usize>, entry: &Entry) -> Option<usize>
+fn advance(list: &[EventReply], cursor: Option<usize>, entry: &Entry) -> Option<usize>
     ensures { (log : List LogEntry) (i : ℕ) → drop i log ≡ entry.now ∷ drop (i + 1) log
         → Tracks log list.now entry.now.seat i cursor
         → Tracks log list.now entry.now.seat (i + 1) result }
 {
     let cursor = cursor?;
     let pair = list.get(cursor)?;
-    if is_pair(pair, entry) {
+    if pair.is_of(entry) {
         Some(cursor + 1)
     } else {
         None
@@ -118,7 +109,7 @@ fn walk(log: &[Entry], seats: &[Seat], places: &[usize], cursors: &mut [Option<u
     ensures { AllTrack log.now seats.now places.now (length log.now) cursors.new }
 {
     for entry in log {
-        let number = entry.seat as usize;
+        let number = entry.seat() as usize;
         let seat = &seats[places[number]];
         cursors[number] = advance(seat.list(), cursors[number], entry);
     }

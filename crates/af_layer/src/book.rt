@@ -1,12 +1,15 @@
 //! The engine, and the log of all that it did.
-ghost use Rattle.std.specs.Prelude.{◌≡◌, ◌<◌, ◌≤◌, [], IfOk, OnErr, OnOk, vec_capacity, vec_len};
+ghost use Rattle.std.specs.Prelude.{◌≡◌, ◌<◌, ◌≤◌, ◌++◌, ◌∷◌, [], IfOk, IsSome, OnErr, OnOk, vec_capacity, vec_len};
 ghost use Rattle.af_base.specs.Pass.{Machine};
 ghost use Rattle.af_base.specs.Run.{fresh};
 ghost use Rattle.af_layer.specs.Calls.{Answers, Calls, refusal};
 ghost use Rattle.af_layer.specs.Log.{IsLegalFrom};
-ghost use Rattle.af_layer.specs.Room.{most_bytes, most_fds};
+ghost use Rattle.af_layer.specs.Room.{HasRoomFor, most_bytes, most_fds};
+ghost use Rattle.af_layer.specs.Short.{event_of};
 
+use crate::entry::{Entry, Pair, fill};
 use crate::room::ReplyRoom;
+use crate::short::{ShortEvent, ShortReply};
 use af_base::events::{Event, Reply};
 use af_base::limits::{MAX_LOG, MAX_SEATS};
 use af_steps::Engine;
@@ -15,17 +18,6 @@ use std::marker::Model;
 use std::mem;
 use std::snapshot::Snapshot;
 use thiserror::Error;
-
-/// One event that was done, from which seat, and what was answered.
-#[derive(Debug, Drop)]
-pub struct Entry {
-    /// The number of the seat, from 1.
-    pub seat: u32,
-    /// The event.
-    pub event: Event,
-    /// The reply.
-    pub reply: Reply,
-}
 
 /// Why a call did nothing. It comes before the step: the engine, the log and the seat are as they
 /// were, and the event is given up.
@@ -54,6 +46,8 @@ pub struct Book {
     start: Snapshot<Engine>,
     engine: Engine,
     log: Vec<Entry>,
+    /// The box for the next entry that needs one.
+    spare: Option<Pair>,
 }
 
 impl Model for Book {
@@ -90,6 +84,7 @@ impl Book {
             start,
             engine,
             log: Vec::new(alloc),
+            spare: None,
         })
     }
 
@@ -141,32 +136,118 @@ impl Book {
         ensures refused { Answers (refusal self.old seat) result }
         ensures same { OnErr result (self.new ≡ self.old) }
     {
-        let room = room_for(self.alloc, self.seats, &mut self.log, seat, &event)?;
+        match ShortEvent::of(&event) {
+            Some(short) => self.call_short(seat, &event, &short),
+            None => self.call_whole(seat, event),
+        }
+    }
+
+    /// Does an event that has no bytes, and whose reply has none.
+    #[inline(always)]
+    pub(crate) fn call_short(
+        &mut self,
+        seat: u32,
+        event: &Event,
+        short: &ShortEvent,
+    ) -> Result<Reply, CallError>
+        requires event { event_of short.now ≡ event.now }
+        requires bytes { most_bytes event.now ≡ 0 }
+        requires fds { most_fds event.now ≡ 0 }
+        ensures done { IfOk result (λ reply. Calls self.old seat event.now reply self.new) }
+        ensures refused { Answers (refusal self.old seat) result }
+        ensures same { OnErr result (self.new ≡ self.old) }
+    {
+        room_for(self.alloc, self.seats, &mut self.log, &mut self.spare, seat)?;
+        // The reply of a sound world has no bytes.
+        self.engine.lemma_is_sound();
+        let reply = self.engine.step(event);
+        log_short(
+            self.alloc,
+            &mut self.log,
+            &mut self.spare,
+            seat as u8,
+            short,
+            &reply,
+        );
+        Ok(reply)
+    }
+
+    /// Does an event, and logs it in a box.
+    pub(crate) fn call_whole(&mut self, seat: u32, event: Event) -> Result<Reply, CallError>
+        ensures done { IfOk result (λ reply. Calls self.old seat event reply self.new) }
+        ensures refused { Answers (refusal self.old seat) result }
+        ensures same { OnErr result (self.new ≡ self.old) }
+    {
+        room_for(self.alloc, self.seats, &mut self.log, &mut self.spare, seat)?;
+        let Ok(room) = ReplyRoom::for_event(self.alloc, &event) else {
+            return Err(CallError::NoRoom);
+        };
         // The reply of a sound world fits in the room.
         self.engine.lemma_is_sound();
         let reply = self.engine.step(&event);
         let logged = room.copy(&reply);
-        self.log.push_reserved(Entry {
-            seat,
-            event,
-            reply: logged,
-        });
+        let entry = Entry::whole(seat as u8, event, logged, &mut self.spare);
+        self.log.push_reserved(entry);
         Ok(reply)
     }
 }
 
-/// Reserves room in the log of this many seats for an entry of this one, and for a copy of the
-/// reply to its event; or returns why the call does nothing. The log is unchanged.
+/// Logs an event without bytes, in few words if its reply can be told so. Each kind of entry is
+/// written where it stays, and not moved there.
+#[inline(always)]
+fn log_short(
+    alloc: Global,
+    log: &mut Vec<Entry>,
+    spare: &mut Option<Pair>,
+    seat: u8,
+    event: &ShortEvent,
+    reply: &Reply,
+)
+    requires room { vec_len log.old < vec_capacity log.old }
+    requires spare { IsSome spare.old }
+    requires fits { HasRoomFor (record { bytes = 0; fds = 0 }) reply.now }
+    ensures { log.new.items ≡ log.old.items
+        ++ record { seat = seat; event = event_of event.now; reply = reply.now } ∷ [] }
+{
+    match ShortReply::of(reply) {
+        Some(short) => log.push_reserved(Entry::short(seat, *event, short)),
+        None => log_boxed(alloc, log, spare, seat, event, reply),
+    }
+}
+
+/// Logs an event without bytes in a box.
+#[cold]
+#[inline(never)]
+fn log_boxed(
+    alloc: Global,
+    log: &mut Vec<Entry>,
+    spare: &mut Option<Pair>,
+    seat: u8,
+    event: &ShortEvent,
+    reply: &Reply,
+)
+    requires room { vec_len log.old < vec_capacity log.old }
+    requires spare { IsSome spare.old }
+    requires fits { HasRoomFor (record { bytes = 0; fds = 0 }) reply.now }
+    ensures { log.new.items ≡ log.old.items
+        ++ record { seat = seat; event = event_of event.now; reply = reply.now } ∷ [] }
+{
+    let logged = ReplyRoom::new(alloc).copy(reply);
+    log.push_reserved(Entry::whole(seat, event.event(), logged, spare));
+}
+
+/// Reserves room in the log of this many seats for an entry of this one; or returns why the call
+/// does nothing. The log is unchanged.
+#[inline(always)]
 fn room_for(
     alloc: Global,
     seats: u32,
     log: &mut Vec<Entry>,
+    spare: &mut Option<Pair>,
     seat: u32,
-    event: &Event,
-) -> Result<ReplyRoom, CallError>
-    ensures reply { IfOk result (λ room.
-        (most_bytes event.now ≤ room.bytes) × (most_fds event.now ≤ room.fds)) }
+) -> Result<(), CallError>
     ensures entry { OnOk result (vec_len log.new < vec_capacity log.new) }
+    ensures spare { OnOk result (IsSome spare.new) }
     ensures seat { OnOk result ((1 ≤ seat) × (seat ≤ seats)) }
     ensures refused { (start machine : Machine) → Answers (refusal (record {
       seats = seats;
@@ -182,11 +263,8 @@ fn room_for(
     if log.len() >= MAX_LOG {
         return Err(CallError::LogFull);
     }
-    let Ok(room) = ReplyRoom::for_event(alloc, event) else {
-        return Err(CallError::NoRoom);
-    };
-    if log.reserve(1).is_err() {
+    if log.reserve(1).is_err() || fill(alloc, spare).is_err() {
         return Err(CallError::NoRoom);
     }
-    Ok(room)
+    Ok(())
 }

@@ -3,7 +3,8 @@ ghost use Rattle.std.specs.Prelude.{◌≡◌, [], IfErr, IfOk, OnErr, OnOk};
 ghost use Rattle.af_layer.specs.Audit.{AreEmptied, HasFault, IsWhole};
 
 use crate::audit::{CloseFault, audit};
-use crate::book::{Book, Entry};
+use crate::book::Book;
+use crate::entry::Entry;
 use crate::seat::Seat;
 
 impl Book {

@@ -8,7 +8,8 @@ ghost use Rattle.af_layer.specs.Log.{HasLegalLog, IsLegal, IsLegalFrom, Logged};
 ghost use Rattle.af_layer.specs.Seats.{Seated, grown};
 
 use crate::audit::{CloseFault, audit};
-use crate::book::{Book, CallError, Entry};
+use crate::book::{Book, CallError};
+use crate::entry::Entry;
 use crate::origin::{BookFrom, Fresh, Origin, Reached};
 use crate::seat::Seat;
 use af_base::events::Event;

@@ -8,7 +8,8 @@ ghost use Rattle.af_layer.specs.Log.{HasLegalLog, IsReached};
 ghost use Rattle.af_layer.specs.Seats.{grown};
 
 use crate::audit::CloseFault;
-use crate::book::{Book, CallError, Entry};
+use crate::book::{Book, CallError};
+use crate::entry::Entry;
 use crate::seat::Seat;
 use af_base::events::Event;
 use std::marker::{Brand, Model, PhantomData};

@@ -1,11 +1,15 @@
 //! A seat: who calls, and what was answered to it.
-ghost use Rattle.std.specs.Prelude.{◌≡◌, ◌<◌, ◌⊎◌, [], IfErr, IfOk, None, OnErr, OnOk, Some};
-ghost use Rattle.std.specs.Prelude.{vec_capacity, vec_len};
+ghost use Rattle.std.specs.Prelude.{◌≡◌, ◌<◌, ◌⊎◌, ◌++◌, ◌∷◌, [], IfErr, IfOk, IsSome, None, OnErr};
+ghost use Rattle.std.specs.Prelude.{OnOk, Some, vec_capacity, vec_len};
 ghost use Rattle.af_base.specs.declared.events.Reply.{Reply as Answer};
 ghost use Rattle.af_layer.specs.Calls.{Calls, refusal};
+ghost use Rattle.af_layer.specs.Room.{most_bytes, most_fds};
 ghost use Rattle.af_layer.specs.Seats.{grown};
+ghost use Rattle.af_layer.specs.Short.{event_of};
 
 use crate::book::{Book, CallError};
+use crate::entry::{Entry, EventReply, Pair, fill};
+use crate::short::{ShortEvent, ShortReply};
 use af_base::events::{Event, Reply};
 use std::alloc::{AllocError, Global};
 use std::marker::Model;
@@ -14,7 +18,9 @@ use std::marker::Model;
 #[derive(Drop)]
 pub struct Seat {
     number: u32,
-    pub(crate) list: Vec<(Event, Reply)>,
+    list: Vec<EventReply>,
+    /// The box for the next pair that needs one.
+    spare: Option<Pair>,
 }
 
 impl Model for Seat {
@@ -33,6 +39,7 @@ impl Seat {
         Seat {
             number,
             list: Vec::new(alloc),
+            spare: None,
         }
     }
 
@@ -44,7 +51,7 @@ impl Seat {
     }
 
     /// Returns what was asked from here and answered, in order.
-    pub fn list(&self) -> &[(Event, Reply)]
+    pub fn list(&self) -> &[EventReply]
         ensures { result.now ≡ self.now.list }
     {
         self.list.as_slice()
@@ -71,27 +78,102 @@ impl Seat {
         ensures seat { OnErr result (self.new ≡ self.old) }
         ensures book { OnErr result (book.new ≡ book.old) }
     {
-        let kept = copy_for(&mut self.list, &event)?;
-        let reply = book.call(self.number, event)?;
-        self.list.push_reserved((kept, reply));
+        match ShortEvent::of(&event) {
+            Some(short) => self.call_short(book, &event, &short),
+            None => self.call_whole(book, event),
+        }
+    }
+
+    /// Does an event that has no bytes, and whose reply has none.
+    #[inline(always)]
+    fn call_short(
+        &mut self,
+        book: &mut Book,
+        event: &Event,
+        short: &ShortEvent,
+    ) -> Result<(), CallError>
+        requires event { event_of short.now ≡ event.now }
+        requires bytes { most_bytes event.now ≡ 0 }
+        requires fds { most_fds event.now ≡ 0 }
+        ensures done { OnOk result ((reply : Answer)
+            × (self.new ≡ grown self.old event.now reply)
+            × Calls book.old self.old.number event.now reply book.new) }
+        ensures open { OnOk result (refusal book.old self.old.number ≡ None) }
+        ensures refused { IfErr result (λ e.
+            (e ≡ CallError.NoRoom) ⊎ (refusal book.old self.old.number ≡ Some e)) }
+        ensures seat { OnErr result (self.new ≡ self.old) }
+        ensures book { OnErr result (book.new ≡ book.old) }
+    {
+        reserve(&mut self.list, &mut self.spare)?;
+        let reply = book.call_short(self.number, event, short)?;
+        keep_short(&mut self.list, &mut self.spare, short, reply);
+        Ok(())
+    }
+
+    /// Does an event, and keeps it in a box.
+    fn call_whole(&mut self, book: &mut Book, event: Event) -> Result<(), CallError>
+        ensures done { OnOk result ((reply : Answer) × (self.new ≡ grown self.old event reply)
+            × Calls book.old self.old.number event reply book.new) }
+        ensures open { OnOk result (refusal book.old self.old.number ≡ None) }
+        ensures refused { IfErr result (λ e.
+            (e ≡ CallError.NoRoom) ⊎ (refusal book.old self.old.number ≡ Some e)) }
+        ensures seat { OnErr result (self.new ≡ self.old) }
+        ensures book { OnErr result (book.new ≡ book.old) }
+    {
+        reserve(&mut self.list, &mut self.spare)?;
+        let Ok(kept) = copy_of(&event) else {
+            return Err(CallError::NoRoom);
+        };
+        let reply = book.call_whole(self.number, event)?;
+        keep_whole(&mut self.list, &mut self.spare, kept, reply);
         Ok(())
     }
 }
 
-/// Copies an event for this list, which has room for it then. The list is unchanged.
-fn copy_for(list: &mut Vec<(Event, Reply)>, event: &Event) -> Result<Event, CallError>
-    ensures copy { IfOk result (λ copy. copy ≡ event.now) }
+/// Keeps an event without bytes, in few words if its reply can be told so. Each kind of pair is
+/// written where it stays, and not moved there.
+#[inline(always)]
+fn keep_short(
+    list: &mut Vec<EventReply>,
+    spare: &mut Option<Pair>,
+    event: &ShortEvent,
+    reply: Reply,
+)
+    requires room { vec_len list.old < vec_capacity list.old }
+    requires spare { IsSome spare.old }
+    ensures { list.new.items ≡ list.old.items ++ (event_of event.now, reply) ∷ [] }
+{
+    match ShortReply::of(&reply) {
+        Some(short) => list.push_reserved(EventReply::of(Entry::short(0, *event, short))),
+        None => keep_whole(list, spare, event.event(), reply),
+    }
+}
+
+/// Keeps an event and its reply in a box.
+#[cold]
+#[inline(never)]
+fn keep_whole(list: &mut Vec<EventReply>, spare: &mut Option<Pair>, event: Event, reply: Reply)
+    requires room { vec_len list.old < vec_capacity list.old }
+    requires spare { IsSome spare.old }
+    ensures { list.new.items ≡ list.old.items ++ (event, reply) ∷ [] }
+{
+    let entry = Entry::whole(0, event, reply, spare);
+    list.push_reserved(EventReply::of(entry));
+}
+
+/// Reserves room for one pair more. The list is unchanged.
+#[inline(always)]
+fn reserve(list: &mut Vec<EventReply>, spare: &mut Option<Pair>) -> Result<(), CallError>
     ensures room { OnOk result (vec_len list.new < vec_capacity list.new) }
+    ensures spare { OnOk result (IsSome spare.new) }
     ensures err { IfErr result (λ e. e ≡ CallError.NoRoom) }
     ensures list { list.new.items ≡ list.old.items }
 {
-    if list.reserve(1).is_err() {
+    let alloc = *list.allocator();
+    if list.reserve(1).is_err() || fill(alloc, spare).is_err() {
         return Err(CallError::NoRoom);
     }
-    let Ok(copy) = copy_of(event) else {
-        return Err(CallError::NoRoom);
-    };
-    Ok(copy)
+    Ok(())
 }
 
 /// Copies an event.

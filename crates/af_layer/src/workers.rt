@@ -118,8 +118,11 @@ fn play<R: Wait, O: Origin, G: Gate>(
 fn next_event(seat: &Seat, budget: u32) -> Event
     ensures { result ≡ next_turn budget seat.now.list }
 {
-    match seat.list().last() {
-        Some((_, Reply::Started(_) | Reply::Working)) => Event::Slice(budget),
+    let Some(last) = seat.list().last() else {
+        return Event::Begin;
+    };
+    match *last.reply() {
+        Reply::Started(_) | Reply::Working => Event::Slice(budget),
         _ => Event::Begin,
     }
 }

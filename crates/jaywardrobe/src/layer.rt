@@ -17,6 +17,6 @@
 //! }
 //! ```
 pub use af_layer::{
-    Book, CallError, CloseError, CloseFault, Closed, DriveError, DriveFault, Entry, Gate, Layer,
-    OpenError, OpenGate, Seat, Turns, drive, taken_logs_are_one, taken_parts_are_one,
+    Book, CallError, CloseError, CloseFault, Closed, DriveError, DriveFault, Entry, EventReply,
+    Gate, Layer, OpenError, OpenGate, Seat, Turns, drive, taken_logs_are_one, taken_parts_are_one,
 };

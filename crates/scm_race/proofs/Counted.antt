@@ -5,8 +5,7 @@ use Rattle.std.specs.List.{All}
 use Rattle.std.proofs.lemmas.Bool.Decides.{eqb_tells, leb_tells}
 use Rattle.std.proofs.lemmas.List.Elements.{All-head, All-tail}
 use Rattle.std.proofs.lemmas.List.Sums.{sum_by-cons}
-use Rattle.af_layer.specs.declared.book.Entry.{Entry}
-use Rattle.af_layer.specs.Log.{of_seat, pair_of}
+use Rattle.af_layer.specs.Log.{Entry, of_seat, pair_of}
 use Rattle.scm_race.specs.Race.{worker_steps}
 
 -- The entry is of a seat that has a number.

@@ -10,10 +10,9 @@ use Rattle.af_base.specs.declared.events.Event.TheVariants as event
 use Rattle.af_base.specs.declared.events.Reply.TheVariants as reply
 use Rattle.af_base.specs.Pass.{Machine}
 use Rattle.af_base.specs.Run.{fresh}
-use Rattle.af_layer.specs.declared.book.Entry.{Entry}
 use Rattle.af_layer.specs.Audit.{AreEmptied, IsWhole, list_at, nobody, number_at}
 use Rattle.af_layer.specs.Drive.{Collects, Driven, Made, Script, Turned, WentOn, Work, events_of}
-use Rattle.af_layer.specs.Log.{IsLegal, IsLegalFrom, Logged, Pair, of_seat}
+use Rattle.af_layer.specs.Log.{Entry, IsLegal, IsLegalFrom, Logged, Pair, of_seat}
 use Rattle.af_layer.specs.Seats.{Seated}
 use Rattle.af_layer.proofs.Joined.{legal-append, part-append}
 use Rattle.scm_race.specs.Script.{script_of}

@@ -2,10 +2,9 @@
 use Rattle.std.specs.Prelude.{◌≡◌, ◌<◌, ◌≤◌, ◌+◌, ◌++◌, ℕ, List, [], drop, length, slice_index_or, take}
 use Rattle.af_base.specs.declared.events.Event.{Event}
 use Rattle.af_base.specs.Pass.{Machine}
-use Rattle.af_layer.specs.declared.book.Entry.{Entry}
 use Rattle.af_layer.specs.Audit.{list_at, number_at}
 use Rattle.af_layer.specs.Drive.{Turned, events_of}
-use Rattle.af_layer.specs.Log.{IsLegal, IsLegalFrom, Logged, Pair, of_seat}
+use Rattle.af_layer.specs.Log.{Entry, IsLegal, IsLegalFrom, Logged, Pair, of_seat}
 use Rattle.af_layer.specs.Seats.{Seated}
 use Rattle.scm_race.specs.Script.{script_of}
 use Rattle.scm_race.specs.Race.{EndsInPass, TurnedInParts, spawned}

@@ -7,9 +7,8 @@ use Rattle.af_base.specs.declared.events.Event.{Event}
 use Rattle.af_base.specs.declared.events.Event.TheVariants as event
 use Rattle.af_base.specs.declared.events.Reply.TheVariants as reply
 use Rattle.af_base.specs.declared.events.Step.TheVariants as step
-use Rattle.af_layer.specs.declared.book.Entry.{Entry}
 use Rattle.af_layer.specs.Drive.{Collects, Script, Turned, Work, events_of}
-use Rattle.af_layer.specs.Log.{IsLegal, Logged, Pair, of_seat}
+use Rattle.af_layer.specs.Log.{Entry, IsLegal, Logged, Pair, of_seat}
 use Rattle.af_layer.specs.Seats.{Seated}
 use Rattle.scm_race.specs.Script.{script_of}
 

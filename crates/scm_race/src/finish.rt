@@ -11,7 +11,7 @@ use crate::fault::RaceFault;
 use af_base::events::{Event, Reply, Step};
 use af_base::limits::MAX_BUDGET;
 use af_base::names::Pid;
-use af_layer::{Layer, Origin, Seat};
+use af_layer::{EventReply, Layer, Origin, Seat};
 use std::sync::Wait;
 
 /// After this many slices of the largest budget each pass is done: it works on only while all its
@@ -19,11 +19,14 @@ use std::sync::Wait;
 const MOST_SLICES: u32 = 4;
 
 /// Returns the child of an answered fork, if this is one.
-fn child_of(pair: &(Event, Reply)) -> Option<Pid>
+fn child_of(pair: &EventReply) -> Option<Pid>
     ensures { result ≡ child_of pair.now }
 {
-    match pair {
-        (Event::Proc(_, Step::Fork), Reply::Pid(child)) => Some(*child),
+    match *pair.event() {
+        Event::Proc(_, Step::Fork) => match *pair.reply() {
+            Reply::Pid(child) => Some(child),
+            _ => None,
+        },
         _ => None,
     }
 }
@@ -33,7 +36,7 @@ fn end_children_of<R: Wait, O: Origin>(
     rt: &R,
     layer: &Layer<O>,
     main: &mut Seat,
-    list: &[(Event, Reply)],
+    list: &[EventReply],
 ) -> Result<(), RaceFault>
     ensures number { main.new.number ≡ main.old.number }
     ensures exits { OnOk result (WentOn main.old.list (exits_of list.now) main.new.list) }
@@ -73,7 +76,10 @@ pub fn end_pass<R: Wait, O: Origin>(
 {
     'slices: for _ in 0..MOST_SLICES {
         layer.call(rt, main, Event::Slice(MAX_BUDGET))?;
-        if !matches!(main.list().last(), Some((_, Reply::Working))) {
+        let Some(last) = main.list().last() else {
+            break;
+        };
+        if !matches!(*last.reply(), Reply::Working) {
             break;
         }
     }
@@ -95,8 +101,11 @@ pub fn last_pass<R: Wait, O: Origin>(
         → main.new ≡ grown main.old Asked.Pass reply → fault ≡ RaceFault.Failed) }
 {
     layer.call(rt, main, Event::Pass)?;
-    match main.list().last() {
-        Some((_, Reply::Done { .. })) => Ok(()),
+    let Some(last) = main.list().last() else {
+        return Err(RaceFault::Failed);
+    };
+    match *last.reply() {
+        Reply::Done { .. } => Ok(()),
         _ => Err(RaceFault::Failed),
     }
 }

@@ -22,7 +22,7 @@ pub struct Outcome {
 pub fn steps_up_to(log: &[Entry], workers: u32) -> usize
     ensures { result ≡ worker_steps workers log.now }
 {
-    log.iter().filter(|entry| entry.seat <= workers).count()
+    log.iter().filter(|entry| entry.seat() <= workers).count()
 }
 
 impl Outcome {

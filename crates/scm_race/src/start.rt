@@ -50,9 +50,12 @@ fn start_process<R: Wait, O: Origin>(
         → main.new.list ≡ main.old.list ++ (spawn_of worker, reply) ∷ [] → fault ≡ of_spawn reply) }
 {
     layer.call(rt, main, spawn_of(worker))?;
-    match main.list().last() {
-        Some((_, Reply::Pid(pid))) if *pid == Pid(worker) => Ok(()),
-        Some((_, Reply::Refused(Errno::ENOMEM))) => Err(RaceFault::Memory),
+    let Some(last) = main.list().last() else {
+        return Err(RaceFault::Failed);
+    };
+    match *last.reply() {
+        Reply::Pid(pid) if pid == Pid(worker) => Ok(()),
+        Reply::Refused(Errno::ENOMEM) => Err(RaceFault::Memory),
         _ => Err(RaceFault::Failed),
     }
 }

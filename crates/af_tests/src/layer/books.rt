@@ -44,9 +44,13 @@ fn came_of(reply: &Reply) -> Came {
 /// Whether the log and the list end in the same event and reply.
 fn end_alike(book: &Book, seat: &Seat) -> Option<Came> {
     let entry = book.log().last()?;
-    let (event, reply) = seat.list().last()?;
-    if entry.seat == seat.number() && events_equal(&entry.event, event) && entry.reply == *reply {
-        Some(came_of(reply))
+    let pair = seat.list().last()?;
+    let reply = pair.reply();
+    if entry.seat() == seat.number()
+        && events_equal(&entry.event(), &pair.event())
+        && *entry.reply() == *reply
+    {
+        Some(came_of(&reply))
     } else {
         None
     }
@@ -72,9 +76,9 @@ fn call(book: &mut Book, seat: &Seat, event: Event) -> Came {
     let after = shown(book, seat);
     match (answered, book.log().last()) {
         (Ok(reply), Some(entry))
-            if after.0 == before.0.saturating_add(1) && entry.seat == 2 && entry.reply == reply => {
-            came_of(&reply)
-        }
+            if after.0 == before.0.saturating_add(1)
+                && entry.seat() == 2
+                && *entry.reply() == reply => { came_of(&reply) }
         (Err(CallError::NoRoom), _) if after == before => Came::NoMemory,
         _ => Came::Otherwise,
     }

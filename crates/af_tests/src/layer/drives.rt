@@ -38,8 +38,8 @@ fn driven<R: Threads + Wait + Sync>(
 /// Whether the events of this seat are its script.
 fn keeps_its_script(alloc: Global, seat: &Seat) -> Result<bool, AllocError> {
     let mut turn = 0u32;
-    for (event, _) in seat.list() {
-        if !events_equal(event, &event_at(alloc, seat.number(), turn)?) {
+    for pair in seat.list() {
+        if !events_equal(&pair.event(), &event_at(alloc, seat.number(), turn)?) {
             return Ok(false);
         }
         turn = turn.saturating_add(1);

@@ -236,7 +236,7 @@ fn starts(alloc: Global) -> Result<Vec<Vec<Event>>, AllocError> {
 /// Whether the process of this pid was started by the first call from this seat.
 fn started(seat: &Seat, pid: u32) -> bool {
     match seat.list().first() {
-        Some((_, reply)) => *reply == Reply::Pid(Pid(pid)),
+        Some(pair) => *pair.reply() == Reply::Pid(Pid(pid)),
         None => false,
     }
 }

@@ -116,14 +116,17 @@ fn connected<R: Threads + Wait + Sync>(
 
 /// Returns whether the last call of this seat was refused, since there are 65,536 live files.
 fn was_refused(seat: &Seat) -> bool {
-    matches!(seat.list().last(), Some((_, Reply::Refused(Errno::ENFILE))))
+    match seat.list().last() {
+        Some(pair) => *pair.reply() == Reply::Refused(Errno::ENFILE),
+        None => false,
+    }
 }
 
 /// Returns whether a pass was done from this seat.
 fn made_a_pass(seat: &Seat) -> bool {
     seat.list()
         .iter()
-        .any(|pair| matches!(pair.1, Reply::Done { .. }))
+        .any(|pair| matches!(*pair.reply(), Reply::Done { .. }))
 }
 
 /// Returns whether each seat but the last was refused a file, and the last made a pass.

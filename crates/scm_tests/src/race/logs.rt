@@ -72,7 +72,7 @@ fn driven<R: Threads + Wait + Sync>(rt: &R, alloc: Global) -> Option<Book> {
 fn keeps(log: &[Entry], seat: u32, script: &[Event]) -> bool {
     let mut rest = script.iter();
     for entry in log {
-        if entry.seat == seat && rest.next() != Some(&entry.event) {
+        if entry.seat() == seat && rest.next() != Some(&*entry.event()) {
             return false;
         }
     }

@@ -1,8 +1,8 @@
-use Rattle.std.proofs.Common.{rules, ◌<◌, ◌+◌, ap, length, slice_index, sym, ◌∙◌, subst}
+use Rattle.std.proofs.Common.{rules, ◌≡◌, ◌<◌, ◌+◌, ap, length, slice_index, slice_set, sym, ◌∙◌, subst}
 use Rattle.std.specs.Prelude.{None, slice_index_or}
 use Rattle.std.proofs.lemmas.List.{get_or_default}
 use Rattle.af_layer.specs.Audit.{nobody}
-use Rattle.af_layer.specs.Walk.{Tracks}
+use Rattle.af_layer.specs.Walk.{AllTrack, Tracks}
 use Rattle.af_layer.proofs.Walking.{entry-at, tracks-next}
 use Rattle.af_layer.proofs.audit.walk.Goals as goal
 
@@ -13,7 +13,11 @@ loop-entry-preserved c =
     let turn = entry-at c.args.log.now i e c.loop-entry-test.true c.entry-item.is in
     let number : e.seat < length c.args.places.now = search rules in
     let within = c.requires.places e.seat number in
-    let is = ap (λ s. s.list) (get_or_default c.args.seats.now (slice_index c.args.places.now e.seat) nobody c.index-seats-places.result within ∙ sym c.index-seats-places.is) ∙ sym c.list.ensures in
-    let before = subst (λ l. Tracks c.args.log.now l e.seat i (slice_index_or c.loop-entry.cursors e.seat None)) is (c.loop-entry.invariant e.seat number) in
-    tracks-next c.args.log.now c.args.seats.now c.args.places.now c.loop-entry.cursors i e c.advance.result turn (search rules) c.loop-entry.invariant
-    (subst (λ l. Tracks c.args.log.now l e.seat (i + 1) c.advance.result) (sym is) (c.advance.ensures c.args.log.now i turn before))
+    let seat = c.seat-number.ensures in
+    let there = subst (λ m. slice_index_or c.args.seats.now (slice_index c.args.places.now m) c.index-seats-places.result ≡ c.index-seats-places.result) seat (sym c.index-seats-places.is) in
+    let is = ap (λ s. s.list) (get_or_default c.args.seats.now (slice_index c.args.places.now e.seat) nobody c.index-seats-places.result within ∙ there) ∙ sym c.list.ensures in
+    let first = subst (λ l. Tracks c.args.log.now l e.seat i (slice_index_or c.loop-entry.cursors e.seat None)) is (c.loop-entry.invariant e.seat number) in
+    let before = subst (λ m. Tracks c.args.log.now c.list.result.now e.seat i (slice_index_or c.loop-entry.cursors m None)) (sym seat) first in
+    subst (λ m. AllTrack c.args.log.now c.args.seats.now c.args.places.now (i + 1) (slice_set c.loop-entry.cursors m c.advance.result)) (sym seat)
+    (tracks-next c.args.log.now c.args.seats.now c.args.places.now c.loop-entry.cursors i e c.advance.result turn (search rules) c.loop-entry.invariant
+    (subst (λ l. Tracks c.args.log.now l e.seat (i + 1) c.advance.result) (sym is) (c.advance.ensures c.args.log.now i turn before)))

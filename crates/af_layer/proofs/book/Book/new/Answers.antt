@@ -1,7 +1,6 @@
 use Rattle.std.proofs.Common.{rules, List, map, subst, sym}
 use Rattle.af_base.specs.Run.{Run}
-use Rattle.af_layer.specs.declared.book.Entry.{Entry}
-use Rattle.af_layer.specs.Log.{pair_of}
+use Rattle.af_layer.specs.Log.{Entry, pair_of}
 use Rattle.af_layer.proofs.book.Book.new.Goals as goal
 
 pub invariant_of-result : goal.invariant_of-result

@@ -1,0 +1,47 @@
+-- Events and replies in few words, and the entries that are kept so. The definitions are of this project's own.
+use Rattle.af_base.specs.declared.events.Event.{Event}
+use Rattle.af_base.specs.declared.events.Event.TheVariants as event
+use Rattle.af_base.specs.declared.events.Reply.{Reply}
+use Rattle.af_base.specs.declared.events.Reply.TheVariants as reply
+use Rattle.af_base.specs.declared.events.Step.TheVariants as step
+use Rattle.af_layer.specs.declared.entry.Form.{Form}
+use Rattle.af_layer.specs.declared.entry.Form.TheVariants as form
+use Rattle.af_layer.specs.declared.short.ShortEvent.{ShortEvent}
+use Rattle.af_layer.specs.declared.short.ShortEvent.TheVariants as asked
+use Rattle.af_layer.specs.declared.short.ShortReply.{ShortReply}
+use Rattle.af_layer.specs.declared.short.ShortReply.TheVariants as answered
+use Rattle.af_layer.specs.Log.{Entry}
+
+-- The event that few words tell.
+abbrev pub event_of : ShortEvent → Event
+event_of (asked.Spawn privileged uid nofile) = event.Spawn uid nofile privileged
+event_of (asked.Open pid) = event.Proc pid step.Open
+event_of (asked.Dup pid from) = event.Proc pid (step.Dup from)
+event_of (asked.Dup2 pid from to) = event.Proc pid (step.Dup2 from to)
+event_of (asked.Close pid fd) = event.Proc pid (step.Close fd)
+event_of (asked.Fork pid) = event.Proc pid step.Fork
+event_of (asked.Exit pid) = event.Proc pid step.Exit
+event_of (asked.Pair kind pid) = event.Proc pid (step.Pair kind)
+event_of (asked.Socket kind pid) = event.Proc pid (step.Socket kind)
+event_of (asked.Listen pid on backlog) = event.Proc pid (step.Listen on backlog)
+event_of (asked.Accept pid on) = event.Proc pid (step.Accept on)
+event_of (asked.Limit pid nofile) = event.Proc pid (step.Limit nofile)
+event_of asked.Begin = event.Begin
+event_of (asked.Slice budget) = event.Slice budget
+event_of asked.Pass = event.Pass
+
+-- The reply that few words tell.
+abbrev pub reply_of : ShortReply → Reply
+reply_of (answered.Pid pid) = reply.Pid pid
+reply_of (answered.Fd fd) = reply.Fd fd
+reply_of (answered.Fds first second) = reply.Fds first second
+reply_of answered.Ok = reply.Ok
+reply_of (answered.Started pass) = reply.Started pass
+reply_of answered.Working = reply.Working
+reply_of (answered.Done pass reclaimed) = reply.Done pass reclaimed
+reply_of (answered.Refused error) = reply.Refused error
+
+-- The entry that is kept in this form.
+abbrev pub entry_of : Form → Entry
+entry_of (form.Short seat e r) = record { seat = seat; event = event_of e; reply = reply_of r }
+entry_of (form.Whole seat both) = record { seat = seat; event = both.value.0; reply = both.value.1 }

@@ -1,0 +1,153 @@
+//! The entries of a log, and of the lists of seats. Each takes 32 bytes.
+//!
+//! Where the event and its reply have no bytes, an entry has them in few words. Else they are in a
+//! box, which is allocated before the step, so that no step is done that cannot be logged.
+ghost use Rattle.std.specs.Prelude.{◌≡◌, ◌↔◌, IsSome, IsTrue, OnOk};
+ghost use Rattle.std.specs.Cow.{cow_value};
+ghost use Rattle.af_layer.specs.Log.{pair_of};
+ghost use Rattle.af_layer.specs.Short.{event_of, reply_of};
+
+use crate::short::{ShortEvent, ShortReply};
+use af_base::equality::{events_equal, replies_equal};
+use af_base::events::{Event, Reply};
+use std::alloc::{AllocError, Global};
+use std::borrow::Cow;
+use std::marker::Model;
+
+/// A box for an event and its reply.
+pub type Pair = Box<(Event, Reply)>;
+
+/// How an entry is kept, after the number of its seat.
+#[derive(Drop)]
+pub enum Form {
+    /// In few words.
+    Short(u8, ShortEvent, ShortReply),
+    /// In a box.
+    Whole(u8, Pair),
+}
+
+/// One event that was done, from which seat, and what was answered.
+#[derive(Drop)]
+pub struct Entry {
+    form: Form,
+}
+
+impl Model for Entry {
+    ghost use Rattle.af_layer.specs.Log.{Entry};
+    ghost use Rattle.af_layer.specs.Short.{entry_of};
+
+    ghost Value = { Entry };
+
+    ghost view = { λ e. entry_of e.form };
+}
+
+impl Entry {
+    /// Makes an entry in few words.
+    #[inline(always)]
+    pub(crate) fn short(seat: u8, event: ShortEvent, reply: ShortReply) -> Entry
+        ensures { result ≡ record { seat = seat; event = event_of event; reply = reply_of reply } }
+    {
+        Entry {
+            form: Form::Short(seat, event, reply),
+        }
+    }
+
+    /// Makes an entry in the box that is there, and leaves none.
+    pub(crate) fn whole(seat: u8, event: Event, reply: Reply, spare: &mut Option<Pair>) -> Entry
+        requires { IsSome spare.old }
+        ensures { result ≡ record { seat = seat; event = event; reply = reply } }
+    {
+        let mut pair = spare.take().unwrap();
+        *pair = (event, reply);
+        Entry {
+            form: Form::Whole(seat, pair),
+        }
+    }
+
+    /// Returns the number of the seat, from 1.
+    pub fn seat(&self) -> u32
+        ensures { result ≡ self.now.seat }
+    {
+        match &self.form {
+            Form::Short(seat, _, _) | Form::Whole(seat, _) => u32::from(*seat),
+        }
+    }
+
+    /// Returns the event. Takes no memory.
+    pub fn event(&self) -> Cow<'_, Event>
+        ensures { cow_value result ≡ self.now.event }
+    {
+        match &self.form {
+            Form::Short(_, event, _) => Cow::Owned(event.event()),
+            Form::Whole(_, pair) => Cow::Borrowed(&pair.0),
+        }
+    }
+
+    /// Returns the reply. Takes no memory.
+    pub fn reply(&self) -> Cow<'_, Reply>
+        ensures { cow_value result ≡ self.now.reply }
+    {
+        match &self.form {
+            Form::Short(_, _, reply) => Cow::Owned(reply.reply()),
+            Form::Whole(_, pair) => Cow::Borrowed(&pair.1),
+        }
+    }
+}
+
+/// An event that was done from a seat, and what was answered.
+#[derive(Drop)]
+pub struct EventReply {
+    entry: Entry,
+}
+
+impl Model for EventReply {
+    ghost use Rattle.af_layer.specs.Log.{Pair, pair_of};
+
+    ghost Value = { Pair };
+
+    ghost view = { λ e. pair_of e.entry };
+}
+
+impl EventReply {
+    /// Makes the event and the reply of an entry.
+    #[inline(always)]
+    pub(crate) fn of(entry: Entry) -> EventReply
+        ensures { result ≡ pair_of entry }
+    {
+        EventReply { entry }
+    }
+
+    /// Returns the event. Takes no memory.
+    pub fn event(&self) -> Cow<'_, Event>
+        ensures { cow_value result ≡ self.now.0 }
+    {
+        self.entry.event()
+    }
+
+    /// Returns the reply. Takes no memory.
+    pub fn reply(&self) -> Cow<'_, Reply>
+        ensures { cow_value result ≡ self.now.1 }
+    {
+        self.entry.reply()
+    }
+
+    /// Returns whether the entry has this event and this reply.
+    pub(crate) fn is_of(&self, entry: &Entry) -> bool
+        ensures { IsTrue result ↔ (self.now ≡ pair_of entry.now) }
+    {
+        let event = self.event();
+        let reply = self.reply();
+        events_equal(&event, &entry.event()) && replies_equal(&reply, &entry.reply())
+    }
+}
+
+/// Allocates a box, unless there is one.
+#[inline(always)]
+pub fn fill(alloc: Global, spare: &mut Option<Pair>) -> Result<(), AllocError>
+    ensures { OnOk result (IsSome spare.new) }
+{
+    if spare.is_none() {
+        *spare = Some(Box::new(alloc, (Event::Begin, Reply::Ok))?);
+    }
+    Ok(())
+}
