@@ -1,7 +1,7 @@
 //! Measures typed calls by an engine alone and by one behind a lock, and that lock alone.
 //!
-//! A process opens a plain file and closes it, by turns; behind a lock, one in each thread. Each run
-//! is over a fresh engine.
+//! A process opens a plain file and closes it, by turns; behind a lock, one in each thread. Each
+//! run is over a fresh engine.
 
 use crate::runs::{Runs, print_times, refused, time_of};
 use af_base::names::{Fd, Pid, Uid};

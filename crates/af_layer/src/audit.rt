@@ -16,9 +16,9 @@ use af_base::limits::MAX_SEATS;
 pub enum CloseFault {
     /// The number of the first seat that the layer does not have, or that came before in the list.
     Stranger(u32),
-    /// Returns the least number without a seat.
+    /// The least number without a seat.
     Missing(u32),
-    /// Returns the least number of a seat whose list is not its part of the log.
+    /// The least number of a seat whose list is not its part of the log.
     Audit(u32),
 }
 

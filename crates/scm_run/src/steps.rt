@@ -50,8 +50,6 @@ pub fn do_step(
     ensures { StepDone verb engine.old pid rest.now
         text.old.items result text.new.items engine.new }
 {
-    // What a sound world answers is short.
-    engine.lemma_is_sound();
     match verb {
         Verb::Open => call!(push_fd(text), engine.open(pid), rest),
         Verb::Dup => call!(push_fd(text), engine.dup(pid; from), rest),
@@ -66,8 +64,8 @@ pub fn do_step(
         Verb::Connect => call!(push_done(text), engine.connect(pid; on, name), rest),
         Verb::Accept => call!(push_fd(text), engine.accept(pid; on), rest),
         Verb::Send => return send(alloc, engine, pid, rest, text),
-        Verb::Recv => call!(push_received(text), engine.recv(pid; on, max_bytes, max_fds), rest),
-        Verb::Peek => call!(push_received(text), engine.peek(pid; on, max_bytes, max_fds), rest),
+        Verb::Recv => return recv(engine, pid, rest, text),
+        Verb::Peek => return peek(engine, pid, rest, text),
         Verb::Limit => call!(push_done(text), engine.limit(pid; nofile), rest),
     }
     Ok(())
@@ -88,6 +86,34 @@ fn send(
 {
     let (on, bytes, attach) = forms::send(alloc, rest)?;
     push_sent(text, engine.send_owned(pid, on, bytes, attach.as_slice()));
+    Ok(())
+}
+
+// A receive and a peek are apart, so that no other step clears room for what they give.
+
+/// Does `P recv N N N`.
+#[inline(always)]
+fn recv(engine: &mut Engine, pid: Pid, rest: &[u8], text: &mut Vec<u8>) -> Result<(), LineFault>
+    requires { vec_len text.old + MAX_REPLY_LINE ≤ vec_capacity text.old }
+    ensures { StepDone verb.Recv engine.old pid rest.now
+        text.old.items result text.new.items engine.new }
+{
+    // What a sound world answers is short.
+    engine.lemma_is_sound();
+    call!(push_received(text), engine.recv(pid; on, max_bytes, max_fds), rest);
+    Ok(())
+}
+
+/// Does `P peek N N N`.
+#[inline(always)]
+fn peek(engine: &mut Engine, pid: Pid, rest: &[u8], text: &mut Vec<u8>) -> Result<(), LineFault>
+    requires { vec_len text.old + MAX_REPLY_LINE ≤ vec_capacity text.old }
+    ensures { StepDone verb.Peek engine.old pid rest.now
+        text.old.items result text.new.items engine.new }
+{
+    // What a sound world answers is short.
+    engine.lemma_is_sound();
+    call!(push_received(text), engine.peek(pid; on, max_bytes, max_fds), rest);
     Ok(())
 }
 

@@ -1,14 +1,7 @@
 use Rattle.af_base.specs.declared.events.Reply.TheVariants as reply
 use Rattle.af_base.specs.declared.events.Step.TheVariants as step
-use Rattle.af_steps.specs.Outcome.{got_reply}
-use Rattle.scm_run.proofs.StepLemmas.{ended_form, got_short, step_done}
+use Rattle.scm_run.proofs.StepLemmas.{ended_form, step_done}
 use Rattle.scm_run.proofs.steps.do_step.Goals as goal
-
-pub push_received-requires-clause-short : goal.push_received-requires-clause-short
-push_received-requires-clause-short c = got_short c.args.engine.now c.recv-in-Recv.new.self c.args.pid _ c.recv-in-Recv.result _ c.in-Some-recv.ensures c.lemma_is_sound.ensures c.recv-in-Recv.ensures.done
-
-pub push_received-requires-in-Peek-clause-short : goal.push_received-requires-in-Peek-clause-short
-push_received-requires-in-Peek-clause-short c = got_short c.args.engine.now c.peek-in-Peek.new.self c.args.pid _ c.peek-in-Peek.result _ c.in-Some-peek.ensures c.lemma_is_sound.ensures c.peek-in-Peek.ensures.done
 
 pub returns-else-not-is_end : goal.returns-else-not-is_end
 returns-else-not-is_end c = step_done _ _ _ _ _ c.args.rest.now _ _ _ c.open.result reply.Fd c.in-Open.is (ended_form step.Open _ c.if-not-is_end.ensures) c.open.ensures.done c.open.ensures.refused c.push_fd.ensures
@@ -45,12 +38,6 @@ returns-in-Some-connect c = step_done _ _ _ _ _ c.args.rest.now _ _ _ c.connect-
 
 pub returns-in-Some-accept : goal.returns-in-Some-accept
 returns-in-Some-accept c = step_done _ _ _ _ _ c.args.rest.now _ _ _ c.accept-in-Accept.result reply.Fd c.in-Accept.is c.in-Some-accept.ensures c.accept-in-Accept.ensures.done c.accept-in-Accept.ensures.refused c.push_fd-in-Accept.ensures
-
-pub returns-in-Some-recv : goal.returns-in-Some-recv
-returns-in-Some-recv c = step_done _ _ _ _ _ c.args.rest.now _ _ _ c.recv-in-Recv.result got_reply c.in-Recv.is c.in-Some-recv.ensures c.recv-in-Recv.ensures.done c.recv-in-Recv.ensures.refused c.push_received.ensures
-
-pub returns-in-Some-peek : goal.returns-in-Some-peek
-returns-in-Some-peek c = step_done _ _ _ _ _ c.args.rest.now _ _ _ c.peek-in-Peek.result got_reply c.in-Peek.is c.in-Some-peek.ensures c.peek-in-Peek.ensures.done c.peek-in-Peek.ensures.refused c.push_received-in-Peek.ensures
 
 pub returns-in-Some-limit : goal.returns-in-Some-limit
 returns-in-Some-limit c = step_done _ _ _ _ _ c.args.rest.now _ _ _ c.limit-in-Limit.result (λ _. reply.Ok) c.in-Limit.is c.in-Some-limit.ensures c.limit-in-Limit.ensures.done c.limit-in-Limit.ensures.refused c.push_done-in-Limit.ensures
