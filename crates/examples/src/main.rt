@@ -1,5 +1,5 @@
-//! Three programs over `jaywardrobe` alone, one after the other: a broker of descriptors, the system
-//! calls of a kernel, and an audit. The module of each is a program but for its `main`.
+//! Three programs over `jaywardrobe` alone, one after the other: a broker of descriptors, the
+//! system calls of a kernel, and an audit. The module of each is a program but for its `main`.
 #![tactic(auto)]
 
 mod audit;
