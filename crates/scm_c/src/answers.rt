@@ -1,6 +1,6 @@
 //! Replies as C sees them.
-ghost use Rattle.std.specs.Prelude.{◌≡◌, IfErr, OnOk, pos};
-ghost use Rattle.scm_c.specs.Codes.{code_of, error_code};
+ghost use Rattle.std.specs.Prelude.{◌≡◌};
+ghost use Rattle.scm_c.specs.Codes.{code_of, error_code, outcome_code};
 
 use af_base::errno::Errno;
 use af_base::events::Reply;
@@ -17,8 +17,7 @@ pub(crate) fn refusal(error: Errno) -> i64
 
 /// Returns the answer of a call that has no number to report: 0 once it is done.
 pub(crate) fn answer(outcome: Result<(), Errno>) -> i64
-    ensures ok { OnOk outcome (result ≡ pos 0) }
-    ensures refused { IfErr outcome (λ e. result ≡ error_code e) }
+    ensures { result ≡ outcome_code outcome }
 {
     match outcome {
         Ok(()) => 0,

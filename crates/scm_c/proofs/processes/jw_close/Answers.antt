@@ -1,30 +1,20 @@
-use Rattle.std.proofs.Common.{rules, ◌≡◌, inl, subst}
-use Rattle.std.specs.Prelude.{IfErr, OnOk}
+use Rattle.std.proofs.Common.{rules, ◌≡◌, ◌∙◌, inl, subst, sym}
+use mir.Syntax.{w64}
+use mir.Val.{to_z, of_z}
 use Rattle.af_base.specs.Pass.{Machine}
 use Rattle.af_base.specs.Run.{Step}
 use Rattle.af_base.specs.declared.events.Event.TheVariants as event
-use Rattle.af_base.specs.declared.events.Reply.TheVariants as reply
 use Rattle.af_base.specs.declared.events.Step.TheVariants as step
-use Rattle.af_steps.specs.Outcome.{Does, Refuses}
-use Rattle.af_steps.proofs.Folded.{does-step, refuses-step}
+use Rattle.scm_c.proofs.Outcomes.{outcome-step}
 use Rattle.scm_c.proofs.processes.jw_close.Goals as goal
 
-pub returns-in-Ok : goal.returns-in-Ok
-returns-in-Ok c =
+pub returns : goal.returns
+returns c =
     let old = c.in-Some.inside.value in
     let new = c.close-outcome.new.self in
-    let replied = reply.Ok in
+    let does = step.Close c.args.fd in
     let entered : c.deref_mut.result.now ≡ old = search rules in
-    let came : Does c.deref_mut.result.now c.args.pid (step.Close c.args.fd) replied new = subst (λ r. OnOk r (Does c.deref_mut.result.now c.args.pid (step.Close c.args.fd) reply.Ok new)) c.in-Ok.is c.close-outcome.ensures.done in
-    let did : Step old (event.Proc c.args.pid (step.Close c.args.fd)) replied new = subst (λ (m : Machine). Step m (event.Proc c.args.pid (step.Close c.args.fd)) replied new) entered (does-step c.deref_mut.result.now c.args.pid (step.Close c.args.fd) new replied came) in
-    inl (replied, (old, new, search rules, search rules, did), search rules)
-
-pub returns-in-Err : goal.returns-in-Err
-returns-in-Err c =
-    let old = c.in-Some.inside.value in
-    let new = c.close-outcome.new.self in
-    let replied = reply.Refused c.in-Err.error in
-    let entered : c.deref_mut.result.now ≡ old = search rules in
-    let came : Refuses c.deref_mut.result.now c.args.pid (step.Close c.args.fd) c.in-Err.error new = subst (λ r. IfErr r (λ e. Refuses c.deref_mut.result.now c.args.pid (step.Close c.args.fd) e new)) c.in-Err.is c.close-outcome.ensures.refused in
-    let did : Step old (event.Proc c.args.pid (step.Close c.args.fd)) replied new = subst (λ (m : Machine). Step m (event.Proc c.args.pid (step.Close c.args.fd)) replied new) entered (refuses-step c.deref_mut.result.now c.args.pid (step.Close c.args.fd) new c.in-Err.error came) in
-    inl (replied, (old, new, search rules, search rules, did), search rules)
+    let came = outcome-step c.deref_mut.result.now new c.args.pid does c.close-outcome.result c.close-outcome.ensures.done c.close-outcome.ensures.refused in
+    let did : Step old (event.Proc c.args.pid does) came.0 new = subst (λ (m : Machine). Step m (event.Proc c.args.pid does) came.0 new) entered came.1 in
+    let same : c.answer.result ≡ to_z w64 (of_z w64 c.answer.result) = search rules in
+    inl (came.0, (old, new, search rules, search rules, did), sym same ∙ c.answer.ensures ∙ came.2)
