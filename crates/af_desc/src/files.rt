@@ -20,7 +20,7 @@ ghost use Rattle.af_desc.specs.FilesView.{popped, received_from, received_of, so
 ghost use Rattle.af_desc.specs.FilesView.{without};
 
 use crate::counts::with_embryo;
-use crate::rows::Rows;
+use crate::rows::{Rows, widen};
 use crate::socket::{Endpoint, Socket};
 use af_base::events::{SockType, State};
 use af_base::file_list::swap_remove_file;
@@ -515,19 +515,6 @@ fn reserve(
     widen(waiting, all)?;
     widen(grey, all)?;
     rows.widen_lists(all, waiting.capacity().min(grey.capacity()))
-}
-
-/// Reserves room for this many files in a list. Nothing else changes, also on an error.
-#[inline(always)]
-fn widen(list: &mut Vec<FileRef>, files: usize) -> Result<(), AllocError>
-    ensures items { list.new.items ≡ list.old.items }
-    ensures ok { OnOk result (files ≤ vec_capacity list.new) }
-    ensures capacity { vec_capacity list.old ≤ vec_capacity list.new }
-{
-    if files <= list.capacity() {
-        return Ok(());
-    }
-    list.reserve(files - list.len())
 }
 
 /// Frees the name of a socket that is gone, if it had one.

@@ -36,7 +36,8 @@ use std::snapshot::Snapshot;
 #[derive(Drop)]
 pub struct Rows {
     lines: Lines,
-    /// For how many files in all each list of files has room: these two, and those of `Files`.
+    /// For how many files in all there is room in each list of files that is kept, here and in
+    /// `Files`.
     space: usize,
     /// Whether the list of changed sockets is kept.
     tells_changed: bool,
@@ -169,6 +170,7 @@ impl Rows {
         ensures room { self.old.room ≤ self.new.room + 1 }
     {
         self.lines.lemma_are_one();
+        // Nobody is told of a plain file: it is always ready.
         let is_socket = endpoint.is_some();
         let file = self.lines.push(ino, endpoint, place);
         note(
@@ -527,7 +529,7 @@ impl Rows {
 
 /// Reserves room for this many files in a list. Nothing else changes, also on an error.
 #[inline(always)]
-fn widen<T>(list: &mut Vec<T>, files: usize) -> Result<(), AllocError>
+pub(crate) fn widen<T>(list: &mut Vec<T>, files: usize) -> Result<(), AllocError>
     ensures items { list.new.items ≡ list.old.items }
     ensures ok { OnOk result (files ≤ vec_capacity list.new) }
     ensures capacity { vec_capacity list.old ≤ vec_capacity list.new }
