@@ -6,14 +6,14 @@ use Rattle.std.specs.List.{sum_by, Contains}
 use Rattle.std.specs.FinMap as finmap
 use Rattle.std.proofs.lemmas.List.Folds.{flat_map-map}
 use Rattle.af_base.specs.World.{World, Map, Process, File, Message, Plain, AsSocket, is_live}
-use Rattle.af_base.specs.Places.{table_at, held_by, contents, carried, queue_of}
+use Rattle.af_base.specs.Places.{table_at, held_by, contents, attached_in, queue_of}
 use Rattle.af_base.specs.Counts.{total_of, count_in, one, charge, tabled, refs, inflight, charged, total}
 use Rattle.af_base.specs.Reached.{Reached, ByTable, BySocket, Garbage}
 use Rattle.af_base.specs.Unheld.{map_entries}
 use Rattle.af_base.specs.Bare.{bare, bare_file, bare_message, bare_process}
-use Rattle.af_base.proofs.Settling.{get-map_entries}
+use Rattle.af_base.proofs.SettledWorlds.{get-map_entries}
 use Rattle.af_base.proofs.Lookups.{none_some, some_same}
-use Rattle.af_base.proofs.Listed.{sum_by-mapped}
+use Rattle.af_base.proofs.MapsOfLists.{sum_by-mapped}
 use Rattle.af_base.proofs.Totals.{total-same}
 
 module _ {X : Type 0} (g : X → X) where
@@ -33,7 +33,7 @@ module _ {X : Type 0} (g : X → X) where
       (λ k x is. (g x, get-each m k ∙ ap (option_map g) is, same x))
 
 -- A file is carried by a bare queue exactly when the queue carries it.
-carried-bare : (q : List Message) → carried (map bare_message q) ≡ carried q
+carried-bare : (q : List Message) → attached_in (map bare_message q) ≡ attached_in q
 carried-bare q = flat_map-map (λ m. m.attached) bare_message q
 
 -- A bare file holds the same files.
@@ -41,7 +41,7 @@ contents-bare : (x : File) → contents (bare_file x) ≡ contents x
 contents-bare Plain = refl
 contents-bare (AsSocket s) = ap (λ c. c ++ s.backlog) (carried-bare s.queue)
 
-queue-bare : (x : File) → carried (queue_of (bare_file x)) ≡ carried (queue_of x)
+queue-bare : (x : File) → attached_in (queue_of (bare_file x)) ≡ attached_in (queue_of x)
 queue-bare Plain = refl
 queue-bare (AsSocket s) = carried-bare s.queue
 
@@ -61,7 +61,7 @@ module _ (w : World) where
 
   -- The in-flight count.
   pub inflight-bare : (f : ℕ) → inflight (bare w) f ≡ inflight w f
-  inflight-bare f = total-each bare_file (λ x. count_in f (carried (queue_of x))) (λ x. ap (count_in f) (queue-bare x)) w.files
+  inflight-bare f = total-each bare_file (λ x. count_in f (attached_in (queue_of x))) (λ x. ap (count_in f) (queue-bare x)) w.files
 
   -- The charge of a user.
   pub charged-bare : (u : ℕ) → charged (bare w) u ≡ charged w u

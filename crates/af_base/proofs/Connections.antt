@@ -10,22 +10,22 @@ use Rattle.af_base.specs.declared.events.SockType.{SockType}
 use Rattle.af_base.specs.declared.events.State.TheVariants as state
 use Rattle.af_base.specs.declared.limits.TheConstants.{MAX_BACKLOG}
 use Rattle.af_base.specs.World.{AsSocket, IsLive, Socket, World, is_live}
-use Rattle.af_base.specs.Places.{Holds, carried, contents, queue_of}
+use Rattle.af_base.specs.Places.{Holds, attached_in, contents, queue_of}
 use Rattle.af_base.specs.Counts.{one, waiting}
-use Rattle.af_base.specs.Changes.{dequeued, add_file, bound, connected, listening, queued, with_socket}
+use Rattle.af_base.specs.Changes.{dequeued, add_file, with_name, connected, listening, queued, with_socket}
 use Rattle.af_base.specs.Names.{is_name}
 use Rattle.af_base.specs.Refusals.{is_full, room_of}
 use Rattle.af_base.specs.Steps.{connected_socket, with_embryo}
 use Rattle.af_base.specs.Whole.{AreMutual, IsSocketWithin, IsWhole, IsWithin, name_at, state_at, state_of}
-use Rattle.af_base.proofs.Born.{fresh_file}
+use Rattle.af_base.proofs.NewFiles.{fresh_file}
 use Rattle.af_base.proofs.Embryos.{Contains-dropped, length-drop_most, waiting-accepted, waiting-add_file, waiting-changed, waiting-none, waiting-queued}
-use Rattle.af_base.proofs.Held.{one-most}
+use Rattle.af_base.proofs.PlacesAndCounts.{one-most}
 use Rattle.af_base.proofs.Lookups.{insert-other, same_or_not, some_same, told_apart}
-use Rattle.af_base.proofs.Moved.{held-changed, live-changed, others-changed, state-others, state-there, there-changed, there-holds, total-changed}
-use Rattle.af_base.proofs.Named.{name-changed, names-bound, names-changed, names-kept}
-use Rattle.af_base.proofs.Opened.{blank-connected, blank-there, held-blank, live-blank, name-blank, still-blank, which-blank, within-blank}
-use Rattle.af_base.proofs.Whole.{has_peer, mutual-changed, not_connected, once-changed, peer_or, whole-socket}
-use Rattle.af_base.proofs.Within.{socket_same, within-changed}
+use Rattle.af_base.proofs.PlaceMoves.{held-changed, live-changed, others-changed, state-others, state-there, there-changed, there-holds, total-changed}
+use Rattle.af_base.proofs.SocketNames.{name-changed, names-bound, names-changed, names-kept}
+use Rattle.af_base.proofs.BlankFiles.{blank-connected, blank-there, held-blank, live-blank, name-blank, still-blank, which-blank, within-blank}
+use Rattle.af_base.proofs.StaysWhole.{has_peer, mutual-changed, not_connected, once-changed, peer_or, whole-socket}
+use Rattle.af_base.proofs.StaysWithin.{socket_same, within-changed}
 
 -- A socket changed within its limits, in all but its queue.
 within-still : (w : World) (s : ℕ) (g : Socket → Socket) (x : Socket) → IsWithin w → map.get w.files s ≡ Some (AsSocket x) → ((y : Socket) → (g y).queue ≡ y.queue) → (IsSocketWithin x → IsSocketWithin (g x)) → IsWithin (with_socket w s g)
@@ -33,12 +33,12 @@ within-still w s g x k at same fits = within-changed w s g k (λ y is. subst (λ
     (let most = k.flying in omega (arith, most, total-changed (λ y. sum_by (λ m. length m.attached) (queue_of y)) w s g (λ y. ap (sum_by (λ m. length m.attached)) (same y))))
 
 -- A socket that got a name that nobody had.
-pub whole-bound : (w : World) (s : ℕ) (given : List ℕ) → ((f : ℕ) → ¬ (name_at w f ≡ Some given)) → IsWhole w → IsWhole (with_socket w s (bound given))
-whole-bound w s given none k = whole-socket w s (bound given) (λ x f is h. inl h) (mutual-changed w s (bound given) (λ x. refl) k.peers) (names-bound w s given none k.names) (once-changed w s (bound given) (λ x. refl) k.embryos) k
+pub whole-bound : (w : World) (s : ℕ) (given : List ℕ) → ((f : ℕ) → ¬ (name_at w f ≡ Some given)) → IsWhole w → IsWhole (with_socket w s (with_name given))
+whole-bound w s given none k = whole-socket w s (with_name given) (λ x f is h. inl h) (mutual-changed w s (with_name given) (λ x. refl) k.peers) (names-bound w s given none k.names) (once-changed w s (with_name given) (λ x. refl) k.embryos) k
 
 -- A socket that got a name.
-pub within-bound : (w : World) (s : ℕ) (given : List ℕ) (x : Socket) → IsWithin w → map.get w.files s ≡ Some (AsSocket x) → is_name given ≡ true → IsWithin (with_socket w s (bound given))
-within-bound w s given x k at fits = within-still w s (bound given) x k at (λ y. refl) (λ before. record {
+pub within-bound : (w : World) (s : ℕ) (given : List ℕ) (x : Socket) → IsWithin w → map.get w.files s ≡ Some (AsSocket x) → is_name given ≡ true → IsWithin (with_socket w s (with_name given))
+within-bound w s given x k at fits = within-still w s (with_name given) x k at (λ y. refl) (λ before. record {
   queue = before.queue;
   least = before.least;
   room = before.room;
@@ -95,9 +95,9 @@ within-connected w s p x k at idle = within-still w s (connected p) x k at (λ y
 pub whole-queued : (w : World) (s n : ℕ) (x : Socket) → map.get w.files s ≡ Some (AsSocket x) → IsLive w n → waiting w n ≡ 0 → IsWhole w → IsWhole (with_socket w s (queued n))
 whole-queued w s n x at live none k = whole-socket w s (queued n) gain (mutual-changed w s (queued n) (λ y. refl) k.peers) (names-changed w s (queued n) (λ y. refl) k.names) once k where
   gain : (y : Socket) (f : ℕ) → map.get w.files s ≡ Some (AsSocket y) → Contains (contents (AsSocket (queued n y))) f → Contains (contents (AsSocket y)) f ⊎ IsLive w f
-  gain y f is h = elim (Contains-append_cases (carried y.queue) (y.backlog ++ n ∷ []) f h) [
-    | inl z ↦ inl (Contains-append_left (carried y.queue) y.backlog f z)
-    | inr z ↦ elim (Contains-push_cases y.backlog n f z) [ inl b ↦ inl (Contains-append_right (carried y.queue) y.backlog f b) | inr b ↦ inr (subst (IsLive w) b live) ]
+  gain y f is h = elim (Contains-append_cases (attached_in y.queue) (y.backlog ++ n ∷ []) f h) [
+    | inl z ↦ inl (Contains-append_left (attached_in y.queue) y.backlog f z)
+    | inr z ↦ elim (Contains-push_cases y.backlog n f z) [ inl b ↦ inl (Contains-append_right (attached_in y.queue) y.backlog f b) | inr b ↦ inr (subst (IsLive w) b live) ]
   ]
 
   once : (f : ℕ) → waiting (with_socket w s (queued n)) f ≤ 1
@@ -125,9 +125,9 @@ within-queued w s n x k at room = within-still w s (queued n) x k at (λ y. refl
 -- A listener without its first embryo.
 pub whole-accepted : (w : World) (s : ℕ) (x : Socket) → map.get w.files s ≡ Some (AsSocket x) → IsWhole w → IsWhole (with_socket w s dequeued)
 whole-accepted w s x at k = whole-socket w s dequeued
-    (λ y f is h. inl (elim (Contains-append_cases (carried y.queue) (drop 1 y.backlog) f h) [
-      | inl z ↦ Contains-append_left (carried y.queue) y.backlog f z
-      | inr z ↦ Contains-append_right (carried y.queue) y.backlog f (Contains-dropped y.backlog f z)
+    (λ y f is h. inl (elim (Contains-append_cases (attached_in y.queue) (drop 1 y.backlog) f h) [
+      | inl z ↦ Contains-append_left (attached_in y.queue) y.backlog f z
+      | inr z ↦ Contains-append_right (attached_in y.queue) y.backlog f (Contains-dropped y.backlog f z)
     ]))
     (mutual-changed w s dequeued (λ y. refl) k.peers) (names-changed w s dequeued (λ y. refl) k.names) (λ f. let once = k.embryos f in omega (arith, once, waiting-accepted w s x at f)) k
 
@@ -144,7 +144,7 @@ within-accepted w s x k at = within-still w s dequeued x k at (λ y. refl) (λ b
 
 -- The embryos of a listener are live.
 pub live-embryo : (w : World) (s f : ℕ) (x : Socket) → IsWhole w → map.get w.files s ≡ Some (AsSocket x) → Contains x.backlog f → IsLive w f
-live-embryo w s f x k at h = k.queues_live s f (there-holds w s f (AsSocket x) at (Contains-append_right (carried x.queue) x.backlog f h))
+live-embryo w s f x k at h = k.queues_live s f (there-holds w s f (AsSocket x) at (Contains-append_right (attached_in x.queue) x.backlog f h))
 
 -- A client that was never connected.
 module _ (w : World) (c : ℕ) (kind : SockType) (client : Socket) (k : IsWhole w) (client_there : map.get w.files c ≡ Some (AsSocket client)) (idle : client.state ≡ state.Idle) where

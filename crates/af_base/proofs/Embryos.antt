@@ -6,14 +6,14 @@ use Rattle.std.specs.FinMap as map
 use Rattle.std.proofs.lemmas.Bool.{cases_lt}
 use Rattle.std.proofs.lemmas.List.Elements.{Contains-append_right}
 use Rattle.af_base.specs.World.{AsSocket, File, Plain, Socket, World}
-use Rattle.af_base.specs.Places.{Holds, backlog_of, carried, queue_of}
+use Rattle.af_base.specs.Places.{Holds, attached_in, backlog_of, queue_of}
 use Rattle.af_base.specs.Counts.{count_in, one, waiting}
 use Rattle.af_base.specs.Unheld.{file_without, without}
 use Rattle.af_base.specs.Changes.{dequeued, add_file, file_with, queued, with_socket}
-use Rattle.af_base.proofs.Dropped.{without-was}
+use Rattle.af_base.proofs.FreedCounts.{without-was}
 use Rattle.af_base.proofs.Elements.{Contains-later}
-use Rattle.af_base.proofs.Held.{Contains-count, count-cons, total-some}
-use Rattle.af_base.proofs.Moved.{there-holds, total-changed}
+use Rattle.af_base.proofs.PlacesAndCounts.{Contains-count, count-cons, total-some}
+use Rattle.af_base.proofs.PlaceMoves.{there-holds, total-changed}
 use Rattle.af_base.proofs.Places.{count-append}
 use Rattle.af_base.proofs.Sums.{total-change_at, total-insert}
 use Rattle.af_base.proofs.Totals.{total-below}
@@ -72,6 +72,6 @@ pub waiting-none : (w : World) (f : ℕ) → ((s : ℕ) → ¬ (Holds w s f)) �
 waiting-none w f none = elim (cases_lt 0 (waiting w f)) [
   | inl some ↦
       let at = total-some (λ x. count_in f (backlog_of x)) w.files some in
-      absurd (none at.0 (there-holds w at.0 f at.1 at.2 (Contains-append_right (carried (queue_of at.1)) (backlog_of at.1) f (Contains-count f (backlog_of at.1) at.3))))
+      absurd (none at.0 (there-holds w at.0 f at.1 at.2 (Contains-append_right (attached_in (queue_of at.1)) (backlog_of at.1) f (Contains-count f (backlog_of at.1) at.3))))
   | inr low ↦ omega (arith, low)
 ]

@@ -8,7 +8,7 @@ use Rattle.std.specs.FinMap as map
 use Rattle.std.proofs.lemmas.Bool.{cases_Bool, eq-eqb, eqb-true, false≢true}
 use Rattle.af_base.specs.World.{Map}
 use Rattle.af_base.specs.Changes.{change_at}
-use Rattle.af_base.proofs.Stepping.{get-change_at}
+use Rattle.af_base.proofs.AllowedSteps.{get-change_at}
 
 -- Nothing is not something.
 pub none_some : {X : Type 0} (x : X) → None ≡ Some x → ⊥

@@ -14,10 +14,10 @@ use Rattle.af_base.specs.Steps.{connected_socket, with_pair}
 use Rattle.af_base.specs.Whole.{AreMutual, IsWhole, name_at, state_at, state_of}
 use Rattle.af_base.proofs.Lookups.{insert-here, insert-other, none_some, same_or_not, told_apart}
 use Rattle.af_base.proofs.Embryos.{waiting-add_file}
-use Rattle.af_base.proofs.Named.{name-there, names-kept}
-use Rattle.af_base.proofs.Settling.{none_in}
+use Rattle.af_base.proofs.SocketNames.{name-there, names-kept}
+use Rattle.af_base.proofs.SettledWorlds.{none_in}
 use Rattle.af_base.proofs.Sums.{total-insert}
-use Rattle.af_base.proofs.Whole.{not_connected, peer_or}
+use Rattle.af_base.proofs.StaysWhole.{not_connected, peer_or}
 
 -- With a file more come the places that it has.
 pub refs-add_file : (w : World) (x : File) (f : ℕ) → map.get w.files w.next_ino ≡ None → refs (add_file w x) f ≡ refs w f + count_in f (contents x)

@@ -6,7 +6,7 @@ use Rattle.std.specs.FinMap as map
 use Rattle.std.proofs.lemmas.List.Sums.{sum_by-append}
 use Rattle.std.proofs.lemmas.Grind.{flat_map-append}
 use Rattle.af_base.specs.World.{AsSocket, Message, Process, Socket, World}
-use Rattle.af_base.specs.Places.{carried, contents, queue_of}
+use Rattle.af_base.specs.Places.{attached_in, contents, queue_of}
 use Rattle.af_base.specs.Counts.{count_in, inflight, one, refs, total_of}
 use Rattle.af_base.specs.Changes.{file_with, install, push_message, uninstall, with_queue}
 use Rattle.af_base.proofs.Sums.{total-change_at, total-insert, total-remove}
@@ -25,8 +25,8 @@ refs-uninstall w p n g f q there is =
 pub count-append : (f : ℕ) (xs ys : List ℕ) → count_in f (xs ++ ys) ≡ count_in f xs + count_in f ys
 count-append f xs ys = sum_by-append _ xs ys
 
-pub carried-push : (q : List Message) (m : Message) → carried (q ++ m ∷ []) ≡ carried q ++ m.attached
-carried-push q m = flat_map-append (λ m. m.attached) q (m ∷ []) ∙ ap (λ xs. carried q ++ xs) (append-nil m.attached)
+pub carried-push : (q : List Message) (m : Message) → attached_in (q ++ m ∷ []) ≡ attached_in q ++ m.attached
+carried-push q m = flat_map-append (λ m. m.attached) q (m ∷ []) ∙ ap (λ xs. attached_in q ++ xs) (append-nil m.attached)
 
 -- a message put into a queue
 pub refs-push : (w : World) (s : ℕ) (m : Message) (f : ℕ) (x : Socket) → map.get w.files s ≡ Some (AsSocket x) → refs (push_message w s m) f ≡ refs w f + count_in f m.attached
@@ -35,37 +35,37 @@ refs-push w s m f x there =
       arith,
       total-change_at (λ y. count_in f (contents y)) (file_with (λ x. record x { queue = x.queue ++ m ∷ [] })) w.files s (AsSocket x) there,
       ap (λ c. count_in f (c ++ x.backlog)) (carried-push x.queue m),
-      count-append f (carried x.queue ++ m.attached) x.backlog,
-      count-append f (carried x.queue) m.attached,
-      count-append f (carried x.queue) x.backlog,
+      count-append f (attached_in x.queue ++ m.attached) x.backlog,
+      count-append f (attached_in x.queue) m.attached,
+      count-append f (attached_in x.queue) x.backlog,
     )
 
 pub inflight-push : (w : World) (s : ℕ) (m : Message) (f : ℕ) (x : Socket) → map.get w.files s ≡ Some (AsSocket x) → inflight (push_message w s m) f ≡ inflight w f + count_in f m.attached
 inflight-push w s m f x there =
     omega (
       arith,
-      total-change_at (λ y. count_in f (carried (queue_of y))) (file_with (λ x. record x { queue = x.queue ++ m ∷ [] })) w.files s (AsSocket x) there,
+      total-change_at (λ y. count_in f (attached_in (queue_of y))) (file_with (λ x. record x { queue = x.queue ++ m ∷ [] })) w.files s (AsSocket x) there,
       ap (count_in f) (carried-push x.queue m),
-      count-append f (carried x.queue) m.attached,
+      count-append f (attached_in x.queue) m.attached,
     )
 
 -- these files taken out of a queue
-pub refs-left : (w : World) (s : ℕ) (fs : List ℕ) (rest : List Message) (f : ℕ) (x : Socket) → map.get w.files s ≡ Some (AsSocket x) → fs ++ carried rest ≡ carried x.queue → refs (with_queue w s rest) f + count_in f fs ≡ refs w f
+pub refs-left : (w : World) (s : ℕ) (fs : List ℕ) (rest : List Message) (f : ℕ) (x : Socket) → map.get w.files s ≡ Some (AsSocket x) → fs ++ attached_in rest ≡ attached_in x.queue → refs (with_queue w s rest) f + count_in f fs ≡ refs w f
 refs-left w s fs rest f x there is =
     omega (
       arith,
       total-change_at (λ y. count_in f (contents y)) (file_with (λ x. record x { queue = rest })) w.files s (AsSocket x) there,
       ap (λ l. count_in f (l ++ x.backlog)) is,
-      count-append f (fs ++ carried rest) x.backlog,
-      count-append f fs (carried rest),
-      count-append f (carried rest) x.backlog,
+      count-append f (fs ++ attached_in rest) x.backlog,
+      count-append f fs (attached_in rest),
+      count-append f (attached_in rest) x.backlog,
     )
 
-pub inflight-left : (w : World) (s : ℕ) (fs : List ℕ) (rest : List Message) (f : ℕ) (x : Socket) → map.get w.files s ≡ Some (AsSocket x) → fs ++ carried rest ≡ carried x.queue → inflight (with_queue w s rest) f + count_in f fs ≡ inflight w f
+pub inflight-left : (w : World) (s : ℕ) (fs : List ℕ) (rest : List Message) (f : ℕ) (x : Socket) → map.get w.files s ≡ Some (AsSocket x) → fs ++ attached_in rest ≡ attached_in x.queue → inflight (with_queue w s rest) f + count_in f fs ≡ inflight w f
 inflight-left w s fs rest f x there is =
     omega (
       arith,
-      total-change_at (λ y. count_in f (carried (queue_of y))) (file_with (λ x. record x { queue = rest })) w.files s (AsSocket x) there,
+      total-change_at (λ y. count_in f (attached_in (queue_of y))) (file_with (λ x. record x { queue = rest })) w.files s (AsSocket x) there,
       ap (count_in f) is,
-      count-append f fs (carried rest),
+      count-append f fs (attached_in rest),
     )

@@ -9,7 +9,7 @@ use Rattle.std.specs.FinMap.Entries.{below_all}
 use Rattle.std.proofs.lemmas.List.Sums.{sum_by-cons}
 use Rattle.af_base.specs.World.{Map}
 use Rattle.af_base.specs.Counts.{total_of}
-use Rattle.af_base.proofs.Held.{here, later, none_below}
+use Rattle.af_base.proofs.PlacesAndCounts.{here, later, none_below}
 use Rattle.af_base.proofs.Sums.{total-remove, first, second}
 use Rattle.af_base.proofs.Lookups.{none_some, remove-other, same_or_not}
 

@@ -66,8 +66,8 @@ abbrev pub push_message : World → ℕ → Message → World
 push_message w s m = with_socket w s (pushed m)
 
 -- A socket with this abstract name (bind(2)).
-abbrev pub bound : List ℕ → Socket → Socket
-bound name s = record s { name = Some name }
+abbrev pub with_name : List ℕ → Socket → Socket
+with_name name s = record s { name = Some name }
 
 -- A socket that waits for connections, b of them at most (listen(2)).
 abbrev pub listening : ℕ → Socket → Socket

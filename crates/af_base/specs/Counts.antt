@@ -6,7 +6,7 @@ use Rattle.std.specs.List.{sum_by, count_by}
 use Rattle.std.specs.FinMap as map
 use Rattle.std.specs.Option.{option_map_or}
 use Rattle.af_base.specs.World.{World, Map, Message}
-use Rattle.af_base.specs.Places.{backlog_of, carried, contents, queue_of}
+use Rattle.af_base.specs.Places.{attached_in, backlog_of, contents, queue_of}
 
 -- The sum of the values of a map.
 abbrev pub total_of : {X : Type 0} → (X → ℕ) → Map X → ℕ
@@ -37,7 +37,7 @@ refs w f = tabled w f + total_of (λ x. count_in f (contents x)) w.files
 -- The in-flight count: how many queue places hold f, sent and not yet accepted by a receive
 -- (unix(7), ETOOMANYREFS).
 abbrev pub inflight : World → ℕ → ℕ
-inflight w f = total_of (λ x. count_in f (carried (queue_of x))) w.files
+inflight w f = total_of (λ x. count_in f (attached_in (queue_of x))) w.files
 
 -- How many backlog places hold f: one, where f is an embryo (listen(2)).
 abbrev pub waiting : World → ℕ → ℕ

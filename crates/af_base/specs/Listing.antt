@@ -86,11 +86,11 @@ pub record IsTally (counts : ℕ → ℕ) (xs : List ℕ) : Type 0 where
 
 -- The lists of a listing: its tables and files, the file of each place, the file of each place in a
 -- queue, and the user whom each of these is charged to.
-pub record AreListed (tables : List ListedTable) (files : List ListedFile)
-    (held queued payers : List ℕ) : Type 0 where
+pub record IsListing (tables : List ListedTable) (files : List ListedFile)
+    (held_files queued_files payers : List ℕ) : Type 0 where
   pub ordered_tables : AreTables tables
   pub ordered_files : AreFiles files
-  pub each_held : IsTally (refs (listed tables files)) held
-  pub each_queued : IsTally (inflight (listed tables files)) queued
-  pub all_queued : length queued ≡ total (listed tables files)
+  pub each_held : IsTally (refs (listed tables files)) held_files
+  pub each_queued : IsTally (inflight (listed tables files)) queued_files
+  pub all_queued : length queued_files ≡ total (listed tables files)
   pub each_payer : IsTally (charged (listed tables files)) payers

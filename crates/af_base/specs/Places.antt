@@ -25,12 +25,12 @@ backlog_of Plain = []
 backlog_of (AsSocket s) = s.backlog
 
 -- The files that travel in a queue, in order, repeats included.
-abbrev pub carried : List Message → List ℕ
-carried q = flat_map (λ m. m.attached) q
+abbrev pub attached_in : List Message → List ℕ
+attached_in q = flat_map (λ m. m.attached) q
 
 -- The files that a file holds: those in its queue, then those in its backlog.
 abbrev pub contents : File → List ℕ
-contents x = carried (queue_of x) ++ backlog_of x
+contents x = attached_in (queue_of x) ++ backlog_of x
 
 -- The queue of the file s of these.
 abbrev pub queue_in : Map File → ℕ → List Message
@@ -62,7 +62,7 @@ InTable w f = (p : ℕ) × (n : ℕ) × (table_at w p n ≡ Some f)
 
 -- A message in the queue of s holds f: f is in flight (unix(7), SCM_RIGHTS).
 abbrev pub InQueue : World → ℕ → ℕ → Type 0
-InQueue w s f = Contains (carried (queue_at w s)) f
+InQueue w s f = Contains (attached_in (queue_at w s)) f
 
 -- The backlog of s holds f: f is an embryo, connected and not accepted yet (listen(2), accept(2)).
 abbrev pub InBacklog : World → ℕ → ℕ → Type 0

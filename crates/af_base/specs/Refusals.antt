@@ -121,67 +121,67 @@ abbrev pub is_at_process_limit : World → Bool
 is_at_process_limit w = nat_le MAX_PROCESSES (map.len w.processes) || nat_lt MAX_PID w.next_pid
 
 -- Tests with their errors, in the order in which they are made.
-abbrev pub Row : Type 0
-Row = List (Bool × Errno)
+abbrev pub RefusalRow : Type 0
+RefusalRow = List (Bool × Errno)
 
 -- The error of the first test that fits.
-abbrev pub first_fit : Row → Option Errno
+abbrev pub first_fit : RefusalRow → Option Errno
 first_fit [] = None
 first_fit (r ∷ rs) = if r.0 then Some r.1 else first_fit rs
 
 -- ---- The parts of rows: each lists the tests of one look-up, over what it needs only.
 
 -- A process must be there (kill(2), ESRCH).
-abbrev pub on_process : Option Process → Row
+abbrev pub on_process : Option Process → RefusalRow
 on_process process = (not (is_some process), ESRCH) ∷ []
 
 -- A descriptor must be open (close(2), EBADF).
-abbrev pub on_number : Option ℕ → Row
+abbrev pub on_number : Option ℕ → RefusalRow
 on_number file = (is_none file, EBADF) ∷ []
 
 -- The file must be a socket (bind(2), ENOTSOCK).
-abbrev pub on_socket : Option Socket → Row
+abbrev pub on_socket : Option Socket → RefusalRow
 on_socket socket = (is_none socket, ENOTSOCK) ∷ []
 
 -- The process must have k numbers free (open(2), EMFILE).
-abbrev pub on_free : Process → ℕ → Row
+abbrev pub on_free : Process → ℕ → RefusalRow
 on_free q k = (is_short q k, EMFILE) ∷ []
 
 -- The world must have room for k files more (open(2), ENFILE).
-abbrev pub on_files : World → ℕ → Row
+abbrev pub on_files : World → ℕ → RefusalRow
 on_files w k = (is_full w k, ENFILE) ∷ []
 
 -- The world must have room for a process more (fork(2), EAGAIN).
-abbrev pub on_processes : World → Row
+abbrev pub on_processes : World → RefusalRow
 on_processes w = (is_at_process_limit w, EAGAIN) ∷ []
 
 -- A number in place of n must be n, or below the limit of the process (dup2(2), EBADF).
-abbrev pub on_place : Process → ℕ → ℕ → Row
+abbrev pub on_place : Process → ℕ → ℕ → RefusalRow
 on_place q n m = (not (nat_eq m n) && nat_le q.limit m, EBADF) ∷ []
 
 -- A limit on descriptors must be in its range (setrlimit(2); ERANGE is this project's profile).
-abbrev pub on_limit : ℕ → Row
+abbrev pub on_limit : ℕ → RefusalRow
 on_limit nofile = (nat_lt MAX_NOFILE nofile, ERANGE) ∷ []
 
 -- The socket must be new and nameless, and these bytes a name (bind(2), EINVAL).
-abbrev pub on_bind : Socket → List ℕ → Row
+abbrev pub on_bind : Socket → List ℕ → RefusalRow
 on_bind s name = (not (is_none s.name) || is_connected s.state || is_listening s.state || not (is_name name), EINVAL) ∷ []
 
 -- The name must be nobody's (bind(2), EADDRINUSE).
-abbrev pub on_name : Option ℕ → Row
+abbrev pub on_name : Option ℕ → RefusalRow
 on_name owner = (not (is_none owner), EADDRINUSE) ∷ []
 
 -- The socket must have a name and be new, and b be a right backlog (listen(2), EINVAL).
-abbrev pub on_listen : Socket → ℕ → Row
+abbrev pub on_listen : Socket → ℕ → RefusalRow
 on_listen s b = (is_none s.name || is_connected s.state || is_listening s.state || not (is_between 1 MAX_BACKLOG b), EINVAL) ∷ []
 
 -- A connecting socket must be new (connect(2), EISCONN).
-abbrev pub on_client : State → Row
+abbrev pub on_client : State → RefusalRow
 on_client s = (is_listening s, EINVAL) ∷ (is_connected s, EISCONN) ∷ []
 
 -- A connect needs a listener of the same type with room in its backlog (connect(2), ECONNREFUSED,
 -- EPROTOTYPE, EAGAIN).
-abbrev pub on_listener : Socket → SockType → Row
+abbrev pub on_listener : Socket → SockType → RefusalRow
 on_listener s kind =
     (not (is_listening s.state), ECONNREFUSED)
     ∷ (not (is_same_type s.kind kind), EPROTOTYPE)
@@ -189,12 +189,12 @@ on_listener s kind =
     ∷ []
 
 -- Somebody must wait at the socket to be accepted (accept(2), EINVAL, EAGAIN).
-abbrev pub on_accept : Socket → Row
+abbrev pub on_accept : Socket → RefusalRow
 on_accept s = (not (is_listening s.state), EINVAL) ∷ (nat_eq (length s.backlog) 0, EAGAIN) ∷ []
 
 -- A message must have a valid number of bytes and of descriptors, each of them open by this look-up
 -- (sendmsg(2); unix(7), SCM_RIGHTS).
-abbrev pub on_parts : (ℕ → Option ℕ) → List ℕ → List ℕ → Row
+abbrev pub on_parts : (ℕ → Option ℕ) → List ℕ → List ℕ → RefusalRow
 on_parts look bytes attach =
     (nat_eq (length bytes) 0 || nat_lt SCM_MAX_FD (length attach), EINVAL)
     ∷ (nat_lt MAX_BYTES (length bytes), EMSGSIZE)
@@ -202,25 +202,25 @@ on_parts look bytes attach =
     ∷ []
 
 -- A socket of this state must have somebody to talk to (sendmsg(2), ENOTCONN, EPIPE).
-abbrev pub on_peer : Socket → Row
+abbrev pub on_peer : Socket → RefusalRow
 on_peer s = (not (is_connected s.state), ENOTCONN) ∷ (is_hung_up s.state, EPIPE) ∷ []
 
 -- So many files more must not be too much in flight, for a user with this charge and limit, where
 -- all users together have that total (unix(7), ETOOMANYREFS; that the new ones do not count for the
 -- user, and ENOBUFS, are this project's profile).
-abbrev pub on_charge : ℕ → ℕ → ℕ → Bool → ℕ → Row
+abbrev pub on_charge : ℕ → ℕ → ℕ → Bool → ℕ → RefusalRow
 on_charge charge total limit privileged files =
     (nat_lt 0 files && (not privileged && nat_lt limit charge), ETOOMANYREFS)
     ∷ (nat_lt MAX_INFLIGHT (total + files), ENOBUFS)
     ∷ []
 
 -- The queue must have room for a message more (sendmsg(2), EAGAIN).
-abbrev pub on_room : List Message → Row
+abbrev pub on_room : List Message → RefusalRow
 on_room queue = (nat_le MAX_MESSAGES (length queue), EAGAIN) ∷ []
 
 -- The socket must have something to give to a receive of at most n bytes (recvmsg(2), EINVAL,
 -- ENOTCONN, EAGAIN).
-abbrev pub on_receive : Socket → ℕ → Row
+abbrev pub on_receive : Socket → ℕ → RefusalRow
 on_receive s max_bytes =
     (not (is_between 1 MAX_BYTES max_bytes), EINVAL)
     ∷ (not (is_connected s.state), ENOTCONN)
@@ -230,21 +230,21 @@ on_receive s max_bytes =
 -- ---- The rows, each the joining of its parts.
 
 -- Descriptor n of process p must be a socket (bind(2), EBADF, ENOTSOCK).
-abbrev pub at_socket : World → ℕ → ℕ → Row
+abbrev pub at_socket : World → ℕ → ℕ → RefusalRow
 at_socket w p n = on_number (table_at w p n) ++ on_socket (socket_at w (ino_on w p n))
 
 -- Why a receive of at most k bytes is refused, also as a peek (recvmsg(2), MSG_PEEK).
-abbrev pub recv_row : World → ℕ → ℕ → ℕ → Row
+abbrev pub recv_row : World → ℕ → ℕ → ℕ → RefusalRow
 recv_row w p n max_bytes = at_socket w p n ++ on_receive (socket_on w p n) max_bytes
 
 -- Why a process cannot start (getrlimit(2); fork(2), EAGAIN; this project's profile).
-abbrev pub spawn_row : World → ℕ → Row
+abbrev pub spawn_row : World → ℕ → RefusalRow
 spawn_row w nofile = on_limit nofile ++ on_processes w
 
 -- Why a step of a running process is refused, but for out of memory: open(2), dup(2), dup2(2),
 -- close(2), fork(2), _exit(2), socketpair(2), socket(2), bind(2), listen(2), connect(2), accept(2),
 -- sendmsg(2), recvmsg(2), setrlimit(2).
-abbrev pub step_row : World → ℕ → Step → Row
+abbrev pub step_row : World → ℕ → Step → RefusalRow
 step_row w p step.Open = on_free (process_at w p) 1 ++ on_files w 1
 step_row w p (step.Dup n) = on_number (table_at w p n) ++ on_free (process_at w p) 1
 step_row w p (step.Dup2 n m) = on_number (table_at w p n) ++ on_place (process_at w p) n m

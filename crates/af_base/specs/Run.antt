@@ -17,11 +17,11 @@ Step old (event.Slice budget) r new = GoesOn old.pass old budget r new
 Step old event.Pass r new = PassesWhole old.pass old r new
 
 -- An event and its reply.
-abbrev pub Entry : Type 0
-Entry = Event × Reply
+abbrev pub RunEntry : Type 0
+RunEntry = Event × Reply
 
 -- The events with these replies lead from `old` to `new`, one step after another.
-abbrev pub Run : Machine → List Entry → Machine → Type 0
+abbrev pub Run : Machine → List RunEntry → Machine → Type 0
 Run old [] new = new ≡ old
 Run old (e ∷ es) new = (mid : Machine) × Step old e.0 e.1 mid × Run mid es new
 

@@ -13,9 +13,9 @@ use Rattle.af_base.specs.declared.events.Reply.{Reply}
 use Rattle.af_base.specs.declared.events.Reply.TheVariants as reply
 use Rattle.af_base.specs.World.{World, Socket, Plain, AsSocket}
 use Rattle.af_base.specs.Places.{table_at}
-use Rattle.af_base.specs.Changes.{dequeued, add_file, add_process, add_user, bound, connected, install, install_all, listening, push_message, queued, remove_process, set_limit, uninstall, with_queue, with_socket}
+use Rattle.af_base.specs.Changes.{dequeued, add_file, add_process, add_user, with_name, connected, install, install_all, listening, push_message, queued, remove_process, set_limit, uninstall, with_queue, with_socket}
 use Rattle.af_base.specs.Table.{free_numbers, lowest_free}
-use Rattle.af_base.specs.Take.{Taken, take_from}
+use Rattle.af_base.specs.Take.{TakeResult, take_from}
 use Rattle.af_base.specs.Unheld.{Settles}
 use Rattle.af_base.specs.Refusals.{ino_named, ino_on, no_socket, peer_of, process_at, refusal, socket_named, socket_on, spawn_refusal}
 
@@ -49,7 +49,7 @@ abbrev pub first_embryo : World → ℕ → ℕ → ℕ
 first_embryo w p n = unwrap_or (slice_get (socket_on w p n).backlog 0) 0
 
 -- The messages that a receive takes.
-abbrev pub taken_on : World → ℕ → ℕ → ℕ → Taken
+abbrev pub taken_on : World → ℕ → ℕ → ℕ → TakeResult
 taken_on w p n max_bytes = take_from (socket_on w p n).kind (socket_on w p n).queue max_bytes
 
 -- The numbers at which a receive installs files: as many as were taken, as it may, and as are free
@@ -87,7 +87,7 @@ effect w p (step.Pair kind) = install (install (with_pair w kind) p (free_at w p
     (free_at w p 1) (w.next_ino + 1)
 effect w p (step.Socket kind) = install (add_file w (AsSocket (idle_socket kind))) p
     (free_at w p 0) w.next_ino
-effect w p (step.Bind n name) = with_socket w (ino_on w p n) (bound name)
+effect w p (step.Bind n name) = with_socket w (ino_on w p n) (with_name name)
 effect w p (step.Listen n b) = with_socket w (ino_on w p n) (listening b)
 effect w p (step.Connect n name) = with_embryo w (ino_on w p n) (ino_named w name) (socket_named w name).kind
 effect w p (step.Accept n) = install (with_socket w (ino_on w p n) dequeued) p (free_at w p 0)

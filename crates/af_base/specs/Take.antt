@@ -9,7 +9,7 @@ use Rattle.af_base.specs.declared.events.SockType.TheVariants.{Stream, Seqpacket
 
 -- The result of taking: the messages, whether bytes were dropped (recvmsg(2), MSG_TRUNC), and the
 -- rest of the queue.
-pub record Taken : Type 0 where
+pub record TakeResult : Type 0 where
   pub bytes : List ℕ
   pub attached : List ℕ
   pub trunc : Bool
@@ -20,12 +20,12 @@ abbrev pub joined : List Message → List ℕ
 joined q = flat_map (λ m. m.bytes) q
 
 -- Nothing, of no message.
-abbrev pub nothing_taken : Taken
+abbrev pub nothing_taken : TakeResult
 nothing_taken = record { bytes = []; attached = []; trunc = false; rest = [] }
 
 -- A packet: the first message's first n bytes and all that travels with it; the rest of its bytes
 -- is dropped (unix(7), SOCK_SEQPACKET).
-abbrev pub take_seqpacket : List Message → ℕ → Taken
+abbrev pub take_seqpacket : List Message → ℕ → TakeResult
 take_seqpacket [] n = nothing_taken
 take_seqpacket (m ∷ q) n = record {
   bytes = take n m.bytes;
@@ -49,7 +49,7 @@ has_files m = nat_lt 0 (length m.attached)
 
 -- Up to n bytes, and none past the end of the message that begins at `begin` and ends at `end`,
 -- whose files are taken with its first byte (unix(7): ancillary data are a barrier).
-abbrev pub take_to : List Message → ℕ → List ℕ → ℕ → ℕ → Taken
+abbrev pub take_to : List Message → ℕ → List ℕ → ℕ → ℕ → TakeResult
 take_to q n attached begin end = let c = min n end in record {
   bytes = take c (joined q);
   attached = if nat_lt begin c then attached else [];
@@ -59,13 +59,13 @@ take_to q n attached begin end = let c = min n end in record {
 
 -- A stream: up to n bytes over the borders of messages, up to the end of the first message with
 -- files (unix(7), SOCK_STREAM).
-abbrev pub take_stream : List Message → ℕ → Taken
+abbrev pub take_stream : List Message → ℕ → TakeResult
 take_stream q n =
     let begin = length (joined (take_while (λ m. not (has_files m)) q)) in
     option_map_or (λ m. take_to q n m.attached begin (begin + length m.bytes)) (find has_files q)
     (take_to q n [] begin begin)
 
 -- The result of a receive of at most n bytes, by the socket's type.
-abbrev pub take_from : SockType → List Message → ℕ → Taken
+abbrev pub take_from : SockType → List Message → ℕ → TakeResult
 take_from Stream q n = take_stream q n
 take_from Seqpacket q n = take_seqpacket q n

@@ -2,8 +2,8 @@
 ghost use Rattle.std.specs.Prelude.{◌≡◌};
 
 use crate::errno::Errno;
+use crate::ids::{Fd, Ino, Pid, Uid};
 use crate::items::Items;
-use crate::names::{Fd, Ino, Pid, Uid};
 
 /// A socket's type: how it keeps the borders between messages (unix(7)).
 #[derive(Clone, Copy, Debug, PartialEq, Eq)]

@@ -3,7 +3,7 @@ ghost use Rattle.std.specs.Prelude.{◌≡◌, ◌<◌, ◌-◌, ℕ, Some, IfSo
 ghost use Rattle.std.specs.Prelude.{nat_eq, slice_get, slice_index_or, vec_capacity};
 ghost use Rattle.af_base.specs.Counts.{count_in};
 
-use crate::names::{FileRef, Ino};
+use crate::ids::{FileRef, Ino};
 
 /// Returns the position of a file in the list, if it is there. Tries this position first, and then
 /// all from the end.

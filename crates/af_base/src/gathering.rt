@@ -4,10 +4,10 @@ ghost use Rattle.std.specs.List.{flat_map};
 ghost use Rattle.af_base.specs.Counts.{refs, inflight, charged, total};
 ghost use Rattle.af_base.specs.Listing.{AreFiles, AreTables, IsTally, file_of, inos_of, listed};
 ghost use Rattle.af_base.specs.Listing.{message_of, payers_of};
-ghost use Rattle.af_base.specs.Places.{carried, contents, queue_of};
+ghost use Rattle.af_base.specs.Places.{attached_in, contents, queue_of};
 
+use crate::ids::{Ino, Uid};
 use crate::listing::{ListedFile, ListedMessage, ListedTable};
-use crate::names::{Ino, Uid};
 use std::alloc::{AllocError, Global};
 
 /// Appends the files that the table's descriptors refer to.
@@ -20,10 +20,10 @@ fn push_inos(inos: &mut Vec<Ino>, table: &ListedTable) -> Result<(), AllocError>
     Ok(())
 }
 
-/// Appends the files that the queue of the file carries.
-fn push_carried(inos: &mut Vec<Ino>, file: &ListedFile) -> Result<(), AllocError>
+/// Appends the files attached to the messages of the file's queue.
+fn push_queued(inos: &mut Vec<Ino>, file: &ListedFile) -> Result<(), AllocError>
     ensures { OnOk result
-        (inos.new.items ≡ inos.old.items ++ carried (queue_of (file_of file.now))) }
+        (inos.new.items ≡ inos.old.items ++ attached_in (queue_of (file_of file.now))) }
 {
     let Some(socket) = &file.socket else {
         return Ok(());
@@ -38,7 +38,7 @@ fn push_carried(inos: &mut Vec<Ino>, file: &ListedFile) -> Result<(), AllocError
 fn push_contents(inos: &mut Vec<Ino>, file: &ListedFile) -> Result<(), AllocError>
     ensures { OnOk result (inos.new.items ≡ inos.old.items ++ contents (file_of file.now)) }
 {
-    push_carried(inos, file)?;
+    push_queued(inos, file)?;
     let Some(socket) = &file.socket else {
         return Ok(());
     };
@@ -71,7 +71,7 @@ fn push_payers(payers: &mut Vec<Uid>, file: &ListedFile) -> Result<(), AllocErro
 }
 
 /// Returns the file of each place, rising.
-pub fn held(
+pub fn held_files(
     alloc: Global,
     tables: &[ListedTable],
     files: &[ListedFile],
@@ -80,29 +80,29 @@ pub fn held(
     requires files { AreFiles files.now }
     ensures { IfOk result (λ xs. IsTally (refs (listed tables.now files.now)) xs.items) }
 {
-    let mut held = Vec::new(alloc);
+    let mut held_files = Vec::new(alloc);
     for table in tables {
-        push_inos(&mut held, table)?;
+        push_inos(&mut held_files, table)?;
     }
     for file in files {
-        push_contents(&mut held, file)?;
+        push_contents(&mut held_files, file)?;
     }
-    held.sort_unstable();
-    Ok(held)
+    held_files.sort_unstable();
+    Ok(held_files)
 }
 
 /// Returns the file of each place in a queue, rising.
-pub fn queued(alloc: Global, files: &[ListedFile]) -> Result<Vec<Ino>, AllocError>
+pub fn queued_files(alloc: Global, files: &[ListedFile]) -> Result<Vec<Ino>, AllocError>
     requires { AreFiles files.now }
     ensures each { IfOk result (λ xs. IsTally (inflight (listed [] files.now)) xs.items) }
     ensures all { IfOk result (λ xs. length xs.items ≡ total (listed [] files.now)) }
 {
-    let mut queued = Vec::new(alloc);
+    let mut queued_files = Vec::new(alloc);
     for file in files {
-        push_carried(&mut queued, file)?;
+        push_queued(&mut queued_files, file)?;
     }
-    queued.sort_unstable();
-    Ok(queued)
+    queued_files.sort_unstable();
+    Ok(queued_files)
 }
 
 /// Returns the user whom each place in a queue is charged to, rising.

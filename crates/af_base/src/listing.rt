@@ -5,7 +5,7 @@ ghost use Rattle.af_base.specs.Counts.{charged, count_in, inflight, refs, total}
 ghost use Rattle.af_base.specs.Listing.{AreTables, AreFiles, processes_of, files_of, listed};
 
 use crate::gathering;
-use crate::names::{Fd, Ino, Pid, Uid};
+use crate::ids::{Fd, Ino, Pid, Uid};
 use std::alloc::{AllocError, Global};
 use std::marker::Model;
 
@@ -60,8 +60,8 @@ pub struct ListedFile {
 pub struct Listing {
     tables: Vec<ListedTable>,
     files: Vec<ListedFile>,
-    held: Vec<Ino>,
-    queued: Vec<Ino>,
+    held_files: Vec<Ino>,
+    queued_files: Vec<Ino>,
     payers: Vec<Uid>,
 }
 
@@ -74,12 +74,12 @@ impl Model for Listing {
 
     ghost coded = { Prim.hlevel (codes, map.code) };
 
-    ghost use Rattle.af_base.specs.Listing.{AreListed, listed};
+    ghost use Rattle.af_base.specs.Listing.{IsListing, listed};
 
     ghost view = { λ a. listed a.tables.items a.files.items };
 
-    ghost invariant = { λ a. AreListed a.tables.items a.files.items a.held.items
-        a.queued.items a.payers.items };
+    ghost invariant = { λ a. IsListing a.tables.items a.files.items a.held_files.items
+        a.queued_files.items a.payers.items };
 }
 
 impl Listing {
@@ -94,14 +94,14 @@ impl Listing {
         requires files { AreFiles files.items }
         ensures { IfOk result (λ l. l ≡ listed tables.items files.items) }
     {
-        let held = gathering::held(alloc, tables.as_slice(), files.as_slice())?;
-        let queued = gathering::queued(alloc, files.as_slice())?;
+        let held_files = gathering::held_files(alloc, tables.as_slice(), files.as_slice())?;
+        let queued_files = gathering::queued_files(alloc, files.as_slice())?;
         let payers = gathering::payers(alloc, files.as_slice())?;
         Ok(Listing {
             tables,
             files,
-            held,
-            queued,
+            held_files,
+            queued_files,
             payers,
         })
     }
@@ -124,20 +124,20 @@ impl Listing {
 
     /// Returns the file of each place, in tables, queues and backlogs, rising: a file occurs once
     /// for each place that holds it.
-    pub fn held(&self) -> &[Ino]
+    pub fn held_files(&self) -> &[Ino]
         ensures rising { IsNonDecreasing result.now }
         ensures each { (f : ℕ) → count_in f result.now ≡ refs self.now f }
     {
-        self.held.as_slice()
+        self.held_files.as_slice()
     }
 
     /// Returns the file of each place in a queue, rising: a file occurs once for each such place.
-    pub fn queued(&self) -> &[Ino]
+    pub fn queued_files(&self) -> &[Ino]
         ensures rising { IsNonDecreasing result.now }
         ensures each { (f : ℕ) → count_in f result.now ≡ inflight self.now f }
         ensures all { length result.now ≡ total self.now }
     {
-        self.queued.as_slice()
+        self.queued_files.as_slice()
     }
 
     /// Returns the user whom each place in a queue is charged to, rising: a user occurs once for

@@ -3,8 +3,8 @@
 //! A process opens a plain file and closes it, by turns; behind a lock, one in each thread. Each
 //! run is over a fresh engine.
 
-use crate::runs::{Runs, print_times, refused, time_of};
-use af_base::names::{Fd, Pid, Uid};
+use crate::runs::{Runs, print_times, refusal, time_of};
+use af_base::ids::{Fd, Pid, Uid};
 use af_layer::Shared;
 use af_steps::Engine;
 use std::alloc::Global;
@@ -40,7 +40,7 @@ pub fn measure_engine<R: Clock + Print>(rt: &R, alloc: Global, runs: Runs) -> io
 fn time_of_engine<R: Clock>(rt: &R, alloc: Global, events: usize) -> io::Result<u128> {
     let mut engine = Engine::new(alloc)?;
     let Ok(pid) = engine.spawn(USER, NOFILE, false) else {
-        return Err(refused());
+        return Err(refusal());
     };
     time_of(rt, || calls_engine(&mut engine, pid, events))
 }
@@ -86,7 +86,7 @@ fn time_of_shared<R: Threads + Wait + Clock + Sync>(
     let mut callers = Vec::new(alloc);
     for _ in 0..threads {
         let Ok(pid) = shared.spawn(rt, USER, NOFILE, false) else {
-            return Err(refused());
+            return Err(refusal());
         };
         callers.push(Caller {
             pid,

@@ -3,9 +3,9 @@
 //! Each run is over a fresh layer. In each thread a process of its own opens a plain file and
 //! closes it, by turns.
 
-use crate::runs::{Runs, print_times, refused, time_of};
+use crate::runs::{Runs, print_times, refusal, time_of};
 use af_base::events::{Event, Step};
-use af_base::names::{Fd, Pid, Uid};
+use af_base::ids::{Fd, Pid, Uid};
 use af_layer::{Layer, OpenGate, Seat, drive};
 use std::alloc::Global;
 use std::io::{self, Print};
@@ -83,7 +83,7 @@ fn time_of_scripts<R: Threads + Wait + Clock + Sync>(
     scripts: Vec<Vec<Event>>,
 ) -> io::Result<u128> {
     if !start_processes(rt, layer, seats.as_mut_slice()) {
-        return Err(refused());
+        return Err(refusal());
     }
     time_of(rt, || are_driven(rt, layer, seats, scripts))
 }

@@ -19,7 +19,7 @@ use std::{env, io};
 
 /// The work that a command line asks for.
 #[derive(Clone, Copy)]
-enum Task {
+enum Benchmark {
     /// Measures a script, without its first lines, this many.
     Script(usize, Runs),
     /// Measures calls of a layer from this many threads.
@@ -32,35 +32,35 @@ enum Task {
     Lock(Runs),
 }
 
-impl Task {
+impl Benchmark {
     /// Returns the task that the words of a command line name, the program's own name first.
-    fn of(words: &[String]) -> Option<Task> {
+    fn of(words: &[String]) -> Option<Benchmark> {
         match words {
             [_, form, events, count] => {
-                Task::of_one_thread(form.as_str(), Runs::of(events, count)?)
+                Benchmark::of_one_thread(form.as_str(), Runs::of(events, count)?)
             }
             [_, form, first, events, count] => {
-                Task::of_threads(form.as_str(), first, Runs::of(events, count)?)
+                Benchmark::of_threads(form.as_str(), first, Runs::of(events, count)?)
             }
             _ => None,
         }
     }
 
     /// Returns the task of this form, which names nothing but its runs.
-    fn of_one_thread(form: &str, runs: Runs) -> Option<Task> {
+    fn of_one_thread(form: &str, runs: Runs) -> Option<Benchmark> {
         match form {
-            "engine" => Some(Task::Engine(runs)),
-            "lock" => Some(Task::Lock(runs)),
+            "engine" => Some(Benchmark::Engine(runs)),
+            "lock" => Some(Benchmark::Lock(runs)),
             _ => None,
         }
     }
 
     /// Returns the task of this form, which names a number before its runs.
-    fn of_threads(form: &str, first: &str, runs: Runs) -> Option<Task> {
+    fn of_threads(form: &str, first: &str, runs: Runs) -> Option<Benchmark> {
         match form {
-            "script" => Some(Task::Script(first.parse().ok()?, runs)),
-            "layer" => Some(Task::Layer(first.parse().ok()?, runs)),
-            "shared" => Some(Task::Shared(first.parse().ok()?, runs)),
+            "script" => Some(Benchmark::Script(first.parse().ok()?, runs)),
+            "layer" => Some(Benchmark::Layer(first.parse().ok()?, runs)),
+            "shared" => Some(Benchmark::Shared(first.parse().ok()?, runs)),
             _ => None,
         }
     }
@@ -71,12 +71,17 @@ fn main(rt: HostRuntime) -> io::Result<()> {
     if words.len() < 2 {
         return Ok(());
     }
-    match Task::of(words.as_slice()) {
-        Some(Task::Script(setup, runs)) => script::measure_input(&rt, setup, runs),
-        Some(Task::Layer(threads, runs)) => layer::measure(&rt, rt.alloc(), threads, runs),
-        Some(Task::Shared(threads, runs)) => calls::measure_shared(&rt, rt.alloc(), threads, runs),
-        Some(Task::Engine(runs)) => calls::measure_engine(&rt, rt.alloc(), runs),
-        Some(Task::Lock(runs)) => calls::measure_lock(&rt, rt.alloc(), runs),
+    match Benchmark::of(words.as_slice()) {
+        Some(Benchmark::Script(setup, runs)) => script::measure_input(&rt, setup, runs),
+        Some(Benchmark::Layer(threads, runs)) => layer::measure(&rt, rt.alloc(), threads, runs),
+        Some(Benchmark::Shared(threads, runs)) => calls::measure_shared(
+            &rt,
+            rt.alloc(),
+            threads,
+            runs,
+        ),
+        Some(Benchmark::Engine(runs)) => calls::measure_engine(&rt, rt.alloc(), runs),
+        Some(Benchmark::Lock(runs)) => calls::measure_lock(&rt, rt.alloc(), runs),
         None => usage(),
     }
 }

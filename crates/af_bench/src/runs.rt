@@ -48,12 +48,12 @@ pub fn time_of<R: Clock, F: FnOnce() -> bool>(rt: &R, are_done: F) -> io::Result
 {
     let start = Instant::now(rt)?;
     if !are_done() {
-        return Err(refused());
+        return Err(refusal());
     }
     Ok(start.elapsed(rt)?.as_nanos())
 }
 
 /// Returns the fault of an event that is refused.
-pub fn refused() -> io::Error {
+pub fn refusal() -> io::Error {
     io::Error::other("an event was refused")
 }

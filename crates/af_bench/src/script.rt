@@ -4,7 +4,7 @@
 //! over: a run continues where the one before it stopped, and the first line of the rest follows
 //! the last.
 
-use crate::runs::{Runs, print_times, refused, time_of};
+use crate::runs::{Runs, print_times, refusal, time_of};
 use af_base::events::{Event, Reply};
 use af_steps::Engine;
 use scm_lines::{Line, LineFault, line_of};
@@ -47,7 +47,7 @@ fn do_line(alloc: Global, engine: &mut Engine, line: &str) -> io::Result<()> {
     if is_done(engine, &event) {
         Ok(())
     } else {
-        Err(refused())
+        Err(refusal())
     }
 }
 

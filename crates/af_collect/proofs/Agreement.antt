@@ -6,34 +6,34 @@ use Rattle.std.specs.FinMap as map
 use Rattle.std.specs.Map.{lookup}
 use Rattle.std.specs.Ordering.{nat_cmp}
 use Rattle.af_base.specs.World.{AsSocket, File, Map, Message, Plain, Process, Socket, World, empty_world}
-use Rattle.af_base.specs.Places.{backlog_of, carried, contents, queue_of, table_at}
+use Rattle.af_base.specs.Places.{attached_in, backlog_of, contents, queue_of, table_at}
 use Rattle.af_base.specs.Counts.{charge, count_in, one, refs, total_of, waiting}
 use Rattle.af_base.specs.Changes.{add_file, add_process, add_user, dequeued, install, installed, limited, push_message, pushed, remove_process, set_limit, taken_out, uninstall, with_process, with_queue, with_socket}
 use Rattle.af_base.specs.Steps.{spawned}
 use Rattle.af_base.specs.Unheld.{without}
 use Rattle.af_base.specs.Whole.{IsWhole}
-use Rattle.af_base.proofs.Born.{fresh_process, total-empty}
+use Rattle.af_base.proofs.NewFiles.{fresh_process, total-empty}
 use Rattle.af_base.proofs.CountSums.{refs-add_up}
-use Rattle.af_base.proofs.Dropped.{same_queue, total-without}
+use Rattle.af_base.proofs.FreedCounts.{same_queue, total-without}
 use Rattle.af_base.proofs.Embryos.{waiting-changed}
-use Rattle.af_base.proofs.Held.{tabled-InTable}
-use Rattle.af_base.proofs.Limited.{count-limited}
+use Rattle.af_base.proofs.PlacesAndCounts.{tabled-InTable}
+use Rattle.af_base.proofs.ProcessLimits.{count-limited}
 use Rattle.af_base.proofs.Lookups.{changed-was, insert-here, insert-other, none_some, remove-here, remove-other, same_or_not, some_same}
-use Rattle.af_base.proofs.Moved.{table-there, there-table, total-changed}
+use Rattle.af_base.proofs.PlaceMoves.{table-there, there-table, total-changed}
 use Rattle.af_base.proofs.Places.{inflight-left, inflight-push}
 use Rattle.af_base.proofs.Totals.{total-most}
-use Rattle.af_base.proofs.Within.{total-left, total-push}
+use Rattle.af_base.proofs.StaysWithin.{total-left, total-push}
 use Rattle.af_ledger.specs.Counted.{uncounted}
-use Rattle.af_ledger.specs.Tally.{CanDropAll, Tally, count_in_map, count_of, dropped, dropped_all, has_count, held, held_all, is_user, refs_of, with_user}
+use Rattle.af_ledger.specs.Tally.{CanDropAll, Tally, count_in_map, count_of, has_count, is_user, refs_of, with_ref, with_refs, with_user, without_ref, without_refs}
 use Rattle.af_ledger.specs.declared.count.Count.{Count}
 use Rattle.af_ledger.specs.declared.place.Place.TheVariants.{Backlog, Queue, Table}
-use Rattle.af_ledger.proofs.HeldAll.{charge-dropped_all, charge-held_all, inflight-dropped_all, inflight-held_all, one-itself, same-user, tabled-dropped_all, tabled-held_all, total-dropped_all, total-held_all, users-dropped_all, users-held_all, waiting-dropped_all, waiting-held_all}
+use Rattle.af_ledger.proofs.ManyPlaces.{charge-dropped_all, charge-held_all, inflight-dropped_all, inflight-held_all, one-itself, same-user, tabled-dropped_all, tabled-held_all, total-dropped_all, total-held_all, users-dropped_all, users-held_all, waiting-dropped_all, waiting-held_all}
 use Rattle.af_ledger.proofs.Laws.{charge-added, count-entered, count-struck, inflight-tabled, inflight-unbacklogged, inflight-untabled, tabled-tabled, tabled-unbacklogged, tabled-untabled, waiting-tabled, waiting-unbacklogged, waiting-untabled}
 use Rattle.af_ledger.proofs.Users.{user-added, user-stays}
 use Rattle.af_collect.specs.Agreement.{Agrees}
-use Rattle.af_collect.proofs.Dropped.{same_backlog}
+use Rattle.af_collect.proofs.FreedFiles.{same_backlog}
 use Rattle.af_collect.proofs.Recounts.{charged-push, charged-shed, tabled-install, tabled-uninstall, total-new, total-weightless, waiting-dequeued}
-use Rattle.af_collect.proofs.Sheds.{Sheds}
+use Rattle.af_collect.proofs.QueueRests.{Sheds}
 
 -- Each process has a user that is kept.
 abbrev AreKnown : World → List (ℕ × ℕ) → Type 0
@@ -54,7 +54,7 @@ known-kept : (w : World) (us vs : List (ℕ × ℕ)) → ((u : ℕ) → IsTrue (
 known-kept w us vs stay known p q is = stay q.user (known p q is)
 
 -- A free number that is taken into use is a place more in a table.
-pub agrees-install : (w : World) (p n f : ℕ) (q : Process) (k : Tally) → map.get w.processes p ≡ Some q → map.get q.table n ≡ None → Agrees w k → Agrees (install w p n f) (held Table f k)
+pub agrees-install : (w : World) (p n f : ℕ) (q : Process) (k : Tally) → map.get w.processes p ≡ Some q → map.get q.table n ≡ None → Agrees w k → Agrees (install w p n f) (with_ref Table f k)
 agrees-install w p n f q k at free a = record {
   tabled = λ g. omega (arith, tabled-tabled f g k, tabled-install w p n f g q at free, a.tabled g);
   inflight = λ g. inflight-tabled f g k ∙ a.inflight g;
@@ -65,7 +65,7 @@ agrees-install w p n f q k at free a = record {
 }
 
 -- A number that is given up is a place less in a table.
-pub agrees-uninstall : (w : World) (p n f : ℕ) (k : Tally) → table_at w p n ≡ Some f → Agrees w k → Agrees (uninstall w p n) (dropped Table f k)
+pub agrees-uninstall : (w : World) (p n f : ℕ) (k : Tally) → table_at w p n ≡ Some f → Agrees w k → Agrees (uninstall w p n) (without_ref Table f k)
 agrees-uninstall w p n f k is a =
     let at = table-there w p n f is in
     let some : 0 < (count_of k f).tabled = omega (arith, tabled-InTable w f (p, n, is), a.tabled f) in
@@ -79,35 +79,35 @@ agrees-uninstall w p n f k is a =
     }
 
 -- A message put into a queue is a place more there for each file that it carries.
-pub agrees-push : (w : World) (s : ℕ) (m : Message) (x : Socket) (k : Tally) → map.get w.files s ≡ Some (AsSocket x) → IsTrue (is_user m.user k.users) → Agrees w k → Agrees (push_message w s m) (held_all (Queue m.user) m.attached k)
+pub agrees-push : (w : World) (s : ℕ) (m : Message) (x : Socket) (k : Tally) → map.get w.files s ≡ Some (AsSocket x) → IsTrue (is_user m.user k.users) → Agrees w k → Agrees (push_message w s m) (with_refs (Queue m.user) m.attached k)
 agrees-push w s m x k at there a = record {
   tabled = λ g. tabled-held_all m.user g m.attached k ∙ a.tabled g;
   inflight = λ g. omega (arith, inflight-held_all m.user g m.attached k, inflight-push w s m g x at, a.inflight g);
   waiting = λ g. waiting-held_all m.user g m.attached k ∙ a.waiting g ∙ sym (waiting-changed w s (pushed m) (λ y. refl) g);
   charged = λ u. omega (arith, charge-held_all m.user u m.attached k there, charged-push w s m u x at, a.charged u);
   total = omega (arith, total-held_all m.user m.attached k, total-push w s m x at, a.total);
-  known = known-kept w k.users (held_all (Queue m.user) m.attached k).users (λ u. same-user u k.users (held_all (Queue m.user) m.attached k).users (users-held_all m.user m.attached k)) a.known;
+  known = known-kept w k.users (with_refs (Queue m.user) m.attached k).users (λ u. same-user u k.users (with_refs (Queue m.user) m.attached k).users (users-held_all m.user m.attached k)) a.known;
 }
 
 -- A message taken out of a queue is a place less there for each file that it carries.
-pub agrees-shed : (w : World) (s : ℕ) (m : Message) (rest : List Message) (x : Socket) (k : Tally) → map.get w.files s ≡ Some (AsSocket x) → Sheds x.queue m rest → CanDropAll m.user m.attached k → Agrees w k → Agrees (with_queue w s rest) (dropped_all (Queue m.user) m.attached k)
+pub agrees-shed : (w : World) (s : ℕ) (m : Message) (rest : List Message) (x : Socket) (k : Tally) → map.get w.files s ≡ Some (AsSocket x) → Sheds x.queue m rest → CanDropAll m.user m.attached k → Agrees w k → Agrees (with_queue w s rest) (without_refs (Queue m.user) m.attached k)
 agrees-shed w s m rest x k at shed can a = record {
   tabled = λ g. tabled-dropped_all m.user g m.attached k ∙ a.tabled g;
   inflight = λ g. omega (arith, inflight-dropped_all m.user g m.attached k can, inflight-left w s m.attached rest g x at shed.leaves.carried, a.inflight g);
   waiting = λ g. waiting-dropped_all m.user g m.attached k ∙ a.waiting g ∙ sym (waiting-changed w s (λ y. record y { queue = rest }) (λ y. refl) g);
   charged = λ u. omega (arith, charge-dropped_all m.user u m.attached k can, charged-shed w s m rest u x at shed, a.charged u);
   total = omega (arith, total-dropped_all m.user m.attached k can, total-left w s x m.attached rest at shed.leaves, a.total);
-  known = known-kept w k.users (dropped_all (Queue m.user) m.attached k).users (λ u. same-user u k.users (dropped_all (Queue m.user) m.attached k).users (users-dropped_all m.user m.attached k)) a.known;
+  known = known-kept w k.users (without_refs (Queue m.user) m.attached k).users (λ u. same-user u k.users (without_refs (Queue m.user) m.attached k).users (users-dropped_all m.user m.attached k)) a.known;
 }
 
 -- The first embryo that leaves a backlog is a place less there.
-pub agrees-dequeued : (w : World) (s f : ℕ) (x : Socket) (k : Tally) → map.get w.files s ≡ Some (AsSocket x) → x.backlog ≡ f ∷ drop 1 x.backlog → Agrees w k → Agrees (with_socket w s dequeued) (dropped Backlog f k)
+pub agrees-dequeued : (w : World) (s f : ℕ) (x : Socket) (k : Tally) → map.get w.files s ≡ Some (AsSocket x) → x.backlog ≡ f ∷ drop 1 x.backlog → Agrees w k → Agrees (with_socket w s dequeued) (without_ref Backlog f k)
 agrees-dequeued w s f x k at first a =
     let fewer : (g : ℕ) → waiting (with_socket w s dequeued) g + one g f ≡ waiting w g = λ g. waiting-dequeued w s f g x at first in
     let some : 0 < (count_of k f).waiting = let mine = one-itself f in omega (arith, mine, fewer f, a.waiting f) in
     record {
       tabled = λ g. tabled-unbacklogged f g k ∙ a.tabled g;
-      inflight = λ g. inflight-unbacklogged f g k ∙ a.inflight g ∙ sym (total-changed (λ y. count_in g (carried (queue_of y))) w s dequeued (λ y. refl));
+      inflight = λ g. inflight-unbacklogged f g k ∙ a.inflight g ∙ sym (total-changed (λ y. count_in g (attached_in (queue_of y))) w s dequeued (λ y. refl));
       waiting = λ g. omega (arith, waiting-unbacklogged f g k some, fewer g, a.waiting g);
       charged = λ u. a.charged u ∙ sym (total-changed (λ y. sum_by (charge u) (queue_of y)) w s dequeued (λ y. refl));
       total = a.total ∙ sym (total-changed (λ y. sum_by (λ n. length n.attached) (queue_of y)) w s dequeued (λ y. refl));
@@ -117,13 +117,13 @@ agrees-dequeued w s f x k at first a =
 -- A file that holds nothing, and has no messages, has no embryos.
 backlog-bare : (x : File) → contents x ≡ [] → queue_of x ≡ [] → backlog_of x ≡ []
 backlog-bare Plain bare silent = refl
-backlog-bare (AsSocket x) bare silent = sym (ap (λ q. carried q ++ x.backlog) silent) ∙ bare
+backlog-bare (AsSocket x) bare silent = sym (ap (λ q. attached_in q ++ x.backlog) silent) ∙ bare
 
 -- An empty file is freed.
 pub agrees-gone : (w : World) (f : ℕ) (x : File) (k : Tally) → map.get w.files f ≡ Some x → contents x ≡ [] → queue_of x ≡ [] → Agrees w k → Agrees (without (nat_eq f) w) k
 agrees-gone w f x k is bare silent a = record {
   tabled = a.tabled;
-  inflight = λ g. omega (arith, gone (λ q. count_in g (carried q)) refl, a.inflight g);
+  inflight = λ g. omega (arith, gone (λ q. count_in g (attached_in q)) refl, a.inflight g);
   waiting = λ g. let none : count_in g (backlog_of x) ≡ 0 = ap (count_in g) (backlog-bare x bare silent) in omega (arith, none, total-without (λ y. count_in g (backlog_of y)) (λ h y. ap (count_in g) (same_backlog h y)) w f x is, a.waiting g);
   charged = λ u. omega (arith, gone (sum_by (charge u)) refl, a.charged u);
   total = omega (arith, gone (sum_by (λ n. length n.attached)) refl, a.total);
@@ -161,7 +161,7 @@ agrees-entered w f k new = agrees-counts w (map.insert k.counts f uncounted) k (
 pub agrees-new_file : (w : World) (x : File) (k : Tally) → map.get w.files w.next_ino ≡ None → contents x ≡ [] → queue_of x ≡ [] → Agrees w k → Agrees (add_file w x) k
 agrees-new_file w x k new empty silent a = record {
   tabled = a.tabled;
-  inflight = λ g. omega (arith, added (λ q. count_in g (carried q)) refl, a.inflight g);
+  inflight = λ g. omega (arith, added (λ q. count_in g (attached_in q)) refl, a.inflight g);
   waiting = λ g. let none : count_in g (backlog_of x) ≡ 0 = ap (count_in g) (backlog-bare x empty silent) in omega (arith, none, total-new (λ y. count_in g (backlog_of y)) w.files w.next_ino x new, a.waiting g);
   charged = λ u. omega (arith, added (sum_by (charge u)) refl, a.charged u);
   total = omega (arith, added (sum_by (λ n. length n.attached)) refl, a.total);
@@ -248,7 +248,7 @@ agrees-remove_process w p k empty a = record {
 pub agrees-empty : (k : Tally) → k.counts ≡ map.empty → k.users ≡ [] → k.total ≡ 0 → Agrees empty_world k
 agrees-empty k counts users total = record {
   tabled = λ f. let none = ap (λ c. c.tabled) (uncounted_here f) in omega (arith, none, tables f);
-  inflight = λ f. let none = ap (λ c. c.inflight) (uncounted_here f) in omega (arith, none, total-empty (λ (x : File). count_in f (carried (queue_of x))));
+  inflight = λ f. let none = ap (λ c. c.inflight) (uncounted_here f) in omega (arith, none, total-empty (λ (x : File). count_in f (attached_in (queue_of x))));
   waiting = λ f. let none = ap (λ c. c.waiting) (uncounted_here f) in omega (arith, none, total-empty (λ (x : File). count_in f (backlog_of x)));
   charged = λ u. let none = ap (λ us. unwrap_or (lookup (nat_eq u) us) 0) users in omega (arith, none, total-empty (λ (x : File). sum_by (charge u) (queue_of x)));
   total = omega (arith, total, total-empty (λ (x : File). sum_by (λ m. length m.attached) (queue_of x)));

@@ -11,18 +11,18 @@ use Rattle.af_base.specs.Places.{queue_of, table_at}
 use Rattle.af_base.specs.Counts.{charge, charged, one, tabled, total, total_of}
 use Rattle.af_base.specs.Whole.{IsWithin}
 use Rattle.af_base.proofs.CountSums.{inflight-total}
-use Rattle.af_base.proofs.Held.{one-most, tabled-InTable}
+use Rattle.af_base.proofs.PlacesAndCounts.{one-most, tabled-InTable}
 use Rattle.af_base.proofs.Lookups.{none_some, not_same, remove-here, remove-other, same_or_not, itself}
 use Rattle.af_base.proofs.Places.{inflight-left}
 use Rattle.af_base.proofs.Sums.{total-remove}
 use Rattle.af_base.proofs.Totals.{total-below, total-most}
-use Rattle.af_base.proofs.Within.{total-left}
+use Rattle.af_base.proofs.StaysWithin.{total-left}
 use Rattle.af_ledger.specs.Tally.{CanDrop, CanDropAll, CanHold, CanHoldAll, Tally, count_of, has_count, is_user}
 use Rattle.af_ledger.specs.declared.place.Place.TheVariants.{Backlog, Table}
-use Rattle.af_ledger.proofs.HeldAll.{one-itself}
+use Rattle.af_ledger.proofs.ManyPlaces.{one-itself}
 use Rattle.af_collect.specs.Agreement.{Agrees}
 use Rattle.af_collect.proofs.Recounts.{charged-shed, waiting-dequeued}
-use Rattle.af_collect.proofs.Sheds.{Sheds}
+use Rattle.af_collect.proofs.QueueRests.{Sheds}
 
 -- All numbers of the map are below n.
 abbrev AreBelow : ℕ → Map ℕ → Type 0

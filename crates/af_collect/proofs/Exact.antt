@@ -18,32 +18,32 @@ use Rattle.af_base.specs.Refusals.{is_at_process_limit, is_full}
 use Rattle.af_base.specs.Steps.{connected_socket, spawned, with_pair}
 use Rattle.af_base.specs.Unheld.{without}
 use Rattle.af_base.specs.Whole.{IsMessageWithin, IsSound, IsWhole, IsWithin}
-use Rattle.af_base.proofs.Born.{fresh_file, whole-spawned}
+use Rattle.af_base.proofs.NewFiles.{fresh_file, whole-spawned}
 use Rattle.af_base.proofs.Connections.{live-embryo, whole-accepted, within-accepted}
 use Rattle.af_base.proofs.Elements.{Contains-first, Contains-later}
-use Rattle.af_base.proofs.Ended.{whole-remove_process, within-remove_process}
+use Rattle.af_base.proofs.ProcessExits.{whole-remove_process, within-remove_process}
 use Rattle.af_base.proofs.Free.{AreFree, first-free, first-low, rest-free}
-use Rattle.af_base.proofs.Limited.{whole-limited, within-limited}
+use Rattle.af_base.proofs.ProcessLimits.{whole-limited, within-limited}
 use Rattle.af_base.proofs.Lookups.{insert-other, itself, not_same, told_apart}
-use Rattle.af_base.proofs.Moved.{live-changed, there-install}
-use Rattle.af_base.proofs.Opened.{whole-plain, within-plain}
+use Rattle.af_base.proofs.PlaceMoves.{live-changed, there-install}
+use Rattle.af_base.proofs.BlankFiles.{whole-plain, within-plain}
 use Rattle.af_base.proofs.Pairs.{whole-pair}
-use Rattle.af_base.proofs.Placed.{settled-counted}
-use Rattle.af_base.proofs.Settling.{live-without}
-use Rattle.af_base.proofs.Sound.{fresh_sound}
-use Rattle.af_base.proofs.Whole.{whole-install, whole-left, whole-push, whole-uninstall, whole-unheld}
-use Rattle.af_base.proofs.Within.{below-most, within-install, within-left, within-pair, within-push, within-spawned, within-uninstall, within-without}
+use Rattle.af_base.proofs.SettledPlaces.{settled-counted}
+use Rattle.af_base.proofs.SettledWorlds.{live-without}
+use Rattle.af_base.proofs.Soundness.{fresh_sound}
+use Rattle.af_base.proofs.StaysWhole.{whole-install, whole-left, whole-push, whole-uninstall, whole-unheld}
+use Rattle.af_base.proofs.StaysWithin.{below-most, within-install, within-left, within-pair, within-push, within-spawned, within-uninstall, within-without}
 use Rattle.af_ledger.specs.Counted.{places_in, uncounted}
-use Rattle.af_ledger.specs.Tally.{Tally, dropped, dropped_all, has_count, held, held_all, is_user, is_waiting, with_user}
+use Rattle.af_ledger.specs.Tally.{Tally, has_count, is_unreferenced, is_user, with_ref, with_refs, with_user, without_ref, without_refs}
 use Rattle.af_ledger.specs.declared.count.Count.{Count}
 use Rattle.af_ledger.specs.declared.place.Place.TheVariants.{Backlog, Queue, Table}
-use Rattle.af_ledger.proofs.HeldAll.{has-dropped_all, has-held_all}
+use Rattle.af_ledger.proofs.ManyPlaces.{has-dropped_all, has-held_all}
 use Rattle.af_ledger.proofs.Laws.{has-dropped, has-entered, has-held, has-struck, users-held}
 use Rattle.af_collect.specs.Agreement.{IsExact}
 use Rattle.af_collect.specs.HoldingsView.{filled}
 use Rattle.af_collect.proofs.Agreement.{agrees-dequeued, agrees-empty, agrees-entered, agrees-gone, agrees-install, agrees-limited, agrees-new_file, agrees-push, agrees-refs, agrees-remove_process, agrees-shed, agrees-spawned, agrees-struck, agrees-uninstall}
 use Rattle.af_collect.proofs.Bounds.{can-drop-all}
-use Rattle.af_collect.proofs.Sheds.{Sheds}
+use Rattle.af_collect.proofs.QueueRests.{Sheds}
 
 -- Two worlds with the same parts are one.
 pub world-is : (v w : World) → v.processes ≡ w.processes → v.files ≡ w.files → v.next_ino ≡ w.next_ino → v.next_pid ≡ w.next_pid → v.users ≡ w.users → v ≡ w
@@ -88,7 +88,7 @@ exact-removed w p k empty h = record {
 }
 
 -- A free number taken into use for a live file.
-pub exact-install : (w : World) (p n f : ℕ) (q : Process) (k : Tally) → finmap.get w.processes p ≡ Some q → finmap.get q.table n ≡ None → n < MAX_NOFILE → IsLive w f → IsExact w k → IsExact (install w p n f) (held Table f k)
+pub exact-install : (w : World) (p n f : ℕ) (q : Process) (k : Tally) → finmap.get w.processes p ≡ Some q → finmap.get q.table n ≡ None → n < MAX_NOFILE → IsLive w f → IsExact w k → IsExact (install w p n f) (with_ref Table f k)
 exact-install w p n f q k at free low live h = record {
   whole = whole-install w p n f h.whole live;
   within = within-install w p n f h.within low;
@@ -97,7 +97,7 @@ exact-install w p n f q k at free low live h = record {
 }
 
 -- A number given up.
-pub exact-uninstall : (w : World) (p n f : ℕ) (k : Tally) → table_at w p n ≡ Some f → IsExact w k → IsExact (uninstall w p n) (dropped Table f k)
+pub exact-uninstall : (w : World) (p n f : ℕ) (k : Tally) → table_at w p n ≡ Some f → IsExact w k → IsExact (uninstall w p n) (without_ref Table f k)
 exact-uninstall w p n f k is h = record {
   whole = whole-uninstall w p n h.whole;
   within = within-uninstall w p n h.within;
@@ -107,7 +107,7 @@ exact-uninstall w p n f k is h = record {
 
 -- A message put into a queue.
 pub exact-push : (w : World) (s : ℕ) (m : Message) (x : Socket) (k : Tally) → finmap.get w.files s ≡ Some (AsSocket x) → IsTrue (is_user m.user k.users) → ((f : ℕ) → Contains m.attached f → IsLive w f) → IsMessageWithin m → length x.queue < MAX_MESSAGES
-    → total w + length m.attached ≤ MAX_INFLIGHT → IsExact w k → IsExact (push_message w s m) (held_all (Queue m.user) m.attached k)
+    → total w + length m.attached ≤ MAX_INFLIGHT → IsExact w k → IsExact (push_message w s m) (with_refs (Queue m.user) m.attached k)
 exact-push w s m x k at user live fits room flying h = record {
   whole = whole-push w s m h.whole live;
   within = within-push w s m x h.within at fits room flying;
@@ -116,7 +116,7 @@ exact-push w s m x k at user live fits room flying h = record {
 }
 
 -- A message is taken out of a queue.
-pub exact-shed : (w : World) (s : ℕ) (m : Message) (rest : List Message) (x : Socket) (k : Tally) → finmap.get w.files s ≡ Some (AsSocket x) → Sheds x.queue m rest → IsExact w k → IsExact (with_queue w s rest) (dropped_all (Queue m.user) m.attached k)
+pub exact-shed : (w : World) (s : ℕ) (m : Message) (rest : List Message) (x : Socket) (k : Tally) → finmap.get w.files s ≡ Some (AsSocket x) → Sheds x.queue m rest → IsExact w k → IsExact (with_queue w s rest) (without_refs (Queue m.user) m.attached k)
 exact-shed w s m rest x k at shed h =
     let can = can-drop-all w s m rest x k at shed h.agrees in
     record {
@@ -127,7 +127,7 @@ exact-shed w s m rest x k at shed h =
     }
 
 -- The first embryo leaves a backlog.
-pub exact-dequeued : (w : World) (s f : ℕ) (x : Socket) (k : Tally) → finmap.get w.files s ≡ Some (AsSocket x) → x.backlog ≡ f ∷ drop 1 x.backlog → IsExact w k → IsExact (with_socket w s dequeued) (dropped Backlog f k)
+pub exact-dequeued : (w : World) (s f : ℕ) (x : Socket) (k : Tally) → finmap.get w.files s ≡ Some (AsSocket x) → x.backlog ≡ f ∷ drop 1 x.backlog → IsExact w k → IsExact (with_socket w s dequeued) (without_ref Backlog f k)
 exact-dequeued w s f x k at first h =
     let live = live-embryo w s f x h.whole at (subst (λ xs. Contains xs f) (sym first) (Contains-first f (drop 1 x.backlog))) in
     record {
@@ -201,11 +201,11 @@ exact-pair w kind k fits h =
 
 -- Free numbers taken into use for live files, one after the other.
 pub exact-install_all : (w : World) (p : ℕ) (q : Process) (ns fs : List ℕ) (k : Tally) → finmap.get w.processes p ≡ Some q → AreFree q ns → ((f : ℕ) → Contains fs f → IsLive w f) → IsExact w k
-    → IsExact (install_all w p (zip ns fs)) (held_all Table (map (λ e. e.1) (zip ns fs)) k)
+    → IsExact (install_all w p (zip ns fs)) (with_refs Table (map (λ e. e.1) (zip ns fs)) k)
 exact-install_all w p q [] fs k at free live h = h
 exact-install_all w p q (n ∷ ns) [] k at free live h = h
 exact-install_all w p q (n ∷ ns) (f ∷ fs) k at free live h =
-    exact-install_all (install w p n f) p (record q { table = finmap.insert q.table n f }) ns fs (held Table f k) (there-install w p n f q at) (rest-free q n ns f free) (λ g c. live g (Contains-later f fs g c))
+    exact-install_all (install w p n f) p (record q { table = finmap.insert q.table n f }) ns fs (with_ref Table f k) (there-install w p n f q at) (rest-free q n ns f free) (λ g c. live g (Contains-later f fs g c))
     (exact-install w p n f q k at (first-free q n ns free) (below-most w p n q h.within at (first-low q n ns free)) (live f (Contains-first f fs)) h)
 
 -- Files that are put into a table change the processes alone.
@@ -215,13 +215,13 @@ install-filled w p (e ∷ es) = install-filled (install w p e.0 e.1) p es
 
 -- The same, said of the processes.
 pub exact-filled : (w : World) (p : ℕ) (q : Process) (ns fs : List ℕ) (k : Tally) → finmap.get w.processes p ≡ Some q → AreFree q ns → ((f : ℕ) → Contains fs f → IsLive w f) → IsExact w k
-    → IsExact (record w { processes = filled w.processes p (zip ns fs) }) (held_all Table (map (λ e. e.1) (zip ns fs)) k)
-exact-filled w p q ns fs k at free live h = subst (λ v. IsExact v (held_all Table (map (λ e. e.1) (zip ns fs)) k)) (install-filled w p (zip ns fs)) (exact-install_all w p q ns fs k at free live h)
+    → IsExact (record w { processes = filled w.processes p (zip ns fs) }) (with_refs Table (map (λ e. e.1) (zip ns fs)) k)
+exact-filled w p q ns fs k at free live h = subst (λ v. IsExact v (with_refs Table (map (λ e. e.1) (zip ns fs)) k)) (install-filled w p (zip ns fs)) (exact-install_all w p q ns fs k at free live h)
 
 -- Files that are put into a table leave the users.
-pub users-filled : (fs : List ℕ) (k : Tally) → keys_of (held_all Table fs k).users ≡ keys_of k.users
+pub users-filled : (fs : List ℕ) (k : Tally) → keys_of (with_refs Table fs k).users ≡ keys_of k.users
 users-filled [] k = refl
-users-filled (f ∷ fs) k = users-filled fs (held Table f k) ∙ users-held Table f k
+users-filled (f ∷ fs) k = users-filled fs (with_ref Table f k) ∙ users-held Table f k
 
 -- A store whose live files all have a place is sound.
 pub exact-sound : (w : World) (k : Tally) → IsExact w k → ((f : ℕ) → IsLive w f → 0 < refs w f) → IsSound w
@@ -244,7 +244,7 @@ add-user-is w u us e = by (list_any (nat_eq u) w.users) e where
   by false more = ap (λ l. record w { users = l }) more
 
 -- A file that waits is live, and no place holds it.
-pub waits-unheld : (w : World) (k : Tally) (f : ℕ) → IsExact w k → is_waiting k.counts f ≡ true → IsLive w f × (refs w f ≡ 0)
+pub waits-unheld : (w : World) (k : Tally) (f : ℕ) → IsExact w k → is_unreferenced k.counts f ≡ true → IsLive w f × (refs w f ≡ 0)
 waits-unheld w k f h waits =
     let told = by (finmap.get k.counts f) waits in
     (sym (h.counted f) ∙ told.0, sym (agrees-refs w k h.agrees f) ∙ told.1) where
@@ -253,7 +253,7 @@ waits-unheld w k f h waits =
       by (Some c) e = (refl, eqb-true (places_in c) 0 e)
 
 -- Where none waits, all is sound.
-pub none-waits : (w : World) (k : Tally) → IsExact w k → ((f : ℕ) → is_waiting k.counts f ≡ false) → IsSound w
+pub none-waits : (w : World) (k : Tally) → IsExact w k → ((f : ℕ) → is_unreferenced k.counts f ≡ false) → IsSound w
 none-waits w k h none = exact-sound w k h (λ f live.
     let some = by f (finmap.get k.counts f) (h.counted f ∙ live) (none f) in
     let same = agrees-refs w k h.agrees f in

@@ -8,20 +8,20 @@ use Rattle.std.proofs.lemmas.Bool.{cases_lt}
 use Rattle.std.proofs.lemmas.List.{nil_from_length}
 use Rattle.std.proofs.lemmas.List.Elements.{Contains-append_cases, Contains-append_left, Contains-append_right}
 use Rattle.af_base.specs.World.{AsSocket, File, IsLive, Plain, Socket, World}
-use Rattle.af_base.specs.Places.{Holds, backlog_at, backlog_of, carried, contents, held_by, queue_at, queue_of}
+use Rattle.af_base.specs.Places.{Holds, attached_in, backlog_at, backlog_of, contents, held_by, queue_at, queue_of}
 use Rattle.af_base.specs.Counts.{refs}
 use Rattle.af_base.specs.Changes.{dequeued, file_with, with_queue, with_socket}
 use Rattle.af_base.specs.Pass.{emptied}
 use Rattle.af_base.specs.Unheld.{Settles}
 use Rattle.af_base.proofs.Embryos.{Contains-dropped}
 use Rattle.af_base.proofs.Lookups.{insert-here, told_apart}
-use Rattle.af_base.proofs.Moved.{there-holds, total-changed}
+use Rattle.af_base.proofs.PlaceMoves.{there-holds, total-changed}
 use Rattle.af_base.proofs.Sums.{total-change_at}
 use Rattle.af_base.proofs.Trees.{insert_same}
-use Rattle.af_base.proofs.Within.{len-change_at}
+use Rattle.af_base.proofs.StaysWithin.{len-change_at}
 use Rattle.af_collect.specs.Losing.{places_at, without_place}
-use Rattle.af_collect.proofs.Emptying.{emptied-changed, emptied-popped}
-use Rattle.af_collect.proofs.Shedding.{burden, burden-less, settles-popped, settles-shed}
+use Rattle.af_collect.proofs.EmptiedFiles.{emptied-changed, emptied-popped}
+use Rattle.af_collect.proofs.LossOutcomes.{burden, burden-less, settles-popped, settles-shed}
 
 -- With messages, it loses the first of them.
 pub lost-message : (w : World) (s : ℕ) → 0 < length (queue_at w s) → without_place w s ≡ with_queue w s (drop 1 (queue_at w s))
@@ -78,10 +78,10 @@ some-embryo w s some =
 dequeued-holds : (w : World) (s : ℕ) (x : Socket) → map.get w.files s ≡ Some (AsSocket x) → (f : ℕ) → Holds (with_socket w s dequeued) s f → Holds w s f
 dequeued-holds w s x at f h =
     let here : map.get (with_socket w s dequeued).files s ≡ Some (AsSocket (dequeued x)) = ap (λ o. map.get (option_map_or (λ y. map.insert w.files s (file_with dequeued y)) o w.files) s) at ∙ insert-here w.files s (AsSocket (dequeued x)) in
-    let held : Contains (carried x.queue ++ drop 1 x.backlog) f = subst (λ o. Contains (option_map_or contents o []) f) here h in
-    there-holds w s f (AsSocket x) at (elim (Contains-append_cases (carried x.queue) (drop 1 x.backlog) f held) [
-      | inl c ↦ Contains-append_left (carried x.queue) x.backlog f c
-      | inr c ↦ Contains-append_right (carried x.queue) x.backlog f (Contains-dropped x.backlog f c)
+    let held : Contains (attached_in x.queue ++ drop 1 x.backlog) f = subst (λ o. Contains (option_map_or contents o []) f) here h in
+    there-holds w s f (AsSocket x) at (elim (Contains-append_cases (attached_in x.queue) (drop 1 x.backlog) f held) [
+      | inl c ↦ Contains-append_left (attached_in x.queue) x.backlog f c
+      | inr c ↦ Contains-append_right (attached_in x.queue) x.backlog f (Contains-dropped x.backlog f c)
     ])
 
 -- An embryo less is less to do.
@@ -103,7 +103,7 @@ pub none-held : (w : World) (s : ℕ) → places_at w s ≡ 0 → held_by w s �
 none-held w s none = by (map.get w.files s) (none-silent w s none) (none-waits w s none) where
   by : (o : Option File) → option_map_or queue_of o [] ≡ [] → option_map_or backlog_of o [] ≡ [] → option_map_or contents o [] ≡ []
   by None silent bare = refl
-  by (Some x) silent bare = ap (λ q. carried q ++ backlog_of x) silent ∙ bare
+  by (Some x) silent bare = ap (λ q. attached_in q ++ backlog_of x) silent ∙ bare
 
 -- To lose the first of nothing changes nothing.
 pub none-lost : (w : World) (s : ℕ) → places_at w s ≡ 0 → without_place w s ≡ w

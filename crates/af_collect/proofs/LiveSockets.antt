@@ -8,7 +8,7 @@ use Rattle.af_base.specs.declared.limits.TheConstants.{MAX_BACKLOG}
 use Rattle.af_base.specs.World.{AsSocket, File, Map, Socket, World}
 use Rattle.af_base.specs.Refusals.{socket_of}
 use Rattle.af_base.specs.Whole.{IsWithin}
-use Rattle.af_collect.proofs.Dropped.{socket_is}
+use Rattle.af_collect.proofs.FreedFiles.{socket_is}
 
 -- A file that is a socket has a row with it.
 pub socket-stands : (files : Map File) (s : ℕ) (x : Socket) → option_and_then socket_of (map.get files s) ≡ Some x → map.get files s ≡ Some (AsSocket x)

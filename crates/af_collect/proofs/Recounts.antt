@@ -9,12 +9,12 @@ use Rattle.af_base.specs.World.{AsSocket, Map, Message, Process, Socket, World}
 use Rattle.af_base.specs.Places.{backlog_of, queue_of}
 use Rattle.af_base.specs.Counts.{charge, charged, count_in, one, tabled, total_of, waiting}
 use Rattle.af_base.specs.Changes.{dequeued, file_with, install, push_message, uninstall, with_queue, with_socket}
-use Rattle.af_base.proofs.Held.{count-cons}
+use Rattle.af_base.proofs.PlacesAndCounts.{count-cons}
 use Rattle.af_base.proofs.Lookups.{none_some, remove-here, remove-other, same_or_not}
 use Rattle.af_base.proofs.Places.{refs-install, refs-uninstall}
 use Rattle.af_base.proofs.Sums.{total-change_at, total-insert, total-remove}
 use Rattle.af_base.proofs.Totals.{total-same}
-use Rattle.af_collect.proofs.Sheds.{Sheds}
+use Rattle.af_collect.proofs.QueueRests.{Sheds}
 
 -- A new descriptor is one reference more.
 pub tabled-install : (w : World) (p n g f : ℕ) (q : Process) → map.get w.processes p ≡ Some q → map.get q.table n ≡ None → tabled (install w p n g) f ≡ tabled w f + one f g

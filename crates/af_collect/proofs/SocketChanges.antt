@@ -7,18 +7,18 @@ use Rattle.std.specs.Ordering.{nat_cmp, eq_by_cmp}
 use Rattle.std.specs.FinMap as map
 use Rattle.std.proofs.lemmas.List.Elements.{Contains-append_cases, Contains-append_left, Contains-append_right, Contains-push_cases}
 use Rattle.af_base.specs.World.{AsSocket, File, IsLive, Message, Plain, Socket, World}
-use Rattle.af_base.specs.Places.{Holds, backlog_at, backlog_of, carried, contents, queue_at, queue_of}
+use Rattle.af_base.specs.Places.{Holds, attached_in, backlog_at, backlog_of, contents, queue_at, queue_of}
 use Rattle.af_base.specs.Reached.{Garbage, is_socket}
 use Rattle.af_base.specs.Changes.{dequeued, file_with, push_message, pushed, queued, with_queue, with_socket}
 use Rattle.af_base.specs.Take.{take_from}
 use Rattle.af_base.proofs.Embryos.{Contains-dropped}
-use Rattle.af_base.proofs.Moved.{held-changed, holds-there, live-changed, there-holds}
+use Rattle.af_base.proofs.PlaceMoves.{held-changed, holds-there, live-changed, there-holds}
 use Rattle.af_base.proofs.Places.{carried-push}
-use Rattle.af_base.proofs.Settling.{none_in}
-use Rattle.af_base.proofs.Stepping.{get-change_at}
-use Rattle.af_base.proofs.Takes.{AreWithin, leaves-taken}
+use Rattle.af_base.proofs.SettledWorlds.{none_in}
+use Rattle.af_base.proofs.AllowedSteps.{get-change_at}
+use Rattle.af_base.proofs.ReceivedFiles.{AreWithin, leaves-taken}
 use Rattle.af_collect.specs.Since.{Covers, Moves, is_socket_at}
-use Rattle.af_collect.proofs.Placing.{changed-then}
+use Rattle.af_collect.proofs.TablePlaces.{changed-then}
 
 -- An element common to two lists is common to two others, or else a fact holds, if so for each of them.
 pairwise : {A : Type 0} (xs ys us vs : List ℕ) (f : ℕ) → (Contains xs f → Contains us f ⊎ A) → (Contains ys f → Contains vs f ⊎ A) → Contains (xs ++ ys) f → Contains (us ++ vs) f ⊎ A
@@ -93,72 +93,72 @@ module _ (begun w : World) (s : ℕ) where
   -- A message more, whose files are no garbage.
   pub moves_push : (m : Message) → ((f : ℕ) → Contains m.attached f → ¬ (Garbage begun f)) → Moves begun w (push_message w s m)
   moves_push m spared = moves_sock w s (pushed m) begun (λ x f at h.
-      pairwise (carried (x.queue ++ m ∷ [])) x.backlog (carried x.queue) x.backlog f (λ y. elim (Contains-append_cases (carried x.queue) m.attached f (subst (λ xs. Contains xs f) (carried-push x.queue m) y)) [ inl z ↦ inl z | inr z ↦ inr (spared f z) ]) (λ y. inl y) h)
+      pairwise (attached_in (x.queue ++ m ∷ [])) x.backlog (attached_in x.queue) x.backlog f (λ y. elim (Contains-append_cases (attached_in x.queue) m.attached f (subst (λ xs. Contains xs f) (carried-push x.queue m) y)) [ inl z ↦ inl z | inr z ↦ inr (spared f z) ]) (λ y. inl y) h)
 
   -- A message more: nothing is lost.
   pub covers_push : (m : Message) (marked visited : ℕ → Bool) → Covers begun w (push_message w s m) marked visited
   covers_push m marked visited = covers_sock w s (pushed m) begun marked visited (λ x f at h.
-      pairwise (carried x.queue) x.backlog (carried (x.queue ++ m ∷ [])) x.backlog f (λ y. inl (subst (λ xs. Contains xs f) (sym (carried-push x.queue m)) (Contains-append_left (carried x.queue) m.attached f y))) (λ y. inl y) h)
+      pairwise (attached_in x.queue) x.backlog (attached_in (x.queue ++ m ∷ [])) x.backlog f (λ y. inl (subst (λ xs. Contains xs f) (sym (carried-push x.queue m)) (Contains-append_left (attached_in x.queue) m.attached f y))) (λ y. inl y) h)
 
   -- An embryo more, which is no garbage.
   pub moves_queued : (n : ℕ) → ¬ (Garbage begun n) → Moves begun w (with_socket w s (queued n))
   moves_queued n spared = moves_sock w s (queued n) begun (λ x f at h.
-      pairwise (carried x.queue) (x.backlog ++ n ∷ []) (carried x.queue) x.backlog f (λ y. inl y) (λ y. elim (Contains-push_cases x.backlog n f y) [ inl z ↦ inl z | inr z ↦ inr (subst (λ k. ¬ (Garbage begun k)) z spared) ]) h)
+      pairwise (attached_in x.queue) (x.backlog ++ n ∷ []) (attached_in x.queue) x.backlog f (λ y. inl y) (λ y. elim (Contains-push_cases x.backlog n f y) [ inl z ↦ inl z | inr z ↦ inr (subst (λ k. ¬ (Garbage begun k)) z spared) ]) h)
 
   -- An embryo more: nothing is lost.
   pub covers_queued : (n : ℕ) (marked visited : ℕ → Bool) → Covers begun w (with_socket w s (queued n)) marked visited
   covers_queued n marked visited = covers_sock w s (queued n) begun marked visited (λ x f at h.
-      pairwise (carried x.queue) x.backlog (carried x.queue) (x.backlog ++ n ∷ []) f (λ y. inl y) (λ y. inl (Contains-append_left x.backlog (n ∷ []) f y)) h)
+      pairwise (attached_in x.queue) x.backlog (attached_in x.queue) (x.backlog ++ n ∷ []) f (λ y. inl y) (λ y. inl (Contains-append_left x.backlog (n ∷ []) f y)) h)
 
   -- The first embryo gone.
   pub moves_dequeued : Moves begun w (with_socket w s dequeued)
-  moves_dequeued = moves_sock w s dequeued begun (λ x f at h. pairwise (carried x.queue) (drop 1 x.backlog) (carried x.queue) x.backlog f (λ y. inl y) (λ y. inl (Contains-dropped x.backlog f y)) h)
+  moves_dequeued = moves_sock w s dequeued begun (λ x f at h. pairwise (attached_in x.queue) (drop 1 x.backlog) (attached_in x.queue) x.backlog f (λ y. inl y) (λ y. inl (Contains-dropped x.backlog f y)) h)
 
   -- The first embryo gone, which is no garbage, and is marked, if it is of the begin.
   pub covers_dequeued : (marked visited : ℕ → Bool) → ((f : ℕ) → slice_get (backlog_at w s) 0 ≡ Some f → IsLive begun f → marked f ≡ true) → ((f : ℕ) → slice_get (backlog_at w s) 0 ≡ Some f → ¬ (Garbage begun f)) → Covers begun w (with_socket w s dequeued) marked visited
   covers_dequeued marked visited was spared = covers_sock w s dequeued begun marked visited (λ x f at h.
-      pairwise (carried x.queue) x.backlog (carried x.queue) (drop 1 x.backlog) f (λ y. inl y) (λ y. elim (first_or_later x.backlog f y) [
+      pairwise (attached_in x.queue) x.backlog (attached_in x.queue) (drop 1 x.backlog) f (λ y. inl y) (λ y. elim (first_or_later x.backlog f y) [
         | inl z ↦ inl z
         | inr z ↦ let first = ap (λ o. slice_get (option_map_or backlog_of o []) 0) at ∙ z in inr (was f first, spared f first)
       ]) h)
 
   -- Another queue in place of one, with no file that was not in it.
-  pub moves_queue : (rest : List Message) → ((f : ℕ) → Contains (carried rest) f → Contains (carried (queue_at w s)) f) → Moves begun w (with_queue w s rest)
+  pub moves_queue : (rest : List Message) → ((f : ℕ) → Contains (attached_in rest) f → Contains (attached_in (queue_at w s)) f) → Moves begun w (with_queue w s rest)
   moves_queue rest fewer = moves_sock w s (λ x. record x { queue = rest }) begun (λ x f at h.
-      pairwise (carried rest) x.backlog (carried x.queue) x.backlog f (λ y. inl (subst (λ o. Contains (carried (option_map_or queue_of o [])) f) at (fewer f y))) (λ y. inl y) h)
+      pairwise (attached_in rest) x.backlog (attached_in x.queue) x.backlog f (λ y. inl (subst (λ o. Contains (attached_in (option_map_or queue_of o [])) f) at (fewer f y))) (λ y. inl y) h)
 
   -- Another queue in place of one, where what is taken is no garbage, and is marked, if it is of the begin.
   pub covers_queue : (rest : List Message) (taken : List ℕ) (marked visited : ℕ → Bool)
-      → ((f : ℕ) → Contains (carried (queue_at w s)) f → Contains (carried rest) f ⊎ Contains taken f) → ((f : ℕ) → Contains taken f → (IsLive begun f → marked f ≡ true) × (¬ (Garbage begun f))) → Covers begun w (with_queue w s rest) marked visited
+      → ((f : ℕ) → Contains (attached_in (queue_at w s)) f → Contains (attached_in rest) f ⊎ Contains taken f) → ((f : ℕ) → Contains taken f → (IsLive begun f → marked f ≡ true) × (¬ (Garbage begun f))) → Covers begun w (with_queue w s rest) marked visited
   covers_queue rest taken marked visited parts was = covers_sock w s (λ x. record x { queue = rest }) begun marked visited (λ x f at h.
-      pairwise (carried x.queue) x.backlog (carried rest) x.backlog f (λ y. elim (parts f (subst (λ o. Contains (carried (option_map_or queue_of o [])) f) (sym at) y)) [ inl z ↦ inl z | inr z ↦ inr (was f z) ]) (λ y. inl y) h)
+      pairwise (attached_in x.queue) x.backlog (attached_in rest) x.backlog f (λ y. elim (parts f (subst (λ o. Contains (attached_in (option_map_or queue_of o [])) f) (sym at) y)) [ inl z ↦ inl z | inr z ↦ inr (was f z) ]) (λ y. inl y) h)
 
   -- A queue of which these files were taken.
-  pub moves_left : (rest : List Message) (taken : List ℕ) → taken ++ carried rest ≡ carried (queue_at w s) → Moves begun w (with_queue w s rest)
-  moves_left rest taken is = moves_queue rest (λ f h. subst (λ xs. Contains xs f) is (Contains-append_right taken (carried rest) f h))
+  pub moves_left : (rest : List Message) (taken : List ℕ) → taken ++ attached_in rest ≡ attached_in (queue_at w s) → Moves begun w (with_queue w s rest)
+  moves_left rest taken is = moves_queue rest (λ f h. subst (λ xs. Contains xs f) is (Contains-append_right taken (attached_in rest) f h))
 
   -- A queue of which these files were taken, which are no garbage, and marked, if they are of the begin.
-  pub covers_left : (rest : List Message) (taken : List ℕ) (marked visited : ℕ → Bool) → taken ++ carried rest ≡ carried (queue_at w s) → ((f : ℕ) → Contains taken f → (IsLive begun f → marked f ≡ true) × (¬ (Garbage begun f))) → Covers begun w (with_queue w s rest) marked visited
-  covers_left rest taken marked visited is was = covers_queue rest taken marked visited (λ f h. elim (Contains-append_cases taken (carried rest) f (subst (λ xs. Contains xs f) (sym is) h)) [ inl y ↦ inr y | inr y ↦ inl y ]) was
+  pub covers_left : (rest : List Message) (taken : List ℕ) (marked visited : ℕ → Bool) → taken ++ attached_in rest ≡ attached_in (queue_at w s) → ((f : ℕ) → Contains taken f → (IsLive begun f → marked f ≡ true) × (¬ (Garbage begun f))) → Covers begun w (with_queue w s rest) marked visited
+  covers_left rest taken marked visited is was = covers_queue rest taken marked visited (λ f h. elim (Contains-append_cases taken (attached_in rest) f (subst (λ xs. Contains xs f) (sym is) h)) [ inl y ↦ inr y | inr y ↦ inl y ]) was
 
   -- The first message gone.
   pub moves_popped : Moves begun w (with_queue w s (drop 1 (queue_at w s)))
   moves_popped = by (queue_at w s) refl where
     by : (q : List Message) → queue_at w s ≡ q → Moves begun w (with_queue w s (drop 1 q))
-    by [] e = moves_left [] [] (sym (ap carried e))
-    by (m ∷ q) e = moves_left q m.attached (sym (ap carried e))
+    by [] e = moves_left [] [] (sym (ap attached_in e))
+    by (m ∷ q) e = moves_left q m.attached (sym (ap attached_in e))
 
   -- The first message gone, whose files are no garbage, and marked, if they are of the begin.
   pub covers_popped : (marked visited : ℕ → Bool) → ((m : Message) (f : ℕ) → slice_get (queue_at w s) 0 ≡ Some m → Contains m.attached f → (IsLive begun f → marked f ≡ true) × (¬ (Garbage begun f))) → Covers begun w (with_queue w s (drop 1 (queue_at w s))) marked visited
   covers_popped marked visited was = by (queue_at w s) refl where
     by : (q : List Message) → queue_at w s ≡ q → Covers begun w (with_queue w s (drop 1 q)) marked visited
-    by [] e = covers_left [] [] marked visited (sym (ap carried e)) (λ f h. absurd (none_in f h))
-    by (m ∷ q) e = covers_left q m.attached marked visited (sym (ap carried e)) (λ f h. was m f (ap (λ q. slice_get q 0) e) h)
+    by [] e = covers_left [] [] marked visited (sym (ap attached_in e)) (λ f h. absurd (none_in f h))
+    by (m ∷ q) e = covers_left q m.attached marked visited (sym (ap attached_in e)) (λ f h. was m f (ap (λ q. slice_get q 0) e) h)
 
   module _ (x : Socket) (max : ℕ) (at : map.get w.files s ≡ Some (AsSocket x)) (within : AreWithin x.queue) where
     -- The files taken by a receive and those left are those of the queue.
-    parted : (take_from x.kind x.queue max).attached ++ carried (take_from x.kind x.queue max).rest ≡ carried (queue_at w s)
-    parted = (leaves-taken x.kind x.queue max within).carried ∙ sym (ap (λ o. carried (option_map_or queue_of o [])) at)
+    parted : (take_from x.kind x.queue max).attached ++ attached_in (take_from x.kind x.queue max).rest ≡ attached_in (queue_at w s)
+    parted = (leaves-taken x.kind x.queue max within).carried ∙ sym (ap (λ o. attached_in (option_map_or queue_of o [])) at)
 
     -- The queue after a receive.
     pub moves_receive : Moves begun w (with_queue w s (take_from x.kind x.queue max).rest)

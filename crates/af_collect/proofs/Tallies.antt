@@ -10,7 +10,7 @@ use Rattle.std.specs.FinMap.Entries.{below_all}
 use Rattle.std.proofs.lemmas.List.Sums.{sum_by-cons}
 use Rattle.af_base.specs.World.{World, Map, IsLive, is_live}
 use Rattle.af_base.proofs.Sums.{first, second}
-use Rattle.af_base.proofs.Held.{here, later, none_below}
+use Rattle.af_base.proofs.PlacesAndCounts.{here, later, none_below}
 use Rattle.af_base.proofs.Lookups.{none_some, same_or_not, some_same, there, told_apart}
 use Rattle.af_collect.specs.Since.{live_count}
 

@@ -4,8 +4,8 @@ use Rattle.std.specs.Prelude.{ℕ, Bool, List, [], ◌∷◌}
 use Rattle.std.specs.Map.{keys_of}
 use Rattle.af_base.specs.World.{World, Map, Process, Since}
 use Rattle.af_desc.specs.FilesView.{FilesView}
-use Rattle.af_ledger.specs.Tally.{Charged, kept_of}
-use Rattle.af_mark.specs.Marked.{Marked}
+use Rattle.af_ledger.specs.Tally.{LedgerView, kept_of}
+use Rattle.af_mark.specs.MarksView.{MarksView}
 use Rattle.af_base.specs.Changes.{change_at, installed}
 use Rattle.af_table.specs.Procs.{Procs}
 use Rattle.af_collect.specs.Agreement.{IsExact}
@@ -16,11 +16,11 @@ pub record HoldingsView : Type 0 where
   pub world : World
   pub rows : Map ℕ
   pub message_room : Bool
-  pub marks : Marked
+  pub marks : MarksView
   pub since : Since
 
 -- The world that processes, files and users make up.
-abbrev pub world_of : Procs → FilesView → Charged → World
+abbrev pub world_of : Procs → FilesView → LedgerView → World
 world_of procs filed charged = record {
   processes = procs.processes;
   files = filed.files;
@@ -30,7 +30,7 @@ world_of procs filed charged = record {
 }
 
 -- The kept counts are a recount of their world.
-abbrev pub AreExact : Procs → FilesView → Charged → Type 0
+abbrev pub AreExact : Procs → FilesView → LedgerView → Type 0
 AreExact procs filed charged = IsExact (world_of procs filed charged) (kept_of filed.counts charged)
 
 -- The processes with these descriptors of p set to these files, in order (cmsg(3), SCM_RIGHTS).

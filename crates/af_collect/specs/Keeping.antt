@@ -4,16 +4,16 @@ use Rattle.std.specs.Prelude.{◌≡◌, ◌≤◌, ◌+◌, ◌&&◌, ℕ, Bool
 use Rattle.af_base.specs.World.{World, IsLive, is_live}
 use Rattle.af_base.specs.Counts.{tabled}
 use Rattle.af_base.specs.Pass.{Idle, Pass, Running}
-use Rattle.af_base.specs.Places.{backlog_at, carried, queue_at}
+use Rattle.af_base.specs.Places.{attached_in, backlog_at, queue_at}
 use Rattle.af_base.specs.Reached.{Garbage}
-use Rattle.af_mark.specs.Marked.{Marked, is_grey, is_marked, is_white, knows, shaded}
+use Rattle.af_mark.specs.MarksView.{MarksView, is_grey, is_marked, is_white, knows, shaded}
 use Rattle.af_collect.specs.declared.progress.Stage.{Stage}
 use Rattle.af_collect.specs.declared.progress.Stage.TheVariants.{Marking, Resting, Sweeping}
-use Rattle.af_collect.specs.declared.progress.Progress.{Progress}
+use Rattle.af_collect.specs.declared.progress.PassProgress.{PassProgress}
 use Rattle.af_collect.specs.Since.{AreCounted, IsMarking, IsSince, IsSweeping, is_scanned, is_socket_at}
 
 -- The marks know just the live files.
-abbrev pub AreKnown : World → Marked → Type 0
+abbrev pub AreKnown : World → MarksView → Type 0
 AreKnown w m = (f : ℕ) → knows m f ≡ is_live w f
 
 -- Whether the file is below the number.
@@ -22,7 +22,7 @@ below n f = nat_lt f n
 
 -- A pass runs: the world is one since its begin, only files of the begin are marked, and each unit
 -- is counted.
-pub record IsRunning (w begun : World) (m : Marked) (c : Progress) : Type 0 where
+pub record IsRunning (w begun : World) (m : MarksView) (c : PassProgress) : Type 0 where
   pub since : IsSince begun w m.bound
   pub marked : (f : ℕ) → is_marked m f ≡ true → IsLive begun f
   pub counted : AreCounted begun w (below c.visited) (is_scanned (is_marked m) (is_grey m))
@@ -30,7 +30,7 @@ pub record IsRunning (w begun : World) (m : Marked) (c : Progress) : Type 0 wher
   pub low : m.bound ≤ w.next_ino
 
 -- It marks.
-pub record IsInMarking (w begun : World) (m : Marked) (c : Progress) : Type 0 where
+pub record IsInMarking (w begun : World) (m : MarksView) (c : PassProgress) : Type 0 where
   pub running : IsRunning w begun m c
   pub marking : IsMarking begun w (is_marked m) (is_grey m) (below c.visited)
   pub unswept : c.swept ≡ 0
@@ -38,18 +38,18 @@ pub record IsInMarking (w begun : World) (m : Marked) (c : Progress) : Type 0 wh
   pub visited_low : c.visited ≤ m.bound
 
 -- It sweeps.
-pub record IsInSweeping (w begun : World) (m : Marked) (c : Progress) : Type 0 where
+pub record IsInSweeping (w begun : World) (m : MarksView) (c : PassProgress) : Type 0 where
   pub running : IsRunning w begun m c
   pub sweeping : IsSweeping begun w (is_marked m) (below c.swept) c.reclaimed
 
 -- The invariant of each stage; without a pass, nothing.
-abbrev pub IsStage : Stage → World → World → Marked → Progress → Type 0
+abbrev pub IsStage : Stage → World → World → MarksView → PassProgress → Type 0
 IsStage Resting w begun m c = Unit {0}
 IsStage Marking w begun m c = IsInMarking w begun m c
 IsStage Sweeping w begun m c = IsInSweeping w begun m c
 
 -- All that is kept, between any two changes.
-pub record PassInvariant (w begun : World) (m : Marked) (c : Progress) : Type 0 where
+pub record PassInvariant (w begun : World) (m : MarksView) (c : PassProgress) : Type 0 where
   pub known : AreKnown w m
   pub stage : IsStage c.stage w begun m c
 
@@ -84,22 +84,22 @@ runs (Running begun spent) = true
 
 -- The file is no garbage of the begin of a pass that runs: it can be put into a place, and its
 -- places can be taken.
-abbrev pub Spares : Pass → ℕ → Type 0
-Spares Idle f = Unit {0}
-Spares (Running begun spent) f = ¬ (Garbage begun f)
+abbrev pub NotBegunGarbage : Pass → ℕ → Type 0
+NotBegunGarbage Idle f = Unit {0}
+NotBegunGarbage (Running begun spent) f = ¬ (Garbage begun f)
 
 -- The marks with these files shaded, one after the other.
-abbrev pub shaded_all : List ℕ → Marked → Marked
+abbrev pub shaded_all : List ℕ → MarksView → MarksView
 shaded_all [] m = m
 shaded_all (f ∷ fs) m = shaded_all fs (shaded f m)
 
 -- The same, while marking.
-abbrev pub shaded_in : Stage → List ℕ → Marked → Marked
+abbrev pub shaded_in : Stage → List ℕ → MarksView → MarksView
 shaded_in stage fs m = if is_marking stage then shaded_all fs m else m
 
 -- Whether a visit marks the file: a table holds it, it was there at the begin, and it is not marked
 -- (net/unix/garbage.c: from the tables on).
-abbrev pub is_due : World → Marked → ℕ → Bool
+abbrev pub is_due : World → MarksView → ℕ → Bool
 is_due w m f = nat_lt 0 (tabled w f) && (nat_lt f m.bound && is_white m f)
 
 -- How many units a visit takes: one, and one more if the file was scanned too (this project's
@@ -111,12 +111,12 @@ units_of true = 2
 -- The files that a file would lose first: those of its first message, or else its first embryo.
 abbrev pub first_held : World → ℕ → List ℕ
 first_held w s = if nat_eq (length (queue_at w s)) 0 then take 1 (backlog_at w s)
-    else carried (take 1 (queue_at w s))
+    else attached_in (take 1 (queue_at w s))
 
 -- Whether freeing the file is counted: while sweeping, if it is an unmarked socket of the begin.
-abbrev pub is_counted : World → Marked → Progress → ℕ → Bool
+abbrev pub is_counted : World → MarksView → PassProgress → ℕ → Bool
 is_counted w m c f = is_sweeping c.stage && (is_socket_at w f && (nat_lt f m.bound && not (is_marked m f)))
 
 -- How far the pass is when the file has gone.
-abbrev pub counted : World → Marked → ℕ → Progress → Progress
+abbrev pub counted : World → MarksView → ℕ → PassProgress → PassProgress
 counted w m f c = record c { reclaimed = c.reclaimed + (if is_counted w m c f then 1 else 0) }

@@ -10,4 +10,4 @@ pub mod Keeping
 pub mod Purged
 -- The view of a store, the invariant of its parts, and the effect of a whole pass.
 pub mod Collecting
-pub mod Shown
+pub mod StoreView

@@ -9,9 +9,9 @@ ghost use Rattle.af_base.specs.Listing.{processes_of, files_of, file_of, message
 ghost use Rattle.af_base.specs.Listing.{AreTables, AreFiles};
 
 use crate::holdings::Holdings;
+use af_base::ids::{FileRef, Ino};
 use af_base::limits::{MAX_BACKLOG, MAX_MESSAGES, SCM_MAX_FD};
 use af_base::listing::{ListedFile, ListedMessage, ListedSocket, ListedTable, Listing};
-use af_base::names::{FileRef, Ino};
 use af_desc::Socket;
 use af_queue::Queue;
 use std::alloc::{AllocError, Global};
@@ -35,7 +35,7 @@ impl Holdings {
     {
         let mut tables = Vec::new(self.alloc);
         for pid in &self.procs.pids()? {
-            tables.push(self.procs.listed(*pid)?)?;
+            tables.push(self.procs.list_table(*pid)?)?;
         }
         Ok(tables)
     }

@@ -2,11 +2,11 @@
 ghost use Rattle.std.specs.Prelude.{◌≡◌, ℕ, [], false, true};
 ghost use Rattle.af_base.specs.Counts.{tabled};
 ghost use Rattle.af_base.specs.Places.{held_by};
-ghost use Rattle.af_mark.specs.Marked.{blackened, is_marked, knows, shaded, visited};
+ghost use Rattle.af_mark.specs.MarksView.{blackened, is_marked, knows, shaded, visited};
 ghost use Rattle.af_collect.specs.Keeping.{is_due};
 
 use crate::holdings::Holdings;
-use af_base::names::FileRef;
+use af_base::ids::FileRef;
 
 impl Holdings {
     /// Begins a pass over the present files: none is marked. Costs the same for any number of

@@ -1,10 +1,10 @@
 //! The places of a whole message: in the counts of each file, and in what its user is charged. None
 //! takes memory.
 ghost use Rattle.std.specs.Prelude.{◌≡◌};
-ghost use Rattle.af_ledger.specs.Tally.{CanDropAll, CanHoldAll, dropped_all, held_all, kept_of};
+ghost use Rattle.af_ledger.specs.Tally.{CanDropAll, CanHoldAll, kept_of, with_refs, without_refs};
 ghost use Rattle.af_ledger.specs.declared.place.Place.TheVariants.{Queue};
 
-use af_base::names::{FileRef, Uid};
+use af_base::ids::{FileRef, Uid};
 use af_desc::Files;
 use af_ledger::{Ledger, Place};
 
@@ -12,7 +12,7 @@ use af_ledger::{Ledger, Place};
 pub fn charge_message(files: &mut Files, ledger: &mut Ledger, user: Uid, attached: &[FileRef])
     requires { CanHoldAll user attached.now (kept_of files.old.counts ledger.old) }
     ensures kept { kept_of files.new.counts ledger.new
-        ≡ held_all (Queue user) attached.now (kept_of files.old.counts ledger.old) }
+        ≡ with_refs (Queue user) attached.now (kept_of files.old.counts ledger.old) }
     ensures rest { files.new ≡ record files.old { counts = files.new.counts } }
 {
     if attached.is_empty() {
@@ -28,7 +28,7 @@ pub fn charge_message(files: &mut Files, ledger: &mut Ledger, user: Uid, attache
 pub fn uncharge_message(files: &mut Files, ledger: &mut Ledger, user: Uid, attached: &[FileRef])
     requires { CanDropAll user attached.now (kept_of files.old.counts ledger.old) }
     ensures kept { kept_of files.new.counts ledger.new
-        ≡ dropped_all (Queue user) attached.now (kept_of files.old.counts ledger.old) }
+        ≡ without_refs (Queue user) attached.now (kept_of files.old.counts ledger.old) }
     ensures rest { files.new ≡ record files.old { counts = files.new.counts } }
 {
     if attached.is_empty() {

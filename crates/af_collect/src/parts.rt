@@ -11,13 +11,13 @@ ghost use Rattle.af_base.specs.Whole.{IsSound};
 ghost use Rattle.af_collect.specs.Losing.{places_at, without_place};
 ghost use Rattle.af_collect.specs.Keeping.{first_held, is_marking, is_running, is_sweeping};
 ghost use Rattle.af_collect.specs.Keeping.{shaded_all};
-ghost use Rattle.af_mark.specs.Marked.{forgotten};
-ghost use Rattle.af_collect.specs.Shown.{KeepsPass, MarksAll, with_marks};
+ghost use Rattle.af_mark.specs.MarksView.{forgotten};
+ghost use Rattle.af_collect.specs.StoreView.{KeepsPass, MarksAll, with_marks};
 
 use crate::holdings::Holdings;
-use crate::progress::{Progress, Stage};
+use crate::progress::{PassProgress, Stage};
 use crate::shading::{shade_embryo, shade_first};
-use af_base::names::{Fd, FileRef, Pid};
+use af_base::ids::{Fd, FileRef, Pid};
 use std::snapshot::Snapshot;
 
 /// The holdings, with what is marked, and how far a pass is.
@@ -26,7 +26,7 @@ pub struct Collector {
     pub places: Holdings,
     /// The holdings when the pass began: for contracts alone.
     pub begun: Snapshot<Holdings>,
-    pub progress: Progress,
+    pub progress: PassProgress,
     /// The position in the order of the file that a pass visited or swept last: a hint.
     pub order_hint: usize,
 }

@@ -4,10 +4,10 @@ ghost use Rattle.af_base.specs.World.{World};
 ghost use Rattle.af_base.specs.Pass.{Idle, Running, Slices};
 ghost use Rattle.af_base.specs.Unheld.{Settles};
 ghost use Rattle.af_base.specs.Whole.{IsSound};
-ghost use Rattle.af_mark.specs.Marked.{is_marked};
+ghost use Rattle.af_mark.specs.MarksView.{is_marked};
 ghost use Rattle.af_collect.specs.Keeping.{PassInvariant, runs};
 ghost use Rattle.af_collect.specs.Collecting.{Collects};
-ghost use Rattle.af_collect.specs.Shown.{slice_reply};
+ghost use Rattle.af_collect.specs.StoreView.{slice_reply};
 
 use crate::progress::Stage;
 use crate::store::Store;

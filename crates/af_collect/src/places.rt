@@ -15,9 +15,9 @@ ghost use Rattle.af_base.specs.Table.{lowest_free};
 ghost use Rattle.af_base.specs.Whole.{IsMessageWithin};
 ghost use Rattle.af_collect.specs.Limits.{IsBelowLimit, IsOfProcess};
 ghost use Rattle.af_collect.specs.Receiving.{taken_at};
-ghost use Rattle.af_collect.specs.Keeping.{Spares};
-ghost use Rattle.af_collect.specs.Shown.{room_at};
-ghost use Rattle.af_desc.specs.FilesView.{lowered, received_of};
+ghost use Rattle.af_collect.specs.Keeping.{NotBegunGarbage};
+ghost use Rattle.af_collect.specs.StoreView.{room_at};
+ghost use Rattle.af_desc.specs.FilesView.{received_of, without_file_ref};
 ghost use Rattle.af_ledger.specs.Counted.{IsCounted};
 ghost use Rattle.af_ledger.specs.Tally.{count_in_map};
 ghost use Rattle.af_ledger.specs.declared.place.Place.TheVariants.{Table};
@@ -26,8 +26,8 @@ use crate::messages::{charge_message, uncharge_message};
 use crate::shading::shade_taken;
 use crate::store::Store;
 use crate::tables::table_in_all;
+use af_base::ids::{Fd, FileRef, Pid};
 use af_base::limits::{MAX_INFLIGHT, MAX_MESSAGES};
-use af_base::names::{Fd, FileRef, Pid};
 use af_desc::Files;
 use af_ledger::Place;
 use af_queue::{Msg, Taken};
@@ -42,7 +42,7 @@ impl Store {
         requires limit { IsBelowLimit self.old.world pid fd }
         requires free { table_at self.old.world pid fd ≡ None }
         requires live { world.IsLive self.old.world file }
-        requires spared { Spares self.old.pass file }
+        requires spared { NotBegunGarbage self.old.pass file }
         ensures { self.new ≡ record self.old { world = install self.old.world pid fd file } }
     {
         let places = &mut self.parts.places;
@@ -58,7 +58,7 @@ impl Store {
         requires row { fd < room_at self.old pid }
         requires limit { IsBelowLimit self.old.world pid fd }
         requires live { world.IsLive self.old.world file }
-        requires spared { Spares self.old.pass file }
+        requires spared { NotBegunGarbage self.old.pass file }
         ensures { self.new ≡ record self.old {
           world = install self.old.world pid fd file;
           marks = self.new.marks;
@@ -90,7 +90,7 @@ impl Store {
     /// is charged to its user, who is the user of a process. It cannot fail, since there is room.
     pub fn put_msg(&mut self, socket: &FileRef, message: Msg)
         requires live { (f : ℕ) → Contains message.attached f → world.IsLive self.old.world f }
-        requires spared { (f : ℕ) → Contains message.attached f → Spares self.old.pass f }
+        requires spared { (f : ℕ) → Contains message.attached f → NotBegunGarbage self.old.pass f }
         requires user { IsOfProcess self.old.world message.user }
         requires within { IsMessageWithin message }
         requires flying { total self.old.world + length message.attached ≤ MAX_INFLIGHT }
@@ -123,7 +123,7 @@ impl Store {
         fds: &[Fd],
     ) -> Result<Taken, AllocError>
         requires some { 0 < max }
-        requires spared { Spares self.old.pass socket.now }
+        requires spared { NotBegunGarbage self.old.pass socket.now }
         requires socket { is_none (socket_at self.old.world socket.now) ≡ false }
         requires there { IsTrue (finmap.contains_key self.old.world.processes pid) }
         requires free { (k : ℕ) × (fds.now ≡ lowest_free k (process_at self.old.world pid)) }
@@ -165,7 +165,7 @@ impl Store {
         fds: &[Fd],
     ) -> Result<Taken, AllocError>
         requires some { 0 < max }
-        requires spared { Spares self.old.pass socket.now }
+        requires spared { NotBegunGarbage self.old.pass socket.now }
         requires socket { is_none (socket_at self.old.world socket.now) ≡ false }
         requires there { IsTrue (finmap.contains_key self.old.world.processes pid) }
         requires free { (k : ℕ) × (fds.now ≡ lowest_free k (process_at self.old.world pid)) }
@@ -196,7 +196,7 @@ impl Store {
 #[inline(always)]
 fn lower_number(files: &mut Files, was: Option<FileRef>)
     requires { IfSome was (λ f. IsCounted Table (count_in_map files.old.counts f)) }
-    ensures { files.new ≡ option_map_or (λ f. lowered Table f files.old) was files.old }
+    ensures { files.new ≡ option_map_or (λ f. without_file_ref Table f files.old) was files.old }
 {
     if let Some(was) = was {
         files.drop_one(&Place::Table, &was);

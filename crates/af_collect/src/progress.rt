@@ -14,7 +14,7 @@ pub enum Stage {
 /// The progress of a pass. It walks over the files by rising number, up to those that are newer
 /// than its begin: once to visit them, and once to sweep them.
 #[derive(Clone, Copy, Debug)]
-pub struct Progress {
+pub struct PassProgress {
     pub stage: Stage,
     /// Files below this number were visited.
     pub visited: u64,

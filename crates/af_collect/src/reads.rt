@@ -8,7 +8,7 @@ ghost use Rattle.af_base.specs.World.{IsLive};
 
 use crate::holdings::Holdings;
 use af_base::errno::Errno;
-use af_base::names::{FileRef, Ino, Uid};
+use af_base::ids::{FileRef, Ino, Uid};
 use af_desc::Files;
 use af_table::Procs;
 

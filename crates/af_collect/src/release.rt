@@ -10,11 +10,11 @@ ghost use Rattle.af_base.specs.Unheld.{without};
 ghost use Rattle.af_desc.specs.FilesView as desc;
 ghost use Rattle.af_base.specs.Whole.{AreMutual, IsSound};
 ghost use Rattle.af_collect.specs.Losing.{places_at, without_place};
-ghost use Rattle.af_mark.specs.Marked.{forgotten};
+ghost use Rattle.af_mark.specs.MarksView.{forgotten};
 
 use crate::holdings::Holdings;
 use crate::messages::uncharge_message;
-use af_base::names::FileRef;
+use af_base::ids::FileRef;
 use af_desc::Files;
 use af_ledger::Place;
 

@@ -2,21 +2,21 @@
 //! so each held file is looked up anew.
 ghost use Rattle.std.specs.Prelude.{◌≡◌, ◌≤◌, ◌*◌, [], drop, length, slice_get, take};
 ghost use Rattle.std.specs.Option.{option_map_or};
-ghost use Rattle.af_base.specs.Places.{backlog_at, carried, held_by, queue_at};
+ghost use Rattle.af_base.specs.Places.{attached_in, backlog_at, held_by, queue_at};
 ghost use Rattle.af_base.specs.Refusals.{socket_at};
 ghost use Rattle.af_collect.specs.Keeping.{first_held, shaded_all, shaded_in};
-ghost use Rattle.af_collect.specs.Shown.{Shades, first_attached};
+ghost use Rattle.af_collect.specs.StoreView.{Shades, first_attached};
 
 use crate::holdings::Holdings;
-use crate::progress::{Progress, Stage};
+use crate::progress::{PassProgress, Stage};
+use af_base::ids::FileRef;
 use af_base::limits::{MAX_MESSAGES, SCM_MAX_FD};
-use af_base::names::FileRef;
 use af_desc::{Files, Socket};
 use af_queue::BATCH;
 use arrayvec::ArrayVec;
 
 /// Marks the files that were taken out of a queue, while marking.
-pub fn shade_taken(progress: &Progress, files: &mut Files, taken: &[FileRef])
+pub fn shade_taken(progress: &PassProgress, files: &mut Files, taken: &[FileRef])
     ensures { files.new
         ≡ record files.old { marks = shaded_in progress.now.stage taken.now files.old.marks } }
 {
@@ -35,7 +35,7 @@ fn shade_all(files: &mut Files, taken: &[FileRef])
 }
 
 /// Marks all that the file holds.
-#[tactic(auto, using(crate::proofs::Losing::held_parts, crate::proofs::Shaded::shaded_append))]
+#[tactic(auto, using(crate::proofs::LostFiles::held_parts, crate::proofs::ShadedMarks::shaded_append))]
 #[inline(always)]
 pub fn shade_held(places: &mut Holdings, file: &FileRef)
     ensures { Shades (held_by places.old.world file.now) places.old places.new }
@@ -44,28 +44,28 @@ pub fn shade_held(places: &mut Holdings, file: &FileRef)
     shade_backlog(places, file);
 }
 
-/// Marks the files that the file's queue carries.
-#[tactic(auto, using(crate::proofs::Holding::carried_one))]
+/// Marks the files attached to the messages of the file's queue.
+#[tactic(auto, using(crate::proofs::FileContents::carried_one))]
 #[inline(always)]
 fn shade_queue(places: &mut Holdings, file: &FileRef)
-    ensures { Shades (carried (queue_at places.old.world file.now)) places.old places.new }
+    ensures { Shades (attached_in (queue_at places.old.world file.now)) places.old places.new }
 {
     // Most queues have one message at most.
     if messages(places, file) <= 1 {
         shade_message(places, file);
     } else {
-        shade_carried(places, file);
+        shade_attached(places, file);
     }
 }
 
 /// Marks the same, some at a time.
 #[inline(never)]
-fn shade_carried(places: &mut Holdings, file: &FileRef)
-    ensures { Shades (carried (queue_at places.old.world file.now)) places.old places.new }
+fn shade_attached(places: &mut Holdings, file: &FileRef)
+    ensures { Shades (attached_in (queue_at places.old.world file.now)) places.old places.new }
 {
     let mut from = 0;
     loop {
-        let held = carried(places, file, from);
+        let held = attached_from(places, file, from);
         let held = held.as_slice();
         shade_some(places, held);
         if held.len() < BATCH {
@@ -86,7 +86,7 @@ fn shade_some(places: &mut Holdings, held: &[FileRef])
 }
 
 /// Marks the embryos of the file's backlog.
-#[tactic(auto, using(crate::proofs::Holding::rest_next, crate::proofs::Shaded::shaded_append))]
+#[tactic(auto, using(crate::proofs::FileContents::rest_next, crate::proofs::ShadedMarks::shaded_append))]
 #[inline(always)]
 fn shade_backlog(places: &mut Holdings, file: &FileRef)
     ensures { Shades (backlog_at places.old.world file.now) places.old places.new }
@@ -101,15 +101,15 @@ fn shade_backlog(places: &mut Holdings, file: &FileRef)
 fn shade_message(places: &mut Holdings, file: &FileRef)
     ensures { Shades (first_attached places.old.world file.now) places.old places.new }
 {
-    for index in 0..attached(places, file).len() {
-        let held = attached(places, file)[index].duplicate();
+    for index in 0..first_attached(places, file).len() {
+        let held = first_attached(places, file)[index].duplicate();
         places.shade(&held);
     }
 }
 
 /// Marks the files that the file would lose first: those of its first message, or else its first
 /// embryo.
-#[tactic(auto, using(crate::proofs::Holding::carried_first))]
+#[tactic(auto, using(crate::proofs::FileContents::carried_first))]
 pub fn shade_first(places: &mut Holdings, file: &FileRef)
     ensures { Shades (first_held places.old.world file.now) places.old places.new }
 {
@@ -121,7 +121,7 @@ pub fn shade_first(places: &mut Holdings, file: &FileRef)
 }
 
 /// Marks the embryo at this position of the file's backlog, if there is one.
-#[tactic(auto, using(crate::proofs::Holding::first_left, crate::proofs::Holding::none_left))]
+#[tactic(auto, using(crate::proofs::FileContents::first_left, crate::proofs::FileContents::none_left))]
 #[inline(always)]
 pub fn shade_embryo(places: &mut Holdings, file: &FileRef, at: usize)
     ensures { Shades
@@ -157,23 +157,23 @@ fn embryos(places: &Holdings, file: &FileRef) -> usize
     }
 }
 
-/// Returns the files that the queue of the file carries, from this one on: 16 at most.
+/// Returns the files attached to the messages of the file's queue, from this one on: 16 at most.
 #[inline(always)]
-fn carried(places: &Holdings, file: &FileRef, from: usize) -> ArrayVec<FileRef, BATCH>
+fn attached_from(places: &Holdings, file: &FileRef, from: usize) -> ArrayVec<FileRef, BATCH>
     ensures files { result.items
-        ≡ take BATCH (drop from (carried (queue_at places.now.world file.now))) }
-    ensures few { length (carried (queue_at places.now.world file.now))
+        ≡ take BATCH (drop from (attached_in (queue_at places.now.world file.now))) }
+    ensures few { length (attached_in (queue_at places.now.world file.now))
         ≤ MAX_MESSAGES * SCM_MAX_FD }
 {
     match socket(places, file) {
-        Some(socket) => socket.queue().carried(from),
+        Some(socket) => socket.queue().attached_from(from),
         None => ArrayVec::new(),
     }
 }
 
 /// Returns the files attached to the first message of the file's queue.
 #[inline(always)]
-fn attached<'a>(places: &'a Holdings, file: &FileRef) -> &'a [FileRef]
+fn first_attached<'a>(places: &'a Holdings, file: &FileRef) -> &'a [FileRef]
     ensures { result.now ≡ first_attached places.now.world file.now }
 {
     let Some(socket) = socket(places, file) else {

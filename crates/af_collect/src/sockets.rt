@@ -7,18 +7,18 @@ ghost use Rattle.af_base.specs.World as world;
 ghost use Rattle.af_base.specs.Names.{is_name, named};
 ghost use Rattle.af_base.specs.Counts.{waiting};
 ghost use Rattle.af_base.specs.Places.{backlog_at, table_at};
-ghost use Rattle.af_base.specs.Changes.{add_file, bound, dequeued, install, listening, queued};
+ghost use Rattle.af_base.specs.Changes.{add_file, dequeued, install, listening, queued, with_name};
 ghost use Rattle.af_base.specs.Changes.{with_socket};
 ghost use Rattle.af_base.specs.Refusals.{is_full, room_of, socket_at};
 ghost use Rattle.af_base.specs.Steps.{idle_socket, with_embryo};
 ghost use Rattle.af_collect.specs.Limits.{IsBelowLimit};
-ghost use Rattle.af_collect.specs.Keeping.{Spares};
-ghost use Rattle.af_collect.specs.Shown.{room_at};
+ghost use Rattle.af_collect.specs.Keeping.{NotBegunGarbage};
+ghost use Rattle.af_collect.specs.StoreView.{room_at};
 
 use crate::store::Store;
 use af_base::events::{SockType, State};
+use af_base::ids::{Fd, FileRef, Pid};
 use af_base::limits::MAX_BACKLOG;
-use af_base::names::{Fd, FileRef, Pid};
 use af_ledger::Place;
 use std::alloc::AllocError;
 
@@ -50,8 +50,9 @@ impl Store {
         requires nameless { IfSome (socket_at self.old.world socket.now) (λ s. s.name ≡ None) }
         requires name { is_name name.now ≡ true }
         requires free { named self.old.world.files name.now ≡ None }
-        ensures ok { OnOk result (self.new
-            ≡ record self.old { world = with_socket self.old.world socket.now (bound name.now) }) }
+        ensures ok { OnOk result (self.new ≡ record self.old {
+          world = with_socket self.old.world socket.now (with_name name.now);
+        }) }
         ensures err { OnErr result (self.new ≡ self.old) }
     {
         let places = &mut self.parts.places;
@@ -104,7 +105,7 @@ impl Store {
     /// Appends an embryo to the backlog of a listener that has room for it. Takes no memory.
     pub fn put_embryo(&mut self, listener: &FileRef, embryo: FileRef)
         requires live { world.IsLive self.old.world embryo }
-        requires spared { Spares self.old.pass embryo }
+        requires spared { NotBegunGarbage self.old.pass embryo }
         requires new { waiting self.old.world embryo ≡ 0 }
         requires room { IfSome (socket_at self.old.world listener.now) (λ s.
             length s.backlog < room_of s.state) }
@@ -125,7 +126,7 @@ impl Store {
         requires limit { IsBelowLimit self.old.world pid fd }
         requires free { table_at self.old.world pid fd ≡ None }
         requires some { 0 < length (backlog_at self.old.world listener.now) }
-        requires spared { Spares self.old.pass listener.now }
+        requires spared { NotBegunGarbage self.old.pass listener.now }
         ensures { (embryo : ℕ) → slice_get (backlog_at self.old.world listener.now) 0 ≡ Some embryo
             → self.new ≡ record self.old {
               world = install (with_socket self.old.world listener.now dequeued) pid fd embryo;

@@ -11,15 +11,15 @@ ghost use Rattle.af_base.specs.Steps.{spawned, with_pair};
 ghost use Rattle.af_base.specs.Table.{lowest_free};
 ghost use Rattle.af_base.specs.Told.{AreChanged, TellsReleased};
 ghost use Rattle.af_collect.specs.Limits.{IsBelowLimit};
-ghost use Rattle.af_collect.specs.Shown.{room_at};
+ghost use Rattle.af_collect.specs.StoreView.{room_at};
 
 use crate::holdings::Holdings;
 use crate::parts::Collector;
-use crate::progress::{Progress, Stage};
+use crate::progress::{PassProgress, Stage};
 use crate::tables::{ref_table, unref_table};
 use af_base::events::SockType;
+use af_base::ids::{Fd, FileRef, Ino, Pid, Uid};
 use af_base::limits::MAX_NOFILE;
-use af_base::names::{Fd, FileRef, Ino, Pid, Uid};
 use af_ledger::Place;
 use std::alloc::{AllocError, Global};
 use std::marker::Model;
@@ -42,9 +42,9 @@ impl Model for Store {
     ghost use Rattle.std.specs.FinMap as map;
     ghost use Rattle.std.specs.Coded.{codes};
     ghost use Rattle.af_collect.specs.Keeping.{pass_of};
-    ghost use Rattle.af_collect.specs.Shown.{KeepsPass, Shown};
+    ghost use Rattle.af_collect.specs.StoreView.{KeepsPass, StoreView};
 
-    ghost Value = { Shown };
+    ghost Value = { StoreView };
 
     ghost coded = { Prim.hlevel (codes, map.code) };
 
@@ -74,7 +74,7 @@ impl Store {
             parts: Collector {
                 places,
                 begun,
-                progress: Progress {
+                progress: PassProgress {
                     stage: Stage::Resting,
                     visited: 0,
                     swept: 0,
@@ -179,19 +179,19 @@ impl Store {
 
     /// Returns the numbers of the files that were freed since the lists were last emptied, each
     /// once, if that list is kept.
-    pub fn released(&self) -> &[Ino]
+    pub fn released_files(&self) -> &[Ino]
         ensures { TellsReleased self.now.world self.now.since result.now }
     {
-        self.parts.places.files().released()
+        self.parts.places.files().released_files()
     }
 
     /// Returns the sockets whose readiness may have changed since the lists were last emptied, each
     /// once, if that list is kept.
-    pub fn changed(&self) -> &[FileRef]
+    pub fn changed_sockets(&self) -> &[FileRef]
         ensures { self.now.since.changed ≡ true
             → AreChanged self.now.world.files self.now.since result.now }
     {
-        self.parts.places.files().changed()
+        self.parts.places.files().changed_sockets()
     }
 
     /// Empties both lists. It takes no memory.

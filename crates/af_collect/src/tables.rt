@@ -5,12 +5,12 @@ ghost use Rattle.std.specs.List.{All, Contains, zip};
 ghost use Rattle.std.specs.FinMap as map;
 ghost use Rattle.af_base.specs.Changes.{add_process, remove_process};
 ghost use Rattle.af_base.specs.World.{World};
-ghost use Rattle.af_ledger.specs.Tally.{Charged, count_in_map, held_all, kept_of};
+ghost use Rattle.af_ledger.specs.Tally.{LedgerView, count_in_map, kept_of, with_refs};
 ghost use Rattle.af_collect.specs.Agreement.{IsExact, Joins};
 ghost use Rattle.af_collect.specs.HoldingsView.{filled};
 ghost use Rattle.af_table.specs.Procs.{row_in};
 
-use af_base::names::{Fd, FileRef, Pid};
+use af_base::ids::{Fd, FileRef, Pid};
 use af_desc::Files;
 use af_ledger::Place;
 use af_table::{Process, Procs};
@@ -33,7 +33,7 @@ pub fn table_in_all(
         ≡ filled procs.old.processes pid (zip fds.now attached.now) }
     ensures rows { procs.new.rows ≡ procs.old.rows }
     ensures next { procs.new.next_pid ≡ procs.old.next_pid }
-    ensures kept { (c : Charged) → kept_of files.new.counts c ≡ held_all Place.Table
+    ensures kept { (c : LedgerView) → kept_of files.new.counts c ≡ with_refs Place.Table
         (mapped (λ e. e.1) (zip fds.now attached.now)) (kept_of files.old.counts c) }
     ensures rest { files.new ≡ record files.old { counts = files.new.counts } }
 {
@@ -45,9 +45,9 @@ pub fn table_in_all(
 
 /// Adds a reference for each open descriptor of a process that joins the world. Takes no memory.
 pub fn ref_table(files: &mut Files, process: &Process)
-    requires { (w : World) × (c : Charged)
+    requires { (w : World) × (c : LedgerView)
         × Joins w process.now.process (kept_of files.old.counts c) }
-    ensures exact { (w : World) (c : Charged)
+    ensures exact { (w : World) (c : LedgerView)
         → Joins w process.now.process (kept_of files.old.counts c)
         → IsExact (add_process w process.now.process) (kept_of files.new.counts c) }
     ensures rest { files.new ≡ record files.old { counts = files.new.counts } }
@@ -66,9 +66,9 @@ pub fn ref_table(files: &mut Files, process: &Process)
 
 /// Drops a reference for each open descriptor of a process that left the world. Takes no memory.
 pub fn unref_table(files: &mut Files, process: &Process)
-    requires { (w : World) × (c : Charged) × (pid : ℕ) × (map.get w.processes pid
+    requires { (w : World) × (c : LedgerView) × (pid : ℕ) × (map.get w.processes pid
         ≡ Some process.now.process) × IsExact w (kept_of files.old.counts c) }
-    ensures exact { (w : World) (c : Charged) (pid : ℕ)
+    ensures exact { (w : World) (c : LedgerView) (pid : ℕ)
         → map.get w.processes pid ≡ Some process.now.process
         → IsExact w (kept_of files.old.counts c)
         → IsExact (remove_process w pid) (kept_of files.new.counts c) }

@@ -3,17 +3,17 @@ ghost use Rattle.std.specs.Prelude.{◌≡◌, ◌<◌, ◌≤◌, ◌+◌, ℕ,
 ghost use Rattle.af_base.specs.World.{IsLive};
 ghost use Rattle.af_base.specs.Reached.{IsGarbageCount};
 ghost use Rattle.af_base.specs.Whole.{IsSound};
-ghost use Rattle.af_mark.specs.Marked.{is_grey, is_marked};
+ghost use Rattle.af_mark.specs.MarksView.{is_grey, is_marked};
 ghost use Rattle.af_collect.specs.declared.progress.Stage.TheVariants as stage;
 ghost use Rattle.af_collect.specs.Keeping.{is_running};
 ghost use Rattle.af_collect.specs.Purged.{ArePurged};
 ghost use Rattle.af_collect.specs.Collecting.{NoneLeft, NoneLive};
-ghost use Rattle.af_collect.specs.Shown.{KeepsPass};
+ghost use Rattle.af_collect.specs.StoreView.{KeepsPass};
 
 use crate::parts::Collector;
-use crate::progress::{Progress, Stage};
+use crate::progress::{PassProgress, Stage};
 use crate::shading::shade_held;
-use af_base::names::{FileRef, Ino};
+use af_base::ids::{FileRef, Ino};
 use std::snapshot::Snapshot;
 
 impl Collector {
@@ -32,7 +32,7 @@ impl Collector {
     {
         self.begun = Snapshot::of(&self.places);
         self.places.start_epoch();
-        self.progress = Progress {
+        self.progress = PassProgress {
             stage: Stage::Marking,
             visited: 0,
             swept: 0,

@@ -1,7 +1,7 @@
 //! Parts of the store, lent for reading.
 ghost use Rattle.std.specs.Prelude.{◌≡◌, ℕ};
 ghost use Rattle.af_base.specs.Places.{InTable};
-ghost use Rattle.af_collect.specs.Keeping.{Spares};
+ghost use Rattle.af_collect.specs.Keeping.{NotBegunGarbage};
 
 use crate::holdings::Holdings;
 use crate::store::Store;
@@ -21,7 +21,7 @@ impl Store {
     /// Does nothing at run time. Shows that a file in a table is no garbage of the begin of a
     /// running pass.
     pub fn lemma_is_spared(&self)
-        ensures { (f : ℕ) → InTable self.now.world f → Spares self.now.pass f }
+        ensures { (f : ℕ) → InTable self.now.world f → NotBegunGarbage self.now.pass f }
     {
         // The invariant says it: it is enough to look at a field.
         let _parts = &self.parts;

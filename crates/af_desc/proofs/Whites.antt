@@ -7,7 +7,7 @@ use Rattle.std.specs.Int.{from_bool}
 use Rattle.std.specs.FinMap as map
 use Rattle.af_base.specs.World.{Map}
 use Rattle.af_mark.specs.Grey.{color_in, colors_in, unmarked}
-use Rattle.af_mark.specs.Marked.{Marked, is_grey, is_mark, is_white, white_at, white_count}
+use Rattle.af_mark.specs.MarksView.{MarksView, is_grey, is_mark, is_white, white_at, white_count}
 use Rattle.af_mark.specs.declared.color.Color.{Color}
 use Rattle.af_mark.specs.declared.color.Color.TheVariants.{Black, Grey, White}
 use Rattle.af_mark.specs.declared.mark.Mark.{Mark}
@@ -15,10 +15,10 @@ use Rattle.af_mark.proofs.Colors.{color_after, color_get, color_white}
 use Rattle.af_mark.proofs.Whites.{adds-grey, adds-white, none-bound, white-beyond, white-mark, whites-gone, whites-most, whites-put}
 use Rattle.ordered_slab.proofs.Parts.{part_many}
 use Rattle.af_desc.specs.FilesView.{AreWhite}
-use Rattle.af_desc.specs.RowsView.{is_white_in}
+use Rattle.af_desc.specs.TrackedTableView.{is_white_in}
 
 module _ (m n : Map Mark) (epoch bound next white : ℕ) (h : AreWhite m epoch bound next white) where
-  abbrev old : Marked
+  abbrev old : MarksView
   old = record { colors = colors_in epoch m; bound = bound }
 
   -- A file more is still to be marked by no pass.

@@ -14,16 +14,16 @@ use Rattle.af_base.specs.Steps.{connected_socket}
 use Rattle.af_base.specs.Take.{take_from}
 use Rattle.af_base.specs.Whole.{state_of}
 use Rattle.af_ledger.specs.Counted.{fewer, more, uncounted}
-use Rattle.af_ledger.specs.Tally.{AreWaiting, count_in_map}
+use Rattle.af_ledger.specs.Tally.{AreUnreferenced, count_in_map}
 use Rattle.af_ledger.specs.declared.count.Count.{Count}
 use Rattle.af_ledger.specs.declared.place.Place.{Place}
 use Rattle.af_ledger.specs.declared.place.Place.TheVariants.{Backlog, Queue, Table}
-use Rattle.af_listen.specs.Named.{Named}
-use Rattle.af_mark.specs.Grey.{AreListed, colors_in}
+use Rattle.af_listen.specs.NamesView.{NamesView}
+use Rattle.af_mark.specs.Grey.{IsGreyList, colors_in}
 use Rattle.af_mark.specs.declared.mark.Mark.{Mark}
-use Rattle.af_mark.specs.Marked.{Marked, born, forgotten, is_unmarked, white_count}
-use Rattle.af_queue.specs.Received.{Received, received}
-use Rattle.af_desc.specs.RowsView.{RowsView}
+use Rattle.af_mark.specs.MarksView.{MarksView, born, forgotten, is_unmarked, white_count}
+use Rattle.af_queue.specs.TakenView.{TakenView, received}
+use Rattle.af_desc.specs.TrackedTableView.{TrackedTableView}
 
 -- The world's files, how many places hold each, what a pass knows of each, what there was when the
 -- lists were emptied last, the number that the next one gets, and whether there is room for a
@@ -31,7 +31,7 @@ use Rattle.af_desc.specs.RowsView.{RowsView}
 pub record FilesView : Type 0 where
   pub files : Map File
   pub counts : Map Count
-  pub marks : Marked
+  pub marks : MarksView
   pub since : Since
   pub next : ℕ
   pub message_room : Bool
@@ -67,12 +67,12 @@ without f v = record v {
 }
 
 -- A place of this kind more holds the file.
-abbrev pub raised : Place → ℕ → FilesView → FilesView
-raised p f v = record v { counts = map.insert v.counts f (more p (count_in_map v.counts f)) }
+abbrev pub with_file_ref : Place → ℕ → FilesView → FilesView
+with_file_ref p f v = record v { counts = map.insert v.counts f (more p (count_in_map v.counts f)) }
 
 -- A place of this kind less holds the file.
-abbrev pub lowered : Place → ℕ → FilesView → FilesView
-lowered p f v = record v { counts = map.insert v.counts f (fewer p (count_in_map v.counts f)) }
+abbrev pub without_file_ref : Place → ℕ → FilesView → FilesView
+without_file_ref p f v = record v { counts = map.insert v.counts f (fewer p (count_in_map v.counts f)) }
 
 -- The file f is changed, if it is a socket.
 abbrev pub changed : (Socket → Socket) → ℕ → FilesView → FilesView
@@ -95,7 +95,7 @@ abbrev pub socket_in : Map File → ℕ → Option Socket
 socket_in files f = option_and_then socket_of (map.get files f)
 
 -- Whether the file f of these is a socket that a pass has still to mark.
-abbrev pub is_unmarked_socket : Map File → Marked → ℕ → Bool
+abbrev pub is_unmarked_socket : Map File → MarksView → ℕ → Bool
 is_unmarked_socket files m f = is_some (socket_in files f) && is_unmarked m f
 
 -- The peer state of the file f of these; a plain file and an unknown one have none.
@@ -103,7 +103,7 @@ abbrev pub state_in : Map File → ℕ → State
 state_in files f = option_map_or state_of (map.get files f) state.Idle
 
 -- The result of a receive of at most n bytes from a socket, if there is one (recvmsg(2)).
-abbrev pub received_of : Option Socket → ℕ → Received
+abbrev pub received_of : Option Socket → ℕ → TakenView
 received_of o n = let s = unwrap_or o no_socket in received s.kind s.queue n
 
 -- A socket after a receive of at most n bytes (recvmsg(2)).
@@ -120,7 +120,7 @@ name_in files f = option_and_then (λ s. s.name) (socket_in files f)
 
 -- The names are just those of these files: a name leads to the one socket that has it (unix(7),
 -- abstract names).
-pub record AreNamed (names : Named) (files : Map File) : Type 0 where
+pub record AreNamed (names : NamesView) (files : Map File) : Type 0 where
   pub each : (name : List ℕ) (f : ℕ) → (map.get names name ≡ Some f) ↔ (name_in files f ≡ Some name)
 
 -- No more places are in backlogs than this number, unless it is as large as it can get.
@@ -148,14 +148,14 @@ AreWhite marks epoch bound next n = (bound ≤ next)
 -- The rows fit all else: numbers begin at 1 and rise, the names are those of the files, the lists
 -- have just the files that wait and those that are grey, with room for all, and for as many as the
 -- rows say, and the embryos, and the files that a pass has still to mark, are counted.
-pub record FilesInvariant (rows : RowsView) (waiting : List ℕ) (room : ℕ) (names : Named)
+pub record FilesInvariant (rows : TrackedTableView) (unreferenced : List ℕ) (room : ℕ) (names : NamesView)
     (next epoch : ℕ) (grey : List ℕ) (most embryos bound white : ℕ) : Type 0 where
   pub last : rows.last + 1 ≡ next
   pub begins : map.contains_key rows.files 0 ≡ false
   pub named : AreNamed names rows.files
-  pub waits : AreWaiting rows.counts waiting
+  pub unreferenced_listed : AreUnreferenced rows.counts unreferenced
   pub fits : map.len rows.counts ≤ room
-  pub listed : AreListed rows.marks epoch grey most
+  pub listed : IsGreyList rows.marks epoch grey most
   pub backlogged : AreEmbryos rows.counts embryos
   pub whites : AreWhite rows.marks epoch bound next white
   pub space : (rows.space ≤ room) × (rows.space ≤ most)

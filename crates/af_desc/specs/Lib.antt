@@ -1,5 +1,5 @@
 -- Files under numbers, and the representation that is seen so.
 pub mod FilesView
-pub mod LinesView
-pub mod RowsView
+pub mod FileTableView
+pub mod TrackedTableView
 pub mod Told

@@ -6,36 +6,36 @@ use Rattle.af_base.specs.Counts.{ListsExactly}
 use Rattle.af_base.specs.Ready.{face_in}
 use Rattle.af_base.specs.Told.{AreReleased, is_socket_in}
 use Rattle.af_base.specs.World.{Map, Since}
-use Rattle.af_desc.specs.LinesView.{LinesView}
+use Rattle.af_desc.specs.FileTableView.{FileTableView}
 
 -- The reports, and the files when the period began.
-abbrev pub since_of : Bool → Bool → LinesView → Since
-since_of changed released lines = record {
+abbrev pub since_of : Bool → Bool → FileTableView → Since
+since_of changed released table = record {
   changed = changed;
   released = released;
-  files = lines.files;
-  next = lines.last + 1;
+  files = table.files;
+  next = table.last + 1;
 }
 
--- The list has each noted file, once, and no other.
-abbrev pub AreListed : Map Bool → List ℕ → Type 0
-AreListed noted fs = ListsExactly (λ b. b) noted fs
+-- The list has each dirty file, once, and no other.
+abbrev pub IsDirtyList : Map Bool → List ℕ → Type 0
+IsDirtyList dirty fs = ListsExactly (λ b. b) dirty fs
 
--- The list has just the noted files; where it is kept it has room for all, and a socket that is not
--- noted has the face that it had.
-pub record AreNoted (lines : LinesView) (fs : List ℕ) (space : ℕ) (since : Since) : Type 0 where
-  pub listed : AreListed lines.noted fs
-  pub fits : since.changed ≡ true → map.len lines.noted ≤ space
-  pub same : since.changed ≡ true → (f : ℕ) → IsTrue (is_socket_in lines.files f)
-      → map.get lines.noted f ≡ Some false → face_in lines.files f ≡ face_in since.files f
+-- The list has just the dirty files; where it is kept it has room for all, and a socket that is not
+-- dirty has the face that it had.
+pub record FitsDirty (table : FileTableView) (fs : List ℕ) (space : ℕ) (since : Since) : Type 0 where
+  pub listed : IsDirtyList table.dirty fs
+  pub fits : since.changed ≡ true → map.len table.dirty ≤ space
+  pub same : since.changed ≡ true → (f : ℕ) → IsTrue (is_socket_in table.files f)
+      → map.get table.dirty f ≡ Some false → face_in table.files f ≡ face_in since.files f
 
 -- Numbers rise; and if freed files are reported, each number is accounted for, and the list has
 -- room for all live files.
-pub record AreAccounted (lines : LinesView) (gone : List ℕ) (space : ℕ) (since : Since) : Type 0 where
-  pub later : since.next ≤ lines.last + 1
-  pub below : (f : ℕ) → lines.last < f → map.contains_key lines.counts f ≡ false
-  pub each : since.released ≡ true → AreReleased lines.counts (lines.last + 1) since gone
-  pub fits : since.released ≡ true → length gone + map.len lines.counts ≤ space
+pub record AreAccounted (table : FileTableView) (gone : List ℕ) (space : ℕ) (since : Since) : Type 0 where
+  pub later : since.next ≤ table.last + 1
+  pub below : (f : ℕ) → table.last < f → map.contains_key table.counts f ≡ false
+  pub each : since.released ≡ true → AreReleased table.counts (table.last + 1) since gone
+  pub fits : since.released ≡ true → length gone + map.len table.counts ≤ space
 
 -- The lists that are kept have room for so many live files in all.
 pub record HaveSpace (all space : ℕ) (gone : List ℕ) (wide : ℕ) (since : Since) : Type 0 where
@@ -43,16 +43,16 @@ pub record HaveSpace (all space : ℕ) (gone : List ℕ) (wide : ℕ) (since : S
   pub released : since.released ≡ true → length gone + all ≤ wide
 
 -- Both lists are right.
-pub record AreTold (lines : LinesView) (fs : List ℕ) (space : ℕ) (gone : List ℕ) (wide all : ℕ)
+pub record AreTold (table : FileTableView) (fs : List ℕ) (space : ℕ) (gone : List ℕ) (wide all : ℕ)
     (since : Since) : Type 0 where
-  pub noted : AreNoted lines fs space since
-  pub accounted : AreAccounted lines gone wide since
+  pub dirty : FitsDirty table fs space since
+  pub accounted : AreAccounted table gone wide since
   pub roomy : HaveSpace all space gone wide since
 
--- The file f becomes noted if it is a socket and readiness is reported; nothing else changes, and
--- noted files stay noted.
-pub record Notes (asked : Bool) (old new : LinesView) (f : ℕ) : Type 0 where
-  pub rest : new ≡ record old { noted = new.noted }
-  pub noted : asked ≡ true → IsTrue (is_socket_in old.files f) → map.get new.noted f ≡ Some false → ⊥
-  pub others : (g : ℕ) → map.get new.noted g ≡ Some false → map.get old.noted g ≡ Some false
-  pub len : map.len new.noted ≡ map.len old.noted
+-- The file f becomes dirty if it is a socket and readiness is reported; nothing else changes, and
+-- dirty files stay dirty.
+pub record MakesDirty (asked : Bool) (old new : FileTableView) (f : ℕ) : Type 0 where
+  pub rest : new ≡ record old { dirty = new.dirty }
+  pub dirty : asked ≡ true → IsTrue (is_socket_in old.files f) → map.get new.dirty f ≡ Some false → ⊥
+  pub others : (g : ℕ) → map.get new.dirty g ≡ Some false → map.get old.dirty g ≡ Some false
+  pub len : map.len new.dirty ≡ map.len old.dirty

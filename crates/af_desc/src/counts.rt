@@ -1,13 +1,14 @@
-//! How many places hold each file, and which files wait for one.
+//! How many places hold each file, and which files are unreferenced.
 ghost use Rattle.std.specs.Prelude.{◌≡◌, ℕ, false, true, IfSome, IfNone, IsTrue};
 ghost use Rattle.std.specs.FinMap as map;
 ghost use Rattle.af_ledger.specs.Counted.{places_in, IsCountable, IsCounted};
-ghost use Rattle.af_ledger.specs.Tally.{count_in_map, is_waiting};
-ghost use Rattle.af_desc.specs.FilesView.{lowered, raised, with_embryo, without_embryo};
+ghost use Rattle.af_ledger.specs.Tally.{count_in_map, is_unreferenced};
+ghost use Rattle.af_desc.specs.FilesView.{with_embryo, with_file_ref, without_embryo};
+ghost use Rattle.af_desc.specs.FilesView.{without_file_ref};
 
 use crate::files::Files;
 use af_base::file_list::swap_remove_file;
-use af_base::names::{FileRef, Ino};
+use af_base::ids::{FileRef, Ino};
 use af_ledger::{Count, Place};
 
 impl Files {
@@ -79,10 +80,10 @@ impl Files {
     /// Returns a file that no place holds, if there is one.
     #[inline(always)]
     pub fn next_waiting(&self) -> Option<FileRef>
-        ensures some { IfSome result (λ f. is_waiting self.now.counts f ≡ true) }
-        ensures none { IfNone result ((f : ℕ) → is_waiting self.now.counts f ≡ false) }
+        ensures some { IfSome result (λ f. is_unreferenced self.now.counts f ≡ true) }
+        ensures none { IfNone result ((f : ℕ) → is_unreferenced self.now.counts f ≡ false) }
     {
-        let file = self.waiting.last()?;
+        let file = self.unreferenced.last()?;
         Some(file.duplicate())
     }
 
@@ -92,13 +93,13 @@ impl Files {
     pub fn hold(&mut self, place: &Place, file: &FileRef)
         requires known { IsTrue (map.contains_key self.old.counts file.now) }
         requires countable { IsCountable place.now (count_in_map self.old.counts file.now) }
-        ensures { self.new ≡ raised place.now file.now self.old }
+        ensures { self.new ≡ with_file_ref place.now file.now self.old }
     {
         let first = self.rows.add_place(place, file);
         self.embryos = with_embryo(self.embryos, place);
         if first {
             // Of several unreferenced files, mostly the first gains a reference.
-            swap_remove_file(&mut self.waiting, file.ino(), 0);
+            swap_remove_file(&mut self.unreferenced, file.ino(), 0);
         }
     }
 
@@ -107,12 +108,12 @@ impl Files {
     #[inline(always)]
     pub fn drop_one(&mut self, place: &Place, file: &FileRef)
         requires { IsCounted place.now (count_in_map self.old.counts file.now) }
-        ensures { self.new ≡ lowered place.now file.now self.old }
+        ensures { self.new ≡ without_file_ref place.now file.now self.old }
     {
         let last = self.rows.sub_place(place, file);
         self.embryos = without_embryo(self.embryos, place);
         if last {
-            self.waiting.push_reserved(file.duplicate());
+            self.unreferenced.push_reserved(file.duplicate());
         }
     }
 }

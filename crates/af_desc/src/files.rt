@@ -6,13 +6,13 @@ ghost use Rattle.std.specs.FinMap as map;
 ghost use Rattle.af_base.specs.World as world;
 ghost use Rattle.af_base.specs.Places.{backlog_in, queue_in};
 ghost use Rattle.af_base.specs.Names.{named};
-ghost use Rattle.af_base.specs.Changes.{bound, connected, dequeued, listening, pushed, queued};
+ghost use Rattle.af_base.specs.Changes.{connected, dequeued, listening, pushed, queued, with_name};
 ghost use Rattle.af_base.specs.Refusals.{room_of};
 ghost use Rattle.af_base.specs.Steps.{connected_socket, idle_socket};
 ghost use Rattle.af_base.specs.Whole.{IsMessageWithin};
 ghost use Rattle.af_base.specs.World.{untold};
-ghost use Rattle.af_mark.specs.Marked.{is_grey, is_unmarked};
-ghost use Rattle.af_desc.specs.RowsView.{file_of};
+ghost use Rattle.af_mark.specs.MarksView.{is_grey, is_unmarked};
+ghost use Rattle.af_desc.specs.TrackedTableView.{file_of};
 ghost use Rattle.af_base.specs.Told.{AreChanged, AreReleased};
 ghost use Rattle.af_desc.specs.FilesView.{AreNamed, changed, changed_queue, entered, hung_up};
 ghost use Rattle.af_desc.specs.FilesView.{is_full, is_live, is_unmarked_socket, name_of, paired};
@@ -20,13 +20,13 @@ ghost use Rattle.af_desc.specs.FilesView.{popped, received_from, received_of, so
 ghost use Rattle.af_desc.specs.FilesView.{without};
 
 use crate::counts::with_embryo;
-use crate::rows::{Rows, widen};
 use crate::socket::{Endpoint, Socket};
+use crate::tracked_table::{TrackedTable, widen};
 use af_base::events::{SockType, State};
 use af_base::file_list::swap_remove_file;
+use af_base::ids::{FileRef, Ino};
 use af_base::items::Items;
 use af_base::limits::{MAX_FILES, MAX_INO, MAX_MESSAGES};
-use af_base::names::{FileRef, Ino};
 use af_ledger::Place;
 use af_listen::Names;
 use af_queue::{Msg, Taken};
@@ -38,9 +38,9 @@ use std::marker::Model;
 #[derive(Drop)]
 pub struct Files {
     pub(crate) alloc: Global,
-    pub(crate) rows: Rows,
+    pub(crate) rows: TrackedTable,
     /// The files that no place holds.
-    pub(crate) waiting: Vec<FileRef>,
+    pub(crate) unreferenced: Vec<FileRef>,
     /// The files that are marked and not scanned.
     pub(crate) grey: Vec<FileRef>,
     /// The pass: what an earlier one marked is not marked.
@@ -75,13 +75,14 @@ impl Model for Files {
       message_room = a.rows.message_room;
     } };
 
-    ghost invariant = { λ a. FilesInvariant a.rows a.waiting.items (vec_capacity a.waiting) a.names
-        a.next a.epoch a.grey.items (vec_capacity a.grey) a.embryos a.bound a.white };
+    ghost invariant = { λ a. FilesInvariant a.rows
+        a.unreferenced.items (vec_capacity a.unreferenced) a.names a.next a.epoch
+        a.grey.items (vec_capacity a.grey) a.embryos a.bound a.white };
 }
 
 impl Files {
     /// Makes an empty table of files; numbers begin at 1. Takes no memory.
-    #[tactic(auto, using(crate::proofs::Begun::begun))]
+    #[tactic(auto, using(crate::proofs::FirstNumber::begun))]
     pub fn new(alloc: Global) -> Files
         ensures files { result.files ≡ map.empty }
         ensures counts { result.counts ≡ map.empty }
@@ -91,8 +92,8 @@ impl Files {
     {
         Files {
             alloc,
-            rows: Rows::new(alloc),
-            waiting: Vec::new(alloc),
+            rows: TrackedTable::new(alloc),
+            unreferenced: Vec::new(alloc),
             grey: Vec::new(alloc),
             epoch: 0,
             bound: 0,
@@ -146,7 +147,7 @@ impl Files {
 
     /// Returns the socket of this abstract name, if there is one (unix(7)): one look-up, for any
     /// number of names.
-    pub fn named(&self, name: &[u8]) -> Option<FileRef>
+    pub fn find_name(&self, name: &[u8]) -> Option<FileRef>
         ensures { result ≡ named self.now.files name.now }
     {
         self.names.find(name)
@@ -170,7 +171,7 @@ impl Files {
     /// Makes a file, under the next number, with this place as its first reference. Reserves room
     /// first, so that on an error nothing has changed.
     #[inline(always)]
-    #[tactic(auto, using(crate::proofs::Begun::begun))]
+    #[tactic(auto, using(crate::proofs::FirstNumber::begun))]
     fn make(&mut self, endpoint: Option<Endpoint>, place: &Place) -> Result<FileRef, AllocError>
         requires number { self.old.next < MAX_INO + 1 }
         requires nameless { name_of (file_of endpoint) ≡ None }
@@ -178,7 +179,7 @@ impl Files {
         ensures ok { OnOk result (self.new ≡ entered place.now (file_of endpoint) self.old) }
         ensures err { OnErr result (self.new ≡ self.old) }
     {
-        reserve(&mut self.rows, &mut self.waiting, &mut self.grey, 1)?;
+        reserve(&mut self.rows, &mut self.unreferenced, &mut self.grey, 1)?;
         let file = self.rows.push(Ino(self.next), endpoint, place);
         self.embryos = with_embryo(self.embryos, place);
         self.next += 1;
@@ -205,13 +206,13 @@ impl Files {
             (self.new ≡ entered place.now (world.AsSocket (idle_socket kind)) self.old) }
         ensures err { OnErr result (self.new ≡ self.old) }
     {
-        self.make(Some(Endpoint::idle(kind)), place)
+        self.make(Some(Endpoint::new_idle(kind)), place)
     }
 
     /// Makes two sockets that are connected to each other (socketpair(2)), under the next two
     /// numbers, each with such a place as its first reference, if `is_full(2)` is false; on an
     /// error it makes none.
-    #[tactic(auto, using(crate::proofs::Begun::begun))]
+    #[tactic(auto, using(crate::proofs::FirstNumber::begun))]
     pub fn make_two(
         &mut self,
         kind: SockType,
@@ -223,16 +224,16 @@ impl Files {
         ensures ok { OnOk result (self.new ≡ paired place.now kind self.old) }
         ensures err { OnErr result (self.new ≡ self.old) }
     {
-        reserve(&mut self.rows, &mut self.waiting, &mut self.grey, 2)?;
+        reserve(&mut self.rows, &mut self.unreferenced, &mut self.grey, 2)?;
         let (lower, higher) = (Ino(self.next), Ino(self.next + 1));
-        // The key of the second is noted once its row exists.
-        let endpoint = Endpoint::connected(kind, &FileRef::new(higher, 0));
+        // The key of the second is set once its row exists.
+        let endpoint = Endpoint::new_connected(kind, &FileRef::new(higher, 0));
         let first = self.rows.push(lower, Some(endpoint), place);
         self.embryos = with_embryo(self.embryos, place);
-        let endpoint = Endpoint::connected(kind, &first);
+        let endpoint = Endpoint::new_connected(kind, &first);
         let second = self.rows.push(higher, Some(endpoint), place);
         self.embryos = with_embryo(self.embryos, place);
-        self.rows.point(&first, &second);
+        self.rows.set_peer_hint(&first, &second);
         self.next += 2;
         Ok((first, second))
     }
@@ -241,7 +242,7 @@ impl Files {
     /// again, and its name is free. Returns its peer, and whether it was a socket that the pass had
     /// still to mark. Takes no memory.
     #[inline(always)]
-    #[tactic(auto, using(af_mark::proofs::Listed::gone))]
+    #[tactic(auto, using(af_mark::proofs::GreyList::gone))]
     pub fn remove(&mut self, file: &FileRef) -> (Option<FileRef>, bool)
         requires silent { queue_in self.old.files file.now ≡ [] }
         ensures peer { IfSome result.0 (λ p. state_in self.old.files file.now ≡ State.Connected p) }
@@ -261,7 +262,7 @@ impl Files {
     /// Removes a file that is not grey, and returns its socket, and whether the pass had still to
     /// mark it.
     #[inline(always)]
-    #[tactic(auto, using(crate::proofs::Begun::begun))]
+    #[tactic(auto, using(crate::proofs::FirstNumber::begun))]
     fn take_out(&mut self, file: &FileRef) -> (Option<Endpoint>, bool)
         requires white { is_grey self.old.marks file.now ≡ false }
         requires silent { queue_in self.old.files file.now ≡ [] }
@@ -272,7 +273,7 @@ impl Files {
         let (endpoint, white) = self.rows.remove(file, self.epoch);
         let unmarked = (file.ino().0 < self.bound) & white;
         self.white -= usize::from(unmarked);
-        swap_remove_file(&mut self.waiting, file.ino(), 0);
+        swap_remove_file(&mut self.unreferenced, file.ino(), 0);
         free_name(&mut self.names, &endpoint);
         (endpoint, unmarked)
     }
@@ -345,7 +346,7 @@ impl Files {
     /// Makes an embryo: a socket that is connected to that client, and the client to it, under the
     /// next number, with this place as its first reference, if `is_full(1)` is false. On an error
     /// nothing has changed.
-    #[tactic(auto, using(crate::proofs::Begun::begun))]
+    #[tactic(auto, using(crate::proofs::FirstNumber::begun))]
     pub fn make_embryo(
         &mut self,
         kind: SockType,
@@ -358,7 +359,7 @@ impl Files {
             (entered place.now (world.AsSocket (connected_socket kind client.now)) self.old)) }
         ensures err { OnErr result (self.new ≡ self.old) }
     {
-        let embryo = self.make(Some(Endpoint::connected(kind, client)), place)?;
+        let embryo = self.make(Some(Endpoint::new_connected(kind, client)), place)?;
         self.connect(client, &embryo);
         Ok(embryo)
     }
@@ -375,7 +376,7 @@ impl Files {
     pub fn bind(&mut self, file: &FileRef, name: &[u8]) -> Result<(), AllocError>
         requires nameless { IfSome (socket_in self.old.files file.now) (λ s. s.name ≡ None) }
         requires free { named self.old.files name.now ≡ None }
-        ensures ok { OnOk result (self.new ≡ changed (bound name.now) file.now self.old) }
+        ensures ok { OnOk result (self.new ≡ changed (with_name name.now) file.now self.old) }
         ensures err { OnErr result (self.new ≡ self.old) }
     {
         if self.socket(file).is_none() {
@@ -459,20 +460,20 @@ impl Files {
 
     /// Returns the numbers of the files that were freed since the lists were last emptied, each
     /// once, if that list is kept.
-    pub fn released(&self) -> &[Ino]
+    pub fn released_files(&self) -> &[Ino]
         ensures { self.now.since.released ≡ true
             → AreReleased self.now.files self.now.next self.now.since result.now }
     {
-        self.rows.released()
+        self.rows.released_files()
     }
 
     /// Returns the sockets whose readiness may have changed since the lists were last emptied, each
     /// once, if that list is kept.
-    pub fn changed(&self) -> &[FileRef]
+    pub fn changed_sockets(&self) -> &[FileRef]
         ensures { self.now.since.changed ≡ true
             → AreChanged self.now.files self.now.since result.now }
     {
-        self.rows.changed()
+        self.rows.changed_sockets()
     }
 
     /// Empties both lists. It takes no memory.
@@ -489,22 +490,22 @@ impl Files {
 /// Nothing else changes, also on an error.
 #[inline(always)]
 fn reserve(
-    rows: &mut Rows,
-    waiting: &mut Vec<FileRef>,
+    rows: &mut TrackedTable,
+    unreferenced: &mut Vec<FileRef>,
     grey: &mut Vec<FileRef>,
     files: usize,
 ) -> Result<(), AllocError>
-    requires waiting { rows.old.space ≤ vec_capacity waiting.old }
+    requires unreferenced { rows.old.space ≤ vec_capacity unreferenced.old }
     requires grey { rows.old.space ≤ vec_capacity grey.old }
     ensures rows { rows.new ≡ record rows.old { room = rows.new.room; space = rows.new.space } }
-    ensures waiting { waiting.new.items ≡ waiting.old.items }
+    ensures unreferenced { unreferenced.new.items ≡ unreferenced.old.items }
     ensures grey { grey.new.items ≡ grey.old.items }
     ensures room { OnOk result (files ≤ rows.new.room) }
     ensures counts { OnOk result (map.len rows.old.counts + files ≤ rows.new.space) }
     ensures marks { OnOk result (map.len rows.old.marks + files ≤ rows.new.space) }
-    ensures fits { rows.new.space ≤ vec_capacity waiting.new }
+    ensures fits { rows.new.space ≤ vec_capacity unreferenced.new }
     ensures grey_fits { rows.new.space ≤ vec_capacity grey.new }
-    ensures capacity { vec_capacity waiting.old ≤ vec_capacity waiting.new }
+    ensures capacity { vec_capacity unreferenced.old ≤ vec_capacity unreferenced.new }
     ensures greys { vec_capacity grey.old ≤ vec_capacity grey.new }
 {
     rows.reserve(files)?;
@@ -512,9 +513,9 @@ fn reserve(
     if all <= rows.space() {
         return Ok(());
     }
-    widen(waiting, all)?;
+    widen(unreferenced, all)?;
     widen(grey, all)?;
-    rows.widen_lists(all, waiting.capacity().min(grey.capacity()))
+    rows.widen_lists(all, unreferenced.capacity().min(grey.capacity()))
 }
 
 /// Frees the name of a socket that is gone, if it had one.

@@ -3,12 +3,12 @@
 #![tactic(auto)]
 
 mod counts;
+mod file_row;
+mod file_table;
 mod files;
-mod lines;
 mod marks;
-mod row;
-mod rows;
 mod socket;
+mod tracked_table;
 
 pub use files::Files;
 pub use socket::Socket;

@@ -8,15 +8,15 @@ ghost use Rattle.af_base.specs.Changes.{change_at};
 ghost use Rattle.af_base.specs.Places.{held_in};
 ghost use Rattle.af_ledger.specs.Tally.{count_in_map};
 ghost use Rattle.af_mark.specs.Grey.{AreUpTo, colors_in, placed};
-ghost use Rattle.af_mark.specs.Marked.{blackened, is_grey, is_marked, is_white, knows, shaded};
-ghost use Rattle.af_mark.specs.Marked.{visited};
+ghost use Rattle.af_mark.specs.MarksView.{blackened, is_grey, is_marked, is_white, knows, shaded};
+ghost use Rattle.af_mark.specs.MarksView.{visited};
 ghost use Rattle.af_mark.specs.declared.color.Color.TheVariants.{Black, Grey, White};
 
 use crate::files::Files;
-use crate::rows::Rows;
+use crate::tracked_table::TrackedTable;
 use af_base::file_list::swap_remove_file;
-use af_base::names::{FileRef, Ino};
-use af_mark::{Color, Mark, noted};
+use af_base::ids::{FileRef, Ino};
+use af_mark::{Color, Mark, clamp_index};
 
 impl Files {
     /// Begins a pass over the present files: none is marked. Costs the same for any number of
@@ -90,7 +90,7 @@ impl Files {
         if file.ino().0 >= self.bound {
             return false;
         }
-        let at = noted(self.grey.len());
+        let at = clamp_index(self.grey.len());
         let Some(scanned) = self.rows.visit(file, self.epoch, at, may_scan) else {
             return false;
         };
@@ -113,7 +113,7 @@ impl Files {
         let mark = Mark {
             epoch: self.epoch,
             color: Color::Grey,
-            at: noted(self.grey.len()),
+            at: clamp_index(self.grey.len()),
         };
         self.rows.set_mark(file, mark);
         self.white -= 1;
@@ -194,9 +194,9 @@ impl Files {
 }
 
 /// Removes the file from the list of the grey files once, if it is there. The last takes its place,
-/// which is noted beside that one's mark.
+/// which is kept beside that one's mark.
 #[inline(always)]
-fn remove_listed(rows: &mut Rows, grey: &mut Vec<FileRef>, ino: Ino, at: usize)
+fn remove_listed(rows: &mut TrackedTable, grey: &mut Vec<FileRef>, ino: Ino, at: usize)
     ensures each { (f : ℕ) → count_in f grey.new.items
         ≡ count_in f grey.old.items - cond (nat_eq f ino) 1 0 }
     ensures capacity { vec_capacity grey.new ≡ vec_capacity grey.old }
@@ -208,13 +208,13 @@ fn remove_listed(rows: &mut Rows, grey: &mut Vec<FileRef>, ino: Ino, at: usize)
     if let Some(at) = swap_remove_file(grey, ino, at)
         && let Some(moved) = grey.get(at)
     {
-        note(rows, moved, noted(at));
+        set_hint(rows, moved, clamp_index(at));
     }
 }
 
-/// Notes a position in the list beside a file's mark.
+/// Keeps a position in the list beside a file's mark.
 #[inline(always)]
-fn note(rows: &mut Rows, file: &FileRef, at: u32)
+fn set_hint(rows: &mut TrackedTable, file: &FileRef, at: u32)
     ensures { rows.new ≡ record rows.old { marks = change_at (placed at) rows.old.marks file.now } }
 {
     if let Some(mark) = rows.mark(file) {
@@ -224,7 +224,7 @@ fn note(rows: &mut Rows, file: &FileRef, at: u32)
 }
 
 /// Returns the pass after this one: marks of earlier passes are none of it.
-fn next_epoch(rows: &mut Rows, epoch: u64) -> u64
+fn next_epoch(rows: &mut TrackedTable, epoch: u64) -> u64
     requires upto { AreUpTo epoch rows.old.marks }
     requires begins { map.contains_key rows.old.files 0 ≡ false }
     ensures white { (f : ℕ) → map.get (colors_in result rows.new.marks) f
@@ -245,7 +245,7 @@ fn next_epoch(rows: &mut Rows, epoch: u64) -> u64
 
 /// Clears the marks of all files.
 #[cold]
-fn clear_all_marks(rows: &mut Rows)
+fn clear_all_marks(rows: &mut TrackedTable)
     requires begins { map.contains_key rows.old.files 0 ≡ false }
     ensures marks { AreUpTo 0 rows.new.marks }
     ensures known { (f : ℕ) → map.contains_key rows.new.marks f

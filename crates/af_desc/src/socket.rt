@@ -1,14 +1,14 @@
 //! A socket: what it is but for its queue, and the whole, lent for reading.
 ghost use Rattle.std.specs.Prelude.{◌≡◌, ℕ, ◌∷◌, [], ◌<◌, OnOk, OnErr, IfSome, IfNone, None, false};
 ghost use Rattle.std.specs.Prelude.{true, is_none, length, drop, option_copied};
-ghost use Rattle.af_base.specs.Changes.{bound, connected, dequeued, listening, queued};
+ghost use Rattle.af_base.specs.Changes.{connected, dequeued, listening, queued, with_name};
 ghost use Rattle.af_base.specs.Refusals.{room_of};
 ghost use Rattle.af_base.specs.Steps.{connected_socket, idle_socket};
 ghost use Rattle.af_desc.specs.FilesView.{hung_up};
 
 use af_base::events::{SockType, State};
+use af_base::ids::FileRef;
 use af_base::items::Items;
-use af_base::names::FileRef;
 use af_listen::Backlog;
 use af_queue::Queue;
 use std::alloc::{AllocError, Global};
@@ -22,12 +22,12 @@ pub struct Endpoint {
     /// The key of the peer's row, if there is a peer: a hint.
     peer_key: usize,
     /// The parts that only a socket with a name has; most have none.
-    bound: Option<Box<Bound>>,
+    named_parts: Option<Box<NamedParts>>,
 }
 
-/// A name, and who waits for the socket of that name to accept them: nobody, until it listens.
+/// A name, and the embryos that wait at the socket of that name: none, until it listens.
 #[derive(Drop)]
-struct Bound {
+struct NamedParts {
     name: Items<u8>,
     backlog: Backlog,
 }
@@ -43,37 +43,37 @@ impl Model for Endpoint {
     ghost view = { λ a. record {
       kind = a.kind;
       state = a.state;
-      name = option_map (λ b. b.value.name) a.bound;
+      name = option_map (λ b. b.value.name) a.named_parts;
       queue = [];
-      backlog = option_map_or (λ b. b.value.backlog.waiting) a.bound [];
+      backlog = option_map_or (λ b. b.value.backlog.waiting) a.named_parts [];
     } };
 
     ghost invariant = { λ a. room_of a.state
-        ≤ option_map_or (λ b. b.value.backlog.most) a.bound 0 };
+        ≤ option_map_or (λ b. b.value.backlog.most) a.named_parts 0 };
 }
 
 impl Endpoint {
     /// Makes the endpoint of a new socket that was never connected.
-    pub fn idle(kind: SockType) -> Endpoint
+    pub fn new_idle(kind: SockType) -> Endpoint
         ensures { result ≡ idle_socket kind }
     {
         Endpoint {
             kind,
             state: State::Idle,
             peer_key: 0,
-            bound: None,
+            named_parts: None,
         }
     }
 
     /// Makes the endpoint of a new socket that is connected to that one.
-    pub fn connected(kind: SockType, peer: &FileRef) -> Endpoint
+    pub fn new_connected(kind: SockType, peer: &FileRef) -> Endpoint
         ensures { result ≡ connected_socket kind peer.now }
     {
         Endpoint {
             kind,
             state: State::Connected(peer.ino()),
             peer_key: peer.key(),
-            bound: None,
+            named_parts: None,
         }
     }
 
@@ -90,7 +90,7 @@ impl Endpoint {
     pub fn is_nameless(&self) -> bool
         ensures { result ≡ true → self.now.backlog ≡ [] }
     {
-        self.bound.is_none()
+        self.named_parts.is_none()
     }
 
     /// Returns its type.
@@ -115,8 +115,8 @@ impl Endpoint {
     pub fn name(&self) -> Option<&Items<u8>>
         ensures { option_copied result ≡ self.now.name }
     {
-        match &self.bound {
-            Some(bound) => Some(&bound.name),
+        match &self.named_parts {
+            Some(named_parts) => Some(&named_parts.name),
             None => None,
         }
     }
@@ -124,14 +124,14 @@ impl Endpoint {
     /// Sets its name. On an error nothing has changed.
     pub fn bind(&mut self, alloc: Global, name: Items<u8>) -> Result<(), AllocError>
         requires { self.old.name ≡ None }
-        ensures ok { OnOk result (self.new ≡ bound name self.old) }
+        ensures ok { OnOk result (self.new ≡ with_name name self.old) }
         ensures err { OnErr result (self.new ≡ self.old) }
     {
-        let bound = Bound {
+        let named_parts = NamedParts {
             name,
             backlog: Backlog::none(alloc),
         };
-        self.bound = Some(Box::new(alloc, bound)?);
+        self.named_parts = Some(Box::new(alloc, named_parts)?);
         Ok(())
     }
 
@@ -144,10 +144,10 @@ impl Endpoint {
         ensures err { OnErr result (self.new ≡ self.old) }
     {
         let backlog = Backlog::new(alloc, most)?;
-        let Some(bound) = &mut self.bound else {
+        let Some(named_parts) = &mut self.named_parts else {
             return Ok(());
         };
-        bound.backlog = backlog;
+        named_parts.backlog = backlog;
         self.state = State::Listening(most);
         Ok(())
     }
@@ -165,10 +165,10 @@ impl Endpoint {
         requires { length self.old.backlog < room_of self.old.state }
         ensures { self.new ≡ queued embryo self.old }
     {
-        let Some(bound) = self.bound.as_mut() else {
+        let Some(named_parts) = self.named_parts.as_mut() else {
             return;
         };
-        bound.backlog.enqueue(embryo);
+        named_parts.backlog.enqueue(embryo);
     }
 
     /// Removes the first embryo, if there is one. Takes no memory.
@@ -177,12 +177,12 @@ impl Endpoint {
         ensures none { IfNone result (self.old.backlog ≡ []) }
         ensures rest { self.new ≡ dequeued self.old }
     {
-        let bound = self.bound.as_mut()?;
-        bound.backlog.dequeue()
+        let named_parts = self.named_parts.as_mut()?;
+        named_parts.backlog.dequeue()
     }
 
     /// Sets the hint of the peer's key. No contract sees it.
-    pub fn point(&mut self, peer: &FileRef)
+    pub fn set_peer_hint(&mut self, peer: &FileRef)
         ensures { self.new ≡ self.old }
     {
         self.peer_key = peer.key();
@@ -269,8 +269,8 @@ impl<'a> Socket<'a> {
         ensures none { IfNone result (self.now.backlog ≡ []) }
     {
         let endpoint = self.endpoint;
-        match &endpoint.bound {
-            Some(bound) => Some(&bound.backlog),
+        match &endpoint.named_parts {
+            Some(named_parts) => Some(&named_parts.backlog),
             None => None,
         }
     }
@@ -281,8 +281,8 @@ impl<'a> Socket<'a> {
         ensures { result ≡ length self.now.backlog }
     {
         let endpoint = self.endpoint;
-        match &endpoint.bound {
-            Some(bound) => bound.backlog.len(),
+        match &endpoint.named_parts {
+            Some(named_parts) => named_parts.backlog.len(),
             None => 0,
         }
     }

@@ -1,5 +1,5 @@
 -- Lemmas.
 pub mod Pieces
-pub mod Quoting
-pub mod Searched
-pub mod Shown
+pub mod QuotedNames
+pub mod BinarySearch
+pub mod Pictures

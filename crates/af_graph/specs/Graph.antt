@@ -100,8 +100,8 @@ abbrev pub embryo_text : ℕ → ℕ → List ℕ
 embryo_text f g = edge_text f g (codes " [style=dashed, label=embryo]\n")
 
 -- The contents of a file: the files attached to its messages, and its embryos.
-abbrev pub waiting_text : ℕ → File → List ℕ
-waiting_text f x = flat_map (message_text f) (queue_of x) ++ flat_map (embryo_text f) (backlog_of x)
+abbrev pub contents_text : ℕ → File → List ℕ
+contents_text f x = flat_map (message_text f) (queue_of x) ++ flat_map (embryo_text f) (backlog_of x)
 
 -- ---- the whole
 
@@ -119,7 +119,7 @@ graph_text w lost =
     codes "digraph world {\nrankdir=LR\n"
     ++ (flat_map (λ e. process_text e.0 e.1) (map.entries w.processes)
     ++ (files_text w lost
-    ++ (flat_map (λ e. waiting_text e.0 e.1) (map.entries w.files)
+    ++ (flat_map (λ e. contents_text e.0 e.1) (map.entries w.files)
     ++ codes "}\n")))
 
 -- The text is the graph of the world, in which just the garbage has its colour.

@@ -9,7 +9,7 @@ ghost use Rattle.af_graph.specs.Graph.{node_text, peer_of, peer_text};
 
 use crate::names::push_name;
 use af_base::events::State;
-use af_base::names::{FileRef, Ino};
+use af_base::ids::{FileRef, Ino};
 use af_report::{state_word, type_word};
 use af_steps::{Engine, FileInfo};
 use std::alloc::AllocError;

@@ -2,9 +2,9 @@
 ghost use Rattle.std.specs.Prelude.{IfOk};
 ghost use Rattle.af_graph.specs.Graph.{IsGraph};
 
+use crate::contents::push_all_waiting;
 use crate::files::push_files;
 use crate::processes::push_processes;
-use crate::waiting::push_all_waiting;
 use af_plain::garbage;
 use af_steps::Engine;
 use std::alloc::{AllocError, Global};

@@ -4,11 +4,11 @@
 //! A text is made whole, of the engine at the call. Fails only if memory for it is refused.
 #![tactic(auto)]
 
+mod contents;
 mod files;
 mod graphs;
 pub mod laws;
 mod names;
 mod processes;
-mod waiting;
 
 pub use graphs::graph;

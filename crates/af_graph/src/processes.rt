@@ -5,8 +5,8 @@ ghost use Rattle.af_base.specs.Listing.{IsRisingTable, process_of};
 ghost use Rattle.af_report.specs.Texts.{AppendsText};
 ghost use Rattle.af_graph.specs.Graph.{box_text, number_text, process_text};
 
+use af_base::ids::Pid;
 use af_base::listing::{ListedNumber, ListedTable};
-use af_base::names::Pid;
 use std::alloc::AllocError;
 
 /// Appends an edge from a process to the file of one of its descriptors.

@@ -11,7 +11,7 @@ use Rattle.af_base.specs.declared.events.Reply.{Reply}
 use Rattle.af_base.specs.declared.events.Reply.TheVariants as reply
 use Rattle.af_base.specs.declared.events.Step.TheVariants as step
 use Rattle.af_base.specs.World.{AsSocket, File, Message, Socket, World, is_live}
-use Rattle.af_base.specs.Places.{backlog_of, carried, contents, queue_of, table_at}
+use Rattle.af_base.specs.Places.{attached_in, backlog_of, contents, queue_of, table_at}
 use Rattle.af_base.specs.Counts.{charge, charged, count_in, inflight, one, refs, total, total_of, waiting}
 use Rattle.af_base.specs.Unheld.{IsSettled}
 use Rattle.af_base.specs.Changes.{add_file, connected, dequeued, file_with, queued, with_socket}
@@ -19,20 +19,20 @@ use Rattle.af_base.specs.Refusals.{ino_named, ino_on, is_listening, process_at, 
 use Rattle.af_base.specs.Steps.{ProcessStep, connected_socket, effect, first_embryo, free_at}
 use Rattle.af_base.specs.Table.{free_numbers}
 use Rattle.af_base.specs.Whole.{IsSound}
-use Rattle.af_base.proofs.Born.{fresh_file}
+use Rattle.af_base.proofs.NewFiles.{fresh_file}
 use Rattle.af_base.proofs.Elements.{Contains-first}
 use Rattle.af_base.proofs.Free.{free-free_numbers}
-use Rattle.af_base.proofs.Held.{count-cons, held_by_some}
+use Rattle.af_base.proofs.PlacesAndCounts.{count-cons, held_by_some}
 use Rattle.af_base.proofs.Lookups.{insert-here, insert-other, same_or_not, some_same, told_apart}
-use Rattle.af_base.proofs.Moved.{live-changed, others-changed, there-changed, there-install, there-table, total-changed}
-use Rattle.af_base.proofs.Opened.{blank-connected, blank-there, refs-blank, still-blank}
-use Rattle.af_base.proofs.Placed.{settled-counted, settled-held}
+use Rattle.af_base.proofs.PlaceMoves.{live-changed, others-changed, there-changed, there-install, there-table, total-changed}
+use Rattle.af_base.proofs.BlankFiles.{blank-connected, blank-there, refs-blank, still-blank}
+use Rattle.af_base.proofs.SettledPlaces.{settled-counted, settled-held}
 use Rattle.af_base.proofs.Places.{count-append, refs-install}
-use Rattle.af_base.proofs.Stepped.{NoneFits, listener-there, none-fits, process-there, socket-there}
+use Rattle.af_base.proofs.SoundSteps.{NoneFits, listener-there, none-fits, process-there, socket-there}
 use Rattle.af_base.proofs.Sums.{total-change_at, total-insert}
-use Rattle.af_base.proofs.Within.{socket_same}
+use Rattle.af_base.proofs.StaysWithin.{socket_same}
 use Rattle.af_laws.proofs.Bindings.{settled_alike}
-use Rattle.af_laws.proofs.Counting.{none_or_some, references_add_up}
+use Rattle.af_laws.proofs.PlaceCounts.{none_or_some, references_add_up}
 use Rattle.af_laws.proofs.Logs.{number_is_done, ok_is_done, outcome_done}
 use Rattle.af_laws.proofs.Outcomes.{settled_stays}
 use Rattle.af_laws.specs.Connecting.{AcceptKeepsReferences, AcceptTakesTheFirstEmbryo, AcceptedNumberIsTheEmbryo, ConnectChargesNobody, ConnectCounts, ConnectMakesAnEmbryo, IsEmbryoOf}
@@ -94,8 +94,8 @@ module _ (w : World) (p n : ℕ) (name : List ℕ) (sound : IsSound w) (fits : r
         refs-blank w embryo (blank-connected listener.kind c) sound.whole f,
         total-changed (λ y. count_in f (contents y)) base c (connected e) (λ x. refl),
         total-change_at (λ y. count_in f (contents y)) (file_with (queued e)) mid.files l (AsSocket listener) listener_in_mid,
-        count-append f (carried listener.queue) listener.backlog,
-        count-append f (carried listener.queue) (listener.backlog ++ e ∷ []),
+        count-append f (attached_in listener.queue) listener.backlog,
+        count-append f (attached_in listener.queue) (listener.backlog ++ e ∷ []),
         count-append f listener.backlog (e ∷ []),
         count-cons f e [],
       )
@@ -140,7 +140,7 @@ module _ (w : World) (p n : ℕ) (name : List ℕ) (sound : IsSound w) (fits : r
     live = live_base e ∙ ap is_some (blank-there w embryo (blank-connected listener.kind c));
     waits = subst (λ o. Contains (option_map_or backlog_of o []) e) (sym (there-changed mid l (queued e) listener listener_in_mid)) (Contains-append_right listener.backlog (e ∷ []) e (Contains-first e []));
     reference = omega (arith, none_before, one_itself, refs_now e);
-    grounded = omega (arith, none_before, references_add_up w e, queues_now (λ q. count_in e (carried q)) refl);
+    grounded = omega (arith, none_before, references_add_up w e, queues_now (λ q. count_in e (attached_in q)) refl);
   }
 
 -- The world after a connect that is answered is its effect.
@@ -158,7 +158,7 @@ connect_makes_an_embryo old new p n name sound h =
 pub connect_counts : ConnectCounts
 connect_counts old new p n f name sound h =
     let done = answered old new p n name sound h in
-    (ap (λ x. refs x f) done.1 ∙ refs_now old p n name sound done.0 f, ap (λ x. inflight x f) done.1 ∙ queues_now old p n name sound done.0 (λ q. count_in f (carried q)) refl)
+    (ap (λ x. refs x f) done.1 ∙ refs_now old p n name sound done.0 f, ap (λ x. inflight x f) done.1 ∙ queues_now old p n name sound done.0 (λ q. count_in f (attached_in q)) refl)
 
 pub connect_charges_nobody : ConnectChargesNobody
 connect_charges_nobody old new p n u name sound h =
@@ -204,8 +204,8 @@ module _ (w : World) (p n : ℕ) (sound : IsSound w) (fits : refusal w p (step.A
           arith,
           refs-install (with_socket w s dequeued) p (free_at w p 0) (first_embryo w p n) f (process_at w p) at free,
           total-change_at (λ y. count_in f (contents y)) (file_with dequeued) w.files s (AsSocket x) there,
-          count-append f (carried x.queue) (drop 1 x.backlog),
-          count-append f (carried x.queue) x.backlog,
+          count-append f (attached_in x.queue) (drop 1 x.backlog),
+          count-append f (attached_in x.queue) x.backlog,
           count_first f x.backlog row.rest.rest.rest.rest.here,
         )
 

@@ -10,21 +10,21 @@ use Rattle.af_base.specs.declared.events.Reply.{Reply}
 use Rattle.af_base.specs.declared.events.Reply.TheVariants as reply
 use Rattle.af_base.specs.declared.events.Step.TheVariants as step
 use Rattle.af_base.specs.World.{AsSocket, Message, Socket, World, is_live}
-use Rattle.af_base.specs.Places.{backlog_of, carried, contents, queue_of}
+use Rattle.af_base.specs.Places.{attached_in, backlog_of, contents, queue_of}
 use Rattle.af_base.specs.Counts.{charge, count_in, refs, total_of}
 use Rattle.af_base.specs.Names.{named}
 use Rattle.af_base.specs.Unheld.{IsSettled, Settles}
-use Rattle.af_base.specs.Changes.{bound, listening, with_socket}
+use Rattle.af_base.specs.Changes.{listening, with_name, with_socket}
 use Rattle.af_base.specs.Refusals.{ino_on, refusal, socket_on, step_row}
 use Rattle.af_base.specs.Steps.{Outcome, effect}
 use Rattle.af_base.specs.Whole.{IsSound, name_at}
 use Rattle.af_base.proofs.Connections.{whole-bound}
-use Rattle.af_base.proofs.Moved.{live-changed, there-changed, total-changed}
-use Rattle.af_base.proofs.Named.{name-there, named-none, named-some}
-use Rattle.af_base.proofs.Placed.{settled-counted, settled-held}
-use Rattle.af_base.proofs.Stepped.{none-fits, socket-there}
+use Rattle.af_base.proofs.PlaceMoves.{live-changed, there-changed, total-changed}
+use Rattle.af_base.proofs.SocketNames.{name-there, named-none, named-some}
+use Rattle.af_base.proofs.SettledPlaces.{settled-counted, settled-held}
+use Rattle.af_base.proofs.SoundSteps.{none-fits, socket-there}
 use Rattle.af_base.specs.Reached.{BySocket}
-use Rattle.af_laws.proofs.Counting.{holds_in_queue_or_backlog}
+use Rattle.af_laws.proofs.PlaceCounts.{holds_in_queue_or_backlog}
 use Rattle.af_laws.proofs.Logs.{ok_is_done, outcome_done}
 use Rattle.af_laws.proofs.Outcomes.{settled_stays}
 use Rattle.af_laws.specs.Connecting.{BindChangesNoCount, BoundSocketsAreFound, EmbryosAreReached, ListenChangesNoCount, NamesFindTheirSockets, SameCounts, WhatEmbryosHoldIsReached}
@@ -68,12 +68,12 @@ module _ (w : World) (s : ℕ) (g : Socket → Socket) (same_queue : (x : Socket
   queues_alike F = total-changed (λ y. F (queue_of y)) w s g (λ x. ap F (same_queue x))
 
   refs_alike : (f : ℕ) → refs altered f ≡ refs w f
-  refs_alike f = omega (arith, total-changed (λ y. count_in f (contents y)) w s g (λ x. (λ i. count_in f (carried (same_queue x i) ++ same_backlog x i))))
+  refs_alike f = omega (arith, total-changed (λ y. count_in f (contents y)) w s g (λ x. (λ i. count_in f (attached_in (same_queue x i) ++ same_backlog x i))))
 
   alike : SameCounts w altered
   alike = record {
     references = refs_alike;
-    in_flight = λ f. queues_alike (λ q. count_in f (carried q));
+    in_flight = λ f. queues_alike (λ q. count_in f (attached_in q));
     in_backlogs = λ f. total-changed (λ y. count_in f (backlog_of y)) w s g (λ x. ap (count_in f) (same_backlog x));
     charges = λ u. queues_alike (λ q. sum_by (charge u) q);
     all = queues_alike (λ q. sum_by (λ m. length m.attached) q);
@@ -84,7 +84,7 @@ module _ (w : World) (s : ℕ) (g : Socket → Socket) (same_queue : (x : Socket
 
 pub bind_changes_no_count : BindChangesNoCount
 bind_changes_no_count old new p n name r settled h =
-    same_outcome (effect old p (step.Bind n name)) old new (altered_settled old (ino_on old p n) (bound name) (λ x. refl) (λ x. refl) settled) (alike old (ino_on old p n) (bound name) (λ x. refl) (λ x. refl)) (refusal old p (step.Bind n name)) reply.Ok r h
+    same_outcome (effect old p (step.Bind n name)) old new (altered_settled old (ino_on old p n) (with_name name) (λ x. refl) (λ x. refl) settled) (alike old (ino_on old p n) (with_name name) (λ x. refl) (λ x. refl)) (refusal old p (step.Bind n name)) reply.Ok r h
 
 pub listen_changes_no_count : ListenChangesNoCount
 listen_changes_no_count old new p n b r settled h =
@@ -105,12 +105,12 @@ module _ (w : World) (p n : ℕ) (name : List ℕ) (sound : IsSound w) (fits : r
       let row = (none-fits ((not (map.contains_key w.processes p), ESRCH) ∷ step_row w p (step.Bind n name)) fits).rest in
       let there = socket-there w p n row.here row.rest.here in
       let whole = whole-bound w (ino_on w p n) name (named-none w name (nobody (named w.files name) row.rest.rest.rest.here)) sound.whole in
-      let has : name_at named_world (ino_on w p n) ≡ Some name = name-there named_world (ino_on w p n) (Some (AsSocket (bound name (socket_on w p n)))) (there-changed w (ino_on w p n) (bound name) (socket_on w p n) there) in
+      let has : name_at named_world (ino_on w p n) ≡ Some name = name-there named_world (ino_on w p n) (Some (AsSocket (with_name name (socket_on w p n)))) (there-changed w (ino_on w p n) (with_name name) (socket_on w p n) there) in
       (names_find_their_sockets named_world (ino_on w p n) name whole).1 has
 
 pub bound_sockets_are_found : BoundSocketsAreFound
 bound_sockets_are_found old new p n name sound h =
     let now = effect old p (step.Bind n name) in
     let done = outcome_done (refusal old p (step.Bind n name)) false reply.Ok now old reply.Ok new ok_is_done h in
-    let same = is_effect now old new (altered_settled old (ino_on old p n) (bound name) (λ x. refl) (λ x. refl) sound.settled) done.2 in
+    let same = is_effect now old new (altered_settled old (ino_on old p n) (with_name name) (λ x. refl) (λ x. refl) sound.settled) done.2 in
     ap (λ w. named w.files name) same ∙ found old p n name sound done.0

@@ -9,17 +9,17 @@ use Rattle.std.specs.FinMap as map
 use Rattle.std.proofs.lemmas.Bool.{cases_Bool, eqb-true}
 use Rattle.std.proofs.lemmas.List.Elements.{Contains-append_cases, Contains-append_left, Contains-append_right}
 use Rattle.af_base.specs.World.{AsSocket, File, IsLive, Map, Message, Plain, Process, Socket, World}
-use Rattle.af_base.specs.Places.{Holds, carried, contents, held_by, table_at}
+use Rattle.af_base.specs.Places.{Holds, attached_in, contents, held_by, table_at}
 use Rattle.af_base.specs.Unheld.{Goes, Settles, without}
 use Rattle.af_base.specs.Reached.{ByTable, BySocket, Reached}
 use Rattle.af_base.specs.Changes.{file_with, install, push_message, with_table}
 use Rattle.af_base.specs.Pass.{Purges, emptied}
-use Rattle.af_base.proofs.Calm.{all_tabled}
+use Rattle.af_base.proofs.NothingInFlight.{all_tabled}
 use Rattle.af_base.proofs.Lookups.{none_some}
 use Rattle.af_base.proofs.Places.{carried-push}
-use Rattle.af_base.proofs.Purging.{from_emptied, to_emptied}
-use Rattle.af_base.proofs.Settling.{from_without, none_in, to_without}
-use Rattle.af_base.proofs.Stepping.{get-change_at}
+use Rattle.af_base.proofs.PurgeOrder.{from_emptied, to_emptied}
+use Rattle.af_base.proofs.SettledWorlds.{from_without, none_in, to_without}
+use Rattle.af_base.proofs.AllowedSteps.{get-change_at}
 use Rattle.af_laws.specs.Reaching.{GroupsOfTheirOwnAreGarbage, InstallKeepsReached, NothingInFlightIsNoGarbage, PlacesKeepReached, PurgingKeepsReached, ReachedIsHeld, SendKeepsReached, SettlingKeepsReached}
 
 -- what holds something is live
@@ -124,9 +124,9 @@ module _ (w : World) (s : ℕ) (m : Message) where
 
   still_held : (q f : ℕ) → Holds w q f → Holds (push_message w s m) q f
   still_held q f h = subst (λ xs. Contains xs f) (sym (held-push q)) (by (eq_by_cmp nat_cmp q s) (map.get w.files q) h) where
-    more : (x : Socket) → Contains (carried x.queue) f ⊎ Contains x.backlog f → Contains (carried (x.queue ++ m ∷ []) ++ x.backlog) f
+    more : (x : Socket) → Contains (attached_in x.queue) f ⊎ Contains x.backlog f → Contains (attached_in (x.queue ++ m ∷ []) ++ x.backlog) f
     more x (inl a) = Contains-append_left _ _ f (subst (λ xs. Contains xs f) (sym (carried-push x.queue m)) (Contains-append_left _ _ f a))
-    more x (inr b) = Contains-append_right (carried (x.queue ++ m ∷ [])) _ f b
+    more x (inr b) = Contains-append_right (attached_in (x.queue ++ m ∷ [])) _ f b
 
     by : (b : Bool) (o : Option File) → Contains (option_map_or contents o []) f → Contains (option_map_or contents (option_map (λ x. cond b (file_with pushed x) x) o) []) f
     by b None h = h

@@ -18,22 +18,22 @@ use Rattle.af_base.specs.declared.events.Step.{Step}
 use Rattle.af_base.specs.declared.events.Step.TheVariants as step
 use Rattle.af_base.specs.declared.limits.TheConstants.{MAX_FILES, MAX_INFLIGHT, MAX_INO, MAX_MESSAGES, MAX_PID, MAX_PROCESSES}
 use Rattle.af_base.specs.World.{AsSocket, File, Map, Message, Process, World, empty_world, untold}
-use Rattle.af_base.specs.Places.{Holds, InQueue, InTable, carried, contents, queue_at, queue_of, table_at}
+use Rattle.af_base.specs.Places.{Holds, InQueue, InTable, attached_in, contents, queue_at, queue_of, table_at}
 use Rattle.af_base.specs.Counts.{charge, charged, count_in, tabled, total_of}
 use Rattle.af_base.specs.Unheld.{Goes, IsSettled, Settles}
 use Rattle.af_base.specs.Reached.{BySocket, ByTable, Garbage, IsGarbageCount, Reached, is_socket}
 use Rattle.af_base.specs.Table.{free_numbers}
 use Rattle.af_base.specs.Changes.{change_at, file_with, install, push_message, uninstall}
-use Rattle.af_base.specs.Refusals.{Row, first_fit, ino_on, no_process, no_socket, on_peer, peer_of, process_at, refusal, socket_at, socket_of, socket_on, spawn_row, step_row}
+use Rattle.af_base.specs.Refusals.{RefusalRow, first_fit, ino_on, no_process, no_socket, on_peer, peer_of, process_at, refusal, socket_at, socket_of, socket_on, spawn_row, step_row}
 use Rattle.af_base.specs.Steps.{Outcome, ProcessStep, SpawnStep, answer, effect, free_at, spawned}
 use Rattle.af_base.specs.Pass.{Idle, Machine}
 use Rattle.af_base.specs.Run.{Run, fresh}
 use Rattle.af_base.proofs.Sums.{total-insert}
-use Rattle.af_base.proofs.Stepped.{NoneFits, none-fits}
-use Rattle.af_base.proofs.Settling.{none_in, settled_by, settles_none}
+use Rattle.af_base.proofs.SoundSteps.{NoneFits, none-fits}
+use Rattle.af_base.proofs.SettledWorlds.{none_in, settled_by, settles_none}
 use Rattle.af_base.proofs.Lookups.{none_some}
 use Rattle.af_laws.proofs.Chains.{same_number}
-use Rattle.af_laws.proofs.Counting.{none_where_untabled}
+use Rattle.af_laws.proofs.PlaceCounts.{none_where_untabled}
 use Rattle.af_laws.specs.Rows.{IsSmallestCycle, SmallestCycle, cycle_events}
 
 abbrev pub none : {X : Type 0} → Map X
@@ -130,7 +130,7 @@ module _ (q : List Message) where
       ∙ ap (put nat_cmp 2 (end_of 1 [])) (entries-insert nat_cmp_total none 1 (end_of 2 q) ∙ ap (put nat_cmp 1 (end_of 2 q)) entries_none)
 
 -- the row's tests, none of which fits
-pub none_fits : (row : Row) → AllByRecursion (λ r. r.0 ≡ false) row → first_fit row ≡ None
+pub none_fits : (row : RefusalRow) → AllByRecursion (λ r. r.0 ≡ false) row → first_fit row ≡ None
 none_fits [] h = refl
 none_fits (r ∷ row) h = ap (λ b. cond b (Some r.1) (first_fit row)) h.0 ∙ none_fits row h.1
 
@@ -309,7 +309,7 @@ pub number_at : (k : ℕ) → map.get one_open k ≡ cond (eq_by_cmp nat_cmp k 0
 number_at k = simp gets refl
 
 in_own_queue : InQueue closed 1 1
-in_own_queue = subst (λ o. Contains (carried (option_map_or queue_of o [])) 1) (sym (file_at (hi ∷ []) 1)) (0, omega arith, refl)
+in_own_queue = subst (λ o. Contains (attached_in (option_map_or queue_of o [])) 1) (sym (file_at (hi ∷ []) 1)) (0, omega arith, refl)
 
 in_own_place : Holds closed 1 1
 in_own_place = subst (λ o. Contains (option_map_or contents o []) 1) (sym (file_at (hi ∷ []) 1)) (0, omega arith, refl)
@@ -372,7 +372,7 @@ facts = record {
   one_place =
       let untabled : tabled closed 1 ≡ 0 = (none_where_untabled closed 1).1 (λ t. omega (arith, only_two 1 t)) in
       omega (arith, untabled, total_ends (hi ∷ []) (λ x. count_in 1 (contents x)));
-  in_flight = total_ends (hi ∷ []) (λ x. count_in 1 (carried (queue_of x)));
+  in_flight = total_ends (hi ∷ []) (λ x. count_in 1 (attached_in (queue_of x)));
   charge = total_ends (hi ∷ []) (λ x. sum_by (charge 1000) (queue_of x));
   garbage = one_is_garbage;
   counted = one_counted;

@@ -12,12 +12,12 @@ use Rattle.af_base.specs.Reached.{Reached}
 use Rattle.af_base.specs.Refusals.{refusal, spawn_refusal}
 use Rattle.af_base.specs.Steps.{Outcome, answer, effect, needs_no_memory, spawned}
 use Rattle.af_base.specs.Pass.{Begins, GoesOn, Idle, Machine, Pass, PassesWhole, Running}
-use Rattle.af_base.specs.Run.{Entry, Run, Step as MachineStep}
+use Rattle.af_base.specs.Run.{Run, RunEntry, Step as MachineStep}
 use Rattle.af_base.specs.Whole.{IsSound, IsWhole}
-use Rattle.af_base.proofs.Changing.{Changed}
-use Rattle.af_base.proofs.Stepped.{effect-changes, spawn-changes}
-use Rattle.af_base.proofs.Purged.{slice-by}
-use Rattle.af_laws.proofs.Unreached.{event_leads, from_places, numbered_leads}
+use Rattle.af_base.proofs.StepChanges.{Changed}
+use Rattle.af_base.proofs.SoundSteps.{effect-changes, spawn-changes}
+use Rattle.af_base.proofs.PurgedWorlds.{slice-by}
+use Rattle.af_laws.proofs.Reachability.{event_leads, from_places, numbered_leads}
 use Rattle.af_laws.proofs.Logs.{events_keep_sound}
 use Rattle.af_laws.specs.Reaching.{GarbageIsNeverReached}
 
@@ -61,7 +61,7 @@ event_next old new event.Begin r whole h = begin_next old.pass old new r h
 event_next old new (event.Slice b) r whole h = slice_next old.pass old new b r h
 event_next old new event.Pass r whole h = pass_next old.pass old new r h
 
-never : (old new : Machine) (log : List Entry) → IsSound old.world → Run old log new → (f : ℕ) → f < old.world.next_ino → ¬ (Reached old.world f) → ¬ (Reached new.world f)
+never : (old new : Machine) (log : List RunEntry) → IsSound old.world → Run old log new → (f : ℕ) → f < old.world.next_ino → ¬ (Reached old.world f) → ¬ (Reached new.world f)
 never old new [] sound run f given out d = out (subst (λ m. Reached m.world f) run d)
 never old new (e ∷ log) sound run f given out d =
     never run.0 new log (events_keep_sound old run.0 e.0 e.1 sound run.1) run.2 f (omega (arith, given, event_next old run.0 e.0 e.1 sound.whole run.1)) (λ r. out (numbered_leads old.world run.0.world (event_leads old run.0 e.0 e.1 sound.whole run.1) f given r)) d

@@ -20,15 +20,15 @@ use Rattle.af_base.specs.Refusals.{refusal, spawn_refusal}
 use Rattle.af_base.specs.Steps.{Outcome, answer, effect, needs_no_memory, spawned}
 use Rattle.af_base.specs.Pass.{Begins, GoesOn, Idle, Machine, Pass, Passes, PassesWhole, Purges, Running, Slices, emptied, next_pass}
 use Rattle.af_base.specs.Reached.{Garbage, is_socket}
-use Rattle.af_base.specs.Run.{Entry, Run, fresh}
+use Rattle.af_base.specs.Run.{Run, RunEntry, fresh}
 use Rattle.af_base.proofs.Runs.{run-append}
 use Rattle.af_base.specs.Whole.{IsSound, IsWhole}
-use Rattle.af_base.proofs.Purged.{slice-by, sound-begins, sound-pass, sound-slice}
-use Rattle.af_base.proofs.Settling.{settles_once}
-use Rattle.af_base.proofs.Sound.{fresh_sound}
-use Rattle.af_base.proofs.Stepped.{sound-spawn, sound-step}
-use Rattle.af_laws.proofs.Deciding.{garbage_decided}
-use Rattle.af_laws.proofs.Existing.{settles_to_some}
+use Rattle.af_base.proofs.PurgedWorlds.{slice-by, sound-begins, sound-pass, sound-slice}
+use Rattle.af_base.proofs.SettledWorlds.{settles_once}
+use Rattle.af_base.proofs.Soundness.{fresh_sound}
+use Rattle.af_base.proofs.SoundSteps.{sound-spawn, sound-step}
+use Rattle.af_laws.proofs.Decidability.{garbage_decided}
+use Rattle.af_laws.proofs.SettlingOutcome.{settles_to_some}
 use Rattle.af_laws.specs.Running.{EventsHaveReplies, EventsKeepSound, FreshIsSound, HasBudget, LeavesNoChoice, LogDetermines, RefusedChangesNothing, RepliesDetermine, RunsAreSound, RunsJoin}
 
 -- an outcome there is
@@ -217,10 +217,10 @@ refused_changes_nothing old new event.Pass error h = pass_refused old.pass old n
 pub log_determines : LogDetermines
 log_determines old a b [] none x y = x ∙ sym y
 log_determines old a b (e ∷ log) none x y =
-    let same : x.0 ≡ y.0 = replies_determine old x.0 y.0 e.0 e.1 (All-head (λ (x : Entry). LeavesNoChoice x.0) e log none) x.1 y.1 in
-    log_determines y.0 a b log (All-tail (λ (x : Entry). LeavesNoChoice x.0) e log none) (subst (λ m. Run m log a) same x.2) y.2
+    let same : x.0 ≡ y.0 = replies_determine old x.0 y.0 e.0 e.1 (All-head (λ (x : RunEntry). LeavesNoChoice x.0) e log none) x.1 y.1 in
+    log_determines y.0 a b log (All-tail (λ (x : RunEntry). LeavesNoChoice x.0) e log none) (subst (λ m. Run m log a) same x.2) y.2
 
-run_split : (old new : Machine) (first second : List Entry) → Run old (first ++ second) new → (mid : Machine) × Run old first mid × Run mid second new
+run_split : (old new : Machine) (first second : List RunEntry) → Run old (first ++ second) new → (mid : Machine) × Run old first mid × Run mid second new
 run_split old new [] second run = (old, refl, run)
 run_split old new (e ∷ first) second run =
     let rest = run_split run.0 new first second run.2 in
@@ -239,7 +239,7 @@ events_keep_sound old new event.Begin r sound h = sound-begins old.pass old new 
 events_keep_sound old new (event.Slice b) r sound h = sound-slice old.pass old new b r sound h
 events_keep_sound old new event.Pass r sound h = sound-pass old.pass old new r sound h
 
-run_sound : (old new : Machine) (log : List Entry) → IsSound old.world → Run old log new → IsSound new.world
+run_sound : (old new : Machine) (log : List RunEntry) → IsSound old.world → Run old log new → IsSound new.world
 run_sound old new [] sound run = subst (λ m. IsSound m.world) (sym run) sound
 run_sound old new (e ∷ log) sound run = run_sound run.0 new log (events_keep_sound old run.0 e.0 e.1 sound run.1) run.2
 

@@ -4,8 +4,8 @@ use Rattle.std.proofs.lemmas.Bool.{false≢true, eqb-true}
 use Rattle.af_base.specs.World.{World, IsLive}
 use Rattle.af_base.specs.Places.{InTable, Holds}
 use Rattle.af_base.specs.Unheld.{Goes, Settles, Unheld, without}
-use Rattle.af_base.proofs.Settling.{first_goes, goes_down, goes_up, live-without, settled_by, settles_first, settles_none, settles_once, stays, without-without}
-use Rattle.af_base.proofs.Sound.{settled-settles}
+use Rattle.af_base.proofs.SettledWorlds.{first_goes, goes_down, goes_up, live-without, settled_by, settles_first, settles_none, settles_once, stays, without-without}
+use Rattle.af_base.proofs.Soundness.{settled-settles}
 use Rattle.af_laws.specs.Settling.{CyclesStay, HeldWorldIsSettled, SettledStays, SettlesToOne, SettlingSettles, SettlingTwiceIsOnce, UnplacedGoesFirst, UnplacedIsUnheld}
 
 pub settles_to_one : SettlesToOne

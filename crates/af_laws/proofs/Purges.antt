@@ -2,8 +2,8 @@
 use Rattle.std.proofs.Common.{◌≡◌, Bool, true, false, ◌||◌, refl, sym, subst}
 use Rattle.std.proofs.Math.Bool.{or-true}
 use Rattle.af_base.specs.Pass.{Purges, emptied}
-use Rattle.af_base.proofs.Purging.{purges_both as all_at_once}
-use Rattle.af_base.proofs.Settling.{settles_once}
+use Rattle.af_base.proofs.PurgeOrder.{purges_both as all_at_once}
+use Rattle.af_base.proofs.SettledWorlds.{settles_once}
 use Rattle.af_laws.specs.Purging.{PurgesBoth, PurgesInAnyOrder}
 
 pub purges_both : PurgesBoth

@@ -10,9 +10,9 @@ use Rattle.std.proofs.lemmas.List.Elements.{recursion_from_All}
 use Rattle.af_base.specs.declared.events.SockType.{SockType}
 use Rattle.af_base.specs.declared.events.SockType.TheVariants.{Seqpacket, Stream}
 use Rattle.af_base.specs.World.{Message}
-use Rattle.af_base.specs.Places.{carried}
-use Rattle.af_base.specs.Take.{Taken, cut, has_files, joined, take_from, take_stream}
-use Rattle.af_base.proofs.Takes.{HaveBytes, before, before-here, before-later, cut_none, find-here, find-later, stream-files, up_to}
+use Rattle.af_base.specs.Places.{attached_in}
+use Rattle.af_base.specs.Take.{TakeResult, cut, has_files, joined, take_from, take_stream}
+use Rattle.af_base.proofs.ReceivedFiles.{HaveBytes, before, before-here, before-later, cut_none, find-here, find-later, stream-files, up_to}
 use Rattle.af_laws.specs.Taking.{OneByteAtATime, ReceivesKeepBytes, ReceivesKeepFiles, Together, takes}
 use Rattle.af_laws.proofs.Takes.{before_within, first_within, joined-cut, packet_keeps_files, stream_keeps_bytes}
 
@@ -42,16 +42,16 @@ have-rest Stream q n h = by (find has_files q) where
   by (Some m) = have-cut _ q h
 
 -- One receive loses no file.
-one-keeps : (kind : SockType) (q : List Message) (n : ℕ) → HaveBytes q → (take_from kind q n).attached ++ carried (take_from kind q n).rest ≡ carried q
+one-keeps : (kind : SockType) (q : List Message) (n : ℕ) → HaveBytes q → (take_from kind q n).attached ++ attached_in (take_from kind q n).rest ≡ attached_in q
 one-keeps Seqpacket q n h = packet_keeps_files q n
 one-keeps Stream q n h = stream-files q n h
 
-all-keep : (kind : SockType) (ns : List ℕ) (q : List Message) → HaveBytes q → (takes kind ns q).attached ++ carried (takes kind ns q).rest ≡ carried q
+all-keep : (kind : SockType) (ns : List ℕ) (q : List Message) → HaveBytes q → (takes kind ns q).attached ++ attached_in (takes kind ns q).rest ≡ attached_in q
 all-keep kind [] q h = refl
 all-keep kind (n ∷ ns) q h =
     let first = take_from kind q n in
     let others = takes kind ns first.rest in
-    append_assoc first.attached others.attached (carried others.rest) ∙ ap (λ fs. first.attached ++ fs) (all-keep kind ns first.rest (have-rest kind q n h)) ∙ one-keeps kind q n h
+    append_assoc first.attached others.attached (attached_in others.rest) ∙ ap (λ fs. first.attached ++ fs) (all-keep kind ns first.rest (have-rest kind q n h)) ∙ one-keeps kind q n h
 
 pub receives_keep_files : ReceivesKeepFiles
 receives_keep_files kind ns q have = all-keep kind ns q (recursion_from_All _ q have)
@@ -69,7 +69,7 @@ abbrev first : List Message → ℕ → Together
 first q c = record { bytes = take c (joined q); attached = brought q c; rest = cut c q }
 
 -- One receive, as receives are taken together.
-abbrev alone : Taken → Together
+abbrev alone : TakeResult → Together
 alone t = record { bytes = t.bytes; attached = t.attached; rest = t.rest }
 
 -- A receive takes the first bytes, as many as it asks for and as can be taken.

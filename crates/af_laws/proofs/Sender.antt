@@ -13,8 +13,8 @@ use Rattle.af_base.specs.Places.{table_at}
 use Rattle.af_base.specs.Counts.{charged}
 use Rattle.af_base.specs.Refusals.{ino_on, peer_of, process_at, socket_on, step_row}
 use Rattle.af_base.specs.Whole.{state_at, state_of}
-use Rattle.af_base.proofs.Stepped.{connected-socket, connected-to, none-fits, socket-there}
-use Rattle.af_laws.proofs.Counting.{charged-push}
+use Rattle.af_base.proofs.SoundSteps.{connected-socket, connected-to, none-fits, socket-there}
+use Rattle.af_laws.proofs.PlaceCounts.{charged-push}
 use Rattle.af_laws.specs.Stepping.{SendIsChargedToItsSender}
 
 -- There are as many files as descriptors, if each is open.

@@ -14,7 +14,7 @@ use Rattle.af_base.specs.Changes.{add_process, install, remove_process}
 use Rattle.af_base.specs.Refusals.{ino_on, process_at, refusal, step_row}
 use Rattle.af_base.specs.Steps.{Outcome, effect}
 use Rattle.af_base.proofs.Lookups.{insert-here, none_some, remove-here, remove-other, told_apart}
-use Rattle.af_base.proofs.Stepped.{none-fits, process-there}
+use Rattle.af_base.proofs.SoundSteps.{none-fits, process-there}
 use Rattle.af_laws.proofs.Outcomes.{settled_stays}
 use Rattle.af_laws.specs.Stepping.{CloseNeverFails, Dup2ToItselfChangesNothing, ExitNeverFails, ExitTakesOneTable, ForkCopies}
 

@@ -20,17 +20,17 @@ use Rattle.af_base.specs.World.{File, IsLive, World}
 use Rattle.af_base.specs.Unheld.{IsSettled, Settles}
 use Rattle.af_base.specs.Reached.{Garbage}
 use Rattle.af_base.specs.Pass.{Begins, GoesOn, Idle, Machine, Pass, PassesWhole, Purges, Running, Slices, emptied, empty_file, next_pass}
-use Rattle.af_base.specs.Run.{Entry, Run, Step}
+use Rattle.af_base.specs.Run.{Run, RunEntry, Step}
 use Rattle.af_base.specs.Whole.{IsSound}
-use Rattle.af_base.proofs.Purged.{slice-by}
-use Rattle.af_base.proofs.Purging.{get-emptied, purges_both}
+use Rattle.af_base.proofs.PurgedWorlds.{slice-by}
+use Rattle.af_base.proofs.PurgeOrder.{get-emptied, purges_both}
 use Rattle.af_base.proofs.Runs.{run-last}
-use Rattle.af_base.proofs.Settling.{settles_none}
-use Rattle.af_base.proofs.Sound.{settled-settles}
+use Rattle.af_base.proofs.SettledWorlds.{settles_none}
+use Rattle.af_base.proofs.Soundness.{settled-settles}
 use Rattle.af_laws.proofs.Chains.{same_number}
-use Rattle.af_laws.proofs.Counting.{garbage_counts_once}
+use Rattle.af_laws.proofs.PlaceCounts.{garbage_counts_once}
 use Rattle.af_laws.proofs.Logs.{replies_determine}
-use Rattle.af_laws.proofs.Passed.{released, spared, spares_all}
+use Rattle.af_laws.proofs.WholePasses.{released, spared, spares_all}
 use Rattle.af_laws.specs.Purging.{IsSlice, PassHasOneOutcome, PassIsOneSlice, SlicesAreAPass, SlicesSpareTheReached}
 
 -- who is done is not refused
@@ -160,10 +160,10 @@ idle_done : (m new : Machine) (b pass count : ℕ) → m.pass ≡ Idle → Step 
 idle_done m new b pass count idle h = done_refused pass count EIDLE (subst (λ q. GoesOn q m b (reply.Done pass count) new) idle h).0
 
 -- slices leave the pass so far as it is, or over
-slices_on : (old m new : Machine) (slices : List Entry) → All (λ (e : Entry). IsSlice e.0) slices → IsPartly old m ⊎ (m.pass ≡ Idle) → Run m slices new → IsPartly old new ⊎ (new.pass ≡ Idle)
+slices_on : (old m new : Machine) (slices : List RunEntry) → All (λ (e : RunEntry). IsSlice e.0) slices → IsPartly old m ⊎ (m.pass ≡ Idle) → Run m slices new → IsPartly old new ⊎ (new.pass ≡ Idle)
 slices_on old m new [] are at run = subst (λ n. IsPartly old n ⊎ (n.pass ≡ Idle)) (sym run) at
 slices_on old m new (e ∷ es) are at run =
-    slices_on old run.0 new es (All-tail (λ (x : Entry). IsSlice x.0) e es are) (by e.0 (All-head (λ (x : Entry). IsSlice x.0) e es are) run.1 at) run.2 where
+    slices_on old run.0 new es (All-tail (λ (x : RunEntry). IsSlice x.0) e es are) (by e.0 (All-head (λ (x : RunEntry). IsSlice x.0) e es are) run.1 at) run.2 where
       by : (x : Event) → IsSlice x → Step m x e.1 run.0 → IsPartly old m ⊎ (m.pass ≡ Idle) → IsPartly old run.0 ⊎ (run.0.pass ≡ Idle)
       by (event.Spawn uid nofile privileged) is h at = absurd is
       by (event.Proc p s) is h at = absurd is

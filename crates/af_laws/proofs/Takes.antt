@@ -7,7 +7,7 @@ use Rattle.std.proofs.lemmas.Bool.{cases_Bool, le-ltb, leb-false, leb-true, lt-l
 use Rattle.std.proofs.lemmas.List.{drop-append-le, drop-drop, drop_all, drop_at, length-append, length-drop, length-take, take-append-drop}
 use Rattle.std.proofs.lemmas.List.Elements.{recursion_from_All}
 use Rattle.af_base.proofs.Lookups.{none_some}
-use Rattle.af_base.proofs.Takes.{before, before-here, before-later, either_none, find-here, find-later, stream-files, up_to}
+use Rattle.af_base.proofs.ReceivedFiles.{before, before-here, before-later, either_none, find-here, find-later, stream-files, up_to}
 use Rattle.af_base.specs.World.{Message}
 use Rattle.af_base.specs.Take.{cut, has_files, joined, take_stream}
 use Rattle.af_laws.specs.Taking.{FilesComeWithFirstByte, NoFilesFromNone, PacketKeepsBytes, PacketKeepsFiles, PacketTellsOfDrops, StreamKeepsBytes, StreamKeepsFiles, StreamStopsAtFiles, StreamTakesAtMost}

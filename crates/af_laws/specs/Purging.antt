@@ -12,7 +12,7 @@ use Rattle.af_base.specs.World.{World, IsLive}
 use Rattle.af_base.specs.Places.{backlog_of, queue_at}
 use Rattle.af_base.specs.Reached.{Garbage, Reached}
 use Rattle.af_base.specs.Pass.{Machine, Purges, Running}
-use Rattle.af_base.specs.Run.{Entry, Run, Step, fresh}
+use Rattle.af_base.specs.Run.{Run, RunEntry, Step, fresh}
 use Rattle.af_base.specs.Unheld.{IsSettled}
 use Rattle.af_base.specs.Whole.{IsSound}
 
@@ -27,7 +27,7 @@ PurgesInAnyOrder = (some others : ℕ → Bool) (w v x a b : World) → Purges s
     → Purges others v a → Purges others w x → Purges some x b → a ≡ b
 
 -- No table is another, and what was reached is live, with the queue and the backlog that it had.
-pub record Spares (old new : World) : Type 0 where
+pub record SparesReached (old new : World) : Type 0 where
   pub tables : new.processes ≡ old.processes
   pub live : (f : ℕ) → Reached old f → IsLive old f → IsLive new f
   pub queues : (f : ℕ) → Reached old f → queue_at new f ≡ queue_at old f
@@ -37,7 +37,7 @@ pub record Spares (old new : World) : Type 0 where
 -- A whole pass spares what is reached, whatever the answer.
 abbrev pub PassSparesTheReached : Type 0
 PassSparesTheReached = (old new : Machine) (r : Reply) → Step old event.Pass r new
-    → Spares old.world new.world
+    → SparesReached old.world new.world
 
 -- A whole pass that is done leaves no garbage.
 abbrev pub PassLeavesNoGarbage : Type 0
@@ -72,7 +72,7 @@ IsSlice event.Pass = ⊥
 -- A begin, and slices with no steps between them, the last of them done, are a whole pass, however
 -- they are cut: it may have the same reply, and lead to the same machine.
 abbrev pub SlicesAreAPass : Type 0
-SlicesAreAPass = (old new : Machine) (slices : List Entry) (started b pass count : ℕ)
+SlicesAreAPass = (old new : Machine) (slices : List RunEntry) (started b pass count : ℕ)
     → IsSettled old.world → All (λ e. IsSlice e.0) slices
     → Run old ((event.Begin, reply.Started started) ∷ slices
     ++ (event.Slice b, reply.Done pass count) ∷ []) new
@@ -88,10 +88,10 @@ PassIsOneSlice = (old new : Machine) (pass count : ℕ) → IsSound old.world
 abbrev pub SlicesSpareTheReached : Type 0
 SlicesSpareTheReached = (old new : Machine) (begun : World) (spent b : ℕ) (r : Reply)
     → old.pass ≡ Running begun spent → ((f : ℕ) → Garbage begun f → ¬ (Reached old.world f))
-    → Step old (event.Slice b) r new → Spares old.world new.world
+    → Step old (event.Slice b) r new → SparesReached old.world new.world
 
 -- While a pass runs, no garbage of its begin is reached, whatever processes do between its slices.
 abbrev pub BegunGarbageIsNeverReached : Type 0
-BegunGarbageIsNeverReached = (m : Machine) (log : List Entry) (begun : World) (spent : ℕ)
+BegunGarbageIsNeverReached = (m : Machine) (log : List RunEntry) (begun : World) (spent : ℕ)
     → Run fresh log m → m.pass ≡ Running begun spent → (f : ℕ) → Garbage begun f
     → ¬ (Reached m.world f)

@@ -11,7 +11,7 @@ use Rattle.af_base.specs.Reached.{Reached, Garbage}
 use Rattle.af_base.specs.Changes.{install, push_message}
 use Rattle.af_base.specs.Steps.{ProcessStep, SpawnStep}
 use Rattle.af_base.specs.Pass.{Machine, Purges}
-use Rattle.af_base.specs.Run.{Entry, Run, Step as MachineStep}
+use Rattle.af_base.specs.Run.{Run, RunEntry, Step as MachineStep}
 use Rattle.af_base.specs.Whole.{IsSound, IsWhole}
 
 -- Each place of the old world is one of the new.
@@ -76,5 +76,5 @@ GarbageStaysOutOfReach = (old new : Machine) (e : Event) (r : Reply) → IsWhole
 
 -- No run reaches a file that was garbage at its beginning, whatever files are freed or made.
 abbrev pub GarbageIsNeverReached : Type 0
-GarbageIsNeverReached = (old new : Machine) (log : List Entry) → IsSound old.world → Run old log new
+GarbageIsNeverReached = (old new : Machine) (log : List RunEntry) → IsSound old.world → Run old log new
     → (f : ℕ) → Garbage old.world f → ¬ (Reached new.world f)

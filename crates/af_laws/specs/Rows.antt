@@ -13,7 +13,7 @@ use Rattle.af_base.specs.Reached.{Garbage, IsGarbageCount, Reached}
 use Rattle.af_base.specs.Take.{take_seqpacket, take_stream}
 use Rattle.af_base.specs.Steps.{ProcessStep}
 use Rattle.af_base.specs.Pass.{Machine}
-use Rattle.af_base.specs.Run.{Entry, Run, Step, fresh}
+use Rattle.af_base.specs.Run.{Run, RunEntry, Step, fresh}
 
 -- The bytes `bcd`, with one file.
 abbrev pub bcd : Message
@@ -78,7 +78,7 @@ PacketIsCut = take_seqpacket (bcd ∷ ee ∷ []) 2 ≡ record {
 
 -- The smallest cycle: a process makes a pair of sockets, sends one of them through the other, so to
 -- itself, and closes it.
-abbrev pub cycle_events : List Entry
+abbrev pub cycle_events : List RunEntry
 cycle_events =
     (event.Spawn 1000 16 false, reply.Pid 1)
     ∷ (event.Proc 1 (step.Pair Seqpacket), reply.Fds 0 1)

@@ -10,7 +10,7 @@ use Rattle.af_base.specs.declared.events.Reply.{Reply}
 use Rattle.af_base.specs.declared.events.Reply.TheVariants as reply
 use Rattle.af_base.specs.declared.limits.TheConstants.{MAX_BUDGET}
 use Rattle.af_base.specs.Pass.{Idle, Machine, Pass, Running}
-use Rattle.af_base.specs.Run.{Entry, Run, Step, fresh}
+use Rattle.af_base.specs.Run.{Run, RunEntry, Step, fresh}
 use Rattle.af_base.specs.Whole.{IsSound}
 use Rattle.af_base.specs.World.{empty_world}
 
@@ -52,7 +52,7 @@ RepliesDetermine = (old a b : Machine) (e : Event) (r : Reply) → LeavesNoChoic
 
 -- So a log of such events with their replies leads to one machine.
 abbrev pub LogDetermines : Type 0
-LogDetermines = (old a b : Machine) (log : List Entry) → All (λ e. LeavesNoChoice e.0) log
+LogDetermines = (old a b : Machine) (log : List RunEntry) → All (λ e. LeavesNoChoice e.0) log
     → Run old log a → Run old log b → a ≡ b
 
 -- A refused event changes nothing.
@@ -62,7 +62,7 @@ RefusedChangesNothing = (old new : Machine) (e : Event) (error : Errno)
 
 -- A run of two lists joined is a run of the first, and then one of the second.
 abbrev pub RunsJoin : Type 0
-RunsJoin = (old new : Machine) (first second : List Entry)
+RunsJoin = (old new : Machine) (first second : List RunEntry)
     → Run old (first ++ second) new ↔ ((mid : Machine) × Run old first mid × Run mid second new)
 
 -- The empty world is sound: whole, within all limits, and settled.
@@ -76,4 +76,4 @@ EventsKeepSound = (old new : Machine) (e : Event) (r : Reply) → IsSound old.wo
 
 -- So every run from the beginning leads to a sound world.
 abbrev pub RunsAreSound : Type 0
-RunsAreSound = (m : Machine) (log : List Entry) → Run fresh log m → IsSound m.world
+RunsAreSound = (m : Machine) (log : List RunEntry) → Run fresh log m → IsSound m.world

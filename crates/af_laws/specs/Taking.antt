@@ -4,7 +4,7 @@ use Rattle.std.specs.List.{All, find, take_while}
 use Rattle.af_base.specs.declared.events.SockType.{SockType}
 use Rattle.af_base.specs.declared.events.SockType.TheVariants.{Stream}
 use Rattle.af_base.specs.World.{Message}
-use Rattle.af_base.specs.Places.{carried}
+use Rattle.af_base.specs.Places.{attached_in}
 use Rattle.af_base.specs.Take.{has_files, joined, take_from, take_seqpacket, take_stream}
 
 -- Each message has a byte, as a send sees to it (unix(7): files go with at least one byte).
@@ -25,7 +25,7 @@ PacketKeepsBytes = (m : Message) (q : List Message) (n : ℕ) →
 abbrev pub PacketKeepsFiles : Type 0
 PacketKeepsFiles = (q : List Message) (n : ℕ) →
     let taken = take_seqpacket q n in
-    taken.attached ++ carried taken.rest ≡ carried q
+    taken.attached ++ attached_in taken.rest ≡ attached_in q
 
 -- It says that bytes were dropped exactly where some were (recvmsg(2), MSG_TRUNC).
 abbrev pub PacketTellsOfDrops : Type 0
@@ -42,7 +42,7 @@ StreamKeepsBytes = (q : List Message) (n : ℕ) →
 abbrev pub StreamKeepsFiles : Type 0
 StreamKeepsFiles = (q : List Message) (n : ℕ) → HaveBytes q →
     let taken = take_stream q n in
-    taken.attached ++ carried taken.rest ≡ carried q
+    taken.attached ++ attached_in taken.rest ≡ attached_in q
 
 -- It takes at most as many bytes as it was asked for.
 abbrev pub StreamTakesAtMost : Type 0
@@ -91,7 +91,7 @@ ReceivesKeepBytes = (ns : List ℕ) (q : List Message) →
 abbrev pub ReceivesKeepFiles : Type 0
 ReceivesKeepFiles = (kind : SockType) (ns : List ℕ) (q : List Message) → HaveBytes q →
     let all = takes kind ns q in
-    all.attached ++ carried all.rest ≡ carried q
+    all.attached ++ attached_in all.rest ≡ attached_in q
 
 -- If each message of a stream has a byte, one receive equals as many receives of one byte as it
 -- took bytes: they give the same bytes and files, and leave the same queue.

@@ -8,8 +8,8 @@ use Rattle.af_layer.specs.declared.workers.Turns.{Turns}
 use Rattle.af_layer.specs.Audit.{list_at, nobody}
 use Rattle.af_layer.specs.Drive.{Collects, Driven, IsFirstShort, Made, NoTurn, Part, Script, Work, turns_of, works_of}
 use Rattle.af_layer.specs.Log.{Pair}
-use Rattle.af_layer.specs.Seats.{Seated}
-use Rattle.af_layer.specs.Workers.{AllWorked, Ends, Job, LeastBelow, Worked, job, jobs_of, seats_of}
+use Rattle.af_layer.specs.Seats.{SeatView}
+use Rattle.af_layer.specs.Workers.{AllWorked, Ends, LeastBelow, Worked, WorkerView, job, jobs_of, seats_of}
 
 -- Where nothing was done, a beginning was.
 still : (work : Option Work) (old : List Pair) → Part work old old
@@ -20,7 +20,7 @@ still (Some (Collects zero budget)) old = inl NoTurn
 still (Some (Collects (suc n) budget)) old = inr (0, omega arith, NoTurn)
 
 -- A drive that was not started.
-pub driven-still : (seats : List Seated) (works : List Work) → Driven Part seats works seats
+pub driven-still : (seats : List SeatView) (works : List Work) → Driven Part seats works seats
 driven-still seats works = record { count = refl; numbers = λ i lt. refl; lists = λ i lt. still (slice_get works i) (list_at seats i) }
 
 -- There is as much work as there are scripts, and turns of a collector.
@@ -28,13 +28,13 @@ pub works_count : (scripts : List (Vec Event Global)) (collector : Option Turns)
 works_count scripts collector = length-append (map (λ v. Script v.items) scripts) (turns_of collector) ∙ ap (λ n. n + length (turns_of collector)) (length-map scripts (λ v. Script v.items))
 
 -- There are as many jobs as seats.
-jobs-count : (seats : List Seated) (works : List Work) → length (jobs_of seats works) ≡ length seats
+jobs-count : (seats : List SeatView) (works : List Work) → length (jobs_of seats works) ≡ length seats
 jobs-count [] works = refl
 jobs-count (s ∷ seats) [] = omega (arith, jobs-count seats [])
 jobs-count (s ∷ seats) (work ∷ works) = omega (arith, jobs-count seats works)
 
 -- The job at a place is of the seat and the work there.
-jobs-at : (seats : List Seated) (works : List Work) (i : ℕ) (other : Job) → i < length seats → slice_index_or (jobs_of seats works) i other ≡ job (slice_index_or seats i nobody) (slice_get works i)
+jobs-at : (seats : List SeatView) (works : List Work) (i : ℕ) (other : WorkerView) → i < length seats → slice_index_or (jobs_of seats works) i other ≡ job (slice_index_or seats i nobody) (slice_get works i)
 jobs-at [] works i other lt = absurd (omega (arith, lt))
 jobs-at (s ∷ seats) [] zero other lt = refl
 jobs-at (s ∷ seats) [] (suc i) other lt = jobs-at seats [] i other (omega (arith, lt))
@@ -42,7 +42,7 @@ jobs-at (s ∷ seats) (work ∷ works) zero other lt = refl
 jobs-at (s ∷ seats) (work ∷ works) (suc i) other lt = jobs-at seats works i other (omega (arith, lt))
 
 -- The workers, if there are none.
-idle : Job
+idle : WorkerView
 idle = job nobody None
 
 -- The results of workers with and without a fault.
@@ -55,9 +55,9 @@ not-below : (f : Option CallError) (k n : ℕ) → IfSome f (λ e. k ≤ n) → 
 not-below None k n least lt = refl
 not-below (Some e) k n least lt = absurd (omega (arith, least, lt))
 
-module _ (seats : List Seated) (works : List Work) (jobs done : List Job) (after : List Seated) (is : jobs ≡ jobs_of seats works) (count : length done ≡ length jobs) (worked : AllWorked jobs done) (back : after ≡ seats_of done) where
+module _ (seats : List SeatView) (works : List Work) (jobs done : List WorkerView) (after : List SeatView) (is : jobs ≡ jobs_of seats works) (count : length done ≡ length jobs) (worked : AllWorked jobs done) (back : after ≡ seats_of done) where
   -- The job at a place when its worker is done.
-  done-at : ℕ → Job
+  done-at : ℕ → WorkerView
   done-at i = slice_index_or done i idle
 
   -- There are as many jobs then.
@@ -72,12 +72,12 @@ module _ (seats : List Seated) (works : List Work) (jobs done : List Job) (after
   -- Its seat comes back.
   seat-at : (i : ℕ) → i < length seats → slice_index_or after i nobody ≡ (done-at i).seat
   unfolding done-at
-  seat-at i lt = ap (λ l. slice_index_or l i nobody) back ∙ get_or-map (λ (j : Job). j.seat) done i idle nobody (omega (arith, lt, done-count))
+  seat-at i lt = ap (λ l. slice_index_or l i nobody) back ∙ get_or-map (λ (j : WorkerView). j.seat) done i idle nobody (omega (arith, lt, done-count))
 
   -- The result of its worker, which stopped at this fault or at none.
   ends-at : (f : Option CallError) (i : ℕ) → i < length seats → (done-at i).fault ≡ f → Ends (slice_get works i) (list_at seats i) f (list_at after i)
   ends-at f i lt stopped =
-      subst (λ (s : Seated). Ends (slice_get works i) (list_at seats i) f s.list) (sym (seat-at i lt))
+      subst (λ (s : SeatView). Ends (slice_get works i) (list_at seats i) f s.list) (sym (seat-at i lt))
       (subst (λ g. Ends (slice_get works i) (list_at seats i) g (done-at i).seat.list) stopped (worked-at i lt).list)
 
   -- A fact of each list is one of the drive.

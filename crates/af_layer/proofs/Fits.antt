@@ -24,12 +24,12 @@ use Rattle.af_base.specs.Table.{free_numbers}
 use Rattle.af_base.specs.Take.{has_files, joined, take_from}
 use Rattle.af_base.specs.Whole.{IsSound}
 use Rattle.af_base.specs.World.{Message, World}
-use Rattle.af_base.proofs.Purged.{slice-by}
+use Rattle.af_base.proofs.PurgedWorlds.{slice-by}
 use Rattle.af_base.proofs.Elements.{Contains-first, Contains-later}
 use Rattle.af_base.proofs.Lookups.{none_some}
-use Rattle.af_base.proofs.Stepped.{NoneFits, none-fits, socket-there}
-use Rattle.af_base.proofs.Takes.{AreWithin, before, find-here, find-later, up_to}
-use Rattle.af_layer.specs.Room.{HasRoomFor, Room, most_bytes, most_fds}
+use Rattle.af_base.proofs.SoundSteps.{NoneFits, none-fits, socket-there}
+use Rattle.af_base.proofs.ReceivedFiles.{AreWithin, before, find-here, find-later, up_to}
+use Rattle.af_layer.specs.Room.{HasRoomFor, ReplyRoomView, most_bytes, most_fds}
 
 -- A receive takes at most as many bytes as were asked for.
 few_bytes : (kind : SockType) (q : List Message) (n : ℕ) → length (take_from kind q n).bytes ≤ n
@@ -68,7 +68,7 @@ few_files Stream q n k = by (find has_files q) refl where
 limited : (n : ℕ) → not (is_between 1 MAX_BYTES n) ≡ false → n ≤ MAX_BYTES
 limited n e = grind arith
 
-module _ (room : Room) where
+module _ (room : ReplyRoomView) where
   -- A step answers what it says, or a refusal, which needs no room.
   fits-outcome : (o : Option Errno) (frugal : Bool) (a : Reply) (effect old : World) (r : Reply) (new : World) → (o ≡ None → HasRoomFor room a) → Outcome o frugal a effect old r new → HasRoomFor room r
   fits-outcome (Some e) frugal a effect old r new fits out = subst (HasRoomFor room) (sym out.0) tt

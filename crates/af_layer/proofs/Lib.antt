@@ -1,13 +1,13 @@
 -- Lemmas.
 pub mod Drives
 pub mod Fits
-pub mod Joined
+pub mod JoinedLogs
 pub mod Logs
-pub mod Opening
+pub mod FirstSeats
 pub mod Origins
-pub mod Placing
+pub mod SeatPositions
 pub mod Replies
 pub mod Scripts
-pub mod Sent
+pub mod SendSync
 pub mod Steps
-pub mod Walking
+pub mod LogWalks

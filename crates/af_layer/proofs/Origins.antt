@@ -3,8 +3,8 @@ use Rattle.std.proofs.Common.{◌≡◌, ◌++◌, ℕ, List, [], sym, subst}
 use Rattle.std.specs.Prelude.{IfOk, OnErr, OnOk, Result, Ok, Err}
 use Rattle.af_base.specs.Pass.{Machine}
 use Rattle.af_base.specs.Run.{fresh}
-use Rattle.af_layer.specs.Log.{Entry, IsLegalFrom, IsReached, Logged}
-use Rattle.af_layer.proofs.Joined.{legal-append, legal-empty}
+use Rattle.af_layer.specs.Log.{BookView, Entry, IsLegalFrom, IsReached}
+use Rattle.af_layer.proofs.JoinedLogs.{legal-append, legal-empty}
 
 -- The fresh machine is reached by a log without entries.
 pub fresh-reached : (n : ℕ) (start machine : Machine) (log : List Entry) → start ≡ fresh → IsLegalFrom start n machine log → IsReached n start
@@ -15,10 +15,10 @@ reached-on : (n : ℕ) (start machine : Machine) (log : List Entry) → IsReache
 reached-on n start machine log reached legal = (reached.0 ++ log, legal-append fresh start machine n reached.0 log reached.1 legal)
 
 -- So it is when a log was taken, or nothing has changed.
-pub reached-after : {A E : Type 0} (X : Type 0) (old new : Logged) (r : Result A E) → IsReached old.seats old.start → IsLegalFrom old.start old.seats old.machine old.log
+pub reached-after : {A E : Type 0} (X : Type 0) (old new : BookView) (r : Result A E) → IsReached old.seats old.start → IsLegalFrom old.start old.seats old.machine old.log
     → OnOk r (new ≡ record old { start = old.machine; log = [] }) → OnErr r ((new ≡ old) × X) → IsReached new.seats new.start
-reached-after X old new (Ok a) reached legal made same = subst (λ (b : Logged). IsReached b.seats b.start) (sym made) (reached-on old.seats old.start old.machine old.log reached legal)
-reached-after X old new (Err e) reached legal made same = subst (λ (b : Logged). IsReached b.seats b.start) (sym same.0) reached
+reached-after X old new (Ok a) reached legal made same = subst (λ (b : BookView). IsReached b.seats b.start) (sym made) (reached-on old.seats old.start old.machine old.log reached legal)
+reached-after X old new (Err e) reached legal made same = subst (λ (b : BookView). IsReached b.seats b.start) (sym same.0) reached
 
 -- What holds of an answer and what holds beside it.
 pub ok-beside : {A E Q : Type 0} (P R : A → Type 0) (r : Result A E) → ((a : A) → P a → Q → R a) → IfOk r P → OnOk r Q → IfOk r R

@@ -14,9 +14,9 @@ use Rattle.af_base.specs.Run as run
 use Rattle.af_base.specs.Steps.{Outcome, SpawnStep, spawned}
 use Rattle.af_base.specs.Whole.{IsSound}
 use Rattle.af_base.proofs.Lookups.{some_same}
-use Rattle.af_base.proofs.Stepping.{accepted}
+use Rattle.af_base.proofs.AllowedSteps.{accepted}
 use Rattle.af_steps.specs.Outcome.{Does, Refuses, RefusesStart, Starts, error_of}
-use Rattle.af_steps.proofs.Folded.{does-step, refuses-step}
+use Rattle.af_steps.proofs.FoldedReplies.{does-step, refuses-step}
 use Rattle.af_layer.specs.Shared.{IsReplyTo, TellsReply, TellsStep}
 
 -- the machine that the lock holds, that which a call begins at, which is the same, and that which it ends at

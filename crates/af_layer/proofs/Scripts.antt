@@ -5,10 +5,10 @@ use Rattle.af_base.specs.declared.events.Event.{Event}
 use Rattle.af_base.specs.declared.events.Reply.{Reply}
 use Rattle.af_layer.specs.Log.{Pair}
 use Rattle.af_layer.specs.Drive.{OneMore, Turned, next_turn}
-use Rattle.af_layer.specs.Workers.{Progress}
+use Rattle.af_layer.specs.Workers.{ScriptProgress}
 
 -- One event more.
-pub progress-step : (old new more : List Pair) (script from rest : List Event) (e : Event) (r : Reply) → Progress old script from new → from ≡ e ∷ rest → more ≡ new ++ (e, r) ∷ [] → Progress old script rest more
+pub progress-step : (old new more : List Pair) (script from rest : List Event) (e : Event) (r : Reply) → ScriptProgress old script from new → from ≡ e ∷ rest → more ≡ new ++ (e, r) ∷ [] → ScriptProgress old script rest more
 progress-step old new more script from rest e r p is grown = record {
   done = p.done ++ e ∷ [];
   split = p.split ∙ ap (λ l. p.done ++ l) is ∙ sym (append_assoc p.done (e ∷ []) rest);

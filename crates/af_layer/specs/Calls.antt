@@ -7,7 +7,7 @@ use Rattle.af_base.specs.declared.limits.TheConstants.{MAX_LOG}
 use Rattle.af_base.specs.Run.{Step}
 use Rattle.af_layer.specs.declared.book.CallError.{CallError}
 use Rattle.af_layer.specs.declared.book.CallError.TheVariants as fault
-use Rattle.af_layer.specs.Log.{Logged}
+use Rattle.af_layer.specs.Log.{BookView}
 
 -- The number is that of a seat, counted from 1.
 abbrev pub is_seat : ℕ → ℕ → Bool
@@ -15,7 +15,7 @@ is_seat seats k = nat_le 1 k && nat_le k seats
 
 -- Why a call does nothing, but for out of memory, in this order: there is no such seat, or the log
 -- is full.
-abbrev pub refusal : Logged → ℕ → Option CallError
+abbrev pub refusal : BookView → ℕ → Option CallError
 refusal b k = if is_seat b.seats k
     then (if nat_le MAX_LOG (length b.log) then Some fault.LogFull else None) else Some fault.NoSeat
 
@@ -26,7 +26,7 @@ Answers None r = IfErr r (λ e. e ≡ fault.NoRoom)
 
 -- A call: the machine does one step, and the book appends the entry of this seat with the event and
 -- its reply.
-pub record Calls (old : Logged) (seat : ℕ) (e : Event) (r : Reply) (new : Logged) : Type 0 where
+pub record Calls (old : BookView) (seat : ℕ) (e : Event) (r : Reply) (new : BookView) : Type 0 where
   pub log : new.log ≡ old.log ++ record { seat = seat; event = e; reply = r } ∷ []
   pub step : Step old.machine e r new.machine
   pub seats : new.seats ≡ old.seats

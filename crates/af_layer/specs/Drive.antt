@@ -10,7 +10,7 @@ use Rattle.af_layer.specs.declared.driving.DriveFault.{DriveFault}
 use Rattle.af_layer.specs.declared.driving.DriveFault.TheVariants as fault
 use Rattle.af_layer.specs.Audit.{list_at, number_at}
 use Rattle.af_layer.specs.Log.{Pair}
-use Rattle.af_layer.specs.Seats.{Seated}
+use Rattle.af_layer.specs.Seats.{SeatView}
 
 -- The events of some pairs.
 abbrev pub events_of : List Pair → List Event
@@ -73,14 +73,14 @@ works_of scripts collector = map (λ v. Script v.items) scripts ++ turns_of coll
 
 -- All seats are there in their order, with their numbers; R holds between the list of the i-th and
 -- the i-th work, and the other seats have none.
-pub record Driven (R : Option Work → List Pair → List Pair → Type 0) (seats : List Seated)
-    (works : List Work) (after : List Seated) : Type 0 where
+pub record Driven (R : Option Work → List Pair → List Pair → Type 0) (seats : List SeatView)
+    (works : List Work) (after : List SeatView) : Type 0 where
   pub count : length after ≡ length seats
   pub numbers : (i : ℕ) → i < length seats → number_at after i ≡ number_at seats i
   pub lists : (i : ℕ) → i < length seats → R (slice_get works i) (list_at seats i) (list_at after i)
 
 -- The list of a seat of number k falls short, and all was done from each seat with a lower number.
-pub record IsFirstShort (k : ℕ) (seats : List Seated) (works : List Work) (after : List Seated) : Type 0 where
+pub record IsFirstShort (k : ℕ) (seats : List SeatView) (works : List Work) (after : List SeatView) : Type 0 where
   pub short : (i : ℕ) × (i < length seats) × (number_at seats i ≡ k)
       × Short (slice_get works i) (list_at seats i) (list_at after i)
   pub below : (i : ℕ) → i < length seats → number_at seats i < k
@@ -88,6 +88,6 @@ pub record IsFirstShort (k : ℕ) (seats : List Seated) (works : List Work) (aft
 
 -- The meaning of a fault: the named seat is the least whose list falls short; with the other faults
 -- nothing was started.
-abbrev pub AtFault : List Seated → List Work → DriveFault → List Seated → Type 0
+abbrev pub AtFault : List SeatView → List Work → DriveFault → List SeatView → Type 0
 AtFault seats works (fault.Call k e) after = IsFirstShort k seats works after
 AtFault seats works other after = after ≡ seats

@@ -45,13 +45,13 @@ IsReached seats machine = (earlier : List Entry) × IsLegal seats machine earlie
 
 -- The view of a book: the number of seats, the machine from which its log runs, the machine now,
 -- and the log between them.
-pub record Logged : Type 0 where
+pub record BookView : Type 0 where
   pub seats : ℕ
   pub start : Machine
   pub machine : Machine
   pub log : List Entry
 
 -- The log of a book is legal, from a machine that is reached.
-pub record HasLegalLog (b : Logged) : Type 0 where
+pub record HasLegalLog (b : BookView) : Type 0 where
   pub reached : IsReached b.seats b.start
   pub legal : IsLegalFrom b.start b.seats b.machine b.log

@@ -9,7 +9,7 @@ use Rattle.af_base.specs.declared.events.Step.TheVariants as step
 use Rattle.af_base.specs.declared.limits.TheConstants.{MAX_BYTES, SCM_MAX_FD}
 
 -- Room for this many bytes and descriptors.
-pub record Room : Type 0 where
+pub record ReplyRoomView : Type 0 where
   pub bytes : ℕ
   pub fds : ℕ
 
@@ -27,6 +27,6 @@ most_fds (event.Proc p (step.Peek on max_bytes max_fds)) = min SCM_MAX_FD max_fd
 most_fds other = 0
 
 -- There is room for the reply.
-abbrev pub HasRoomFor : Room → Reply → Type 0
+abbrev pub HasRoomFor : ReplyRoomView → Reply → Type 0
 HasRoomFor room (reply.Got bytes fds trunc ctrunc) = (length bytes ≤ room.bytes) × (length fds ≤ room.fds)
 HasRoomFor room other = Unit {0}

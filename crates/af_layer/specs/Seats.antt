@@ -5,10 +5,10 @@ use Rattle.af_base.specs.declared.events.Reply.{Reply}
 use Rattle.af_layer.specs.Log.{Pair}
 
 -- Its number, and what was asked from it and answered, in order.
-pub record Seated : Type 0 where
+pub record SeatView : Type 0 where
   pub number : ℕ
   pub list : List Pair
 
 -- A seat with one pair more.
-abbrev pub grown : Seated → Event → Reply → Seated
+abbrev pub grown : SeatView → Event → Reply → SeatView
 grown s e r = record s { list = s.list ++ (e, r) ∷ [] }

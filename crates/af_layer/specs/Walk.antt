@@ -2,17 +2,17 @@
 use Rattle.std.specs.Prelude.{◌≡◌, ◌≢◌, ◌<◌, ◌≤◌, ◌+◌, ◌↔◌, ℕ, List, Option, Some, None, drop, length, slice_index, slice_index_or}
 use Rattle.af_base.specs.declared.limits.TheConstants.{MAX_SEATS}
 use Rattle.af_layer.specs.Log.{Entry, Pair, of_seat}
-use Rattle.af_layer.specs.Seats.{Seated}
+use Rattle.af_layer.specs.Seats.{SeatView}
 use Rattle.af_layer.specs.Audit.{list_at, number_at}
 
 -- The positions of the first i seats are kept under their numbers, and each is in the list.
-pub record ArePlacesOf (i : ℕ) (seats : List Seated) (places : List ℕ) : Type 0 where
+pub record ArePlacesOf (i : ℕ) (seats : List SeatView) (places : List ℕ) : Type 0 where
   pub count : length places ≡ MAX_SEATS + 1
   pub within : (k : ℕ) → k < length places → slice_index places k < length seats
   pub right : (m : ℕ) → m < i → slice_index places (number_at seats m) ≡ m
 
 -- Each number from 1 to n has the place of its seat.
-pub record ArePlaces (n : ℕ) (seats : List Seated) (places : List ℕ) : Type 0 where
+pub record ArePlaces (n : ℕ) (seats : List SeatView) (places : List ℕ) : Type 0 where
   pub count : length places ≡ MAX_SEATS + 1
   pub within : (k : ℕ) → k < length places → slice_index places k < length seats
   pub right : (k : ℕ) → 1 ≤ k → k ≤ n → number_at seats (slice_index places k) ≡ k
@@ -29,6 +29,6 @@ Tracks log list k i None = list ≢ of_seat k log
 Tracks log list k i (Some cursor) = (cursor ≤ length list) × Leaves log k list i (drop cursor list)
 
 -- So it is with all cursors.
-abbrev pub AllTrack : List Entry → List Seated → List ℕ → ℕ → List (Option ℕ) → Type 0
+abbrev pub AllTrack : List Entry → List SeatView → List ℕ → ℕ → List (Option ℕ) → Type 0
 AllTrack log seats places i cursors = (k : ℕ) → k < length places
     → Tracks log (list_at seats (slice_index places k)) k i (slice_index_or cursors k None)

@@ -2,7 +2,7 @@
 ghost use Rattle.std.specs.Prelude.{◌≡◌, ◌≢◌, ◌<◌, ◌≤◌, ◌+◌, ◌∷◌, ℕ, All, List};
 ghost use Rattle.std.specs.Prelude.{MatchBool, MatchOption, drop, length, slice_index};
 ghost use Rattle.af_layer.specs.Log.{Entry as LogEntry};
-ghost use Rattle.af_layer.specs.Audit.{HasFault, IsAudited, IsMissing, IsStranger, IsWhole};
+ghost use Rattle.af_layer.specs.Audit.{HasFault, IsAudited, IsMissing, IsStranger, IsWholeBook};
 ghost use Rattle.af_layer.specs.Audit.{IsWrong, NoStranger, NoneMissing, number_at};
 ghost use Rattle.af_layer.specs.Walk.{AllTrack, ArePlaces, Tracks};
 
@@ -42,7 +42,7 @@ fn is_before(seats: &[Seat], end: usize, number: u32) -> bool
 }
 
 /// Returns the number of the first seat that is out of range or came before.
-fn stranger(seats: &[Seat], count: u32) -> Option<u32>
+fn first_stranger(seats: &[Seat], count: u32) -> Option<u32>
     ensures { MatchOption result (NoStranger count seats.now) (IsStranger count seats.now) }
 {
     for i in 0..seats.len() {
@@ -56,7 +56,7 @@ fn stranger(seats: &[Seat], count: u32) -> Option<u32>
 }
 
 /// Returns the least number without a seat.
-fn missing(seats: &[Seat], count: u32) -> Option<u32>
+fn first_missing(seats: &[Seat], count: u32) -> Option<u32>
     ensures { MatchOption result (NoneMissing count seats.now) (IsMissing count seats.now) }
 {
     for before in 0..count {
@@ -116,7 +116,7 @@ fn walk(log: &[Entry], seats: &[Seat], places: &[usize], cursors: &mut [Option<u
 }
 
 /// Returns the least number of a seat whose list is not its part of the log.
-fn wrong(log: &[Entry], seats: &[Seat], count: u32) -> Option<u32>
+fn first_wrong(log: &[Entry], seats: &[Seat], count: u32) -> Option<u32>
     requires range { (1 ≤ count) × (count ≤ MAX_SEATS) }
     requires log { All (λ e. (1 ≤ e.seat) × (e.seat ≤ count)) log.now }
     requires known { NoStranger count seats.now }
@@ -140,15 +140,15 @@ fn wrong(log: &[Entry], seats: &[Seat], count: u32) -> Option<u32>
 
 /// Returns the fault in the seats of a book, if there is one.
 pub fn audit(book: &Book, seats: &[Seat]) -> Option<CloseFault>
-    ensures { MatchOption result (IsWhole book.now seats.now) (HasFault book.now seats.now) }
+    ensures { MatchOption result (IsWholeBook book.now seats.now) (HasFault book.now seats.now) }
 {
     let count = book.seats();
-    if let Some(number) = stranger(seats, count) {
+    if let Some(number) = first_stranger(seats, count) {
         return Some(CloseFault::Stranger(number));
     }
-    if let Some(number) = missing(seats, count) {
+    if let Some(number) = first_missing(seats, count) {
         return Some(CloseFault::Missing(number));
     }
-    let number = wrong(book.log(), seats, count)?;
+    let number = first_wrong(book.log(), seats, count)?;
     Some(CloseFault::Audit(number))
 }

@@ -54,9 +54,9 @@ pub struct Book {
 impl Model for Book {
     ghost use Rattle.std.specs.FinMap as map;
     ghost use Rattle.std.specs.Coded.{codes};
-    ghost use Rattle.af_layer.specs.Log.{IsLegalFrom, Logged};
+    ghost use Rattle.af_layer.specs.Log.{BookView, IsLegalFrom};
 
-    ghost Value = { Logged };
+    ghost Value = { BookView };
 
     ghost coded = { Prim.hlevel (codes, map.code) };
 

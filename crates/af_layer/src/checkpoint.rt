@@ -1,6 +1,6 @@
 //! A checkpoint: an audit of a book that stays in use.
 ghost use Rattle.std.specs.Prelude.{◌≡◌, [], IfErr, IfOk, OnErr, OnOk};
-ghost use Rattle.af_layer.specs.Audit.{AreEmptied, HasFault, IsWhole};
+ghost use Rattle.af_layer.specs.Audit.{AreEmptied, HasFault, IsWholeBook};
 
 use crate::audit::{CloseFault, audit};
 use crate::book::Book;
@@ -14,7 +14,7 @@ impl Book {
     /// The error is what the audit found, and nothing has changed then. It takes no memory. Its
     /// cost is linear in the log and in the lists.
     pub fn checkpoint(&mut self, seats: &mut [Seat]) -> Result<Vec<Entry>, CloseFault>
-        ensures whole { OnOk result (IsWhole self.old seats.old) }
+        ensures whole { OnOk result (IsWholeBook self.old seats.old) }
         ensures log { IfOk result (λ log. log.items ≡ self.old.log) }
         ensures book { OnOk result
             (self.new ≡ record self.old { start = self.old.machine; log = [] }) }

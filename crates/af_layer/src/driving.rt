@@ -8,7 +8,7 @@ use crate::book::CallError;
 use crate::layer::Layer;
 use crate::origin::Origin;
 use crate::seat::Seat;
-use crate::workers::{Gate, Task, Turns, Worker, run};
+use crate::workers::{Assignment, Gate, Turns, Worker, run};
 use af_base::events::Event;
 use std::alloc::{AllocError, Global};
 use std::sync::Wait;
@@ -77,8 +77,8 @@ fn hand_out(
     let mut collector = collector;
     for seat in seats {
         let task = match scripts.next() {
-            Some(script) => Some(Task::Script(script)),
-            None => collector.take().map(Task::Collect),
+            Some(script) => Some(Assignment::Script(script)),
+            None => collector.take().map(Assignment::Collect),
         };
         workers.push_reserved(Worker {
             seat,

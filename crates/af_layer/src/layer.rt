@@ -2,15 +2,15 @@
 ghost use Rattle.std.specs.Prelude.{◌≡◌, ◌+◌, ◌<◌, ℕ, [], Err, IfErr, IfOk, MatchBool, OnErr, OnOk};
 ghost use Rattle.std.specs.Prelude.{slice_index_or, vec_len};
 ghost use Rattle.af_base.specs.declared.events.Reply.{Reply as Answer};
-ghost use Rattle.af_layer.specs.Audit.{AreEmptied, HasFault, IsWhole};
+ghost use Rattle.af_layer.specs.Audit.{AreEmptied, HasFault, IsWholeBook};
 ghost use Rattle.af_layer.specs.Calls.{is_seat};
-ghost use Rattle.af_layer.specs.Log.{HasLegalLog, IsLegal, IsLegalFrom, Logged};
-ghost use Rattle.af_layer.specs.Seats.{Seated, grown};
+ghost use Rattle.af_layer.specs.Log.{BookView, HasLegalLog, IsLegal, IsLegalFrom};
+ghost use Rattle.af_layer.specs.Seats.{SeatView, grown};
 
 use crate::audit::{CloseFault, audit};
 use crate::book::{Book, CallError};
 use crate::entry::Entry;
-use crate::origin::{BookFrom, Fresh, Origin, Reached};
+use crate::origin::{AtCheckpoint, BookFrom, Fresh, Origin};
 use crate::seat::Seat;
 use af_base::events::Event;
 use af_base::limits::MAX_SEATS;
@@ -22,7 +22,7 @@ use thiserror::Error;
 /// A book that threads share: one lock, and under it one call at a time.
 ///
 /// Its parameter says where its log begins. With `Fresh` it has all that was ever done; with
-/// `Reached` it can be taken ([`Layer::checkpoint`]).
+/// `AtCheckpoint` it can be taken ([`Layer::checkpoint`]).
 #[derive(Drop)]
 pub struct Layer<O: Origin = Fresh> {
     book: Mutex<BookFrom<O>>,
@@ -63,7 +63,7 @@ impl Layer {
     /// Fails with `BadCount` for fewer than 1 and more than 64, and else only if memory is refused.
     pub fn open(alloc: Global, seats: u32) -> Result<(Layer, Vec<Seat>), OpenError>
         ensures count { IfOk result (λ opened. vec_len opened.1 ≡ seats) }
-        ensures seats { IfOk result (λ opened. (i : ℕ) (other : Seated) → i < seats
+        ensures seats { IfOk result (λ opened. (i : ℕ) (other : SeatView) → i < seats
             → slice_index_or opened.1.items i other ≡ record { number = i + 1; list = [] }) }
         ensures refused { MatchBool (is_seat MAX_SEATS seats)
             (IfErr result (λ e. e ≡ OpenError.NoRoom))
@@ -89,7 +89,7 @@ impl Layer {
     ///
     /// It waits for nobody and takes no memory. Its cost is linear in the log and in the lists.
     pub fn close(self, seats: Vec<Seat>) -> Result<Closed, CloseError>
-        ensures whole { IfOk result (λ closed. IsWhole closed.book seats.items) }
+        ensures whole { IfOk result (λ closed. IsWholeBook closed.book seats.items) }
         ensures legal { IfOk result (λ closed.
             IsLegal closed.book.seats closed.book.machine closed.book.log) }
         ensures fault { IfErr result (λ e. HasFault e.book seats.items e.fault) }
@@ -144,12 +144,12 @@ impl<O: Origin> Layer<O> {
 
 impl Layer {
     /// Lets the log be taken from now on.
-    pub fn allow_checkpoints(self) -> Layer<Reached> {
+    pub fn allow_checkpoints(self) -> Layer<AtCheckpoint> {
         Layer::of(self.into_book())
     }
 }
 
-impl Layer<Reached> {
+impl Layer<AtCheckpoint> {
     /// Waits for the lock, audits the seats as [`Layer::close`] does, hands over the log and
     /// empties the list of each seat. The log begins where the last checkpoint ended.
     ///
@@ -157,10 +157,10 @@ impl Layer<Reached> {
     /// is missing, so no other thread calls meanwhile. It takes no memory. Its cost is linear in
     /// the log and in the lists.
     pub fn checkpoint<R: Wait>(&self, rt: &R, seats: &mut [Seat]) -> Result<Vec<Entry>, CloseFault>
-        ensures taken { IfOk result (λ log. (book : Logged)
-            × HasLegalLog book × (log.items ≡ book.log) × IsWhole book seats.old) }
+        ensures taken { IfOk result (λ log. (book : BookView)
+            × HasLegalLog book × (log.items ≡ book.log) × IsWholeBook book seats.old) }
         ensures seats { OnOk result (AreEmptied seats.old seats.new) }
-        ensures fault { IfErr result (λ fault. (book : Logged)
+        ensures fault { IfErr result (λ fault. (book : BookView)
             × HasLegalLog book × HasFault book seats.old fault) }
         ensures same { OnErr result (seats.new ≡ seats.old) }
     {

@@ -26,7 +26,7 @@ pub use book::{Book, CallError};
 pub use driving::{DriveError, DriveFault, drive};
 pub use entry::{Entry, EventReply};
 pub use layer::{CloseError, Closed, Layer, OpenError};
-pub use origin::{Fresh, Origin, Reached};
+pub use origin::{AtCheckpoint, Fresh, Origin};
 pub use seat::Seat;
 pub use shared::Shared;
 pub use taken::{taken_logs_are_one, taken_parts_are_one};

@@ -3,7 +3,7 @@ ghost use Rattle.std.specs.Prelude.{◌≡◌, ℕ, IfErr, IfOk, OnErr, OnOk};
 ghost use Rattle.af_base.specs.declared.events.Reply.{Reply as Answer};
 ghost use Rattle.af_base.specs.Pass.{Machine};
 ghost use Rattle.af_base.specs.Run.{fresh};
-ghost use Rattle.af_layer.specs.Audit.{AreEmptied, HasFault, IsWhole};
+ghost use Rattle.af_layer.specs.Audit.{AreEmptied, HasFault, IsWholeBook};
 ghost use Rattle.af_layer.specs.Log.{HasLegalLog, IsReached};
 ghost use Rattle.af_layer.specs.Seats.{grown};
 
@@ -34,9 +34,9 @@ impl Origin for Fresh {
 /// The log begins at some machine that a legal log leads to from the fresh one. So it may be taken
 /// at any time.
 #[derive(Clone, Copy, Debug, PartialEq, Eq)]
-pub struct Reached;
+pub struct AtCheckpoint;
 
-impl Origin for Reached {
+impl Origin for AtCheckpoint {
     ghost begins = { IsReached };
 }
 
@@ -54,9 +54,9 @@ pub struct BookFrom<O: Origin> {
 impl<O: Origin> Model for BookFrom<O> {
     ghost use Rattle.std.specs.FinMap as map;
     ghost use Rattle.std.specs.Coded.{codes};
-    ghost use Rattle.af_layer.specs.Log.{Logged};
+    ghost use Rattle.af_layer.specs.Log.{BookView};
 
-    ghost Value = { Logged };
+    ghost Value = { BookView };
 
     ghost coded = { Prim.hlevel (codes, map.code) };
 
@@ -75,13 +75,13 @@ impl<O: Origin> BookFrom<O> {
     }
 }
 
-impl BookFrom<Reached> {
+impl BookFrom<AtCheckpoint> {
     /// Audits the seats, hands over the log and empties the lists: [`Book::checkpoint`]. The next
     /// log begins at a machine that is reached too.
     pub fn checkpoint(&mut self, seats: &mut [Seat]) -> Result<Vec<Entry>, CloseFault>
         ensures legal { HasLegalLog self.old }
         ensures log { IfOk result (λ log. log.items ≡ self.old.log) }
-        ensures whole { OnOk result (IsWhole self.old seats.old) }
+        ensures whole { OnOk result (IsWholeBook self.old seats.old) }
         ensures seats { OnOk result (AreEmptied seats.old seats.new) }
         ensures fault { IfErr result (HasFault self.old seats.old) }
         ensures same { OnErr result (seats.new ≡ seats.old) }

@@ -3,9 +3,9 @@ ghost use Rattle.std.specs.Prelude.{◌≡◌, IfOk};
 ghost use Rattle.af_layer.specs.Room.{HasRoomFor, most_bytes, most_fds};
 
 use af_base::events::{Event, Reply, Step};
+use af_base::ids::Fd;
 use af_base::items::Items;
 use af_base::limits::{MAX_BYTES, SCM_MAX_FD};
-use af_base::names::Fd;
 use std::alloc::{AllocError, Global};
 use std::marker::Model;
 
@@ -18,9 +18,9 @@ pub struct ReplyRoom {
 
 impl Model for ReplyRoom {
     ghost use Rattle.std.specs.Prelude.{◌≡◌, [], vec_capacity};
-    ghost use Rattle.af_layer.specs.Room.{Room};
+    ghost use Rattle.af_layer.specs.Room.{ReplyRoomView};
 
-    ghost Value = { Room };
+    ghost Value = { ReplyRoomView };
 
     ghost view = { λ r. record { bytes = vec_capacity r.bytes; fds = vec_capacity r.fds } };
 

@@ -24,9 +24,9 @@ pub struct Seat {
 }
 
 impl Model for Seat {
-    ghost use Rattle.af_layer.specs.Seats.{Seated};
+    ghost use Rattle.af_layer.specs.Seats.{SeatView};
 
-    ghost Value = { Seated };
+    ghost Value = { SeatView };
 
     ghost view = { λ s. record { number = s.number; list = s.list.items } };
 }

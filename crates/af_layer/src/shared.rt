@@ -8,8 +8,8 @@ ghost use Rattle.af_steps.specs.Outcome.{finished_reply, got_reply, progress_rep
 
 use af_base::errno::Errno;
 use af_base::events::{Event, Reply, SockType, Step};
+use af_base::ids::{Fd, Pid, Uid};
 use af_base::items::Items;
-use af_base::names::{Fd, Pid, Uid};
 use af_steps::{Engine, Finished, Progress, Received};
 use std::alloc::{AllocError, Global};
 use std::sync::{Mutex, MutexGuard, Wait};

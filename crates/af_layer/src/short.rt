@@ -5,7 +5,7 @@ ghost use Rattle.af_layer.specs.Short.{event_of, reply_of};
 
 use af_base::errno::Errno;
 use af_base::events::{Event, Reply, SockType, Step};
-use af_base::names::{Fd, Pid, Uid};
+use af_base::ids::{Fd, Pid, Uid};
 
 /// An event without bytes whose reply has none either, in 16 bytes. What is smaller than a word
 /// comes first, beside the tag.

@@ -46,7 +46,7 @@ pub struct Turns {
 
 /// The work of a seat.
 #[derive(Drop)]
-pub enum Task {
+pub enum Assignment {
     /// These events, in order.
     Script(Vec<Event>),
     /// So many turns of a collector.
@@ -57,15 +57,15 @@ pub enum Task {
 #[derive(Drop)]
 pub struct Worker {
     pub seat: Seat,
-    pub task: Option<Task>,
+    pub task: Option<Assignment>,
     pub fault: Option<CallError>,
 }
 
 impl Model for Worker {
     ghost use Rattle.std.specs.Prelude.{option_map};
-    ghost use Rattle.af_layer.specs.Workers.{Job, work_of};
+    ghost use Rattle.af_layer.specs.Workers.{WorkerView, work_of};
 
-    ghost Value = { Job };
+    ghost Value = { WorkerView };
 
     ghost view = { λ w. record {
       seat = w.seat;
@@ -154,8 +154,8 @@ impl Worker {
         ensures { Worked self.old self.new }
     {
         let done = match self.task.take() {
-            Some(Task::Script(script)) => play(rt, layer, &mut self.seat, script, gate),
-            Some(Task::Collect(turns)) => collect(rt, layer, &mut self.seat, turns, gate),
+            Some(Assignment::Script(script)) => play(rt, layer, &mut self.seat, script, gate),
+            Some(Assignment::Collect(turns)) => collect(rt, layer, &mut self.seat, turns, gate),
             None => Ok(()),
         };
         self.fault = done.err();

@@ -14,7 +14,7 @@ use Rattle.std.proofs.lemmas.List.{map-append}
 use Rattle.af_base.specs.World.{Map}
 use Rattle.af_base.specs.Counts.{one}
 use Rattle.af_ledger.specs.Counted.{uncounted, places_in, more, fewer}
-use Rattle.af_ledger.specs.Tally.{Tally, count_in_map, count_of, has_count, refs_of, charge_in, charge_of, recharged, is_user, with_user, held, dropped}
+use Rattle.af_ledger.specs.Tally.{Tally, count_in_map, count_of, has_count, refs_of, charge_in, charge_of, recharged, is_user, with_user, with_ref, without_ref}
 use Rattle.af_ledger.specs.declared.count.Count.{Count}
 use Rattle.af_ledger.specs.declared.place.Place.{Place}
 use Rattle.af_ledger.specs.declared.place.Place.TheVariants.{Table, Queue, Backlog}
@@ -47,75 +47,75 @@ falls F m f g c h = ap (λ x. F x + one g f) (looked m f g c) ∙ by (nat_eq g f
   by false e = omega arith
 
 -- A number of a table more.
-pub tabled-tabled : (f g : ℕ) (k : Tally) → (count_of (held Table f k) g).tabled ≡ (count_of k g).tabled + one g f
+pub tabled-tabled : (f g : ℕ) (k : Tally) → (count_of (with_ref Table f k) g).tabled ≡ (count_of k g).tabled + one g f
 tabled-tabled f g k = rises (λ c. c.tabled) k.counts f g (more Table (count_of k f)) refl
 
 -- A number of a table more is no place in a queue.
-pub inflight-tabled : (f g : ℕ) (k : Tally) → (count_of (held Table f k) g).inflight ≡ (count_of k g).inflight
+pub inflight-tabled : (f g : ℕ) (k : Tally) → (count_of (with_ref Table f k) g).inflight ≡ (count_of k g).inflight
 inflight-tabled f g k = stays (λ c. c.inflight) k.counts f g (more Table (count_of k f)) refl
 
 -- Nor a place in a backlog.
-pub waiting-tabled : (f g : ℕ) (k : Tally) → (count_of (held Table f k) g).waiting ≡ (count_of k g).waiting
+pub waiting-tabled : (f g : ℕ) (k : Tally) → (count_of (with_ref Table f k) g).waiting ≡ (count_of k g).waiting
 waiting-tabled f g k = stays (λ c. c.waiting) k.counts f g (more Table (count_of k f)) refl
 
 -- A place in a queue more is no number of a table.
-pub tabled-queued : (u f g : ℕ) (k : Tally) → (count_of (held (Queue u) f k) g).tabled ≡ (count_of k g).tabled
+pub tabled-queued : (u f g : ℕ) (k : Tally) → (count_of (with_ref (Queue u) f k) g).tabled ≡ (count_of k g).tabled
 tabled-queued u f g k = stays (λ c. c.tabled) k.counts f g (more (Queue u) (count_of k f)) refl
 
 -- A place in a queue more.
-pub inflight-queued : (u f g : ℕ) (k : Tally) → (count_of (held (Queue u) f k) g).inflight ≡ (count_of k g).inflight + one g f
+pub inflight-queued : (u f g : ℕ) (k : Tally) → (count_of (with_ref (Queue u) f k) g).inflight ≡ (count_of k g).inflight + one g f
 inflight-queued u f g k = rises (λ c. c.inflight) k.counts f g (more (Queue u) (count_of k f)) refl
 
 -- A place in a queue more is no place in a backlog.
-pub waiting-queued : (u f g : ℕ) (k : Tally) → (count_of (held (Queue u) f k) g).waiting ≡ (count_of k g).waiting
+pub waiting-queued : (u f g : ℕ) (k : Tally) → (count_of (with_ref (Queue u) f k) g).waiting ≡ (count_of k g).waiting
 waiting-queued u f g k = stays (λ c. c.waiting) k.counts f g (more (Queue u) (count_of k f)) refl
 
 -- A place in a backlog more is no number of a table.
-pub tabled-backlogged : (f g : ℕ) (k : Tally) → (count_of (held Backlog f k) g).tabled ≡ (count_of k g).tabled
+pub tabled-backlogged : (f g : ℕ) (k : Tally) → (count_of (with_ref Backlog f k) g).tabled ≡ (count_of k g).tabled
 tabled-backlogged f g k = stays (λ c. c.tabled) k.counts f g (more Backlog (count_of k f)) refl
 
 -- Nor a place in a queue.
-pub inflight-backlogged : (f g : ℕ) (k : Tally) → (count_of (held Backlog f k) g).inflight ≡ (count_of k g).inflight
+pub inflight-backlogged : (f g : ℕ) (k : Tally) → (count_of (with_ref Backlog f k) g).inflight ≡ (count_of k g).inflight
 inflight-backlogged f g k = stays (λ c. c.inflight) k.counts f g (more Backlog (count_of k f)) refl
 
 -- A place in a backlog more.
-pub waiting-backlogged : (f g : ℕ) (k : Tally) → (count_of (held Backlog f k) g).waiting ≡ (count_of k g).waiting + one g f
+pub waiting-backlogged : (f g : ℕ) (k : Tally) → (count_of (with_ref Backlog f k) g).waiting ≡ (count_of k g).waiting + one g f
 waiting-backlogged f g k = rises (λ c. c.waiting) k.counts f g (more Backlog (count_of k f)) refl
 
 -- A number of a table less.
-pub tabled-untabled : (f g : ℕ) (k : Tally) → 0 < (count_of k f).tabled → (count_of (dropped Table f k) g).tabled + one g f ≡ (count_of k g).tabled
+pub tabled-untabled : (f g : ℕ) (k : Tally) → 0 < (count_of k f).tabled → (count_of (without_ref Table f k) g).tabled + one g f ≡ (count_of k g).tabled
 tabled-untabled f g k some = falls (λ c. c.tabled) k.counts f g (fewer Table (count_of k f)) (omega arith)
 
 -- A number of a table less is no place in a queue.
-pub inflight-untabled : (f g : ℕ) (k : Tally) → (count_of (dropped Table f k) g).inflight ≡ (count_of k g).inflight
+pub inflight-untabled : (f g : ℕ) (k : Tally) → (count_of (without_ref Table f k) g).inflight ≡ (count_of k g).inflight
 inflight-untabled f g k = stays (λ c. c.inflight) k.counts f g (fewer Table (count_of k f)) refl
 
 -- Nor a place in a backlog.
-pub waiting-untabled : (f g : ℕ) (k : Tally) → (count_of (dropped Table f k) g).waiting ≡ (count_of k g).waiting
+pub waiting-untabled : (f g : ℕ) (k : Tally) → (count_of (without_ref Table f k) g).waiting ≡ (count_of k g).waiting
 waiting-untabled f g k = stays (λ c. c.waiting) k.counts f g (fewer Table (count_of k f)) refl
 
 -- A place in a queue less is no number of a table.
-pub tabled-unqueued : (u f g : ℕ) (k : Tally) → (count_of (dropped (Queue u) f k) g).tabled ≡ (count_of k g).tabled
+pub tabled-unqueued : (u f g : ℕ) (k : Tally) → (count_of (without_ref (Queue u) f k) g).tabled ≡ (count_of k g).tabled
 tabled-unqueued u f g k = stays (λ c. c.tabled) k.counts f g (fewer (Queue u) (count_of k f)) refl
 
 -- A place in a queue less.
-pub inflight-unqueued : (u f g : ℕ) (k : Tally) → 0 < (count_of k f).inflight → (count_of (dropped (Queue u) f k) g).inflight + one g f ≡ (count_of k g).inflight
+pub inflight-unqueued : (u f g : ℕ) (k : Tally) → 0 < (count_of k f).inflight → (count_of (without_ref (Queue u) f k) g).inflight + one g f ≡ (count_of k g).inflight
 inflight-unqueued u f g k some = falls (λ c. c.inflight) k.counts f g (fewer (Queue u) (count_of k f)) (omega arith)
 
 -- A place in a queue less is no place in a backlog.
-pub waiting-unqueued : (u f g : ℕ) (k : Tally) → (count_of (dropped (Queue u) f k) g).waiting ≡ (count_of k g).waiting
+pub waiting-unqueued : (u f g : ℕ) (k : Tally) → (count_of (without_ref (Queue u) f k) g).waiting ≡ (count_of k g).waiting
 waiting-unqueued u f g k = stays (λ c. c.waiting) k.counts f g (fewer (Queue u) (count_of k f)) refl
 
 -- A place in a backlog less is no number of a table.
-pub tabled-unbacklogged : (f g : ℕ) (k : Tally) → (count_of (dropped Backlog f k) g).tabled ≡ (count_of k g).tabled
+pub tabled-unbacklogged : (f g : ℕ) (k : Tally) → (count_of (without_ref Backlog f k) g).tabled ≡ (count_of k g).tabled
 tabled-unbacklogged f g k = stays (λ c. c.tabled) k.counts f g (fewer Backlog (count_of k f)) refl
 
 -- Nor a place in a queue.
-pub inflight-unbacklogged : (f g : ℕ) (k : Tally) → (count_of (dropped Backlog f k) g).inflight ≡ (count_of k g).inflight
+pub inflight-unbacklogged : (f g : ℕ) (k : Tally) → (count_of (without_ref Backlog f k) g).inflight ≡ (count_of k g).inflight
 inflight-unbacklogged f g k = stays (λ c. c.inflight) k.counts f g (fewer Backlog (count_of k f)) refl
 
 -- A place in a backlog less.
-pub waiting-unbacklogged : (f g : ℕ) (k : Tally) → 0 < (count_of k f).waiting → (count_of (dropped Backlog f k) g).waiting + one g f ≡ (count_of k g).waiting
+pub waiting-unbacklogged : (f g : ℕ) (k : Tally) → 0 < (count_of k f).waiting → (count_of (without_ref Backlog f k) g).waiting + one g f ≡ (count_of k g).waiting
 waiting-unbacklogged f g k some = falls (λ c. c.waiting) k.counts f g (fewer Backlog (count_of k f)) (omega arith)
 
 charge_set : (us : List (ℕ × ℕ)) (u v n m : ℕ) → lookup (nat_eq u) us ≡ Some n → charge_in (set_value (nat_eq u) us m) v ≡ cond (nat_eq u v) m (charge_in us v)
@@ -126,7 +126,7 @@ charge_set us u v n m e =
       by false = refl
 
 -- A place in a queue more is a unit more to its user, and to no other.
-pub charge-queued : (u f v : ℕ) (k : Tally) → IsTrue (is_user u k.users) → charge_of (held (Queue u) f k) v ≡ charge_of k v + one v u
+pub charge-queued : (u f v : ℕ) (k : Tally) → IsTrue (is_user u k.users) → charge_of (with_ref (Queue u) f k) v ≡ charge_of k v + one v u
 charge-queued u f v k there = by (lookup (nat_eq u) k.users) refl where
   by : (o : Option ℕ) → lookup (nat_eq u) k.users ≡ o → charge_in (option_map_or (λ n. set_value (nat_eq u) k.users (n + 1)) o k.users) v ≡ charge_of k v + one v u
   by None e = absurd (false≢true (subst IsTrue (sym (is_some-lookup (nat_eq u) k.users) ∙ ap is_some e) there))
@@ -136,7 +136,7 @@ charge-queued u f v k there = by (lookup (nat_eq u) k.users) refl where
     at false s = omega arith
 
 -- A place in a queue less is a unit less to its user, and to no other.
-pub charge-unqueued : (u f v : ℕ) (k : Tally) → 0 < charge_of k u → charge_of (dropped (Queue u) f k) v + one v u ≡ charge_of k v
+pub charge-unqueued : (u f v : ℕ) (k : Tally) → 0 < charge_of k u → charge_of (without_ref (Queue u) f k) v + one v u ≡ charge_of k v
 charge-unqueued u f v k some = by (lookup (nat_eq u) k.users) refl where
   by : (o : Option ℕ) → lookup (nat_eq u) k.users ≡ o → charge_in (option_map_or (λ n. set_value (nat_eq u) k.users (n - 1)) o k.users) v + one v u ≡ charge_of k v
   by None e = let none : charge_of k u ≡ 0 = ap (λ o. unwrap_or o 0) e in absurd (omega arith)
@@ -148,10 +148,10 @@ charge-unqueued u f v k some = by (lookup (nat_eq u) k.users) refl where
         at is false s = omega arith
 
 -- The total charge is the number of places in queues.
-pub total-queued : (u f : ℕ) (k : Tally) → (held (Queue u) f k).total ≡ k.total + 1
+pub total-queued : (u f : ℕ) (k : Tally) → (with_ref (Queue u) f k).total ≡ k.total + 1
 total-queued u f k = refl
 
-pub total-unqueued : (u f : ℕ) (k : Tally) → 0 < k.total → (dropped (Queue u) f k).total + 1 ≡ k.total
+pub total-unqueued : (u f : ℕ) (k : Tally) → 0 < k.total → (without_ref (Queue u) f k).total + 1 ≡ k.total
 total-unqueued u f k some = omega arith
 
 keys-recharged : (g : ℕ → ℕ) (u : ℕ) (us : List (ℕ × ℕ)) → keys_of (recharged g u us) ≡ keys_of us
@@ -161,12 +161,12 @@ keys-recharged g u us = by (lookup (nat_eq u) us) where
   by (Some n) = keys-set_value (nat_eq u) us (g n)
 
 -- The users stay, and their order.
-pub users-held : (p : Place) (f : ℕ) (k : Tally) → keys_of (held p f k).users ≡ keys_of k.users
+pub users-held : (p : Place) (f : ℕ) (k : Tally) → keys_of (with_ref p f k).users ≡ keys_of k.users
 users-held Table f k = refl
 users-held (Queue u) f k = keys-recharged (λ n. n + 1) u k.users
 users-held Backlog f k = refl
 
-pub users-dropped : (p : Place) (f : ℕ) (k : Tally) → keys_of (dropped p f k).users ≡ keys_of k.users
+pub users-dropped : (p : Place) (f : ℕ) (k : Tally) → keys_of (without_ref p f k).users ≡ keys_of k.users
 users-dropped Table f k = refl
 users-dropped (Queue u) f k = keys-recharged (λ n. n - 1) u k.users
 users-dropped Backlog f k = refl
@@ -210,13 +210,13 @@ has-change m f g c there = ap is_some (get-insert nat_cmp_total m f c g ∙ ap (
   by false e = refl
 
 -- A place more changes nothing of whose numbers are kept.
-pub has-held : (p : Place) (f g : ℕ) (k : Tally) → IsTrue (has_count k f) → has_count (held p f k) g ≡ has_count k g
+pub has-held : (p : Place) (f g : ℕ) (k : Tally) → IsTrue (has_count k f) → has_count (with_ref p f k) g ≡ has_count k g
 has-held Table f g k there = has-change k.counts f g _ there
 has-held (Queue u) f g k there = has-change k.counts f g _ there
 has-held Backlog f g k there = has-change k.counts f g _ there
 
 -- Nor does a place less.
-pub has-dropped : (p : Place) (f g : ℕ) (k : Tally) → IsTrue (has_count k f) → has_count (dropped p f k) g ≡ has_count k g
+pub has-dropped : (p : Place) (f g : ℕ) (k : Tally) → IsTrue (has_count k f) → has_count (without_ref p f k) g ≡ has_count k g
 has-dropped Table f g k there = has-change k.counts f g _ there
 has-dropped (Queue u) f g k there = has-change k.counts f g _ there
 has-dropped Backlog f g k there = has-change k.counts f g _ there

@@ -1,4 +1,4 @@
 pub mod Users
 pub mod Laws
-pub mod Waiting
-pub mod HeldAll
+pub mod Unreferenced
+pub mod ManyPlaces

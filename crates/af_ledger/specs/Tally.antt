@@ -14,7 +14,7 @@ use Rattle.af_ledger.specs.declared.place.Place.TheVariants.{Table, Queue, Backl
 
 -- Each user with what it is charged, in the order in which they came, and what is charged to all
 -- together.
-pub record Charged : Type 0 where
+pub record LedgerView : Type 0 where
   pub users : List (ℕ × ℕ)
   pub total : ℕ
 
@@ -25,7 +25,7 @@ pub record Tally : Type 0 where
   pub total : ℕ
 
 -- The content, if the counts of files and the charges are separate.
-abbrev pub kept_of : Map Count → Charged → Tally
+abbrev pub kept_of : Map Count → LedgerView → Tally
 kept_of counts charged = record { counts = counts; users = charged.users; total = charged.total }
 
 -- The counts of f in this map; all are 0 for an unknown file.
@@ -42,12 +42,12 @@ has_count k f = map.contains_key k.counts f
 
 -- Whether f is unreferenced: its counts are kept, and no place holds it (close(2): a description is
 -- freed with its last reference).
-abbrev pub is_waiting : Map Count → ℕ → Bool
-is_waiting m f = option_map_or (λ c. nat_eq (places_in c) 0) (map.get m f) false
+abbrev pub is_unreferenced : Map Count → ℕ → Bool
+is_unreferenced m f = option_map_or (λ c. nat_eq (places_in c) 0) (map.get m f) false
 
 -- The list has each unreferenced file, once, and no other.
-abbrev pub AreWaiting : Map Count → List ℕ → Type 0
-AreWaiting m fs = ListsExactly (λ c. nat_eq (places_in c) 0) m fs
+abbrev pub AreUnreferenced : Map Count → List ℕ → Type 0
+AreUnreferenced m fs = ListsExactly (λ c. nat_eq (places_in c) 0) m fs
 
 -- The number of places that hold a file (close(2): a description is freed with its last reference).
 abbrev pub refs_of : Tally → ℕ → ℕ
@@ -95,12 +95,12 @@ charged_less (Queue u) k = freed_by 1 u k
 charged_less Backlog k = k
 
 -- One place more holds f.
-abbrev pub held : Place → ℕ → Tally → Tally
-held p f k = charged_more p (record k { counts = map.insert k.counts f (more p (count_of k f)) })
+abbrev pub with_ref : Place → ℕ → Tally → Tally
+with_ref p f k = charged_more p (record k { counts = map.insert k.counts f (more p (count_of k f)) })
 
 -- One place less holds f.
-abbrev pub dropped : Place → ℕ → Tally → Tally
-dropped p f k = charged_less p (record k { counts = map.insert k.counts f (fewer p (count_of k f)) })
+abbrev pub without_ref : Place → ℕ → Tally → Tally
+without_ref p f k = charged_less p (record k { counts = map.insert k.counts f (fewer p (count_of k f)) })
 
 -- A charged user is known, and the charges are low enough for one unit more.
 abbrev pub IsChargeable : Place → Tally → Type 0
@@ -127,9 +127,9 @@ pub record CanHoldAll (u : ℕ) (fs : List ℕ) (k : Tally) : Type 0 where
   pub total : k.total + length fs < 2 ^ 63
 
 -- One place more holds each of these files.
-abbrev pub held_all : Place → List ℕ → Tally → Tally
-held_all p [] k = k
-held_all p (f ∷ fs) k = held_all p fs (held p f k)
+abbrev pub with_refs : Place → List ℕ → Tally → Tally
+with_refs p [] k = k
+with_refs p (f ∷ fs) k = with_refs p fs (with_ref p f k)
 
 -- A place in a queue of each of these files is counted, and charged to user u.
 pub record CanDropAll (u : ℕ) (fs : List ℕ) (k : Tally) : Type 0 where
@@ -138,9 +138,9 @@ pub record CanDropAll (u : ℕ) (fs : List ℕ) (k : Tally) : Type 0 where
   pub total : length fs ≤ k.total
 
 -- One place less holds each of these files.
-abbrev pub dropped_all : Place → List ℕ → Tally → Tally
-dropped_all p [] k = k
-dropped_all p (f ∷ fs) k = dropped_all p fs (dropped p f k)
+abbrev pub without_refs : Place → List ℕ → Tally → Tally
+without_refs p [] k = k
+without_refs p (f ∷ fs) k = without_refs p fs (without_ref p f k)
 
 -- A place of f is counted and charged.
 abbrev pub CanDrop : Place → ℕ → Tally → Type 0

@@ -6,8 +6,8 @@ ghost use Rattle.af_ledger.specs.Tally.{charge_in, is_user, recharged, with_user
 ghost use Rattle.af_ledger.specs.Sending.{send_refusal};
 
 use af_base::errno::Errno;
+use af_base::ids::Uid;
 use af_base::limits::MAX_INFLIGHT;
-use af_base::names::Uid;
 use indexmap::IndexMap;
 use std::alloc::{AllocError, Global};
 use std::marker::Model;
@@ -22,9 +22,9 @@ pub struct Ledger {
 
 impl Model for Ledger {
     ghost use Rattle.std.specs.Coded.{codes};
-    ghost use Rattle.af_ledger.specs.Tally.{Charged};
+    ghost use Rattle.af_ledger.specs.Tally.{LedgerView};
 
-    ghost Value = { Charged };
+    ghost Value = { LedgerView };
 
     ghost coded = { Prim.hlevel codes };
 

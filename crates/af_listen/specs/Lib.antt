@@ -1,3 +1,3 @@
 -- Names, and who waits to be accepted.
-pub mod Named
-pub mod Waiting
+pub mod NamesView
+pub mod BacklogView

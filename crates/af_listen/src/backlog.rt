@@ -2,7 +2,7 @@
 ghost use Rattle.std.specs.Prelude.{◌≡◌, ◌≤◌, ◌<◌, ◌++◌, ◌∷◌, [], IfSome, IfNone, IfOk, Some};
 ghost use Rattle.std.specs.Prelude.{length, drop, slice_get};
 
-use af_base::names::FileRef;
+use af_base::ids::FileRef;
 use std::alloc::{AllocError, Global};
 use std::collections::VecDeque;
 use std::marker::Model;
@@ -18,9 +18,9 @@ pub struct Backlog {
 impl Model for Backlog {
     ghost use Rattle.std.specs.Prelude.{◌≤◌};
     ghost use Rattle.std.specs.VecDeque.{deque_len, deque_capacity};
-    ghost use Rattle.af_listen.specs.Waiting.{Waiting};
+    ghost use Rattle.af_listen.specs.BacklogView.{BacklogView};
 
-    ghost Value = { Waiting };
+    ghost Value = { BacklogView };
 
     ghost view = { λ a. record { waiting = a.waiting.items; most = a.most } };
 

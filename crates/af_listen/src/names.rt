@@ -2,7 +2,7 @@
 ghost use Rattle.std.specs.Prelude.{◌≡◌, None, OnOk, OnErr};
 ghost use Rattle.std.specs.FinMap as map;
 
-use af_base::names::FileRef;
+use af_base::ids::FileRef;
 use indexmap::IndexMap;
 use std::alloc::{AllocError, Global};
 use std::marker::Model;
@@ -16,9 +16,9 @@ pub struct Names {
 impl Model for Names {
     ghost use Rattle.std.specs.FinMap as map;
     ghost use Rattle.std.specs.Coded.{codes};
-    ghost use Rattle.af_listen.specs.Named.{Named, named};
+    ghost use Rattle.af_listen.specs.NamesView.{NamesView, named};
 
-    ghost Value = { Named };
+    ghost Value = { NamesView };
 
     ghost coded = { Prim.hlevel (codes, map.code) };
 
@@ -36,7 +36,7 @@ impl Names {
     }
 
     /// Returns the file that has the name, if there is one.
-    #[tactic(auto, using(crate::proofs::Named::name_changes))]
+    #[tactic(auto, using(crate::proofs::NameMaps::name_changes))]
     pub fn find(&self, name: &[u8]) -> Option<FileRef>
         ensures { result ≡ map.get self.now name.now }
     {
@@ -45,7 +45,7 @@ impl Names {
     }
 
     /// Gives the file the name, which is free. On an error nothing has changed.
-    #[tactic(auto, using(crate::proofs::Named::name_changes))]
+    #[tactic(auto, using(crate::proofs::NameMaps::name_changes))]
     pub fn bind(&mut self, name: Vec<u8>, file: FileRef) -> Result<(), AllocError>
         requires free { map.get self.old name.items ≡ None }
         ensures ok { OnOk result (self.new ≡ map.insert self.old name.items file) }
@@ -56,7 +56,7 @@ impl Names {
     }
 
     /// Frees the name; nothing changes if it is free. Takes no memory.
-    #[tactic(auto, using(crate::proofs::Named::name_changes))]
+    #[tactic(auto, using(crate::proofs::NameMaps::name_changes))]
     pub fn unbind(&mut self, name: &[u8])
         ensures { self.new ≡ map.remove self.old name.now }
     {

@@ -9,10 +9,10 @@ use Rattle.std.proofs.lemmas.Bool.{eq-eqb}
 use Rattle.af_base.specs.Changes.{change_at}
 use Rattle.af_base.specs.World.{Map}
 use Rattle.af_base.proofs.Lookups.{none_some, some_same, told_apart}
-use Rattle.af_base.proofs.Stepping.{get-change_at}
+use Rattle.af_base.proofs.AllowedSteps.{get-change_at}
 use Rattle.ordered_slab.proofs.Parts.{part_get, part_known, part_put, part_taken}
 use Rattle.af_mark.specs.Grey.{AreUpTo, color_in, colors_in, placed}
-use Rattle.af_mark.specs.Marked.{Marked}
+use Rattle.af_mark.specs.MarksView.{MarksView}
 use Rattle.af_mark.specs.declared.color.Color.{Color}
 use Rattle.af_mark.specs.declared.color.Color.TheVariants.{White}
 use Rattle.af_mark.specs.declared.mark.Mark.{Mark}
@@ -88,5 +88,5 @@ unmarked_next e m f h = color_get (e + 1) m f ∙ by (finmap.get m f) refl where
   by (Some x) is = let low = h f x is in ap (λ b. Some (cond b x.color White)) (told_apart x.epoch (e + 1) (λ same. omega (arith, low, same)))
 
 -- Two that agree in all are one.
-pub same_marked : (a b : Marked) → a.colors ≡ b.colors → a.bound ≡ b.bound → a ≡ b
+pub same_marked : (a b : MarksView) → a.colors ≡ b.colors → a.bound ≡ b.bound → a ≡ b
 same_marked a b colors bound = λ i. record { colors = colors i; bound = bound i }

@@ -1,4 +1,4 @@
 -- Lemmas.
 pub mod Colors
-pub mod Listed
+pub mod GreyList
 pub mod Whites

@@ -14,7 +14,7 @@ use Rattle.std.proofs.lemmas.Bool.{false≢true, le-ltb, lt-ltb}
 use Rattle.std.proofs.Math.Bool.{and-false}
 use Rattle.af_base.specs.World.{Map}
 use Rattle.af_base.proofs.Sums.{find_below, first, second}
-use Rattle.af_mark.specs.Marked.{Marked, is_grey, is_grey_color, is_mark, is_marked, is_white, knows, white_at, white_count}
+use Rattle.af_mark.specs.MarksView.{MarksView, is_grey, is_grey_color, is_mark, is_marked, is_white, knows, white_at, white_count}
 use Rattle.af_mark.specs.declared.color.Color.{Color}
 use Rattle.af_mark.specs.declared.color.Color.TheVariants.{Black, Grey, White}
 
@@ -71,10 +71,10 @@ abbrev white : ℕ → ℕ × Color → ℕ
 white bound e = cond (white_at bound e.0 e.1) 1 0
 
 -- The part of a file with this colour, and of an unknown one.
-abbrev adds : Marked → ℕ → ℕ
+abbrev adds : MarksView → ℕ → ℕ
 adds m f = option_map_or (λ c. white m.bound (f, c)) (map.get m.colors f) 0
 
-module _ (m : Marked) (f : ℕ) where
+module _ (m : MarksView) (f : ℕ) where
   -- A file gets another colour.
   pub whites-put : (c : Color) → white_count (record m { colors = map.insert m.colors f c }) + adds m f ≡ white_count m + white m.bound (f, c)
   whites-put c = sum_insert (white m.bound) m.colors f c
@@ -111,18 +111,18 @@ pub white-beyond : (bound f : ℕ) (c : Color) → bound ≤ f → white bound (
 white-beyond bound f c high = ap {B = ℕ} (λ b. cond (b && not (is_mark c)) 1 0) (le-ltb f bound high)
 
 -- Where no file is below the bound there are none.
-pub none-bound : (m : Marked) → m.bound ≡ 0 → white_count m ≡ 0
+pub none-bound : (m : MarksView) → m.bound ≡ 0 → white_count m ≡ 0
 none-bound m is = all (map.entries m.colors) where
   all : (es : List (ℕ × Color)) → sum_by (white m.bound) es ≡ 0
   all [] = refl
   all (e ∷ es) = omega (arith, sum_by-cons (white m.bound) e es, white-beyond m.bound e.0 e.1 (omega (arith, is)), all es)
 
 -- There are at most as many white files as known ones.
-pub whites-most : (m : Marked) → white_count m ≤ map.len m.colors
+pub whites-most : (m : MarksView) → white_count m ≤ map.len m.colors
 whites-most m = subst (λ n. white_count m ≤ n) (sym (map.len-entries m.colors)) (count_by-le-length (λ e. white_at m.bound e.0 e.1) (map.entries m.colors))
 
 -- Where there are none, each known file below the bound is marked.
-pub none-white : (m : Marked) → white_count m ≤ 0 → (f : ℕ) → knows m f ≡ true → f < m.bound → is_marked m f ≡ true
+pub none-white : (m : MarksView) → white_count m ≤ 0 → (f : ℕ) → knows m f ≡ true → f < m.bound → is_marked m f ≡ true
 none-white m none f known low = by (is_marked m f) refl where
   by : (b : Bool) → is_marked m f ≡ b → is_marked m f ≡ true
   by true e = e

@@ -5,7 +5,7 @@ use Rattle.std.specs.FinMap as map
 use Rattle.af_base.specs.Counts.{ListsExactly}
 use Rattle.af_base.specs.World.{Map}
 use Rattle.ordered_slab.specs.Parts.{part}
-use Rattle.af_mark.specs.Marked.{is_grey_color}
+use Rattle.af_mark.specs.MarksView.{is_grey_color}
 use Rattle.af_mark.specs.declared.color.Color.{Color}
 use Rattle.af_mark.specs.declared.color.Color.TheVariants.{White}
 use Rattle.af_mark.specs.declared.mark.Mark.{Mark}
@@ -36,6 +36,6 @@ AreGrey colors fs = ListsExactly is_grey_color colors fs
 
 -- The marks are of this pass or earlier ones, and the list has just the grey files, and room for as
 -- many as have a mark.
-abbrev pub AreListed : Map Mark → ℕ → List ℕ → ℕ → Type 0
-AreListed marks epoch grey room = AreUpTo epoch marks × AreGrey (colors_in epoch marks) grey
+abbrev pub IsGreyList : Map Mark → ℕ → List ℕ → ℕ → Type 0
+IsGreyList marks epoch grey room = AreUpTo epoch marks × AreGrey (colors_in epoch marks) grey
     × (map.len marks ≤ room)

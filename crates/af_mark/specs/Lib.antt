@@ -1,3 +1,3 @@
 -- The marks of files.
 pub mod Grey
-pub mod Marked
+pub mod MarksView

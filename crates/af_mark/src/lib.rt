@@ -6,4 +6,4 @@ mod color;
 mod mark;
 
 pub use color::Color;
-pub use mark::{Mark, noted};
+pub use mark::{Mark, clamp_index};

@@ -1,13 +1,13 @@
 //! A file's mark.
 ghost use Rattle.std.specs.Prelude.{◌≡◌};
 ghost use Rattle.af_mark.specs.Grey.{color_in, unmarked};
-ghost use Rattle.af_mark.specs.Marked.{is_grey_color};
+ghost use Rattle.af_mark.specs.MarksView.{is_grey_color};
 
 use crate::color::Color;
 
 /// Clamps a position in the list of grey files to what a mark can keep.
 #[inline(always)]
-pub fn noted(at: usize) -> u32 {
+pub fn clamp_index(at: usize) -> u32 {
     at.min(u32::MAX as usize) as u32
 }
 

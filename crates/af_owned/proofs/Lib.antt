@@ -1,3 +1,3 @@
 -- That each value stays where its file is.
-pub mod Following
-pub mod Keeping
+pub mod PlainFiles
+pub mod KeptValues

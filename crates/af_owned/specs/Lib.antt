@@ -1,3 +1,3 @@
 -- The values of plain files.
 pub mod Lending
-pub mod Owning
+pub mod OwnedView

@@ -7,8 +7,8 @@ ghost use Rattle.af_steps.specs.Outcome.{got_reply, progress_reply};
 use crate::owned::Owned;
 use af_base::errno::Errno;
 use af_base::events::{Reply, SockType, Step};
+use af_base::ids::{Fd, Pid, Uid};
 use af_base::items::Items;
-use af_base::names::{Fd, Pid, Uid};
 use af_steps::{Finished, Progress, Received};
 
 impl<T> Owned<T> {

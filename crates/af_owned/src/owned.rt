@@ -11,11 +11,11 @@ ghost use Rattle.af_base.specs.Told.{TellsChanged};
 ghost use Rattle.af_base.specs.Whole.{IsSound};
 ghost use Rattle.af_base.specs.World.{IsLive, is_live};
 ghost use Rattle.af_steps.specs.Outcome.{Does, Refuses};
-ghost use Rattle.af_owned.specs.Owning.{AreCarried, HandsBack};
+ghost use Rattle.af_owned.specs.OwnedView.{AreCarried, HandsBack};
 
 use af_base::errno::Errno;
 use af_base::events::{Reply, Step};
-use af_base::names::{Fd, FileRef, Ino, Pid};
+use af_base::ids::{Fd, FileRef, Ino, Pid};
 use af_steps::Engine;
 use ordered_slab::OrderedSlab;
 use std::alloc::{AllocError, Global};
@@ -34,9 +34,9 @@ pub struct Owned<T> {
 impl<T> Model for Owned<T> {
     ghost use Rattle.std.specs.Coded.{codes};
     ghost use Rattle.std.specs.FinMap as map;
-    ghost use Rattle.af_owned.specs.Owning.{AreOwned, Owning};
+    ghost use Rattle.af_owned.specs.OwnedView.{AreOwned, OwnedView};
 
-    ghost Value = { Owning T };
+    ghost Value = { OwnedView T };
 
     ghost coded = { Prim.hlevel (codes, map.code, T.code) };
 
@@ -63,7 +63,7 @@ impl<T> Owned<T> {
     }
 
     /// Creates the same, which also tells from now on whose readiness may have changed, by
-    /// `changed`. An event that makes a file then needs room for it in that list too.
+    /// `changed_sockets`. An event that makes a file then needs room for it in that list too.
     pub fn with_readiness(alloc: Global) -> Result<Owned<T>, AllocError>
         ensures world { IfOk result (λ o. o.machine.world ≡ fresh.world) }
         ensures told { IfOk result (λ o. o.machine.since.changed ≡ true) }
@@ -152,16 +152,16 @@ impl<T> Owned<T> {
     /// Returns the sockets whose readiness may have changed since `take_released` last returned
     /// nothing, each once, if that list is kept. If neither a socket nor its peer is listed, `poll`
     /// answers as it did then. No search.
-    pub fn changed(&self) -> &[FileRef]
+    pub fn changed_sockets(&self) -> &[FileRef]
         ensures { TellsChanged self.now.machine.world self.now.machine.since result.now }
     {
-        self.engine.changed()
+        self.engine.changed_sockets()
     }
 
     /// Hands back the value of a file that was freed; nothing where each was handed back. It
     /// needs no memory. Call it after an event until it returns nothing: then the lists of freed
-    /// files and of changed readiness are empty too, so read `changed` before. The values come in
-    /// no order that is promised.
+    /// files and of changed readiness are empty too, so read `changed_sockets` before. The values
+    /// come in no order that is promised.
     pub fn take_released(&mut self) -> Option<T>
         ensures some { IfSome result (λ value. HandsBack self.old value self.new) }
         ensures fewer { OnSome result (map.len self.new.values < map.len self.old.values) }
@@ -191,7 +191,7 @@ impl<T> Owned<T> {
         ensures none { IfNone result ((f : ℕ) → IsTrue (map.contains_key self.now.values f)
             → IsLive self.now.machine.world f) }
     {
-        first_from(&self.values, self.engine.released(), self.next)
+        first_from(&self.values, self.engine.released_files(), self.next)
     }
 }
 

@@ -1,5 +1,5 @@
-pub mod Agreeing
-pub mod Counting
-pub mod Finding
-pub mod Marking
-pub mod Searching
+pub mod TestWalks
+pub mod RisingCounts
+pub mod BinarySearch
+pub mod SearchInvariant
+pub mod ReachedFiles

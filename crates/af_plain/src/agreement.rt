@@ -4,8 +4,8 @@ ghost use Rattle.std.specs.List.{All};
 ghost use Rattle.af_plain.specs.Agreement.{AreRecounts, IsFileRecount, IsUserRecount};
 
 use crate::counts::{recount_inflight, recount_refs, recount_total, recount_user};
+use af_base::ids::{Ino, Uid};
 use af_base::listing::Listing;
-use af_base::names::{Ino, Uid};
 
 /// The numbers that are kept of a file.
 #[derive(Clone, Copy, Debug, PartialEq, Eq)]

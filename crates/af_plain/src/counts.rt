@@ -4,8 +4,8 @@ ghost use Rattle.std.specs.Prelude.{◌≡◌};
 ghost use Rattle.std.specs.List.Sorted.{IsNonDecreasing};
 ghost use Rattle.af_base.specs.Counts.{refs, inflight, charged, total, count_in};
 
+use af_base::ids::{Ino, Uid};
 use af_base::listing::Listing;
-use af_base::names::{Ino, Uid};
 
 /// Returns how often the file is in the list, which rises.
 fn times(sorted: &[Ino], ino: Ino) -> u64
@@ -33,14 +33,14 @@ fn times_charged(sorted: &[Uid], user: Uid) -> u64
 pub fn recount_refs(listing: &Listing, ino: Ino) -> u64
     ensures { result ≡ refs listing.now ino }
 {
-    times(listing.held(), ino)
+    times(listing.held_files(), ino)
 }
 
 /// Returns how many places of all queues hold the file: its in-flight count.
 pub fn recount_inflight(listing: &Listing, ino: Ino) -> u64
     ensures { result ≡ inflight listing.now ino }
 {
-    times(listing.queued(), ino)
+    times(listing.queued_files(), ino)
 }
 
 /// Returns how many places of all queues are in messages of the user: its charge.
@@ -54,5 +54,5 @@ pub fn recount_user(listing: &Listing, user: Uid) -> u64
 pub fn recount_total(listing: &Listing) -> u64
     ensures { result ≡ total listing.now }
 {
-    listing.queued().len() as u64
+    listing.queued_files().len() as u64
 }

@@ -11,8 +11,8 @@ ghost use Rattle.af_base.specs.Places.{contents, InTable};
 ghost use Rattle.af_base.specs.Reached.{Reached, Garbage};
 ghost use Rattle.af_plain.specs.Marking.{held_in, Marks, IsListOf};
 
+use af_base::ids::Ino;
 use af_base::listing::{ListedFile, ListedTable, Listing};
-use af_base::names::Ino;
 use std::alloc::{AllocError, Global};
 use std::collections::BTreeSet;
 

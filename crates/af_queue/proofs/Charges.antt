@@ -11,8 +11,8 @@ use Rattle.af_base.specs.declared.events.SockType.TheVariants.{Seqpacket, Stream
 use Rattle.af_base.specs.World.{Message}
 use Rattle.af_base.specs.Counts.{charge}
 use Rattle.af_base.specs.Take.{cut, has_files, take_from}
-use Rattle.af_base.proofs.Takes.{HaveBytes, no_files}
-use Rattle.af_queue.specs.Received.{message_at, received, sender_at}
+use Rattle.af_base.proofs.ReceivedFiles.{HaveBytes, no_files}
+use Rattle.af_queue.specs.TakenView.{message_at, received, sender_at}
 use Rattle.af_queue.specs.Streams.{files_in, stream_cut}
 use Rattle.af_queue.proofs.Spans.{at-front, at-rest, cut-part, cut-rest, cut-whole, files-front, files-rest, neither, stream_cut-front, stream_cut-rest, stream_cut-some, stream-is, stream-received}
 

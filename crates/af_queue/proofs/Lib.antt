@@ -1,5 +1,5 @@
 pub mod Spans
 pub mod Charges
-pub mod Copied
+pub mod CopiedBytes
 pub mod Chains
-pub mod Carried
+pub mod AttachedFiles

@@ -9,8 +9,8 @@ use Rattle.af_base.specs.declared.events.SockType.TheVariants.{Seqpacket, Stream
 use Rattle.af_base.specs.World.{Message}
 use Rattle.af_base.specs.Take.{cut, has_files, joined, take_stream}
 use Rattle.af_base.specs.Whole.{IsMessageWithin}
-use Rattle.af_base.proofs.Takes.{HaveBytes, before, before-here, before-later, cut_none, find-here, find-later, no_files, up_to}
-use Rattle.af_queue.specs.Received.{message_at, received, sender_at}
+use Rattle.af_base.proofs.ReceivedFiles.{HaveBytes, before, before-here, before-later, cut_none, find-here, find-later, no_files, up_to}
+use Rattle.af_queue.specs.TakenView.{message_at, received, sender_at}
 use Rattle.af_queue.specs.Streams.{files_in, stream_cut}
 
 -- Where the first message with files ends, or all bytes do.

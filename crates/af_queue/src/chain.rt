@@ -2,7 +2,7 @@
 ghost use Rattle.std.specs.Prelude.{◌≡◌};
 
 use crate::message::Msg;
-use af_base::names::Ino;
+use af_base::ids::Ino;
 
 /// A message, the file of its queue, and the key of the next message.
 #[derive(Drop)]

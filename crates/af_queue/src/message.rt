@@ -3,8 +3,8 @@ ghost use Rattle.std.specs.Prelude.{◌≡◌, ◌≤◌, ◌<◌, [], IfOk, len
 ghost use Rattle.smallvec.specs.SmallVec.{small_vec_len};
 
 use crate::taken::Taken;
+use af_base::ids::{FileRef, Uid};
 use af_base::limits::{MAX_BYTES, SCM_MAX_FD};
-use af_base::names::{FileRef, Uid};
 use smallvec::SmallVec;
 use std::alloc::{AllocError, Global};
 use std::marker::Model;

@@ -8,15 +8,15 @@ ghost use Rattle.af_base.specs.Take.{cut, take_from, take_stream};
 ghost use Rattle.af_base.specs.Whole.{IsMessageWithin};
 ghost use Rattle.af_queue.specs.declared.chain.Node.{Node};
 ghost use Rattle.af_queue.specs.Chains.{has_room, messages_of, IsChain, KeepsNodes, SameElsewhere};
-ghost use Rattle.af_queue.specs.Received.{message_at, received, sender_at};
+ghost use Rattle.af_queue.specs.TakenView.{message_at, received, sender_at};
 
 use crate::chain::{Chain, Node};
 use crate::message::{Attached, Msg};
 use crate::queue::Queue;
 use crate::taken::Taken;
 use af_base::events::SockType;
+use af_base::ids::{Ino, Uid};
 use af_base::limits::{MAX_MESSAGES, SCM_MAX_FD};
-use af_base::names::{Ino, Uid};
 use slab::Slab;
 use smallvec::SmallVec;
 use std::alloc::{AllocError, Global};

@@ -2,26 +2,26 @@
 ghost use Rattle.std.specs.Prelude.{◌≡◌, ◌≤◌, ◌<◌, ◌*◌, ◌-◌, ◌∷◌, ◌++◌, [], ℕ, IfSome, IfNone};
 ghost use Rattle.std.specs.Prelude.{IfOk, drop, length, take, slice_get, option_copied};
 ghost use Rattle.std.specs.Option.{option_map_or};
-ghost use Rattle.af_base.specs.Places.{carried};
+ghost use Rattle.af_base.specs.Places.{attached_in};
 ghost use Rattle.af_base.specs.Take.{joined, take_from};
 ghost use Rattle.af_queue.specs.Chains.{messages_of, IsChain};
 ghost use Rattle.af_queue.specs.Queued.{AreWithin};
-ghost use Rattle.af_queue.specs.Received.{message_at, received};
+ghost use Rattle.af_queue.specs.TakenView.{message_at, received};
 ghost use Rattle.af_queue.specs.Streams.{files_in, stream_cut};
 
 use crate::chain::{Chain, Node};
 use crate::message::Msg;
 use crate::taken::Taken;
 use af_base::events::SockType;
+use af_base::ids::{FileRef, Uid};
 use af_base::limits::{MAX_MESSAGES, SCM_MAX_FD};
-use af_base::names::{FileRef, Uid};
 use arrayvec::ArrayVec;
 use slab::Slab;
 use smallvec::SmallVec;
 use std::alloc::{AllocError, Global};
 use std::marker::Model;
 
-/// How many files `Queue::carried` tells at once.
+/// How many files `Queue::attached_from` tells at once.
 pub const BATCH: usize = 16;
 
 /// The messages that a socket has to receive, lent for reading. A contract sees them as a list.
@@ -109,11 +109,11 @@ impl<'a> Queue<'a> {
         Some(message)
     }
 
-    /// Returns the files that its messages carry, from this one on, 16 at most: a caller that
+    /// Returns the files attached to its messages, from this one on, 16 at most: a caller that
     /// cannot keep the queue while it looks at them takes some steps for each. Takes no memory.
-    pub fn carried(&self, from: usize) -> ArrayVec<FileRef, BATCH>
-        ensures files { result.items ≡ take BATCH (drop from (carried self.now)) }
-        ensures few { length (carried self.now) ≤ MAX_MESSAGES * SCM_MAX_FD }
+    pub fn attached_from(&self, from: usize) -> ArrayVec<FileRef, BATCH>
+        ensures files { result.items ≡ take BATCH (drop from (attached_in self.now)) }
+        ensures few { length (attached_in self.now) ≤ MAX_MESSAGES * SCM_MAX_FD }
     {
         // Messages are few, and each carries few: it is enough to look at a field.
         let _len = self.len;

@@ -1,11 +1,11 @@
 //! The result of a receive.
 ghost use Rattle.std.specs.Prelude.{◌≡◌, ◌≤◌, length};
 ghost use Rattle.smallvec.specs.SmallVec.{small_vec_len};
-ghost use Rattle.af_queue.specs.Received.{nothing_received};
+ghost use Rattle.af_queue.specs.TakenView.{nothing_received};
 
 use crate::message::Attached;
+use af_base::ids::{FileRef, Uid};
 use af_base::limits::SCM_MAX_FD;
-use af_base::names::{FileRef, Uid};
 use smallvec::SmallVec;
 use std::alloc::Global;
 use std::marker::Model;
@@ -22,10 +22,10 @@ pub struct Taken {
 impl Model for Taken {
     ghost use Rattle.std.specs.Prelude.{◌≤◌};
     ghost use Rattle.smallvec.specs.SmallVec.{small_vec_len};
-    ghost use Rattle.af_queue.specs.Received.{Received};
+    ghost use Rattle.af_queue.specs.TakenView.{TakenView};
     ghost use Rattle.af_base.specs.declared.limits.TheConstants.{SCM_MAX_FD};
 
-    ghost Value = { Received };
+    ghost Value = { TakenView };
 
     ghost view = { λ a. record {
       message = record { bytes = a.bytes.items; attached = a.attached.items; user = a.user };

@@ -1,6 +1,6 @@
 -- Lemmas.
-pub mod Audited
+pub mod BareRecounts
 pub mod TableLines
 pub mod UserLines
-pub mod Walked
+pub mod WalkStart
 pub mod Widths

@@ -8,7 +8,7 @@ ghost use Rattle.af_report.specs.Table.{right, state_of, state_word, type_word};
 ghost use Rattle.af_report.specs.Texts.{AppendsText};
 
 use af_base::events::{SockType, State};
-use af_base::names::{FileRef, Ino};
+use af_base::ids::{FileRef, Ino};
 use af_steps::{Engine, FileInfo};
 use std::alloc::AllocError;
 

@@ -5,7 +5,7 @@ ghost use Rattle.af_base.specs.World.{File, IsLive};
 ghost use Rattle.af_report.specs.Table.{file_line, table_text};
 
 use crate::columns::{push_counts, push_file, push_name};
-use af_base::names::{FileRef, Ino};
+use af_base::ids::{FileRef, Ino};
 use af_steps::Engine;
 use std::alloc::{AllocError, Global};
 

@@ -7,7 +7,7 @@ ghost use Rattle.af_plain.specs.Agreement.{AreRecounts, IsFileRecount, IsUserRec
 ghost use Rattle.af_report.specs.Check.{IsChecked, IsCheckText, check_text};
 
 use crate::agreed::Agreed;
-use af_base::names::Ino;
+use af_base::ids::Ino;
 use af_plain::{Kept, KeptFile, KeptUser, garbage};
 use af_steps::Engine;
 use std::alloc::{AllocError, Global};
@@ -54,7 +54,7 @@ fn kept_users(alloc: Global, engine: &Engine) -> Result<Vec<KeptUser>, AllocErro
 }
 
 /// Returns all counts that the engine keeps.
-fn kept(alloc: Global, engine: &Engine) -> Result<Kept, AllocError>
+fn kept_counts(alloc: Global, engine: &Engine) -> Result<Kept, AllocError>
     ensures recounts { IfOk result (AreRecounts engine.now.world) }
     ensures files { IfOk result (λ k.
         list.map (λ f. f.ino) k.files.items ≡ map.keys engine.now.world.files) }
@@ -107,7 +107,7 @@ pub fn count(alloc: Global, engine: &Engine) -> Result<Option<Checked>, AllocErr
     ensures counts { IfOk result (λ found. IfSome found (λ c. IsChecked engine.now.world c.0 c.1)) }
 {
     let listing = engine.listing()?;
-    let kept = kept(alloc, engine)?;
+    let kept = kept_counts(alloc, engine)?;
     let Some(agreed) = Agreed::of(&listing, &kept) else {
         return Ok(None);
     };

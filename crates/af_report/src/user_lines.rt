@@ -3,7 +3,7 @@ ghost use Rattle.std.specs.Prelude.{◌≡◌, IfOk, OnOk};
 ghost use Rattle.af_report.specs.Texts.{AppendsText};
 ghost use Rattle.af_report.specs.Totals.{totals_text, user_line};
 
-use af_base::names::Uid;
+use af_base::ids::Uid;
 use af_steps::Engine;
 use std::alloc::{AllocError, Global};
 

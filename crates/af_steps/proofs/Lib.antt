@@ -1,8 +1,8 @@
 pub mod Outcomes
-pub mod Folded
-pub mod Found
+pub mod FoldedReplies
+pub mod LookupRows
 pub mod Numbers
-pub mod Receiving
-pub mod Sent
-pub mod Connected
-pub mod Crosses
+pub mod EmptyReceives
+pub mod Sends
+pub mod Connections
+pub mod SendSync

@@ -11,7 +11,7 @@ use Rattle.af_base.specs.World.{Process, World}
 use Rattle.af_base.proofs.Free.{AreFree, first-free, first-low, free-lowest_free}
 use Rattle.af_base.proofs.Lookups.{none_some, some_same}
 use Rattle.af_steps.specs.Found.{HasProcess}
-use Rattle.af_steps.proofs.Found.{is_process}
+use Rattle.af_steps.proofs.LookupRows.{is_process}
 
 -- This is the lowest free number of the process.
 pub record IsLowest (q : Process) (n : ℕ) : Type 0 where

@@ -12,8 +12,8 @@ use Rattle.af_base.specs.Steps.{answer, effect, needs_no_memory}
 use Rattle.af_base.specs.Unheld.{Settles}
 use Rattle.af_base.specs.Whole.{IsSound}
 use Rattle.af_base.specs.World.{World}
-use Rattle.af_base.proofs.Settling.{settles_none}
-use Rattle.af_collect.specs.Shown.{Shown}
+use Rattle.af_base.proofs.SettledWorlds.{settles_none}
+use Rattle.af_collect.specs.StoreView.{StoreView}
 use Rattle.af_steps.specs.Outcome.{Does, Refuses, error_of, step_error}
 
 -- An engine that shows `old`, and has this inside.
@@ -23,7 +23,7 @@ module _ {inside old : Machine} (shown : inside ≡ old) (p : ℕ) (s : Step) wh
   w = inside.world
 
   -- No test fits: it did the step, and its store has the changed world, settled.
-  pub does : (new : Shown) (r : Reply) (placed : World) → refusal w p s ≡ None → answer w p s ≡ r → effect w p s ≡ placed → Settles placed new.world → new.pass ≡ inside.pass → new.since ≡ inside.since
+  pub does : (new : StoreView) (r : Reply) (placed : World) → refusal w p s ≡ None → answer w p s ≡ r → effect w p s ≡ placed → Settles placed new.world → new.pass ≡ inside.pass → new.since ≡ inside.since
       → Does old p s r (record { world = new.world; pass = new.pass; last_pass = inside.last_pass; since = new.since })
   does new r placed fits answers leads settles pass since =
       subst (λ (m : Machine). Does m p s r (record { world = new.world; pass = new.pass; last_pass = inside.last_pass; since = new.since })) shown (fits, sym answers, subst (λ v. Settles v new.world) (sym leads) settles, (pass, refl, since))

@@ -1,4 +1,4 @@
 pub mod Found
-pub mod Shown
+pub mod FileInfo
 pub mod Outcome
 pub mod Posted

@@ -8,7 +8,7 @@ ghost use Rattle.af_steps.specs.Outcome.{Answers};
 use af_base::errno::Errno;
 use af_base::events;
 use af_base::events::{Event, Reply};
-use af_base::names::{Fd, Pid};
+use af_base::ids::{Fd, Pid};
 use af_collect::Store;
 use std::alloc::{AllocError, Global};
 use std::marker::Model;

@@ -8,7 +8,7 @@ ghost use Rattle.af_steps.specs.Found.{HasProcess, HasSocket};
 
 use af_base::errno::Errno;
 use af_base::events::Step;
-use af_base::names::{Fd, FileRef, Pid};
+use af_base::ids::{Fd, FileRef, Pid};
 use af_collect::Store;
 use af_desc::Socket;
 use af_table::Process;

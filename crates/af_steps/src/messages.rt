@@ -16,9 +16,9 @@ use crate::engine::Engine;
 use crate::lookups::{socket_at, socket_on};
 use af_base::errno::Errno;
 use af_base::events::{Reply, State, Step};
+use af_base::ids::{Fd, FileRef, Pid, Uid};
 use af_base::items::Items;
 use af_base::limits::{MAX_BYTES, MAX_MESSAGES, SCM_MAX_FD};
-use af_base::names::{Fd, FileRef, Pid, Uid};
 use af_desc::Socket;
 use af_queue::{Attached, Msg, Taken};
 use af_table::Process;
@@ -190,7 +190,7 @@ impl Engine {
         self.store.room_for(pid, fds.len())?;
         let taken = self.store.take_msg(&file, max, pid, &fds)?;
         self.store.release();
-        Ok(got(taken, fds))
+        Ok(receive_answer(taken, fds))
     }
 
     /// Returns what a receive would take, which stays in the queue (recvmsg(2), MSG_PEEK).
@@ -227,7 +227,7 @@ impl Engine {
         self.store.room_for(pid, fds.len())?;
         let seen = self.store.peek_msg(&file, max, pid, &fds)?;
         self.store.release();
-        Ok(got(seen, fds))
+        Ok(receive_answer(seen, fds))
     }
 }
 
@@ -307,7 +307,7 @@ fn files_at(alloc: Global, process: &Process, fds: &[Fd]) -> Result<Attached, Al
 /// Returns the answer to a receive or a peek, whose first files were installed at these
 /// descriptors.
 #[inline(always)]
-fn got(taken: Taken, fds: Vec<Fd>) -> Received
+fn receive_answer(taken: Taken, fds: Vec<Fd>) -> Received
     ensures { result ≡ Received.Got taken.message.bytes fds.items taken.trunc
         (nat_lt (length fds.items) (length taken.message.attached)) }
 {

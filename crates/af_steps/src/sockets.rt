@@ -10,8 +10,8 @@ use crate::engine::Engine;
 use crate::lookups::{place_for_file, socket_at, socket_on};
 use af_base::errno::Errno;
 use af_base::events::{Reply, SockType, State, Step};
+use af_base::ids::{Fd, Pid};
 use af_base::limits::{MAX_BACKLOG, MAX_NAME};
-use af_base::names::{Fd, Pid};
 use af_desc::Socket;
 
 impl Engine {
@@ -56,7 +56,7 @@ impl Engine {
     {
         let (_, file, socket) = socket_on(&self.store, pid, on)?;
         check_bind(&socket, name)?;
-        if self.store.holdings().files().named(name).is_some() {
+        if self.store.holdings().files().find_name(name).is_some() {
             return Err(Errno::EADDRINUSE);
         }
         self.store.bind(&file, name)?;
@@ -93,7 +93,7 @@ impl Engine {
             .store
             .holdings()
             .files()
-            .named(name)
+            .find_name(name)
             .ok_or(Errno::ECONNREFUSED)?;
         let kind = client.kind();
         check_listener(&socket_at(&self.store, &listener).unwrap(), kind)?;

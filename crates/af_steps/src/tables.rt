@@ -6,8 +6,8 @@ use crate::engine::Engine;
 use crate::lookups::place_for_file;
 use af_base::errno::Errno;
 use af_base::events::{Reply, Step};
+use af_base::ids::{Fd, Pid, Uid};
 use af_base::limits::MAX_NOFILE;
-use af_base::names::{Fd, Pid, Uid};
 
 impl Engine {
     /// Starts a process, as after fork(2) and setuid(2), with an empty table. A privileged one is

@@ -3,13 +3,13 @@ ghost use Rattle.std.specs.Prelude.{◌≡◌, true, OnErr, OnOk};
 ghost use Rattle.af_base.specs.Told.{TellsChanged, TellsReleased};
 
 use crate::engine::Engine;
-use af_base::names::{FileRef, Ino};
+use af_base::ids::{FileRef, Ino};
 use std::alloc::AllocError;
 
 impl Engine {
-    /// Tells from now on which files are freed, by `released`. Both lists are empty then. From now
-    /// on an event that makes a file needs room for its number in the list too, and no other call
-    /// does. On an error nothing has changed.
+    /// Tells from now on which files are freed, by `released_files`. Both lists are empty then.
+    /// From now on an event that makes a file needs room for its number in the list too, and no
+    /// other call does. On an error nothing has changed.
     pub fn tell_released(&mut self) -> Result<(), AllocError>
         ensures ok { OnOk result (self.new ≡ record self.old {
           since = record {
@@ -24,9 +24,9 @@ impl Engine {
         self.store.tell_released()
     }
 
-    /// Tells from now on whose readiness may have changed, by `changed`. Both lists are empty then.
-    /// From now on an event that makes a file needs room for it in the list too, and no other call
-    /// does. On an error nothing has changed.
+    /// Tells from now on whose readiness may have changed, by `changed_sockets`. Both lists are
+    /// empty then. From now on an event that makes a file needs room for it in the list too, and no
+    /// other call does. On an error nothing has changed.
     pub fn tell_changed(&mut self) -> Result<(), AllocError>
         ensures ok { OnOk result (self.new ≡ record self.old {
           since = record {
@@ -44,19 +44,19 @@ impl Engine {
     /// Returns the inode numbers of the files that were freed since the lists were last emptied,
     /// each once, if that list is kept. The program can drop what it keeps for such a file. No
     /// search.
-    pub fn released(&self) -> &[Ino]
+    pub fn released_files(&self) -> &[Ino]
         ensures { TellsReleased self.now.world self.now.since result.now }
     {
-        self.store.released()
+        self.store.released_files()
     }
 
     /// Returns the sockets whose readiness may have changed since the lists were last emptied, each
     /// once, if that list is kept. If neither a socket nor its peer is listed, `poll` answers as it
     /// did then. A plain file is never listed: it is always ready. No search.
-    pub fn changed(&self) -> &[FileRef]
+    pub fn changed_sockets(&self) -> &[FileRef]
         ensures { TellsChanged self.now.world self.now.since result.now }
     {
-        self.store.changed()
+        self.store.changed_sockets()
     }
 
     /// Empties both lists. It needs no memory.

@@ -8,14 +8,14 @@ ghost use Rattle.af_base.specs.Counts.{refs, inflight, charged, total};
 ghost use Rattle.af_base.specs.Places.{table_at};
 ghost use Rattle.af_base.specs.Refusals.{refusal};
 ghost use Rattle.af_base.specs.Whole.{name_at};
-ghost use Rattle.af_steps.specs.Shown.{shown_of};
+ghost use Rattle.af_steps.specs.FileInfo.{shown_of};
 
 use crate::engine::Engine;
 use crate::lookups::place_for_file;
 use af_base::errno::Errno;
 use af_base::events::{SockType, State, Step};
+use af_base::ids::{Fd, FileRef, Ino, Pid, Uid};
 use af_base::listing::Listing;
-use af_base::names::{Fd, FileRef, Ino, Pid, Uid};
 use std::alloc::AllocError;
 
 /// The kind and state of a file.

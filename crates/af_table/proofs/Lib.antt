@@ -1,6 +1,6 @@
 pub mod Words
 pub mod Tables
-pub mod Left
+pub mod FreeNumbers
 pub mod Parts
 pub mod Places
 pub mod Pids

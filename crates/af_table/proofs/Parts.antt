@@ -14,7 +14,7 @@ use Rattle.std.proofs.lemmas.Bool.{eqb-true}
 use Rattle.af_base.specs.World.{Map, Process}
 use Rattle.af_base.specs.Changes.{change_at}
 use Rattle.af_base.specs.Listing.{keyed}
-use Rattle.af_table.specs.Slots.{Roomed}
+use Rattle.af_table.specs.Slots.{ProcessView}
 use Rattle.af_table.specs.Procs.{processes_of, rows_of}
 
 -- One part of each entry, as a map.
@@ -86,65 +86,65 @@ module _ {X Y S : Type 0} (f : X → Y) where
 
 module _ {S : Type 0} where
   -- the value at each pid
-  pub process_at_key : (m : HashMap ℕ Roomed S) (q : ℕ) → map.get (processes_of m.entries) q ≡ option_map (λ h. h.process) (hash.get nat_eq m q)
+  pub process_at_key : (m : HashMap ℕ ProcessView S) (q : ℕ) → map.get (processes_of m.entries) q ≡ option_map (λ h. h.process) (hash.get nat_eq m q)
   unfolding processes_of
   process_at_key m q = part_at (λ h. h.process) m.entries q
 
-  pub processes_there : (m : HashMap ℕ Roomed S) (k : ℕ) (h : Roomed) → Some h ≡ hash.get nat_eq m k → map.get (processes_of m.entries) k ≡ Some h.process
+  pub processes_there : (m : HashMap ℕ ProcessView S) (k : ℕ) (h : ProcessView) → Some h ≡ hash.get nat_eq m k → map.get (processes_of m.entries) k ≡ Some h.process
   unfolding processes_of
   processes_there m k h was = part_at (λ h. h.process) m.entries k ∙ ap (option_map (λ h. h.process)) (sym was)
 
-  pub rows_there : (m : HashMap ℕ Roomed S) (k : ℕ) (h : Roomed) → Some h ≡ hash.get nat_eq m k → map.get (rows_of m.entries) k ≡ Some h.row
+  pub rows_there : (m : HashMap ℕ ProcessView S) (k : ℕ) (h : ProcessView) → Some h ≡ hash.get nat_eq m k → map.get (rows_of m.entries) k ≡ Some h.row
   unfolding rows_of
   rows_there m k h was = part_at (λ h. h.row) m.entries k ∙ ap (option_map (λ h. h.row)) (sym was)
 
-  pub processes_none : (m : HashMap ℕ Roomed S) (k : ℕ) → hash.get nat_eq m k ≡ None → map.get (processes_of m.entries) k ≡ None
+  pub processes_none : (m : HashMap ℕ ProcessView S) (k : ℕ) → hash.get nat_eq m k ≡ None → map.get (processes_of m.entries) k ≡ None
   unfolding processes_of
   processes_none m k was = part_at (λ h. h.process) m.entries k ∙ ap (option_map (λ h. h.process)) was
 
-  pub rows_none : (m : HashMap ℕ Roomed S) (k : ℕ) → hash.get nat_eq m k ≡ None → map.get (rows_of m.entries) k ≡ None
+  pub rows_none : (m : HashMap ℕ ProcessView S) (k : ℕ) → hash.get nat_eq m k ≡ None → map.get (rows_of m.entries) k ≡ None
   unfolding rows_of
   rows_none m k was = part_at (λ h. h.row) m.entries k ∙ ap (option_map (λ h. h.row)) was
 
-  pub processes_inserted : (m n : HashMap ℕ Roomed S) (k : ℕ) (v : Roomed) → hash.Updates nat_eq m n k (Some v) → processes_of n.entries ≡ map.insert (processes_of m.entries) k v.process
+  pub processes_inserted : (m n : HashMap ℕ ProcessView S) (k : ℕ) (v : ProcessView) → hash.Updates nat_eq m n k (Some v) → processes_of n.entries ≡ map.insert (processes_of m.entries) k v.process
   unfolding processes_of
   processes_inserted m n k v h = part_inserted (λ h. h.process) m n k v h
 
-  pub rows_inserted : (m n : HashMap ℕ Roomed S) (k : ℕ) (v : Roomed) → hash.Updates nat_eq m n k (Some v) → rows_of n.entries ≡ map.insert (rows_of m.entries) k v.row
+  pub rows_inserted : (m n : HashMap ℕ ProcessView S) (k : ℕ) (v : ProcessView) → hash.Updates nat_eq m n k (Some v) → rows_of n.entries ≡ map.insert (rows_of m.entries) k v.row
   unfolding rows_of
   rows_inserted m n k v h = part_inserted (λ h. h.row) m n k v h
 
-  pub processes_removed : (m n : HashMap ℕ Roomed S) (k : ℕ) → hash.Updates nat_eq m n k None → processes_of n.entries ≡ map.remove (processes_of m.entries) k
+  pub processes_removed : (m n : HashMap ℕ ProcessView S) (k : ℕ) → hash.Updates nat_eq m n k None → processes_of n.entries ≡ map.remove (processes_of m.entries) k
   unfolding processes_of
   processes_removed m n k h = part_removed (λ h. h.process) m n k h
 
-  pub rows_removed : (m n : HashMap ℕ Roomed S) (k : ℕ) → hash.Updates nat_eq m n k None → rows_of n.entries ≡ map.remove (rows_of m.entries) k
+  pub rows_removed : (m n : HashMap ℕ ProcessView S) (k : ℕ) → hash.Updates nat_eq m n k None → rows_of n.entries ≡ map.remove (rows_of m.entries) k
   unfolding rows_of
   rows_removed m n k h = part_removed (λ h. h.row) m n k h
 
-  pub processes_changed : (g : Process → Process) (m n : HashMap ℕ Roomed S) (k : ℕ) (x v : Roomed) → Some x ≡ hash.get nat_eq m k → v ≡ record x { process = g x.process } → hash.Updates nat_eq m n k (Some v)
+  pub processes_changed : (g : Process → Process) (m n : HashMap ℕ ProcessView S) (k : ℕ) (x v : ProcessView) → Some x ≡ hash.get nat_eq m k → v ≡ record x { process = g x.process } → hash.Updates nat_eq m n k (Some v)
       → processes_of n.entries ≡ change_at g (processes_of m.entries) k
   unfolding processes_of
   processes_changed g m n k x v was e h = part_changed (λ h. h.process) g m n k x v was (ap (λ y. y.process) e) h
 
-  pub rows_kept : (m n : HashMap ℕ Roomed S) (k : ℕ) (x v : Roomed) → Some x ≡ hash.get nat_eq m k → v.row ≡ x.row → hash.Updates nat_eq m n k (Some v) → rows_of n.entries ≡ rows_of m.entries
+  pub rows_kept : (m n : HashMap ℕ ProcessView S) (k : ℕ) (x v : ProcessView) → Some x ≡ hash.get nat_eq m k → v.row ≡ x.row → hash.Updates nat_eq m n k (Some v) → rows_of n.entries ≡ rows_of m.entries
   unfolding rows_of
   rows_kept m n k x v was e h = part_kept (λ h. h.row) m n k x v was e h
 
-  pub processes_unchanged : (g : Process → Process) (m : HashMap ℕ Roomed S) (k : ℕ) → hash.get nat_eq m k ≡ None → processes_of m.entries ≡ change_at g (processes_of m.entries) k
+  pub processes_unchanged : (g : Process → Process) (m : HashMap ℕ ProcessView S) (k : ℕ) → hash.get nat_eq m k ≡ None → processes_of m.entries ≡ change_at g (processes_of m.entries) k
   unfolding processes_of
   processes_unchanged g m k was = part_unchanged (λ h. h.process) g m k was
 
-  pub processes_kept : (m n : HashMap ℕ Roomed S) (k : ℕ) (x v : Roomed) → Some x ≡ hash.get nat_eq m k → v.process ≡ x.process → hash.Updates nat_eq m n k (Some v) → processes_of n.entries ≡ processes_of m.entries
+  pub processes_kept : (m n : HashMap ℕ ProcessView S) (k : ℕ) (x v : ProcessView) → Some x ≡ hash.get nat_eq m k → v.process ≡ x.process → hash.Updates nat_eq m n k (Some v) → processes_of n.entries ≡ processes_of m.entries
   unfolding processes_of
   processes_kept m n k x v was e h = part_kept (λ h. h.process) m n k x v was e h
 
   -- the row of a process that was made longer
-  pub row_made : (m n : HashMap ℕ Roomed S) (k : ℕ) (v : Roomed) → hash.Updates nat_eq m n k (Some v) → map.get (rows_of n.entries) k ≡ Some v.row
+  pub row_made : (m n : HashMap ℕ ProcessView S) (k : ℕ) (v : ProcessView) → hash.Updates nat_eq m n k (Some v) → map.get (rows_of n.entries) k ≡ Some v.row
   row_made m n k v h = rows_there n k v (sym h.1)
 
   -- and the others
-  pub rows_grown : (m n : HashMap ℕ Roomed S) (k : ℕ) (x v : Roomed) → Some x ≡ hash.get nat_eq m k → x.row ≤ v.row → hash.Updates nat_eq m n k (Some v)
+  pub rows_grown : (m n : HashMap ℕ ProcessView S) (k : ℕ) (x v : ProcessView) → Some x ≡ hash.get nat_eq m k → x.row ≤ v.row → hash.Updates nat_eq m n k (Some v)
       → (q : ℕ) → unwrap_or (map.get (rows_of m.entries) q) 0 ≤ unwrap_or (map.get (rows_of n.entries) q) 0
   unfolding rows_of
   rows_grown m n k x v was le h q = subst (λ o. unwrap_or (map.get (part_of (λ y. y.row) m.entries) q) 0 ≤ unwrap_or o 0) (sym (part_at (λ h. h.row) n.entries q ∙ ap (option_map (λ h. h.row)) (h.0 q))) (by (nat_eq k q) refl) where
@@ -153,15 +153,15 @@ module _ {S : Type 0} where
     by false apart = subst (λ o. unwrap_or o 0 ≤ unwrap_or (option_map (λ y. y.row) (hash.get nat_eq m q)) 0) (sym (part_at (λ y. y.row) m.entries q)) (omega arith)
 
   -- as many processes as entries
-  pub process_count : (m : HashMap ℕ Roomed S) → hash.IsUnique nat_eq m → map.len (processes_of m.entries) ≡ hash.hash_map_len m
+  pub process_count : (m : HashMap ℕ ProcessView S) → hash.IsUnique nat_eq m → map.len (processes_of m.entries) ≡ hash.hash_map_len m
   unfolding processes_of
   process_count m h = part_of_len (λ h. h.process) m.entries h
 
-pub no_processes : (es : List (ℕ × Roomed)) → es ≡ [] → processes_of es ≡ map.empty
+pub no_processes : (es : List (ℕ × ProcessView)) → es ≡ [] → processes_of es ≡ map.empty
 unfolding processes_of
 no_processes es e = ap (part_of (λ h. h.process)) e
 
-pub no_rows : (es : List (ℕ × Roomed)) → es ≡ [] → rows_of es ≡ map.empty
+pub no_rows : (es : List (ℕ × ProcessView)) → es ≡ [] → rows_of es ≡ map.empty
 unfolding rows_of
 no_rows es e = ap (part_of (λ h. h.row)) e
 

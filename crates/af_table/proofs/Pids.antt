@@ -15,9 +15,9 @@ use Rattle.std.proofs.lemmas.List.Sorted.{IsNonDecreasingBy-from_sort, list_any-
 use Rattle.std.proofs.lemmas.Map.Keys.{IsDistinct-IsPermutation, IsStrictlyIncreasing-from_distinct, sorted_from_strictly_increasing}
 use Rattle.af_base.specs.World.{Map}
 use Rattle.af_base.specs.Refusals.{no_process}
-use Rattle.af_base.proofs.Ordered.{listed}
+use Rattle.af_base.proofs.TreeEntries.{listed}
 use Rattle.af_table.specs.Procs.{processes_of}
-use Rattle.af_table.specs.Slots.{Roomed}
+use Rattle.af_table.specs.Slots.{ProcessView}
 use Rattle.af_table.proofs.Parts.{process_at_key}
 
 module _ {Y : Type 0} where
@@ -61,7 +61,7 @@ has_value f None = refl
 has_value f (Some x) = refl
 
 -- A sort of the keys of the hash map.
-module _ {S : Type 0} (m : HashMap ℕ Roomed S) (js ks : List ℕ) (unique : hash.IsUnique nat_eq m) (keys : hash.keys m ≡ js) (moved : IsPermutation js ks) (sorted : IsSorted nat_cmp ks) where
+module _ {S : Type 0} (m : HashMap ℕ ProcessView S) (js ks : List ℕ) (unique : hash.IsUnique nat_eq m) (keys : hash.keys m ≡ js) (moved : IsPermutation js ks) (sorted : IsSorted nat_cmp ks) where
   from_keys : IsPermutation (hash.keys m) ks
   from_keys = subst (λ l. IsPermutation l ks) (sym keys) moved
 

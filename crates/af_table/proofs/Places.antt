@@ -14,7 +14,7 @@ use Rattle.indexmap.specs.IndexMap.{with_value_at}
 use Rattle.indexmap.proofs.CallerLemmas.{updates-with_value_at}
 use Rattle.af_base.specs.World.{Process}
 use Rattle.af_base.specs.Changes.{change_at}
-use Rattle.af_table.specs.Slots.{Roomed}
+use Rattle.af_table.specs.Slots.{ProcessView}
 use Rattle.af_table.specs.Procs.{processes_of, rows_of}
 use Rattle.af_table.proofs.Parts.{processes_there, rows_there, processes_changed, processes_kept, rows_kept, rows_grown, row_made}
 
@@ -38,7 +38,7 @@ position_is ks pid o e = subst (λ r. IfSome r (λ i. slice_get ks i ≡ Some pi
 same_some : (k l : ℕ) → Some k ≡ Some l → k ≡ l
 same_some k l e = cc
 
-module _ {S : Type 0} (m : HashMap ℕ Roomed S) (index pid key : ℕ) (h : Roomed) (there : slice_get (hash.keys m) index ≡ Some pid) (at : slice_get m.entries index ≡ Some (key, h)) where
+module _ {S : Type 0} (m : HashMap ℕ ProcessView S) (index pid key : ℕ) (h : ProcessView) (there : slice_get (hash.keys m) index ≡ Some pid) (at : slice_get m.entries index ≡ Some (key, h)) where
   -- the pid there is this one
   pub pid_there : key ≡ pid
   pid_there = same_some key pid (sym (slice_get-map (λ e. e.0) m.entries index ∙ ap (option_map (λ e. e.0)) at) ∙ there)
@@ -67,7 +67,7 @@ module _ {S : Type 0} (m : HashMap ℕ Roomed S) (index pid key : ℕ) (h : Room
     is_there = processes_there m pid h process_there
 
     -- a process is written there
-    module _ (w : Roomed) where
+    module _ (w : ProcessView) where
       written : hash.Updates nat_eq m (with_value_at m index w) pid (Some w)
       written = updates-with_value_at m index w nat_eq_equiv unique pid h entry_there
 

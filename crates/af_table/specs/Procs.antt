@@ -6,7 +6,7 @@ use Rattle.std.specs.FinMap as map
 use Rattle.af_base.specs.World.{Map, Process}
 use Rattle.af_base.specs.Listing.{keyed}
 use Rattle.af_base.specs.Table.{free_numbers}
-use Rattle.af_table.specs.Slots.{Roomed}
+use Rattle.af_table.specs.Slots.{ProcessView}
 
 -- The processes as the world has them; below which number each has room to install; the next pid;
 -- and for how many further processes there is room.
@@ -41,9 +41,9 @@ started user limit privileged = record {
 }
 
 -- The processes of entries.
-unfoldable pub processes_of : List (ℕ × Roomed) → Map Process
+unfoldable pub processes_of : List (ℕ × ProcessView) → Map Process
 processes_of es = keyed (λ e. e.0) (λ e. e.1.process) es
 
 -- The rows of entries.
-unfoldable pub rows_of : List (ℕ × Roomed) → Map ℕ
+unfoldable pub rows_of : List (ℕ × ProcessView) → Map ℕ
 rows_of es = keyed (λ e. e.0) (λ e. e.1.row) es

@@ -16,7 +16,7 @@ unfoldable pub table_of : List ℕ → List ℕ → Map ℕ
 table_of words slots = table_from words 0 slots
 
 -- A process, and below which number it has room to install.
-pub record Roomed : Type 0 where
+pub record ProcessView : Type 0 where
   pub process : Process
   pub row : ℕ
 

@@ -3,13 +3,13 @@ ghost use Rattle.std.specs.Prelude.{◌≡◌, nat_eq, slice_get, Some, None, If
 ghost use Rattle.indexmap.specs.IndexMap.{keys, get};
 
 use crate::process::Process;
-use af_base::names::Pid;
+use af_base::ids::Pid;
 use indexmap::IndexMap;
 
 /// How many hints there are: all pids with the same remainder share one.
 const HINTS: usize = 256;
 
-/// For each remainder of a pid, the index of the process that was noted last. It is only a hint:
+/// For each remainder of a pid, the index of the process that was set last. It is only a hint:
 /// each use compares the pid at that index, and asks the map if it is another. So a stale hint
 /// costs time, and no clause speaks of one.
 #[derive(Drop)]
@@ -23,42 +23,42 @@ impl Hints {
         Hints { places: [0; HINTS] }
     }
 
-    /// Notes the index of the process of this pid.
+    /// Sets the hint for this pid to this index.
     #[inline(always)]
-    pub fn note(&mut self, pid: Pid, index: usize) {
+    pub fn set(&mut self, pid: Pid, index: usize) {
         self.places[pid.0 as usize % HINTS] = (index % (u16::MAX as usize + 1)) as u16;
     }
 
     /// Returns the index of the process of this pid, if it is known. Asks the map only if another
     /// process is at the hint.
     #[inline(always)]
-    pub fn place(&self, processes: &IndexMap<Pid, Process>, pid: Pid) -> Option<usize>
+    pub fn index_of(&self, processes: &IndexMap<Pid, Process>, pid: Pid) -> Option<usize>
         ensures there { IfSome result (λ i. slice_get (keys processes.now) i ≡ Some pid) }
         ensures none { IfNone result (get nat_eq processes.now pid ≡ None) }
     {
-        match self.likely(processes, pid) {
+        match self.hinted_index(processes, pid) {
             Some(index) => Some(index),
             None => search(processes, pid),
         }
     }
 
-    /// Returns the same, and notes the map's answer, so that the next look-up need not ask it.
+    /// Returns the same, and keeps the map's answer, so that the next look-up need not ask it.
     #[inline(always)]
-    pub fn found(&mut self, processes: &IndexMap<Pid, Process>, pid: Pid) -> Option<usize>
+    pub fn find(&mut self, processes: &IndexMap<Pid, Process>, pid: Pid) -> Option<usize>
         ensures there { IfSome result (λ i. slice_get (keys processes.now) i ≡ Some pid) }
         ensures none { IfNone result (get nat_eq processes.now pid ≡ None) }
     {
-        if let Some(index) = self.likely(processes, pid) {
+        if let Some(index) = self.hinted_index(processes, pid) {
             return Some(index);
         }
         let index = search(processes, pid)?;
-        self.note(pid, index);
+        self.set(pid, index);
         Some(index)
     }
 
     /// Returns the hint, if the process of this pid is there.
     #[inline(always)]
-    fn likely(&self, processes: &IndexMap<Pid, Process>, pid: Pid) -> Option<usize>
+    fn hinted_index(&self, processes: &IndexMap<Pid, Process>, pid: Pid) -> Option<usize>
         ensures { IfSome result (λ i. slice_get (keys processes.now) i ≡ Some pid) }
     {
         let hint = self.places[pid.0 as usize % HINTS] as usize;

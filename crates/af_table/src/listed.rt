@@ -8,14 +8,14 @@ ghost use Rattle.af_base.specs.Refusals.{process_in};
 
 use crate::process::Process;
 use crate::procs::Procs;
+use af_base::ids::{Fd, Pid};
 use af_base::limits::MAX_NOFILE;
 use af_base::listing::{ListedNumber, ListedTable};
-use af_base::names::{Fd, Pid};
 use std::alloc::{AllocError, Global};
 
 impl Process {
     /// Returns its open descriptors as a plain list, under this pid.
-    pub(crate) fn listed(&self, alloc: Global, pid: Pid) -> Result<ListedTable, AllocError>
+    pub(crate) fn list_table(&self, alloc: Global, pid: Pid) -> Result<ListedTable, AllocError>
         ensures pid { IfOk result (λ t. t.pid ≡ pid) }
         ensures shown { IfOk result (λ t. process_of t ≡ bare_process self.now.process) }
         ensures rising { IfOk result IsRisingTable }
@@ -46,7 +46,7 @@ impl Procs {
 
     /// Returns the open descriptors of the process with their files, as a plain list; an unknown
     /// process has none. Takes memory for the list alone.
-    pub fn listed(&self, pid: Pid) -> Result<ListedTable, AllocError>
+    pub fn list_table(&self, pid: Pid) -> Result<ListedTable, AllocError>
         ensures pid { IfOk result (λ t. t.pid ≡ pid) }
         ensures shown { IfOk result (λ t.
             process_of t ≡ bare_process (process_in self.now.processes pid)) }
@@ -57,6 +57,6 @@ impl Procs {
             let numbers = Vec::new(self.alloc);
             return Ok(ListedTable { pid, numbers });
         };
-        process.listed(self.alloc, pid)
+        process.list_table(self.alloc, pid)
     }
 }

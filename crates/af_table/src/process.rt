@@ -7,8 +7,8 @@ ghost use Rattle.af_base.specs.Table.{free_numbers, lowest_free};
 ghost use Rattle.af_table.specs.Free.{free_from};
 
 use crate::bits::Bits;
+use af_base::ids::{Fd, FileRef, Ino, Uid};
 use af_base::limits::MAX_NOFILE;
-use af_base::names::{Fd, FileRef, Ino, Uid};
 use std::alloc::{AllocError, Global};
 use std::marker::Model;
 use std::mem;
@@ -29,9 +29,9 @@ impl Model for Process {
     ghost use Rattle.std.specs.FinMap as map;
     ghost use Rattle.std.specs.Coded.{codes};
     ghost use Rattle.af_base.specs.declared.limits.TheConstants.{MAX_NOFILE};
-    ghost use Rattle.af_table.specs.Slots.{Roomed, table_of, NoneFrom};
+    ghost use Rattle.af_table.specs.Slots.{ProcessView, table_of, NoneFrom};
 
-    ghost Value = { Roomed };
+    ghost Value = { ProcessView };
 
     ghost coded = { Prim.hlevel (codes, map.code) };
 
@@ -84,7 +84,7 @@ impl Process {
             user: self.user,
             limit: self.limit,
             privileged: self.privileged,
-            slots: copied(alloc, &self.slots[..used])?,
+            slots: copy_files(alloc, &self.slots[..used])?,
             taken: self.taken,
         })
     }
@@ -206,7 +206,7 @@ impl Process {
 
     /// Returns the least free descriptor from this one on.
     #[inline(always)]
-    #[tactic(auto, using(crate::proofs::Left::free_changes))]
+    #[tactic(auto, using(crate::proofs::FreeNumbers::free_changes))]
     pub(crate) fn next_free(&self, from: u32) -> Option<Fd>
         ensures some { IfSome result (λ n.
             free_from from self.now.process ≡ n ∷ free_from (n + 1) self.now.process) }
@@ -219,7 +219,7 @@ impl Process {
 
     /// Returns the lowest free descriptor, if one below its limit is free (open(2)).
     #[inline(always)]
-    #[tactic(auto, using(crate::proofs::Left::free_lists))]
+    #[tactic(auto, using(crate::proofs::FreeNumbers::free_lists))]
     pub fn lowest(&self) -> Option<Fd>
         ensures { result ≡ slice_get (free_numbers self.now.process) 0 }
     {
@@ -227,7 +227,7 @@ impl Process {
     }
 
     /// Returns the two lowest free descriptors, rising, if it has two.
-    #[tactic(auto, using(crate::proofs::Left::free_lists))]
+    #[tactic(auto, using(crate::proofs::FreeNumbers::free_lists))]
     pub fn lowest_two(&self) -> Option<(Fd, Fd)>
         ensures two { IfSome result (λ t. lowest_free 2 self.now.process ≡ t.0 ∷ t.1 ∷ []) }
         ensures none { IfNone result (length (free_numbers self.now.process) < 2) }
@@ -240,7 +240,7 @@ impl Process {
     /// Returns the lowest free descriptors, rising: this many, or all if there are fewer. Takes
     /// memory for the list alone, and none for an empty list.
     #[inline(always)]
-    #[tactic(auto, using(crate::proofs::Left::free_lists))]
+    #[tactic(auto, using(crate::proofs::FreeNumbers::free_lists))]
     pub fn lowest_free(&self, alloc: Global, count: usize) -> Result<Vec<Fd>, AllocError>
         ensures value { IfOk result (λ fds. fds.items ≡ lowest_free count self.now.process) }
         ensures none { length (lowest_free count self.now.process) ≡ 0 → IsOk result }
@@ -296,7 +296,7 @@ impl Process {
 }
 
 /// Copies the files into a list of just that length.
-fn copied(alloc: Global, files: &[FileRef]) -> Result<Vec<FileRef>, AllocError>
+fn copy_files(alloc: Global, files: &[FileRef]) -> Result<Vec<FileRef>, AllocError>
     ensures { IfOk result (λ copies. copies.items ≡ files.now) }
 {
     let mut copies = Vec::with_capacity(alloc, files.len())?;

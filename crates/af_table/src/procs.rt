@@ -9,8 +9,8 @@ ghost use Rattle.af_table.specs.Procs.{lowest_in, row_in, started, who_in};
 
 use crate::hints::Hints;
 use crate::process::Process;
+use af_base::ids::{Fd, FileRef, Pid, Uid};
 use af_base::limits::{MAX_NOFILE, MAX_PID};
-use af_base::names::{Fd, FileRef, Pid, Uid};
 use indexmap::IndexMap;
 use std::alloc::{AllocError, Global};
 use std::marker::Model;
@@ -82,7 +82,7 @@ impl Procs {
         ensures row { IfSome result (λ p. map.get self.now.rows pid ≡ Some p.now.row) }
         ensures none { IfNone result (map.get self.now.processes pid ≡ None) }
     {
-        let index = self.hints.place(&self.processes, pid)?;
+        let index = self.hints.index_of(&self.processes, pid)?;
         let (_, process) = self.processes.get_index(index).unwrap();
         Some(process)
     }
@@ -156,7 +156,7 @@ impl Procs {
     {
         let (pid, index) = (self.next_pid(), self.count());
         self.next_pid += 1;
-        self.hints.note(pid, index);
+        self.hints.set(pid, index);
         self.processes.insert(pid, process).unwrap();
         pid
     }
@@ -214,7 +214,7 @@ impl Procs {
         if count == 0 {
             return Ok(());
         }
-        let Some(index) = self.hints.found(&self.processes, pid) else {
+        let Some(index) = self.hints.find(&self.processes, pid) else {
             return Ok(());
         };
         let (_, process) = self.processes.pair_mut(index);
@@ -232,7 +232,7 @@ impl Procs {
         ensures next { self.new.next_pid ≡ self.old.next_pid }
         ensures room { self.new.room ≡ self.old.room }
     {
-        let Some(index) = self.hints.found(&self.processes, pid) else {
+        let Some(index) = self.hints.find(&self.processes, pid) else {
             return;
         };
         let (_, process) = self.processes.pair_mut(index);
@@ -251,7 +251,7 @@ impl Procs {
         ensures next { self.new.next_pid ≡ self.old.next_pid }
         ensures room { self.new.room ≡ self.old.room }
     {
-        let Some(index) = self.hints.found(&self.processes, pid) else {
+        let Some(index) = self.hints.find(&self.processes, pid) else {
             return;
         };
         let (_, process) = self.processes.pair_mut(index);
@@ -271,7 +271,7 @@ impl Procs {
         ensures next { self.new.next_pid ≡ self.old.next_pid }
         ensures room { self.new.room ≡ self.old.room }
     {
-        let index = self.hints.found(&self.processes, pid)?;
+        let index = self.hints.find(&self.processes, pid)?;
         let (_, process) = self.processes.pair_mut(index);
         process.replace(fd, file)
     }
@@ -287,7 +287,7 @@ impl Procs {
         ensures next { self.new.next_pid ≡ self.old.next_pid }
         ensures room { self.new.room ≡ self.old.room }
     {
-        let index = self.hints.found(&self.processes, pid)?;
+        let index = self.hints.find(&self.processes, pid)?;
         let (_, process) = self.processes.pair_mut(index);
         process.take_out(fd)
     }
@@ -307,7 +307,7 @@ impl Procs {
         let (index, _, gone) = self.processes.swap_remove_full(&pid)?;
         // The last process has this index now.
         if let Some((moved, _)) = self.processes.get_index(index) {
-            self.hints.note(*moved, index);
+            self.hints.set(*moved, index);
         }
         Some(gone)
     }

@@ -1,6 +1,6 @@
 //! Tests beyond the clauses: that ample memory suffices, and that a second try does after a
 //! refusal.
-use af_base::names::Uid;
+use af_base::ids::Uid;
 use af_ledger::Ledger;
 
 /// Whether a user can be had, at a second trial where the first was refused.

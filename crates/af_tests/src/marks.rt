@@ -1,7 +1,7 @@
 //! Tests beyond the clauses: that ample memory suffices, and that a second try does after a
 //! refusal.
 
-use af_base::names::{FileRef, Ino};
+use af_base::ids::{FileRef, Ino};
 use af_desc::Files;
 use af_ledger::Place;
 use std::alloc::AllocError;

@@ -2,7 +2,7 @@
 //! little the newest number leaves behind.
 ghost use Rattle.std.specs.Prelude.{◌≡◌, ◌<◌, OnOk};
 
-use af_base::names::{FileRef, Ino};
+use af_base::ids::{FileRef, Ino};
 use ordered_slab::OrderedSlab;
 use std::alloc::{AllocError, Global};
 use std::process::Abort;

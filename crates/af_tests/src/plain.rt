@@ -3,10 +3,10 @@ ghost use Rattle.std.specs.Prelude.{◌≡◌, ◌+◌, IfOk, length};
 ghost use Rattle.af_base.specs.Listing.{file_of};
 ghost use Rattle.af_base.specs.Places.{contents};
 
+use af_base::ids::{Fd, Ino, Pid, Uid};
 use af_base::listing::{
     ListedFile, ListedMessage, ListedNumber, ListedSocket, ListedTable, Listing,
 };
-use af_base::names::{Fd, Ino, Pid, Uid};
 use af_plain::{Kept, KeptFile, KeptUser, agrees};
 use std::alloc::{AllocError, Global};
 use std::process::Abort;
@@ -32,7 +32,7 @@ fn socket(alloc: Global, ino: u64, sent: &[Ino], waiting: &[Ino]) -> Result<List
 
 /// File 1 is in a table, and 5 in its backlog; 2 and 3 are in each other's queues, and the plain
 /// file 4 is in that of 2.
-fn crossed(alloc: Global) -> Result<Listing, AllocError> {
+fn crossed_listing(alloc: Global) -> Result<Listing, AllocError> {
     let numbers = vec![in alloc;
         ListedNumber {
             fd: Fd(0),
@@ -76,7 +76,7 @@ fn user(user: u32, charged: u64) -> KeptUser {
 }
 
 /// Returns the counts of that listing, as their keeper would pass them.
-fn kept(alloc: Global) -> Result<Kept, AllocError> {
+fn kept_counts(alloc: Global) -> Result<Kept, AllocError> {
     let files = vec![in alloc;
         file(1, 1, 0),
         file(2, 1, 1),
@@ -124,8 +124,8 @@ fn are_the_recounts(rt: &impl Abort, listing: &Listing, kept: &mut Kept) {
 
 #[test]
 fn one_number_at_a_time(rt: HostRuntime) -> Result<(), Fail> {
-    let mut kept = kept(rt.alloc())?;
-    let listing = crossed(rt.alloc())?;
+    let mut kept = kept_counts(rt.alloc())?;
+    let listing = crossed_listing(rt.alloc())?;
     are_the_recounts(&rt, &listing, &mut kept);
     Ok(())
 }

@@ -2,7 +2,7 @@
 //! wrong, since the hints have 256 places and more processes live.
 ghost use Rattle.std.specs.Prelude.{◌≡◌};
 
-use af_base::names::{Fd, FileRef, Ino, Pid, Uid};
+use af_base::ids::{Fd, FileRef, Ino, Pid, Uid};
 use af_table::Procs;
 use std::process::Abort;
 use std::test::Fail;

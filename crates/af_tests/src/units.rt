@@ -4,7 +4,7 @@ ghost use Rattle.std.specs.Prelude.{◌≡◌, ◌∷◌, [], IfOk};
 
 use af_base::errno::Errno;
 use af_base::events::SockType;
-use af_base::names::{Fd, FileRef, Ino, Pid, Uid};
+use af_base::ids::{Fd, FileRef, Ino, Pid, Uid};
 use af_collect::Store;
 use af_queue::{Attached, Msg};
 use smallvec::SmallVec;

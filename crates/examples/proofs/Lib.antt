@@ -1,1 +1,1 @@
-pub mod Delivered
+pub mod Deliveries

@@ -5,7 +5,7 @@ use Rattle.std.specs.Option.{option_and_then}
 use Rattle.jaywardrobe.specs.Types.reply
 use Rattle.jaywardrobe.specs.Types.step
 use Rattle.jaywardrobe.specs.Outcome.{Does}
-use Rattle.jaywardrobe.specs.Owning.{Owning}
+use Rattle.jaywardrobe.specs.OwnedView.{OwnedView}
 use Rattle.jaywardrobe.specs.Pass.{Machine}
 use Rattle.jaywardrobe.specs.Places.{table_at}
 use Rattle.jaywardrobe.specs.Refusals.{ino_on, socket_at, socket_on}
@@ -17,7 +17,7 @@ abbrev pub Delivers : World → ℕ → ℕ → World → ℕ → ℕ → Type 0
 Delivers old p n new q m = (f : ℕ) × (table_at old p n ≡ Some f) × (table_at new q m ≡ Some f)
 
 -- The value of the file of a descriptor of process p.
-abbrev pub value_at : {T : Type 0} → Owning T → ℕ → ℕ → Option T
+abbrev pub value_at : {T : Type 0} → OwnedView T → ℕ → ℕ → Option T
 value_at o p n = option_and_then (map.get o.values) (table_at o.machine.world p n)
 
 -- Process p has a socket at n, in whose queue nothing waits.

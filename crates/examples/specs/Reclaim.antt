@@ -13,8 +13,8 @@ slice_reply (Some f) = finished_reply f
 
 -- Without a running pass the next one begins, and reports nothing; else the running one continues
 -- by a slice.
-abbrev pub Collects : Pass → Machine → Option Finished → Machine → Type 0
-Collects Idle old finished new = (finished ≡ None)
+abbrev pub Reclaims : Pass → Machine → Option Finished → Machine → Type 0
+Reclaims Idle old finished new = (finished ≡ None)
     × Begins Idle old (reply.Started (next_pass old.last_pass)) new
-Collects (Running begun spent) old finished new = GoesOn (Running begun spent) old BUDGET
+Reclaims (Running begun spent) old finished new = GoesOn (Running begun spent) old BUDGET
     (slice_reply finished) new

@@ -2,7 +2,7 @@
 
 mod places;
 
-use crate::audit::places::{Place, places_of};
+use crate::audit::places::{Reference, places_of};
 use jaywardrobe::report::graph;
 use jaywardrobe::{Engine, Errno, Fd, Pid, SockType, Uid};
 use std::io;
@@ -48,7 +48,7 @@ fn print(rt: &HostRuntime, engine: &Engine) -> io::Result<()> {
 }
 
 /// Prints these places.
-fn print_places(rt: &HostRuntime, places: &[Place]) -> io::Result<()> {
+fn print_places(rt: &HostRuntime, places: &[Reference]) -> io::Result<()> {
     for place in places {
         println!(rt; "{place}")?;
     }

@@ -17,7 +17,7 @@ pub use Rattle.af_base.specs.Whole
 pub use Rattle.af_base.specs.Listing
 pub use Rattle.af_base.specs.Ready
 pub use Rattle.af_base.specs.Told
-pub use Rattle.af_steps.specs.Shown
+pub use Rattle.af_steps.specs.FileInfo
 pub use Rattle.af_steps.specs.Outcome
 pub use Rattle.af_layer.specs.Audit
 pub use Rattle.af_layer.specs.Calls
@@ -27,7 +27,7 @@ pub use Rattle.af_layer.specs.Seats
 pub use Rattle.af_layer.specs.Shared
 pub use Rattle.af_layer.specs.Taken
 pub use Rattle.af_owned.specs.Lending
-pub use Rattle.af_owned.specs.Owning
+pub use Rattle.af_owned.specs.OwnedView
 pub use Rattle.af_report.specs.Check
 pub use Rattle.af_report.specs.Totals
 pub use Rattle.af_graph.specs.Graph

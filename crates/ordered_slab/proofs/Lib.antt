@@ -1,4 +1,4 @@
-pub mod Standing
+pub mod SlabValues
 pub mod Rows
 pub mod Searches
 pub mod Moves

@@ -1,7 +1,7 @@
 -- Numbers in order, with their values.
-pub mod Ordered
+pub mod OrderView
 pub mod Rows
-pub mod Standing
-pub mod Numbers
+pub mod SlabValues
+pub mod OrderedSlabView
 pub mod Lending
 pub mod Parts

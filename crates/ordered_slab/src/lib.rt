@@ -1,8 +1,8 @@
 //! A table of values under numbers that only rise.
 #![tactic(auto)]
 
-mod entry;
 mod numbered;
+mod numbered_value;
 mod order;
 
 pub use numbered::OrderedSlab;

@@ -5,9 +5,9 @@ ghost use Rattle.std.specs.FinMap as map;
 ghost use Rattle.std.specs.Option.{option_copied_mut};
 ghost use Rattle.std.specs.Borrow.{sem};
 
-use crate::entry::{Entry, put, reserve, stands_at, take};
+use crate::numbered_value::{NumberedValue, put, reserve, stands_at, take};
 use crate::order::Order;
-use af_base::names::{FileRef, Ino};
+use af_base::ids::{FileRef, Ino};
 use slab::Slab;
 use std::alloc::{AllocError, Global};
 use std::marker::Model;
@@ -17,16 +17,16 @@ use std::marker::Model;
 #[derive(Drop)]
 pub struct OrderedSlab<T> {
     order: Order,
-    slab: Slab<Entry<T>>,
+    slab: Slab<NumberedValue<T>>,
 }
 
 impl<T> Model for OrderedSlab<T> {
     ghost use Rattle.std.specs.Prelude.{◌-◌, ◌≤◌, min};
     ghost use Rattle.slab.specs.Slab.{slab_len};
-    ghost use Rattle.ordered_slab.specs.Standing.{AreInPlace, values_of};
-    ghost use Rattle.ordered_slab.specs.Numbers.{Numbered, numbered_code};
+    ghost use Rattle.ordered_slab.specs.SlabValues.{AreInPlace, values_of};
+    ghost use Rattle.ordered_slab.specs.OrderedSlabView.{OrderedSlabView, numbered_code};
 
-    ghost Value = { Numbered T };
+    ghost Value = { OrderedSlabView T };
 
     ghost coded = { numbered_code T.code };
 
@@ -43,7 +43,7 @@ impl<T> OrderedSlab<T> {
     ghost use Rattle.ordered_slab.specs.Lending.{lends_at};
 
     /// Makes an empty table. Takes no memory.
-    #[tactic(auto, using(crate::proofs::Standing::comes_and_goes))]
+    #[tactic(auto, using(crate::proofs::SlabValues::comes_and_goes))]
     pub fn new(alloc: Global) -> Self
         ensures values { result.values ≡ map.empty }
         ensures last { result.last ≡ 0 }
@@ -74,7 +74,7 @@ impl<T> OrderedSlab<T> {
     /// Reserves room for this many values more: then `push` needs no memory for them, and no other
     /// call ever does. Nothing else changes, also on an error.
     #[inline(always)]
-    #[tactic(auto, using(crate::proofs::Standing::comes_and_goes))]
+    #[tactic(auto, using(crate::proofs::SlabValues::comes_and_goes))]
     pub fn reserve(&mut self, values: usize) -> Result<(), AllocError>
         ensures same { self.new ≡ record self.old { room = self.new.room } }
         ensures ok { OnOk result (values ≤ self.new.room) }
@@ -86,7 +86,7 @@ impl<T> OrderedSlab<T> {
 
     /// Adds a value, under a number above all earlier ones. There is room for it.
     #[inline(always)]
-    #[tactic(auto, using(crate::proofs::Standing::comes_and_goes))]
+    #[tactic(auto, using(crate::proofs::SlabValues::comes_and_goes))]
     pub fn push(&mut self, ino: Ino, value: T) -> FileRef
         requires room { 0 < self.old.room }
         requires above { self.old.last < ino }
@@ -104,7 +104,7 @@ impl<T> OrderedSlab<T> {
 
     /// Removes the value of a file, and returns it, if there is one. Takes no memory.
     #[inline(always)]
-    #[tactic(auto, using(crate::proofs::Standing::comes_and_goes))]
+    #[tactic(auto, using(crate::proofs::SlabValues::comes_and_goes))]
     pub fn remove(&mut self, file: &FileRef) -> Option<T>
         ensures value { result ≡ map.get self.old.values file.now }
         ensures removed { self.new ≡ record self.old {
@@ -118,7 +118,7 @@ impl<T> OrderedSlab<T> {
 
     /// Returns the value of a file, if there is one.
     #[inline(always)]
-    #[tactic(auto, using(crate::proofs::Standing::finds))]
+    #[tactic(auto, using(crate::proofs::SlabValues::finds))]
     pub fn get(&self, file: &FileRef) -> Option<&T>
         ensures { option_copied result ≡ map.get self.now.values file.now }
     {
@@ -134,7 +134,7 @@ impl<T> OrderedSlab<T> {
 
     /// Lends the value of a file to write to, if there is one.
     #[inline(always)]
-    #[tactic(auto, using(crate::proofs::Standing::finds))]
+    #[tactic(auto, using(crate::proofs::SlabValues::finds))]
     pub fn get_mut(&mut self, file: &FileRef) -> Option<&mut T>
         ensures* writes_back { sem 𝓛 (lends_at T.row self.entry file.now result) }
         ensures value { option_copied_mut result ≡ map.get self.old.values file.now }
@@ -150,7 +150,7 @@ impl<T> OrderedSlab<T> {
 
     /// Returns the key of the value of a number, if there is one, by a search. A `FileRef` needs
     /// none.
-    #[tactic(auto, using(crate::proofs::Standing::finds))]
+    #[tactic(auto, using(crate::proofs::SlabValues::finds))]
     pub fn find(&self, ino: Ino) -> Option<FileRef>
         ensures there { IfSome result (λ f.
             (f ≡ ino) × IsTrue (map.contains_key self.now.values ino)) }
@@ -164,7 +164,7 @@ impl<T> OrderedSlab<T> {
     /// in the order. This number need not have a value. A walk passes the last answer, and needs no
     /// search; the position is a hint.
     #[inline(always)]
-    #[tactic(auto, using(crate::proofs::Standing::finds))]
+    #[tactic(auto, using(crate::proofs::SlabValues::finds))]
     pub fn next_after(&self, ino: Ino, at: usize) -> Option<(FileRef, usize)>
         ensures above { IfSome result (λ n. ino < n.0) }
         ensures there { IfSome result (λ n. IsTrue (map.contains_key self.now.values n.0)) }

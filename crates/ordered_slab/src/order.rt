@@ -6,10 +6,10 @@
 ghost use Rattle.std.specs.Prelude.{◌≡◌, ℕ, ◌+◌, ◌≤◌, ◌<◌, length, false, None, IsTrue, IsOk};
 ghost use Rattle.std.specs.Prelude.{IfSome, IfNone, OnOk, OnErr, ◌++◌, ◌≢◌};
 ghost use Rattle.std.specs.FinMap as map;
-ghost use Rattle.ordered_slab.specs.Ordered.{Ordered};
-ghost use Rattle.ordered_slab.specs.Rows.{live_of, row_at, Rise, IsLiveAt, IsPlace};
+ghost use Rattle.ordered_slab.specs.OrderView.{OrderView};
+ghost use Rattle.ordered_slab.specs.Rows.{live_of, row_at, Rise, IsLiveAt, IsPosition};
 
-use af_base::names::{FileRef, Ino};
+use af_base::ids::{FileRef, Ino};
 use std::alloc::{AllocError, Global};
 use std::marker::Model;
 use std::mem;
@@ -23,17 +23,17 @@ const PASSED_AT_ONCE: usize = 16;
 /// A number and the key under which it is to be found. A row with no key is dead: its number is
 /// gone, or was moved.
 #[derive(Clone, Copy, Drop)]
-struct Row {
+struct OrderRow {
     ino: Ino,
     key: Option<usize>,
 }
 
 /// The position of a row.
-enum Place {
+enum Position {
     /// Among those that were packed.
     Packed(usize),
-    /// Among those that wait for it.
-    Waiting(usize),
+    /// Among those that are not packed yet.
+    Unpacked(usize),
 }
 
 /// Numbers in order, each with its key. A removed number leaves a dead row; the live ones are
@@ -42,9 +42,9 @@ enum Place {
 pub struct Order {
     /// The rows that were moved here, rising. All are below the live ones of `rows`. There is
     /// always room here for as many as there are `rows`, so that packing needs no memory.
-    packed: Vec<Row>,
+    packed: Vec<OrderRow>,
     /// The other rows, rising.
-    rows: Vec<Row>,
+    rows: Vec<OrderRow>,
     /// How many of `rows` a packing has read: they are dead.
     read: usize,
     /// How many rows are dead in all. It only says when to pack.
@@ -57,10 +57,10 @@ impl Model for Order {
     ghost use Rattle.std.specs.Prelude.{◌-◌, ◌≤◌, ◌++◌, min, vec_capacity, length};
     ghost use Rattle.std.specs.FinMap as map;
     ghost use Rattle.std.specs.Coded.{codes};
-    ghost use Rattle.ordered_slab.specs.Ordered.{Ordered};
+    ghost use Rattle.ordered_slab.specs.OrderView.{OrderView};
     ghost use Rattle.ordered_slab.specs.Rows.{live_of, AreRows};
 
-    ghost Value = { Ordered };
+    ghost Value = { OrderView };
 
     ghost coded = { Prim.hlevel (codes, map.code) };
 
@@ -124,7 +124,7 @@ impl Order {
         ensures room { self.old.room ≤ self.new.room + 1 }
     {
         let at = self.rows.len();
-        self.rows.push_reserved(Row {
+        self.rows.push_reserved(OrderRow {
             ino,
             key: Some(key),
         });
@@ -141,14 +141,14 @@ impl Order {
         ensures room { self.old.room ≤ self.new.room }
     {
         match place_of(&self.packed, &self.rows, ino, at) {
-            Some(Place::Waiting(at)) => {
+            Some(Position::Unpacked(at)) => {
                 if at + 1 == self.rows.len() {
                     return self.rows.take_last().key;
                 }
                 self.dead = self.dead.saturating_add(1);
                 self.rows[at].key.take()
             }
-            Some(Place::Packed(at)) => {
+            Some(Position::Packed(at)) => {
                 self.dead = self.dead.saturating_add(1);
                 self.packed[at].key.take()
             }
@@ -262,30 +262,30 @@ impl Order {
 
 /// Returns the position of the number. Tries this position in both lists first, before a search.
 #[inline(always)]
-fn place_of(packed: &[Row], rows: &[Row], ino: Ino, at: usize) -> Option<Place>
+fn place_of(packed: &[OrderRow], rows: &[OrderRow], ino: Ino, at: usize) -> Option<Position>
     requires packed { Rise packed.now }
     requires rows { Rise rows.now }
-    ensures place { IfSome result (IsPlace packed.now rows.now ino) }
+    ensures place { IfSome result (IsPosition packed.now rows.now ino) }
     ensures none { IfNone result (map.get (live_of (packed.now ++ rows.now)) ino ≡ None) }
 {
     if is_live_at(rows, ino, at) {
-        return Some(Place::Waiting(at));
+        return Some(Position::Unpacked(at));
     }
     if is_live_at(packed, ino, at) {
-        return Some(Place::Packed(at));
+        return Some(Position::Packed(at));
     }
     if let Some(at) = find(rows, ino) {
-        return Some(Place::Waiting(at));
+        return Some(Position::Unpacked(at));
     }
     match find(packed, ino) {
-        Some(at) => Some(Place::Packed(at)),
+        Some(at) => Some(Position::Packed(at)),
         None => None,
     }
 }
 
 /// Returns whether this very number is live at this place.
 #[inline(always)]
-fn is_live_at(rows: &[Row], ino: Ino, at: usize) -> bool
+fn is_live_at(rows: &[OrderRow], ino: Ino, at: usize) -> bool
     ensures { IsTrue result → IsLiveAt rows.now ino at }
 {
     match rows.get(at) {
@@ -296,7 +296,7 @@ fn is_live_at(rows: &[Row], ino: Ino, at: usize) -> bool
 
 /// Returns the position of the live number.
 #[inline(never)]
-fn find(rows: &[Row], ino: Ino) -> Option<usize>
+fn find(rows: &[OrderRow], ino: Ino) -> Option<usize>
     requires { Rise rows.now }
     ensures place { IfSome result (IsLiveAt rows.now ino) }
     ensures none { IfNone result (map.get (live_of rows.now) ino ≡ None) }
@@ -314,7 +314,7 @@ fn find(rows: &[Row], ino: Ino) -> Option<usize>
 }
 
 /// Returns the key of the number among these rows.
-fn key_in(rows: &[Row], ino: Ino) -> Option<usize>
+fn key_in(rows: &[OrderRow], ino: Ino) -> Option<usize>
     requires { Rise rows.now }
     ensures { result ≡ map.get (live_of rows.now) ino }
 {
@@ -326,7 +326,7 @@ fn key_in(rows: &[Row], ino: Ino) -> Option<usize>
 
 /// Returns the first live row from this position to that end, or the end.
 #[inline(always)]
-fn first_live(rows: &[Row], from: usize, end: usize) -> usize
+fn first_live(rows: &[OrderRow], from: usize, end: usize) -> usize
     requires from { from ≤ end }
     requires end { end ≤ length rows.now }
     ensures from { from ≤ result }
@@ -345,7 +345,7 @@ fn first_live(rows: &[Row], from: usize, end: usize) -> usize
 /// Returns the least live number above this one among these rows, and its position. This one's
 /// position is a hint.
 #[inline(always)]
-fn next_in(rows: &[Row], ino: Ino, at: usize) -> Option<(FileRef, usize)>
+fn next_in(rows: &[OrderRow], ino: Ino, at: usize) -> Option<(FileRef, usize)>
     requires { Rise rows.now }
     ensures above { IfSome result (λ n. ino < n.0) }
     ensures there { IfSome result (λ n. IsTrue (map.contains_key (live_of rows.now) n.0)) }
@@ -372,7 +372,7 @@ fn next_in(rows: &[Row], ino: Ino, at: usize) -> Option<(FileRef, usize)>
 
 /// Returns how many rows have a number up to this one. Tries this position first, before a search.
 #[inline(always)]
-fn rows_up_to(rows: &[Row], ino: Ino, at: usize) -> usize
+fn rows_up_to(rows: &[OrderRow], ino: Ino, at: usize) -> usize
     requires { Rise rows.now }
     ensures bound { result ≤ length rows.now }
     ensures up_to { (i : ℕ) → i < result → (row_at rows.now i).ino ≤ ino }
@@ -383,12 +383,12 @@ fn rows_up_to(rows: &[Row], ino: Ino, at: usize) -> usize
     {
         return at + 1;
     }
-    searched_up_to(rows, ino)
+    search_up_to(rows, ino)
 }
 
-/// Finds the same by a search. Most numbers are consecutive, so it first computes the position from
-/// the number of the last row.
-fn searched_up_to(rows: &[Row], ino: Ino) -> usize
+/// Returns the same by a search. Most numbers are consecutive, so it first computes the position
+/// from the number of the last row.
+fn search_up_to(rows: &[OrderRow], ino: Ino) -> usize
     requires { Rise rows.now }
     ensures bound { result ≤ length rows.now }
     ensures up_to { (i : ℕ) → i < result → (row_at rows.now i).ino ≤ ino }

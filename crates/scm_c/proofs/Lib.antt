@@ -1,3 +1,3 @@
 pub mod Values
-pub mod Crowded
+pub mod LargeSends
 pub mod Outcomes

@@ -9,7 +9,7 @@ use Rattle.af_base.specs.declared.events.Reply.{Reply}
 use Rattle.af_base.specs.declared.events.Reply.TheVariants as reply
 use Rattle.af_base.specs.declared.events.Step.{Step}
 use Rattle.af_steps.specs.Outcome.{Does, Refuses}
-use Rattle.af_steps.proofs.Folded.{does-step, refuses-step}
+use Rattle.af_steps.proofs.FoldedReplies.{does-step, refuses-step}
 use Rattle.scm_c.specs.Codes.{code_of, outcome_code}
 
 -- A step that is done or refused has a reply with the outcome's number.

@@ -8,7 +8,7 @@ use Rattle.af_base.specs.Places.{table_at}
 use Rattle.af_base.specs.Ready.{ready}
 use Rattle.af_base.specs.Refusals.{first_fit, ino_on, on_number, on_process}
 use Rattle.scm_c.specs.Codes.{error_code}
-use Rattle.scm_c.specs.declared.tables.Ready.{Ready}
+use Rattle.scm_c.specs.declared.tables.CReady.{CReady}
 
 -- The answer r is the lowest open descriptor of process p from this one on, and its file is
 -- written; or none is open there, the answer says so, and nothing is written.
@@ -20,7 +20,7 @@ IsNextOpen w p from old r new =
 
 -- The readiness of descriptor n of process p is written, with the answer 0; or the answer is the
 -- error, and nothing is written (poll(2)).
-abbrev pub IsPolled : World → ℕ → ℕ → Ready → ℤ → Ready → Type 0
+abbrev pub IsPolled : World → ℕ → ℕ → CReady → ℤ → CReady → Type 0
 IsPolled w p n old r new =
     ((r ≡ pos 0)
     × (ready w (ino_on w p n)

@@ -11,13 +11,13 @@ use Rattle.af_base.specs.declared.events.State.{State}
 use Rattle.af_base.specs.declared.events.State.TheVariants as state
 use Rattle.af_steps.specs.declared.views.FileInfo.{FileInfo}
 use Rattle.af_steps.specs.declared.views.FileInfo.TheVariants as shown
-use Rattle.scm_c.specs.declared.messages.Received.{Received}
-use Rattle.scm_c.specs.declared.passes.Finished.{Finished}
-use Rattle.scm_c.specs.declared.sockets.Pair.{Pair}
-use Rattle.scm_c.specs.declared.views.File.{File}
+use Rattle.scm_c.specs.declared.messages.CReceived.{CReceived}
+use Rattle.scm_c.specs.declared.passes.CFinished.{CFinished}
+use Rattle.scm_c.specs.declared.sockets.CPair.{CPair}
+use Rattle.scm_c.specs.declared.views.CFile.{CFile}
 
 -- The two numbers of a pair (socketpair(2)).
-abbrev pub pair_written : Reply → Pair → Pair
+abbrev pub pair_written : Reply → CPair → CPair
 pair_written (reply.Fds n m) old = record { first = n; second = m }
 pair_written r old = old
 
@@ -27,7 +27,7 @@ begun_written (reply.Started n) old = n
 begun_written r old = old
 
 -- The number of a pass that is over, and how many sockets it reclaimed.
-abbrev pub finished_written : Reply → Finished → Finished
+abbrev pub finished_written : Reply → CFinished → CFinished
 finished_written (reply.Done n k) old = record { pass = n; reclaimed = k }
 finished_written r old = old
 
@@ -46,7 +46,7 @@ as_u32 n = min n 4294967295
 
 -- Where a receive writes: the bytes, the numbers, and what it tells beside them.
 abbrev pub Places : Type 0
-Places = List ℕ × List ℕ × Received
+Places = List ℕ × List ℕ × CReceived
 
 -- The values that a receive writes: the bytes and numbers that it got, how many numbers, and
 -- whether some bytes or descriptors were dropped; at the end of a connection, that there are no
@@ -86,7 +86,7 @@ peer_number (state.Connected q) = q
 peer_number state.HungUp = 0
 
 -- A file as C sees it: nothing live has kind 0, a plain file kind 3 (JW_NO_FILE, JW_PLAIN).
-abbrev pub file_of : Option FileInfo → File
+abbrev pub file_of : Option FileInfo → CFile
 file_of None = record { kind = 0; state = 0; peer = 0; messages = 0; embryos = 0 }
 file_of (Some shown.Plain) = record { kind = 3; state = 0; peer = 0; messages = 0; embryos = 0 }
 file_of (Some (shown.Socket kind s messages embryos)) = record {

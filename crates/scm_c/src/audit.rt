@@ -16,7 +16,7 @@ const DIFFERS: i64 = -101;
 /// The counts of a check.
 #[repr(C)]
 #[derive(Clone, Copy)]
-pub struct Counted {
+pub struct CChecked {
     /// How many files are live.
     pub live: u64,
     /// How many of them no chain of queues and backlogs reaches from any table.
@@ -29,7 +29,7 @@ pub struct Counted {
 /// Errors: JW_ENOMEM.
 #[must_use]
 #[unsafe(no_mangle)]
-pub extern "C" fn jw_check(alloc: Global, engine: &mut Handle, out: &mut Counted) -> i64
+pub extern "C" fn jw_check(alloc: Global, engine: &mut Handle, out: &mut CChecked) -> i64
     ensures same { engine.new.shown ≡ engine.old.shown }
     ensures value { Tells engine.old.shown (λ m c. IsChecked m.world c.live c.garbage) out.old
         result out.new ⊎ ((result ≡ error_code Errno.ENOMEM) × (out.new ≡ out.old)) }
@@ -45,7 +45,7 @@ pub extern "C" fn jw_check(alloc: Global, engine: &mut Handle, out: &mut Counted
     let Some(checked) = found else {
         return DIFFERS;
     };
-    *out = Counted {
+    *out = CChecked {
         live: checked.live() as u64,
         garbage: checked.garbage() as u64,
     };

@@ -6,7 +6,7 @@ use crate::answers::{NO_ENGINE, code, refusal};
 use crate::handle::Handle;
 use af_base::errno::Errno;
 use af_base::events::{Event, Reply, Step};
-use af_base::names::Pid;
+use af_base::ids::Pid;
 use af_steps::Engine;
 use std::alloc::Global;
 

@@ -7,8 +7,8 @@ use crate::answers::{NO_ENGINE, code, refusal};
 use crate::engine::reply_to;
 use crate::handle::Handle;
 use af_base::events::{Event, Reply, Step};
+use af_base::ids::{Fd, Pid};
 use af_base::limits::{MAX_BYTES, SCM_MAX_FD};
-use af_base::names::{Fd, Pid};
 use arrayvec::ArrayVec;
 use std::alloc::Global;
 
@@ -18,7 +18,7 @@ const MOST: usize = SCM_MAX_FD + 1;
 /// The outcome of a receive or a peek, beside its bytes and descriptors.
 #[repr(C)]
 #[derive(Clone, Copy)]
-pub struct Received {
+pub struct CReceived {
     /// How many descriptors were installed.
     pub fds: usize,
     /// Whether bytes of the packet did not fit (recvmsg(2), MSG_TRUNC).
@@ -87,7 +87,7 @@ pub extern "C" fn jw_recv(
     fd: u32,
     bytes: &mut [u8],
     fds: &mut [u32],
-    out: &mut Received,
+    out: &mut CReceived,
 ) -> i64
     ensures { CallsInto engine.old.shown (Event.Proc pid
         (Step.Recv fd (room (length bytes.old)) (as_u32 (length fds.old)))) received_written
@@ -116,7 +116,7 @@ pub extern "C" fn jw_peek(
     fd: u32,
     bytes: &mut [u8],
     fds: &mut [u32],
-    out: &mut Received,
+    out: &mut CReceived,
 ) -> i64
     ensures { CallsInto engine.old.shown (Event.Proc pid
         (Step.Peek fd (room (length bytes.old)) (as_u32 (length fds.old)))) received_written
@@ -137,7 +137,7 @@ fn receive(
     event: &Event,
     bytes: &mut [u8],
     fds: &mut [u32],
-    out: &mut Received,
+    out: &mut CReceived,
 ) -> i64
     ensures { CallsInto engine.old.shown event.now received_written
         (bytes.old, fds.old, out.old) result (bytes.new, fds.new, out.new) engine.new.shown }
@@ -164,7 +164,7 @@ fn as_u32(length: usize) -> u32
 }
 
 /// Writes what a receive or a peek got.
-fn write_received(reply: &Reply, bytes: &mut [u8], fds: &mut [u32], out: &mut Received)
+fn write_received(reply: &Reply, bytes: &mut [u8], fds: &mut [u32], out: &mut CReceived)
     ensures { (bytes.new, fds.new, out.new)
         ≡ received_written reply.now (bytes.old, fds.old, out.old) }
 {
@@ -177,14 +177,14 @@ fn write_received(reply: &Reply, bytes: &mut [u8], fds: &mut [u32], out: &mut Re
         } => {
             write_bytes(got.as_slice(), bytes);
             write_numbers(installed.as_slice(), fds);
-            *out = Received {
+            *out = CReceived {
                 fds: installed.len(),
                 trunc: *trunc,
                 ctrunc: *ctrunc,
             };
         }
         Reply::End => {
-            *out = Received {
+            *out = CReceived {
                 fds: 0,
                 trunc: false,
                 ctrunc: false,

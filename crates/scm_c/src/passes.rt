@@ -12,7 +12,7 @@ use std::alloc::Global;
 /// A pass of the collector that is over.
 #[repr(C)]
 #[derive(Clone, Copy)]
-pub struct Finished {
+pub struct CFinished {
     /// The number of the pass, from 1 on.
     pub pass: u64,
     /// How many sockets were garbage when it began.
@@ -48,7 +48,7 @@ pub extern "C" fn jw_slice(
     alloc: Global,
     engine: &mut Handle,
     budget: u32,
-    out: &mut Finished,
+    out: &mut CFinished,
 ) -> i64
     ensures { CallsInto engine.old.shown
         (Event.Slice budget) finished_written out.old result out.new engine.new.shown }
@@ -62,7 +62,7 @@ pub extern "C" fn jw_slice(
 /// Errors: JW_EBUSY.
 #[must_use]
 #[unsafe(no_mangle)]
-pub extern "C" fn jw_pass(alloc: Global, engine: &mut Handle, out: &mut Finished) -> i64
+pub extern "C" fn jw_pass(alloc: Global, engine: &mut Handle, out: &mut CFinished) -> i64
     ensures { CallsInto engine.old.shown Event.Pass finished_written out.old result out.new
         engine.new.shown }
 {
@@ -70,7 +70,7 @@ pub extern "C" fn jw_pass(alloc: Global, engine: &mut Handle, out: &mut Finished
 }
 
 /// Does this event of the collector, and writes what it says of a pass that is over.
-fn collect(alloc: Global, engine: &mut Handle, event: &Event, out: &mut Finished) -> i64
+fn collect(alloc: Global, engine: &mut Handle, event: &Event, out: &mut CFinished) -> i64
     ensures { CallsInto engine.old.shown event.now finished_written out.old result out.new
         engine.new.shown }
 {
@@ -78,7 +78,7 @@ fn collect(alloc: Global, engine: &mut Handle, event: &Event, out: &mut Finished
         return NO_ENGINE;
     };
     if let Reply::Done { pass, reclaimed } = &reply {
-        *out = Finished {
+        *out = CFinished {
             pass: *pass,
             reclaimed: *reclaimed,
         };

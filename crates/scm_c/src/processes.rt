@@ -5,7 +5,7 @@ use crate::answers::{NO_ENGINE, answer, refusal};
 use crate::engine::{call, call_of};
 use crate::handle::Handle;
 use af_base::events::{Event, Step};
-use af_base::names::{Fd, Pid, Uid};
+use af_base::ids::{Fd, Pid, Uid};
 use std::alloc::Global;
 
 /// Starts a process of this user, as after fork(2) and setuid(2), with an empty table and a limit

@@ -9,13 +9,13 @@ use crate::engine::{call_of, reply_to};
 use crate::handle::Handle;
 use af_base::errno::Errno;
 use af_base::events::{Event, Reply, SockType, Step};
-use af_base::names::{Fd, Pid};
+use af_base::ids::{Fd, Pid};
 use std::alloc::Global;
 
 /// The descriptors of two connected sockets.
 #[repr(C)]
 #[derive(Clone, Copy)]
-pub struct Pair {
+pub struct CPair {
     /// The lower descriptor.
     pub first: u32,
     /// The higher descriptor.
@@ -34,7 +34,7 @@ pub extern "C" fn jw_pair(
     engine: &mut Handle,
     pid: u32,
     kind: u32,
-    out: &mut Pair,
+    out: &mut CPair,
 ) -> i64
     ensures made { IfSome (type_named kind) (λ k. CallsInto engine.old.shown
         (Event.Proc pid (Step.Pair k)) pair_written out.old result out.new engine.new.shown) }
@@ -54,11 +54,11 @@ pub extern "C" fn jw_pair(
 }
 
 /// Writes the numbers of a pair.
-fn write_pair(reply: &Reply, out: &mut Pair)
+fn write_pair(reply: &Reply, out: &mut CPair)
     ensures { out.new ≡ pair_written reply.now out.old }
 {
     if let Reply::Fds(first, second) = reply {
-        *out = Pair {
+        *out = CPair {
             first: first.0,
             second: second.0,
         };

@@ -8,7 +8,7 @@ ghost use Rattle.scm_c.specs.Tables.{IsNextOpen, IsPolled};
 use crate::answers::{NO_ENGINE, refusal};
 use crate::handle::Handle;
 use af_base::errno::Errno;
-use af_base::names::{Fd, Pid};
+use af_base::ids::{Fd, Pid};
 use std::alloc::Global;
 
 /// Writes the inode number of the file that a descriptor refers to, or 0 where the descriptor is
@@ -70,7 +70,7 @@ pub extern "C" fn jw_next_fd(
 /// The readiness of a descriptor.
 #[repr(C)]
 #[derive(Clone, Copy)]
-pub struct Ready {
+pub struct CReady {
     /// Whether a receive of a byte, or an accept, has something to give, or the end to tell
     /// (POLLIN).
     pub readable: bool,
@@ -91,7 +91,7 @@ pub extern "C" fn jw_poll(
     engine: &mut Handle,
     pid: u32,
     fd: u32,
-    out: &mut Ready,
+    out: &mut CReady,
 ) -> i64
     ensures same { engine.new.shown ≡ engine.old.shown }
     ensures value { Asks engine.old.shown
@@ -104,7 +104,7 @@ pub extern "C" fn jw_poll(
     *engine = Handle::of(inside);
     match polled {
         Ok(ready) => {
-            *out = Ready {
+            *out = CReady {
                 readable: ready.readable,
                 writable: ready.writable,
                 hung_up: ready.hung_up,

@@ -7,7 +7,7 @@ use crate::answers::{NO_ENGINE, refusal};
 use crate::handle::Handle;
 use crate::messages::write_bytes;
 use af_base::errno::Errno;
-use af_base::names::Ino;
+use af_base::ids::Ino;
 use af_graph::graph;
 use std::alloc::Global;
 

@@ -8,7 +8,7 @@ ghost use Rattle.scm_c.specs.Written.{over};
 use crate::answers::{NO_ENGINE, refusal};
 use crate::handle::Handle;
 use af_base::errno::Errno;
-use af_base::names::{FileRef, Ino};
+use af_base::ids::{FileRef, Ino};
 use std::alloc::Global;
 
 /// Asks for the list of freed files, which jw_released writes, and empties both lists. A call that
@@ -66,7 +66,7 @@ pub extern "C" fn jw_released(alloc: Global, engine: &mut Handle, inos: &mut [u6
     let Some(inside) = engine.take(alloc) else {
         return NO_ENGINE;
     };
-    let told = inside.released();
+    let told = inside.released_files();
     write_inos(told, inos);
     let count = told.len() as i64;
     *engine = Handle::of(inside);
@@ -88,7 +88,7 @@ pub extern "C" fn jw_changed(alloc: Global, engine: &mut Handle, inos: &mut [u64
     let Some(inside) = engine.take(alloc) else {
         return NO_ENGINE;
     };
-    let told = inside.changed();
+    let told = inside.changed_sockets();
     write_files(told, inos);
     let count = told.len() as i64;
     *engine = Handle::of(inside);

@@ -2,14 +2,14 @@
 ghost use Rattle.std.specs.Prelude.{◌≡◌, Some, pos};
 ghost use Rattle.std.specs.FinMap as map;
 ghost use Rattle.af_base.specs.Counts.{charged, inflight, refs, total};
-ghost use Rattle.af_steps.specs.Shown.{shown_of};
+ghost use Rattle.af_steps.specs.FileInfo.{shown_of};
 ghost use Rattle.scm_c.specs.Calls.{Tells, TellsNumber};
 ghost use Rattle.scm_c.specs.Written.{IsNextLive, file_of, peer_number, state_number, type_number};
 
 use crate::answers::NO_ENGINE;
 use crate::handle::Handle;
 use af_base::events::{SockType, State};
-use af_base::names::{Ino, Uid};
+use af_base::ids::{Ino, Uid};
 use af_steps::FileInfo;
 use std::alloc::Global;
 
@@ -127,7 +127,7 @@ pub extern "C" fn jw_next_pid(alloc: Global, engine: &mut Handle) -> i64
 /// A file. All fields but the kind are 0 where it is no socket.
 #[repr(C)]
 #[derive(Clone, Copy)]
-pub struct File {
+pub struct CFile {
     /// The kind of the file (enum jw_kind).
     pub kind: u32,
     /// The state of the socket (enum jw_state).
@@ -142,7 +142,7 @@ pub struct File {
 
 /// Writes what the file is. Writes JW_NO_FILE as the kind of an unknown file. Answers 0.
 #[unsafe(no_mangle)]
-pub extern "C" fn jw_file(alloc: Global, engine: &mut Handle, ino: u64, out: &mut File) -> i64
+pub extern "C" fn jw_file(alloc: Global, engine: &mut Handle, ino: u64, out: &mut CFile) -> i64
     ensures same { engine.new.shown ≡ engine.old.shown }
     ensures value { Tells engine.old.shown
         (λ m f. f ≡ file_of (shown_of (map.get m.world.files ino))) out.old result out.new }
@@ -152,24 +152,24 @@ pub extern "C" fn jw_file(alloc: Global, engine: &mut Handle, ino: u64, out: &mu
     };
     *out = match inside.file(Ino(ino)) {
         Some(info) => file_of(&info),
-        None => bare(0),
+        None => file_of_kind(0),
     };
     *engine = Handle::of(inside);
     0
 }
 
 /// Returns a live file as C sees it.
-fn file_of(info: &FileInfo) -> File
+fn file_of(info: &FileInfo) -> CFile
     ensures { result ≡ file_of (Some info.now) }
 {
     match info {
-        FileInfo::Plain => bare(3),
+        FileInfo::Plain => file_of_kind(3),
         FileInfo::Socket {
             kind,
             state,
             messages,
             embryos,
-        } => File {
+        } => CFile {
             kind: type_number(*kind),
             state: state_number(*state),
             peer: peer_number(*state),
@@ -180,10 +180,10 @@ fn file_of(info: &FileInfo) -> File
 }
 
 /// Makes a file of this kind, without other parts.
-fn bare(kind: u32) -> File
+fn file_of_kind(kind: u32) -> CFile
     ensures { result ≡ record { kind = kind; state = 0; peer = 0; messages = 0; embryos = 0 } }
 {
-    File {
+    CFile {
         kind,
         state: 0,
         peer: 0,

@@ -1,4 +1,4 @@
 -- Lemmas.
-pub mod Asked
-pub mod Fitting
+pub mod TaskWords
+pub mod CommandWords
 pub mod Numbers

@@ -11,7 +11,7 @@ use Rattle.scm_lines.specs.Words.{all_printable, at_end}
 use Rattle.scm_lines.specs.Attached.{attached_of}
 use Rattle.scm_lines.specs.Keywords.{meaning, privilege_of, type_of, types}
 use Rattle.scm_lines.specs.Spelling.{IsPrivilege, type_name}
-use Rattle.scm_lines.specs.Forms.{Form, Kind, Row, SaysForm, SaysRow, SaysWord, Value, end, items, name, named, number, payload, privilege, read_by, read_form, sockets, two, value_in, value_of, ◌◂◌}
+use Rattle.scm_lines.specs.Forms.{Form, FormRow, Kind, SaysForm, SaysRow, SaysWord, Value, end, items, name, named, number, payload, privilege, read_by, read_form, sockets, two, value_in, value_of, ◌◂◌}
 use Rattle.scm_lines.proofs.Choices.{allowed, bound, chosen, ended, guarded, mapped, same_word, split_and}
 use Rattle.scm_lines.proofs.NumberLemmas.{number_read, number_said}
 use Rattle.scm_lines.proofs.PayloadSays.{payload_read, payload_said}
@@ -110,28 +110,28 @@ form_printable (k ◂ form) (word ∷ words) x (v, (first, others)) = both_true 
 -- ---- tables
 
 -- what is found by a keyword has it
-pub named_said : {K A : Type 0} (row : K → Row A) (keys : List K) (word : List ℕ) (k : K) → named row keys word ≡ Some k → word ≡ (row k).0
+pub named_said : {K A : Type 0} (row : K → FormRow A) (keys : List K) (word : List ℕ) (k : K) → named row keys word ≡ Some k → word ≡ (row k).0
 named_said row [] word k e = cc
 named_said row (key ∷ keys) word k e = elim (chosen (bytes_eq (row key).0 word) (Some key) (named row keys word) (Some k) e) [
   | inl (same, is) ↦ sym (same_word (row key).0 word same) ∙ ap (λ x. (row x).0) (same_Some key k is)
   | inr (other, later) ↦ named_said row keys word k later
 ]
 
-pub row_said : {K A : Type 0} (row : K → Row A) (keys : List K) (word : List ℕ) (words : List (List ℕ)) (x : A) → read_by row keys word words ≡ Some x → SaysRow row word words x
+pub row_said : {K A : Type 0} (row : K → FormRow A) (keys : List K) (word : List ℕ) (words : List (List ℕ)) (x : A) → read_by row keys word words ≡ Some x → SaysRow row word words x
 row_said row keys word words x e =
     let (k, (e1, e2)) = bound (named row keys word) (λ k. read_form (row k).1 words) x e in
     (k, named_said row keys word k e1, form_said (row k).1 words x e2)
 
-pub row_read : {K A : Type 0} (row : K → Row A) (keys : List K) → ((k : K) → named row keys (row k).0 ≡ Some k) → (word : List ℕ) (words : List (List ℕ)) (x : A)
+pub row_read : {K A : Type 0} (row : K → FormRow A) (keys : List K) → ((k : K) → named row keys (row k).0 ≡ Some k) → (word : List ℕ) (words : List (List ℕ)) (x : A)
     → SaysRow row word words x → read_by row keys word words ≡ Some x
 row_read row keys all word words x (k, is, says) = rw (is, all k) (form_read (row k).1 words x says)
 
-pub row_printable : {K A : Type 0} (row : K → Row A) → ((k : K) → all_printable (row k).0 ≡ true) → (word : List ℕ) (words : List (List ℕ)) (x : A)
+pub row_printable : {K A : Type 0} (row : K → FormRow A) → ((k : K) → all_printable (row k).0 ≡ true) → (word : List ℕ) (words : List (List ℕ)) (x : A)
     → SaysRow row word words x → words_printable (word ∷ words) ≡ true
 row_printable row all word words x (k, is, says) = both_true (ap all_printable is ∙ all k) (form_printable (row k).1 words x says)
 
 -- each keyword of a table passes a test
-abbrev pub keys_pass : {K A : Type 0} → (List ℕ → Bool) → (K → Row A) → List K → Bool
+abbrev pub keys_pass : {K A : Type 0} → (List ℕ → Bool) → (K → FormRow A) → List K → Bool
 keys_pass test row [] = true
 keys_pass test row (key ∷ keys) = test (row key).0 && keys_pass test row keys
 
@@ -143,7 +143,7 @@ other_word test key word passes fails = by (bytes_eq key word) refl
     by false other = refl
 
 -- so a word that fails it is none
-pub no_key : {K A : Type 0} (test : List ℕ → Bool) (row : K → Row A) (keys : List K) (word : List ℕ) → keys_pass test row keys ≡ true → test word ≡ false → named row keys word ≡ None
+pub no_key : {K A : Type 0} (test : List ℕ → Bool) (row : K → FormRow A) (keys : List K) (word : List ℕ) → keys_pass test row keys ≡ true → test word ≡ false → named row keys word ≡ None
 no_key test row [] word pass fails = refl
 no_key test row (key ∷ keys) word pass fails =
     let (first, others) = split_and (test (row key).0) (keys_pass test row keys) pass in

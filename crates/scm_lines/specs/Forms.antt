@@ -84,11 +84,11 @@ read_form (k ◂ form) words = value_in k words >>= λ v. read_form (form v.0) v
 -- ---- tables
 
 -- A row of a table: a keyword, and the form behind it.
-abbrev pub Row : Type 0 → Type 0
-Row A = List ℕ × Form A
+abbrev pub FormRow : Type 0 → Type 0
+FormRow A = List ℕ × Form A
 
 -- The step of a process, by the words after its number.
-abbrev pub step_row : Verb → Row Step
+abbrev pub step_row : Verb → FormRow Step
 step_row verb.Send = (codes "send", number ◂ λ on. payload ◂ λ bytes. items λ fds. step.Send on bytes fds)
 step_row verb.Recv = (codes "recv", number ◂ λ on. number ◂ λ max_bytes. number ◂ λ max_fds. end (step.Recv on max_bytes max_fds))
 step_row verb.Open = (codes "open", end step.Open)
@@ -107,7 +107,7 @@ step_row verb.Peek = (codes "peek", number ◂ λ on. number ◂ λ max_bytes. n
 step_row verb.Limit = (codes "limit", number ◂ λ nofile. end (step.Limit nofile))
 
 -- The meaning of a line without a process's number.
-abbrev pub line_row : Keyword → Row Line
+abbrev pub line_row : Keyword → FormRow Line
 line_row keyword.Spawn = (codes "spawn", number ◂ λ uid. number ◂ λ nofile. privilege λ granted. line.Event (event.Spawn uid nofile granted))
 line_row keyword.Begin = (codes "begin", end (line.Event event.Begin))
 line_row keyword.Slice = (codes "slice", number ◂ λ budget. end (line.Event (event.Slice budget)))
@@ -128,13 +128,13 @@ keywords = keyword.Spawn ∷ keyword.Begin ∷ keyword.Slice ∷ keyword.Pass �
     ∷ keyword.Totals ∷ keyword.Check ∷ keyword.Version ∷ []
 
 -- The row with this keyword.
-abbrev pub named : {K A : Type 0} → (K → Row A) → List K → List ℕ → Option K
+abbrev pub named : {K A : Type 0} → (K → FormRow A) → List K → List ℕ → Option K
 named row keys word = find (λ k. bytes_eq (row k).0 word) keys
 
 -- The word is the keyword of a row, and the words behind it are of its form, and make this.
-abbrev pub SaysRow : {K A : Type 0} → (K → Row A) → List ℕ → List (List ℕ) → A → Type 0
+abbrev pub SaysRow : {K A : Type 0} → (K → FormRow A) → List ℕ → List (List ℕ) → A → Type 0
 SaysRow {K} row word words said = (k : K) × (word ≡ (row k).0) × SaysForm (row k).1 words said
 
 -- The reading of the words after this word.
-abbrev pub read_by : {K A : Type 0} → (K → Row A) → List K → List ℕ → List (List ℕ) → Option A
+abbrev pub read_by : {K A : Type 0} → (K → FormRow A) → List K → List ℕ → List (List ℕ) → Option A
 read_by row keys word words = named row keys word >>= λ k. read_form (row k).1 words

@@ -10,7 +10,7 @@ ghost use Rattle.scm_lines.specs.declared.fault.LineFault.TheVariants as fault;
 use crate::fault::LineFault;
 use crate::numbers::number;
 use crate::words::first_word;
-use af_base::names::Fd;
+use af_base::ids::Fd;
 use smallvec::SmallVec;
 use std::alloc::{AllocError, Global};
 

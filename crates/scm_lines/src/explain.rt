@@ -13,7 +13,7 @@ ghost use Rattle.scm_lines.specs.declared.reason.Reason.TheVariants as reason;
 use crate::keywords::{Keyword, Verb, keyword_named, verb_named};
 use crate::line::{MAX_LINE, begins_comment};
 use crate::misfit::{
-    Misfit, number_misfit, unprintable, why_attached, why_number, why_payload, why_type,
+    Misfit, first_unprintable, number_misfit, why_attached, why_number, why_payload, why_type,
 };
 use crate::numbers::number;
 use crate::reason::{Reason, Unreadable};
@@ -49,7 +49,7 @@ fn why_word(wanted: Wanted, word: &[u8]) -> Option<Misfit>
     match wanted {
         Wanted::Number => why_number(word),
         Wanted::Type => why_type(word),
-        Wanted::Name => unprintable(word),
+        Wanted::Name => first_unprintable(word),
         Wanted::Bytes => why_payload(word),
         Wanted::Two => match word {
             b"2" => None,
@@ -91,7 +91,7 @@ fn why_last(last: Last, bytes: &[u8]) -> Option<Misfit>
 }
 
 /// Makes the reason of a word that is missing at the end of a line.
-fn missing() -> Misfit
+fn missing_word() -> Misfit
     ensures reason { result.reason ≡ reason.WordMissing }
     ensures left { result.left ≡ 0 }
 {
@@ -107,7 +107,7 @@ fn why_words(wanted: &[Wanted], last: Last, bytes: &[u8]) -> Option<Misfit>
     let mut rest = bytes;
     while let [first, others @ ..] = left {
         let Some((word, tail)) = first_word(rest) else {
-            return Some(missing());
+            return Some(missing_word());
         };
         if let Some(misfit) = why_word(*first, word) {
             return Some(misfit.before(tail));
@@ -144,7 +144,7 @@ fn why_process(version: Version, bytes: &[u8]) -> Option<Misfit>
     ensures within { IfSome result (λ m. m.left ≤ length bytes.now) }
 {
     let Some((word, rest)) = first_word(bytes) else {
-        return Some(missing());
+        return Some(missing_word());
     };
     let Some(verb) = verb_named(word) else {
         return Some(Misfit::at(Reason::UnknownVerb, word).before(rest));
@@ -221,7 +221,7 @@ fn why_line(version: Version, bytes: &[u8]) -> Option<Misfit>
     if begins_comment(word) {
         return None;
     }
-    if let Some(misfit) = unprintable(bytes) {
+    if let Some(misfit) = first_unprintable(bytes) {
         return Some(misfit);
     }
     why_form(version, word, rest)

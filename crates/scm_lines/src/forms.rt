@@ -25,8 +25,8 @@ use crate::numbers::{number, number_in};
 use crate::payload::payload;
 use crate::words::{all_printable, first_word, is_end};
 use af_base::events::{Event, SockType, Step};
+use af_base::ids::{Fd, Pid, Uid};
 use af_base::items::Items;
-use af_base::names::{Fd, Pid, Uid};
 use std::alloc::Global;
 
 // ---- words
@@ -51,7 +51,7 @@ fn name_in(bytes: &[u8]) -> Option<(&[u8], &[u8])>
 }
 
 /// Returns `true` if `priv` is the only word left, and `false` if none is.
-fn privileged(bytes: &[u8]) -> Option<bool>
+fn privilege(bytes: &[u8]) -> Option<bool>
     ensures { result ≡ privilege_of (words_of bytes.now) }
 {
     match first_word(bytes) {
@@ -303,7 +303,7 @@ pub fn spawn(rest: &[u8]) -> Option<(Uid, u32, bool)>
 {
     let (uid, rest) = number_in(rest)?;
     let (nofile, rest) = number_in(rest)?;
-    let privileged = privileged(rest)?;
+    let privileged = privilege(rest)?;
     Some((Uid(uid), nofile, privileged))
 }
 

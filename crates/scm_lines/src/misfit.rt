@@ -59,7 +59,7 @@ fn unprintable_at(bytes: &[u8]) -> Option<usize>
 }
 
 /// Returns the first byte that is not printable, if there is one.
-pub fn unprintable(bytes: &[u8]) -> Option<Misfit>
+pub fn first_unprintable(bytes: &[u8]) -> Option<Misfit>
     ensures reason { IfSome result (λ m. m.reason ≡ reason.NotPrintable) }
     ensures exact { is_some result ≡ not (all_printable bytes.now) }
     ensures within { IfSome result (λ m. m.left ≤ length bytes.now) }

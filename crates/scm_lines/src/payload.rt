@@ -54,7 +54,7 @@ pub fn first_byte(word: &[u8]) -> Option<(u8, &[u8])>
 /// has characters.
 #[inline(always)]
 #[tactic(auto, using(crate::proofs::PayloadLemmas::bytes_before_more))]
-fn unescaped(alloc: Global, word: &[u8]) -> Result<Items<u8>, LineFault>
+fn unescape_word(alloc: Global, word: &[u8]) -> Result<Items<u8>, LineFault>
     ensures { Reads (unescape word.now) result }
 {
     let mut bytes = Vec::with_capacity(alloc, word.len())?;
@@ -86,7 +86,7 @@ pub fn payload(alloc: Global, word: &[u8]) -> Result<Items<u8>, LineFault>
     let bytes = match word {
         [] => return Err(LineFault::Unreadable),
         [b'*', digits @ ..] => return letters(alloc, digits),
-        _ => unescaped(alloc, word)?,
+        _ => unescape_word(alloc, word)?,
     };
     if bytes.len() > MAX_PAYLOAD {
         return Err(LineFault::Unreadable);

@@ -20,7 +20,7 @@ use crate::line::{Line, MAX_LINE, line_of};
 use crate::numbers::number_in;
 use crate::words::first_word;
 use af_base::events::{Event, Step};
-use af_base::names::Pid;
+use af_base::ids::Pid;
 use std::alloc::Global;
 
 /// The version of a script, by its lines so far.

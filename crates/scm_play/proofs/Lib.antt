@@ -1,3 +1,3 @@
 -- Lemmas.
-pub mod Cutting
-pub mod Playing
+pub mod FirstLines
+pub mod PlayedLines

@@ -6,7 +6,7 @@ use Rattle.af_base.specs.World.{World}
 use Rattle.scm_lines.specs.Versions.{read_in}
 use Rattle.scm_run.specs.Script.{LineText, Point, first_point}
 use Rattle.scm_play.specs.Questions.{IsAnswerTo, question_of}
-use Rattle.scm_play.specs.Shown.{entry_text, prompt_text}
+use Rattle.scm_play.specs.Display.{entry_text, prompt_text}
 use Rattle.scm_play.specs.declared.own.Question.{Question}
 use Rattle.scm_play.specs.declared.show.Style.{Style}
 

@@ -4,7 +4,7 @@ use Rattle.std.specs.Str.Lines.{lines}
 use Rattle.std.specs.Io.KnownBytes.{Appends}
 use Rattle.scm_run.specs.Script.{Point}
 use Rattle.scm_play.specs.Played.{Answers}
-use Rattle.scm_play.specs.Shown.{entry_text, prompt_text}
+use Rattle.scm_play.specs.Display.{entry_text, prompt_text}
 use Rattle.scm_play.specs.declared.show.Style.{Style}
 
 -- The first line of this input was played, from old to new, and is shown; the reader has the rest

@@ -1,7 +1,7 @@
 //! The places that hold files.
 
+use af_base::ids::{Fd, Ino, Pid};
 use af_base::listing::{ListedFile, ListedTable};
-use af_base::names::{Fd, Ino, Pid};
 use std::alloc::AllocError;
 
 /// A place that holds a file.
@@ -17,7 +17,7 @@ pub enum Holder {
 
 /// A file, and a place that holds it.
 #[derive(Clone, Copy, Debug, PartialEq, Eq)]
-pub struct Held {
+pub struct HeldFile {
     /// The file.
     pub ino: Ino,
     /// The place.
@@ -25,9 +25,9 @@ pub struct Held {
 }
 
 /// Appends the descriptors of a process.
-fn push_table(list: &mut Vec<Held>, table: &ListedTable) -> Result<(), AllocError> {
+fn push_table(list: &mut Vec<HeldFile>, table: &ListedTable) -> Result<(), AllocError> {
     for number in &table.numbers {
-        list.push(Held {
+        list.push(HeldFile {
             ino: number.ino,
             by: Holder::Descriptor(table.pid, number.fd),
         })?;
@@ -36,13 +36,13 @@ fn push_table(list: &mut Vec<Held>, table: &ListedTable) -> Result<(), AllocErro
 }
 
 /// Appends the files in the queue of a file.
-fn push_queue(list: &mut Vec<Held>, file: &ListedFile) -> Result<(), AllocError> {
+fn push_queue(list: &mut Vec<HeldFile>, file: &ListedFile) -> Result<(), AllocError> {
     let Some(socket) = &file.socket else {
         return Ok(());
     };
     for message in &socket.queue {
         for ino in &message.attached {
-            list.push(Held {
+            list.push(HeldFile {
                 ino: *ino,
                 by: Holder::Queue(file.ino),
             })?;
@@ -52,12 +52,12 @@ fn push_queue(list: &mut Vec<Held>, file: &ListedFile) -> Result<(), AllocError>
 }
 
 /// Appends the embryos in the backlog of a file.
-fn push_backlog(list: &mut Vec<Held>, file: &ListedFile) -> Result<(), AllocError> {
+fn push_backlog(list: &mut Vec<HeldFile>, file: &ListedFile) -> Result<(), AllocError> {
     let Some(socket) = &file.socket else {
         return Ok(());
     };
     for ino in &socket.backlog {
-        list.push(Held {
+        list.push(HeldFile {
             ino: *ino,
             by: Holder::Backlog(file.ino),
         })?;
@@ -68,7 +68,7 @@ fn push_backlog(list: &mut Vec<Held>, file: &ListedFile) -> Result<(), AllocErro
 /// Appends all places, by the number of the file that they hold. Of one file, descriptors come
 /// first, then queues, then backlogs, each by rising numbers.
 pub fn push_places(
-    list: &mut Vec<Held>,
+    list: &mut Vec<HeldFile>,
     tables: &[ListedTable],
     files: &[ListedFile],
 ) -> Result<(), AllocError> {

@@ -3,7 +3,7 @@ ghost use Rattle.std.specs.Prelude.{◌≡◌, ◌++◌, ℕ, List, [], false, t
 ghost use Rattle.std.specs.Io.BufRead.{drop_through, take_through};
 ghost use Rattle.std.specs.Io.KnownBytes.{Appends, IsAtEnd};
 ghost use Rattle.scm_play.specs.Played.{Answers, Played};
-ghost use Rattle.scm_play.specs.Shown.{entry_text, prompt_text};
+ghost use Rattle.scm_play.specs.Display.{entry_text, prompt_text};
 ghost use Rattle.scm_play.specs.Cut.{line_in};
 ghost use Rattle.scm_play.specs.Progress.{IsOver, Goes};
 

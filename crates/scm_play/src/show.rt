@@ -1,8 +1,8 @@
 //! The layout of lines and their answers.
 ghost use Rattle.std.specs.Prelude.{◌≡◌, ◌-◌, ◌<◌, ◌==◌, ◌++◌, IfOk, IfSome, OnOk, position, codes};
 ghost use Rattle.std.specs.Prelude.{length, map, replicate, string_bytes};
-ghost use Rattle.scm_play.specs.Shown.{beside, entry_text, is_one_line, number_text, prompt_text};
-ghost use Rattle.scm_play.specs.Shown.{shown_byte};
+ghost use Rattle.scm_play.specs.Display.{beside, entry_text, is_one_line, number_text, prompt_text};
+ghost use Rattle.scm_play.specs.Display.{shown_byte};
 
 use std::alloc::{AllocError, Global};
 

@@ -1,7 +1,7 @@
 //! The text of who holds what.
 
-use crate::holders::{Held, Holder, push_places};
-use af_base::names::Ino;
+use crate::holders::{HeldFile, Holder, push_places};
+use af_base::ids::Ino;
 use af_plain::garbage;
 use af_steps::Engine;
 use std::alloc::{AllocError, Global};
@@ -20,8 +20,8 @@ fn push_holder(text: &mut String, by: Holder) -> Result<(), AllocError> {
 fn push_holders<'a>(
     text: &mut String,
     ino: Ino,
-    places: &'a [Held],
-) -> Result<&'a [Held], AllocError> {
+    places: &'a [HeldFile],
+) -> Result<&'a [HeldFile], AllocError> {
     let mut rest = places;
     let mut comma = "";
     while let [first, others @ ..] = rest

@@ -1,11 +1,11 @@
 -- Lemmas.
-pub mod Answered
-pub mod Counted
-pub mod Ended
+pub mod LastPairs
+pub mod SeatEntries
+pub mod RaceEnds
 pub mod Exits
 pub mod OwnSteps
 pub mod Parts
-pub mod Raced
+pub mod RaceCloses
 pub mod ScriptLength
 pub mod Words
 pub mod Works

@@ -10,22 +10,22 @@ use Rattle.af_base.specs.declared.events.Event.TheVariants as event
 use Rattle.af_base.specs.declared.events.Reply.TheVariants as reply
 use Rattle.af_base.specs.Pass.{Machine}
 use Rattle.af_base.specs.Run.{fresh}
-use Rattle.af_layer.specs.Audit.{AreEmptied, IsWhole, list_at, nobody, number_at}
+use Rattle.af_layer.specs.Audit.{AreEmptied, IsWholeBook, list_at, nobody, number_at}
 use Rattle.af_layer.specs.Drive.{Collects, Driven, Made, Script, Turned, WentOn, Work, events_of}
-use Rattle.af_layer.specs.Log.{Entry, IsLegal, IsLegalFrom, Logged, Pair, of_seat}
-use Rattle.af_layer.specs.Seats.{Seated}
-use Rattle.af_layer.proofs.Joined.{legal-append, part-append}
+use Rattle.af_layer.specs.Log.{BookView, Entry, IsLegal, IsLegalFrom, Pair, of_seat}
+use Rattle.af_layer.specs.Seats.{SeatView}
+use Rattle.af_layer.proofs.JoinedLogs.{legal-append, part-append}
 use Rattle.scm_race.specs.Script.{script_of}
-use Rattle.scm_race.specs.Parts.{AreFresh, AreLeft, AreNext, GoesOn, IsOfEnd, IsOfPart, IsOfStart, IsPart, LogHas, SeatsHave, taken}
+use Rattle.scm_race.specs.Parts.{AreFresh, AreLeft, AreNext, Continues, IsOfEnd, IsOfPart, IsOfStart, IsPart, LogHas, SeatsHave, taken}
 use Rattle.scm_race.specs.Race.{EndsInPass, NoPart, OnePart, RacedInParts, TurnedInParts, scripts_of, spawned, worker_steps}
-use Rattle.scm_race.proofs.Counted.{counted}
-use Rattle.scm_race.proofs.Ended.{all-steps}
-use Rattle.scm_race.proofs.Raced.{all_new, part-at}
+use Rattle.scm_race.proofs.SeatEntries.{counted}
+use Rattle.scm_race.proofs.RaceEnds.{all-steps}
+use Rattle.scm_race.proofs.RaceCloses.{all_new, part-at}
 use Rattle.scm_race.proofs.ScriptLength.{script-count}
 use Rattle.scm_race.proofs.Works.{collector-work, script-at, script-work, scripts-count}
 
 -- Where the lists are empty after an audit, the seats are fresh again.
-pub fresh-again : (n : ℕ) (P : ℕ → List Pair → Type 0) (old new : List Seated) → SeatsHave n P old → AreEmptied old new → AreFresh n new
+pub fresh-again : (n : ℕ) (P : ℕ → List Pair → Type 0) (old new : List SeatView) → SeatsHave n P old → AreEmptied old new → AreFresh n new
 fresh-again n P old new had emptied = record {
   count = emptied.count ∙ had.count;
   numbers = λ i lt. emptied.numbers i (omega (arith, lt, had.count)) ∙ had.numbers i lt;
@@ -38,7 +38,7 @@ lent-back n old new all same =
     ap (λ l. take n (new ++ l)) (ap (λ k. drop k old) same ∙ drop-length old) ∙ ap (take n) (append-nil new) ∙ take_all n new (omega (arith, all, same))
 
 -- The seats of a layer that was just opened are fresh.
-pub open-fresh : (n : ℕ) (seats : List Seated) → length seats ≡ n → ((i : ℕ) (other : Seated) → i < n → slice_index_or seats i other ≡ record { number = i + 1; list = [] }) → AreFresh n seats
+pub open-fresh : (n : ℕ) (seats : List SeatView) → length seats ≡ n → ((i : ℕ) (other : SeatView) → i < n → slice_index_or seats i other ≡ record { number = i + 1; list = [] }) → AreFresh n seats
 open-fresh n seats count each = record {
   count = count;
   numbers = λ i lt. ap (λ s. s.number) (each i nobody lt);
@@ -46,16 +46,16 @@ open-fresh n seats count each = record {
 }
 
 -- What an audit says of the seats holds of their parts of the log.
-pub log-has : (n : ℕ) (P : ℕ → List Pair → Type 0) (b : Logged) (seats : List Seated) → SeatsHave n P seats → IsWhole b seats → LogHas n P b.log
+pub log-has : (n : ℕ) (P : ℕ → List Pair → Type 0) (b : BookView) (seats : List SeatView) → SeatsHave n P seats → IsWholeBook b seats → LogHas n P b.log
 log-has n P b seats had whole i lt =
     subst (P i) (part-at b seats whole i (omega (arith, lt, had.count)) ∙ ap (λ k. of_seat k b.log) (had.numbers i lt)) (had.lists i lt)
 
 -- So a part that was audited is one of the race.
-pub is-part : (begins : ℕ → Machine → Type 0) (n : ℕ) (P : ℕ → List Pair → Type 0) (b : Logged) (seats : List Seated) → SeatsHave n P seats → begins b.seats b.start → IsLegalFrom b.start b.seats b.machine b.log → IsWhole b seats → IsPart begins n P b
+pub is-part : (begins : ℕ → Machine → Type 0) (n : ℕ) (P : ℕ → List Pair → Type 0) (b : BookView) (seats : List SeatView) → SeatsHave n P seats → begins b.seats b.start → IsLegalFrom b.start b.seats b.machine b.log → IsWholeBook b seats → IsPart begins n P b
 is-part begins n P b seats had origin legal whole = record { origin = origin; legal = legal; lists = log-has n P b seats had whole }
 
 -- The last of n + 1 seats, and those before it.
-pub seats-pop : (n : ℕ) (P : ℕ → List Pair → Type 0) (all seats : List Seated) (last : Seated) → all ≡ seats ++ last ∷ [] → SeatsHave (n + 1) P all → SeatsHave n P seats × (last.number ≡ n + 1) × P n last.list
+pub seats-pop : (n : ℕ) (P : ℕ → List Pair → Type 0) (all seats : List SeatView) (last : SeatView) → all ≡ seats ++ last ∷ [] → SeatsHave (n + 1) P all → SeatsHave n P seats × (last.number ≡ n + 1) × P n last.list
 seats-pop n P all seats last split had = (
   record {
     count = few;
@@ -75,7 +75,7 @@ seats-pop n P all seats last split had = (
   behind = ap (λ l. slice_index_or l n nobody) split ∙ get_or_push seats last nobody n few
 
 -- Behind n seats a last one.
-pub seats-push : (n : ℕ) (P : ℕ → List Pair → Type 0) (all seats : List Seated) (last : Seated) → all ≡ seats ++ last ∷ [] → SeatsHave n P seats → last.number ≡ n + 1 → P n last.list → SeatsHave (n + 1) P all
+pub seats-push : (n : ℕ) (P : ℕ → List Pair → Type 0) (all seats : List SeatView) (last : SeatView) → all ≡ seats ++ last ∷ [] → SeatsHave n P seats → last.number ≡ n + 1 → P n last.list → SeatsHave (n + 1) P all
 seats-push n P all seats last joined had number list = record {
   count = let parts = ap length joined ∙ length-append seats (last ∷ []) in omega (arith, parts, had.count);
   numbers = λ i lt. elim (cases_eq i n) [
@@ -94,7 +94,7 @@ seats-push n P all seats last joined had number list = record {
   behind = ap (λ l. slice_index_or l n nobody) joined ∙ get_or_push seats last nobody n had.count
 
 -- What holds of the lists that a seat has holds of others that follow from them.
-seats-weaker : (n : ℕ) (P Q : ℕ → List Pair → Type 0) (seats : List Seated) → ((i : ℕ) → i < n → (list : List Pair) → P i list → Q i list) → SeatsHave n P seats → SeatsHave n Q seats
+seats-weaker : (n : ℕ) (P Q : ℕ → List Pair → Type 0) (seats : List SeatView) → ((i : ℕ) → i < n → (list : List Pair) → P i list → Q i list) → SeatsHave n P seats → SeatsHave n Q seats
 seats-weaker n P Q seats follows had = record { count = had.count; numbers = had.numbers; lists = λ i lt. follows i lt (list_at seats i) (had.lists i lt) }
 
 -- n + 1 seats and one more.
@@ -102,31 +102,31 @@ two-more : (n : ℕ) → n + 1 + 1 ≡ n + 2
 two-more n = omega arith
 
 -- the seats as they were, with the last one apart
-module _ (n : ℕ) (all opened : List Seated) (first : Seated) (fresh : AreFresh (n + 2) all) (split : all ≡ opened ++ first ∷ []) where
+module _ (n : ℕ) (all opened : List SeatView) (first : SeatView) (fresh : AreFresh (n + 2) all) (split : all ≡ opened ++ first ∷ []) where
   -- The last one, and those before it.
   apart : AreFresh (n + 1) opened × (first.number ≡ n + 1 + 1) × (first.list ≡ [])
   apart = seats-pop (n + 1) (λ i list. list ≡ []) all opened first split (subst (λ k. AreFresh k all) (sym (two-more n)) fresh)
 
   -- What the seats have when the last one is back.
-  together : (P : ℕ → List Pair → Type 0) (after others : List Seated) (last : Seated) → after ≡ others ++ last ∷ [] → SeatsHave (n + 1) P others → last.number ≡ first.number → P (n + 1) last.list → SeatsHave (n + 2) P after
+  together : (P : ℕ → List Pair → Type 0) (after others : List SeatView) (last : SeatView) → after ≡ others ++ last ∷ [] → SeatsHave (n + 1) P others → last.number ≡ first.number → P (n + 1) last.list → SeatsHave (n + 2) P after
   together P after others last joined had number list = subst (λ k. SeatsHave k P after) (two-more n) (seats-push (n + 1) P after others last joined had (number ∙ apart.1) list)
 
   -- The processes were started from the last one.
-  pub seats-started : (after : List Seated) (last : Seated) → after ≡ opened ++ last ∷ [] → last.number ≡ first.number → last.list ≡ first.list ++ spawned n → SeatsHave (n + 2) (IsOfStart n) after
+  pub seats-started : (after : List SeatView) (last : SeatView) → after ≡ opened ++ last ∷ [] → last.number ≡ first.number → last.list ≡ first.list ++ spawned n → SeatsHave (n + 2) (IsOfStart n) after
   seats-started after last joined number list =
       together (IsOfStart n) after opened last joined
       (seats-weaker (n + 1) (λ i l. l ≡ []) (IsOfStart n) opened (λ i lt l none. ((λ le. none), (λ e. absurd (omega (arith, lt, e))))) apart.0)
       number ((λ le. absurd (omega (arith, le))), (λ e. list ∙ ap (λ l. l ++ spawned n) apart.2))
 
   -- A last pass was made from the last one.
-  pub seats-ended : (after : List Seated) (last : Seated) → after ≡ opened ++ last ∷ [] → last.number ≡ first.number → EndsInPass first.list last.list → SeatsHave (n + 2) (IsOfEnd n) after
+  pub seats-ended : (after : List SeatView) (last : SeatView) → after ≡ opened ++ last ∷ [] → last.number ≡ first.number → EndsInPass first.list last.list → SeatsHave (n + 2) (IsOfEnd n) after
   seats-ended after last joined number ends =
       together (IsOfEnd n) after opened last joined
       (seats-weaker (n + 1) (λ i l. l ≡ []) (IsOfEnd n) opened (λ i lt l none. ((λ le. none), (λ e. absurd (omega (arith, lt, e))))) apart.0)
       number ((λ le. absurd (omega (arith, le))), (λ e. subst (λ l. EndsInPass l last.list) apart.2 ends))
 
   -- The workers did their steps, and the collector its turns.
-  pub seats-played : (steps : List (List Event)) (turns budget : ℕ) → length steps ≡ n → (driven after : List Seated) (last : Seated) → Driven Made opened (map Script steps ++ Collects turns budget ∷ []) driven → after ≡ driven ++ last ∷ [] → last.number ≡ first.number → SeatsHave (n + 2) (IsOfPart steps turns budget) after
+  pub seats-played : (steps : List (List Event)) (turns budget : ℕ) → length steps ≡ n → (driven after : List SeatView) (last : SeatView) → Driven Made opened (map Script steps ++ Collects turns budget ∷ []) driven → after ≡ driven ++ last ∷ [] → last.number ≡ first.number → SeatsHave (n + 2) (IsOfPart steps turns budget) after
   seats-played steps turns budget count driven after last drove joined number =
       together (IsOfPart steps turns budget) after driven last joined (record {
         count = drove.count ∙ apart.0.count;
@@ -185,10 +185,10 @@ ends-after old more all part is ended =
     )
 
 -- The book of a part: its log is legal from the machine where the last part ended, to that where this one does.
-module _ (workers steps seed budget : ℕ) (b book : Logged) (is : book ≡ taken b) (legal : IsLegalFrom b.start b.seats b.machine b.log) where
+module _ (workers steps seed budget : ℕ) (b book : BookView) (is : book ≡ taken b) (legal : IsLegalFrom b.start b.seats b.machine b.log) where
   -- The first part: the processes were started.
-  pub goes-first : b.start ≡ fresh → LogHas (workers + 2) (IsOfStart workers) b.log → GoesOn workers steps seed budget 0 book
-  goes-first begins has = subst (GoesOn workers steps seed budget 0) (sym is) (record {
+  pub goes-first : b.start ≡ fresh → LogHas (workers + 2) (IsOfStart workers) b.log → Continues workers steps seed budget 0 book
+  goes-first begins has = subst (Continues workers steps seed budget 0) (sym is) (record {
     here = refl;
     log = b.log;
     legal = subst (λ m. IsLegalFrom m b.seats b.machine b.log) begins legal;
@@ -208,7 +208,7 @@ module _ (workers steps seed budget : ℕ) (b book : Logged) (is : book ≡ take
         ap (λ n. of_seat n b.log) (sym next) ∙ (has (workers + 1) (omega arith)).1 refl
 
   -- what was done before
-  module _ (old : Logged) (done : ℕ) (went : GoesOn workers steps seed budget done old) (seats : b.seats ≡ old.seats) (begins : b.start ≡ old.machine) where
+  module _ (old : BookView) (done : ℕ) (went : Continues workers steps seed budget done old) (seats : b.seats ≡ old.seats) (begins : b.start ≡ old.machine) where
     -- All logs so far.
     whole : List Entry
     whole = went.log ++ b.log
@@ -226,8 +226,8 @@ module _ (workers steps seed budget : ℕ) (b book : Logged) (is : book ≡ take
     whole-part k = part-append k went.log b.log
 
     -- A part more, in which each worker did its next steps.
-    pub goes-next : (n : ℕ) (sources parts new : List (List Event)) → AreLeft workers steps seed done sources → AreNext n sources parts new → LogHas (workers + 2) (IsOfPart parts n budget) b.log → GoesOn workers steps seed budget (done + n) book
-    goes-next n sources parts new left next has = subst (GoesOn workers steps seed budget (done + n)) (sym is) (record {
+    pub goes-next : (n : ℕ) (sources parts new : List (List Event)) → AreLeft workers steps seed done sources → AreNext n sources parts new → LogHas (workers + 2) (IsOfPart parts n budget) b.log → Continues workers steps seed budget (done + n) book
+    goes-next n sources parts new left next has = subst (Continues workers steps seed budget (done + n)) (sym is) (record {
       here = refl;
       log = whole;
       legal = whole-legal;
@@ -261,7 +261,7 @@ module _ (workers steps seed budget : ℕ) (b book : Logged) (is : book ≡ take
           ∙ sym (take-add done n (script_of k workers steps seed))
 
     -- The last part, when all steps were done: the race has ended well.
-    pub goes-last : done ≡ steps → 5 ≤ steps → LogHas (workers + 2) (IsOfEnd workers) b.log → (end : Logged) × RacedInParts workers steps seed budget end × (end.machine ≡ b.machine)
+    pub goes-last : done ≡ steps → 5 ≤ steps → LogHas (workers + 2) (IsOfEnd workers) b.log → (end : BookView) × RacedInParts workers steps seed budget end × (end.machine ≡ b.machine)
     goes-last all some has = (record { seats = b.seats; start = fresh; machine = b.machine; log = whole }, raced, refl) where
       same : (k : ℕ) → 1 ≤ k → k ≤ workers + 1 → of_seat k whole ≡ of_seat k went.log
       same k low high =
@@ -288,7 +288,7 @@ module _ (workers steps seed budget : ℕ) (b book : Logged) (is : book ≡ take
       }
 
 -- In a part each worker did so many steps.
-pub part-steps : (workers steps seed budget done n : ℕ) (b : Logged) (sources parts new : List (List Event)) → 5 ≤ steps → done + n ≤ steps → AreLeft workers steps seed done sources → AreNext n sources parts new
+pub part-steps : (workers steps seed budget done n : ℕ) (b : BookView) (sources parts new : List (List Event)) → 5 ≤ steps → done + n ≤ steps → AreLeft workers steps seed done sources → AreNext n sources parts new
     → IsLegalFrom b.start b.seats b.machine b.log → LogHas (workers + 2) (IsOfPart parts n budget) b.log → worker_steps workers b.log ≡ workers * n
 part-steps workers steps seed budget done n b sources parts new some fits left next legal has =
     counted workers n b.log (λ i d lt. (legal.of_seats i d lt).0) each where
@@ -307,9 +307,9 @@ part-steps workers steps seed budget done n b sources parts new some fits left n
           ap (λ m. length (of_seat m b.log)) (sym place) ∙ sym pairs ∙ events ∙ few
 
 -- A part more of the race: it goes on, less is left, and each worker did so many steps.
-pub next-part : (workers steps seed budget done n : ℕ) (old b book : Logged) (sources parts new : List (List Event)) (counted_steps : ℕ) → 5 ≤ steps → done + n ≤ steps → GoesOn workers steps seed budget done old → AreLeft workers steps seed done sources → AreNext n sources parts new
+pub next-part : (workers steps seed budget done n : ℕ) (old b book : BookView) (sources parts new : List (List Event)) (counted_steps : ℕ) → 5 ≤ steps → done + n ≤ steps → Continues workers steps seed budget done old → AreLeft workers steps seed done sources → AreNext n sources parts new
     → IsPart (λ seats machine. (seats ≡ old.seats) × (machine ≡ old.start)) (length parts + 2) (IsOfPart parts n budget) b → book ≡ taken b → counted_steps ≡ worker_steps (length parts) b.log
-    → GoesOn workers steps seed budget (done + n) book × AreLeft workers steps seed (done + n) new × (counted_steps ≡ workers * n)
+    → Continues workers steps seed budget (done + n) book × AreLeft workers steps seed (done + n) new × (counted_steps ≡ workers * n)
 next-part workers steps seed budget done n old b book sources parts new counted_steps some fits went left next part is counts =
     let few = next.made_count ∙ left.count in
     let lists : LogHas (workers + 2) (IsOfPart parts n budget) b.log = subst (λ m. LogHas (m + 2) (IsOfPart parts n budget) b.log) few part.lists in (
@@ -319,9 +319,9 @@ next-part workers steps seed budget done n old b book sources parts new counted_
     )
 
 -- The race has ended well after the last part: what was counted, and the files that are left.
-pub long-ended : (workers steps seed budget done : ℕ) (old b : Logged) (steps_counted left : ℕ) → 5 ≤ steps → done ≡ steps → GoesOn workers steps seed budget done old
+pub long-ended : (workers steps seed budget done : ℕ) (old b : BookView) (steps_counted left : ℕ) → 5 ≤ steps → done ≡ steps → Continues workers steps seed budget done old
     → IsPart (λ seats machine. (seats ≡ old.seats) × (machine ≡ old.start)) (workers + 2) (IsOfEnd workers) b → steps_counted ≡ workers * done → left ≡ finmap.len b.machine.world.files
-    → (end : Logged) × RacedInParts workers steps seed budget end × (worker_steps workers end.log ≡ workers * steps) × (steps_counted ≡ worker_steps workers end.log) × (left ≡ finmap.len end.machine.world.files)
+    → (end : BookView) × RacedInParts workers steps seed budget end × (worker_steps workers end.log ≡ workers * steps) × (steps_counted ≡ worker_steps workers end.log) × (left ≡ finmap.len end.machine.world.files)
 long-ended workers steps seed budget done old b steps_counted left some all went part counts files =
     let ended = goes-last workers steps seed budget b (taken b) refl part.legal old done went part.origin.0 (part.origin.1 ∙ went.here) all some part.lists in
     let each = all-steps (TurnedInParts budget) workers steps seed ended.0 some ended.1 in

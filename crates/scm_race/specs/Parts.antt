@@ -4,19 +4,19 @@ use Rattle.af_base.specs.declared.events.Event.{Event}
 use Rattle.af_base.specs.Pass.{Machine}
 use Rattle.af_layer.specs.Audit.{list_at, number_at}
 use Rattle.af_layer.specs.Drive.{Turned, events_of}
-use Rattle.af_layer.specs.Log.{Entry, IsLegal, IsLegalFrom, Logged, Pair, of_seat}
-use Rattle.af_layer.specs.Seats.{Seated}
+use Rattle.af_layer.specs.Log.{BookView, Entry, IsLegal, IsLegalFrom, Pair, of_seat}
+use Rattle.af_layer.specs.Seats.{SeatView}
 use Rattle.scm_race.specs.Script.{script_of}
 use Rattle.scm_race.specs.Race.{EndsInPass, TurnedInParts, spawned}
 
 -- There are n seats in order, numbered from 1, and the list of each is as P says of its place.
-pub record SeatsHave (n : ℕ) (P : ℕ → List Pair → Type 0) (seats : List Seated) : Type 0 where
+pub record SeatsHave (n : ℕ) (P : ℕ → List Pair → Type 0) (seats : List SeatView) : Type 0 where
   pub count : length seats ≡ n
   pub numbers : (i : ℕ) → i < n → number_at seats i ≡ i + 1
   pub lists : (i : ℕ) → i < n → P i (list_at seats i)
 
 -- Their lists are empty.
-abbrev pub AreFresh : ℕ → List Seated → Type 0
+abbrev pub AreFresh : ℕ → List SeatView → Type 0
 AreFresh n = SeatsHave n (λ i list. list ≡ [])
 
 -- The part of each of the first n seats in a log is as P says of its place.
@@ -26,13 +26,13 @@ LogHas n P log = (i : ℕ) → i < n → P i (of_seat (i + 1) log)
 -- A part of a race on a book: its log is legal from a machine of which `begins` holds, and each
 -- seat has of it what P says.
 pub record IsPart (begins : ℕ → Machine → Type 0) (n : ℕ) (P : ℕ → List Pair → Type 0)
-    (b : Logged) : Type 0 where
+    (b : BookView) : Type 0 where
   pub origin : begins b.seats b.start
   pub legal : IsLegalFrom b.start b.seats b.machine b.log
   pub lists : LogHas n P b.log
 
 -- A book whose log was taken.
-abbrev pub taken : Logged → Logged
+abbrev pub taken : BookView → BookView
 taken b = record b { start = b.machine; log = [] }
 
 -- At the start the last seat has started the processes.
@@ -65,7 +65,7 @@ pub record AreNext (count : ℕ) (old : List (List Event)) (parts new : List (Li
 -- A race after so many steps of each worker. The logs that were taken, put together, are one legal
 -- log. In it the workers have done so much of their scripts, and the collector as many turns; the
 -- main thread started the processes first.
-pub record GoesOn (workers steps seed budget done : ℕ) (b : Logged) : Type 0 where
+pub record Continues (workers steps seed budget done : ℕ) (b : BookView) : Type 0 where
   pub here : b.start ≡ b.machine
   pub log : List Entry
   pub legal : IsLegal b.seats b.machine log

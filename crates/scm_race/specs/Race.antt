@@ -8,8 +8,8 @@ use Rattle.af_base.specs.declared.events.Event.TheVariants as event
 use Rattle.af_base.specs.declared.events.Reply.TheVariants as reply
 use Rattle.af_base.specs.declared.events.Step.TheVariants as step
 use Rattle.af_layer.specs.Drive.{Collects, Script, Turned, Work, events_of}
-use Rattle.af_layer.specs.Log.{Entry, IsLegal, Logged, Pair, of_seat}
-use Rattle.af_layer.specs.Seats.{Seated}
+use Rattle.af_layer.specs.Log.{BookView, Entry, IsLegal, Pair, of_seat}
+use Rattle.af_layer.specs.Seats.{SeatView}
 use Rattle.scm_race.specs.Script.{script_of}
 
 -- The process of a worker: two users in turn, with room for 32 descriptors and no privilege.
@@ -47,7 +47,7 @@ abbrev pub exits_of : List Pair → List Event
 exits_of pairs = map exit_of (filter_map child_of pairs)
 
 -- And of those that were forked from these seats.
-abbrev pub all_exits_of : List Seated → List Event
+abbrev pub all_exits_of : List SeatView → List Event
 all_exits_of seats = flat_map (λ s. exits_of s.list) seats
 
 -- A list was extended, and ended with a whole pass that was done.
@@ -58,14 +58,14 @@ EndsInPass old new = (between : List Pair) × (pass : ℕ) × (reclaimed : ℕ)
 -- The log of a race that ended well: it is a run of the machine; each worker did its script, and
 -- the collector so many turns, as `Turns` says; the main thread started the processes first, and
 -- ended with a whole pass that was done.
-pub record RacedBy (Turns : ℕ → List Pair → Type 0) (workers steps seed : ℕ) (b : Logged) : Type 0 where
+pub record RacedBy (Turns : ℕ → List Pair → Type 0) (workers steps seed : ℕ) (b : BookView) : Type 0 where
   pub legal : IsLegal b.seats b.machine b.log
   pub scripts : (k : ℕ) → 1 ≤ k → k ≤ workers → events_of (of_seat k b.log) ≡ script_of k workers steps seed
   pub turns : Turns steps (of_seat (workers + 1) b.log)
   pub main_thread : EndsInPass (spawned workers) (of_seat (workers + 2) b.log)
 
 -- So it is of a race on one layer: the collector made its turns one after the other.
-abbrev pub Raced : ℕ → ℕ → ℕ → ℕ → Logged → Type 0
+abbrev pub Raced : ℕ → ℕ → ℕ → ℕ → BookView → Type 0
 Raced workers steps seed budget = RacedBy (Turned budget []) workers steps seed
 
 -- So many turns were made in parts, each as by a collector that made none before.
@@ -75,7 +75,7 @@ pub data TurnedInParts (budget : ℕ) : ℕ → List Pair → Type 0 where
       → Turned budget [] m part → TurnedInParts budget (n + m) (before ++ part)
 
 -- So it is of a race with checkpoints. Its log is what was taken at them, put together.
-abbrev pub RacedInParts : ℕ → ℕ → ℕ → ℕ → Logged → Type 0
+abbrev pub RacedInParts : ℕ → ℕ → ℕ → ℕ → BookView → Type 0
 RacedInParts workers steps seed budget = RacedBy (TurnedInParts budget) workers steps seed
 
 -- How many entries are of the seats from 1 to this number.
@@ -89,12 +89,12 @@ race_lines steps left = codes "steps "
 
 -- The lines that report a race of this many workers, by the closed book: how many entries the
 -- workers have, and how many files are live.
-abbrev pub outcome_text : ℕ → Logged → List ℕ
+abbrev pub outcome_text : ℕ → BookView → List ℕ
 outcome_text workers b = race_lines (worker_steps workers b.log) (finmap.len b.machine.world.files)
 
 -- The text tells the book of a race that ended well, in whose log each worker has all its steps.
-pub record TellsRace (Ended : Logged → Type 0) (workers steps : ℕ) (text : List ℕ) : Type 0 where
-  pub book : Logged
+pub record TellsRace (Ended : BookView → Type 0) (workers steps : ℕ) (text : List ℕ) : Type 0 where
+  pub book : BookView
   pub raced : Ended book
   pub all_steps : worker_steps workers book.log ≡ workers * steps
   pub lines : text ≡ outcome_text workers book

@@ -9,8 +9,8 @@ ghost use Rattle.scm_race.specs.Race.{all_exits_of, child_of, exits_of};
 
 use crate::fault::RaceFault;
 use af_base::events::{Event, Reply, Step};
+use af_base::ids::Pid;
 use af_base::limits::MAX_BUDGET;
-use af_base::names::Pid;
 use af_layer::{EventReply, Layer, Origin, Seat};
 use std::sync::Wait;
 

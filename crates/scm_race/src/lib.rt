@@ -15,6 +15,6 @@ mod start;
 pub mod workload;
 
 pub use fault::RaceFault;
-pub use long::{LongRace, MAX_CHECKPOINT, MAX_LONG_STEPS, Tally};
-pub use outcome::Outcome;
+pub use long::{LongRace, MAX_CHECKPOINT, MAX_LONG_STEPS, RaceTotals};
+pub use outcome::RaceOutcome;
 pub use race::Race;

@@ -1,8 +1,8 @@
 //! A race of any length: its log is taken at checkpoints.
 ghost use Rattle.std.specs.Prelude.{◌≡◌, ◌≤◌, ◌+◌, ◌*◌, ℕ, IfOk, length, string_bytes};
 ghost use Rattle.std.specs.FinMap as map;
-ghost use Rattle.af_layer.specs.Log.{Logged};
-ghost use Rattle.scm_race.specs.Parts.{AreFresh, AreLeft, GoesOn};
+ghost use Rattle.af_layer.specs.Log.{BookView};
+ghost use Rattle.scm_race.specs.Parts.{AreFresh, AreLeft, Continues};
 ghost use Rattle.scm_race.specs.Race.{RacedInParts, race_lines, worker_steps};
 ghost use Rattle.scm_race.specs.declared.workload.script.TheConstants.{MIN_STEPS};
 ghost use Rattle.scm_race.specs.declared.workload.table.TheConstants.{MAX_WORKERS};
@@ -37,7 +37,7 @@ pub struct LongRace {
 
 /// What a long race comes to. Each audit ended well.
 #[derive(Clone, Copy, Debug, PartialEq, Eq)]
-pub struct Tally {
+pub struct RaceTotals {
     /// How many events the workers did, counted in the logs.
     pub steps: u64,
     /// How many files are live at the end.
@@ -53,10 +53,14 @@ impl LongRace {
     /// together are one legal log, with all scripts whole.
     ///
     /// `Memory` says that memory was refused, `Failed` is any other fault, as in [`Race::run`].
-    pub fn run<R: Threads + Wait + Sync>(self, rt: &R, alloc: Global) -> Result<Tally, RaceFault>
+    pub fn run<R: Threads + Wait + Sync>(
+        self,
+        rt: &R,
+        alloc: Global,
+    ) -> Result<RaceTotals, RaceFault>
         requires workers { (1 ≤ self.race.workers) × (self.race.workers ≤ MAX_WORKERS) }
         requires steps { (MIN_STEPS ≤ self.race.steps) × (self.race.steps ≤ MAX_LONG_STEPS) }
-        ensures { let race = self.race in IfOk result (λ tally. (book : Logged)
+        ensures { let race = self.race in IfOk result (λ tally. (book : BookView)
             × RacedInParts race.workers race.steps race.seed race.budget book
             × (worker_steps race.workers book.log ≡ race.workers * race.steps)
             × (tally.steps ≡ worker_steps race.workers book.log)
@@ -80,7 +84,7 @@ impl LongRace {
             done += turns;
         }
         let left = last_part::<Brand, R>(rt, field, workers)?;
-        Ok(Tally {
+        Ok(RaceTotals {
             steps: counted,
             left,
         })
@@ -103,9 +107,9 @@ impl LongRace {
             IfOk result (λ raced. AreFresh (race.workers + 2) raced.0.seats.items) }
         ensures more { let race = self.race in IfOk result (λ raced. (done : ℕ)
             → done + count ≤ race.steps
-            → GoesOn race.workers race.steps race.seed race.budget done field.book
+            → Continues race.workers race.steps race.seed race.budget done field.book
             → AreLeft race.workers race.steps race.seed done sources.old
-            → GoesOn race.workers race.steps race.seed race.budget (done + count) raced.0.book
+            → Continues race.workers race.steps race.seed race.budget (done + count) raced.0.book
             × AreLeft race.workers race.steps race.seed (done + count) sources.new
             × (raced.1 ≡ race.workers * count)) }
     {
@@ -118,7 +122,7 @@ impl LongRace {
     }
 }
 
-impl Tally {
+impl RaceTotals {
     /// Writes the three lines that tell the race. The error says that memory was refused.
     pub fn text(&self, alloc: Global) -> Result<String, AllocError>
         ensures { IfOk result (λ text.

@@ -11,7 +11,7 @@ use std::alloc::{AllocError, Global};
 /// The log of the closed book has all events of the race. The report of a race is counted in this
 /// book.
 #[derive(Drop)]
-pub struct Outcome {
+pub struct RaceOutcome {
     /// How many workers there were. Their seats are those from 1 to this number.
     pub workers: u32,
     /// The engine and the log, as the audit left them.
@@ -25,7 +25,7 @@ pub fn steps_up_to(log: &[Entry], workers: u32) -> usize
     log.iter().filter(|entry| entry.seat() <= workers).count()
 }
 
-impl Outcome {
+impl RaceOutcome {
     /// Counts the events that the workers did.
     pub fn steps(&self) -> usize
         ensures { result ≡ worker_steps self.now.workers self.now.closed.book.log }
@@ -34,7 +34,7 @@ impl Outcome {
     }
 
     /// Returns how many files are live at the end.
-    pub fn left(&self) -> usize
+    pub fn live_files(&self) -> usize
         ensures { result ≡ map.len self.now.closed.book.machine.world.files }
     {
         self.closed.book.engine().live()
@@ -46,7 +46,7 @@ impl Outcome {
             string_bytes text ≡ outcome_text self.now.workers self.now.closed.book) }
     {
         let steps = self.steps();
-        let left = self.left();
+        let left = self.live_files();
         format!(in alloc; "steps {steps}\naudit ok\nleft {left}\n")
     }
 }

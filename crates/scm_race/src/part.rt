@@ -1,9 +1,9 @@
 //! The parts of a long race: each begins and ends at a checkpoint.
 ghost use Rattle.std.specs.Prelude.{◌≡◌, ◌≤◌, ◌+◌, ℕ, [], IfOk, map, vec_len};
 ghost use Rattle.std.specs.FinMap as finmap;
-ghost use Rattle.af_layer.specs.Audit.{AreEmptied, IsWhole};
-ghost use Rattle.af_layer.specs.Log.{IsLegalFrom, Logged};
-ghost use Rattle.scm_race.specs.Parts.{AreFresh, GoesOn, IsOfEnd, IsOfPart, IsOfStart, IsPart};
+ghost use Rattle.af_layer.specs.Audit.{AreEmptied, IsWholeBook};
+ghost use Rattle.af_layer.specs.Log.{BookView, IsLegalFrom};
+ghost use Rattle.scm_race.specs.Parts.{AreFresh, Continues, IsOfEnd, IsOfPart, IsOfStart, IsPart};
 ghost use Rattle.scm_race.specs.Parts.{SeatsHave, taken};
 ghost use Rattle.scm_race.specs.Race.{worker_steps};
 ghost use Rattle.scm_race.specs.declared.workload.table.TheConstants.{MAX_WORKERS};
@@ -86,10 +86,10 @@ fn end_part<O: Origin>(
     layer: Layer<O>,
     mut seats: Vec<Seat>,
 ) -> Result<(Field, Vec<Entry>), RaceFault>
-    ensures { IfOk result (λ ended. (book : Logged)
+    ensures { IfOk result (λ ended. (book : BookView)
         × O.begins book.seats book.start
         × IsLegalFrom book.start book.seats book.machine book.log
-        × IsWhole book seats.items
+        × IsWholeBook book seats.items
         × AreEmptied seats.items ended.0.seats.items
         × (ended.0.book ≡ taken book)
         × (ended.1.items ≡ book.log)) }
@@ -106,7 +106,7 @@ pub fn open_field<R: Wait>(rt: &R, alloc: Global, workers: u32) -> Result<Field,
     requires { (1 ≤ workers) × (workers ≤ MAX_WORKERS) }
     ensures fresh { IfOk result (λ field. AreFresh (workers + 2) field.seats.items) }
     ensures begun { IfOk result (λ field. (steps seed budget : ℕ)
-        → GoesOn workers steps seed budget 0 field.book) }
+        → Continues workers steps seed budget 0 field.book) }
 {
     let (layer, seats) = Layer::open(alloc, workers + 2)?;
     let seats = start(rt, &layer, seats, workers)?;
@@ -127,7 +127,7 @@ pub fn race_part<O: Origin + Send, R: Threads + Wait + Sync>(
     ensures fresh { IfOk result (λ raced. AreFresh (vec_len scripts + 2) raced.0.seats.items) }
     ensures part { let steps = map (λ script. script.items) scripts.items in
         let P = IsOfPart steps turns.turns turns.budget in
-        IfOk result (λ raced. (book : Logged)
+        IfOk result (λ raced. (book : BookView)
         × IsPart O.begins (vec_len scripts + 2) P book
         × (raced.0.book ≡ taken book)
         × (raced.1 ≡ worker_steps (vec_len scripts) book.log)) }
@@ -146,7 +146,7 @@ pub fn last_part<O: Origin, R: Wait>(rt: &R, field: Field, workers: u32) -> Resu
     requires workers { workers ≤ MAX_WORKERS }
     requires origin { O.begins field.book.seats field.book.start }
     requires fresh { AreFresh (workers + 2) field.seats.items }
-    ensures { IfOk result (λ left. (book : Logged)
+    ensures { IfOk result (λ left. (book : BookView)
         × IsPart O.begins (workers + 2) (IsOfEnd workers) book
         × (left ≡ finmap.len book.machine.world.files)) }
 {

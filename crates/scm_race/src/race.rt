@@ -1,17 +1,17 @@
 //! The race itself.
 ghost use Rattle.std.specs.Prelude.{◌≡◌, ◌<◌, ◌≤◌, ◌+◌, ◌*◌, ℕ, [], IfOk, OnOk, slice_index_or};
 ghost use Rattle.std.specs.Prelude.{vec_len};
-ghost use Rattle.af_layer.specs.Audit.{IsWhole};
+ghost use Rattle.af_layer.specs.Audit.{IsWholeBook};
 ghost use Rattle.af_layer.specs.Drive.{Driven, Made};
-ghost use Rattle.af_layer.specs.Log.{IsLegal, Logged};
-ghost use Rattle.af_layer.specs.Seats.{Seated};
+ghost use Rattle.af_layer.specs.Log.{BookView, IsLegal};
+ghost use Rattle.af_layer.specs.Seats.{SeatView};
 ghost use Rattle.scm_race.specs.Race.{EndsInPass, Raced, worker_steps, works_of_race};
 ghost use Rattle.scm_race.specs.declared.workload.script.TheConstants.{MIN_STEPS, MAX_STEPS};
 ghost use Rattle.scm_race.specs.declared.workload.table.TheConstants.{MAX_WORKERS};
 
 use crate::fault::RaceFault;
 use crate::finish::{end_children, end_pass, last_pass};
-use crate::outcome::Outcome;
+use crate::outcome::RaceOutcome;
 use crate::start::{scripts, start_processes};
 use af_layer::{Layer, OpenGate, Seat, Turns, drive};
 use std::alloc::Global;
@@ -51,7 +51,11 @@ impl Race {
     ///
     /// `Memory` says that memory was refused. `Failed` is any other fault: a call that was refused,
     /// a process with another pid, a last pass that was not done, or what the audit found.
-    pub fn run<R: Threads + Wait + Sync>(self, rt: &R, alloc: Global) -> Result<Outcome, RaceFault>
+    pub fn run<R: Threads + Wait + Sync>(
+        self,
+        rt: &R,
+        alloc: Global,
+    ) -> Result<RaceOutcome, RaceFault>
         requires workers { (1 ≤ self.workers) × (self.workers ≤ MAX_WORKERS) }
         requires steps { (MIN_STEPS ≤ self.steps) × (self.steps ≤ MAX_STEPS) }
         ensures raced { IfOk result (λ outcome.
@@ -63,7 +67,7 @@ impl Race {
         let (layer, seats) = Layer::open(alloc, self.workers + 2)?;
         let seats = self.play(rt, alloc, &layer, seats)?;
         let closed = layer.close(seats)?;
-        Ok(Outcome {
+        Ok(RaceOutcome {
             workers: self.workers,
             closed,
         })
@@ -82,10 +86,10 @@ impl Race {
         requires workers { (1 ≤ self.workers) × (self.workers ≤ MAX_WORKERS) }
         requires steps { (MIN_STEPS ≤ self.steps) × (self.steps ≤ MAX_STEPS) }
         requires count { vec_len seats ≡ self.workers + 2 }
-        requires fresh { (i : ℕ) (other : Seated) → i < self.workers + 2
+        requires fresh { (i : ℕ) (other : SeatView) → i < self.workers + 2
             → slice_index_or seats.items i other ≡ record { number = i + 1; list = [] } }
-        ensures { IfOk result (λ after. (b : Logged) → IsLegal b.seats b.machine b.log
-            → IsWhole b after.items → Raced self.workers self.steps self.seed self.budget b) }
+        ensures { IfOk result (λ after. (b : BookView) → IsLegal b.seats b.machine b.log
+            → IsWholeBook b after.items → Raced self.workers self.steps self.seed self.budget b) }
     {
         let mut main = seats.pop().unwrap();
         start_processes(rt, layer, &mut main, self.workers)?;

@@ -12,7 +12,7 @@ use crate::fault::RaceFault;
 use crate::workload::{Source, make_script};
 use af_base::errno::Errno;
 use af_base::events::{Event, Reply};
-use af_base::names::{Pid, Uid};
+use af_base::ids::{Pid, Uid};
 use af_layer::{Layer, Origin, Seat};
 use std::alloc::{AllocError, Global};
 use std::sync::Wait;

@@ -9,9 +9,9 @@ use Rattle.std.proofs.lemmas.List.{take_at, take_all, map-append, length-map}
 use Rattle.scm_run.specs.Watched.{AppendsFront}
 use Rattle.scm_lines.specs.Versions.{read_in}
 use Rattle.scm_run.specs.Script.{FaultAt, LineText, NoFeed, Point, RanFirst, RanToEnd, RunText, StopsBy, Tells, Wrote, ended_by_feed, first_point, is_read_fault, RanAsRead}
-use Rattle.scm_run.specs.Gather.{Moves, Settles}
+use Rattle.scm_run.specs.Gather.{Settles, WritesFront}
 use Rattle.scm_run.specs.Line.{LineDone, LineStops}
-use Rattle.scm_run.specs.Progress.{FaultIn, Halts, Progress, Ran, RanAll, Runs, TooLong, Waits, may_fit, nothing_read}
+use Rattle.scm_run.specs.Progress.{FaultIn, Halts, Ran, RanAll, RunProgress, Runs, TooLong, Waits, may_fit, nothing_read}
 use Rattle.scm_run.specs.declared.fault.RunFault.{RunFault}
 use Rattle.scm_run.specs.declared.fault.RunFault.TheVariants as fault
 use Rattle.scm_run.proofs.LinesLemmas.{all_lines, cut_end, cut_more, firsts, front_lines, last_line, line_at, long_first, slice_get_at}
@@ -40,12 +40,12 @@ Appends-front a b c x y first (front, rest, e, second) =
 -- ---- what is gathered
 
 -- The written text and the gathered text together are the same after some was moved.
-moved : (written gathered kept : List ℕ) (before after : Option (List ℕ)) → (m : Moves gathered kept before after) → (written ++ m.front) ++ kept ≡ written ++ gathered
+moved : (written gathered kept : List ℕ) (before after : Option (List ℕ)) → (m : WritesFront gathered kept before after) → (written ++ m.front) ++ kept ≡ written ++ gathered
 moved written gathered kept before after m = append_assoc written m.front kept ∙ ap (λ l. written ++ l) (sym m.split)
 
 -- A fault that is so once all text is written.
 waits : (says : Option (List ℕ) → RunFault → Type 0) (before mid after : Option (List ℕ)) (written gathered kept : List ℕ) (f : RunFault)
-    → Appends before mid written → Moves gathered kept mid after
+    → Appends before mid written → WritesFront gathered kept mid after
     → ((last : Option (List ℕ)) → Appends before last (written ++ gathered) → says last f)
     → ((last : Option (List ℕ)) → AppendsFront before last (written ++ gathered) → says last fault.Write)
     → Waits says before after kept f
@@ -59,7 +59,7 @@ waits says before mid after written gathered kept f wrote m whole part =
     }
 
 -- Nothing was moved.
-still : (gathered : List ℕ) (now : Option (List ℕ)) → Moves gathered gathered now now
+still : (gathered : List ℕ) (now : Option (List ℕ)) → WritesFront gathered gathered now now
 still gathered now = record { front = []; split = refl; wrote = Appends-nil now }
 
 waits_settled : (says : Option (List ℕ) → RunFault → Type 0) (before mid after : Option (List ℕ)) (gathered : List ℕ) (f answer : RunFault)
@@ -99,17 +99,17 @@ fault_later taken bs before last f h = λ more. subst (λ l. FaultAt l before la
 -- ---- what a run has done
 
 -- The same, with other bytes on the unfinished line.
-abbrev pub longer : Progress → List ℕ → Progress
+abbrev pub longer : RunProgress → List ℕ → RunProgress
 longer old bs = record { point = old.point; pending = old.pending ++ bs; gathered = old.gathered; events = old.events; done = old.done }
 
-pub ran_more : (taken bs : List ℕ) (before after : Option (List ℕ)) (old : Progress) → Ran taken before after old → NoFeed bs → Ran (taken ++ bs) before after (longer old bs)
+pub ran_more : (taken bs : List ℕ) (before after : Option (List ℕ)) (old : RunProgress) → Ran taken before after old → NoFeed bs → Ran (taken ++ bs) before after (longer old bs)
 ran_more taken bs before after old ran none = record {
   written = ran.written;
   runs = record { whole = ran.runs.whole; cut = cut_more taken ran.runs.whole old.pending bs ran.runs.cut none; runs = ran.runs.runs; counted = ran.runs.counted };
   wrote = ran.wrote;
 }
 
-pub end_ok : (taken : List ℕ) (before mid after : Option (List ℕ)) (old : Progress) (left : List ℕ) (k : ℕ) (point : Point) → Ran taken before mid old
+pub end_ok : (taken : List ℕ) (before mid after : Option (List ℕ)) (old : RunProgress) (left : List ℕ) (k : ℕ) (point : Point) → Ran taken before mid old
     → LineDone old.point (strip_carriage_return old.pending) old.gathered left mid after k point
     → Ran (taken ++ 10 ∷ []) before after (record { point = point; pending = []; gathered = left; events = old.events + k; done = old.done + 1 })
 end_ok taken before mid after old left k point ran done =
@@ -132,7 +132,7 @@ end_ok taken before mid after old left k point ran done =
     }
 
 -- all text of the lines that were run is written
-pub run_some : (taken text : List ℕ) (before last : Option (List ℕ)) (old : Progress) → Runs taken text old → Appends before last text → FaultIn taken before last fault.Memory
+pub run_some : (taken text : List ℕ) (before last : Option (List ℕ)) (old : RunProgress) → Runs taken text old → Appends before last text → FaultIn taken before last fault.Memory
 run_some taken text before last old run wrote = λ more. record {
   count = length run.whole;
   events = old.events;
@@ -145,7 +145,7 @@ run_some taken text before last old run wrote = λ more. record {
 }
 
 -- a beginning of it is
-pub run_cut : (taken text : List ℕ) (before last : Option (List ℕ)) (old : Progress) → Runs taken text old → AppendsFront before last text → FaultIn taken before last fault.Write
+pub run_cut : (taken text : List ℕ) (before last : Option (List ℕ)) (old : RunProgress) → Runs taken text old → AppendsFront before last text → FaultIn taken before last fault.Write
 run_cut taken text before last old run wrote = λ more. record {
   count = length run.whole;
   beginning = record {
@@ -157,7 +157,7 @@ run_cut taken text before last old run wrote = λ more. record {
   };
 }
 
-run_bad : (taken text : List ℕ) (before last : Option (List ℕ)) (old : Progress) → Runs taken text old → read_in old.point.version (strip_carriage_return old.pending) ≡ None → Appends before last text
+run_bad : (taken text : List ℕ) (before last : Option (List ℕ)) (old : RunProgress) → Runs taken text old → read_in old.point.version (strip_carriage_return old.pending) ≡ None → Appends before last text
     → FaultIn (taken ++ 10 ∷ []) before last (fault.Unreadable (old.done + 1))
 run_bad taken text before last old run bad wrote = λ more.
     let one : old.done + 1 - 1 ≡ length run.whole = omega (arith, run.counted) in
@@ -190,18 +190,18 @@ ran_nothing before = record {
 }
 
 -- memory was refused before the next line
-pub ran_stops : (taken : List ℕ) (before mid after : Option (List ℕ)) (old : Progress) (left : List ℕ) → Ran taken before mid old → Moves old.gathered left mid after
+pub ran_stops : (taken : List ℕ) (before mid after : Option (List ℕ)) (old : RunProgress) (left : List ℕ) → Ran taken before mid old → WritesFront old.gathered left mid after
     → Halts (FaultIn taken before) before after left fault.Memory
 ran_stops taken before mid after old left ran m = waits (FaultIn taken before) before mid after ran.written old.gathered left fault.Memory ran.wrote m
     (λ last a. run_some taken _ before last old ran.runs a) (λ last a. run_cut taken _ before last old ran.runs a)
 
 -- the same, for a run that these bytes extend
-pub ran_refused : (taken bs : List ℕ) (before mid : Option (List ℕ)) (old : Progress) → Ran taken before mid old → Halts (FaultIn (taken ++ bs) before) before mid old.gathered fault.Memory
+pub ran_refused : (taken bs : List ℕ) (before mid : Option (List ℕ)) (old : RunProgress) → Ran taken before mid old → Halts (FaultIn (taken ++ bs) before) before mid old.gathered fault.Memory
 ran_refused taken bs before mid old ran =
     halts_as (FaultIn taken before) (FaultIn (taken ++ bs) before) before mid old.gathered fault.Memory (fault_later taken bs before) (ran_stops taken before mid mid old old.gathered ran (still old.gathered mid))
 
 -- the line that ends here was not done
-pub end_stops : (taken : List ℕ) (before mid after : Option (List ℕ)) (old : Progress) (left : List ℕ) (f : RunFault) → Ran taken before mid old
+pub end_stops : (taken : List ℕ) (before mid after : Option (List ℕ)) (old : RunProgress) (left : List ℕ) (f : RunFault) → Ran taken before mid old
     → LineStops old.point.version (strip_carriage_return old.pending) (old.done + 1) old.gathered left mid after f
     → Halts (FaultIn (taken ++ 10 ∷ []) before) before after left f
 end_stops taken before mid after old left (fault.Unreadable n) ran (number, bad, m) = waits (FaultIn (taken ++ 10 ∷ []) before) before mid after ran.written old.gathered left (fault.Unreadable n) ran.wrote m
@@ -222,14 +222,14 @@ whole_line (b ∷ old) new back line begun empty some none =
     some (rw joined (omega (arith, length-append (b ∷ old) back))) ∙ joined
 
 -- a line that was begun ends after these bytes
-pub end_ok_after : (taken back : List ℕ) (before mid after : Option (List ℕ)) (old : Progress) (left : List ℕ) (k : ℕ) (point : Point) → NoFeed back → Ran taken before mid old
+pub end_ok_after : (taken back : List ℕ) (before mid after : Option (List ℕ)) (old : RunProgress) (left : List ℕ) (k : ℕ) (point : Point) → NoFeed back → Ran taken before mid old
     → LineDone old.point (strip_carriage_return (old.pending ++ back)) old.gathered left mid after k point
     → Ran (taken ++ ended_by_feed back) before after (record { point = point; pending = []; gathered = left; events = old.events + k; done = old.done + 1 })
 end_ok_after taken back before mid after old left k point free ran done =
     subst (λ t. Ran t before after (record { point = point; pending = []; gathered = left; events = old.events + k; done = old.done + 1 })) (append_assoc taken back (10 ∷ []))
     (end_ok (taken ++ back) before mid after (longer old back) left k point (ran_more taken back before mid old ran free) done)
 
-pub end_stops_after : (taken back : List ℕ) (before mid after : Option (List ℕ)) (old : Progress) (left : List ℕ) (f : RunFault) → NoFeed back → Ran taken before mid old
+pub end_stops_after : (taken back : List ℕ) (before mid after : Option (List ℕ)) (old : RunProgress) (left : List ℕ) (f : RunFault) → NoFeed back → Ran taken before mid old
     → LineStops old.point.version (strip_carriage_return (old.pending ++ back)) (old.done + 1) old.gathered left mid after f
     → Halts (FaultIn (taken ++ ended_by_feed back) before) before after left f
 end_stops_after taken back before mid after old left f free ran stops =
@@ -246,7 +246,7 @@ halts_longer taken front line more bytes before after gathered f joined h =
     (halts_as (FaultIn ((taken ++ front) ++ line) before) (FaultIn (((taken ++ front) ++ line) ++ more) before) before after gathered f (fault_later ((taken ++ front) ++ line) more before) h)
 
 -- what is kept of the bytes stops the run
-pub keep_stops : (rest bytes front : List ℕ) (first now : Option (List ℕ)) (begun old new : Progress) (r : Result ⊤ RunFault) → bytes ≡ front ++ rest
+pub keep_stops : (rest bytes front : List ℕ) (first now : Option (List ℕ)) (begun old new : RunProgress) (r : Result ⊤ RunFault) → bytes ≡ front ++ rest
     → ((taken : List ℕ) (before : Option (List ℕ)) → Ran taken before first begun → Ran (taken ++ front) before now old)
     → IfErr r (λ f. (taken : List ℕ) (before after : Option (List ℕ)) → Ran taken before after old → Halts (FaultIn (taken ++ rest) before) before after new.gathered f)
     → IfErr r (λ f. (taken : List ℕ) (before : Option (List ℕ)) → Ran taken before first begun → Halts (FaultIn (taken ++ bytes) before) before now new.gathered f)
@@ -257,7 +257,7 @@ keep_stops rest bytes front first now begun old new (Err f) joined ran h = λ ta
 
 -- ---- a line that is too long
 
-run_long : (taken text : List ℕ) (before last : Option (List ℕ)) (old : Progress) → Runs taken text old → may_fit old.pending ≡ false → Appends before last text
+run_long : (taken text : List ℕ) (before last : Option (List ℕ)) (old : RunProgress) → Runs taken text old → may_fit old.pending ≡ false → Appends before last text
     → FaultIn taken before last (fault.Unreadable (old.done + 1))
 run_long taken text before last old run over wrote = λ more.
     let (line, (others, (e, unread))) = long_first old.point.version old.pending more run.cut.open_end over in
@@ -279,7 +279,7 @@ run_long taken text before last old run over wrote = λ more.
       };
     }
 
-pub ran_too_long : (taken : List ℕ) (before mid : Option (List ℕ)) (old : Progress) (f : RunFault) → TooLong old.done f → Ran taken before mid old → may_fit old.pending ≡ false
+pub ran_too_long : (taken : List ℕ) (before mid : Option (List ℕ)) (old : RunProgress) (f : RunFault) → TooLong old.done f → Ran taken before mid old → may_fit old.pending ≡ false
     → Halts (FaultIn taken before) before mid old.gathered f
 ran_too_long taken before mid old (fault.Unreadable number) h ran over =
     waits (FaultIn taken before) before mid mid ran.written old.gathered old.gathered (fault.Unreadable number) ran.wrote (still old.gathered mid)
@@ -290,7 +290,7 @@ ran_too_long taken before mid old fault.Memory h ran over = ran_stops taken befo
 
 -- ---- what is gathered is written
 
-pub ran_out : (taken : List ℕ) (before mid after : Option (List ℕ)) (old : Progress) → Ran taken before mid old → Appends mid after old.gathered
+pub ran_out : (taken : List ℕ) (before mid after : Option (List ℕ)) (old : RunProgress) → Ran taken before mid old → Appends mid after old.gathered
     → Ran taken before after (record { point = old.point; pending = old.pending; gathered = []; events = old.events; done = old.done })
 ran_out taken before mid after old ran wrote = record {
   written = ran.written ++ old.gathered;
@@ -298,22 +298,22 @@ ran_out taken before mid after old ran wrote = record {
   wrote = Appends-trans before mid after ran.written old.gathered ran.wrote wrote;
 }
 
-pub ran_part : (taken : List ℕ) (before mid after : Option (List ℕ)) (old : Progress) → Ran taken before mid old → AppendsFront mid after old.gathered → FaultIn taken before after fault.Write
+pub ran_part : (taken : List ℕ) (before mid after : Option (List ℕ)) (old : RunProgress) → Ran taken before mid old → AppendsFront mid after old.gathered → FaultIn taken before after fault.Write
 ran_part taken before mid after old ran part = run_cut taken _ before after old ran.runs (Appends-front before mid after ran.written old.gathered ran.wrote part)
 
 -- ---- the end of the input
 
-pub finish_empty : (taken : List ℕ) (before mid : Option (List ℕ)) (old : Progress) → Ran taken before mid old → old.pending ≡ [] → RanAll taken before mid old
+pub finish_empty : (taken : List ℕ) (before mid : Option (List ℕ)) (old : RunProgress) → Ran taken before mid old → old.pending ≡ [] → RanAll taken before mid old
 finish_empty taken before mid old ran none =
     let all : lines taken ≡ map strip_carriage_return ran.runs.whole = all_lines taken ran.runs.whole old.pending ran.runs.cut ∙ ap (λ r. map strip_carriage_return ran.runs.whole ++ lines r) none ∙ append-nil _ in
     record { written = ran.written; runs = rw all ran.runs.runs; wrote = ran.wrote }
 
-finish_lines : (taken text : List ℕ) (old : Progress) → (run : Runs taken text old) → 0 < length old.pending
+finish_lines : (taken text : List ℕ) (old : RunProgress) → (run : Runs taken text old) → 0 < length old.pending
     → lines taken ≡ map strip_carriage_return run.whole ++ old.pending ∷ []
 finish_lines taken text old run some =
     all_lines taken run.whole old.pending run.cut ∙ ap (λ l. map strip_carriage_return run.whole ++ l) (last_line old.pending run.cut.open_end some)
 
-pub finish_ok : (taken : List ℕ) (before mid after : Option (List ℕ)) (old : Progress) (left : List ℕ) (k n : ℕ) (point : Point) → Ran taken before mid old → 0 < length old.pending
+pub finish_ok : (taken : List ℕ) (before mid after : Option (List ℕ)) (old : RunProgress) (left : List ℕ) (k n : ℕ) (point : Point) → Ran taken before mid old → 0 < length old.pending
     → LineDone old.point old.pending old.gathered left mid after k point
     → RanAll taken before after (record { point = point; pending = old.pending; gathered = left; events = old.events + k; done = n })
 finish_ok taken before mid after old left k n point ran some done =
@@ -331,7 +331,7 @@ finish_ok taken before mid after old left k n point ran some done =
 here : (taken : List ℕ) (before last : Option (List ℕ)) (f : RunFault) → FaultIn taken before last f → FaultAt taken before last f
 here taken before last f h = subst (λ t. FaultAt t before last f) (append-nil taken) (h [])
 
-finish_bad : (taken text : List ℕ) (before last : Option (List ℕ)) (old : Progress) → Runs taken text old → 0 < length old.pending
+finish_bad : (taken text : List ℕ) (before last : Option (List ℕ)) (old : RunProgress) → Runs taken text old → 0 < length old.pending
     → read_in old.point.version old.pending ≡ None → Appends before last text → FaultAt taken before last (fault.Unreadable (old.done + 1))
 finish_bad taken text before last old run some unread wrote =
     let first = map strip_carriage_return run.whole in
@@ -354,16 +354,16 @@ finish_bad taken text before last old run some unread wrote =
     }
 
 -- memory was refused before the last line
-pub finish_refused : (taken : List ℕ) (before mid after : Option (List ℕ)) (old : Progress) (left : List ℕ) → Ran taken before mid old → Moves old.gathered left mid after
+pub finish_refused : (taken : List ℕ) (before mid after : Option (List ℕ)) (old : RunProgress) (left : List ℕ) → Ran taken before mid old → WritesFront old.gathered left mid after
     → Halts (FaultAt taken before) before after left fault.Memory
 finish_refused taken before mid after old left ran m =
     halts_as (FaultIn taken before) (FaultAt taken before) before after left fault.Memory (here taken before) (ran_stops taken before mid after old left ran m)
 
-pub finish_still : (taken : List ℕ) (before mid : Option (List ℕ)) (old : Progress) → Ran taken before mid old → Halts (FaultAt taken before) before mid old.gathered fault.Memory
+pub finish_still : (taken : List ℕ) (before mid : Option (List ℕ)) (old : RunProgress) → Ran taken before mid old → Halts (FaultAt taken before) before mid old.gathered fault.Memory
 finish_still taken before mid old ran = finish_refused taken before mid mid old old.gathered ran (still old.gathered mid)
 
 -- the last line was not done
-pub finish_stops : (taken : List ℕ) (before mid after : Option (List ℕ)) (old : Progress) (left : List ℕ) (f : RunFault) → Ran taken before mid old → 0 < length old.pending
+pub finish_stops : (taken : List ℕ) (before mid after : Option (List ℕ)) (old : RunProgress) (left : List ℕ) (f : RunFault) → Ran taken before mid old → 0 < length old.pending
     → LineStops old.point.version old.pending (old.done + 1) old.gathered left mid after f → Halts (FaultAt taken before) before after left f
 finish_stops taken before mid after old left (fault.Unreadable n) ran some (number, bad, m) = waits (FaultAt taken before) before mid after ran.written old.gathered left (fault.Unreadable n) ran.wrote m
     (λ last a. subst (λ k. FaultAt taken before last (fault.Unreadable k)) (sym number) (finish_bad taken _ before last old ran.runs some bad a))
@@ -374,7 +374,7 @@ finish_stops taken before mid after old left fault.Write ran some part =
 finish_stops taken before mid after old left fault.Memory ran some m = finish_refused taken before mid after old left ran m
 
 -- all lines were run, and all their text is written
-pub all_out : (taken : List ℕ) (before mid after : Option (List ℕ)) (old : Progress) → RanAll taken before mid old → Appends mid after old.gathered → Wrote (lines taken) old.events before after
+pub all_out : (taken : List ℕ) (before mid after : Option (List ℕ)) (old : RunProgress) → RanAll taken before mid old → Appends mid after old.gathered → Wrote (lines taken) old.events before after
 all_out taken before mid after old ran wrote = record {
   text = ran.written ++ old.gathered;
   point = old.point;
@@ -383,7 +383,7 @@ all_out taken before mid after old ran wrote = record {
 }
 
 -- or a beginning of it
-pub all_part : (taken : List ℕ) (before mid after : Option (List ℕ)) (old : Progress) → RanAll taken before mid old → AppendsFront mid after old.gathered → FaultAt taken before after fault.Write
+pub all_part : (taken : List ℕ) (before mid after : Option (List ℕ)) (old : RunProgress) → RanAll taken before mid old → AppendsFront mid after old.gathered → FaultAt taken before after fault.Write
 all_part taken before mid after old ran part =
     let all : take (length (lines taken)) (lines taken) ≡ lines taken = take_all (length (lines taken)) (lines taken) (omega arith) in
     record {
@@ -436,19 +436,19 @@ stops_at told left before after bytes fault.Read t h = absurd h
 stops_at told left before after bytes fault.Write t h = (bytes, t, h)
 stops_at told left before after bytes fault.Memory t h = (bytes, t, h)
 
-pub stops_at_end : (told left before mid after : Option (List ℕ)) (bytes : List ℕ) (old : Progress) (r : Result ℕ RunFault) → Consumes told left bytes → IsAtEnd left → Ran bytes before mid old
+pub stops_at_end : (told left before mid after : Option (List ℕ)) (bytes : List ℕ) (old : RunProgress) (r : Result ℕ RunFault) → Consumes told left bytes → IsAtEnd left → Ran bytes before mid old
     → IfErr r (λ f. (taken : List ℕ) (first : Option (List ℕ)) → Ran taken first mid old → FaultAt taken first after f) → IfErr r (StopsBy told left before after)
 stops_at_end told left before mid after bytes old (Ok n) p q ran h = tt
 stops_at_end told left before mid after bytes old (Err f) p q ran h = stops_at told left before after bytes f (told_all told left bytes p q) (h bytes before ran)
 
 -- all text is written where none is gathered
-written_all : (taken : List ℕ) (before mid : Option (List ℕ)) (old : Progress) → Ran taken before mid old → old.gathered ≡ [] → (text : List ℕ) × Runs taken text old × Appends before mid text
+written_all : (taken : List ℕ) (before mid : Option (List ℕ)) (old : RunProgress) → Ran taken before mid old → old.gathered ≡ [] → (text : List ℕ) × Runs taken text old × Appends before mid text
 written_all taken before mid old ran none =
     let same : ran.written ++ old.gathered ≡ ran.written = ap (λ g. ran.written ++ g) none ∙ append-nil ran.written in
     (ran.written, subst (λ t. Runs taken t old) same ran.runs, ran.wrote)
 
 -- the run was too long
-pub stops_late : (told left before mid : Option (List ℕ)) (bytes : List ℕ) (old : Progress) → Consumes told left bytes → Ran bytes before mid old → old.gathered ≡ []
+pub stops_late : (told left before mid : Option (List ℕ)) (bytes : List ℕ) (old : RunProgress) → Consumes told left bytes → Ran bytes before mid old → old.gathered ≡ []
     → (input : List ℕ) × (Tells told input × RanFirst input before mid)
 stops_late told left before mid bytes old p ran none =
     let (more, t) = told_input told left bytes p in
@@ -456,7 +456,7 @@ stops_late told left before mid bytes old p ran none =
     (bytes ++ more, (t, run_some bytes text before mid old run wrote more))
 
 -- reading failed: the lines whose end was read were run
-pub stops_as_read : (told left before after : Option (List ℕ)) (taken : List ℕ) (state : Progress) → Consumes told left taken → Ran taken before after state → state.gathered ≡ [] → RanAsRead told left before after
+pub stops_as_read : (told left before after : Option (List ℕ)) (taken : List ℕ) (state : RunProgress) → Consumes told left taken → Ran taken before after state → state.gathered ≡ [] → RanAsRead told left before after
 stops_as_read told left before after taken state consumed ran none =
     let (text, run, wrote) = written_all taken before after state ran none in
     record {
@@ -482,7 +482,7 @@ keeps_none_taken (Some xs) None k = k
 keeps_none_taken (Some xs) (Some ys) k = sym k
 
 -- The input ended, and what was left of it was run: all of it was.
-pub done_at_end : (told left before mid after : Option (List ℕ)) (bytes : List ℕ) (old : Progress) (r : Result ℕ RunFault) → Consumes told left bytes → IsAtEnd left → Ran bytes before mid old
+pub done_at_end : (told left before mid after : Option (List ℕ)) (bytes : List ℕ) (old : RunProgress) (r : Result ℕ RunFault) → Consumes told left bytes → IsAtEnd left → Ran bytes before mid old
     → IfOk r (λ n. (taken : List ℕ) (first : Option (List ℕ)) → Ran taken first mid old → Wrote (lines taken) n first after) → IfOk r (RanToEnd told left before after)
 done_at_end told left before mid after bytes old (Ok n) p q ran h = record { input = bytes; tells = told_all told left bytes p q; ended = q; all = h bytes before ran }
 done_at_end told left before mid after bytes old (Err f) p q ran h = tt

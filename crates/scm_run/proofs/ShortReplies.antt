@@ -28,11 +28,11 @@ use Rattle.af_base.specs.declared.events.SockType.TheVariants.{Seqpacket, Stream
 use Rattle.af_base.specs.declared.events.Step.{Step}
 use Rattle.af_base.specs.declared.events.Step.TheVariants as step
 use Rattle.af_base.specs.declared.limits.TheConstants.{MAX_BYTES, SCM_MAX_FD}
-use Rattle.af_base.proofs.Purged.{slice-by}
+use Rattle.af_base.proofs.PurgedWorlds.{slice-by}
 use Rattle.af_base.proofs.Elements.{Contains-first, Contains-later, Contains-none}
 use Rattle.af_base.proofs.Lookups.{none_some, some_same}
-use Rattle.af_base.proofs.Stepped.{NoneFits, none-fits}
-use Rattle.af_base.proofs.Takes.{before, find-here, find-later, up_to}
+use Rattle.af_base.proofs.SoundSteps.{NoneFits, none-fits}
+use Rattle.af_base.proofs.ReceivedFiles.{before, find-here, find-later, up_to}
 use Rattle.scm_run.specs.Text.{IsShort}
 
 -- All messages of a queue are within the limits.

@@ -8,7 +8,7 @@ use Rattle.af_base.specs.Run.{Step as MachineStep}
 use Rattle.af_base.specs.Steps.{Outcome, SpawnStep, spawned}
 use Rattle.af_base.specs.World.{World}
 use Rattle.af_base.proofs.Lookups.{some_same}
-use Rattle.af_base.proofs.Stepping.{accepted}
+use Rattle.af_base.proofs.AllowedSteps.{accepted}
 use Rattle.af_base.specs.declared.errno.Errno.{Errno}
 use Rattle.af_base.specs.declared.errno.Errno.TheVariants.{ENOMEM}
 use Rattle.af_base.specs.declared.events.Event.{Event}
@@ -20,7 +20,7 @@ use Rattle.af_base.specs.declared.events.Step.TheVariants as step
 use Rattle.af_base.specs.Whole.{IsSound}
 use Rattle.af_steps.specs.Outcome.{Answers, Does, Refuses, RefusesStart, Starts, error_of, got_reply}
 use Rattle.af_steps.specs.declared.messages.Received.{Received}
-use Rattle.af_steps.proofs.Folded.{does-step, refuses-step}
+use Rattle.af_steps.proofs.FoldedReplies.{does-step, refuses-step}
 use Rattle.scm_lines.specs.Forms.{line_row, read_form, step_row}
 use Rattle.scm_lines.specs.Versions.{allowed_in, has_line, is_unknown, read_in}
 use Rattle.scm_lines.specs.Words.{at_end, no_words, words_of}
@@ -31,7 +31,7 @@ use Rattle.scm_lines.specs.declared.keywords.Verb.{Verb}
 use Rattle.scm_lines.specs.declared.line.Line.TheVariants as line
 use Rattle.scm_lines.specs.declared.version.Version.{Version}
 use Rattle.scm_lines.specs.declared.version.Version.TheVariants as version
-use Rattle.scm_run.specs.Gather.{Moves}
+use Rattle.scm_run.specs.Gather.{WritesFront}
 use Rattle.scm_run.specs.Line.{EventDone, LineDone, LineRead, LineStops, StepDone}
 use Rattle.scm_run.specs.Script.{Point}
 use Rattle.scm_run.specs.Text.{IsShort, reply_line, reply_of}
@@ -125,17 +125,17 @@ pub send_renamed : (on : ℕ) (bytes fds own : List ℕ) (read : Option Step) �
 send_renamed on bytes fds own read same e = rw same (sym e)
 
 -- A line that was done behind what is gathered.
-pub line_done : (old new : Point) (bytes gathered kept left : List ℕ) (before after : Option (List ℕ)) (events : ℕ) → Moves gathered kept before after
+pub line_done : (old new : Point) (bytes gathered kept left : List ℕ) (before after : Option (List ℕ)) (events : ℕ) → WritesFront gathered kept before after
     → LineRead old bytes kept (Ok events) left new → LineDone old bytes gathered left before after events new
 line_done old new bytes gathered kept left before after events moves (text, does, behind) =
     record { text = text; kept = kept; does = does; moves = moves; behind = behind }
 
 -- A line that cannot be read stops the run, and nothing is gathered of it.
-pub line_stops : (old new : Point) (bytes gathered kept left : List ℕ) (before after : Option (List ℕ)) (number : ℕ) → Moves gathered kept before after
+pub line_stops : (old new : Point) (bytes gathered kept left : List ℕ) (before after : Option (List ℕ)) (number : ℕ) → WritesFront gathered kept before after
     → LineRead old bytes kept (Err unread.Unreadable) left new → LineStops old.version bytes number gathered left before after (fault.Unreadable number)
-line_stops old new bytes gathered kept left before after number moves (none, same) = (refl, none, subst (λ l. Moves gathered l before after) (sym same) moves)
+line_stops old new bytes gathered kept left before after number moves (none, same) = (refl, none, subst (λ l. WritesFront gathered l before after) (sym same) moves)
 
 -- Memory for it was refused.
-pub line_starves : (old new : Point) (bytes gathered kept left : List ℕ) (before after : Option (List ℕ)) (number : ℕ) → Moves gathered kept before after
+pub line_starves : (old new : Point) (bytes gathered kept left : List ℕ) (before after : Option (List ℕ)) (number : ℕ) → WritesFront gathered kept before after
     → LineRead old bytes kept (Err unread.Memory) left new → LineStops old.version bytes number gathered left before after fault.Memory
-line_starves old new bytes gathered kept left before after number moves same = subst (λ l. Moves gathered l before after) (sym same) moves
+line_starves old new bytes gathered kept left before after number moves same = subst (λ l. WritesFront gathered l before after) (sym same) moves

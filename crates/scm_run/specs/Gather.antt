@@ -7,7 +7,7 @@ use Rattle.scm_run.specs.declared.fault.RunFault.{RunFault}
 use Rattle.scm_run.specs.declared.fault.RunFault.TheVariants as fault
 
 -- A front of what was gathered was written, and the rest of it is gathered still.
-pub record Moves (old new : List ℕ) (before after : Option (List ℕ)) : Type 0 where
+pub record WritesFront (old new : List ℕ) (before after : Option (List ℕ)) : Type 0 where
   pub front : List ℕ
   pub split : old ≡ front ++ new
   pub wrote : Appends before after front
@@ -18,7 +18,7 @@ abbrev pub MoveStops : List ℕ → List ℕ → Option (List ℕ) → Option (L
 MoveStops old new before after (fault.Unreadable n) = ⊥
 MoveStops old new before after fault.Read = ⊥
 MoveStops old new before after fault.Write = AppendsFront before after old
-MoveStops old new before after fault.Memory = Moves old new before after
+MoveStops old new before after fault.Memory = WritesFront old new before after
 
 -- A fault is answered once what is gathered is written, and the writer's in its place where that
 -- fails; after the writer's nothing is written.

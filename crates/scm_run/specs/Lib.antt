@@ -1,5 +1,5 @@
 -- The history of a watched reader or writer.
-pub mod Watch
+pub mod WatchedView
 pub mod Watched
 -- The effect of a script, and the text that is written of it.
 pub mod Text

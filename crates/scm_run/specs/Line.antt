@@ -15,7 +15,7 @@ use Rattle.scm_lines.specs.declared.keywords.Verb.{Verb}
 use Rattle.scm_lines.specs.declared.line.Line.TheVariants as line
 use Rattle.scm_lines.specs.declared.version.Version.{Version}
 use Rattle.scm_run.specs.Watched.{AppendsFront}
-use Rattle.scm_run.specs.Gather.{Moves}
+use Rattle.scm_run.specs.Gather.{WritesFront}
 use Rattle.scm_run.specs.Script.{LineText, Point}
 use Rattle.scm_run.specs.Text.{reply_line}
 use Rattle.scm_run.specs.declared.fault.RunFault.{RunFault}
@@ -27,17 +27,17 @@ pub record LineDone (old : Point) (bytes gathered left : List ℕ) (before after
   pub text : List ℕ
   pub kept : List ℕ
   pub does : LineText old bytes events text new
-  pub moves : Moves gathered kept before after
+  pub moves : WritesFront gathered kept before after
   pub behind : left ≡ kept ++ text
 
 -- The line of this number, in a script of this version so far, was not done, for this reason.
 abbrev pub LineStops : Version → List ℕ → ℕ → List ℕ → List ℕ → Option (List ℕ) → Option (List ℕ)
     → RunFault → Type 0
 LineStops v bytes number gathered left before after (fault.Unreadable n) = (n ≡ number)
-    × (read_in v bytes ≡ None) × Moves gathered left before after
+    × (read_in v bytes ≡ None) × WritesFront gathered left before after
 LineStops v bytes number gathered left before after fault.Read = ⊥
 LineStops v bytes number gathered left before after fault.Write = AppendsFront before after gathered
-LineStops v bytes number gathered left before after fault.Memory = Moves gathered left before after
+LineStops v bytes number gathered left before after fault.Memory = WritesFront gathered left before after
 
 -- What came of the step of process p that this verb and the bytes behind it say: it was done, and
 -- the line of its reply stands behind the text; or its words cannot be read, or memory for them was

@@ -10,7 +10,7 @@ use Rattle.scm_run.specs.declared.fault.RunFault.TheVariants as fault
 
 -- The state of a script, the bytes after the last line feed, the text that is not written yet, and
 -- how many events and lines were done.
-pub record Progress : Type 0 where
+pub record RunProgress : Type 0 where
   pub point : Point
   pub pending : List ℕ
   pub gathered : List ℕ
@@ -18,11 +18,11 @@ pub record Progress : Type 0 where
   pub done : ℕ
 
 -- Nothing was read yet.
-abbrev pub nothing_read : Progress
+abbrev pub nothing_read : RunProgress
 nothing_read = record { point = first_point; pending = []; gathered = []; events = 0; done = 0 }
 
 -- These bytes were taken, and the whole lines in them were run, with this text.
-pub record Runs (taken text : List ℕ) (state : Progress) : Type 0 where
+pub record Runs (taken text : List ℕ) (state : RunProgress) : Type 0 where
   pub whole : List (List ℕ)
   pub cut : IsCut taken whole state.pending
   pub runs : RunText first_point (map strip_carriage_return whole) state.events text state.point
@@ -30,18 +30,18 @@ pub record Runs (taken text : List ℕ) (state : Progress) : Type 0 where
 
 -- These bytes were taken, the whole lines in them were run, and their text was written but for what
 -- is gathered.
-pub record Ran (taken : List ℕ) (before after : Option (List ℕ)) (state : Progress) : Type 0 where
+pub record Ran (taken : List ℕ) (before after : Option (List ℕ)) (state : RunProgress) : Type 0 where
   pub written : List ℕ
   pub runs : Runs taken (written ++ state.gathered) state
   pub wrote : Appends before after written
 
 -- From any state, a run read these bytes more.
-abbrev pub Took : List ℕ → Option (List ℕ) → Progress → Option (List ℕ) → Progress → Type 0
+abbrev pub Took : List ℕ → Option (List ℕ) → RunProgress → Option (List ℕ) → RunProgress → Type 0
 Took bytes was old is new = (taken : List ℕ) (before : Option (List ℕ)) → Ran taken before was old
     → Ran (taken ++ bytes) before is new
 
 -- All lines of this input were run, and their text was written but for what is gathered.
-pub record RanAll (input : List ℕ) (before after : Option (List ℕ)) (state : Progress) : Type 0 where
+pub record RanAll (input : List ℕ) (before after : Option (List ℕ)) (state : RunProgress) : Type 0 where
   pub written : List ℕ
   pub runs : RunText first_point (lines input) state.events (written ++ state.gathered) state.point
   pub wrote : Appends before after written
@@ -80,6 +80,6 @@ Halts says before after gathered fault.Write = says after fault.Write
 Halts says before after gathered fault.Memory = Waits says before after gathered fault.Memory
 
 -- From any state, a run stopped at this fault in these bytes more.
-abbrev pub Stopped : List ℕ → Option (List ℕ) → Progress → Option (List ℕ) → Progress → RunFault → Type 0
+abbrev pub Stopped : List ℕ → Option (List ℕ) → RunProgress → Option (List ℕ) → RunProgress → RunFault → Type 0
 Stopped bytes was old is new f = (taken : List ℕ) (before : Option (List ℕ))
     → Ran taken before was old → Halts (FaultIn (taken ++ bytes) before) before is new.gathered f

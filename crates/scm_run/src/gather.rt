@@ -3,7 +3,7 @@ ghost use Rattle.std.specs.Prelude.{◌≡◌, ℕ, ◌≤◌, ◌+◌, [], Err,
 ghost use Rattle.std.specs.Prelude.{vec_len, false, is_err};
 ghost use Rattle.std.specs.Io.KnownBytes.{Appends};
 ghost use Rattle.scm_run.specs.Watched.{AppendsFront};
-ghost use Rattle.scm_run.specs.Gather.{MoveStops, Moves, Settles};
+ghost use Rattle.scm_run.specs.Gather.{MoveStops, Settles, WritesFront};
 ghost use Rattle.scm_run.specs.Script.{is_read_fault, is_write_fault};
 
 use crate::fault::RunFault;
@@ -36,8 +36,8 @@ pub fn write_out<W: Write>(text: &mut Vec<u8>, writer: &mut Watched<W>) -> Resul
 /// Room is taken once in a run: it grows only for a long report.
 pub fn make_room<W: Write>(text: &mut Vec<u8>, writer: &mut Watched<W>) -> Result<(), RunFault>
     requires { writer.old.has_failed ≡ false }
-    ensures ok { OnOk result (Moves text.old.items text.new.items (W.contents writer.old.inner)
-        (W.contents writer.new.inner)) }
+    ensures ok { OnOk result (WritesFront text.old.items text.new.items
+        (W.contents writer.old.inner) (W.contents writer.new.inner)) }
     ensures room { OnOk result (vec_len text.new + MAX_REPLY_LINE ≤ vec_capacity text.new) }
     ensures err { IfErr result (MoveStops text.old.items text.new.items
         (W.contents writer.old.inner) (W.contents writer.new.inner)) }

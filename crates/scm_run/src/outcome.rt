@@ -11,7 +11,7 @@ ghost use Rattle.scm_run.specs.declared.text.TheConstants.{MAX_REPLY_LINE};
 use crate::text::push_reply;
 use af_base::errno::Errno;
 use af_base::events::Reply;
-use af_base::names::{Fd, Pid};
+use af_base::ids::{Fd, Pid};
 use af_steps::{Finished, Progress, Received};
 
 /// Appends the line of a refusal. It is apart, since most steps are done.

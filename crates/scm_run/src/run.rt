@@ -23,7 +23,7 @@ const CHUNK: usize = 8192;
 
 /// A run of a script, as far as it has come.
 #[derive(Drop)]
-struct Run {
+struct ScriptRun {
     engine: Engine,
     /// The script's version, by the lines that were done.
     version: Version,
@@ -36,13 +36,13 @@ struct Run {
     done: u64,
 }
 
-impl Model for Run {
+impl Model for ScriptRun {
     ghost use Rattle.std.specs.Prelude.{◌≤◌};
     ghost use Rattle.std.specs.FinMap as map;
     ghost use Rattle.std.specs.Coded.{codes};
-    ghost use Rattle.scm_run.specs.Progress.{Progress, Stopped, Took};
+    ghost use Rattle.scm_run.specs.Progress.{RunProgress, Stopped, Took};
 
-    ghost Value = { Progress };
+    ghost Value = { RunProgress };
 
     ghost coded = { Prim.hlevel (codes, map.code) };
 
@@ -96,12 +96,12 @@ fn may_fit(bytes: &[u8]) -> bool
     without_return(bytes).len() <= MAX_LINE
 }
 
-impl Run {
+impl ScriptRun {
     /// Makes a run that has read nothing.
     fn new(alloc: Global) -> Result<Self, AllocError>
         ensures { IfOk result (λ r. r ≡ nothing_read) }
     {
-        Ok(Run {
+        Ok(ScriptRun {
             engine: Engine::new(alloc)?,
             version: Version::Unknown,
             pending: Vec::new(alloc),
@@ -347,7 +347,7 @@ pub fn run_script<R: Read, W: Write>(
     ensures read { reader.new.has_failed ≡ is_read_fault result }
     ensures write { writer.new.has_failed ≡ is_write_fault result }
 {
-    let mut run = Run::new(alloc)?;
+    let mut run = ScriptRun::new(alloc)?;
     let outcome = run.run_to_end(alloc, reader, writer);
     // Dropped by a call: at the end of the block each part would be dropped, and proved, by itself.
     drop(run);

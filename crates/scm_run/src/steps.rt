@@ -9,7 +9,7 @@ use crate::outcome::{
     push_done, push_fd, push_fds, push_finished, push_pid, push_progress, push_received, push_sent,
     push_started,
 };
-use af_base::names::Pid;
+use af_base::ids::Pid;
 use af_steps::Engine;
 use scm_lines::{Keyword, LineFault, Verb, forms, is_end, keyword_in};
 use std::alloc::Global;

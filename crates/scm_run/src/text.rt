@@ -6,8 +6,8 @@ ghost use Rattle.scm_run.specs.Text.{IsShort, all_plain, is_plain, hex_digit, es
 ghost use Rattle.scm_run.specs.Text.{fds_text, flag_text, got_text, reply_line, reply_text};
 
 use af_base::events::Reply;
+use af_base::ids::Fd;
 use af_base::limits::{MAX_BYTES, SCM_MAX_FD};
-use af_base::names::Fd;
 use itoa::Buffer;
 use std::alloc::AllocError;
 

@@ -2,7 +2,7 @@
 ghost use Rattle.std.specs.Prelude.{◌≡◌, ◌||◌, false, is_err};
 ghost use Rattle.std.specs.Io.{ReadsAtMost, WritesAtMost};
 ghost use Rattle.std.specs.Io.KnownBytes.{Keeps, ReadConsumes, WriteAppends};
-ghost use Rattle.scm_run.specs.Watch.{Watch};
+ghost use Rattle.scm_run.specs.WatchedView.{WatchedView};
 ghost use Rattle.scm_run.specs.Watched.{is_failed_read, is_failed_write};
 
 use std::io;
@@ -19,7 +19,7 @@ pub struct Watched<T> {
 }
 
 impl<T> Model for Watched<T> {
-    ghost Value = { Watch T };
+    ghost Value = { WatchedView T };
 
     ghost view = { λ w. record { inner = w.inner; has_failed = w.has_failed } };
 }

@@ -1,7 +1,7 @@
 //! Words and a script with what they are, and that ample memory is enough.
 use af_base::events::{Event, SockType, Step};
+use af_base::ids::{Fd, Pid};
 use af_base::items::Items;
-use af_base::names::{Fd, Pid};
 use scm_race::workload::{event_of_word, make_script};
 use std::alloc::{AllocError, AllocGlobal};
 use std::process::Abort;

@@ -1,5 +1,5 @@
 //! The faults that an audit finds.
-use super::bench::{Outcome, Play, end_of, spawn_from, stray_seat};
+use super::bench::{LayerOutcome, Play, end_of, spawn_from, stray_seat};
 use af_layer::{CloseFault, Layer, Seat};
 use std::alloc::Global;
 use std::sync::Wait;
@@ -95,8 +95,8 @@ impl Play for Double {
 
 /// Returns the outcome of an audit of a layer of two seats that finds this fault, with this many
 /// log entries and returned seats.
-fn found(fault: CloseFault, entries: usize, seats: usize) -> Option<Outcome> {
-    Some(Outcome {
+fn audit_outcome(fault: CloseFault, entries: usize, seats: usize) -> Option<LayerOutcome> {
+    Some(LayerOutcome {
         fault: Some(fault),
         entries,
         seats,
@@ -106,17 +106,17 @@ fn found(fault: CloseFault, entries: usize, seats: usize) -> Option<Outcome> {
 #[test]
 fn audit_finds_a_changed_answer(rt: HostRuntime) {
     let outcome = end_of(&rt, rt.alloc(), 2, &Changed);
-    assert!(rt; outcome == found(CloseFault::Audit(2), 2, 2));
+    assert!(rt; outcome == audit_outcome(CloseFault::Audit(2), 2, 2));
 }
 
 #[test]
 fn audit_finds_a_missing_seat(rt: HostRuntime) {
     let outcome = end_of(&rt, rt.alloc(), 2, &Missing);
-    assert!(rt; outcome == found(CloseFault::Missing(2), 2, 1));
+    assert!(rt; outcome == audit_outcome(CloseFault::Missing(2), 2, 1));
 }
 
 #[test]
 fn audit_finds_a_double(rt: HostRuntime) {
     let outcome = end_of(&rt, rt.alloc(), 2, &Double);
-    assert!(rt; outcome == found(CloseFault::Stranger(2), 0, 3));
+    assert!(rt; outcome == audit_outcome(CloseFault::Stranger(2), 0, 3));
 }

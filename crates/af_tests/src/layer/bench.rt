@@ -3,8 +3,8 @@
 ghost use Rattle.std.specs.Thread.{IsSync};
 
 use af_base::events::{Event, SockType, Step};
+use af_base::ids::{Fd, Pid, Uid};
 use af_base::items::Items;
-use af_base::names::{Fd, Pid, Uid};
 use af_layer::{CloseError, CloseFault, Closed, Layer, Seat};
 use std::alloc::{AllocError, Global};
 use std::sync::Wait;
@@ -91,7 +91,7 @@ pub fn spawn_from<R: Wait>(rt: &R, layer: &Layer, seat: &mut Seat, processes: u3
 
 /// The outcome of a layer.
 #[derive(Clone, Copy, PartialEq, Eq)]
-pub struct Outcome {
+pub struct LayerOutcome {
     /// The fault that the audit found, if any.
     pub fault: Option<CloseFault>,
     /// How many entries the log has.
@@ -106,14 +106,14 @@ fn close(layer: Layer, seats: Vec<Seat>) -> Result<Closed, CloseError> {
 }
 
 /// Returns the outcome of a closed layer.
-fn outcome_of(closed: &Result<Closed, CloseError>) -> Outcome {
+fn outcome_of(closed: &Result<Closed, CloseError>) -> LayerOutcome {
     match closed {
-        Ok(closed) => Outcome {
+        Ok(closed) => LayerOutcome {
             fault: None,
             entries: closed.book.log().len(),
             seats: 0,
         },
-        Err(error) => Outcome {
+        Err(error) => LayerOutcome {
             fault: Some(error.fault),
             entries: error.book.log().len(),
             seats: error.seats.len(),
@@ -122,7 +122,7 @@ fn outcome_of(closed: &Result<Closed, CloseError>) -> Outcome {
 }
 
 /// Closes the layer with these seats, and returns the outcome.
-pub fn end(layer: Layer, seats: Vec<Seat>) -> Outcome {
+pub fn end(layer: Layer, seats: Vec<Seat>) -> LayerOutcome {
     let closed = close(layer, seats);
     outcome_of(&closed)
 }
@@ -149,7 +149,7 @@ pub fn end_of<R: Threads + Wait + Sync, P: Play>(
     alloc: Global,
     seats: u32,
     play: &P,
-) -> Option<Outcome> {
+) -> Option<LayerOutcome> {
     let (layer, seats) = Layer::open(alloc, seats).ok()?;
     let seats = play.on(rt, alloc, &layer, seats)?;
     Some(end(layer, seats))

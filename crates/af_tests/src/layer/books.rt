@@ -22,7 +22,7 @@ enum Came {
 }
 
 /// How many entries the log has, how many pairs the list, and what the engine counts.
-fn shown(book: &Book, seat: &Seat) -> (usize, usize, u64, u64) {
+fn counts_of(book: &Book, seat: &Seat) -> (usize, usize, u64, u64) {
     let engine = book.engine();
     (
         book.log().len(),
@@ -58,9 +58,9 @@ fn end_alike(book: &Book, seat: &Seat) -> Option<Came> {
 
 /// A call from the seat: log and list go on by the same event and reply, or stay.
 fn call_in(book: &mut Book, seat: &mut Seat, event: Event) -> Came {
-    let before = shown(book, seat);
+    let before = counts_of(book, seat);
     let called = seat.call_in(book, event);
-    let after = shown(book, seat);
+    let after = counts_of(book, seat);
     match called {
         Ok(()) if after.0 == before.0.saturating_add(1) && after.1 == before.1.saturating_add(1) =>
             { end_alike(book, seat).unwrap_or(Came::Otherwise) }
@@ -71,9 +71,9 @@ fn call_in(book: &mut Book, seat: &mut Seat, event: Event) -> Came {
 
 /// Calls under another seat's number: the log is extended by the answer, or is unchanged.
 fn call(book: &mut Book, seat: &Seat, event: Event) -> Came {
-    let before = shown(book, seat);
+    let before = counts_of(book, seat);
     let answered = book.call(2, event);
-    let after = shown(book, seat);
+    let after = counts_of(book, seat);
     match (answered, book.log().last()) {
         (Ok(reply), Some(entry))
             if after.0 == before.0.saturating_add(1)

@@ -1,12 +1,12 @@
 //! Checkpoints of a layer that stays in use.
 use super::bench::spawn;
-use af_layer::{CloseFault, Layer, Reached, Seat};
+use af_layer::{AtCheckpoint, CloseFault, Layer, Seat};
 use std::process::Abort;
 use std::sync::Wait;
 use std::test::Fail;
 
 /// A process starts from each seat.
-fn spawn_from_each<R: Wait>(rt: &R, layer: &Layer<Reached>, seats: &mut [Seat]) -> bool {
+fn spawn_from_each<R: Wait>(rt: &R, layer: &Layer<AtCheckpoint>, seats: &mut [Seat]) -> bool {
     for seat in seats {
         if layer.call(rt, seat, spawn()).is_err() {
             return false;
@@ -16,7 +16,11 @@ fn spawn_from_each<R: Wait>(rt: &R, layer: &Layer<Reached>, seats: &mut [Seat]) 
 }
 
 /// How many entries a checkpoint hands over, or what it finds.
-fn taken<R: Wait>(rt: &R, layer: &Layer<Reached>, seats: &mut [Seat]) -> Result<usize, CloseFault> {
+fn take_checkpoint<R: Wait>(
+    rt: &R,
+    layer: &Layer<AtCheckpoint>,
+    seats: &mut [Seat],
+) -> Result<usize, CloseFault> {
     Ok(layer.checkpoint(rt, seats)?.len())
 }
 
@@ -31,9 +35,9 @@ fn have(seats: &[Seat], pairs: usize) -> bool {
 }
 
 /// Two processes start, and both entries are taken.
-fn spawn_and_take<R: Wait + Abort>(rt: &R, layer: &Layer<Reached>, seats: &mut [Seat]) {
+fn spawn_and_take<R: Wait + Abort>(rt: &R, layer: &Layer<AtCheckpoint>, seats: &mut [Seat]) {
     assert!(rt; spawn_from_each(rt, layer, seats) && have(seats, 1));
-    assert!(rt; taken(rt, layer, seats) == Ok(2) && have(seats, 0));
+    assert!(rt; take_checkpoint(rt, layer, seats) == Ok(2) && have(seats, 0));
 }
 
 #[test]
@@ -51,10 +55,10 @@ fn checkpoint_with_a_missing_seat_changes_nothing(rt: HostRuntime) -> Result<(),
     let layer = layer.allow_checkpoints();
     assert!(rt; spawn_from_each(&rt, &layer, &mut seats));
     let last = seats.pop();
-    assert!(rt; taken(&rt, &layer, &mut seats) == Err(CloseFault::Missing(2)));
+    assert!(rt; take_checkpoint(&rt, &layer, &mut seats) == Err(CloseFault::Missing(2)));
     if let Some(last) = last {
         seats.push(last)?;
     }
-    assert!(rt; have(&seats, 1) && taken(&rt, &layer, &mut seats) == Ok(2));
+    assert!(rt; have(&seats, 1) && take_checkpoint(&rt, &layer, &mut seats) == Ok(2));
     Ok(())
 }

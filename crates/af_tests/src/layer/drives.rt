@@ -1,5 +1,5 @@
 //! The seats and the log after a drive of scripts.
-use super::bench::{Outcome, Play, end_of, event_at, scripts, spawn_from};
+use super::bench::{LayerOutcome, Play, end_of, event_at, scripts, spawn_from};
 use af_base::equality::events_equal;
 use af_layer::{Layer, OpenGate, Seat, Turns, drive};
 use std::alloc::{AllocError, Global};
@@ -12,7 +12,7 @@ const STEPS: u32 = 500;
 
 /// All seats behind four workers, and a collector beside them, where the lists keep the scripts.
 /// The last seat lets the processes start, and the drive leaves it alone.
-fn driven<R: Threads + Wait + Sync>(
+fn drive_all<R: Threads + Wait + Sync>(
     rt: &R,
     alloc: Global,
     layer: &Layer,
@@ -68,7 +68,7 @@ impl Play for Scripts {
         layer: &Layer,
         seats: Vec<Seat>,
     ) -> Option<Vec<Seat>> {
-        driven(rt, alloc, layer, seats)
+        drive_all(rt, alloc, layer, seats)
     }
 }
 
@@ -76,7 +76,7 @@ impl Play for Scripts {
 /// scripts, the turns of the collector, and the starts.
 #[test]
 fn log_keeps_the_scripts(rt: HostRuntime) {
-    let well = Outcome {
+    let well = LayerOutcome {
         fault: None,
         entries: 2_504,
         seats: 0,

@@ -1,8 +1,8 @@
 //! Gates of flags: one at which each worker waits until all are inside, so that they run beside
 //! each other, and one that lets the second seat call when the first has called.
-use super::bench::{Outcome, Play, end_of, spawn, spawn_from, step};
+use super::bench::{LayerOutcome, Play, end_of, spawn, spawn_from, step};
 use af_base::events::{Event, Reply, Step};
-use af_base::names::Pid;
+use af_base::ids::Pid;
 use af_layer::{Gate, Layer, Seat, Turns, drive};
 use std::alloc::{AllocError, Global};
 use std::sync::Wait;
@@ -160,7 +160,7 @@ impl Play for Inside {
 }
 
 /// The audit ended well. The log has two starts, and two calls of each of three seats.
-const WELL: Outcome = Outcome {
+const WELL: LayerOutcome = LayerOutcome {
     fault: None,
     entries: 8,
     seats: 0,
@@ -234,7 +234,7 @@ fn starts(alloc: Global) -> Result<Vec<Vec<Event>>, AllocError> {
 }
 
 /// Whether the process of this pid was started by the first call from this seat.
-fn started(seat: &Seat, pid: u32) -> bool {
+fn has_started(seat: &Seat, pid: u32) -> bool {
     match seat.list().first() {
         Some(pair) => *pair.reply() == Reply::Pid(Pid(pid)),
         None => false,
@@ -243,7 +243,7 @@ fn started(seat: &Seat, pid: u32) -> bool {
 
 /// Whether the first seat's call came before those of the second.
 fn are_in_turn(seats: &[Seat]) -> bool {
-    seats.len() == 2 && started(&seats[0], 1) && started(&seats[1], 2)
+    seats.len() == 2 && has_started(&seats[0], 1) && has_started(&seats[1], 2)
 }
 
 /// The second seat calls when the first has called.
@@ -270,7 +270,7 @@ impl Play for InTurn {
 
 #[test]
 fn gate_is_told_of_a_call_that_was_made(rt: HostRuntime) {
-    let well = Outcome {
+    let well = LayerOutcome {
         fault: None,
         entries: 3,
         seats: 0,

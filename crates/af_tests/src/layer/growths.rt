@@ -46,7 +46,7 @@ fn wants_memory(error: &DriveError) -> bool {
 
 /// Returns all seats after a drive of a script and a collector, and whether it stopped, if it did,
 /// for lack of memory; `None` if the script could not be made.
-fn driven<R: Threads + Wait + Sync>(
+fn drive_script<R: Threads + Wait + Sync>(
     rt: &R,
     alloc: Global,
     layer: &Layer,
@@ -78,7 +78,7 @@ fn are_done<R: Wait>(rt: &R, alloc: Global, layer: &Layer, seat: &mut Seat) -> b
 
 /// Returns all seats after calls from the last one and a drive over the others, and whether all was
 /// as described; `None` if the script could not be made.
-fn played<R: Threads + Wait + Sync>(
+fn play_script<R: Threads + Wait + Sync>(
     rt: &R,
     alloc: Global,
     layer: &Layer,
@@ -86,7 +86,7 @@ fn played<R: Threads + Wait + Sync>(
 ) -> Option<(Vec<Seat>, bool)> {
     let last = seats.last_mut()?;
     let done = are_done(rt, alloc, layer, last);
-    let (seats, as_told) = driven(rt, alloc, layer, seats)?;
+    let (seats, as_told) = drive_script(rt, alloc, layer, seats)?;
     let all_back = seats.len() == 3;
     Some((seats, done && as_told && all_back))
 }
@@ -95,7 +95,7 @@ fn played<R: Threads + Wait + Sync>(
 /// script could not be made.
 fn is_as_told<R: Threads + Wait + Sync>(rt: &R, alloc: Global) -> Option<bool> {
     let (layer, seats) = Layer::open(alloc, 3).ok()?;
-    let (seats, as_told) = played(rt, alloc, &layer, seats)?;
+    let (seats, as_told) = play_script(rt, alloc, &layer, seats)?;
     Some(end(layer, seats).fault.is_none() && as_told)
 }
 

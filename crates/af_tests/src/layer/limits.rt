@@ -1,6 +1,6 @@
 //! Refusals at a limit: a call with a full log, a layer of too few or too many seats, and a drive
 //! of more work than seats.
-use super::bench::{Outcome, Play, end_of, scripts};
+use super::bench::{LayerOutcome, Play, end_of, scripts};
 use af_base::events::Event;
 use af_layer::{
     Book, CallError, DriveError, DriveFault, Layer, OpenError, OpenGate, Seat, Turns, drive,
@@ -31,7 +31,7 @@ fn is_full(book: &mut Book) -> bool {
 }
 
 /// Returns whether the log is taken whole, and calls are logged again.
-fn goes_on_when_taken(book: &mut Book) -> bool {
+fn continues_after_take(book: &mut Book) -> bool {
     book.take_log().len() == ENTRIES && fill(book, 2) && book.log().len() == 2
 }
 
@@ -39,7 +39,7 @@ fn goes_on_when_taken(book: &mut Book) -> bool {
 fn fills_up(rt: &impl Abort, book: &mut Book) {
     assert!(rt; fill(book, ENTRIES));
     assert!(rt; is_full(book));
-    assert!(rt; goes_on_when_taken(book));
+    assert!(rt; continues_after_take(book));
 }
 
 #[test]
@@ -77,7 +77,7 @@ fn had_too_few_seats(error: &DriveError) -> bool {
 
 /// The seats of a drive that had too few for two scripts and a collector. Nothing, where it had
 /// enough.
-fn refused<R: Threads + Wait + Sync>(
+fn refused_seats<R: Threads + Wait + Sync>(
     rt: &R,
     alloc: Global,
     layer: &Layer,
@@ -108,14 +108,14 @@ impl Play for TooFew {
         layer: &Layer,
         seats: Vec<Seat>,
     ) -> Option<Vec<Seat>> {
-        refused(rt, alloc, layer, seats)
+        refused_seats(rt, alloc, layer, seats)
     }
 }
 
 /// Nothing was started, and the audit of the two seats ends well.
 #[test]
 fn two_scripts_and_a_collector_want_three_seats(rt: HostRuntime) {
-    let untouched = Outcome {
+    let untouched = LayerOutcome {
         fault: None,
         entries: 0,
         seats: 0,

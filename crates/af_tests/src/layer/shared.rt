@@ -2,8 +2,8 @@
 //! make them beside each other.
 use af_base::errno::Errno;
 use af_base::events::{Event, SockType};
+use af_base::ids::{Fd, Pid, Uid};
 use af_base::items::Items;
-use af_base::names::{Fd, Pid, Uid};
 use af_layer::Shared;
 use af_steps::{Engine, Progress};
 use std::alloc::{AllocError, Global};

@@ -1,9 +1,9 @@
 //! Drives from as many seats as a layer may have, over as many files as there may be.
-use super::bench::{Outcome, Play, end_of, step};
+use super::bench::{LayerOutcome, Play, end_of, step};
 use af_base::errno::Errno;
 use af_base::events::{Event, Reply, SockType, Step};
+use af_base::ids::{Fd, Uid};
 use af_base::items::Items;
-use af_base::names::{Fd, Uid};
 use af_layer::{Layer, OpenGate, Seat, Turns, drive};
 use std::alloc::{AllocError, Global};
 use std::sync::Wait;
@@ -37,7 +37,7 @@ fn name(alloc: Global) -> Result<Items<u8>, AllocError> {
 
 /// Opens as many files as the process may have: a socket at 0, a listener where no other process
 /// has the name, a socket at 1, and plain files.
-fn filling(alloc: Global, pid: u32) -> Result<Vec<Event>, AllocError> {
+fn fill_script(alloc: Global, pid: u32) -> Result<Vec<Event>, AllocError> {
     let bind = Step::Bind {
         on: Fd(0),
         name: name(alloc)?,
@@ -58,16 +58,16 @@ fn filling(alloc: Global, pid: u32) -> Result<Vec<Event>, AllocError> {
 }
 
 /// The scripts that open 65,536 files, one for each seat.
-fn filling_all(alloc: Global) -> Result<Vec<Vec<Event>>, AllocError> {
+fn fill_scripts(alloc: Global) -> Result<Vec<Vec<Event>>, AllocError> {
     let mut scripts = Vec::new(alloc);
     for before in 0..SEATS {
-        scripts.push(filling(alloc, before.saturating_add(1))?)?;
+        scripts.push(fill_script(alloc, before.saturating_add(1))?)?;
     }
     Ok(scripts)
 }
 
 /// Connects the socket at 1 to the listener.
-fn connecting(alloc: Global, pid: u32) -> Result<Vec<Event>, AllocError> {
+fn connect_script(alloc: Global, pid: u32) -> Result<Vec<Event>, AllocError> {
     let connect = Step::Connect {
         on: Fd(1),
         name: name(alloc)?,
@@ -76,16 +76,16 @@ fn connecting(alloc: Global, pid: u32) -> Result<Vec<Event>, AllocError> {
 }
 
 /// The scripts that connect, one for each seat but the last.
-fn connecting_all(alloc: Global) -> Result<Vec<Vec<Event>>, AllocError> {
+fn connect_scripts(alloc: Global) -> Result<Vec<Vec<Event>>, AllocError> {
     let mut scripts = Vec::new(alloc);
     for before in 1..SEATS {
-        scripts.push(connecting(alloc, before)?)?;
+        scripts.push(connect_script(alloc, before)?)?;
     }
     Ok(scripts)
 }
 
 /// The seats behind a drive that makes all files, from each seat some.
-fn filled<R: Threads + Wait + Sync>(
+fn fill_all<R: Threads + Wait + Sync>(
     rt: &R,
     alloc: Global,
     layer: &Layer,
@@ -94,19 +94,19 @@ fn filled<R: Threads + Wait + Sync>(
     if !spawn_all(rt, layer, seats.last_mut()?) {
         return None;
     }
-    let scripts = filling_all(alloc).ok()?;
+    let scripts = fill_scripts(alloc).ok()?;
     drive(rt, layer, seats, scripts, None, &OpenGate).ok()
 }
 
 /// Returns the seats after a drive over these files. It connects from each seat but the last, which
 /// begins a pass and continues it. Four slices of the largest budget end a pass over all files.
-fn connected<R: Threads + Wait + Sync>(
+fn connect_all<R: Threads + Wait + Sync>(
     rt: &R,
     alloc: Global,
     layer: &Layer,
     seats: Vec<Seat>,
 ) -> Option<Vec<Seat>> {
-    let scripts = connecting_all(alloc).ok()?;
+    let scripts = connect_scripts(alloc).ok()?;
     let turns = Turns {
         turns: 5,
         budget: 65_536,
@@ -148,8 +148,8 @@ impl Play for Wide {
         layer: &Layer,
         seats: Vec<Seat>,
     ) -> Option<Vec<Seat>> {
-        let seats = filled(rt, alloc, layer, seats)?;
-        let seats = connected(rt, alloc, layer, seats)?;
+        let seats = fill_all(rt, alloc, layer, seats)?;
+        let seats = connect_all(rt, alloc, layer, seats)?;
         if went_as_told(&seats) {
             Some(seats)
         } else {
@@ -161,7 +161,7 @@ impl Play for Wide {
 /// The log has 64 starts, 1,026 calls of each seat, 63 connects and five turns.
 #[test]
 fn drives_from_64_seats_over_65_536_files(rt: HostRuntime) {
-    let well = Outcome {
+    let well = LayerOutcome {
         fault: None,
         entries: 65_796,
         seats: 0,

@@ -1,8 +1,8 @@
 //! Short forms of events and replies, so that a test is a list of these.
 use af_base::errno::Errno;
 use af_base::events::{Event, Reply, SockType, Step};
+use af_base::ids::{Fd, Pid, Uid};
 use af_base::items::Items;
-use af_base::names::{Fd, Pid, Uid};
 use af_steps::Engine;
 use std::alloc::{AllocError, Global};
 use std::process::Abort;

@@ -28,9 +28,9 @@ fn has(rt: &impl Abort, engine: &Engine, live: usize, in_flight: u64) {
 
 /// Number 0 has a chain of 60,000 sockets behind it, two in each queue, and all go with it. No
 /// bound is proved for the stack.
-struct Chain;
+struct LongChain;
 
-impl Trial for Chain {
+impl Trial for LongChain {
     fn on<T: Abort>(&self, rt: &T, alloc: Global, engine: &mut Engine) -> Result<(), AllocError> {
         play(rt, alloc, engine, &START)?;
         for _ in 0..30_000 {
@@ -46,5 +46,5 @@ impl Trial for Chain {
 
 #[test]
 fn long_chain(rt: HostRuntime) -> Result<(), Fail> {
-    Ok(on_new_engine(&rt, rt.alloc(), &Chain)?)
+    Ok(on_new_engine(&rt, rt.alloc(), &LongChain)?)
 }

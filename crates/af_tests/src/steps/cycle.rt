@@ -1,7 +1,7 @@
 //! The smallest cycle by one run of a list, and what is reached before a pass takes it and after.
 use super::acts::{Act, Trial, event_of, on_new_engine};
 use af_base::events::{Event, Reply, SockType, Step};
-use af_base::names::{Fd, Ino, Pid, Uid};
+use af_base::ids::{Fd, Ino, Pid, Uid};
 use af_plain::{garbage, reached};
 use af_steps::Engine;
 use std::alloc::{AllocError, Global};

@@ -2,7 +2,7 @@
 use super::acts::{Trial, answers, on_new_engine};
 use af_base::errno::Errno;
 use af_base::events::{Event, Reply, Step};
-use af_base::names::{Fd, Pid, Uid};
+use af_base::ids::{Fd, Pid, Uid};
 use af_steps::Engine;
 use std::alloc::{AllocError, Global};
 use std::process::Abort;

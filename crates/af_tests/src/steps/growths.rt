@@ -1,9 +1,9 @@
 //! One allocation refused, the Nth: `tools/stress` refuses each in turn.
 use super::acts::{Act, Answer, Trial, event_of, on_new_engine, reply_of, reply_to};
-use super::views::{counts, waiting};
+use super::views::{counts, queue_lengths};
 use af_base::errno::Errno;
 use af_base::events::{Event, Reply};
-use af_base::names::Uid;
+use af_base::ids::Uid;
 use af_steps::Engine;
 use std::alloc::{AllocError, Global};
 use std::process::Abort;
@@ -58,15 +58,15 @@ static ROWS: [(Act, Answer); 40] = [
 
 /// Returns the counts that the views show of the first four files, the last of which is to listen,
 /// of user 1000, and of all.
-fn shown(engine: &Engine) -> [(u64, u64); 9] {
+fn views_of(engine: &Engine) -> [(u64, u64); 9] {
     [
         counts(engine, 1),
         counts(engine, 2),
         counts(engine, 3),
         counts(engine, 4),
-        waiting(engine, 2),
-        waiting(engine, 3),
-        waiting(engine, 4),
+        queue_lengths(engine, 2),
+        queue_lengths(engine, 3),
+        queue_lengths(engine, 4),
         (engine.charged(Uid(1000)), engine.total()),
         (engine.live() as u64, u64::from(engine.next_pid().0)),
     ]
@@ -74,11 +74,11 @@ fn shown(engine: &Engine) -> [(u64, u64); 9] {
 
 /// Does the event, which has this reply, at the second try if the first was refused memory; then
 /// nothing had changed.
-fn done(rt: &impl Abort, engine: &mut Engine, event: &Event, wanted: &Reply) {
-    let before = shown(engine);
+fn do_event(rt: &impl Abort, engine: &mut Engine, event: &Event, wanted: &Reply) {
+    let before = views_of(engine);
     let mut reply = reply_to(engine, event);
     if reply == Reply::Refused(Errno::ENOMEM) {
-        assert!(rt; shown(engine) == before);
+        assert!(rt; views_of(engine) == before);
         reply = reply_to(engine, event);
     }
     assert!(rt; reply == *wanted, "{event:?}");
@@ -94,7 +94,7 @@ fn all_done(
     for (act, wanted) in rows {
         let event = event_of(alloc, *act)?;
         let wanted = reply_of(alloc, *wanted)?;
-        done(rt, engine, &event, &wanted);
+        do_event(rt, engine, &event, &wanted);
     }
     Ok(())
 }

@@ -1,8 +1,8 @@
 //! Receives that install as many descriptors as a message may carry, and an accept behind them.
 use super::acts::{Act, Answer, Trial, answers, on_new_engine, play};
 use af_base::events::{Event, Reply, Step};
+use af_base::ids::{Fd, Pid};
 use af_base::items::Items;
-use af_base::names::{Fd, Pid};
 use af_steps::Engine;
 use std::alloc::{AllocError, Global};
 use std::process::Abort;

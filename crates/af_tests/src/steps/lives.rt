@@ -1,7 +1,7 @@
 //! Inode numbers after many files have come and gone.
 use super::acts::{Act, Answer, Trial, answers, on_new_engine, play};
 use af_base::events::{Event, Reply, Step};
-use af_base::names::{Fd, Ino, Pid};
+use af_base::ids::{Fd, Ino, Pid};
 use af_steps::Engine;
 use std::alloc::{AllocError, Global};
 use std::process::Abort;

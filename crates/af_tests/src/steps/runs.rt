@@ -3,7 +3,7 @@
 use super::acts::{Trial, on_new_engine};
 use af_base::errno::Errno;
 use af_base::events::{Event, Reply, Step};
-use af_base::names::{Fd, Pid, Uid};
+use af_base::ids::{Fd, Pid, Uid};
 use af_steps::{Engine, RunStopped};
 use std::alloc::{AllocError, Global};
 use std::process::Abort;
@@ -27,20 +27,20 @@ fn rounds(alloc: Global) -> Result<Vec<Event>, AllocError> {
 /// The replies so far: whether the process lives and its descriptor is open, and how often memory
 /// was refused, for an event or for its reply.
 #[derive(Drop)]
-struct Told {
+struct ReplyState {
     lives: bool,
     is_open: bool,
     wants: u32,
 }
 
-impl Told {
+impl ReplyState {
     /// Memory was wanted once more.
     fn want(&mut self) {
         self.wants = self.wants.saturating_add(1);
     }
 
     /// The reply to the event, where memory is ample.
-    fn wanted(&self, event: &Event) -> Reply {
+    fn wanted_reply(&self, event: &Event) -> Reply {
         match event {
             Event::Spawn { .. } => Reply::Pid(Pid(1)),
             _ if !self.lives => Reply::Refused(Errno::ESRCH),
@@ -51,12 +51,12 @@ impl Told {
     }
 
     /// This is the reply to the event, or memory was wanted and nothing has changed.
-    fn note(&mut self, rt: &impl Abort, event: &Event, reply: &Reply) {
+    fn check_reply(&mut self, rt: &impl Abort, event: &Event, reply: &Reply) {
         if *reply == Reply::Refused(Errno::ENOMEM) {
             self.want();
             return;
         }
-        assert!(rt; *reply == self.wanted(event), "{event:?}: {reply:?}");
+        assert!(rt; *reply == self.wanted_reply(event), "{event:?}: {reply:?}");
         match reply {
             Reply::Pid(_) => self.lives = true,
             Reply::Fd(_) => self.is_open = true,
@@ -68,7 +68,7 @@ impl Told {
     /// These are the replies to the first events. How many there are.
     fn note_all(&mut self, rt: &impl Abort, events: &[Event], replies: &[Reply]) -> usize {
         for (event, reply) in events.iter().zip(replies) {
-            self.note(rt, event, reply);
+            self.check_reply(rt, event, reply);
         }
         replies.len()
     }
@@ -76,7 +76,7 @@ impl Told {
 
 /// The events are run. How many were done: fewer than there are where memory for a reply was
 /// refused.
-fn run(rt: &impl Abort, engine: &mut Engine, events: &[Event], told: &mut Told) -> usize {
+fn run(rt: &impl Abort, engine: &mut Engine, events: &[Event], told: &mut ReplyState) -> usize {
     match engine.run(events) {
         Ok(replies) => told.note_all(rt, events, replies.as_slice()),
         Err(RunStopped { done }) => {
@@ -90,7 +90,7 @@ fn run(rt: &impl Abort, engine: &mut Engine, events: &[Event], told: &mut Told) 
 /// Runs all events, for which memory is refused once at most. Where a run stops, another one
 /// continues behind it.
 fn run_all(rt: &impl Abort, engine: &mut Engine, events: &[Event]) {
-    let mut told = Told {
+    let mut told = ReplyState {
         lives: false,
         is_open: false,
         wants: 0,

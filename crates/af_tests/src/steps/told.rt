@@ -3,7 +3,7 @@
 use super::acts::{Act, Answer, Trial, event_of, on_new_engine, play, reply_of, reply_to};
 use af_base::errno::Errno;
 use af_base::events::{Event, Reply};
-use af_base::names::{Fd, FileRef, Ino, Pid};
+use af_base::ids::{Fd, FileRef, Ino, Pid};
 use af_steps::{Engine, FileInfo};
 use std::alloc::{AllocError, Global};
 use std::process::Abort;
@@ -11,10 +11,10 @@ use std::test::Fail;
 
 /// An event and its reply; the inode numbers of the files that it frees, and of the sockets whose
 /// readiness it may change, in any order.
-type Row = (Act, Answer, &'static [u64], &'static [u64]);
+type ToldRow = (Act, Answer, &'static [u64], &'static [u64]);
 
 /// Plain files: the last descriptor that is closed or replaced frees one.
-static PLAIN: [Row; 10] = [
+static PLAIN: [ToldRow; 10] = [
     (Act::Spawn(0), Answer::Pid(1), &[], &[]),
     (Act::Open, Answer::Fd(0), &[], &[]),
     (Act::Dup(0), Answer::Fd(1), &[], &[]),
@@ -29,7 +29,7 @@ static PLAIN: [Row; 10] = [
 
 /// Messages between the ends of a pair, files 4 and 5, and events that are refused. A receive that
 /// installs at most two of four descriptors frees both other files.
-static MESSAGES: [Row; 19] = [
+static MESSAGES: [ToldRow; 19] = [
     (Act::Pair, Answer::Fds(0, 1), &[], &[4, 5]),
     (Act::Send(0, b"a", &[]), Answer::Sent(1), &[], &[5]),
     (Act::Send(0, b"b", &[]), Answer::Sent(1), &[], &[5]),
@@ -63,7 +63,7 @@ static MESSAGES: [Row; 19] = [
 
 /// Listener 8, its client 9 with embryo 10, which is accepted, and client 11 with embryo 12, which
 /// is freed with the listener.
-static LISTENER: [Row; 14] = [
+static LISTENER: [ToldRow; 14] = [
     (Act::Socket, Answer::Fd(0), &[], &[8]),
     (Act::Bind(0, b"hub"), Answer::Ok, &[], &[]),
     (Act::Listen(0, 1), Answer::Ok, &[], &[8]),
@@ -87,7 +87,7 @@ static LISTENER: [Row; 14] = [
 
 /// One close frees a chain: socket 14, pair 15 and 16 in its queue, and file 17 in the queue of 16.
 /// An exit frees what process 2 holds alone: file 18 and pair 19 and 20.
-static CHAIN: [Row; 18] = [
+static CHAIN: [ToldRow; 18] = [
     (Act::Pair, Answer::Fds(0, 1), &[], &[13, 14]),
     (Act::Pair, Answer::Fds(2, 3), &[], &[15, 16]),
     (Act::Open, Answer::Fd(4), &[], &[]),
@@ -109,7 +109,7 @@ static CHAIN: [Row; 18] = [
 ];
 
 /// Sockets 21 and 23 are each in their own queue alone, and their peers have descriptors.
-static CYCLES: [Row; 6] = [
+static CYCLES: [ToldRow; 6] = [
     (Act::Pair, Answer::Fds(0, 1), &[], &[21, 22]),
     (Act::Send(1, b"x", &[0]), Answer::Sent(1), &[], &[21]),
     (Act::Close(0), Answer::Ok, &[], &[]),
@@ -120,7 +120,7 @@ static CYCLES: [Row; 6] = [
 
 /// A pass by one event frees sockets 25 and 27, each in the queue of the other, and hangs up the
 /// peer of one.
-static PASS: [Row; 10] = [
+static PASS: [ToldRow; 10] = [
     (Act::Close(1), Answer::Ok, &[22], &[]),
     (Act::Close(2), Answer::Ok, &[24], &[]),
     (Act::Pair, Answer::Fds(0, 1), &[], &[25, 26]),
@@ -134,16 +134,16 @@ static PASS: [Row; 10] = [
 ];
 
 /// Pair 29 and 30 are all that is live.
-static EMPTY: [Row; 2] = [
+static EMPTY: [ToldRow; 2] = [
     (Act::Close(1), Answer::Ok, &[26], &[]),
     (Act::Pair, Answer::Fds(0, 1), &[], &[29, 30]),
 ];
 
 /// Socket 30 has one message more.
-static FILLS: [Row; 1] = [(Act::Send(0, b"m", &[]), Answer::Sent(1), &[], &[30])];
+static FILLS: [ToldRow; 1] = [(Act::Send(0, b"m", &[]), Answer::Sent(1), &[], &[30])];
 
 /// A full queue refuses a message. A receive of nine messages makes room.
-static ROOM: [Row; 2] = [
+static ROOM: [ToldRow; 2] = [
     (
         Act::Send(0, b"m", &[]),
         Answer::Refused(Errno::EAGAIN),
@@ -154,14 +154,14 @@ static ROOM: [Row; 2] = [
 ];
 
 /// The pass of the slices begins.
-static BEGIN: [Row; 1] = [(Act::Begin, Answer::Started(1), &[], &[])];
+static BEGIN: [ToldRow; 1] = [(Act::Begin, Answer::Started(1), &[], &[])];
 
 /// The process ends.
-static LAST: [Row; 1] = [(Act::Exit(1), Answer::Ok, &[29, 30], &[])];
+static LAST: [ToldRow; 1] = [(Act::Exit(1), Answer::Ok, &[29, 30], &[])];
 
 /// Returns whether these are the files that were freed.
 fn are_released(engine: &Engine, wanted: &[u64]) -> bool {
-    let released = engine.released();
+    let released = engine.released_files();
     released.len() == wanted.len() && wanted.iter().all(|ino| released.contains(&Ino(*ino)))
 }
 
@@ -172,7 +172,7 @@ fn is_listed(changed: &[FileRef], ino: u64) -> bool {
 
 /// Returns whether these are the sockets whose readiness may have changed.
 fn are_changed(engine: &Engine, wanted: &[u64]) -> bool {
-    let changed = engine.changed();
+    let changed = engine.changed_sockets();
     changed.len() == wanted.len() && wanted.iter().all(|ino| is_listed(changed, *ino))
 }
 
@@ -190,7 +190,7 @@ fn may_allocate(act: Act) -> bool {
 }
 
 /// Does the event, at a second try if the first was refused memory, which reports nothing.
-fn done(rt: &impl Abort, engine: &mut Engine, act: Act, event: &Event, wanted: &Reply) {
+fn do_event(rt: &impl Abort, engine: &mut Engine, act: Act, event: &Event, wanted: &Reply) {
     let mut reply = reply_to(engine, event);
     if reply == Reply::Refused(Errno::ENOMEM) && may_allocate(act) {
         assert!(rt; is_silent(engine), "{event:?}");
@@ -204,12 +204,12 @@ fn tells(
     rt: &impl Abort,
     alloc: Global,
     engine: &mut Engine,
-    rows: &[Row],
+    rows: &[ToldRow],
 ) -> Result<(), AllocError> {
     for (act, answer, freed, changed) in rows {
         let event = event_of(alloc, *act)?;
         let wanted = reply_of(alloc, *answer)?;
-        done(rt, engine, *act, &event, &wanted);
+        do_event(rt, engine, *act, &event, &wanted);
         assert!(rt; are_released(engine, freed), "{event:?}");
         assert!(rt; are_changed(engine, changed), "{event:?}");
         engine.clear_told();
@@ -302,7 +302,7 @@ fn one_growth_refused(rt: HostRuntime) -> Result<(), Fail> {
 }
 
 /// Seven pairs, which are listed at once.
-static PAIRS: [Row; 7] = [
+static PAIRS: [ToldRow; 7] = [
     (Act::Pair, Answer::Fds(0, 1), &[], &[21, 22]),
     (Act::Pair, Answer::Fds(2, 3), &[], &[23, 24]),
     (Act::Pair, Answer::Fds(4, 5), &[], &[25, 26]),
@@ -322,7 +322,7 @@ static FREED: [u64; 20] = [
 
 /// Returns whether each file that is listed as changed is a live socket.
 fn are_sockets(engine: &Engine) -> bool {
-    engine.changed().iter().all(|file| matches!(
+    engine.changed_sockets().iter().all(|file| matches!(
         engine.file(file.ino()),
         Some(FileInfo::Socket { .. })
     ))
@@ -333,12 +333,16 @@ fn plays(
     rt: &impl Abort,
     alloc: Global,
     engine: &mut Engine,
-    rows: &[Row],
+    rows: &[ToldRow],
 ) -> Result<(), AllocError> {
     for (act, answer, _, changed) in rows {
         play(rt, alloc, engine, &[(*act, *answer)])?;
         assert!(rt; are_sockets(engine));
-        assert!(rt; changed.iter().all(|ino| is_listed(engine.changed(), *ino)));
+        assert!(rt;
+            changed
+                .iter()
+                .all(|ino| is_listed(engine.changed_sockets(), *ino))
+        );
     }
     Ok(())
 }
@@ -356,7 +360,7 @@ impl Trial for Joined {
         plays(rt, alloc, engine, &PAIRS)?;
         assert!(rt; are_released(engine, &FREED) && are_changed(engine, &PAIRED));
         play(rt, alloc, engine, &[(Act::Exit(1), Answer::Ok)])?;
-        assert!(rt; engine.released().len() == 34 && are_changed(engine, &[]));
+        assert!(rt; engine.released_files().len() == 34 && are_changed(engine, &[]));
         Ok(())
     }
 }
@@ -371,7 +375,7 @@ fn plays_to(
     rt: &impl Abort,
     alloc: Global,
     engine: &mut Engine,
-    rows: &[Row],
+    rows: &[ToldRow],
 ) -> Result<(), AllocError> {
     for (act, answer, _, _) in rows {
         play(rt, alloc, engine, &[(*act, *answer)])?;

@@ -1,7 +1,7 @@
 //! Views that no report prints.
 use super::acts::{Act, Answer, Trial, on_new_engine, play};
 use af_base::events::{SockType, State};
-use af_base::names::{Ino, Pid, Uid};
+use af_base::ids::{Ino, Pid, Uid};
 use af_steps::{Engine, FileInfo};
 use std::alloc::{AllocError, Global};
 use std::process::Abort;
@@ -30,7 +30,7 @@ pub fn counts(engine: &Engine, ino: u64) -> (u64, u64) {
 }
 
 /// How many messages and embryos wait at the file.
-pub fn waiting(engine: &Engine, ino: u64) -> (u64, u64) {
+pub fn queue_lengths(engine: &Engine, ino: u64) -> (u64, u64) {
     match engine.file(Ino(ino)) {
         Some(
             FileInfo::Socket {
@@ -76,9 +76,9 @@ fn shows_files(engine: &Engine) -> bool {
         && engine.next_after(Ino(0)) == Some(Ino(2))
         && engine.next_after(Ino(6)).is_none()
         && is_stream(engine, 2, State::Listening(2))
-        && waiting(engine, 2) == (0, 1)
+        && queue_lengths(engine, 2) == (0, 1)
         && is_stream(engine, 6, State::Connected(Ino(5)))
-        && waiting(engine, 6) == (1, 0)
+        && queue_lengths(engine, 6) == (1, 0)
         && counts(engine, 4) == (1, 0)
         && counts(engine, 5) == (3, 2)
 }

@@ -10,7 +10,7 @@ use std::fmt;
 
 /// The holder of a file.
 #[derive(Clone, Copy, Debug)]
-pub enum Holder {
+pub enum Location {
     /// A number of a process (open(2)).
     Number(Pid, Fd),
     /// A message in the queue of a socket (unix(7), SCM_RIGHTS).
@@ -21,25 +21,25 @@ pub enum Holder {
 
 /// A place: a file and what holds it there.
 #[derive(Clone, Copy, Debug)]
-pub struct Place {
+pub struct Reference {
     pub file: Ino,
-    pub holder: Holder,
+    pub holder: Location,
 }
 
-impl fmt::Display for Place {
+impl fmt::Display for Reference {
     fn fmt<W: fmt::Write>(&self, f: &mut fmt::Formatter<W>) -> fmt::Result {
         let file = self.file;
         match self.holder {
-            Holder::Number(pid, fd) => write!(f, "{file}: number {fd} of process {pid}"),
-            Holder::Queue(socket) => write!(f, "{file}: the queue of {socket}"),
-            Holder::Backlog(listener) => write!(f, "{file}: the backlog of {listener}"),
+            Location::Number(pid, fd) => write!(f, "{file}: number {fd} of process {pid}"),
+            Location::Queue(socket) => write!(f, "{file}: the queue of {socket}"),
+            Location::Backlog(listener) => write!(f, "{file}: the backlog of {listener}"),
         }
     }
 }
 
 /// Returns all places that hold a file, by rising file: a file occurs as often as its reference
 /// count says.
-pub fn places_of(alloc: Global, engine: &Engine) -> Result<Vec<Place>, AllocError>
+pub fn places_of(alloc: Global, engine: &Engine) -> Result<Vec<Reference>, AllocError>
     ensures { IfOk result (λ ps. ListsAll engine.now.world ps.items) }
 {
     let listing = engine.listing()?;
@@ -51,7 +51,7 @@ fn gather(
     alloc: Global,
     tables: &[ListedTable],
     files: &[ListedFile],
-) -> Result<Vec<Place>, AllocError>
+) -> Result<Vec<Reference>, AllocError>
     requires tables { AreTables tables.now }
     requires files { AreFiles files.now }
     ensures { IfOk result (λ ps. ListsAll (listed tables.now files.now) ps.items) }
@@ -68,21 +68,21 @@ fn gather(
 }
 
 /// Appends the places of the table's descriptors.
-fn push_table(places: &mut Vec<Place>, table: &ListedTable) -> Result<(), AllocError>
+fn push_table(places: &mut Vec<Reference>, table: &ListedTable) -> Result<(), AllocError>
     ensures { OnOk result
         (files_of places.new.items ≡ files_of places.old.items ++ inos_of table.now) }
 {
     for number in &table.numbers {
-        places.push(Place {
+        places.push(Reference {
             file: number.ino,
-            holder: Holder::Number(table.pid, number.fd),
+            holder: Location::Number(table.pid, number.fd),
         })?;
     }
     Ok(())
 }
 
 /// Appends the places in the file's queue and backlog.
-fn push_contents(places: &mut Vec<Place>, file: &ListedFile) -> Result<(), AllocError>
+fn push_contents(places: &mut Vec<Reference>, file: &ListedFile) -> Result<(), AllocError>
     ensures { OnOk result
         (files_of places.new.items ≡ files_of places.old.items ++ contents (file_of file.now)) }
 {
@@ -93,22 +93,22 @@ fn push_contents(places: &mut Vec<Place>, file: &ListedFile) -> Result<(), Alloc
         push_all(
             places,
             message.attached.as_slice(),
-            &Holder::Queue(file.ino),
+            &Location::Queue(file.ino),
         )?;
     }
     push_all(
         places,
         socket.backlog.as_slice(),
-        &Holder::Backlog(file.ino),
+        &Location::Backlog(file.ino),
     )
 }
 
 /// Appends these files, each held so.
-fn push_all(places: &mut Vec<Place>, files: &[Ino], holder: &Holder) -> Result<(), AllocError>
+fn push_all(places: &mut Vec<Reference>, files: &[Ino], holder: &Location) -> Result<(), AllocError>
     ensures { OnOk result (files_of places.new.items ≡ files_of places.old.items ++ files.now) }
 {
     for file in files {
-        places.push(Place {
+        places.push(Reference {
             file: *file,
             holder: *holder,
         })?;

@@ -1,5 +1,5 @@
 //! The collector's share of the broker's work.
-ghost use Rattle.examples.specs.Reclaim.{Collects};
+ghost use Rattle.examples.specs.Reclaim.{Reclaims};
 
 use crate::broker::host::HostFile;
 use jaywardrobe::{Finished, Owned, Progress};
@@ -9,7 +9,7 @@ const BUDGET: u32 = 4;
 
 /// Continues the running pass by a slice, or begins the next one. Answers a pass that is over.
 pub fn reclaim(engine: &mut Owned<HostFile>) -> Option<Finished>
-    ensures { Collects engine.old.machine.pass engine.old.machine result engine.new.machine }
+    ensures { Reclaims engine.old.machine.pass engine.old.machine result engine.new.machine }
 {
     match engine.slice(BUDGET) {
         Ok(Progress::Done(finished)) => Some(finished),

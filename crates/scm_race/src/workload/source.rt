@@ -8,7 +8,7 @@ ghost use Rattle.scm_race.specs.declared.workload.table.TheConstants.{MAX_WORKER
 use crate::workload::script::{MIN_STEPS, generator};
 use crate::workload::table::{LISTENER, event_of_word, listener_name};
 use af_base::events::{Event, SockType, Step};
-use af_base::names::Pid;
+use af_base::ids::Pid;
 use rand_xoshiro::Xoshiro256PlusPlus;
 use rand_xoshiro::rand_core::Rng;
 use std::alloc::{AllocError, Global};

@@ -4,8 +4,8 @@ ghost use Rattle.scm_race.specs.Table.{attached_of, event_of_word, name_of, part
 ghost use Rattle.scm_race.specs.Table.{type_of};
 
 use af_base::events::{Event, SockType, Step};
+use af_base::ids::{Fd, Pid};
 use af_base::items::Items;
-use af_base::names::{Fd, Pid};
 use std::alloc::{AllocError, Global};
 
 /// The most workers of a race.

@@ -36,13 +36,13 @@ impl Write for FullWriter {
 
 /// The answer of the program, and the text that it wrote.
 #[derive(Drop)]
-pub struct Answer {
+pub struct ProgramAnswer {
     pub status: u8,
     pub output: Vec<u8>,
     pub errors: Vec<u8>,
 }
 
-impl Answer {
+impl ProgramAnswer {
     /// Whether it has this status and these texts.
     fn is(&self, status: u8, output: &str, errors: &str) -> bool {
         self.status == status
@@ -83,12 +83,12 @@ pub fn run<H: Threads + Wait + Sync + Files + AllocGlobal>(
     rt: &H,
     words: &[&str],
     script: &[u8],
-) -> Answer {
+) -> ProgramAnswer {
     let mut input = script;
     let mut output = Vec::new(rt.alloc());
     let mut errors = Vec::new(rt.alloc());
     let status = run_over(rt, words, &mut input, &mut output, &mut errors);
-    Answer {
+    ProgramAnswer {
         status,
         output,
         errors,

@@ -1,6 +1,6 @@
 //! The workers' scripts in the log, with a collector beside them.
 use af_base::events::Event;
-use af_base::names::Uid;
+use af_base::ids::Uid;
 use af_layer::{Book, Entry, Layer, OpenGate, Seat, Turns, drive};
 use scm_race::workload::make_script;
 use std::alloc::{AllocError, Global};
@@ -59,7 +59,7 @@ fn work<R: Threads + Wait + Sync>(
 }
 
 /// Returns the book after four workers and a collector beside them.
-fn driven<R: Threads + Wait + Sync>(rt: &R, alloc: Global) -> Option<Book> {
+fn drive_workers<R: Threads + Wait + Sync>(rt: &R, alloc: Global) -> Option<Book> {
     let (layer, mut seats) = Layer::open(alloc, WORKERS + 2).ok()?;
     let mut main = seats.pop()?;
     let mut seats = work(rt, alloc, &layer, &mut main, seats)?;
@@ -90,7 +90,7 @@ fn has_just<R: Abort>(rt: &R, log: &[Entry], scripts: &[Vec<Event>]) {
 /// The log after four workers has just their scripts. `None` is a fault of the drive or of the
 /// audit, or a lack of memory.
 fn keeps_all<R: Abort + Threads + Wait + Sync>(rt: &R, alloc: Global) -> Option<()> {
-    let book = driven(rt, alloc)?;
+    let book = drive_workers(rt, alloc)?;
     let scripts = scripts(alloc).ok()?;
     has_just(rt, book.log(), scripts.as_slice());
     Some(())

@@ -1,7 +1,7 @@
 //! Races that end well, and what they come to.
 ghost use Rattle.std.specs.Prelude.{◌≡◌, ◌≤◌};
 
-use scm_race::{LongRace, Race, RaceFault, Tally};
+use scm_race::{LongRace, Race, RaceFault, RaceTotals};
 use std::alloc::Global;
 use std::process::Abort;
 use std::sync::Wait;
@@ -11,7 +11,7 @@ use std::thread::Threads;
 /// The outcome of a race: how many events its workers did, how many entries its log has, and how
 /// many files are left.
 #[derive(Clone, Copy, Debug, PartialEq, Eq)]
-struct Told {
+struct RaceSummary {
     steps: usize,
     entries: usize,
     left: usize,
@@ -19,15 +19,19 @@ struct Told {
 
 /// Runs a race, and reads what it came to off its book. A test looks at that and no further, so
 /// this promises nothing.
-fn run<R: Threads + Wait + Sync>(rt: &R, alloc: Global, race: Race) -> Result<Told, RaceFault>
+fn run<R: Threads + Wait + Sync>(
+    rt: &R,
+    alloc: Global,
+    race: Race,
+) -> Result<RaceSummary, RaceFault>
     requires workers { (1 ≤ race.workers) × (race.workers ≤ 32) }
     requires steps { (5 ≤ race.steps) × (race.steps ≤ 20000) }
 {
     let outcome = race.run(rt, alloc)?;
-    let told = Told {
+    let told = RaceSummary {
         steps: outcome.steps(),
         entries: outcome.closed.book.log().len(),
-        left: outcome.left(),
+        left: outcome.live_files(),
     };
     // Dropped by a call: at the end of the block each part would be dropped, and proved, by itself.
     drop(outcome);
@@ -36,7 +40,7 @@ fn run<R: Threads + Wait + Sync>(rt: &R, alloc: Global, race: Race) -> Result<To
 
 /// Returns whether the race ended well: its workers did this many steps, and left no file, and the
 /// log has the collector's turns too.
-fn is_well(end: &Result<Told, RaceFault>, steps: usize, turns: usize) -> bool {
+fn is_well(end: &Result<RaceSummary, RaceFault>, steps: usize, turns: usize) -> bool {
     match end {
         Ok(told) => {
             told.steps == steps && told.left == 0 && told.entries > steps.saturating_add(turns)
@@ -47,7 +51,7 @@ fn is_well(end: &Result<Told, RaceFault>, steps: usize, turns: usize) -> bool {
 
 /// Asserts that the race ended well, with this many steps of its workers, and this many turns of
 /// its collector.
-fn ended_well(rt: &impl Abort, end: Result<Told, RaceFault>, steps: usize, turns: usize) {
+fn ended_well(rt: &impl Abort, end: Result<RaceSummary, RaceFault>, steps: usize, turns: usize) {
     assert!(rt; is_well(&end, steps, turns), "{end:?}");
 }
 
@@ -140,7 +144,7 @@ fn long_race(workers: u32, steps: u32, checkpoint: u32) -> LongRace
 #[test]
 fn long_races(rt: HostRuntime) {
     for (workers, steps, checkpoint) in [(1, 5, 1), (3, 50, 1), (4, 401, 100), (4, 400, 250_000)] {
-        let tally = Tally {
+        let tally = RaceTotals {
             steps: u64::from(workers * steps),
             left: 0,
         };
@@ -157,5 +161,5 @@ fn one_refused_of_a_long_race(rt: HostRuntime) {
     if end == Err(RaceFault::Memory) {
         end = race.run(&rt, rt.alloc());
     }
-    assert!(rt; end == Ok(Tally { steps: 18, left: 0 }), "{end:?}");
+    assert!(rt; end == Ok(RaceTotals { steps: 18, left: 0 }), "{end:?}");
 }

@@ -71,7 +71,7 @@ fn reply_to(line: &[u8], cut: usize, whole: &'static [u8]) -> Option<&'static [u
 }
 
 /// Two texts, one behind the other.
-fn joined(alloc: Global, front: &[u8], back: &[u8]) -> Result<Vec<u8>, AllocError> {
+fn join(alloc: Global, front: &[u8], back: &[u8]) -> Result<Vec<u8>, AllocError> {
     let mut text = Vec::new(alloc);
     for part in [front, back] {
         text.extend_from_slice(part)?;
@@ -101,7 +101,7 @@ fn run_cut<T: Abort + AllocGlobal>(
     let before = first_lines(REPLIES, lines);
     let behind = REPLIES.get(before.len()..).unwrap_or(b"");
     let reply = reply_to(line, script.len(), first_lines(behind, 1));
-    let texts = joined(rt.alloc(), before, reply.unwrap_or(b""))?;
+    let texts = join(rt.alloc(), before, reply.unwrap_or(b""))?;
     let end = run_over(rt, script, texts.as_slice(), AMPLE, AMPLE);
     assert!(rt;
         ends_so(end, reply.is_some(), lines),

@@ -1,6 +1,6 @@
 use Rattle.std.proofs.Common.{◌≡◌, true, sym, ◌∙◌, subst}
 use Rattle.af_base.specs.contracts.events.EventPartialEq.TheImpl as event_eq
-use Rattle.af_base.proofs.Same.{event_same, event_itself}
+use Rattle.af_base.proofs.DerivedEquality.{event_same, event_itself}
 use Rattle.af_base.proofs.equality.events_equal.Goals as goal
 
 pub returns : goal.returns

@@ -1,6 +1,6 @@
 use Rattle.std.proofs.Common.{◌≡◌, true, sym, ◌∙◌, subst}
 use Rattle.af_base.specs.contracts.events.ReplyPartialEq.TheImpl as reply_eq
-use Rattle.af_base.proofs.Same.{reply_same, reply_itself}
+use Rattle.af_base.proofs.DerivedEquality.{reply_same, reply_itself}
 use Rattle.af_base.proofs.equality.replies_equal.Goals as goal
 
 pub returns : goal.returns

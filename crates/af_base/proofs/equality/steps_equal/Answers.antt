@@ -1,6 +1,6 @@
 use Rattle.std.proofs.Common.{◌≡◌, true, sym, ◌∙◌, subst}
 use Rattle.af_base.specs.contracts.events.StepPartialEq.TheImpl as step_eq
-use Rattle.af_base.proofs.Same.{step_same, step_itself}
+use Rattle.af_base.proofs.DerivedEquality.{step_same, step_itself}
 use Rattle.af_base.proofs.equality.steps_equal.Goals as goal
 
 pub returns : goal.returns

@@ -1,7 +1,7 @@
 use Rattle.std.proofs.Common.{rules, ◌≡◌, ℕ, subst, sym}
 use Rattle.std.specs.Prelude.{IfNone, None, Option}
 use Rattle.af_base.specs.Counts.{count_in}
-use Rattle.af_base.proofs.Just.{count_absent, count_nowhere, count_swapped}
+use Rattle.af_base.proofs.ExactLists.{count_absent, count_nowhere, count_swapped}
 use Rattle.af_base.proofs.file_list.swap_remove_file.Goals as goal
 
 pub returns-in_err-at-clause-each : goal.returns-in_err-at-clause-each

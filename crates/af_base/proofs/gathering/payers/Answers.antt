@@ -3,7 +3,7 @@ use Rattle.std.specs.List.{flat_map}
 use Rattle.af_base.specs.Counts.{charged, count_in}
 use Rattle.af_base.specs.Listing.{file_of, listed, payers_of}
 use Rattle.af_base.specs.Places.{queue_of}
-use Rattle.af_base.proofs.Gathered.{count_charged, gathered, tallied}
+use Rattle.af_base.proofs.PlaceLists.{count_charged, gathered, tallied}
 use Rattle.af_base.proofs.gathering.payers.Goals as goal
 
 pub returns : goal.returns

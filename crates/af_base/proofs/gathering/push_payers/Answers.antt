@@ -2,7 +2,7 @@ use Rattle.std.proofs.Common.{ap, sym, ◌∙◌}
 use Rattle.std.specs.List.{flat_map}
 use Rattle.af_base.specs.Listing.{file_of, message_of, payers_of}
 use Rattle.af_base.specs.Places.{queue_of}
-use Rattle.af_base.proofs.Gathered.{gathered, payers_listed}
+use Rattle.af_base.proofs.PlaceLists.{gathered, payers_listed}
 use Rattle.af_base.proofs.gathering.push_payers.Goals as goal
 
 pub returns : goal.returns

@@ -1,6 +1,6 @@
 use denote.Param.Send.{sendable}
 use Rattle.std.proofs.Crossing.{crosses}
-use Rattle.af_layer.proofs.Sent.{shared_sync}
+use Rattle.af_layer.proofs.SendSync.{shared_sync}
 use Rattle.af_bench.proofs.calls.call_beside.Goals as goal
 
 pub for_each_mut-requires-sync-F : goal.for_each_mut-requires-sync-F

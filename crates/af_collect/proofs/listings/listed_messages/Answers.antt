@@ -5,7 +5,7 @@ use Rattle.af_base.specs.Bare.{bare_message}
 use Rattle.af_base.specs.Listing.{message_of}
 use Rattle.af_base.specs.declared.limits.TheConstants.{SCM_MAX_FD}
 use Rattle.af_base.specs.declared.listing.ListedMessage.{ListedMessage}
-use Rattle.af_base.proofs.Making.{made_all, made_more}
+use Rattle.af_base.proofs.GrowingLists.{made_all, made_more}
 use Rattle.af_collect.proofs.listings.listed_messages.Goals as goal
 
 pub loop-message-preserved : goal.loop-message-preserved

@@ -4,9 +4,9 @@ use Rattle.std.specs.FinMap as map
 use Rattle.std.proofs.lemmas.List.{take_all}
 use Rattle.af_desc.specs.FilesView.{FilesView}
 use Rattle.af_ledger.specs.Counted.{IsCountable, more}
-use Rattle.af_ledger.specs.Tally.{Tally, count_in_map, held_all, kept_of}
+use Rattle.af_ledger.specs.Tally.{Tally, count_in_map, kept_of, with_refs}
 use Rattle.af_ledger.specs.declared.place.Place.TheVariants.{Queue}
-use Rattle.af_ledger.proofs.HeldAll.{charged-held_all, held-more, hold-next}
+use Rattle.af_ledger.proofs.ManyPlaces.{charged-held_all, held-more, hold-next}
 use Rattle.af_collect.proofs.messages.charge_message.Goals as goal
 
 pub hold-requires-clause-known : goal.hold-requires-clause-known
@@ -33,7 +33,7 @@ returns c =
     let k = kept_of c.args.files.now.counts c.args.ledger.now in
     let all : take c.loop-file.file-index c.args.attached.now ≡ c.args.attached.now = take_all c.loop-file.file-index c.args.attached.now (omega (arith, c.loop-file-test.false)) in
     record {
-      kept = ap {B = Tally} (λ m. kept_of m c.charge.new.self) c.loop-file.invariant.counts ∙ ap {B = Tally} (λ fs. kept_of (held_all (Queue c.args.user) fs k).counts c.charge.new.self) all
-          ∙ ap {B = Tally} (kept_of (held_all (Queue c.args.user) c.args.attached.now k).counts) c.charge.ensures ∙ charged-held_all c.args.user c.args.attached.now k;
+      kept = ap {B = Tally} (λ m. kept_of m c.charge.new.self) c.loop-file.invariant.counts ∙ ap {B = Tally} (λ fs. kept_of (with_refs (Queue c.args.user) fs k).counts c.charge.new.self) all
+          ∙ ap {B = Tally} (kept_of (with_refs (Queue c.args.user) c.args.attached.now k).counts) c.charge.ensures ∙ charged-held_all c.args.user c.args.attached.now k;
       rest = c.loop-file.invariant.rest;
     }

@@ -3,9 +3,9 @@ use Rattle.std.specs.FinMap as map
 use Rattle.std.proofs.lemmas.List.{take_all}
 use Rattle.af_desc.specs.FilesView.{FilesView}
 use Rattle.af_ledger.specs.Counted.{IsCounted, fewer}
-use Rattle.af_ledger.specs.Tally.{Tally, count_in_map, dropped_all, kept_of}
+use Rattle.af_ledger.specs.Tally.{Tally, count_in_map, kept_of, without_refs}
 use Rattle.af_ledger.specs.declared.place.Place.TheVariants.{Queue}
-use Rattle.af_ledger.proofs.HeldAll.{freed-dropped_all, dropped-more, drop-next}
+use Rattle.af_ledger.proofs.ManyPlaces.{freed-dropped_all, dropped-more, drop-next}
 use Rattle.af_collect.proofs.messages.uncharge_message.Goals as goal
 
 pub drop_one-requires : goal.drop_one-requires
@@ -29,7 +29,7 @@ returns c =
     let k = kept_of c.args.files.now.counts c.args.ledger.now in
     let all : take c.loop-file.file-index c.args.attached.now ≡ c.args.attached.now = take_all c.loop-file.file-index c.args.attached.now (omega (arith, c.loop-file-test.false)) in
     record {
-      kept = ap {B = Tally} (λ m. kept_of m c.uncharge.new.self) c.loop-file.invariant.counts ∙ ap {B = Tally} (λ fs. kept_of (dropped_all (Queue c.args.user) fs k).counts c.uncharge.new.self) all
-          ∙ ap {B = Tally} (kept_of (dropped_all (Queue c.args.user) c.args.attached.now k).counts) c.uncharge.ensures ∙ freed-dropped_all c.args.user c.args.attached.now k;
+      kept = ap {B = Tally} (λ m. kept_of m c.uncharge.new.self) c.loop-file.invariant.counts ∙ ap {B = Tally} (λ fs. kept_of (without_refs (Queue c.args.user) fs k).counts c.uncharge.new.self) all
+          ∙ ap {B = Tally} (kept_of (without_refs (Queue c.args.user) c.args.attached.now k).counts) c.uncharge.ensures ∙ freed-dropped_all c.args.user c.args.attached.now k;
       rest = c.loop-file.invariant.rest;
     }

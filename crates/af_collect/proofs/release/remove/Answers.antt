@@ -4,7 +4,7 @@ use Rattle.std.specs.FinMap as map
 use Rattle.af_base.specs.Changes.{change_socket_at}
 use Rattle.af_base.specs.declared.events.State.TheVariants as state
 use Rattle.af_desc.specs.FilesView.{hung_up, state_in}
-use Rattle.af_collect.proofs.Dropped.{gone_alone, gone_connected}
+use Rattle.af_collect.proofs.FreedFiles.{gone_alone, gone_connected}
 use Rattle.af_collect.proofs.release.remove.Goals as goal
 
 pub returns-in-Some-clause-gone : goal.returns-in-Some-clause-gone

@@ -1,7 +1,7 @@
 -- The rest, from the marks now, gives the marks of all.
 use Rattle.std.proofs.Common.{◌≡◌, drop, length}
 use Rattle.af_collect.specs.Keeping.{shaded_all}
-use Rattle.af_collect.specs.Shown.{first_attached}
+use Rattle.af_collect.specs.StoreView.{first_attached}
 use Rattle.af_collect.proofs.shading.shade_message.Given as goal
 
 abbrev pub invariant-loop-index : goal.invariant-loop-index

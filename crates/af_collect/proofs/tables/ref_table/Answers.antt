@@ -3,7 +3,7 @@ use Rattle.std.specs.FinMap as map
 use Rattle.std.proofs.lemmas.Option.{slice_get_read}
 use Rattle.af_desc.specs.FilesView.{FilesView}
 use Rattle.af_ledger.specs.Tally.{kept_of}
-use Rattle.af_collect.proofs.Joined.{Joining, joining-done, joining-fits, joining-more, joining-none, joining-past}
+use Rattle.af_collect.proofs.ProcessTables.{Joining, joining-done, joining-fits, joining-more, joining-none, joining-past}
 use Rattle.af_collect.proofs.tables.ref_table.Goals as goal
 
 pub loop-file-init : goal.loop-file-init

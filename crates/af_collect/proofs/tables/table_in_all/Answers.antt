@@ -5,15 +5,15 @@ use Rattle.std.proofs.lemmas.List.Elements.{All-head, All-rest}
 use Rattle.af_base.specs.World.{Map}
 use Rattle.af_base.specs.Changes.{change_at, installed}
 use Rattle.af_base.proofs.Elements.{Contains-first, Contains-later}
-use Rattle.af_base.proofs.Held.{one-most}
+use Rattle.af_base.proofs.PlacesAndCounts.{one-most}
 use Rattle.std.specs.FinMap as finmap
 use Rattle.af_desc.specs.FilesView.{FilesView}
-use Rattle.af_ledger.specs.Tally.{Charged, count_in_map, held_all, kept_of}
+use Rattle.af_ledger.specs.Tally.{LedgerView, count_in_map, kept_of, with_refs}
 use Rattle.af_ledger.specs.declared.place.Place.TheVariants.{Table}
 use Rattle.af_ledger.proofs.Laws.{has-held, tabled-tabled}
 use Rattle.af_table.specs.Procs.{row_in}
 use Rattle.af_collect.specs.HoldingsView.{filled}
-use Rattle.af_collect.proofs.Filling.{no-files, no-numbers}
+use Rattle.af_collect.proofs.TableFills.{no-files, no-numbers}
 use Rattle.af_collect.proofs.tables.table_in_all.Goals as goal
 
 pub loop-fd-init : goal.loop-fd-init
@@ -22,7 +22,7 @@ loop-fd-init c =
     let files : c.into_iter-fd-iterator.result.b.rest.now ≡ c.args.attached.now = search rules in
     record {
       processes = λ i. filled c.args.procs.now.processes c.args.pid (zip (fds i) (files i));
-      kept = λ ch i. held_all Table (map (λ e. e.1) (zip (fds i) (files i))) (kept_of c.args.files.now.counts ch);
+      kept = λ ch i. with_refs Table (map (λ e. e.1) (zip (fds i) (files i))) (kept_of c.args.files.now.counts ch);
       rest = refl;
       rows = refl;
       next = refl;
@@ -52,11 +52,11 @@ loop-fd-preserved c =
     let fs = c.next.new.self.b.rest.now in
     let low = λ (m : ℕ). m < row_in c.loop-fd.procs.rows c.args.pid in
     let one = c.hold.ensures in
-    let none : Charged = record { users = []; total = 0 } in
+    let none : LedgerView = record { users = []; total = 0 } in
     let first = k.known f (subst (λ l. Contains l f) (sym steps.1) (Contains-first f fs)) in
     record {
       processes = ap (λ P. filled P c.args.pid (zip ns fs)) (c.install.ensures.processes ∙ ap (λ x. change_at (installed n x) c.loop-fd.procs.processes c.args.pid) c.duplicate.ensures) ∙ sym (λ i. filled c.loop-fd.procs.processes c.args.pid (zip (steps.0 i) (steps.1 i))) ∙ k.processes;
-      kept = λ ch. ap (λ (v : FilesView). held_all Table (map (λ e. e.1) (zip ns fs)) (kept_of v.counts ch)) one ∙ sym (λ i. held_all Table (map (λ e. e.1) (zip (steps.0 i) (steps.1 i))) (kept_of c.loop-fd.files.counts ch)) ∙ k.kept ch;
+      kept = λ ch. ap (λ (v : FilesView). with_refs Table (map (λ e. e.1) (zip ns fs)) (kept_of v.counts ch)) one ∙ sym (λ i. with_refs Table (map (λ e. e.1) (zip (steps.0 i) (steps.1 i))) (kept_of c.loop-fd.files.counts ch)) ∙ k.kept ch;
       rest = one ∙ ap {B = FilesView} (λ x. record c.loop-fd.files { counts = x }) (sym (ap (λ v. v.counts) one)) ∙ ap {A = FilesView} {B = FilesView} (λ v. record v { counts = c.hold.new.self.counts }) k.rest;
       rows = c.install.ensures.rows ∙ k.rows;
       next = c.install.ensures.next ∙ k.next;
@@ -76,6 +76,6 @@ returns c =
       processes = sym (ap (filled c.loop-fd.procs.processes c.args.pid) none) ∙ k.processes;
       rows = k.rows;
       next = k.next;
-      kept = λ ch. sym (ap (λ es. held_all Table (map (λ e. e.1) es) (kept_of c.loop-fd.files.counts ch)) none) ∙ k.kept ch;
+      kept = λ ch. sym (ap (λ es. with_refs Table (map (λ e. e.1) es) (kept_of c.loop-fd.files.counts ch)) none) ∙ k.kept ch;
       rest = k.rest;
     }

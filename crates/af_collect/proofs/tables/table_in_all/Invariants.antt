@@ -3,7 +3,7 @@ use Rattle.std.proofs.Common.{◌≡◌, ◌<◌, ◌+◌, ◌^◌, ℕ, length,
 use Rattle.std.specs.Prelude.{IsTrue}
 use Rattle.std.specs.List.{All, Contains, zip}
 use Rattle.std.specs.FinMap as finmap
-use Rattle.af_ledger.specs.Tally.{Charged, count_in_map, held_all, kept_of}
+use Rattle.af_ledger.specs.Tally.{LedgerView, count_in_map, kept_of, with_refs}
 use Rattle.af_ledger.specs.declared.place.Place.TheVariants.{Table}
 use Rattle.af_table.specs.Procs.{row_in}
 use Rattle.af_collect.specs.HoldingsView.{filled}
@@ -15,7 +15,7 @@ invariant-loop-fd l =
     let fs = l.fd-iterator.b.rest.now in
     record {
       processes : filled l.procs.processes l.pid (zip ns fs) ≡ filled l.initial.procs.processes l.pid (zip l.fds l.attached);
-      kept : (c : Charged) → held_all Table (map (λ e. e.1) (zip ns fs)) (kept_of l.files.counts c) ≡ held_all Table (map (λ e. e.1) (zip l.fds l.attached)) (kept_of l.initial.files.counts c);
+      kept : (c : LedgerView) → with_refs Table (map (λ e. e.1) (zip ns fs)) (kept_of l.files.counts c) ≡ with_refs Table (map (λ e. e.1) (zip l.fds l.attached)) (kept_of l.initial.files.counts c);
       rest : l.files ≡ record l.initial.files { counts = l.files.counts };
       rows : l.procs.rows ≡ l.initial.procs.rows;
       next : l.procs.next_pid ≡ l.initial.procs.next_pid;

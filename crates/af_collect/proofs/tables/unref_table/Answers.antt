@@ -3,7 +3,7 @@ use Rattle.std.specs.FinMap as map
 use Rattle.std.proofs.lemmas.Option.{slice_get_read}
 use Rattle.af_desc.specs.FilesView.{FilesView}
 use Rattle.af_ledger.specs.Tally.{kept_of}
-use Rattle.af_collect.proofs.Joined.{Leaving, leaving-counted, leaving-done, leaving-more, leaving-none, leaving-past}
+use Rattle.af_collect.proofs.ProcessTables.{Leaving, leaving-counted, leaving-done, leaving-more, leaving-none, leaving-past}
 use Rattle.af_collect.proofs.tables.unref_table.Goals as goal
 
 pub loop-file-init : goal.loop-file-init

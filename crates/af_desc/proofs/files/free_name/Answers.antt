@@ -2,7 +2,7 @@ use Rattle.std.proofs.Common.{refl, sym, ap, ◌∙◌, subst}
 use Rattle.std.specs.FinMap as map
 use Rattle.std.specs.Option.{option_and_then, option_copied}
 use Rattle.af_desc.specs.FilesView.{AreNamed}
-use Rattle.af_desc.proofs.Naming.{name-at, named-freed, named-gone}
+use Rattle.af_desc.proofs.FileNames.{name-at, named-freed, named-gone}
 use Rattle.af_desc.proofs.files.free_name.Goals as goal
 
 -- The name is freed with its socket.

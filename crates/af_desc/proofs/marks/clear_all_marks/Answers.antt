@@ -1,10 +1,10 @@
 use Rattle.std.proofs.Common.{◌<◌, refl, sym, ap, ◌∙◌, length, subst}
 use Rattle.std.specs.FinMap as map
-use Rattle.af_base.proofs.Rising.{above, fewer_above}
+use Rattle.af_base.proofs.MapWalks.{above, fewer_above}
 use Rattle.af_base.specs.World.{Map}
 use Rattle.af_mark.specs.declared.mark.Mark.{Mark}
-use Rattle.af_desc.specs.RowsView.{RowsView}
-use Rattle.af_desc.proofs.Washing.{AreWashed, washed_known, washed_next}
+use Rattle.af_desc.specs.TrackedTableView.{TrackedTableView}
+use Rattle.af_desc.proofs.ClearedMarks.{AreWashed, washed_known, washed_next}
 use Rattle.af_desc.proofs.marks.clear_all_marks.Goals as goal
 
 -- There are fewer files above.
@@ -30,5 +30,5 @@ loop-file-preserved c =
       washed = subst (AreWashed c.set_mark.new.self.marks) (sym c.ino-last.ensures) (subst (λ o. AreWashed o n) (sym is) (washed_next m n c.loop-file.last (λ q over under. c.lemma_are_one.ensures q ∙ next.least q over under) i.washed));
       known = λ f. ap (λ o. map.contains_key o f) is ∙ washed_known m n there f ∙ i.known f;
       len = c.set_mark.ensures.len ∙ i.len;
-      rest = set ∙ ap (λ (r : RowsView). record r { marks = map.insert m n c.none.result }) i.rest ∙ ap (λ (o : Map Mark). record c.args.rows.now { marks = o }) (sym (ap (λ r. r.marks) set));
+      rest = set ∙ ap (λ (r : TrackedTableView). record r { marks = map.insert m n c.none.result }) i.rest ∙ ap (λ (o : Map Mark). record c.args.rows.now { marks = o }) (sym (ap (λ r. r.marks) set));
     }

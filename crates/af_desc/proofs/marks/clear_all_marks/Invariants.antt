@@ -1,8 +1,8 @@
 -- The files so far have a mark of no pass.
 use Rattle.std.proofs.Common.{◌≡◌, ℕ, length}
 use Rattle.std.specs.FinMap as map
-use Rattle.af_base.proofs.Rising.{above}
-use Rattle.af_desc.proofs.Washing.{AreWashed}
+use Rattle.af_base.proofs.MapWalks.{above}
+use Rattle.af_desc.proofs.ClearedMarks.{AreWashed}
 use Rattle.af_desc.proofs.marks.clear_all_marks.Given as goal
 
 abbrev pub invariant-loop-file : goal.invariant-loop-file

@@ -1,6 +1,6 @@
 use Rattle.std.proofs.Common.{rules, ◌≡◌, ◌∙◌}
 use Rattle.std.specs.Prelude.{is_ok}
-use Rattle.af_graph.proofs.Searched.{found-is_in}
+use Rattle.af_graph.proofs.BinarySearch.{found-is_in}
 use Rattle.af_graph.proofs.files.is_in.Goals as goal
 
 pub returns : goal.returns

@@ -2,8 +2,8 @@ use Rattle.std.proofs.Common.{rules, ◌≡◌, ◌<◌, ◌++◌, ◌∙◌, �
 use Rattle.std.specs.List.{flat_map}
 use Rattle.std.specs.FinMap as map
 use Rattle.af_base.specs.World.{File}
-use Rattle.af_base.proofs.Rising.{above, all_entries, fewer_above, next_entry, no_entry}
-use Rattle.af_report.proofs.Walked.{none_at_zero}
+use Rattle.af_base.proofs.MapWalks.{above, all_entries, fewer_above, next_entry, no_entry}
+use Rattle.af_report.proofs.WalkStart.{none_at_zero}
 use Rattle.af_graph.specs.Graph.{file_text, files_text, is_in, node_text, peer_of}
 use Rattle.af_graph.proofs.Pieces.{both, none_left, piece_taken}
 use Rattle.af_graph.proofs.files.push_files.Goals as goal

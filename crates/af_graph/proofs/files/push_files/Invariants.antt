@@ -2,7 +2,7 @@
 use Rattle.std.proofs.Common.{◌≡◌, ◌++◌, length, string_bytes}
 use Rattle.std.specs.List.{flat_map}
 use Rattle.std.specs.FinMap as map
-use Rattle.af_base.proofs.Rising.{above}
+use Rattle.af_base.proofs.MapWalks.{above}
 use Rattle.af_graph.specs.Graph.{file_text, files_text, is_in}
 use Rattle.af_graph.proofs.files.push_files.Given as goal
 

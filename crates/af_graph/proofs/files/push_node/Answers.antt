@@ -5,7 +5,7 @@ use Rattle.af_base.specs.Counts.{inflight, refs}
 use Rattle.af_base.specs.Whole.{name_at}
 use Rattle.af_graph.specs.Graph.{colour, counts_text, kind_text, name_of, name_text}
 use Rattle.af_graph.proofs.Pieces.{both}
-use Rattle.af_graph.proofs.Shown.{name_at-name_of}
+use Rattle.af_graph.proofs.Pictures.{name_at-name_of}
 use Rattle.af_graph.proofs.files.push_node.Goals as goal
 
 pub returns : goal.returns

@@ -6,10 +6,10 @@ use Rattle.af_base.specs.Bare.{bare}
 use Rattle.af_base.specs.Listing.{file_of, process_of}
 use Rattle.af_base.specs.Reached.{Garbage}
 use Rattle.af_plain.specs.Marking.{IsListOf}
-use Rattle.af_report.proofs.Audited.{garbage-listed}
-use Rattle.af_graph.specs.Graph.{files_text, process_text, waiting_text}
+use Rattle.af_report.proofs.BareRecounts.{garbage-listed}
+use Rattle.af_graph.specs.Graph.{contents_text, files_text, process_text}
 use Rattle.af_graph.proofs.Pieces.{both}
-use Rattle.af_graph.proofs.Shown.{processes-listed, waiting-listed}
+use Rattle.af_graph.proofs.Pictures.{processes-listed, waiting-listed}
 use Rattle.af_graph.proofs.graphs.graph.Goals as goal
 
 pub returns : goal.returns
@@ -22,7 +22,7 @@ returns c =
     let head : List ℕ = codes "digraph world {\nrankdir=LR\n" in
     let processes = flat_map (λ e. process_text e.0 e.1) (map.entries w.processes) in
     let files = files_text w lost in
-    let waiting = flat_map (λ e. waiting_text e.0 e.1) (map.entries w.files) in
+    let waiting = flat_map (λ e. contents_text e.0 e.1) (map.entries w.files) in
     let end : List ℕ = codes "}\n" in
     let headed = string_bytes c.push_str.new.self in
     let with_processes = string_bytes c.push_processes.new.text in
@@ -32,7 +32,7 @@ returns c =
     let first : headed ≡ [] ++ head = search rules in
     let second : with_processes ≡ headed ++ flat_map (λ t. process_text t.pid (process_of t)) c.tables.result.now = search rules in
     let third : with_files ≡ with_processes ++ files = search rules in
-    let fourth : with_waiting ≡ with_files ++ flat_map (λ x. waiting_text x.ino (file_of x)) c.files.result.now = search rules in
+    let fourth : with_waiting ≡ with_files ++ flat_map (λ x. contents_text x.ino (file_of x)) c.files.result.now = search rules in
     let fifth : new ≡ with_waiting ++ end = search rules in
     let bytes : c.into_bytes.result.items ≡ new = search rules in
     let all_processes = processes-listed w seen c.tables.result.now shows c.tables.ensures.value c.tables.ensures.ordered in

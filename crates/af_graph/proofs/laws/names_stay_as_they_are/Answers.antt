@@ -1,4 +1,4 @@
-use Rattle.af_graph.proofs.Quoting.{name-kept}
+use Rattle.af_graph.proofs.QuotedNames.{name-kept}
 use Rattle.af_graph.proofs.laws.names_stay_as_they_are.Goals as goal
 
 pub returns : goal.returns

@@ -1,4 +1,4 @@
-use Rattle.af_graph.proofs.Quoting.{name-harmless}
+use Rattle.af_graph.proofs.QuotedNames.{name-harmless}
 use Rattle.af_graph.proofs.laws.names_stay_quoted.Goals as goal
 
 pub returns : goal.returns

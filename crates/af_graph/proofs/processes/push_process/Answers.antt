@@ -2,7 +2,7 @@ use Rattle.std.proofs.Common.{rules, ◌≡◌, ◌++◌, ap, ◌∙◌, sym, st
 use Rattle.std.specs.List.{flat_map}
 use Rattle.af_graph.specs.Graph.{box_text, number_text}
 use Rattle.af_graph.proofs.Pieces.{both}
-use Rattle.af_graph.proofs.Shown.{process-listed}
+use Rattle.af_graph.proofs.Pictures.{process-listed}
 use Rattle.af_graph.proofs.processes.push_process.Goals as goal
 
 pub returns : goal.returns

@@ -1,4 +1,4 @@
-use Rattle.af_laws.proofs.Peeked.{limit_closes_nothing}
+use Rattle.af_laws.proofs.Peeks.{limit_closes_nothing}
 use Rattle.af_laws.proofs.peeking.limit_closes_nothing.Goals as goal
 
 pub returns : goal.returns

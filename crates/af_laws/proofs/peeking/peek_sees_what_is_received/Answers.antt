@@ -1,4 +1,4 @@
-use Rattle.af_laws.proofs.Peeked.{peek_sees_what_is_received}
+use Rattle.af_laws.proofs.Peeks.{peek_sees_what_is_received}
 use Rattle.af_laws.proofs.peeking.peek_sees_what_is_received.Goals as goal
 
 pub returns : goal.returns

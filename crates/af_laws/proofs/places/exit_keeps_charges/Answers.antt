@@ -1,4 +1,4 @@
-use Rattle.af_laws.proofs.Counting.{exit_keeps_charges}
+use Rattle.af_laws.proofs.PlaceCounts.{exit_keeps_charges}
 use Rattle.af_laws.proofs.places.exit_keeps_charges.Goals as goal
 
 pub returns : goal.returns

@@ -1,4 +1,4 @@
-use Rattle.af_laws.proofs.Counting.{fork_counts}
+use Rattle.af_laws.proofs.PlaceCounts.{fork_counts}
 use Rattle.af_laws.proofs.places.fork_counts.Goals as goal
 
 pub returns : goal.returns

@@ -1,4 +1,4 @@
-use Rattle.af_laws.proofs.Counting.{garbage_counts_once}
+use Rattle.af_laws.proofs.PlaceCounts.{garbage_counts_once}
 use Rattle.af_laws.proofs.places.garbage_counts_once.Goals as goal
 
 pub returns : goal.returns

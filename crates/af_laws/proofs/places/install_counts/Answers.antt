@@ -1,4 +1,4 @@
-use Rattle.af_laws.proofs.Counting.{install_counts}
+use Rattle.af_laws.proofs.PlaceCounts.{install_counts}
 use Rattle.af_laws.proofs.places.install_counts.Goals as goal
 
 pub returns : goal.returns

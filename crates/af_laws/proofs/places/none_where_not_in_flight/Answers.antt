@@ -1,4 +1,4 @@
-use Rattle.af_laws.proofs.Counting.{none_where_not_in_flight}
+use Rattle.af_laws.proofs.PlaceCounts.{none_where_not_in_flight}
 use Rattle.af_laws.proofs.places.none_where_not_in_flight.Goals as goal
 
 pub returns : goal.returns

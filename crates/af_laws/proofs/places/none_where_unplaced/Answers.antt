@@ -1,4 +1,4 @@
-use Rattle.af_laws.proofs.Counting.{none_where_unplaced}
+use Rattle.af_laws.proofs.PlaceCounts.{none_where_unplaced}
 use Rattle.af_laws.proofs.places.none_where_unplaced.Goals as goal
 
 pub returns : goal.returns

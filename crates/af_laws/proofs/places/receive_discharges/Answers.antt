@@ -1,4 +1,4 @@
-use Rattle.af_laws.proofs.Counting.{receive_discharges}
+use Rattle.af_laws.proofs.PlaceCounts.{receive_discharges}
 use Rattle.af_laws.proofs.places.receive_discharges.Goals as goal
 
 pub returns : goal.returns

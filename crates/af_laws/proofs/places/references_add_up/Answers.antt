@@ -1,4 +1,4 @@
-use Rattle.af_laws.proofs.Counting.{references_add_up}
+use Rattle.af_laws.proofs.PlaceCounts.{references_add_up}
 use Rattle.af_laws.proofs.places.references_add_up.Goals as goal
 
 pub returns : goal.returns

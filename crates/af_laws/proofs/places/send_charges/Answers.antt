@@ -1,4 +1,4 @@
-use Rattle.af_laws.proofs.Counting.{send_charges}
+use Rattle.af_laws.proofs.PlaceCounts.{send_charges}
 use Rattle.af_laws.proofs.places.send_charges.Goals as goal
 
 pub returns : goal.returns

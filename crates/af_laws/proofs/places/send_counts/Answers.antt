@@ -1,4 +1,4 @@
-use Rattle.af_laws.proofs.Counting.{send_counts}
+use Rattle.af_laws.proofs.PlaceCounts.{send_counts}
 use Rattle.af_laws.proofs.places.send_counts.Goals as goal
 
 pub returns : goal.returns

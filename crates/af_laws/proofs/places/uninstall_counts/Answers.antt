@@ -1,4 +1,4 @@
-use Rattle.af_laws.proofs.Counting.{uninstall_counts}
+use Rattle.af_laws.proofs.PlaceCounts.{uninstall_counts}
 use Rattle.af_laws.proofs.places.uninstall_counts.Goals as goal
 
 pub returns : goal.returns

@@ -1,4 +1,4 @@
-use Rattle.af_base.proofs.Readied.{purge-ready}
+use Rattle.af_base.proofs.Readiness.{purge-ready}
 use Rattle.af_laws.proofs.polling.purge_leaves_ready.Goals as goal
 
 pub returns : goal.returns

@@ -1,4 +1,4 @@
-use Rattle.af_laws.proofs.Polled.{ready_is_what_steps_find}
+use Rattle.af_laws.proofs.Polls.{ready_is_what_steps_find}
 use Rattle.af_laws.proofs.polling.ready_is_what_steps_find.Goals as goal
 
 pub returns : goal.returns

@@ -1,4 +1,4 @@
-use Rattle.af_laws.proofs.Begun.{begun_garbage_is_never_reached}
+use Rattle.af_laws.proofs.BeginGarbage.{begun_garbage_is_never_reached}
 use Rattle.af_laws.proofs.purging.begun_garbage_is_never_reached.Goals as goal
 
 pub returns : goal.returns

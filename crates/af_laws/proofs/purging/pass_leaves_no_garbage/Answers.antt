@@ -1,4 +1,4 @@
-use Rattle.af_laws.proofs.Passed.{pass_leaves_no_garbage}
+use Rattle.af_laws.proofs.WholePasses.{pass_leaves_no_garbage}
 use Rattle.af_laws.proofs.purging.pass_leaves_no_garbage.Goals as goal
 
 pub returns : goal.returns

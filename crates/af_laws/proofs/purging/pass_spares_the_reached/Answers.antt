@@ -1,4 +1,4 @@
-use Rattle.af_laws.proofs.Passed.{pass_spares_the_reached}
+use Rattle.af_laws.proofs.WholePasses.{pass_spares_the_reached}
 use Rattle.af_laws.proofs.purging.pass_spares_the_reached.Goals as goal
 
 pub returns : goal.returns

@@ -1,4 +1,4 @@
-use Rattle.af_laws.proofs.Passed.{pass_without_processes_leaves_nothing}
+use Rattle.af_laws.proofs.WholePasses.{pass_without_processes_leaves_nothing}
 use Rattle.af_laws.proofs.purging.pass_without_processes_leaves_nothing.Goals as goal
 
 pub returns : goal.returns

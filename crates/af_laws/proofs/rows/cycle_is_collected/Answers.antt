@@ -1,4 +1,4 @@
-use Rattle.af_laws.proofs.Collected.{cycle_is_collected}
+use Rattle.af_laws.proofs.CyclePass.{cycle_is_collected}
 use Rattle.af_laws.proofs.rows.cycle_is_collected.Goals as goal
 
 pub returns : goal.returns

@@ -1,4 +1,4 @@
-use Rattle.af_laws.proofs.Existing.{settles_to_some}
+use Rattle.af_laws.proofs.SettlingOutcome.{settles_to_some}
 use Rattle.af_laws.proofs.settling.settles_to_some.Goals as goal
 
 pub returns : goal.returns

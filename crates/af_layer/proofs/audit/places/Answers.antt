@@ -2,7 +2,7 @@ use Rattle.std.proofs.Common.{◌≡◌, arith, ap, refl, sym, ◌∙◌, subst}
 use Rattle.std.proofs.lemmas.List.{get_or-replicate, get_or_default}
 use Rattle.af_layer.specs.Audit.{nobody, number_at}
 use Rattle.af_layer.specs.Walk.{ArePlacesOf}
-use Rattle.af_layer.proofs.Placing.{known_number, places-all, places-first, places-next}
+use Rattle.af_layer.proofs.SeatPositions.{known_number, places-all, places-first, places-next}
 use Rattle.af_layer.proofs.audit.places.Goals as goal
 
 pub loop-i-init : goal.loop-i-init

@@ -3,7 +3,7 @@ use Rattle.std.specs.Prelude.{None, slice_index_or}
 use Rattle.std.proofs.lemmas.List.{get_or_default}
 use Rattle.af_layer.specs.Audit.{nobody}
 use Rattle.af_layer.specs.Walk.{AllTrack, Tracks}
-use Rattle.af_layer.proofs.Walking.{entry-at, tracks-next}
+use Rattle.af_layer.proofs.LogWalks.{entry-at, tracks-next}
 use Rattle.af_layer.proofs.audit.walk.Goals as goal
 
 pub loop-entry-preserved : goal.loop-entry-preserved

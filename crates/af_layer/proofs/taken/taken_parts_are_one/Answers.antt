@@ -1,4 +1,4 @@
-use Rattle.af_layer.proofs.Joined.{taken_parts_are_one}
+use Rattle.af_layer.proofs.JoinedLogs.{taken_parts_are_one}
 use Rattle.af_layer.proofs.taken.taken_parts_are_one.Goals as goal
 
 pub returns : goal.returns

@@ -1,5 +1,5 @@
 use Rattle.af_plain.specs.Agreement.{IsUserRecount}
-use Rattle.af_plain.proofs.Agreeing.{none_fails, one_fails, one_more}
+use Rattle.af_plain.proofs.TestWalks.{none_fails, one_fails, one_more}
 use Rattle.af_plain.proofs.agreement.users_agree.Goals as goal
 
 pub returns-then-not-user_agrees : goal.returns-then-not-user_agrees

@@ -3,7 +3,7 @@ use Rattle.std.proofs.lemmas.Fn.{always_returns_same}
 use Rattle.std.proofs.lemmas.List.Sorted.{IsPartitionedBy-leb, IsPartitionedBy-ltb}
 use lib.Dec.{ltb}
 use Rattle.af_base.specs.Counts.{count_in}
-use Rattle.af_plain.proofs.Counting.{between}
+use Rattle.af_plain.proofs.RisingCounts.{between}
 use Rattle.af_plain.proofs.counts.times.Goals as goal
 
 -- The two ends are so far apart as the list has the number.

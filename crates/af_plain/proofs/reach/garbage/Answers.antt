@@ -6,7 +6,7 @@ use Rattle.std.specs.BTreeSet as tree
 use Rattle.std.proofs.lemmas.List.{take_all}
 use Rattle.af_base.specs.Reached.{Garbage}
 use Rattle.af_plain.specs.Marking.{IsListOf}
-use Rattle.af_plain.proofs.Searching.{garbage_listed, kept-more}
+use Rattle.af_plain.proofs.ReachedFiles.{garbage_listed, kept-more}
 use Rattle.af_plain.proofs.reach.garbage.Goals as goal
 
 pub loop-file-preserved : goal.loop-file-preserved

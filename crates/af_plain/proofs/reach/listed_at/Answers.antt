@@ -4,7 +4,7 @@ use Rattle.std.specs.List.{find}
 use Rattle.std.proofs.lemmas.List.Sorted.{answers_always}
 use Rattle.std.proofs.lemmas.Cmp.{ranked}
 use Rattle.af_base.specs.declared.listing.ListedFile.{ListedFile}
-use Rattle.af_plain.proofs.Finding.{found, missed}
+use Rattle.af_plain.proofs.BinarySearch.{found, missed}
 use Rattle.af_plain.proofs.reach.listed_at.Goals as goal
 
 pub returns-in-Ok : goal.returns-in-Ok

@@ -4,7 +4,7 @@ use Rattle.std.specs.FinMap as finmap
 use Rattle.af_base.specs.Places.{contents, held_by}
 use Rattle.af_plain.specs.Marking.{Marks, held_in}
 use Rattle.af_plain.specs.declared.reach.Marking.{Marking}
-use Rattle.af_plain.proofs.Searching.{all_held, held_listed, searches-begin, searches-end, searches-step}
+use Rattle.af_plain.proofs.ReachedFiles.{all_held, held_listed, searches-begin, searches-end, searches-step}
 use Rattle.af_plain.proofs.reach.mark_reached.Goals as goal
 
 pub loop-ino-init : goal.loop-ino-init

@@ -1,6 +1,6 @@
 use Rattle.std.proofs.Common.{◌+◌, length}
 use Rattle.af_plain.specs.Marking.{left}
-use Rattle.af_plain.proofs.Searching.{Searches, all_held}
+use Rattle.af_plain.proofs.ReachedFiles.{Searches, all_held}
 use Rattle.af_plain.proofs.reach.mark_reached.Given as goal
 
 abbrev pub invariant-loop-ino : goal.invariant-loop-ino

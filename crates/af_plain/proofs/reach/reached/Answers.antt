@@ -3,7 +3,7 @@ use Rattle.std.specs.Prelude.{IfOk}
 use Rattle.std.proofs.lemmas.Result.{IfOk-weaker}
 use Rattle.af_base.specs.Reached.{Reached}
 use Rattle.af_plain.specs.Marking.{IsListOf}
-use Rattle.af_plain.proofs.Searching.{set_lists}
+use Rattle.af_plain.proofs.ReachedFiles.{set_lists}
 use Rattle.af_plain.proofs.reach.reached.Goals as goal
 
 pub returns : goal.returns

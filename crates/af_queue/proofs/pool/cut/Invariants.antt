@@ -2,7 +2,7 @@
 use Rattle.std.proofs.Common.{◌≡◌, ◌<◌, length}
 use Rattle.af_base.specs.Take.{cut}
 use Rattle.af_queue.specs.Chains.{messages_of, IsChain, KeepsNodes, SameElsewhere}
-use Rattle.af_queue.specs.Received.{message_at}
+use Rattle.af_queue.specs.TakenView.{message_at}
 use Rattle.af_queue.proofs.pool.cut.Given as goal
 
 abbrev pub invariant-loop-rest : goal.invariant-loop-rest

@@ -6,7 +6,7 @@ use Rattle.af_base.specs.World.{Message}
 use Rattle.af_base.specs.declared.events.SockType.TheVariants.{Seqpacket}
 use Rattle.af_queue.specs.Chains.{messages_of}
 use Rattle.af_queue.specs.Queued.{AreWithin}
-use Rattle.af_queue.specs.Received.{received}
+use Rattle.af_queue.specs.TakenView.{received}
 use Rattle.af_queue.specs.Streams.{stream_cut}
 use Rattle.af_queue.proofs.Spans.{have-bytes, part-received, part-some, stream-is, whole-received, whole-rest}
 use Rattle.af_queue.proofs.pool.take_stream.Goals as goal

@@ -1,10 +1,10 @@
 use Rattle.std.proofs.Common.{rules, ◌≡◌, ◌<◌, ◌++◌, length, sym, ap, ◌∙◌, refl, subst}
 use Rattle.std.specs.FinMap as map
 use Rattle.std.specs.List.{flat_map}
-use Rattle.af_base.proofs.Rising.{above, all_entries, fewer_above, next_entry, no_entry}
+use Rattle.af_base.proofs.MapWalks.{above, all_entries, fewer_above, next_entry, no_entry}
 use Rattle.af_report.specs.Table.{header}
 use Rattle.af_report.proofs.TableLines.{line, line_more, lines_done}
-use Rattle.af_report.proofs.Walked.{none_at_zero}
+use Rattle.af_report.proofs.WalkStart.{none_at_zero}
 use Rattle.af_report.proofs.file_lines.table.Goals as goal
 
 pub loop-file-init : goal.loop-file-init

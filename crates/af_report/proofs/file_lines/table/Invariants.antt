@@ -2,7 +2,7 @@
 use Rattle.std.proofs.Common.{◌≡◌, ◌++◌, length}
 use Rattle.std.specs.List.{flat_map}
 use Rattle.std.specs.FinMap as map
-use Rattle.af_base.proofs.Rising.{above}
+use Rattle.af_base.proofs.MapWalks.{above}
 use Rattle.af_report.specs.Table.{table_text}
 use Rattle.af_report.proofs.TableLines.{line}
 use Rattle.af_report.proofs.file_lines.table.Given as goal

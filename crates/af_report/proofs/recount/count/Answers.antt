@@ -6,7 +6,7 @@ use Rattle.af_base.specs.Bare.{bare}
 use Rattle.af_base.specs.Reached.{Garbage}
 use Rattle.af_plain.specs.Agreement.{AreRecounts}
 use Rattle.af_plain.specs.Marking.{IsListOf}
-use Rattle.af_report.proofs.Audited.{garbage-listed, recounts-bare}
+use Rattle.af_report.proofs.BareRecounts.{garbage-listed, recounts-bare}
 use Rattle.af_report.proofs.recount.count.Goals as goal
 
 -- The recount agrees, so this arm is never taken.

@@ -6,9 +6,9 @@ use Rattle.af_base.specs.Counts.{inflight, refs}
 use Rattle.af_base.specs.World.{File}
 use Rattle.af_plain.specs.Agreement.{IsFileRecount}
 use Rattle.af_plain.specs.declared.agreement.KeptFile.{KeptFile}
-use Rattle.af_base.proofs.Making.{made_all, made_more}
-use Rattle.af_base.proofs.Rising.{above, all_entries, fewer_above, next_entry, no_entry}
-use Rattle.af_report.proofs.Walked.{none_at_zero}
+use Rattle.af_base.proofs.GrowingLists.{made_all, made_more}
+use Rattle.af_base.proofs.MapWalks.{above, all_entries, fewer_above, next_entry, no_entry}
+use Rattle.af_report.proofs.WalkStart.{none_at_zero}
 use Rattle.af_report.proofs.recount.kept_files.Goals as goal
 
 -- The number of a file that is kept.

@@ -3,7 +3,7 @@ use Rattle.std.proofs.Common.{◌≡◌, ◌++◌, length, map}
 use Rattle.std.specs.FinMap as finmap
 use Rattle.std.specs.List.{All}
 use Rattle.af_plain.specs.Agreement.{IsFileRecount}
-use Rattle.af_base.proofs.Rising.{above}
+use Rattle.af_base.proofs.MapWalks.{above}
 use Rattle.af_report.proofs.recount.kept_files.Given as goal
 
 abbrev pub invariant-loop-file : goal.invariant-loop-file

@@ -1,7 +1,7 @@
 use Rattle.std.proofs.Common.{rules, ap, arith}
 use Rattle.af_base.specs.World.{World}
 use Rattle.af_steps.specs.Found.{HasProcess}
-use Rattle.af_steps.proofs.Found.{below-limit, in-same, is-free, room-below}
+use Rattle.af_steps.proofs.LookupRows.{below-limit, in-same, is-free, room-below}
 use Rattle.af_steps.proofs.Numbers.{IsLowest, least-low, not-open}
 use Rattle.af_tests.proofs.units.make.Goals.{After-room_for}
 use Rattle.af_tests.proofs.units.make.Goals as goal

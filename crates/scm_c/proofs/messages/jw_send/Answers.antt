@@ -6,8 +6,8 @@ use Rattle.af_base.specs.declared.events.Event.TheVariants as event
 use Rattle.af_base.specs.declared.events.Reply.TheVariants as reply
 use Rattle.af_base.specs.declared.events.Step.TheVariants as step
 use Rattle.af_steps.specs.Outcome.{Does, Refuses}
-use Rattle.af_steps.proofs.Folded.{does-step, refuses-step}
-use Rattle.scm_c.proofs.Crowded.{first-suffice}
+use Rattle.af_steps.proofs.FoldedReplies.{does-step, refuses-step}
+use Rattle.scm_c.proofs.LargeSends.{first-suffice}
 use Rattle.scm_c.proofs.messages.jw_send.Goals as goal
 
 pub returns-in-Ok : goal.returns-in-Ok

@@ -6,7 +6,7 @@ use Rattle.af_base.specs.declared.events.Event.TheVariants as event
 use Rattle.af_base.specs.declared.events.Reply.TheVariants as reply
 use Rattle.af_base.specs.declared.events.Step.TheVariants as step
 use Rattle.af_steps.specs.Outcome.{Does, Refuses}
-use Rattle.af_steps.proofs.Folded.{does-step, refuses-step}
+use Rattle.af_steps.proofs.FoldedReplies.{does-step, refuses-step}
 use Rattle.scm_c.proofs.processes.jw_open.Goals as goal
 
 pub returns-in-Ok : goal.returns-in-Ok

@@ -1,6 +1,6 @@
 use Rattle.std.proofs.Common.{map, subst}
 use Rattle.scm_command.specs.Task.{Names}
-use Rattle.scm_command.proofs.Asked.{race_not_play, run_not_play, run_not_race}
+use Rattle.scm_command.proofs.TaskWords.{race_not_play, run_not_play, run_not_race}
 use Rattle.scm_command.proofs.program.program.Goals as goal
 
 pub returns-in-Ok-clause-race : goal.returns-in-Ok-clause-race

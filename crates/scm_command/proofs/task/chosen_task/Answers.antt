@@ -1,7 +1,7 @@
 use Rattle.std.proofs.Common.{rules, ◌≡◌}
 use Rattle.std.specs.Prelude.{Some}
 use Rattle.clap.specs.Words.{found_of, rows_of, subcommand_rows_of}
-use Rattle.scm_command.proofs.Asked.{no_task, none_then}
+use Rattle.scm_command.proofs.TaskWords.{no_task, none_then}
 use Rattle.scm_command.proofs.task.chosen_task.Goals as goal
 
 pub returns-in-race-default-clause-none : goal.returns-in-race-default-clause-none

@@ -2,8 +2,8 @@ use Rattle.std.proofs.Common.{rules, ◌≡◌, inl, inr, Err, [], true, sym, ap
 use Rattle.clap.specs.Words.{HasKind, IsAmong, app_of, fault_of, is_simple_and_free, kind_of}
 use Rattle.std.specs.Prelude.{IfErr}
 use Rattle.clap.specs.declared.error.kind.ErrorKind.TheVariants.{OutOfMemory}
-use Rattle.scm_command.proofs.Asked.{err_then}
-use Rattle.scm_command.proofs.Fitting.{fits-no_fault, known, no_fault-fits}
+use Rattle.scm_command.proofs.TaskWords.{err_then}
+use Rattle.scm_command.proofs.CommandWords.{fits-no_fault, known, no_fault-fits}
 use Rattle.scm_command.proofs.task.task_by.Goals as goal
 
 pub returns-in_err-matches-clause-err : goal.returns-in_err-matches-clause-err

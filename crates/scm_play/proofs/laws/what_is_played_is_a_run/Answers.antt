@@ -1,4 +1,4 @@
-use Rattle.scm_play.proofs.Playing.{run_of_played}
+use Rattle.scm_play.proofs.PlayedLines.{run_of_played}
 use Rattle.scm_play.proofs.laws.what_is_played_is_a_run.Goals as goal
 
 pub returns : goal.returns

@@ -1,5 +1,5 @@
 use Rattle.std.proofs.Common.{◌≡◌, false, rules, true}
-use Rattle.scm_play.proofs.Playing.{leads_first, leads_more, over_left, played_all}
+use Rattle.scm_play.proofs.PlayedLines.{leads_first, leads_more, over_left, played_all}
 use Rattle.scm_play.proofs.session.play.Goals as goal
 
 pub returns-in_err-engine-clause-done : goal.returns-in_err-engine-clause-done

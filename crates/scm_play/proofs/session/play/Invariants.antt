@@ -1,6 +1,6 @@
 -- Some lines of the input were played, and are shown; however the others are played, all are.
 use Rattle.std.proofs.Common.{◌≡◌, List, ℕ, Some}
-use Rattle.scm_play.proofs.Playing.{Leads}
+use Rattle.scm_play.proofs.PlayedLines.{Leads}
 use Rattle.scm_play.proofs.session.play.Given as goal
 
 abbrev pub invariant-loop-number : goal.invariant-loop-number

@@ -1,6 +1,6 @@
 use Rattle.std.proofs.Common.{◌≡◌, ◌<◌, length, rules, sym, ◌∙◌}
 use Rattle.std.proofs.lemmas.Bool.{false≢true}
-use Rattle.scm_play.proofs.Playing.{line_goes, line_over}
+use Rattle.scm_play.proofs.PlayedLines.{line_goes, line_over}
 use Rattle.scm_play.proofs.session.play_line.Goals as goal
 
 pub returns-in_err-write_prompt-clause-more : goal.returns-in_err-write_prompt-clause-more

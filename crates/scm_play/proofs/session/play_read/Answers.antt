@@ -1,4 +1,4 @@
-use Rattle.scm_play.proofs.Playing.{line_played}
+use Rattle.scm_play.proofs.PlayedLines.{line_played}
 use Rattle.scm_play.proofs.session.play_read.Goals as goal
 
 pub returns : goal.returns

@@ -1,6 +1,6 @@
 -- The row so far.
 use Rattle.std.proofs.Common.{◌≡◌, ◌++◌, map, take}
-use Rattle.scm_play.specs.Shown.{shown_byte}
+use Rattle.scm_play.specs.Display.{shown_byte}
 use Rattle.scm_play.proofs.show.push_line.Given as goal
 
 abbrev pub invariant-loop-byte : goal.invariant-loop-byte

@@ -1,5 +1,5 @@
 use Rattle.std.proofs.Common.{rules, ◌≡◌, length, subst, sym}
-use Rattle.af_layer.specs.Audit.{AreEmptied, IsWhole}
+use Rattle.af_layer.specs.Audit.{AreEmptied, IsWholeBook}
 use Rattle.scm_race.proofs.Parts.{lent-back}
 use Rattle.scm_race.proofs.part.end_part.Goals as goal
 
@@ -7,7 +7,7 @@ pub returns-in-Ok : goal.returns-in-Ok
 returns-in-Ok g c =
     let seats = c.args.seats.items in
     let new = c.checkpoint.new.seats in
-    let whole : IsWhole c.into_book-book.result seats = search rules in
+    let whole : IsWholeBook c.into_book-book.result seats = search rules in
     let emptied : AreEmptied seats new = search rules in
     let all : c.args.seats.len ≡ length seats = search rules in (
       c.into_book-book.result,

@@ -1,7 +1,7 @@
 use Rattle.std.proofs.Common.{rules, ◌≡◌, ◌+◌, ap, ◌∙◌}
 use Rattle.std.specs.FinMap as finmap
 use Rattle.af_base.specs.Pass.{Machine}
-use Rattle.af_layer.specs.Log.{Logged}
+use Rattle.af_layer.specs.Log.{BookView}
 use Rattle.scm_race.specs.Parts.{IsOfEnd}
 use Rattle.scm_race.proofs.Parts.{is-part}
 use Rattle.scm_race.proofs.part.last_part.Goals as goal
@@ -13,5 +13,5 @@ returns g c =
     let live : c.live.result ≡ finmap.len c.in_ok-field.field.book.machine.world.files = search rules in (
       ended.0,
       is-part g.O.Origin.begins (n + 2) (IsOfEnd n) ended.0 c.in_ok-seats.seats.items c.in_ok-seats.ensures ended.1 ended.2 ended.3,
-      live ∙ ap (λ (b : Logged). finmap.len b.machine.world.files) ended.5,
+      live ∙ ap (λ (b : BookView). finmap.len b.machine.world.files) ended.5,
     )

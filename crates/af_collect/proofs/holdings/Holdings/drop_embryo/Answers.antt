@@ -1,6 +1,6 @@
 use Rattle.std.proofs.Common.{◌≡◌, [], refl, sym, ap, ◌∙◌, subst}
 use Rattle.af_base.specs.Places.{backlog_at}
-use Rattle.af_desc.specs.FilesView.{FilesView, lowered}
+use Rattle.af_desc.specs.FilesView.{FilesView, without_file_ref}
 use Rattle.af_ledger.specs.Counted.{IsCounted}
 use Rattle.af_ledger.specs.Tally.{count_in_map, kept_of}
 use Rattle.af_ledger.specs.declared.place.Place.TheVariants.{Backlog}
@@ -30,4 +30,4 @@ invariant_of-self-2 c =
     let w = (the_view h).world in
     let f = c.in-Some.embryo in
     let x = first-embryo w c.args.file.now f c.in-Some.ensures.some in
-    subst (λ fs. AreExact h.procs fs h.ledger) (sym (c.drop_one.ensures ∙ ap (lowered Backlog f) c.dequeue.ensures.rest)) (exact-dequeued w c.args.file.now f x.0 (kept_of h.files.counts h.ledger) x.1 x.2 c.self.invariant)
+    subst (λ fs. AreExact h.procs fs h.ledger) (sym (c.drop_one.ensures ∙ ap (without_file_ref Backlog f) c.dequeue.ensures.rest)) (exact-dequeued w c.args.file.now f x.0 (kept_of h.files.counts h.ledger) x.1 x.2 c.self.invariant)

@@ -3,15 +3,15 @@ use Rattle.std.specs.Map.{keys_of}
 use Rattle.af_base.specs.Places.{queue_at}
 use Rattle.af_base.specs.Changes.{with_queue, with_socket}
 use Rattle.af_desc.specs.FilesView.{FilesView, popped}
-use Rattle.af_ledger.specs.Tally.{CanDropAll, dropped_all, kept_of}
+use Rattle.af_ledger.specs.Tally.{CanDropAll, kept_of, without_refs}
 use Rattle.af_ledger.specs.declared.place.Place.TheVariants.{Queue}
-use Rattle.af_ledger.proofs.HeldAll.{users-dropped_all}
+use Rattle.af_ledger.proofs.ManyPlaces.{users-dropped_all}
 use Rattle.af_collect.specs.HoldingsView.{AreExact, HoldingsView}
 use Rattle.af_collect.specs.contracts.holdings.Holdings.{the_view}
 use Rattle.af_collect.proofs.Bounds.{can-drop-all}
 use Rattle.af_collect.proofs.Exact.{exact-same, exact-shed, world-is}
-use Rattle.af_collect.proofs.Taken.{popped_queue}
-use Rattle.af_collect.proofs.Shedding.{emptied-same, first-shed}
+use Rattle.af_collect.proofs.TakenMessages.{popped_queue}
+use Rattle.af_collect.proofs.LossOutcomes.{emptied-same, first-shed}
 use Rattle.af_collect.proofs.holdings.Holdings.drop_first.Goals as goal
 
 pub invariant_of-self : goal.invariant_of-self
@@ -33,8 +33,8 @@ uncharge_message-requires c =
     (subst (λ u. CanDropAll u c.attached.result.now (kept_of c.self.inside.files.counts c.self.inside.ledger)) (sym c.user.ensures) (subst (λ fs. CanDropAll m.user fs (kept_of c.self.inside.files.counts c.self.inside.ledger)) (sym c.attached.ensures.value) can))
 
 -- The ledger afterwards.
-dropped : (c : goal.Joined-message) → kept_of c.uncharge_message.new.files.counts c.uncharge_message.new.ledger ≡ dropped_all (Queue c.in-Some.message.user) c.in-Some.message.attached (kept_of c.self.inside.files.counts c.self.inside.ledger)
-dropped c = c.uncharge_message.ensures.kept ∙ (λ i. dropped_all (Queue (c.user.ensures i)) (c.attached.ensures.value i) (kept_of (c.pop.ensures.rest i).counts c.self.inside.ledger))
+dropped : (c : goal.Joined-message) → kept_of c.uncharge_message.new.files.counts c.uncharge_message.new.ledger ≡ without_refs (Queue c.in-Some.message.user) c.in-Some.message.attached (kept_of c.self.inside.files.counts c.self.inside.ledger)
+dropped c = c.uncharge_message.ensures.kept ∙ (λ i. without_refs (Queue (c.user.ensures i)) (c.attached.ensures.value i) (kept_of (c.pop.ensures.rest i).counts c.self.inside.ledger))
 
 -- The world afterwards.
 shed : (c : goal.Joined-message) → (the_view (record c.self.inside { files = c.uncharge_message.new.files; ledger = c.uncharge_message.new.ledger })).world ≡ with_queue (the_view c.self.inside).world c.args.file.now (drop 1 (queue_at (the_view c.self.inside).world c.args.file.now))

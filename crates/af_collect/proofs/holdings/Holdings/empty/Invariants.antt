@@ -1,7 +1,7 @@
 -- The rest to empty is emptied to the same.
 use Rattle.std.proofs.Common.{◌≡◌, nat_eq}
 use Rattle.af_base.specs.Pass.{emptied}
-use Rattle.af_collect.proofs.Shedding.{burden}
+use Rattle.af_collect.proofs.LossOutcomes.{burden}
 use Rattle.af_collect.proofs.holdings.Holdings.empty.Given as goal
 
 abbrev pub invariant-loop : goal.invariant-loop

@@ -3,7 +3,7 @@ use Rattle.std.proofs.lemmas.Bool.{cases_Bool, false≢true}
 use Rattle.af_base.specs.Places.{InTable}
 use Rattle.af_base.specs.Unheld.{IsSettled}
 use Rattle.af_base.specs.World.{IsLive}
-use Rattle.af_base.proofs.Calm.{all_tabled}
+use Rattle.af_base.proofs.NothingInFlight.{all_tabled}
 use Rattle.af_collect.specs.HoldingsView.{HoldingsView}
 use Rattle.af_collect.specs.contracts.holdings.Holdings.{the_view}
 use Rattle.af_collect.proofs.holdings.Holdings.is_calm.Goals as goal

@@ -12,8 +12,8 @@ use Rattle.af_base.specs.Listing.{IsRisingTable, process_of}
 use Rattle.af_base.specs.Refusals.{no_process}
 use Rattle.af_base.specs.declared.limits.TheConstants.{MAX_PROCESSES}
 use Rattle.af_collect.specs.HoldingsView.{HoldingsView}
-use Rattle.af_base.proofs.Making.{made_all, made_more}
-use Rattle.af_collect.proofs.Listed.{changed, entry, keyed-changed, keys-rise, looked, looked_entries}
+use Rattle.af_base.proofs.GrowingLists.{made_all, made_more}
+use Rattle.af_collect.proofs.PlainLists.{changed, entry, keyed-changed, keys-rise, looked, looked_entries}
 use Rattle.af_collect.proofs.holdings.Holdings.listed_tables.Goals as goal
 
 -- The pids are those of the world.
@@ -36,11 +36,11 @@ loop-pid-preserved c =
     let pids = c.deref-pid-items.result.now in
     let n = c.loop-pid.pid-index in
     let xs = c.loop-pid.tables.items in
-    let x = c.in_ok-listed.field-0 in
+    let x = c.in_ok-list_table.field-0 in
     let rest = drop (n + 1) pids in
     let pid = c.pid-item.result in
     let step : drop n pids ≡ pid ∷ rest = drop-cons pids n pid c.loop-pid-test.true ∙ (λ i. sym c.pid-item.is i ∷ drop (sym (add-one n) i) pids) in
-    let listed = c.in_ok-listed.ensures in
+    let listed = c.in_ok-list_table.ensures in
     let value : process_of x ≡ bare_process (unwrap_or (finmap.get processes pid) no_process) = listed.shown ∙ ap (λ s. bare_process (unwrap_or (finmap.get s.world.processes pid) no_process)) c.self.view_is in
     let same : entry (λ t. t.pid) process_of x ≡ looked bare_process no_process processes pid = λ i. (listed.pid i, value i) in
     let before = ap (λ ps. map (entry (λ t. t.pid) process_of) xs ++ map (looked bare_process no_process processes) ps) (sym step) ∙ c.loop-pid.invariant.so_far in

@@ -4,7 +4,7 @@ use Rattle.af_base.specs.Counts.{tabled}
 use Rattle.af_base.specs.Places.{held_by}
 use Rattle.af_desc.specs.FilesView.{FilesView}
 use Rattle.af_collect.specs.HoldingsView.{HoldingsView, world_of}
-use Rattle.af_mark.specs.Marked.{is_white, visited}
+use Rattle.af_mark.specs.MarksView.{is_white, visited}
 use Rattle.af_collect.specs.Keeping.{is_due}
 use Rattle.af_collect.specs.contracts.holdings.Holdings.{the_view}
 use Rattle.af_collect.proofs.holdings.Holdings.visit.Goals as goal

@@ -1,7 +1,7 @@
 use Rattle.std.proofs.Common.{ap, refl, sym, subst}
 use Rattle.af_collect.specs.HoldingsView.{HoldingsView}
 use Rattle.af_collect.specs.Keeping.{PassInvariant}
-use Rattle.af_collect.proofs.Keeping.{kept_begin}
+use Rattle.af_collect.proofs.PassChanges.{kept_begin}
 use Rattle.af_collect.proofs.parts.Collector.begin.Goals as goal
 
 -- The marks begin anew, and the world of the begin is the world now.

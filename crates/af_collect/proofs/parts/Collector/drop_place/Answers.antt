@@ -2,8 +2,8 @@ use Rattle.std.proofs.Common.{sym, subst}
 use Rattle.af_collect.specs.Losing.{without_place}
 use Rattle.af_collect.specs.HoldingsView.{HoldingsView}
 use Rattle.af_collect.specs.Keeping.{PassInvariant}
-use Rattle.af_collect.specs.Shown.{KeepsPass}
-use Rattle.af_collect.proofs.Losing.{kept_lost}
+use Rattle.af_collect.specs.StoreView.{KeepsPass}
+use Rattle.af_collect.proofs.LostFiles.{kept_lost}
 use Rattle.af_collect.proofs.parts.Collector.drop_place.Goals as goal
 
 -- The lost files are marked, while marking.

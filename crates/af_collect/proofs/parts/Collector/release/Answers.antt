@@ -1,11 +1,11 @@
 use Rattle.std.proofs.Common.{◌<◌, sym, ap, ◌∙◌, subst}
 use Rattle.af_base.specs.Unheld.{Settles}
-use Rattle.af_base.proofs.Placed.{settles-without}
-use Rattle.af_base.proofs.Settling.{settles_none}
+use Rattle.af_base.proofs.SettledPlaces.{settles-without}
+use Rattle.af_base.proofs.SettledWorlds.{settles_none}
 use Rattle.af_collect.specs.HoldingsView.{HoldingsView}
 use Rattle.af_collect.proofs.FirstPlace.{burden-lost, none-held, none-silent, settles-lost}
-use Rattle.af_collect.proofs.Shedding.{burden, burden-gone}
-use Rattle.af_collect.specs.declared.progress.Progress.{Progress}
+use Rattle.af_collect.proofs.LossOutcomes.{burden, burden-gone}
+use Rattle.af_collect.specs.declared.progress.PassProgress.{PassProgress}
 use Rattle.af_collect.proofs.parts.Collector.release.Goals as goal
 
 -- A file that holds nothing can be taken away.
@@ -39,7 +39,7 @@ loop-file-preserved-then-is_bare c =
       rows = ap (λ (s : HoldingsView). s.rows) d.places ∙ i.rows;
       since = ap (λ (s : HoldingsView). s.since) d.places ∙ i.since;
       begun = d.begun ∙ i.begun;
-      progress = d.progress ∙ ap (λ (o : Progress). record o { reclaimed = c.take_away.new.self.progress.reclaimed }) i.progress;
+      progress = d.progress ∙ ap (λ (o : PassProgress). record o { reclaimed = c.take_away.new.self.progress.reclaimed }) i.progress;
     }
 
 -- A file that nothing holds has lost the first of what it held.
@@ -54,7 +54,7 @@ loop-file-preserved c =
       rows = ap (λ (s : HoldingsView). s.rows) d.places ∙ i.rows;
       since = ap (λ (s : HoldingsView). s.since) d.places ∙ i.since;
       begun = d.begun ∙ i.begun;
-      progress = d.progress ∙ i.progress ∙ ap (λ r. record c.args.self.now.progress { reclaimed = r }) (sym (ap (λ (o : Progress). o.reclaimed) d.progress));
+      progress = d.progress ∙ i.progress ∙ ap (λ r. record c.args.self.now.progress { reclaimed = r }) (sym (ap (λ (o : PassProgress). o.reclaimed) d.progress));
     }
 
 -- Nothing is left to go.

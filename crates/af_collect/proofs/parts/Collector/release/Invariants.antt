@@ -2,8 +2,8 @@
 use Rattle.std.proofs.Common.{◌≡◌}
 use Rattle.af_base.specs.World.{World}
 use Rattle.af_base.specs.Unheld.{Settles}
-use Rattle.af_collect.proofs.Shedding.{burden}
-use Rattle.af_collect.specs.Shown.{KeepsPass}
+use Rattle.af_collect.proofs.LossOutcomes.{burden}
+use Rattle.af_collect.specs.StoreView.{KeepsPass}
 use Rattle.af_collect.proofs.parts.Collector.release.Given as goal
 
 abbrev pub invariant-loop-file : goal.invariant-loop-file

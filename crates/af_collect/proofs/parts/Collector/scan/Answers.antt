@@ -1,8 +1,8 @@
 use Rattle.std.proofs.Common.{◌+◌, sym, subst}
-use Rattle.af_mark.specs.Marked.{blackened}
+use Rattle.af_mark.specs.MarksView.{blackened}
 use Rattle.af_collect.specs.HoldingsView.{HoldingsView}
 use Rattle.af_collect.specs.Keeping.{PassInvariant}
-use Rattle.af_collect.proofs.Keeping.{kept_scan}
+use Rattle.af_collect.proofs.PassChanges.{kept_scan}
 use Rattle.af_collect.proofs.parts.Collector.scan.Goals as goal
 
 -- All files that the file holds are marked, and then it is black.

@@ -1,11 +1,11 @@
 use Rattle.std.proofs.Common.{sym, ap, ◌∙◌, subst}
 use Rattle.std.specs.Prelude.{take}
 use Rattle.af_base.specs.Places.{backlog_at}
-use Rattle.af_mark.specs.Marked.{is_marked}
+use Rattle.af_mark.specs.MarksView.{is_marked}
 use Rattle.af_collect.specs.HoldingsView.{HoldingsView}
-use Rattle.af_collect.proofs.Spared.{marking_runs}
-use Rattle.af_collect.specs.Shown.{KeepsPassWith}
-use Rattle.af_collect.proofs.Losing.{embryo_held, first_taken, kept_held, marked_there}
+use Rattle.af_collect.proofs.SparedFiles.{marking_runs}
+use Rattle.af_collect.specs.StoreView.{KeepsPassWith}
+use Rattle.af_collect.proofs.LostFiles.{embryo_held, first_taken, kept_held, marked_there}
 use Rattle.af_collect.proofs.parts.Collector.shade_embryo.Goals as goal
 
 -- The listener is no garbage, so its first embryo is none.

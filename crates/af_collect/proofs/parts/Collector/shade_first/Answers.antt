@@ -1,6 +1,6 @@
 use Rattle.std.proofs.Common.{sym, ◌∙◌, subst}
-use Rattle.af_collect.specs.Shown.{KeepsPassWith}
-use Rattle.af_collect.proofs.Losing.{kept_first}
+use Rattle.af_collect.specs.StoreView.{KeepsPassWith}
+use Rattle.af_collect.proofs.LostFiles.{kept_first}
 use Rattle.af_collect.proofs.parts.Collector.shade_first.Goals as goal
 
 -- Nothing holds the file, so what it would lose is no garbage.

@@ -1,10 +1,10 @@
 use Rattle.std.proofs.Common.{sym, ap, ◌∙◌, subst}
 use Rattle.af_base.specs.Places.{number_in}
 use Rattle.af_base.specs.World.{Map, Process}
-use Rattle.af_mark.specs.Marked.{is_marked}
+use Rattle.af_mark.specs.MarksView.{is_marked}
 use Rattle.af_collect.specs.HoldingsView.{HoldingsView}
-use Rattle.af_collect.specs.Shown.{KeepsPassWith}
-use Rattle.af_collect.proofs.Losing.{kept_tabled, marked_number}
+use Rattle.af_collect.specs.StoreView.{KeepsPassWith}
+use Rattle.af_collect.proofs.LostFiles.{kept_tabled, marked_number}
 use Rattle.af_collect.proofs.parts.Collector.shade_number.Goals as goal
 
 -- The file of the descriptor is in a table.

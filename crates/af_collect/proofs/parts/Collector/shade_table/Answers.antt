@@ -3,12 +3,12 @@ use Rattle.std.specs.Prelude.{Option, Some}
 use Rattle.af_base.specs.Places.{number_in, table_at}
 use Rattle.af_base.specs.Whole.{IsWhole}
 use Rattle.af_base.specs.World.{IsLive, Map, Process}
-use Rattle.af_mark.specs.Marked.{is_marked}
+use Rattle.af_mark.specs.MarksView.{is_marked}
 use Rattle.af_collect.specs.HoldingsView.{HoldingsView}
 use Rattle.af_collect.specs.Keeping.{is_marking}
-use Rattle.af_collect.specs.Shown.{KeepsPassWith, with_marks}
+use Rattle.af_collect.specs.StoreView.{KeepsPassWith, with_marks}
 use Rattle.af_collect.specs.declared.parts.Collector.{Collector}
-use Rattle.af_collect.proofs.Losing.{kept_tabled, marked_next}
+use Rattle.af_collect.proofs.LostFiles.{kept_tabled, marked_next}
 use Rattle.af_collect.proofs.parts.Collector.shade_table.Goals as goal
 
 -- A descriptor of the table refers to the same file in the world.

@@ -4,8 +4,8 @@ use Rattle.std.specs.Prelude.{Some}
 use Rattle.af_base.specs.World.{IsLive}
 use Rattle.af_base.specs.declared.limits.TheConstants.{MAX_NOFILE}
 use Rattle.af_base.specs.Places.{table_at}
-use Rattle.af_mark.specs.Marked.{is_marked}
-use Rattle.af_collect.specs.Shown.{KeepsPass, with_marks}
+use Rattle.af_mark.specs.MarksView.{is_marked}
+use Rattle.af_collect.specs.StoreView.{KeepsPass, with_marks}
 use Rattle.af_collect.proofs.parts.Collector.shade_table.Given as goal
 
 abbrev pub invariant-loop-fd : goal.invariant-loop-fd

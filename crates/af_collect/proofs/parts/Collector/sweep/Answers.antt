@@ -3,10 +3,10 @@ use Rattle.af_base.specs.Pass.{emptied}
 use Rattle.af_base.specs.Unheld.{Settles}
 use Rattle.af_base.specs.World.{World}
 use Rattle.af_collect.specs.HoldingsView.{HoldingsView}
-use Rattle.af_mark.specs.Marked.{Marked, is_marked}
+use Rattle.af_mark.specs.MarksView.{MarksView, is_marked}
 use Rattle.af_collect.specs.Keeping.{PassInvariant}
-use Rattle.af_collect.proofs.Keeping.{kept_swept, kept_swept_marked, swept_garbage}
-use Rattle.af_collect.proofs.Purging.{purged_none, purged_one}
+use Rattle.af_collect.proofs.PassChanges.{kept_swept, kept_swept_marked, swept_garbage}
+use Rattle.af_collect.proofs.EmptiedSockets.{purged_none, purged_one}
 use Rattle.af_collect.specs.declared.parts.Collector.{Collector}
 use Rattle.af_collect.proofs.parts.Collector.sweep.Goals as goal
 
@@ -19,7 +19,7 @@ pub returns-then-is_marked-clause-kept : goal.returns-then-is_marked-clause-kept
 returns-then-is_marked-clause-kept c =
     let now = c.args.self.now in
     let r = c.requires in
-    let marked = ap (λ (m : Marked). is_marked m c.args.file.now) (sym c.files.ensures.marks) ∙ sym c.is_marked.ensures ∙ c.if-is_marked.true in
+    let marked = ap (λ (m : MarksView). is_marked m c.args.file.now) (sym c.files.ensures.marks) ∙ sym c.is_marked.ensures ∙ c.if-is_marked.true in
     subst (AreSwept now now.places.world) (sym c.ino.ensures ∙ sym c.self.view_is)
     (kept_swept_marked now.places.marks now.progress c.args.file.now r.sweeping r.live r.within.0 r.within.1 r.least marked r.kept)
 
@@ -44,6 +44,6 @@ returns-clause-purged c =
     let x = c.args.file.now in
     let r = c.requires in
     let last = c.release.new.self.places.world in
-    let unmarked = ap (λ (m : Marked). is_marked m c.args.file.now) (sym c.files.ensures.marks) ∙ sym c.is_marked.ensures ∙ c.if-is_marked.false in
+    let unmarked = ap (λ (m : MarksView). is_marked m c.args.file.now) (sym c.files.ensures.marks) ∙ sym c.is_marked.ensures ∙ c.if-is_marked.false in
     purged_one now.places.world last x (swept_garbage now.places.marks now.progress x r.sweeping r.live r.within.1 unmarked r.kept)
     (subst (λ s. Settles s.world last) c.empty.ensures c.release.ensures.settles)

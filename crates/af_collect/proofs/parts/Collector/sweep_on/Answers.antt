@@ -1,7 +1,7 @@
 use Rattle.std.proofs.Common.{ap}
 use Rattle.af_collect.specs.Keeping.{is_running}
-use Rattle.af_collect.proofs.Keeping.{counted_all, kept_over}
-use Rattle.af_collect.proofs.Purging.{purged_none}
+use Rattle.af_collect.proofs.PassChanges.{counted_all, kept_over}
+use Rattle.af_collect.proofs.EmptiedSockets.{purged_none}
 use Rattle.af_collect.proofs.parts.Collector.sweep_on.Goals as goal
 
 -- Where all are swept, nothing changes.

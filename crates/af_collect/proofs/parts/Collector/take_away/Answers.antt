@@ -1,14 +1,14 @@
 use Rattle.std.proofs.Common.{◌+◌, ◌&&◌, ◌∙◌, sym, subst, nat_eq}
 use Rattle.std.specs.Prelude.{if◌then◌else◌}
 use Rattle.af_base.specs.Unheld.{without}
-use Rattle.af_base.proofs.Held.{held_by_none}
+use Rattle.af_base.proofs.PlacesAndCounts.{held_by_none}
 use Rattle.af_collect.specs.HoldingsView.{HoldingsView}
-use Rattle.af_mark.specs.Marked.{forgotten}
+use Rattle.af_mark.specs.MarksView.{forgotten}
 use Rattle.af_collect.specs.Keeping.{PassInvariant, is_sweeping}
-use Rattle.af_collect.proofs.Keeping.{kept_gone}
-use Rattle.af_collect.proofs.Spared.{reclaimed_most, sweeping_only}
-use Rattle.af_collect.specs.Shown.{KeepsPass}
-use Rattle.af_collect.proofs.Passing.{counted_gone}
+use Rattle.af_collect.proofs.PassChanges.{kept_gone}
+use Rattle.af_collect.proofs.SparedFiles.{reclaimed_most, sweeping_only}
+use Rattle.af_collect.specs.StoreView.{KeepsPass}
+use Rattle.af_collect.proofs.VisiblePass.{counted_gone}
 use Rattle.af_collect.proofs.parts.Collector.take_away.Goals as goal
 
 -- No more are counted than there can be files.

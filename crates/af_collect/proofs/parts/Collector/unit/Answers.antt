@@ -1,9 +1,9 @@
 use Rattle.std.proofs.Common.{◌≡◌, ◌<◌, ℕ, true, ap, sym, subst, ◌∙◌}
 use Rattle.af_base.specs.Reached.{IsGarbageCount}
 use Rattle.af_collect.specs.Purged.{ArePurged}
-use Rattle.af_mark.specs.Marked.{Marked, is_marked, knows}
-use Rattle.af_collect.proofs.Keeping.{counted_all, none_marked}
-use Rattle.af_collect.proofs.Purging.{purged_none}
+use Rattle.af_mark.specs.MarksView.{MarksView, is_marked, knows}
+use Rattle.af_collect.proofs.PassChanges.{counted_all, none_marked}
+use Rattle.af_collect.proofs.EmptiedSockets.{purged_none}
 use Rattle.af_collect.proofs.parts.Collector.unit.Goals as goal
 use Rattle.af_collect.proofs.parts.Collector.unit.Goals.{then-is_marking+else-units-gt0, else-is_marking}
 
@@ -29,8 +29,8 @@ returns-then-are_marked-clause-purged c = purged_none c.args.self.now.places.wor
 
 -- No garbage of the begin is live.
 pub returns-then-are_marked-clause-gone : goal.returns-then-are_marked-clause-gone
-returns-then-are_marked-clause-gone c = λ _. none_marked c.requires.running (subst (λ (m : Marked). (f : ℕ) → knows m f ≡ true → f < m.bound → is_marked m f ≡ true) c.files.ensures.marks (c.are_marked.ensures c.if-are_marked.true)) c.requires.kept
+returns-then-are_marked-clause-gone c = λ _. none_marked c.requires.running (subst (λ (m : MarksView). (f : ℕ) → knows m f ≡ true → f < m.bound → is_marked m f ≡ true) c.files.ensures.marks (c.are_marked.ensures c.if-are_marked.true)) c.requires.kept
 
 -- And its sockets were counted.
 pub returns-then-are_marked-clause-counted : goal.returns-then-are_marked-clause-counted
-returns-then-are_marked-clause-counted c = λ _. counted_all c.requires.running (none_marked c.requires.running (subst (λ (m : Marked). (f : ℕ) → knows m f ≡ true → f < m.bound → is_marked m f ≡ true) c.files.ensures.marks (c.are_marked.ensures c.if-are_marked.true)) c.requires.kept) c.requires.kept
+returns-then-are_marked-clause-counted c = λ _. counted_all c.requires.running (none_marked c.requires.running (subst (λ (m : MarksView). (f : ℕ) → knows m f ≡ true → f < m.bound → is_marked m f ≡ true) c.files.ensures.marks (c.are_marked.ensures c.if-are_marked.true)) c.requires.kept) c.requires.kept

@@ -1,8 +1,8 @@
 use Rattle.std.proofs.Common.{◌≡◌, ◌≤◌, ◌+◌, ◌-◌, ℕ, arith, refl, subst, ◌∙◌}
 use Rattle.af_base.specs.Reached.{IsGarbageCount}
 use Rattle.af_collect.specs.Purged.{ArePurged}
-use Rattle.af_collect.proofs.Keeping.{counted_all, none_tabled}
-use Rattle.af_collect.proofs.Purging.{purged_join, purged_more, purged_none}
+use Rattle.af_collect.proofs.PassChanges.{counted_all, none_tabled}
+use Rattle.af_collect.proofs.EmptiedSockets.{purged_join, purged_more, purged_none}
 use Rattle.af_collect.proofs.parts.Collector.units.Goals as goal
 
 -- At first nothing was done.

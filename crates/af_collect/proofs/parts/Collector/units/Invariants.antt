@@ -3,7 +3,7 @@ use Rattle.std.proofs.Common.{◌≡◌, ◌≤◌, ◌+◌, ◌-◌, true}
 use Rattle.af_base.specs.Whole.{IsSound}
 use Rattle.af_collect.specs.Keeping.{is_running}
 use Rattle.af_collect.specs.Purged.{ArePurged}
-use Rattle.af_collect.specs.Shown.{KeepsPass}
+use Rattle.af_collect.specs.StoreView.{KeepsPass}
 use Rattle.af_collect.proofs.parts.Collector.units.Given as goal
 
 abbrev pub invariant-loop-left : goal.invariant-loop-left

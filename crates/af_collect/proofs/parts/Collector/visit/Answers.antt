@@ -1,7 +1,7 @@
 use Rattle.std.proofs.Common.{◌≡◌, ◌+◌, ℕ, ap, sym, subst, ◌∙◌}
 use Rattle.af_collect.specs.HoldingsView.{HoldingsView}
 use Rattle.af_collect.specs.Keeping.{PassInvariant, units_of}
-use Rattle.af_collect.proofs.Keeping.{kept_visit}
+use Rattle.af_collect.proofs.PassChanges.{kept_visit}
 use Rattle.af_collect.proofs.parts.Collector.visit.Goals as goal
 use Rattle.af_collect.proofs.parts.Collector.visit.Goals.{then-scanned, else-scanned}
 

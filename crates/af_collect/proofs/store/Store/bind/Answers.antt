@@ -1,11 +1,11 @@
 use Rattle.std.proofs.Common.{◌≡◌, None, refl, subst}
-use Rattle.af_base.specs.Changes.{bound}
+use Rattle.af_base.specs.Changes.{with_name}
 use Rattle.af_base.specs.Names.{named}
 use Rattle.af_base.specs.World.{World}
 use Rattle.af_ledger.specs.Tally.{kept_of}
-use Rattle.af_collect.proofs.Altered.{exact-bound}
+use Rattle.af_collect.proofs.SocketStates.{exact-bound}
 use Rattle.af_collect.specs.contracts.holdings.Holdings.{the_view}
-use Rattle.af_collect.proofs.Standing.{BothInvariants, seen-world, stands-socket, stood}
+use Rattle.af_collect.proofs.StoreInvariant.{BothInvariants, seen-world, stands-socket, stood}
 use Rattle.af_collect.proofs.store.Store.bind.Goals as goal
 
 both : (c : goal.After-bind) → BothInvariants c.self.inside.parts c.places.inside.procs c.bind.new.self c.places.inside.ledger
@@ -18,7 +18,7 @@ both c =
     let s = c.args.socket.now in
     let free = subst (λ (v : World). named v.files c.args.name.now ≡ None) back c.requires.free in
     let e = c.bind.ensures in
-    stands-socket c.bind.result p h _ e.err was s (bound c.args.name.now) (λ x. refl) e.ok (exact-bound w s c.args.name.now (kept_of h.files.counts h.ledger) c.requires.name free was.0)
+    stands-socket c.bind.result p h _ e.err was s (with_name c.args.name.now) (λ x. refl) e.ok (exact-bound w s c.args.name.now (kept_of h.files.counts h.ledger) c.requires.name free was.0)
 
 pub invariant_of-places : goal.invariant_of-places
 invariant_of-places c = (both c).0

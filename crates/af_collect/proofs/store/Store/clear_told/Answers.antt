@@ -1,5 +1,5 @@
 use Rattle.std.proofs.Common.{subst, sym}
-use Rattle.af_collect.proofs.Standing.{BothInvariants, stood}
+use Rattle.af_collect.proofs.StoreInvariant.{BothInvariants, stood}
 use Rattle.af_collect.proofs.store.Store.clear_told.Goals as goal
 
 both : (c : goal.After-clear_told) → BothInvariants c.self.inside.parts c.places.inside.procs c.clear_told.new.self c.places.inside.ledger

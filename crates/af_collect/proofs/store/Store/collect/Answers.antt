@@ -6,9 +6,9 @@ use Rattle.af_base.specs.Whole.{IsSound}
 use Rattle.af_collect.specs.HoldingsView.{HoldingsView}
 use Rattle.af_collect.specs.Keeping.{is_running}
 use Rattle.af_collect.specs.Purged.{ArePurged}
-use Rattle.af_collect.proofs.Purging.{purged_join, purged_none, purged_whole}
+use Rattle.af_collect.proofs.EmptiedSockets.{purged_join, purged_none, purged_whole}
 use Rattle.af_collect.specs.Collecting.{Collects}
-use Rattle.af_collect.specs.Shown.{Shown}
+use Rattle.af_collect.specs.StoreView.{StoreView}
 use Rattle.af_collect.proofs.store.Store.collect.Goals as goal
 
 -- Nothing is purged yet.
@@ -16,14 +16,14 @@ pub loop-init : goal.loop-init
 loop-init c =
     let w = c.args.self.now.world in
     let e = c.begin.ensures in
-    let was = ap (λ (s : Shown). s.world) c.self.view_is in
+    let was = ap (λ (s : StoreView). s.world) c.self.view_is in
     let same = ap (λ (s : HoldingsView). s.world) e.places ∙ was in
     record {
       kept = e.kept;
       running = ap is_running e.stage;
       sound = subst IsSound (sym same) c.requires.sound;
       begun = ap (λ (s : HoldingsView). s.world) e.begun ∙ was;
-      since = ap (λ (s : HoldingsView). s.since) e.places ∙ ap (λ (s : Shown). s.since) c.self.view_is;
+      since = ap (λ (s : HoldingsView). s.since) e.places ∙ ap (λ (s : StoreView). s.since) c.self.view_is;
       purged = (0, subst (λ v. ArePurged w w v 0) (sym same) (purged_none w 0 c.requires.sound.settled));
     }
 

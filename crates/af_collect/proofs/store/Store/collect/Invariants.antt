@@ -4,7 +4,7 @@ use Rattle.std.specs.FinMap as map
 use Rattle.af_base.specs.Whole.{IsSound}
 use Rattle.af_collect.specs.Keeping.{is_running}
 use Rattle.af_collect.specs.Purged.{ArePurged}
-use Rattle.af_collect.specs.Shown.{KeepsPass}
+use Rattle.af_collect.specs.StoreView.{KeepsPass}
 use Rattle.af_collect.proofs.store.Store.collect.Given as goal
 
 abbrev pub invariant-loop : goal.invariant-loop

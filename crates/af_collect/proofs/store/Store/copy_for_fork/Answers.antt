@@ -5,15 +5,15 @@ use Rattle.af_base.specs.Changes.{add_process}
 use Rattle.af_base.specs.Refusals.{is_at_process_limit}
 use Rattle.af_base.specs.World.{World}
 use Rattle.af_ledger.specs.Tally.{kept_of}
-use Rattle.af_mark.specs.Marked.{is_marked}
+use Rattle.af_mark.specs.MarksView.{is_marked}
 use Rattle.af_collect.proofs.Exact.{world-is}
-use Rattle.af_collect.proofs.Joined.{joins-copy}
+use Rattle.af_collect.proofs.ProcessTables.{joins-copy}
 use Rattle.af_collect.specs.Keeping.{below}
 use Rattle.af_collect.specs.Since.{Moves}
-use Rattle.af_collect.proofs.Placing.{covers_add_process, moves_fork}
+use Rattle.af_collect.proofs.TablePlaces.{covers_add_process, moves_fork}
 use Rattle.af_collect.specs.contracts.holdings.Holdings.{the_view}
-use Rattle.af_collect.proofs.Placed.{kept_tables}
-use Rattle.af_collect.proofs.Standing.{BothInvariants, both-same, seen-world, stood}
+use Rattle.af_collect.proofs.PlaceChanges.{kept_tables}
+use Rattle.af_collect.proofs.StoreInvariant.{BothInvariants, both-same, seen-world, stood}
 use Rattle.af_collect.proofs.store.Store.copy_for_fork.Goals as goal
 
 pub ref_table-requires : goal.ref_table-requires

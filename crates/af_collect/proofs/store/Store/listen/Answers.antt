@@ -4,9 +4,9 @@ use Rattle.af_base.specs.Changes.{listening}
 use Rattle.af_base.specs.Refusals.{socket_at}
 use Rattle.af_base.specs.World.{World}
 use Rattle.af_ledger.specs.Tally.{kept_of}
-use Rattle.af_collect.proofs.Altered.{exact-listening, idle-alone}
+use Rattle.af_collect.proofs.SocketStates.{exact-listening, idle-alone}
 use Rattle.af_collect.specs.contracts.holdings.Holdings.{the_view}
-use Rattle.af_collect.proofs.Standing.{BothInvariants, seen-world, stands-socket, stood}
+use Rattle.af_collect.proofs.StoreInvariant.{BothInvariants, seen-world, stands-socket, stood}
 use Rattle.af_base.specs.declared.events.State.TheVariants as state
 use Rattle.af_collect.proofs.store.Store.listen.Goals as goal
 

@@ -5,8 +5,8 @@ use Rattle.af_base.specs.Changes.{queued}
 use Rattle.af_base.specs.Refusals.{room_of, socket_of}
 use Rattle.af_base.specs.World.{World}
 use Rattle.af_desc.specs.FilesView.{FilesView, changed, socket_in}
-use Rattle.af_collect.proofs.Made.{Connects, stands-embryo, stays}
-use Rattle.af_collect.proofs.Standing.{BothInvariants, seen-world, stood}
+use Rattle.af_collect.proofs.NewFiles.{Connects, stands-embryo, stays}
+use Rattle.af_collect.proofs.StoreInvariant.{BothInvariants, seen-world, stood}
 use Rattle.af_collect.proofs.store.Store.make_embryo.Goals as goal
 
 -- The listener stays as it is while the embryo is made.

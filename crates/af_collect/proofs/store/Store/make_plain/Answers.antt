@@ -8,8 +8,8 @@ use Rattle.af_ledger.specs.Tally.{kept_of}
 use Rattle.af_collect.specs.Limits.{IsBelowLimit}
 use Rattle.af_collect.proofs.Exact.{exact-plain}
 use Rattle.af_collect.specs.contracts.holdings.Holdings.{the_view}
-use Rattle.af_collect.proofs.Made.{stands-made}
-use Rattle.af_collect.proofs.Standing.{BothInvariants, seen-world, stood}
+use Rattle.af_collect.proofs.NewFiles.{stands-made}
+use Rattle.af_collect.proofs.StoreInvariant.{BothInvariants, seen-world, stood}
 use Rattle.af_collect.proofs.store.Store.make_plain.Goals as goal
 
 both : (c : goal.After-install) → BothInvariants c.self.inside.parts c.install.new.self c.make_plain.new.self c.places.inside.ledger

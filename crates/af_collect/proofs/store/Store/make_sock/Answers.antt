@@ -7,10 +7,10 @@ use Rattle.af_base.specs.Steps.{idle_socket}
 use Rattle.af_base.specs.World.{AsSocket, World}
 use Rattle.af_ledger.specs.Tally.{kept_of}
 use Rattle.af_collect.specs.Limits.{IsBelowLimit}
-use Rattle.af_collect.proofs.Altered.{exact-idle}
+use Rattle.af_collect.proofs.SocketStates.{exact-idle}
 use Rattle.af_collect.specs.contracts.holdings.Holdings.{the_view}
-use Rattle.af_collect.proofs.Made.{stands-made}
-use Rattle.af_collect.proofs.Standing.{BothInvariants, seen-world, stood}
+use Rattle.af_collect.proofs.NewFiles.{stands-made}
+use Rattle.af_collect.proofs.StoreInvariant.{BothInvariants, seen-world, stood}
 use Rattle.af_collect.proofs.store.Store.make_sock.Goals as goal
 
 both : (c : goal.After-install) → BothInvariants c.self.inside.parts c.install.new.self c.make_sock.new.self c.places.inside.ledger

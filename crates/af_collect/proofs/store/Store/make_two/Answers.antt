@@ -5,8 +5,8 @@ use Rattle.af_base.specs.Changes.{change_at, installed}
 use Rattle.af_base.specs.Refusals.{is_full, process_at}
 use Rattle.af_base.specs.Table.{lowest_free}
 use Rattle.af_base.specs.World.{World}
-use Rattle.af_collect.proofs.Made.{stands-pair}
-use Rattle.af_collect.proofs.Standing.{BothInvariants, seen-world, stood}
+use Rattle.af_collect.proofs.NewFiles.{stands-pair}
+use Rattle.af_collect.proofs.StoreInvariant.{BothInvariants, seen-world, stood}
 use Rattle.af_collect.proofs.store.Store.make_two.Goals as goal
 
 both : (c : goal.After-install-2) → BothInvariants c.self.inside.parts c.install-2.new.self c.make_two.new.self c.places.inside.ledger

@@ -9,12 +9,12 @@ use Rattle.af_collect.specs.Receiving.{taken_at}
 use Rattle.af_collect.specs.HoldingsView.{filled}
 use Rattle.af_collect.proofs.Bounds.{tabled-most}
 use Rattle.af_collect.proofs.Exact.{exact-same, install-filled, world-is}
-use Rattle.af_collect.proofs.Receiving.{counted, exact-tabled, received-live, received_at, tabled}
-use Rattle.af_collect.specs.Keeping.{Spares}
-use Rattle.af_collect.specs.Shown.{Shown}
+use Rattle.af_collect.proofs.Receives.{counted, exact-tabled, received-live, received_at, tabled}
+use Rattle.af_collect.specs.Keeping.{NotBegunGarbage}
+use Rattle.af_collect.specs.StoreView.{StoreView}
 use Rattle.af_collect.specs.contracts.holdings.Holdings.{the_view}
-use Rattle.af_collect.proofs.Placed.{kept_peeked}
-use Rattle.af_collect.proofs.Standing.{Receives, BothInvariants, both-same, seen-changed, seen-world, shown, stood}
+use Rattle.af_collect.proofs.PlaceChanges.{kept_peeked}
+use Rattle.af_collect.proofs.StoreInvariant.{Receives, BothInvariants, both-same, seen-changed, seen-world, shown, stood}
 use Rattle.af_collect.proofs.store.Store.peek_msg.Goals as goal
 
 pub table_in_all-requires-clause-known : goal.table_in_all-requires-clause-known
@@ -54,7 +54,7 @@ both c =
     let was = stood p h c.places.view_is c.places.invariant c.self.invariant in
     let back = seen-world c.self.inside.parts c.places.inside _ c.places.view_is c.self.view_is in
     let r = subst (λ (v : World). Receives v s pid fds) back (c.requires.socket, c.requires.there, c.requires.free) in
-    let spared = subst (λ (t : Shown). Spares t.pass s) (sym c.self.view_is) c.requires.spared in
+    let spared = subst (λ (t : StoreView). NotBegunGarbage t.pass s) (sym c.self.view_is) c.requires.spared in
     let all = zip fds (taken_at w s max).attached in
     let attached = c.attached.ensures.value ∙ ap (λ t. t.message.attached) c.in_ok-seen.ensures in
     let kept = c.table_in_all.ensures.kept h.ledger ∙ ap (counted k fds) attached in

@@ -7,16 +7,16 @@ use Rattle.af_base.specs.Refusals.{no_socket, room_of, socket_at, socket_of}
 use Rattle.af_base.specs.World.{IsLive, World}
 use Rattle.af_desc.specs.FilesView.{changed}
 use Rattle.af_ledger.specs.Tally.{kept_of}
-use Rattle.af_mark.specs.Marked.{is_marked}
-use Rattle.af_collect.proofs.Connecting.{exact-queued}
-use Rattle.af_collect.proofs.Putting.{is-socket}
-use Rattle.af_collect.specs.Keeping.{Spares, below}
+use Rattle.af_mark.specs.MarksView.{is_marked}
+use Rattle.af_collect.proofs.Connects.{exact-queued}
+use Rattle.af_collect.proofs.Sends.{is-socket}
+use Rattle.af_collect.specs.Keeping.{NotBegunGarbage, below}
 use Rattle.af_collect.proofs.SocketChanges.{covers_queued, moves_queued}
-use Rattle.af_collect.proofs.Spared.{spared_running}
-use Rattle.af_collect.specs.Shown.{Shown}
+use Rattle.af_collect.proofs.SparedFiles.{spared_running}
+use Rattle.af_collect.specs.StoreView.{StoreView}
 use Rattle.af_collect.specs.contracts.holdings.Holdings.{the_view}
-use Rattle.af_collect.proofs.Placed.{kept_socket}
-use Rattle.af_collect.proofs.Standing.{BothInvariants, seen-world, stood}
+use Rattle.af_collect.proofs.PlaceChanges.{kept_socket}
+use Rattle.af_collect.proofs.StoreInvariant.{BothInvariants, seen-world, stood}
 use Rattle.af_collect.proofs.store.Store.put_embryo.Goals as goal
 
 both : (c : goal.After-enqueue) → BothInvariants c.self.inside.parts c.places.inside.procs c.enqueue.new.self c.places.inside.ledger
@@ -34,7 +34,7 @@ both c =
     let none = subst (λ (v : World). waiting v f ≡ 0) back c.requires.new in
     let fits = subst (λ (v : World). IfSome (socket_at v s) (λ x. length x.backlog < room_of x.state)) back c.requires.room in
     let room = subst (λ o. IfSome (option_and_then socket_of o) (λ x. length x.backlog < room_of x.state)) at fits in
-    let spared = subst (λ (t : Shown). Spares t.pass f) (sym c.self.view_is) c.requires.spared in
+    let spared = subst (λ (t : StoreView). NotBegunGarbage t.pass f) (sym c.self.view_is) c.requires.spared in
     subst (λ fs. BothInvariants p h.procs fs h.ledger) (sym (c.enqueue.ensures ∙ ap (changed (queued f) s) c.hold.ensures)) (
       exact-queued w s f (unwrap_or (socket_at w s) no_socket) (kept_of h.files.counts h.ledger) at live none room was.0,
       kept_socket s (queued f) (λ e. moves_queued begun w s f (spared_running p.progress.stage begun p.progress.looked f e spared)) (λ _. covers_queued begun w s f (is_marked h.files.marks) (below p.progress.visited)) was.1,

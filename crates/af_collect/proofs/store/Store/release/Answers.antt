@@ -1,9 +1,9 @@
 use Rattle.std.proofs.Common.{ap, subst}
 use Rattle.af_base.specs.Unheld.{Settles}
-use Rattle.af_base.proofs.Settling.{settles_none}
-use Rattle.af_collect.specs.Shown.{Shown}
+use Rattle.af_base.proofs.SettledWorlds.{settles_none}
+use Rattle.af_collect.specs.StoreView.{StoreView}
 use Rattle.af_collect.proofs.store.Store.release.Goals as goal
 
 -- Nothing waits, so nothing is to go.
 pub returns-in_default-clause-settles : goal.returns-in_default-clause-settles
-returns-in_default-clause-settles c = subst (λ w. Settles w w) (ap (λ (s : Shown). s.world) c.self.view_is) (settles_none c.self.inside.parts.places.world c.in_default.ensures.none.settled)
+returns-in_default-clause-settles c = subst (λ w. Settles w w) (ap (λ (s : StoreView). s.world) c.self.view_is) (settles_none c.self.inside.parts.places.world c.in_default.ensures.none.settled)

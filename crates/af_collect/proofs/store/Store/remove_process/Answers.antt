@@ -5,17 +5,17 @@ use Rattle.std.specs.Prelude.{Some}
 use Rattle.af_base.specs.Changes.{remove_process}
 use Rattle.af_base.specs.Places.{table_at}
 use Rattle.af_ledger.specs.Tally.{kept_of}
-use Rattle.af_mark.specs.Marked.{is_marked}
+use Rattle.af_mark.specs.MarksView.{is_marked}
 use Rattle.af_collect.specs.HoldingsView.{HoldingsView}
 use Rattle.af_collect.proofs.Exact.{exact-removed, exact-same, world-is}
 use Rattle.af_collect.specs.Keeping.{PassInvariant, below}
-use Rattle.af_collect.proofs.Placing.{covers_remove_process, moves_remove_process}
-use Rattle.af_collect.specs.Shown.{KeepsPass, KeepsPassWith, MarksAll, with_marks}
+use Rattle.af_collect.proofs.TablePlaces.{covers_remove_process, moves_remove_process}
+use Rattle.af_collect.specs.StoreView.{KeepsPass, KeepsPassWith, MarksAll, with_marks}
 use Rattle.af_collect.specs.contracts.holdings.Holdings.{the_view}
 use Rattle.af_collect.specs.declared.holdings.Holdings.TheInside.{Inside}
 use Rattle.af_collect.specs.declared.parts.Collector.{Collector}
-use Rattle.af_collect.proofs.Placed.{kept_tables}
-use Rattle.af_collect.proofs.Standing.{BothInvariants, both-same, kept-same}
+use Rattle.af_collect.proofs.PlaceChanges.{kept_tables}
+use Rattle.af_collect.proofs.StoreInvariant.{BothInvariants, both-same, kept-same}
 use Rattle.af_collect.proofs.store.Store.remove_process.Goals as goal
 
 -- The files that a process loses were marked before, so the invariant of the pass holds.

@@ -1,10 +1,10 @@
 use Rattle.std.proofs.Common.{◌∙◌, ap, subst, sym}
 use Rattle.af_base.specs.declared.events.Reply.TheVariants as reply
 use Rattle.af_base.specs.Pass.{Idle, Slices}
-use Rattle.af_collect.proofs.Slicing.{slices_done}
+use Rattle.af_collect.proofs.Slices.{slices_done}
 use Rattle.af_collect.specs.HoldingsView.{HoldingsView}
-use Rattle.af_collect.specs.Shown.{Shown}
-use Rattle.af_collect.proofs.Passing.{seen_begun}
+use Rattle.af_collect.specs.StoreView.{StoreView}
+use Rattle.af_collect.proofs.VisiblePass.{seen_begun}
 use Rattle.af_collect.proofs.store.Store.slice.Goals as goal
 
 -- The pass is over: no garbage of its begin is left.
@@ -15,9 +15,9 @@ returns-clause-does c = λ begun spent pass e.
     let v = c.units.new.self.places.world in
     let n = c.units.new.self.progress.reclaimed in
     let u = c.units.ensures in
-    let is = seen_begun p.progress.stage b begun p.progress.looked spent (ap (λ (s : Shown). s.pass) c.self.view_is ∙ e) in
+    let is = seen_begun p.progress.stage b begun p.progress.looked spent (ap (λ (s : StoreView). s.pass) c.self.view_is ∙ e) in
     let left = ap (λ (s : HoldingsView). s.world) c.end_pass.ensures.rest in
     subst (λ x. Slices begun c.args.self.now.world spent c.args.budget pass (reply.Done pass n) x Idle) (sym left)
-    (subst (λ (s : Shown). Slices begun s.world spent c.args.budget pass (reply.Done pass n) v Idle) c.self.view_is
+    (subst (λ (s : StoreView). Slices begun s.world spent c.args.budget pass (reply.Done pass n) v Idle) c.self.view_is
     (subst (λ x. Slices x p.places.world spent c.args.budget pass (reply.Done pass n) v Idle) is
     (slices_done b b p.places.world v spent 0 c.args.budget pass n u.purged (u.gone c.if-not-units.false) (u.counted c.if-not-units.false))))

@@ -7,14 +7,14 @@ use Rattle.af_base.specs.Steps.{spawned}
 use Rattle.af_base.specs.World.{World}
 use Rattle.af_ledger.specs.Tally.{kept_of}
 use Rattle.af_ledger.proofs.Laws.{users-added}
-use Rattle.af_mark.specs.Marked.{is_marked}
+use Rattle.af_mark.specs.MarksView.{is_marked}
 use Rattle.af_table.specs.Procs.{started}
 use Rattle.af_collect.proofs.Exact.{add-user-is, exact-spawned, world-is}
 use Rattle.af_collect.specs.Keeping.{below}
-use Rattle.af_collect.proofs.Placing.{covers_spawned, moves_spawned}
+use Rattle.af_collect.proofs.TablePlaces.{covers_spawned, moves_spawned}
 use Rattle.af_collect.specs.contracts.holdings.Holdings.{the_view}
-use Rattle.af_collect.proofs.Placed.{files_spawned, kept_tables}
-use Rattle.af_collect.proofs.Standing.{BothInvariants, both-same, seen-world, stood}
+use Rattle.af_collect.proofs.PlaceChanges.{files_spawned, kept_tables}
+use Rattle.af_collect.proofs.StoreInvariant.{BothInvariants, both-same, seen-world, stood}
 use Rattle.af_collect.proofs.store.Store.spawn.Goals as goal
 
 both : (c : goal.After-spawn) → BothInvariants c.self.inside.parts c.spawn.new.self c.places.inside.files c.add_user.new.self

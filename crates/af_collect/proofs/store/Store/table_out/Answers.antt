@@ -3,17 +3,17 @@ use Rattle.std.specs.Prelude.{Some}
 use Rattle.af_base.specs.Changes.{uninstall}
 use Rattle.af_base.specs.Places.{table_at}
 use Rattle.af_ledger.specs.Tally.{kept_of}
-use Rattle.af_mark.specs.Marked.{is_marked}
+use Rattle.af_mark.specs.MarksView.{is_marked}
 use Rattle.af_collect.specs.HoldingsView.{HoldingsView}
 use Rattle.af_collect.proofs.Bounds.{can-drop-table}
 use Rattle.af_collect.proofs.Exact.{exact-uninstall, world-is}
 use Rattle.af_collect.specs.Keeping.{below}
-use Rattle.af_collect.proofs.Placing.{covers_uninstall, moves_uninstall}
-use Rattle.af_collect.specs.Shown.{MarksAll}
+use Rattle.af_collect.proofs.TablePlaces.{covers_uninstall, moves_uninstall}
+use Rattle.af_collect.specs.StoreView.{MarksAll}
 use Rattle.af_collect.specs.contracts.holdings.Holdings.{the_view}
 use Rattle.af_collect.specs.declared.parts.Collector.{Collector}
-use Rattle.af_collect.proofs.Placed.{kept_tables}
-use Rattle.af_collect.proofs.Standing.{BothInvariants, both-same, stood}
+use Rattle.af_collect.proofs.PlaceChanges.{kept_tables}
+use Rattle.af_collect.proofs.StoreInvariant.{BothInvariants, both-same, stood}
 use Rattle.af_collect.proofs.store.Store.table_out.Goals as goal
 
 pub drop_one-requires : goal.drop_one-requires

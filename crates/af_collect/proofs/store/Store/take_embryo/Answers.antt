@@ -6,29 +6,29 @@ use Rattle.af_base.specs.Places.{backlog_at, table_at}
 use Rattle.af_base.specs.Reached.{Garbage}
 use Rattle.af_base.specs.Refusals.{process_at}
 use Rattle.af_base.specs.World.{World}
-use Rattle.af_base.proofs.Moved.{there-table}
-use Rattle.af_base.proofs.Stepped.{process-there}
-use Rattle.af_base.proofs.Within.{below-most}
-use Rattle.af_desc.specs.FilesView.{FilesView, lowered, raised}
+use Rattle.af_base.proofs.PlaceMoves.{there-table}
+use Rattle.af_base.proofs.SoundSteps.{process-there}
+use Rattle.af_base.proofs.StaysWithin.{below-most}
+use Rattle.af_desc.specs.FilesView.{FilesView, with_file_ref, without_file_ref}
 use Rattle.af_ledger.specs.Counted.{IsCountable, IsCounted}
 use Rattle.af_ledger.specs.Tally.{count_in_map, kept_of}
 use Rattle.af_ledger.specs.declared.place.Place.TheVariants.{Backlog, Table}
-use Rattle.af_mark.specs.Marked.{is_marked}
+use Rattle.af_mark.specs.MarksView.{is_marked}
 use Rattle.af_collect.specs.Limits.{IsBelowLimit}
 use Rattle.af_collect.specs.HoldingsView.{HoldingsView}
-use Rattle.af_collect.proofs.Accepting.{can-drop-first, embryo-taken, exact-accepted, live-first}
+use Rattle.af_collect.proofs.Accepts.{can-drop-first, embryo-taken, exact-accepted, live-first}
 use Rattle.af_collect.proofs.Bounds.{can-hold-table}
 use Rattle.af_collect.proofs.Exact.{world-is}
-use Rattle.af_collect.specs.Keeping.{Spares, below, is_running, pass_of}
-use Rattle.af_collect.proofs.Placing.{covers_install, moves_install}
+use Rattle.af_collect.specs.Keeping.{NotBegunGarbage, below, is_running, pass_of}
+use Rattle.af_collect.proofs.TablePlaces.{covers_install, moves_install}
 use Rattle.af_collect.proofs.SocketChanges.{covers_dequeued, moves_dequeued}
-use Rattle.af_collect.proofs.Spared.{held_spared, marking_runs, spared_running}
-use Rattle.af_collect.specs.Shown.{MarksAll, Shown}
+use Rattle.af_collect.proofs.SparedFiles.{held_spared, marking_runs, spared_running}
+use Rattle.af_collect.specs.StoreView.{MarksAll, StoreView}
 use Rattle.af_collect.specs.contracts.holdings.Holdings.{the_view}
 use Rattle.af_collect.specs.declared.parts.Collector.{Collector}
-use Rattle.af_collect.proofs.Losing.{embryo_held, first_taken}
-use Rattle.af_collect.proofs.Placed.{kept_socket, kept_tables}
-use Rattle.af_collect.proofs.Standing.{BothInvariants, both-same, stood}
+use Rattle.af_collect.proofs.LostFiles.{embryo_held, first_taken}
+use Rattle.af_collect.proofs.PlaceChanges.{kept_socket, kept_tables}
+use Rattle.af_collect.proofs.StoreInvariant.{BothInvariants, both-same, stood}
 use Rattle.af_collect.proofs.store.Store.take_embryo.Goals as goal
 
 pub hold-requires-clause-known : goal.hold-requires-clause-known
@@ -53,11 +53,11 @@ drop_one-requires c =
     let s = c.args.listener.now in
     let pid = c.args.pid in
     let f = c.unwrap-embryo.result in
-    let back = sym (ap (λ (t : HoldingsView). t.world) c.places.view_is ∙ ap (λ (o : Collector). o.places.world) c.shade_embryo.ensures.frame ∙ ap (λ (t : Shown). t.world) c.self.view_is) in
+    let back = sym (ap (λ (t : HoldingsView). t.world) c.places.view_is ∙ ap (λ (o : Collector). o.places.world) c.shade_embryo.ensures.frame ∙ ap (λ (t : StoreView). t.world) c.self.view_is) in
     let x = embryo-taken w s f c.dequeue.result c.unwrap-embryo.ensures c.dequeue.ensures.some in
     let there = process-there w pid (ap not (subst (λ (v : World). IsTrue (map.contains_key v.processes pid)) back c.requires.there)) in
     let free = sym (there-table w pid c.args.fd (process_at w pid) there) ∙ subst (λ (v : World). table_at v pid c.args.fd ≡ None) back c.requires.free in
-    subst (λ (v : FilesView). IsCounted Backlog (count_in_map v.counts f)) (sym (c.hold.ensures ∙ ap (raised Table f) c.dequeue.ensures.rest)) (can-drop-first w s f x.0 (kept_of h.files.counts h.ledger) x.1 x.2 c.places.invariant pid c.args.fd (process_at w pid) there free).0
+    subst (λ (v : FilesView). IsCounted Backlog (count_in_map v.counts f)) (sym (c.hold.ensures ∙ ap (with_file_ref Table f) c.dequeue.ensures.rest)) (can-drop-first w s f x.0 (kept_of h.files.counts h.ledger) x.1 x.2 c.places.invariant pid c.args.fd (process_at w pid) there free).0
 
 both : (c : goal.After-install) → BothInvariants c.shade_embryo.new.self c.install.new.self c.drop_one.new.self c.places.inside.ledger
 both c =
@@ -71,14 +71,14 @@ both c =
     let f = c.unwrap-embryo.result in
     let e = c.shade_embryo.ensures in
     let was = stood q h c.places.view_is c.places.invariant e.kept in
-    let back = sym (ap (λ (t : HoldingsView). t.world) c.places.view_is ∙ ap (λ (o : Collector). o.places.world) e.frame ∙ ap (λ (t : Shown). t.world) c.self.view_is) in
+    let back = sym (ap (λ (t : HoldingsView). t.world) c.places.view_is ∙ ap (λ (o : Collector). o.places.world) e.frame ∙ ap (λ (t : StoreView). t.world) c.self.view_is) in
     let x = embryo-taken w s f c.dequeue.result c.unwrap-embryo.ensures c.dequeue.ensures.some in
     let there = process-there w pid (ap not (subst (λ (v : World). IsTrue (map.contains_key v.processes pid)) back c.requires.there)) in
     let free = subst (λ (v : World). table_at v pid fd ≡ None) back c.requires.free in
     let none = sym (there-table w pid fd (process_at w pid) there) ∙ free in
     let low = below-most w pid fd (process_at w pid) was.0.within there (subst (λ (v : World). IsBelowLimit v pid fd) back c.requires.limit (process_at w pid) there) in
-    let files = c.drop_one.ensures ∙ ap (lowered Backlog f) (c.hold.ensures ∙ ap (raised Table f) c.dequeue.ensures.rest) in
-    let spared = subst (λ (o : Collector). Spares (pass_of o.progress.stage o.begun.value.world o.progress.looked) s) (sym e.frame) (subst (λ (t : Shown). Spares t.pass s) (sym c.self.view_is) c.requires.spared) in
+    let files = c.drop_one.ensures ∙ ap (without_file_ref Backlog f) (c.hold.ensures ∙ ap (with_file_ref Table f) c.dequeue.ensures.rest) in
+    let spared = subst (λ (o : Collector). NotBegunGarbage (pass_of o.progress.stage o.begun.value.world o.progress.looked) s) (sym e.frame) (subst (λ (t : StoreView). NotBegunGarbage t.pass s) (sym c.self.view_is) c.requires.spared) in
     let shaded = subst (λ (o : Collector). MarksAll (λ g. slice_get (backlog_at o.places.world s) 0 ≡ Some g) o q) (sym e.frame) e.marked in
     let marked = subst (λ (t : HoldingsView). MarksAll (λ g. slice_get (backlog_at t.world s) 0 ≡ Some g) q (record q { places = t })) (sym c.places.view_is) shaded in
     let stray : (g : ℕ) → slice_get (backlog_at w s) 0 ≡ Some g → is_running q.progress.stage ≡ true → ¬ (Garbage begun g) = λ g is run. spared_running q.progress.stage begun q.progress.looked g run (held_spared q.progress.looked s g was.1 (embryo_held w s g (first_taken (backlog_at w s) g is)) spared) in

@@ -7,20 +7,20 @@ use Rattle.af_base.specs.Changes.{install_all, with_queue, with_socket}
 use Rattle.af_base.specs.Refusals.{socket_at}
 use Rattle.af_base.specs.World.{World}
 use Rattle.af_desc.specs.FilesView.{received_from}
-use Rattle.af_ledger.specs.Tally.{CanDropAll, count_in_map, dropped_all, kept_of}
+use Rattle.af_ledger.specs.Tally.{CanDropAll, count_in_map, kept_of, without_refs}
 use Rattle.af_ledger.specs.declared.place.Place.TheVariants.{Queue}
-use Rattle.af_ledger.proofs.HeldAll.{users-dropped_all}
+use Rattle.af_ledger.proofs.ManyPlaces.{users-dropped_all}
 use Rattle.af_collect.specs.Receiving.{taken_at}
 use Rattle.af_collect.specs.HoldingsView.{filled}
 use Rattle.af_collect.proofs.Bounds.{tabled-most}
 use Rattle.af_collect.proofs.Exact.{exact-same, install-filled, users-filled, world-is}
-use Rattle.af_collect.proofs.Receiving.{can-drop-received, counted, exact-received, received-live, received_at, tabled}
-use Rattle.af_collect.proofs.Taken.{taken_queue}
-use Rattle.af_collect.specs.Keeping.{Spares, shaded_in}
-use Rattle.af_collect.specs.Shown.{Shown}
+use Rattle.af_collect.proofs.Receives.{can-drop-received, counted, exact-received, received-live, received_at, tabled}
+use Rattle.af_collect.proofs.TakenMessages.{taken_queue}
+use Rattle.af_collect.specs.Keeping.{NotBegunGarbage, shaded_in}
+use Rattle.af_collect.specs.StoreView.{StoreView}
 use Rattle.af_collect.specs.contracts.holdings.Holdings.{the_view}
-use Rattle.af_collect.proofs.Placed.{kept_taken}
-use Rattle.af_collect.proofs.Standing.{Receives, BothInvariants, both-same, seen-moved, seen-world, shown, stood}
+use Rattle.af_collect.proofs.PlaceChanges.{kept_taken}
+use Rattle.af_collect.proofs.StoreInvariant.{Receives, BothInvariants, both-same, seen-moved, seen-world, shown, stood}
 use Rattle.af_collect.proofs.store.Store.take_msg.Goals as goal
 
 pub table_in_all-requires-clause-known : goal.table_in_all-requires-clause-known
@@ -57,7 +57,7 @@ uncharge_message-requires c =
 
 -- The ledger in the end.
 left : (c : goal.After-shade_taken) → let k = kept_of c.places.inside.files.counts c.places.inside.ledger in let m = received_at (the_view c.places.inside).world c.args.socket.now c.args.max in
-    kept_of c.shade_taken.new.files.counts c.uncharge_message.new.ledger ≡ dropped_all (Queue m.user) m.attached (counted k c.args.fds.now m.attached)
+    kept_of c.shade_taken.new.files.counts c.uncharge_message.new.ledger ≡ without_refs (Queue m.user) m.attached (counted k c.args.fds.now m.attached)
 left c =
     let h = c.places.inside in
     let fds = c.args.fds.now in
@@ -65,7 +65,7 @@ left c =
     let kept = c.table_in_all.ensures.kept h.ledger ∙ (λ i. counted (kept_of (c.in_ok-taken.ensures.ok i).counts h.ledger) fds (c.attached-attached.ensures.value i)) ∙ ap (counted (kept_of h.files.counts h.ledger) fds) (ap (λ t. t.message.attached) taken) in
     let user = c.user.ensures ∙ ap (λ t. t.message.user) taken in
     let attached = c.attached-attached.ensures.value ∙ ap (λ t. t.message.attached) taken in
-    ap (λ v. kept_of v.counts c.uncharge_message.new.ledger) c.shade_taken.ensures ∙ c.uncharge_message.ensures.kept ∙ (λ i. dropped_all (Queue (user i)) (attached i) (kept i))
+    ap (λ v. kept_of v.counts c.uncharge_message.new.ledger) c.shade_taken.ensures ∙ c.uncharge_message.ensures.kept ∙ (λ i. without_refs (Queue (user i)) (attached i) (kept i))
 
 -- The world in the end.
 received : (c : goal.After-shade_taken) → let w = (the_view c.places.inside).world in let taken = taken_at w c.args.socket.now c.args.max in
@@ -99,7 +99,7 @@ both c =
     let was = stood p h c.places.view_is c.places.invariant c.self.invariant in
     let back = seen-world c.self.inside.parts c.places.inside _ c.places.view_is c.self.view_is in
     let r = subst (λ (v : World). Receives v s pid fds) back (c.requires.socket, c.requires.there, c.requires.free) in
-    let spared = subst (λ (t : Shown). Spares t.pass s) (sym c.self.view_is) c.requires.spared in
+    let spared = subst (λ (t : StoreView). NotBegunGarbage t.pass s) (sym c.self.view_is) c.requires.spared in
     let t = taken_at w s max in
     let files = c.attached-attached.ensures.value ∙ ap (λ o. o.message.attached) c.in_ok-taken.ensures.taken in
     let before = ap (λ v. v.marks) c.uncharge_message.ensures.rest ∙ ap (λ v. v.marks) c.table_in_all.ensures.rest ∙ ap (λ v. v.marks) c.in_ok-taken.ensures.ok in

@@ -1,5 +1,5 @@
 use Rattle.std.proofs.Common.{true}
-use Rattle.af_collect.proofs.Standing.{BothInvariants, stands-either, stood}
+use Rattle.af_collect.proofs.StoreInvariant.{BothInvariants, stands-either, stood}
 use Rattle.af_collect.proofs.store.Store.tell_changed.Goals as goal
 
 both : (c : goal.After-tell_changed) → BothInvariants c.self.inside.parts c.places.inside.procs c.tell_changed.new.self c.places.inside.ledger

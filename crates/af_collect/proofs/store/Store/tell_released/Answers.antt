@@ -1,5 +1,5 @@
 use Rattle.std.proofs.Common.{true}
-use Rattle.af_collect.proofs.Standing.{BothInvariants, stands-either, stood}
+use Rattle.af_collect.proofs.StoreInvariant.{BothInvariants, stands-either, stood}
 use Rattle.af_collect.proofs.store.Store.tell_released.Goals as goal
 
 both : (c : goal.After-tell_released) → BothInvariants c.self.inside.parts c.places.inside.procs c.tell_released.new.self c.places.inside.ledger

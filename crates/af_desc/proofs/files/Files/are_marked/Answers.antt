@@ -1,7 +1,7 @@
 use Rattle.std.proofs.Common.{◌≡◌, ◌<◌, ℕ, true, arith, subst}
 use Rattle.std.proofs.lemmas.Bool.{eqb-true}
 use Rattle.af_mark.specs.Grey.{colors_in}
-use Rattle.af_mark.specs.Marked.{is_marked, knows}
+use Rattle.af_mark.specs.MarksView.{is_marked, knows}
 use Rattle.af_mark.proofs.Whites.{none-white}
 use Rattle.af_desc.specs.FilesView.{FilesView}
 use Rattle.af_desc.proofs.files.Files.are_marked.Goals as goal

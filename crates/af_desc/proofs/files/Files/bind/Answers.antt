@@ -1,18 +1,18 @@
 use Rattle.std.proofs.Common.{rules, ◌≡◌, ◌∙◌, ap, sym, subst}
 use Rattle.std.specs.Prelude.{IfSome, None}
 use Rattle.std.specs.FinMap as map
-use Rattle.af_base.specs.Changes.{bound, change_socket_at, file_with}
+use Rattle.af_base.specs.Changes.{change_socket_at, file_with, with_name}
 use Rattle.af_base.proofs.Lookups.{changed-live}
 use Rattle.af_base.specs.Names.{named}
 use Rattle.af_desc.specs.FilesView.{AreNamed, FilesView, socket_in}
-use Rattle.af_desc.proofs.Filing.{filed-named}
-use Rattle.af_desc.proofs.Naming.{named-back, named-is, named-bound, unchanged}
+use Rattle.af_desc.proofs.FilesInvariant.{filed-named}
+use Rattle.af_desc.proofs.FileNames.{named-back, named-is, named-bound, unchanged}
 use Rattle.af_desc.proofs.files.Files.bind.Goals as goal
 
 pub returns-then-is_none-clause-ok : goal.returns-then-is_none-clause-ok
 returns-then-is_none-clause-ok c =
     let none : socket_in c.args.self.now.files c.args.file.now ≡ None = search rules in
-    ap (λ fs. record c.args.self.now { files = fs }) (unchanged (bound c.args.name.now) c.args.self.now.files c.args.file.now none)
+    ap (λ fs. record c.args.self.now { files = fs }) (unchanged (with_name c.args.name.now) c.args.self.now.files c.args.file.now none)
 
 pub bind-requires : goal.bind-requires
 bind-requires c =
@@ -43,7 +43,7 @@ invariant_of-self-in_default c =
     let free = named-is a.names m c.self.invariant.named name ∙ ap (λ (v : FilesView). named v.files name) c.self.view_is ∙ c.requires.free in
     let some : ¬ (socket_in c.args.self.now.files k ≡ None) = search rules in
     let nameless = subst (λ (v : FilesView). IfSome (socket_in v.files k) (λ s. s.name ≡ None)) (sym c.self.view_is) c.requires.nameless in
-    let set = c.in_default.ensures.ok ∙ ap (λ q. record a.rows { files = change_socket_at (bound q) m k }) own in
+    let set = c.in_default.ensures.ok ∙ ap (λ q. record a.rows { files = change_socket_at (with_name q) m k }) own in
     let given = c.in_ok-bind.ensures.ok ∙ (λ i. map.insert a.names (listed i) (c.duplicate.ensures i)) in
-    filed-named a.rows c.bind-2.new.self _ _ _ _ _ _ _ c.self.invariant (change_socket_at (bound name) m k) _ set (changed-live (file_with (bound name)) m k 0 ∙ c.self.invariant.begins)
-    (subst (λ n. AreNamed n (change_socket_at (bound name) m k)) (sym given) (named-bound a.names m c.self.invariant.named name k free (λ e. some (ap (λ (v : FilesView). socket_in v.files k) (sym c.self.view_is) ∙ e)) nameless))
+    filed-named a.rows c.bind-2.new.self _ _ _ _ _ _ _ c.self.invariant (change_socket_at (with_name name) m k) _ set (changed-live (file_with (with_name name)) m k 0 ∙ c.self.invariant.begins)
+    (subst (λ n. AreNamed n (change_socket_at (with_name name) m k)) (sym given) (named-bound a.names m c.self.invariant.named name k free (λ e. some (ap (λ (v : FilesView). socket_in v.files k) (sym c.self.view_is) ∙ e)) nameless))

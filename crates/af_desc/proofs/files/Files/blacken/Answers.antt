@@ -3,7 +3,7 @@ use Rattle.std.specs.Prelude.{None, Some, option_map}
 use Rattle.std.specs.FinMap as map
 use Rattle.std.specs.Option.{option_map_or}
 use Rattle.af_mark.specs.Grey.{color_in}
-use Rattle.af_mark.specs.Marked.{blackened, is_grey, is_grey_color}
+use Rattle.af_mark.specs.MarksView.{blackened, is_grey, is_grey_color}
 use Rattle.af_mark.specs.declared.color.Color.TheVariants.{Black}
 use Rattle.af_mark.proofs.Colors.{color_get}
 use Rattle.af_desc.specs.FilesView.{FilesView}

@@ -1,6 +1,6 @@
 use Rattle.std.proofs.Common.{refl}
 use Rattle.af_base.specs.Changes.{dequeued}
-use Rattle.af_desc.proofs.Filing.{socket_changed}
+use Rattle.af_desc.proofs.FilesInvariant.{socket_changed}
 use Rattle.af_desc.proofs.files.Files.dequeue.Goals as goal
 
 pub invariant_of-self : goal.invariant_of-self

@@ -1,6 +1,6 @@
 use Rattle.std.proofs.Common.{refl}
 use Rattle.af_desc.specs.FilesView.{hung_up}
-use Rattle.af_desc.proofs.Filing.{socket_changed}
+use Rattle.af_desc.proofs.FilesInvariant.{socket_changed}
 use Rattle.af_desc.proofs.files.Files.hang_up.Goals as goal
 
 pub invariant_of-self : goal.invariant_of-self

@@ -2,8 +2,8 @@ use Rattle.std.proofs.Common.{◌+◌, ◌∙◌, ap, arith}
 use Rattle.std.specs.Prelude.{vec_capacity}
 use Rattle.std.specs.FinMap as map
 use Rattle.af_desc.specs.FilesView.{entered}
-use Rattle.af_desc.specs.RowsView.{file_of, with_row}
-use Rattle.af_desc.proofs.Filing.{filed-entered, filed-reserved, seen, seen-entered}
+use Rattle.af_desc.specs.TrackedTableView.{file_of, with_row}
+use Rattle.af_desc.proofs.FilesInvariant.{filed-entered, filed-reserved, seen, seen-entered}
 use Rattle.af_desc.proofs.files.Files.make.Goals as goal
 
 pub push-file-requires : goal.push-file-requires
@@ -15,12 +15,12 @@ push-file-requires c =
 pub invariant_of-self : goal.invariant_of-self
 invariant_of-self c =
     let more = c.reserve.ensures in
-    filed-reserved c.self.inside.rows c.reserve.new.rows _ _ _ _ _ _ _ c.self.invariant _ (vec_capacity c.reserve.new.waiting) _ (vec_capacity c.reserve.new.grey) more.rows more.waiting more.capacity more.grey more.greys more.fits more.grey_fits
+    filed-reserved c.self.inside.rows c.reserve.new.rows _ _ _ _ _ _ _ c.self.invariant _ (vec_capacity c.reserve.new.unreferenced) _ (vec_capacity c.reserve.new.grey) more.rows more.unreferenced more.capacity more.grey more.greys more.fits more.grey_fits
 
 pub invariant_of-self-2 : goal.invariant_of-self-2
 invariant_of-self-2 c =
     let more = c.reserve.ensures in
-    let reserved = filed-reserved c.self.inside.rows c.reserve.new.rows _ _ _ _ _ _ _ c.self.invariant _ (vec_capacity c.reserve.new.waiting) _ (vec_capacity c.reserve.new.grey) more.rows more.waiting more.capacity more.grey more.greys more.fits more.grey_fits in
+    let reserved = filed-reserved c.self.inside.rows c.reserve.new.rows _ _ _ _ _ _ _ c.self.invariant _ (vec_capacity c.reserve.new.unreferenced) _ (vec_capacity c.reserve.new.grey) more.rows more.unreferenced more.capacity more.grey more.greys more.fits more.grey_fits in
     let p = c.push-file.ensures in
     let all = c.in_ok-reserve.ensures.counts in
     let marks = c.in_ok-reserve.ensures.marks in

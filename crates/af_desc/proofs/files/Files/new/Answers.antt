@@ -2,16 +2,16 @@ use Rattle.std.proofs.Common.{◌+◌, ◌∙◌, ap, nat_eq, arith}
 use Rattle.std.specs.FinMap as map
 use Rattle.std.specs.Prelude.{is_some}
 use Rattle.std.specs.Ordering.{nat_cmp}
-use Rattle.af_base.proofs.Just.{just-empty}
+use Rattle.af_base.proofs.ExactLists.{just-empty}
 use Rattle.af_ledger.specs.Counted.{places_in}
 use Rattle.af_ledger.specs.declared.count.Count.{Count}
 use Rattle.af_mark.specs.Grey.{color_in, colors_in}
-use Rattle.af_mark.specs.Marked.{is_grey_color}
+use Rattle.af_mark.specs.MarksView.{is_grey_color}
 use Rattle.af_mark.specs.declared.mark.Mark.{Mark}
 use Rattle.af_mark.proofs.Colors.{upto_none}
 use Rattle.ordered_slab.proofs.Parts.{part_none}
 use Rattle.af_desc.proofs.Embryos.{embryos-empty}
-use Rattle.af_desc.proofs.Naming.{named-none-yet}
+use Rattle.af_desc.proofs.FileNames.{named-none-yet}
 use Rattle.af_desc.proofs.Whites.{white-none}
 use Rattle.af_desc.proofs.files.Files.new.Goals as goal
 
@@ -25,7 +25,7 @@ invariant_of-result c =
       last = ap (λ n. n + 1) c.new.ensures.last;
       begins = ap (λ m. map.contains_key m 0) none ∙ ap is_some (map.get-empty nat_cmp 0);
       named = named-none-yet c.new-4.result c.new.result.files c.new-4.ensures none;
-      waits = just-empty (λ n. nat_eq (places_in n) 0) c.new.result.counts _ uncounted c.new-2.ensures.items;
+      unreferenced_listed = just-empty (λ n. nat_eq (places_in n) 0) c.new.result.counts _ uncounted c.new-2.ensures.items;
       fits = omega (arith, ap map.len uncounted ∙ map.len-empty nat_cmp Count);
       listed = (
         upto_none 0 m markless,

@@ -1,6 +1,6 @@
 use Rattle.std.proofs.Common.{refl}
 use Rattle.af_desc.specs.FilesView.{received_from}
-use Rattle.af_desc.proofs.Filing.{socket_either}
+use Rattle.af_desc.proofs.FilesInvariant.{socket_either}
 use Rattle.af_desc.proofs.files.Files.take.Goals as goal
 
 pub invariant_of-self : goal.invariant_of-self

@@ -1,9 +1,9 @@
 use Rattle.std.proofs.Common.{rules, ◌≡◌, ◌-◌, ◌&&◌, ◌∙◌, ℕ, ap, arith}
 use Rattle.std.specs.Prelude.{nat_lt, vec_capacity}
 use Rattle.af_base.specs.Counts.{count_in, one}
-use Rattle.af_mark.specs.Marked.{is_grey, is_unmarked}
+use Rattle.af_mark.specs.MarksView.{is_grey, is_unmarked}
 use Rattle.af_desc.specs.FilesView.{without}
-use Rattle.af_desc.proofs.Filing.{filed-removed, seen, seen-without}
+use Rattle.af_desc.proofs.FilesInvariant.{filed-removed, seen, seen-without}
 use Rattle.af_desc.proofs.Whites.{white-gone, white-seen}
 use Rattle.af_desc.proofs.files.Files.take_out.Goals as goal
 
@@ -17,7 +17,7 @@ invariant_of-self c =
     let a = c.self.inside in
     let k = c.args.file.now in
     let left = white-gone a.rows.marks a.rows.marks a.epoch a.bound a.next a.white c.self.invariant.whites k _ _ _ (c.unmarked.view_is ∙ c.ino.ensures) c.remove-endpoint.ensures.white c.from.ensures in
-    let off : (f : ℕ) → count_in f c.swap_remove_file.new.files.items ≡ count_in f a.waiting.items - one f k = search rules in
+    let off : (f : ℕ) → count_in f c.swap_remove_file.new.files.items ≡ count_in f a.unreferenced.items - one f k = search rules in
     filed-removed a.rows c.remove-endpoint.new.self _ _ _ _ _ _ _ c.self.invariant k c.free_name.new.names c.swap_remove_file.new.files.items (vec_capacity c.swap_remove_file.new.files) c.remove-endpoint.ensures.removed c.remove-endpoint.ensures.space
     (c.free_name.ensures a.rows.files k c.self.invariant.named c.remove-endpoint.ensures.socket) off (omega (arith, c.swap_remove_file.ensures.capacity)) (ap (λ v. is_grey v.marks k) c.self.view_is ∙ c.requires.white) (a.white - c.from.result) left.1
 

@@ -1,4 +1,4 @@
-use Rattle.af_owned.proofs.Keeping.{owned-begin}
+use Rattle.af_owned.proofs.KeptValues.{owned-begin}
 use Rattle.af_owned.proofs.owned.Owned.begin.Goals as goal
 
 pub invariant_of-self : goal.invariant_of-self

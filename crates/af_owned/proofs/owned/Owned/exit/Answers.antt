@@ -1,7 +1,7 @@
 use Rattle.std.proofs.Common.{refl}
 use Rattle.af_base.specs.declared.events.Reply.TheVariants as reply
 use Rattle.af_base.specs.declared.events.Step.TheVariants as step
-use Rattle.af_owned.proofs.Keeping.{owned-call}
+use Rattle.af_owned.proofs.KeptValues.{owned-call}
 use Rattle.af_owned.proofs.owned.Owned.exit.Goals as goal
 
 pub invariant_of-self : goal.invariant_of-self

@@ -1,6 +1,6 @@
 use Rattle.std.proofs.Common.{ap, sym}
 use Rattle.std.specs.Prelude.{is_some}
-use Rattle.af_owned.proofs.Keeping.{owned-written}
+use Rattle.af_owned.proofs.KeptValues.{owned-written}
 use Rattle.af_owned.proofs.owned.Owned.get_mut.Goals as goal
 
 -- Whatever is written, the same files carry a value.

@@ -1,8 +1,8 @@
 use Rattle.std.proofs.Common.{◌≡◌, ◌∙◌, ap, subst, sym}
 use Rattle.std.specs.FinMap as map
-use Rattle.ordered_slab.specs.Numbers.{Numbered}
-use Rattle.af_owned.specs.Owning.{AreOwned}
-use Rattle.af_owned.proofs.Keeping.{owned-open}
+use Rattle.ordered_slab.specs.OrderedSlabView.{OrderedSlabView}
+use Rattle.af_owned.specs.OwnedView.{AreOwned}
+use Rattle.af_owned.proofs.KeptValues.{owned-open}
 use Rattle.af_owned.proofs.owned.Owned.open.Goals as goal
 
 pub invariant_of-self-2 : goal.invariant_of-self-2
@@ -10,9 +10,9 @@ invariant_of-self-2 g c =
     let a = c.self.inside in
     let n = c.open.new.self in
     let number = c.next_ino-ino.ensures in
-    let same = ap (λ (s : Numbered g.row.T.Denot). s.values) c.reserve.ensures.same in
+    let same = ap (λ (s : OrderedSlabView g.row.T.Denot). s.values) c.reserve.ensures.same in
     let at : c.push.new.self.values ≡ map.insert a.values.values a.engine.world.next_ino c.args.value =
-    ap (λ (s : Numbered g.row.T.Denot). s.values) c.push.ensures.pushed ∙ (λ i. map.insert (same i) (number i) c.args.value) in
-    let last = ap (λ (s : Numbered g.row.T.Denot). s.last) c.push.ensures.pushed ∙ number in
+    ap (λ (s : OrderedSlabView g.row.T.Denot). s.values) c.push.ensures.pushed ∙ (λ i. map.insert (same i) (number i) c.args.value) in
+    let last = ap (λ (s : OrderedSlabView g.row.T.Denot). s.last) c.push.ensures.pushed ∙ number in
     subst (λ k. AreOwned n c.push.new.self.values k) (sym last)
     (subst (λ vs. AreOwned n vs a.engine.world.next_ino) (sym at) (owned-open a.engine n a.values.values a.values.last c.args.pid c.in-Ok.fd c.self.invariant c.args.value c.in-Ok.ensures.done))

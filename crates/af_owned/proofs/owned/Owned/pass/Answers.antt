@@ -1,4 +1,4 @@
-use Rattle.af_owned.proofs.Keeping.{owned-pass}
+use Rattle.af_owned.proofs.KeptValues.{owned-pass}
 use Rattle.af_owned.proofs.owned.Owned.pass.Goals as goal
 
 pub invariant_of-self : goal.invariant_of-self

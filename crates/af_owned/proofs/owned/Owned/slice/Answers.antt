@@ -1,4 +1,4 @@
-use Rattle.af_owned.proofs.Keeping.{owned-slice}
+use Rattle.af_owned.proofs.KeptValues.{owned-slice}
 use Rattle.af_owned.proofs.owned.Owned.slice.Goals as goal
 
 pub invariant_of-self : goal.invariant_of-self

@@ -1,4 +1,4 @@
-use Rattle.af_owned.proofs.Keeping.{owned-spawn}
+use Rattle.af_owned.proofs.KeptValues.{owned-spawn}
 use Rattle.af_owned.proofs.owned.Owned.spawn.Goals as goal
 
 pub invariant_of-self : goal.invariant_of-self

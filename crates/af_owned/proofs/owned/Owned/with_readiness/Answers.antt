@@ -1,8 +1,8 @@
 use Rattle.std.proofs.Common.{◌∙◌, true, ap, subst, sym}
 use Rattle.std.specs.FinMap as map
 use Rattle.af_base.specs.Pass.{Machine}
-use Rattle.af_owned.specs.Owning.{AreOwned}
-use Rattle.af_owned.proofs.Keeping.{owned-new}
+use Rattle.af_owned.specs.OwnedView.{AreOwned}
+use Rattle.af_owned.proofs.KeptValues.{owned-new}
 use Rattle.af_owned.proofs.owned.Owned.with_readiness.Goals as goal
 
 pub invariant_of-result : goal.invariant_of-result

@@ -4,8 +4,8 @@ use Rattle.std.specs.Option.{option_map_or}
 use Rattle.af_base.specs.Listing.{file_of}
 use Rattle.af_base.specs.Places.{contents}
 use Rattle.af_plain.specs.Marking.{Marks}
-use Rattle.af_plain.proofs.Marking.{marks-none}
-use Rattle.af_plain.proofs.Searching.{held_found}
+use Rattle.af_plain.proofs.SearchInvariant.{marks-none}
+use Rattle.af_plain.proofs.ReachedFiles.{held_found}
 use Rattle.af_plain.proofs.reach.Marking.look_at.Goals as goal
 
 pub returns-in_default : goal.returns-in_default

@@ -1,4 +1,4 @@
-use Rattle.af_plain.proofs.Marking.{marks-new, was_new}
+use Rattle.af_plain.proofs.SearchInvariant.{marks-new, was_new}
 use Rattle.af_plain.proofs.reach.Marking.mark.Goals as goal
 
 pub returns-in_ok-push : goal.returns-in_ok-push

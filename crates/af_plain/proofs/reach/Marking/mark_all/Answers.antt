@@ -2,7 +2,7 @@ use Rattle.std.proofs.Common.{[], ◌∷◌, subst, ◌∙◌}
 use Rattle.std.proofs.lemmas.List.{map-id}
 use Rattle.std.proofs.lemmas.List.Concat.{flat_map_single}
 use Rattle.af_plain.specs.Marking.{Marks}
-use Rattle.af_plain.proofs.Marking.{marks-end, marks-more}
+use Rattle.af_plain.proofs.SearchInvariant.{marks-end, marks-more}
 use Rattle.af_plain.proofs.reach.Marking.mark_all.Goals as goal
 
 pub loop-ino-preserved : goal.loop-ino-preserved

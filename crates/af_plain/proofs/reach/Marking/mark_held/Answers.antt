@@ -4,8 +4,8 @@ use Rattle.std.proofs.lemmas.Result.{on_ok_weaker}
 use Rattle.af_base.specs.Listing.{file_of}
 use Rattle.af_base.specs.Places.{contents}
 use Rattle.af_plain.specs.Marking.{Marks}
-use Rattle.af_plain.proofs.Marking.{marks-both, marks-end, marks-more}
-use Rattle.af_base.proofs.Gathered.{contents_listed}
+use Rattle.af_plain.proofs.SearchInvariant.{marks-both, marks-end, marks-more}
+use Rattle.af_base.proofs.PlaceLists.{contents_listed}
 use Rattle.af_plain.proofs.reach.Marking.mark_held.Goals as goal
 
 pub loop-message-preserved : goal.loop-message-preserved

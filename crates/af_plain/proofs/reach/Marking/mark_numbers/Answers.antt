@@ -1,7 +1,7 @@
 use Rattle.std.proofs.Common.{[], ◌∷◌, subst, ◌∙◌, ap, map}
 use Rattle.std.proofs.lemmas.List.Concat.{flat_map_single}
 use Rattle.af_plain.specs.Marking.{Marks}
-use Rattle.af_plain.proofs.Marking.{marks-end, marks-more}
+use Rattle.af_plain.proofs.SearchInvariant.{marks-end, marks-more}
 use Rattle.af_plain.proofs.reach.Marking.mark_numbers.Goals as goal
 
 pub loop-number-preserved : goal.loop-number-preserved

@@ -1,7 +1,7 @@
 use Rattle.std.specs.List.{flat_map}
-use Rattle.af_plain.proofs.Marking.{marks-end, marks-more}
+use Rattle.af_plain.proofs.SearchInvariant.{marks-end, marks-more}
 use Rattle.af_base.specs.Listing.{inos_of}
-use Rattle.af_plain.proofs.Searching.{tabled_listed}
+use Rattle.af_plain.proofs.ReachedFiles.{tabled_listed}
 use Rattle.af_plain.proofs.reach.Marking.mark_tables.Goals as goal
 
 pub loop-table-preserved : goal.loop-table-preserved

@@ -1,6 +1,6 @@
 -- The message that is looked for is among those left.
 use Rattle.std.proofs.Common.{◌≡◌, length}
-use Rattle.af_queue.specs.Received.{message_at}
+use Rattle.af_queue.specs.TakenView.{message_at}
 use Rattle.af_queue.proofs.queue.Queue.message_with.Given as goal
 
 abbrev pub invariant-loop-message : goal.invariant-loop-message

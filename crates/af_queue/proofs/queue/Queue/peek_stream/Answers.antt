@@ -1,6 +1,6 @@
 use Rattle.std.proofs.Common.{rules, ◌≡◌, [], ◌∙◌}
 use Rattle.std.specs.Option.{option_map_or}
-use Rattle.af_queue.specs.Received.{message_at, sender_at}
+use Rattle.af_queue.specs.TakenView.{message_at, sender_at}
 use Rattle.af_queue.proofs.Spans.{have-bytes, part-received}
 use Rattle.af_queue.proofs.queue.Queue.peek_stream.Goals as goal
 use Rattle.af_queue.proofs.queue.Queue.peek_stream.Goals.{in-Some+in_ok-copy_attached-in-Some, in-None}

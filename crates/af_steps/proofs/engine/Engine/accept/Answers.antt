@@ -7,12 +7,12 @@ use Rattle.af_base.specs.Changes.{dequeued, install, with_socket}
 use Rattle.af_base.specs.Places.{backlog_at}
 use Rattle.af_base.specs.Steps.{first_embryo}
 use Rattle.af_base.specs.World.{World}
-use Rattle.af_collect.specs.Shown.{Shown}
-use Rattle.af_collect.specs.Keeping.{Spares}
-use Rattle.af_steps.proofs.Connected.{accept-fits, first-waits}
+use Rattle.af_collect.specs.StoreView.{StoreView}
+use Rattle.af_collect.specs.Keeping.{NotBegunGarbage}
+use Rattle.af_steps.proofs.Connections.{accept-fits, first-waits}
 use Rattle.af_steps.specs.Found.{HasSocket}
-use Rattle.af_base.proofs.Stepped.{goes-on, passes-on}
-use Rattle.af_steps.proofs.Found.{below-limit, held, in-same, ino-is, is-free, is-there, room-below, after-socket, no-socket}
+use Rattle.af_base.proofs.SoundSteps.{goes-on, passes-on}
+use Rattle.af_steps.proofs.LookupRows.{below-limit, held, in-same, ino-is, is-free, is-there, room-below, after-socket, no-socket}
 use Rattle.af_steps.proofs.Numbers.{IsLowest, is-free_at, least-low, not-open, not-short, none-free}
 use Rattle.af_steps.proofs.Outcomes.{does, starves, turned-down, missing}
 use Rattle.af_steps.proofs.engine.Engine.accept.Goals.{After-room_for}
@@ -73,7 +73,7 @@ take_embryo-requires c =
       limit = below-limit kept fd (least-low (least at));
       free = is-free kept fd (not-open (least at));
       some = subst (λ v. 0 < length (backlog_at v f)) (sym c.room_for.ensures.world) (slice_get_within (backlog_at c.self.inside.store.world f) 0 _ (first-waits found (search rules)));
-      spared = subst (λ s. Spares s f) (sym c.room_for.ensures.pass) (c.lemma_is_spared.ensures f (held found.number));
+      spared = subst (λ s. NotBegunGarbage s f) (sym c.room_for.ensures.pass) (c.lemma_is_spared.ensures f (held found.number));
     }
 
 pub returns-clause-done : goal.returns-clause-done
@@ -85,6 +85,6 @@ returns-clause-done c =
     let first : slice_get (backlog_at c.room_for.new.self.world f) 0 ≡ Some e = ap (λ v. slice_get (backlog_at v f) 0) c.room_for.ensures.world ∙ first-waits found (search rules) in
     let took = c.take_embryo.ensures e first in
     let number = is-free_at (least at) found.number.process in
-    let leads = (λ i. install (with_socket (sym c.room_for.ensures.world i) (ino-is found.number i) dequeued) c.args.pid (number i) e) ∙ sym (ap (λ (s : Shown). s.world) took) in
+    let leads = (λ i. install (with_socket (sym c.room_for.ensures.world i) (ino-is found.number i) dequeued) c.args.pid (number i) e) ∙ sym (ap (λ (s : StoreView). s.world) took) in
     does c.self.view_is c.args.pid (step.Accept c.args.on) c.release.new.self (reply.Fd c.in_ok-fd.fd) c.take_embryo.new.self.world (accept-fits found (search rules) (not-short (least at))) (ap reply.Fd number) leads c.release.ensures.settles
-    (c.release.ensures.pass ∙ ap (λ (s : Shown). s.pass) took ∙ c.room_for.ensures.pass) (c.release.ensures.since ∙ ap (λ (s : Shown). s.since) took ∙ c.room_for.ensures.since)
+    (c.release.ensures.pass ∙ ap (λ (s : StoreView). s.pass) took ∙ c.room_for.ensures.pass) (c.release.ensures.since ∙ ap (λ (s : StoreView). s.since) took ∙ c.room_for.ensures.since)

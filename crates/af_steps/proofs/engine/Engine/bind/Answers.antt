@@ -2,8 +2,8 @@ use Rattle.std.proofs.Common.{◌++◌, ◌∙◌}
 use Rattle.af_base.specs.declared.events.Step.TheVariants as step
 use Rattle.af_base.specs.Names.{named}
 use Rattle.af_base.specs.Refusals.{on_bind, on_name, socket_on}
-use Rattle.af_base.proofs.Stepped.{goes-on}
-use Rattle.af_steps.proofs.Found.{after-socket, no-socket}
+use Rattle.af_base.proofs.SoundSteps.{goes-on}
+use Rattle.af_steps.proofs.LookupRows.{after-socket, no-socket}
 use Rattle.af_steps.proofs.Outcomes.{turned-down}
 use Rattle.af_steps.proofs.engine.Engine.bind.Goals as goal
 

@@ -8,11 +8,11 @@ use Rattle.af_base.specs.Steps.{effect, with_embryo}
 use Rattle.af_base.specs.World.{Socket}
 use Rattle.af_base.specs.declared.errno.Errno.TheVariants.{ENFILE}
 use Rattle.af_base.specs.declared.events.Reply.TheVariants as reply
-use Rattle.af_collect.specs.Shown.{Shown}
-use Rattle.af_steps.proofs.Connected.{listener-is, room-left, same-type, some-by}
+use Rattle.af_collect.specs.StoreView.{StoreView}
+use Rattle.af_steps.proofs.Connections.{listener-is, room-left, same-type, some-by}
 use Rattle.af_base.specs.declared.events.Step.TheVariants as step
-use Rattle.af_base.proofs.Stepped.{goes-on, none-fits, passes-on}
-use Rattle.af_steps.proofs.Found.{after-socket, ino-is, no-socket}
+use Rattle.af_base.proofs.SoundSteps.{goes-on, none-fits, passes-on}
+use Rattle.af_steps.proofs.LookupRows.{after-socket, ino-is, no-socket}
 use Rattle.af_steps.proofs.Outcomes.{does, turned-down}
 use Rattle.af_steps.proofs.engine.Engine.connect.Goals as goal
 
@@ -95,6 +95,6 @@ returns-clause-done c =
     let kind : (socket_named w name).kind ≡ c.kind-kind.result = ap (λ (s : Socket). s.kind) is ∙ same-type l.kind x.kind (none-fits (on_listener l x.kind) ready).rest.here ∙ sym c.kind-kind.ensures in
     let listener : ino_named w name ≡ g = ap (λ o. unwrap_or o 0) has in
     let put = c.in_ok-make_embryo.ensures.ok in
-    let leads : effect w c.args.pid (step.Connect c.args.on name) ≡ c.make_embryo.new.self.world = (λ i. with_embryo w (ino-is found.number i) (listener i) (kind i)) ∙ sym (ap (λ (s : Shown). s.world) put) in
+    let leads : effect w c.args.pid (step.Connect c.args.on name) ≡ c.make_embryo.new.self.world = (λ i. with_embryo w (ino-is found.number i) (listener i) (kind i)) ∙ sym (ap (λ (s : StoreView). s.world) put) in
     does c.self.view_is c.args.pid (step.Connect c.args.on name) c.release.new.self reply.Ok c.make_embryo.new.self.world fits refl leads c.release.ensures.settles
-    (c.release.ensures.pass ∙ ap (λ (s : Shown). s.pass) put) (c.release.ensures.since ∙ ap (λ (s : Shown). s.since) put)
+    (c.release.ensures.pass ∙ ap (λ (s : StoreView). s.pass) put) (c.release.ensures.since ∙ ap (λ (s : StoreView). s.since) put)

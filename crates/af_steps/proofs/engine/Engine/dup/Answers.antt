@@ -1,8 +1,8 @@
 use Rattle.std.proofs.Common.{rules, sym, ap, subst, arith, ◌∙◌, ◌∷◌, []}
 use Rattle.af_base.specs.World.{IsLive, World}
-use Rattle.af_collect.specs.Keeping.{Spares}
+use Rattle.af_collect.specs.Keeping.{NotBegunGarbage}
 use Rattle.af_steps.specs.Found.{HasNumber}
-use Rattle.af_steps.proofs.Found.{below-limit, held, in-same, is-free, is-there, room-below, after-number}
+use Rattle.af_steps.proofs.LookupRows.{below-limit, held, in-same, is-free, is-there, room-below, after-number}
 use Rattle.af_steps.proofs.Numbers.{IsLowest, least-low, not-open, none-free}
 use Rattle.std.specs.Prelude.{Some}
 use Rattle.af_base.specs.declared.events.Step.TheVariants as step
@@ -33,5 +33,5 @@ table_in-requires c =
       limit = below-limit made fd (least-low least);
       free = is-free made fd (not-open least);
       live = subst (λ v. IsLive v f) (sym c.room_for.ensures.world) (c.self.invariant.0.whole.tables_live f (held has));
-      spared = subst (λ s. Spares s f) (sym c.room_for.ensures.pass) (c.lemma_is_spared.ensures f (held has));
+      spared = subst (λ s. NotBegunGarbage s f) (sym c.room_for.ensures.pass) (c.lemma_is_spared.ensures f (held has));
     }

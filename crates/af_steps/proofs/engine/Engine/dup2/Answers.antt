@@ -7,10 +7,10 @@ use Rattle.af_base.specs.declared.events.Step.TheVariants as step
 use Rattle.af_base.specs.Changes.{install}
 use Rattle.af_base.specs.Refusals.{first_fit, ino_on, on_place, refusal}
 use Rattle.af_base.specs.World.{IsLive, World}
-use Rattle.af_collect.specs.Shown.{Shown}
-use Rattle.af_collect.specs.Keeping.{Spares}
+use Rattle.af_collect.specs.StoreView.{StoreView}
+use Rattle.af_collect.specs.Keeping.{NotBegunGarbage}
 use Rattle.af_steps.specs.Found.{HasNumber}
-use Rattle.af_steps.proofs.Found.{after-number, below-limit, held, in-same, ino-is, is-there}
+use Rattle.af_steps.proofs.LookupRows.{after-number, below-limit, held, in-same, ino-is, is-there}
 use Rattle.af_steps.proofs.Outcomes.{does, does-nothing}
 use Rattle.af_steps.proofs.engine.Engine.dup2.Goals.{In_ok-file}
 use Rattle.af_steps.proofs.engine.Engine.dup2.Goals as goal
@@ -43,7 +43,7 @@ replace-requires c =
       row = search rules;
       limit = below-limit made to (omega (arith, c.if-to-limit.false, c.limit.ensures.value));
       live = subst (λ v. IsLive v f) (sym c.room_for.ensures.world) (c.self.invariant.0.whole.tables_live f (held found));
-      spared = subst (λ s. Spares s f) (sym c.room_for.ensures.pass) (c.lemma_is_spared.ensures f (held found));
+      spared = subst (λ s. NotBegunGarbage s f) (sym c.room_for.ensures.pass) (c.lemma_is_spared.ensures f (held found));
     }
 
 pub returns-clause-done : goal.returns-clause-done
@@ -58,8 +58,8 @@ returns-clause-done c =
     let other : nat_eq to c.args.from ≡ false = search rules in
     let low : to < q.limit = omega (arith, c.if-to-limit.false, c.limit.ensures.value) in
     let fits = row at ∙ (λ i. first_fit ((not (other i) && lt-leb q.limit to low i, EBADF) ∷ [])) in
-    let placed : c.replace.new.self.world ≡ install w p to f = ap (λ (s : Shown). s.world) c.replace.ensures ∙ ap (λ v. install v p to f) c.room_for.ensures.world in
+    let placed : c.replace.new.self.world ≡ install w p to f = ap (λ (s : StoreView). s.world) c.replace.ensures ∙ ap (λ v. install v p to f) c.room_for.ensures.world in
     let leads = ap (λ b. if b then w else install w p to (ino_on w p c.args.from)) other ∙ ap (install w p to) (ino-is found) ∙ sym placed in
-    let pass = c.release.ensures.pass ∙ ap (λ (s : Shown). s.pass) c.replace.ensures ∙ c.room_for.ensures.pass in
-    let since = c.release.ensures.since ∙ ap (λ (s : Shown). s.since) c.replace.ensures ∙ c.room_for.ensures.since in
+    let pass = c.release.ensures.pass ∙ ap (λ (s : StoreView). s.pass) c.replace.ensures ∙ c.room_for.ensures.pass in
+    let since = c.release.ensures.since ∙ ap (λ (s : StoreView). s.since) c.replace.ensures ∙ c.room_for.ensures.since in
     does c.self.view_is p (step.Dup2 c.args.from to) c.release.new.self (reply.Fd to) c.replace.new.self.world fits refl leads c.release.ensures.settles pass since

@@ -4,7 +4,7 @@ use Rattle.af_base.specs.declared.events.Reply.TheVariants as reply
 use Rattle.af_base.specs.declared.events.Step.TheVariants as step
 use Rattle.af_base.specs.Refusals.{first_fit, is_at_process_limit, on_processes}
 use Rattle.af_steps.specs.Found.{HasProcess}
-use Rattle.af_steps.proofs.Found.{after-process}
+use Rattle.af_steps.proofs.LookupRows.{after-process}
 use Rattle.af_steps.proofs.Outcomes.{does}
 use Rattle.af_steps.proofs.engine.Engine.fork.Goals as goal
 

@@ -1,7 +1,7 @@
 use Rattle.std.proofs.Common.{◌∙◌}
 use Rattle.af_base.specs.declared.events.Step.TheVariants as step
 use Rattle.af_base.specs.Refusals.{on_listen, socket_on}
-use Rattle.af_steps.proofs.Found.{after-socket, no-socket}
+use Rattle.af_steps.proofs.LookupRows.{after-socket, no-socket}
 use Rattle.af_steps.proofs.Outcomes.{turned-down}
 use Rattle.af_steps.proofs.engine.Engine.listen.Goals as goal
 

@@ -1,7 +1,7 @@
 use Rattle.std.proofs.Common.{ap, arith, false, subst, sym, ◌≡◌}
 use Rattle.af_base.specs.Refusals.{is_full, process_at}
 use Rattle.af_base.specs.World.{World}
-use Rattle.af_steps.proofs.Found.{below-limit, in-same, is-free, is-there, room-below}
+use Rattle.af_steps.proofs.LookupRows.{below-limit, in-same, is-free, is-there, room-below}
 use Rattle.af_steps.proofs.Numbers.{IsLowest, least-low, not-open}
 use Rattle.af_steps.proofs.engine.Engine.open.Goals as goal
 

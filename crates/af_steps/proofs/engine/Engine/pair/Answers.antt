@@ -4,8 +4,8 @@ use Rattle.af_base.specs.Table.{lowest_free, free_numbers}
 use Rattle.af_base.specs.World.{World}
 use Rattle.af_base.proofs.Free.{AreFree, first-low, free-lowest_free, rest-free}
 use Rattle.af_steps.specs.Found.{HasProcess}
-use Rattle.af_base.proofs.Stepped.{goes-on}
-use Rattle.af_steps.proofs.Found.{after-process, in-same, is-there, is_process, room-below}
+use Rattle.af_base.proofs.SoundSteps.{goes-on}
+use Rattle.af_steps.proofs.LookupRows.{after-process, in-same, is-there, is_process, room-below}
 use Rattle.af_steps.proofs.engine.Engine.pair.Goals.{After-room_for}
 use Rattle.std.specs.Prelude.{Some, IfNone}
 use Rattle.af_base.specs.declared.events.Step.TheVariants as step

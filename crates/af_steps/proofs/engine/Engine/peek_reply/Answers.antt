@@ -1,7 +1,7 @@
 use Rattle.std.proofs.Common.{refl}
 use Rattle.af_base.specs.declared.events.Step.TheVariants.{Peek}
 use Rattle.af_steps.specs.Outcome.{got_reply}
-use Rattle.af_steps.proofs.Folded.{answers_step}
+use Rattle.af_steps.proofs.FoldedReplies.{answers_step}
 use Rattle.af_steps.proofs.engine.Engine.peek_reply.Goals as goal
 
 pub returns : goal.returns

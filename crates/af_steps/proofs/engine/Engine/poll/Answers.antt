@@ -2,7 +2,7 @@ use Rattle.std.proofs.Common.{rules, ap, subst}
 use Rattle.af_base.specs.Pass.{Machine}
 use Rattle.af_base.specs.World.{IsLive}
 use Rattle.af_steps.specs.Found.{HasNumber}
-use Rattle.af_steps.proofs.Found.{held}
+use Rattle.af_steps.proofs.LookupRows.{held}
 use Rattle.af_steps.proofs.engine.Engine.poll.Goals as goal
 
 pub ready_at-requires : goal.ready_at-requires

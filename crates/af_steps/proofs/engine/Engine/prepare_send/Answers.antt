@@ -11,9 +11,9 @@ use Rattle.af_base.specs.Refusals.{first_fit, refusal, on_charge, socket_at, on_
 use Rattle.af_base.specs.World.{Message}
 use Rattle.af_steps.specs.Posted.{HasRoom, message_in}
 use Rattle.af_steps.specs.Found.{HasSocket}
-use Rattle.af_steps.proofs.Found.{is_process, queue-is, no-socket}
+use Rattle.af_steps.proofs.LookupRows.{is_process, queue-is, no-socket}
 use Rattle.af_steps.proofs.Outcomes.{answered-is, refuses, starves, turned-down}
-use Rattle.af_steps.proofs.Sent.{after-charge, charges, refused-charge, refused-parts, refused-peer, sent, sent-flying, sent-tabled, sent-within}
+use Rattle.af_steps.proofs.Sends.{after-charge, charges, refused-charge, refused-parts, refused-peer, sent, sent-flying, sent-tabled, sent-within}
 use Rattle.af_steps.proofs.engine.Engine.prepare_send.Goals.{After-files_at, After-may_send, In_ok-process}
 use Rattle.af_steps.proofs.engine.Engine.prepare_send.Goals as goal
 

@@ -1,9 +1,9 @@
 use Rattle.std.proofs.Common.{rules, length, sym, ap, ◌∙◌, subst, arith}
-use Rattle.af_collect.specs.Keeping.{Spares}
+use Rattle.af_collect.specs.Keeping.{NotBegunGarbage}
 use Rattle.af_steps.specs.Found.{HasSocket}
-use Rattle.af_steps.proofs.Found.{held, after-socket, no-socket}
+use Rattle.af_steps.proofs.LookupRows.{held, after-socket, no-socket}
 use Rattle.af_steps.proofs.Numbers.{numbers-below}
-use Rattle.af_steps.proofs.Receiving.{recv-end}
+use Rattle.af_steps.proofs.EmptyReceives.{recv-end}
 use Rattle.af_steps.proofs.engine.Engine.recv.Goals.{In_ok-process}
 use Rattle.af_base.specs.declared.events.Step.TheVariants as step
 use Rattle.af_base.specs.Refusals.{on_receive, socket_on}
@@ -35,4 +35,4 @@ take_msg-requires-clause-row c =
     numbers-below (has (goal.at.take_msg-requires-clause-row c).In_ok-process).number.process c.deref.result.now c.min.result _ (search rules) (λ some. c.in_ok-room_for.ensures.row (omega (arith, some, c.deref.ensures.len, c.len.ensures)))
 
 pub take_msg-requires-clause-spared : goal.take_msg-requires-clause-spared
-take_msg-requires-clause-spared c = subst (λ s. Spares s c.in_ok-process.file) (sym c.room_for.ensures.pass) (c.lemma_is_spared.ensures c.in_ok-process.file (held (has (goal.at.take_msg-requires-clause-spared c).In_ok-process).number))
+take_msg-requires-clause-spared c = subst (λ s. NotBegunGarbage s c.in_ok-process.file) (sym c.room_for.ensures.pass) (c.lemma_is_spared.ensures c.in_ok-process.file (held (has (goal.at.take_msg-requires-clause-spared c).In_ok-process).number))

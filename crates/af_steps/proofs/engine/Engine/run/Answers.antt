@@ -6,7 +6,7 @@ use Rattle.af_base.specs.declared.events.Reply.{Reply}
 use Rattle.af_base.specs.Pass.{Machine}
 use Rattle.af_base.specs.Run.{Run, Step}
 use Rattle.af_base.proofs.Runs.{run-push}
-use Rattle.af_steps.proofs.Receiving.{no-pairs}
+use Rattle.af_steps.proofs.EmptyReceives.{no-pairs}
 use Rattle.af_steps.proofs.engine.Engine.run.Goals as goal
 
 -- One more on the shorter side is one pair more.

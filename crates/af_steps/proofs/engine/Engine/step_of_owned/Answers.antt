@@ -1,7 +1,7 @@
 use Rattle.std.proofs.Common.{◌≡◌, ◌∙◌, sym}
 use Rattle.af_base.specs.declared.events.Reply.TheVariants as reply
 use Rattle.af_base.specs.declared.events.Step.TheVariants as step
-use Rattle.af_steps.proofs.Folded.{answers_made}
+use Rattle.af_steps.proofs.FoldedReplies.{answers_made}
 use Rattle.af_steps.proofs.engine.Engine.step_of_owned.Goals as goal
 
 pub returns-in-Send : goal.returns-in-Send

@@ -1,6 +1,6 @@
 use Rattle.std.proofs.Common.{rules, ◌≡◌, ◌+◌, [], ◌∷◌, subst, refl}
 use Rattle.af_table.specs.Free.{free_from}
-use Rattle.af_table.proofs.Left.{free_some, free_none}
+use Rattle.af_table.proofs.FreeNumbers.{free_some, free_none}
 use Rattle.af_table.proofs.process.Process.next_free.Goals as goal
 
 pub returns-in_err-n-clause-none : goal.returns-in_err-n-clause-none

@@ -4,7 +4,7 @@ use Rattle.std.proofs.lemmas.List.Sorted.{IsPermutation-map, sum_by-IsPermutatio
 use Rattle.jaywardrobe.specs.Counts.{count_in}
 use Rattle.jaywardrobe.specs.Listing.{file_of, inos_of}
 use Rattle.jaywardrobe.specs.Places.{contents}
-use Rattle.jaywardrobe.proofs.Gathered.{count_held, gathered}
+use Rattle.jaywardrobe.proofs.PlaceLists.{count_held, gathered}
 use Rattle.examples.specs.Places.{files_of}
 use Rattle.examples.proofs.audit.places.gather.Goals as goal
 

@@ -1,7 +1,7 @@
 use Rattle.std.proofs.Common.{rules, ◌≡◌, ◌++◌, ◌∙◌, ap, append_assoc, subst, sym}
 use Rattle.std.specs.Prelude.{OnOk}
 use Rattle.std.specs.List.{flat_map}
-use Rattle.jaywardrobe.proofs.Gathered.{contents_listed, gathered}
+use Rattle.jaywardrobe.proofs.PlaceLists.{contents_listed, gathered}
 use Rattle.examples.specs.Places.{files_of}
 use Rattle.examples.proofs.audit.places.push_contents.Goals as goal
 

@@ -1,10 +1,10 @@
 use Rattle.std.proofs.Common.{◌∙◌, [], ◌∷◌, ap, subst}
 use Rattle.std.specs.Prelude.{IfOk, Result, Ok, Err}
 use Rattle.jaywardrobe.specs.Outcome.{Does}
-use Rattle.jaywardrobe.specs.Owning.{Owning}
+use Rattle.jaywardrobe.specs.OwnedView.{OwnedView}
 use Rattle.jaywardrobe.specs.Types.reply
 use Rattle.jaywardrobe.specs.Types.step
-use Rattle.examples.proofs.Delivered.{carried, delivered}
+use Rattle.examples.proofs.Deliveries.{carried, delivered}
 use Rattle.examples.proofs.broker.delivery.deliver.Goals as goal
 
 -- A consequence of a fact of a present value holds of it too.
@@ -17,7 +17,7 @@ pub returns-in-Ok-clause-delivered : goal.returns-in-Ok-clause-delivered
 returns-in-Ok-clause-delivered c =
     let from = c.args.from.now in
     let to = c.args.to.now in
-    let sent = subst (λ (o : Owning _). Does o.machine from.pid (step.Send from.fd (46 ∷ []) (c.args.fd ∷ [])) (reply.Sent c.in-Ok.field-0) c.send.new.self.machine) c.in_ok-check_idle.ensures.same c.in-Ok.ensures.done in
+    let sent = subst (λ (o : OwnedView _). Does o.machine from.pid (step.Send from.fd (46 ∷ []) (c.args.fd ∷ [])) (reply.Sent c.in-Ok.field-0) c.send.new.self.machine) c.in_ok-check_idle.ensures.same c.in-Ok.ensures.done in
     if_ok c.receive.result c.receive.ensures.taken
     (λ got took. delivered c.args.engine.now.machine c.send.new.self.machine c.receive.new.engine.machine from.pid from.fd c.args.fd to.pid to.fd got (46 ∷ []) (reply.Sent c.in-Ok.field-0) c.in_ok-check_idle.ensures.idle sent took)
 
@@ -26,6 +26,6 @@ pub returns-in-Ok-clause-carried : goal.returns-in-Ok-clause-carried
 returns-in-Ok-clause-carried c =
     let from = c.args.from.now in
     let to = c.args.to.now in
-    let same = c.receive.ensures.values ∙ c.send.ensures.values ∙ ap (λ (o : Owning _). o.values) c.in_ok-check_idle.ensures.same in
+    let same = c.receive.ensures.values ∙ c.send.ensures.values ∙ ap (λ (o : OwnedView _). o.values) c.in_ok-check_idle.ensures.same in
     if_ok c.receive.result (returns-in-Ok-clause-delivered c)
     (λ got d. carried c.args.engine.now c.receive.new.engine from.pid c.args.fd to.pid got d same)

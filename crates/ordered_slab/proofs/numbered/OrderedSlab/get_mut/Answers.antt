@@ -5,14 +5,14 @@ use Rattle.std.specs.FinMap as map
 use Rattle.slab.specs.Slab as slab
 use Rattle.slab.specs.Slab.{Slab}
 use Rattle.af_base.specs.World.{Map}
-use Rattle.ordered_slab.specs.declared.entry.Entry.{Entry}
-use Rattle.ordered_slab.specs.Numbers.{Numbered, with_value}
-use Rattle.ordered_slab.specs.Standing.{AreInPlace, values_of}
-use Rattle.ordered_slab.proofs.Standing.{stood, there, write_in_place, write_len, write_values}
+use Rattle.ordered_slab.specs.declared.numbered_value.NumberedValue.{NumberedValue}
+use Rattle.ordered_slab.specs.OrderedSlabView.{OrderedSlabView, with_value}
+use Rattle.ordered_slab.specs.SlabValues.{AreInPlace, values_of}
+use Rattle.ordered_slab.proofs.SlabValues.{stood, there, write_in_place, write_len, write_values}
 use Rattle.ordered_slab.proofs.numbered.OrderedSlab.get_mut.Goals as goal
 
 -- Whatever is written, all stays in place, and there is as much room.
-kept : {V : Type 0} (m : Map ℕ) (s : Slab (Entry V)) (f k : ℕ) (x : Entry V) (w : V) → AreInPlace m s × (slab.slab_len s ≤ s.capacity) → map.get m f ≡ Some k → slab.get s k ≡ Some x
+kept : {V : Type 0} (m : Map ℕ) (s : Slab (NumberedValue V)) (f k : ℕ) (x : NumberedValue V) (w : V) → AreInPlace m s × (slab.slab_len s ≤ s.capacity) → map.get m f ≡ Some k → slab.get s k ≡ Some x
     → AreInPlace m (slab.with_value s k (record x { value = w })) × (slab.slab_len (slab.with_value s k (record x { value = w })) ≤ s.capacity)
 kept m s f k x w h was at = (
   write_in_place m s f k x (record x { value = w }) h.0 was at refl,
@@ -20,7 +20,7 @@ kept m s f k x w h was at = (
 )
 
 -- The written value is that of this number.
-written : {V : Type 0} (a : Numbered V) (m : Map ℕ) (s : Slab (Entry V)) (last r f k : ℕ) (x : Entry V) (w : V) → AreInPlace m s → map.get m f ≡ Some k → slab.get s k ≡ Some x
+written : {V : Type 0} (a : OrderedSlabView V) (m : Map ℕ) (s : Slab (NumberedValue V)) (last r f k : ℕ) (x : NumberedValue V) (w : V) → AreInPlace m s → map.get m f ≡ Some k → slab.get s k ≡ Some x
     → record { values = values_of m s; last = last; room = min r (s.capacity - slab.slab_len s) } ≡ a
     → record { values = values_of m (slab.with_value s k (record x { value = w })); last = last; room = min r (s.capacity - slab.slab_len (slab.with_value s k (record x { value = w }))) } ≡ with_value a f w
 written a m s last r f k x w h was at view = (λ j. record {
@@ -30,7 +30,7 @@ written a m s last r f k x w h was at view = (λ j. record {
 }) ∙ ap (λ a. with_value a f w) view
 
 -- The lent value is that of this number.
-lent : {V : Type 0} (a : Numbered V) (m : Map ℕ) (s : Slab (Entry V)) (last room f k : ℕ) (x : Entry V) (v : V) → AreInPlace m s → map.get m f ≡ Some k → slab.get s k ≡ Some x
+lent : {V : Type 0} (a : OrderedSlabView V) (m : Map ℕ) (s : Slab (NumberedValue V)) (last room f k : ℕ) (x : NumberedValue V) (v : V) → AreInPlace m s → map.get m f ≡ Some k → slab.get s k ≡ Some x
     → record { values = values_of m s; last = last; room = room } ≡ a → v ≡ x.value → Some v ≡ map.get a.values f
 lent a m s last room f k x v h was at view is = ap Some is ∙ sym (there m s f k x x h was at) ∙ ap (λ a. map.get a.values f) view
 

@@ -1,6 +1,6 @@
 use Rattle.std.proofs.Common.{◌≤◌, count_by, subst, sym, arith}
 use Rattle.std.specs.Prelude.{is_some}
-use Rattle.ordered_slab.proofs.Standing.{none_in_place}
+use Rattle.ordered_slab.proofs.SlabValues.{none_in_place}
 use Rattle.ordered_slab.proofs.numbered.OrderedSlab.new.Goals as goal
 
 pub invariant_of-result : goal.invariant_of-result

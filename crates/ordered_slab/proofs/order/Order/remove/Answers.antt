@@ -14,13 +14,13 @@ returns-in-None-clause-keys c =
     nothing_gone c.args.self.now.keys c.args.ino (ap (λ a. map.get a.keys c.args.ino) (sym c.self.view_is) ∙ none)
 
 -- It is live in the last row.
-live_last : (c : goal.After-take_last) → IsLiveAt (c.take_last.new.self.items ++ c.take_last.result ∷ []) c.args.ino c.in-Some-Waiting.at
-live_last c = subst (λ rows. IsLiveAt rows c.args.ino c.in-Some-Waiting.at) (c.deref-2.ensures.value ∙ c.take_last.ensures.items) (rw c.in-Some-Waiting.field-0-is at c.in-Some-Waiting.ensures.place)
+live_last : (c : goal.After-take_last) → IsLiveAt (c.take_last.new.self.items ++ c.take_last.result ∷ []) c.args.ino c.in-Some-Unpacked.at
+live_last c = subst (λ rows. IsLiveAt rows c.args.ino c.in-Some-Unpacked.at) (c.deref-2.ensures.value ∙ c.take_last.ensures.items) (rw c.in-Some-Unpacked.field-0-is at c.in-Some-Unpacked.ensures.place)
 
 last_row : (c : goal.After-take_last) → c.take_last.result ≡ record { ino = c.args.ino; key = Some (live_last c).0 }
 last_row c =
-    let at : c.in-Some-Waiting.at ≡ length c.take_last.new.self.items = omega (arith, ap length c.take_last.ensures.items, length_push c.take_last.new.self.items c.take_last.result) in
-    last_is c.take_last.new.self.items c.take_last.result c.args.ino c.in-Some-Waiting.at (live_last c) at
+    let at : c.in-Some-Unpacked.at ≡ length c.take_last.new.self.items = omega (arith, ap length c.take_last.ensures.items, length_push c.take_last.new.self.items c.take_last.result) in
+    last_is c.take_last.new.self.items c.take_last.result c.args.ino c.in-Some-Unpacked.at (live_last c) at
 
 whole : (c : goal.After-take_last) → AreRows c.self.inside.packed.items (c.take_last.new.self.items ++ c.take_last.result ∷ []) c.self.inside.read c.self.inside.last
 whole c = subst (λ rows. AreRows c.self.inside.packed.items rows c.self.inside.read c.self.inside.last) c.take_last.ensures.items c.self.invariant.0
@@ -33,7 +33,7 @@ invariant_of-self c =
 pub returns-then-at-len-clause-value : goal.returns-then-at-len-clause-value
 returns-then-at-len-clause-value c =
     ap (λ r. r.key) (last_row c)
-    ∙ waiting_key c.self.inside.packed.items (c.take_last.new.self.items ++ c.take_last.result ∷ []) c.self.inside.read c.self.inside.last (whole c) c.args.ino c.in-Some-Waiting.at (live_last c)
+    ∙ waiting_key c.self.inside.packed.items (c.take_last.new.self.items ++ c.take_last.result ∷ []) c.self.inside.read c.self.inside.last (whole c) c.args.ino c.in-Some-Unpacked.at (live_last c)
     ∙ ap (λ rows. map.get (live_of (c.self.inside.packed.items ++ rows)) c.args.ino) (sym c.take_last.ensures.items)
     ∙ ap (λ a. map.get a.keys c.args.ino) c.self.view_is
 
@@ -45,25 +45,25 @@ returns-then-at-len-clause-keys c =
     ∙ ap (λ a. map.remove a.keys c.args.ino) c.self.view_is
 
 -- It is live among the rows.
-waiting : (c : goal.After-self-in-Some-Waiting-1) → IsLiveAt c.self.inside.rows.items c.args.ino c.in-Some-Waiting.at
-waiting c = subst (λ rows. IsLiveAt rows c.args.ino c.in-Some-Waiting.at) c.deref-2.ensures.value (rw c.in-Some-Waiting.field-0-is at c.in-Some-Waiting.ensures.place)
+waiting : (c : goal.After-self-in-Some-Unpacked-1) → IsLiveAt c.self.inside.rows.items c.args.ino c.in-Some-Unpacked.at
+waiting c = subst (λ rows. IsLiveAt rows c.args.ino c.in-Some-Unpacked.at) c.deref-2.ensures.value (rw c.in-Some-Unpacked.field-0-is at c.in-Some-Unpacked.ensures.place)
 
-pub invariant_of-self-in-Some-Waiting : goal.invariant_of-self-in-Some-Waiting
-invariant_of-self-in-Some-Waiting c =
-    let number = read_number c.self.inside.rows.items c.args.ino c.in-Some-Waiting.at c.index_mut.result.now (waiting c) c.index_mut.ensures.value in
-    let marked = mark_waiting_rows c.self.inside.packed.items c.self.inside.rows.items c.self.inside.read c.self.inside.last c.self.invariant.0 c.args.ino c.in-Some-Waiting.at (waiting c) (record { ino = c.index_mut.result.now.ino; key = c.take.new.self }) number c.take.ensures.after in
+pub invariant_of-self-in-Some-Unpacked : goal.invariant_of-self-in-Some-Unpacked
+invariant_of-self-in-Some-Unpacked c =
+    let number = read_number c.self.inside.rows.items c.args.ino c.in-Some-Unpacked.at c.index_mut.result.now (waiting c) c.index_mut.ensures.value in
+    let marked = mark_waiting_rows c.self.inside.packed.items c.self.inside.rows.items c.self.inside.read c.self.inside.last c.self.invariant.0 c.args.ino c.in-Some-Unpacked.at (waiting c) (record { ino = c.index_mut.result.now.ino; key = c.take.new.self }) number c.take.ensures.after in
     (marked, c.self.invariant.1, search (rules, arith))
 
 pub returns-else-at-len-clause-value : goal.returns-else-at-len-clause-value
 returns-else-at-len-clause-value c =
-    c.take.ensures.value ∙ read_key c.self.inside.rows.items c.args.ino c.in-Some-Waiting.at c.index_mut.result.now (waiting c) c.index_mut.ensures.value
-    ∙ waiting_key c.self.inside.packed.items c.self.inside.rows.items c.self.inside.read c.self.inside.last c.self.invariant.0 c.args.ino c.in-Some-Waiting.at (waiting c)
+    c.take.ensures.value ∙ read_key c.self.inside.rows.items c.args.ino c.in-Some-Unpacked.at c.index_mut.result.now (waiting c) c.index_mut.ensures.value
+    ∙ waiting_key c.self.inside.packed.items c.self.inside.rows.items c.self.inside.read c.self.inside.last c.self.invariant.0 c.args.ino c.in-Some-Unpacked.at (waiting c)
     ∙ ap (λ a. map.get a.keys c.args.ino) c.self.view_is
 
 pub returns-else-at-len-clause-keys : goal.returns-else-at-len-clause-keys
 returns-else-at-len-clause-keys c =
-    let number = read_number c.self.inside.rows.items c.args.ino c.in-Some-Waiting.at c.index_mut.result.now (waiting c) c.index_mut.ensures.value in
-    mark_waiting c.self.inside.packed.items c.self.inside.rows.items c.self.inside.read c.self.inside.last c.self.invariant.0 c.args.ino c.in-Some-Waiting.at (waiting c) (record { ino = c.index_mut.result.now.ino; key = c.take.new.self }) number c.take.ensures.after
+    let number = read_number c.self.inside.rows.items c.args.ino c.in-Some-Unpacked.at c.index_mut.result.now (waiting c) c.index_mut.ensures.value in
+    mark_waiting c.self.inside.packed.items c.self.inside.rows.items c.self.inside.read c.self.inside.last c.self.invariant.0 c.args.ino c.in-Some-Unpacked.at (waiting c) (record { ino = c.index_mut.result.now.ino; key = c.take.new.self }) number c.take.ensures.after
     ∙ ap (λ a. map.remove a.keys c.args.ino) c.self.view_is
 
 -- It is live among the packed ones.

@@ -1,6 +1,6 @@
 use Rattle.std.proofs.Common.{rules, ◌≡◌, ◌<◌, ◌+◌, ◌++◌, [], ◌∷◌, ◌∙◌, length, set, refl, sym, ap, subst, arith}
 use Rattle.std.specs.Prelude.{Some, None}
-use Rattle.ordered_slab.specs.declared.order.Row.{Row}
+use Rattle.ordered_slab.specs.declared.order.OrderRow.{OrderRow}
 use Rattle.ordered_slab.specs.Rows.{live_of, AreRows, IsLiveAt}
 use Rattle.ordered_slab.proofs.Searches.{read_here, read_number, row_is}
 use Rattle.ordered_slab.proofs.Moves.{move_keys, move_rows}
@@ -23,7 +23,7 @@ pushed c =
 pub invariant_of-self : goal.invariant_of-self
 invariant_of-self c =
     let x = live c in
-    let dead : Row = record { ino = c.index_mut.result.now.ino; key = None } in
+    let dead : OrderRow = record { ino = c.index_mut.result.now.ino; key = None } in
     let number = read_number c.self.inside.rows.items c.index-row.result.now.ino c.self.inside.read c.index_mut.result.now x c.index_mut.ensures.value in
     let moved = subst (λ xs. AreRows xs (set c.self.inside.rows.items c.self.inside.read dead) (c.self.inside.read + 1) c.self.inside.last) (sym (pushed c))
     (move_rows c.self.inside.packed.items c.self.inside.rows.items c.self.inside.read c.self.inside.last c.self.invariant.0 c.index-row.result.now.ino x dead number refl) in
@@ -32,7 +32,7 @@ invariant_of-self c =
 pub returns-clause-keys : goal.returns-clause-keys
 returns-clause-keys c =
     let x = live c in
-    let dead : Row = record { ino = c.index_mut.result.now.ino; key = None } in
+    let dead : OrderRow = record { ino = c.index_mut.result.now.ino; key = None } in
     let number = read_number c.self.inside.rows.items c.index-row.result.now.ino c.self.inside.read c.index_mut.result.now x c.index_mut.ensures.value in
     ap (λ xs. live_of (xs ++ set c.self.inside.rows.items c.self.inside.read dead)) (pushed c)
     ∙ move_keys c.self.inside.packed.items c.self.inside.rows.items c.self.inside.read c.self.inside.last c.self.invariant.0 c.index-row.result.now.ino x dead number refl

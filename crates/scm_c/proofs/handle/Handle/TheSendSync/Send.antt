@@ -10,7 +10,7 @@ use Rattle.std.specs.Prelude.{Option, Some, None}
 use Rattle.std.specs.declared.alloc.Global.{Global}
 use Rattle.std.specs.contracts.impls.GlobalAllocator.TheImpl.{ghosts}
 use Rattle.af_base.specs.Pass.{Machine}
-use Rattle.af_steps.proofs.Crosses.{engine_send}
+use Rattle.af_steps.proofs.SendSync.{engine_send}
 use Rattle.scm_c.specs.Held.{held}
 use Rattle.scm_c.specs.contracts.handle.Handle.{the_row, the_type}
 use Rattle.scm_c.proofs.Values.{Eng}

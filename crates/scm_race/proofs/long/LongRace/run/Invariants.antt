@@ -1,6 +1,6 @@
 -- The race goes on by a part, from each checkpoint to the next. The log of the last part begins where these end.
 use Rattle.std.proofs.Common.{◌≡◌, ◌≤◌, ◌+◌, ◌-◌, ◌*◌}
-use Rattle.scm_race.specs.Parts.{AreFresh, AreLeft, GoesOn}
+use Rattle.scm_race.specs.Parts.{AreFresh, AreLeft, Continues}
 use Rattle.scm_race.proofs.long.LongRace.run.Given as goal
 
 abbrev pub ghosts-last_part : goal.ghosts-last_part
@@ -10,7 +10,7 @@ abbrev pub invariant-loop-done : goal.invariant-loop-done
 invariant-loop-done g l = record {
   few : l.done ≤ l.steps;
   fresh : AreFresh (l.workers + 2) l.field.seats.items;
-  goes_on : GoesOn l.workers l.steps l.seed l.self.race.budget l.done l.field.book;
+  goes_on : Continues l.workers l.steps l.seed l.self.race.budget l.done l.field.book;
   left : AreLeft l.workers l.steps l.seed l.done l.sources.items;
   counted : l.counted ≡ l.workers * l.done;
 }

@@ -1,6 +1,6 @@
 use Rattle.std.proofs.Common.{rules, ◌≡◌, ◌+◌, [], ◌∷◌, ◌++◌, ap, length, ◌∙◌}
 use Rattle.std.specs.Prelude.{option_to_list}
-use Rattle.scm_race.proofs.Ended.{race-raced}
+use Rattle.scm_race.proofs.RaceEnds.{race-raced}
 use Rattle.scm_race.proofs.race.Race.play.Goals as goal
 
 pub returns : goal.returns

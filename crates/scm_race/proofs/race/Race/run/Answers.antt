@@ -1,6 +1,6 @@
 use Rattle.std.proofs.Common.{[]}
 use Rattle.af_layer.specs.Drive.{Turned}
-use Rattle.scm_race.proofs.Ended.{all-steps}
+use Rattle.scm_race.proofs.RaceEnds.{all-steps}
 use Rattle.scm_race.proofs.race.Race.run.Goals as goal
 
 pub returns-clause-raced : goal.returns-clause-raced

@@ -1,0 +1,161 @@
+-- A loss on the way keeps the outcome.
+use Rattle.std.proofs.Common.{◌≡◌, ◌<◌, ℕ, ◌+◌, Bool, true, false, not, ◌⊎◌, inl, inr, List, [], ◌∷◌, ◌++◌, length, append_assoc, refl, sym, ap, ◌∙◌, subst, cond, nat_eq, arith, drop}
+use Rattle.std.specs.Prelude.{Option, Some, None, option_map}
+use Rattle.std.specs.Cmp.{nat_cmp_total}
+use Rattle.std.specs.FinMap as map
+use Rattle.std.specs.FinMap.{nat_cmp-IsAntisymmetric}
+use Rattle.std.specs.List.{Contains}
+use Rattle.std.specs.Option.{option_map_or}
+use Rattle.std.proofs.lemmas.List.Elements.{Contains-append_right}
+use Rattle.af_base.specs.World.{AsSocket, File, IsLive, Message, Plain, Socket, World}
+use Rattle.af_base.specs.Places.{Holds, attached_in, backlog_of, contents, held_by, queue_at, queue_of}
+use Rattle.af_base.specs.Counts.{refs, total_of}
+use Rattle.af_base.specs.Changes.{file_with, with_queue, with_socket}
+use Rattle.af_base.specs.Release.{messages_in}
+use Rattle.af_base.specs.Unheld.{Goes, Settles, Unheld, file_without, without}
+use Rattle.af_base.specs.Whole.{IsWithin}
+use Rattle.af_base.proofs.FreedCounts.{messages-without, total-without}
+use Rattle.af_base.proofs.PlacesAndCounts.{held_by_none}
+use Rattle.af_base.proofs.Lookups.{insert-here, same_or_not, there}
+use Rattle.af_base.proofs.PlaceMoves.{live-changed, others-changed, there-holds, total-changed}
+use Rattle.af_base.proofs.SettledWorlds.{get-without}
+use Rattle.af_base.proofs.SoundSteps.{same-with_queue}
+use Rattle.af_base.proofs.Sums.{total-change_at}
+use Rattle.af_base.proofs.Totals.{total-count}
+use Rattle.af_base.proofs.Trees.{insert_same}
+use Rattle.af_base.proofs.StaysWithin.{len-change_at}
+use Rattle.af_collect.proofs.FreedFiles.{same_backlog}
+use Rattle.af_collect.proofs.QueueRests.{Sheds, sheds-first}
+
+-- A socket that nothing holds lets go of some of what it holds.
+module _ (w : World) (s : ℕ) (g : Socket → Socket) (live : IsLive w s) (none : refs w s ≡ 0) (fewer : (f : ℕ) → Holds (with_socket w s g) s f → Holds w s f) where
+  -- The world after it did.
+  abbrev after : World
+  after = with_socket w s g
+
+  -- The others hold what they held.
+  others : (q : ℕ) → nat_eq q s ≡ false → held_by after q ≡ held_by w q
+  others q apart = ap (λ o. option_map_or contents o []) (others-changed w s g q apart)
+
+  -- A held file was held.
+  held-before : (q f : ℕ) → Holds after q f → Holds w q f
+  held-before q f h = elim (same_or_not q s) [
+    | inl same ↦ subst (λ z. Holds w z f) (sym same) (fewer f (subst (λ z. Holds after z f) same h))
+    | inr apart ↦ subst (λ fs. Contains fs f) (others q apart) h
+  ]
+
+  -- It is freed.
+  goes-before : Unheld w s
+  goes-before = let no = held_by_none w s none in Goes s live no.0 (λ q h. absurd (no.1 q h))
+
+  -- And does so still.
+  goes-after : Unheld after s
+  goes-after = let no = held_by_none w s none in Goes s (live-changed w s g s ∙ live) no.0 (λ q h. absurd (no.1 q (held-before q s h)))
+
+  -- A freed file stays freed.
+  still-goes : (f : ℕ) → Unheld w f → Unheld after f
+  still-goes _ (Goes f l no_table hs) = Goes f (live-changed w s g f ∙ l) no_table (λ q h. still-goes q (hs q (held-before q f h)))
+
+  -- A file that is freed was to be freed.
+  went-before : (f : ℕ) → Unheld after f → Unheld w f
+  went-before _ (Goes f l no_table hs) = Goes f (sym (live-changed w s g f) ∙ l) no_table (λ q h. elim (same_or_not q s) [
+    | inl same ↦ subst (Unheld w) (sym same) goes-before
+    | inr apart ↦ went-before q (hs q (subst (λ fs. Contains fs f) (sym (others q apart)) h))
+  ])
+
+  -- Without it there is no difference.
+  same-left : (gone : ℕ → Bool) → gone s ≡ true → without gone after ≡ without gone w
+  same-left gone goes = ap (λ fs. record w { files = fs }) (map.same_map nat_cmp_total nat_cmp-IsAntisymmetric _ _ (λ q. get-without gone after q ∙ by q (same_or_not q s) ∙ sym (get-without gone w q))) where
+    nothing : (q : ℕ) → gone q ≡ true → (o : Option File) → cond (not (gone q)) (option_map (file_without gone) o) None ≡ None
+    nothing q e o = ap (λ b. cond (not b) (option_map (file_without gone) o) None) e
+
+    by : (q : ℕ) → (q ≡ s) ⊎ (nat_eq q s ≡ false) → cond (not (gone q)) (option_map (file_without gone) (map.get after.files q)) None ≡ cond (not (gone q)) (option_map (file_without gone) (map.get w.files q)) None
+    by q which = elim which [
+      | inl same ↦ let e = ap gone same ∙ goes in nothing q e (map.get after.files q) ∙ sym (nothing q e (map.get w.files q))
+      | inr apart ↦ ap (λ o. cond (not (gone q)) (option_map (file_without gone) o) None) (others-changed w s g q apart)
+    ]
+
+  -- So the outcome is the same.
+  pub settles-shed : (end : World) → Settles after end → Settles w end
+  settles-shed end h = (
+    h.0,
+    λ f. (λ e. went-before f ((h.1 f).0 e), λ u. (h.1 f).1 (still-goes f u)),
+    h.2 ∙ same-left h.0 ((h.1 s).1 goes-after),
+  )
+
+-- A queue that is not empty is that of a socket.
+queue-socket : (w : World) (s : ℕ) (m : Message) (rest : List Message) → queue_at w s ≡ m ∷ rest → (x : Socket) × (map.get w.files s ≡ Some (AsSocket x)) × (x.queue ≡ m ∷ rest)
+queue-socket w s m rest e = by (map.get w.files s) refl where
+  nothing : {A : Type 0} → [] ≡ m ∷ rest → A
+  nothing e = absurd (let short : 0 ≡ length (m ∷ rest) = ap length e in omega (arith, short))
+
+  by : (o : Option File) → map.get w.files s ≡ o → (x : Socket) × (map.get w.files s ≡ Some (AsSocket x)) × (x.queue ≡ m ∷ rest)
+  by None is = nothing (sym (ap (λ o. option_map_or queue_of o []) is) ∙ e)
+  by (Some Plain) is = nothing (sym (ap (λ o. option_map_or queue_of o []) is) ∙ e)
+  by (Some (AsSocket x)) is = (x, is, sym (ap (λ o. option_map_or queue_of o []) is) ∙ e)
+
+-- So its first message can be taken.
+pub first-shed : (w : World) (s : ℕ) (m : Message) (rest : List Message) → IsWithin w → queue_at w s ≡ m ∷ rest → (x : Socket) × (map.get w.files s ≡ Some (AsSocket x)) × Sheds x.queue m rest
+first-shed w s m rest within e = let x = queue-socket w s m rest e in (x.0, x.1, sheds-first x.0.queue m rest (within.sockets s x.0 x.1).messages x.2)
+
+-- A queue that is not empty begins with a message.
+pub queue-first : (q : List Message) → 0 < length q → (m : Message) × (q ≡ m ∷ drop 1 q)
+queue-first [] some = absurd (omega (arith, some))
+queue-first (m ∷ q) some = (m, refl)
+
+-- Without the first message of a queue the others are held that were.
+pub popped-holds : (w : World) (s : ℕ) (m : Message) (rest : List Message) → queue_at w s ≡ m ∷ rest → (f : ℕ) → Holds (with_queue w s rest) s f → Holds w s f
+popped-holds w s m rest first f h =
+    let x = queue-socket w s m rest first in
+    let here : map.get (with_queue w s rest).files s ≡ Some (AsSocket (record x.0 { queue = rest })) = ap (λ o. map.get (option_map_or (λ y. map.insert w.files s (file_with (λ z. record z { queue = rest }) y)) o w.files) s) x.1 ∙ insert-here w.files s (AsSocket (record x.0 { queue = rest })) in
+    let held : Contains (attached_in rest ++ x.0.backlog) f = subst (λ o. Contains (option_map_or contents o []) f) here h in
+    let more : Contains (m.attached ++ (attached_in rest ++ x.0.backlog)) f = Contains-append_right m.attached (attached_in rest ++ x.0.backlog) f held in
+    let all : Contains (attached_in x.0.queue ++ x.0.backlog) f = subst (λ q. Contains (attached_in q ++ x.0.backlog) f) (sym x.2) (subst (λ l. Contains l f) (sym (append_assoc m.attached (attached_in rest) x.0.backlog)) more) in
+    there-holds w s f (AsSocket x.0) x.1 all
+
+-- An empty queue put in place of an empty one changes nothing.
+pub emptied-same : (w : World) (s : ℕ) → queue_at w s ≡ [] → with_queue w s [] ≡ w
+emptied-same w s empty = by (map.get w.files s) refl where
+  by : (o : Option File) → map.get w.files s ≡ o → with_queue w s [] ≡ w
+  by None e = ap (λ o. record w { files = option_map_or (λ y. map.insert w.files s (file_with (λ z. record z { queue = [] }) y)) o w.files }) e
+  by (Some Plain) e = ap (λ o. record w { files = option_map_or (λ y. map.insert w.files s (file_with (λ z. record z { queue = [] }) y)) o w.files }) e ∙ ap (λ fs. record w { files = fs }) (insert_same w.files s Plain e)
+  by (Some (AsSocket x)) e =
+      let none : x.queue ≡ [] = sym (ap (λ o. option_map_or queue_of o []) e) ∙ empty in
+      ap (with_queue w s) (sym none) ∙ same-with_queue w s x e
+
+-- How many embryos wait in all backlogs together.
+abbrev embryos_in : World → ℕ
+embryos_in w = total_of (λ x. length (backlog_of x)) w.files
+
+-- How much a release has to do: files, messages in queues, and embryos in backlogs.
+abbrev pub burden : World → ℕ
+burden w = map.len w.files + messages_in w + embryos_in w
+
+-- A message less is less to do.
+pub burden-popped : (w : World) (s : ℕ) (m : Message) (rest : List Message) → queue_at w s ≡ m ∷ rest → burden (with_queue w s rest) < burden w
+burden-popped w s m rest first =
+    let x = queue-socket w s m rest first in
+    let long : length (x.0).queue ≡ length rest + 1 = ap length x.2 ∙ omega arith in
+    omega (arith, long, total-changed (λ y. length (backlog_of y)) w s (λ y. record y { queue = rest }) (λ y. refl), len-change_at (file_with (λ y. record y { queue = rest })) w.files s, total-change_at (λ y. length (queue_of y)) (file_with (λ y. record y { queue = rest })) w.files s (AsSocket x.0) x.1)
+
+-- A file less is less to do.
+pub burden-gone : (w : World) (f : ℕ) → IsLive w f → burden (without (nat_eq f) w) < burden w
+burden-gone w f live =
+    let x = there (map.get w.files f) live in
+    omega (arith, messages-without w f x.0 x.1, total-without (λ y. length (backlog_of y)) (λ h y. ap length (same_backlog h y)) w f x.0 x.1, total-without (λ y. 1) (λ h y. refl) w f x.0 x.1, total-count w.files, total-count (without (nat_eq f) w).files)
+
+-- To drop the first of an empty queue changes nothing.
+pub none-popped : (w : World) (s : ℕ) → queue_at w s ≡ [] → with_queue w s (drop 1 (queue_at w s)) ≡ w
+none-popped w s empty = ap (λ q. with_queue w s (drop 1 q)) empty ∙ emptied-same w s empty
+
+-- When an unheld file has lost its first message, the outcome is the same.
+pub settles-popped : (w v : World) (s : ℕ) → v ≡ with_queue w s (drop 1 (queue_at w s)) → IsLive w s → refs w s ≡ 0 → 0 < length (queue_at w s) → (end : World) → Settles v end → Settles w end
+settles-popped w v s is live none some end h =
+    let first = queue-first (queue_at w s) some in
+    settles-shed w s (λ x. record x { queue = drop 1 (queue_at w s) }) live none (popped-holds w s first.0 (drop 1 (queue_at w s)) first.1) end (subst (λ x. Settles x end) is h)
+
+-- And there is less to do.
+pub burden-less : (w v : World) (s : ℕ) → v ≡ with_queue w s (drop 1 (queue_at w s)) → 0 < length (queue_at w s) → burden v < burden w
+burden-less w v s is some =
+    let first = queue-first (queue_at w s) some in
+    subst (λ x. burden x < burden w) (sym is) (burden-popped w s first.0 (drop 1 (queue_at w s)) first.1)

@@ -1,0 +1,206 @@
+-- A process that joins the world, and one that leaves it, number by number.
+use Rattle.std.proofs.Common.{not, ◌≡◌, ◌<◌, ◌≤◌, ℕ, ◌+◌, Bool, true, false, inl, inr, refl, sym, ap, ◌∙◌, subst, cond, nat_eq, arith}
+use Rattle.std.specs.Prelude.{Option, Some, None, IsTrue, is_some, option_map}
+use Rattle.std.specs.Option.{option_map_or}
+use Rattle.std.specs.Cmp.{nat_cmp_total, unsigned_tied}
+use Rattle.std.specs.Ordering.{nat_cmp}
+use Rattle.std.specs.FinMap as map
+use Rattle.std.specs.FinMap.{nat_cmp-IsAntisymmetric}
+use Rattle.std.proofs.lemmas.Bool.{cases_lt, false≢true}
+use Rattle.af_base.specs.World.{Map, Process, World}
+use Rattle.af_base.specs.Places.{table_at}
+use Rattle.af_base.specs.Refusals.{is_at_process_limit, process_at}
+use Rattle.af_base.specs.Changes.{add_process, change_at, install, remove_process, uninstall}
+use Rattle.af_base.proofs.NewFiles.{whole-add_process}
+use Rattle.af_base.proofs.Lookups.{insert-here, insert-other, itself, none_some, not_same, remove-here, remove-other, same_or_not, told_apart}
+use Rattle.af_base.proofs.PlaceMoves.{there-table}
+use Rattle.af_base.proofs.AllowedSteps.{get-change_at}
+use Rattle.af_base.proofs.SoundSteps.{process-there}
+use Rattle.af_base.proofs.StaysWithin.{within-add_process}
+use Rattle.af_ledger.specs.Tally.{CanDrop, CanHold, Tally, with_ref, without_ref}
+use Rattle.af_ledger.specs.declared.place.Place.TheVariants.{Table}
+use Rattle.af_collect.specs.Agreement.{IsExact, Joins}
+use Rattle.af_collect.proofs.Agreement.{agrees-add_process}
+use Rattle.af_collect.proofs.Bounds.{can-drop-table, can-hold-table}
+use Rattle.af_collect.proofs.Exact.{exact-install, exact-removed, exact-uninstall}
+
+-- Maps with the same below a number and from it on are one.
+same-parts : {X : Type 0} (a b : Map X) (from : ℕ) → ((n : ℕ) → n < from → map.get a n ≡ map.get b n) → ((n : ℕ) → from ≤ n → map.get a n ≡ map.get b n) → a ≡ b
+same-parts a b from below above = map.same_map nat_cmp_total nat_cmp-IsAntisymmetric _ _ (λ n. elim (cases_lt n from) [ inl under ↦ below n under | inr over ↦ above n over ])
+
+-- A value put twice is put once.
+pub insert_twice : {X : Type 0} (m : Map X) (k : ℕ) (x y : X) → map.insert (map.insert m k x) k y ≡ map.insert m k y
+insert_twice m k x y = map.same_map nat_cmp_total nat_cmp-IsAntisymmetric _ _ (λ q. elim (same_or_not q k) [
+  | inl e ↦ ap (map.get (map.insert (map.insert m k x) k y)) e ∙ insert-here (map.insert m k x) k y ∙ sym (ap (map.get (map.insert m k y)) e ∙ insert-here m k y)
+  | inr a ↦ insert-other (map.insert m k x) k y q a ∙ insert-other m k x q a ∙ sym (insert-other m k y q a)
+])
+
+-- A number of a process that came is a number that it came with.
+install-added : (w : World) (q : Process) (n f : ℕ) → install (add_process w q) w.next_pid n f ≡ add_process w (record q { table = map.insert q.table n f })
+install-added w q n f =
+    ap (λ (o : Option Process). record (add_process w q) { processes = option_map_or (λ x. map.insert (add_process w q).processes w.next_pid (record x { table = map.insert x.table n f })) o (add_process w q).processes })
+    (insert-here w.processes w.next_pid q)
+    ∙ ap (λ m. record (add_process w q) { processes = m }) (insert_twice w.processes w.next_pid q (record q { table = map.insert q.table n f }))
+
+-- The process q has joined the world w with what it has at the numbers below `from`, and each is counted.
+pub record Joining (w : World) (q : Process) (from : ℕ) (k : Tally) : Type 0 where
+  pub table : Map ℕ
+  pub below : (n : ℕ) → n < from → map.get table n ≡ map.get q.table n
+  pub above : (n : ℕ) → from ≤ n → map.get table n ≡ None
+  pub exact : IsExact (add_process w (record q { table = table })) k
+
+module _ (w : World) (q : Process) where
+  -- It has joined with no number yet.
+  pub joining-none : (k : Tally) → Joins w q k → Joining w q 0 k
+  joining-none k j =
+      let bare : Process = record q { table = map.empty } in
+      let none : (n f : ℕ) → map.get {X = ℕ} {R = nat_cmp} map.empty n ≡ Some f → ⊥ = λ n f is. none_some f (sym (map.get-empty nat_cmp n) ∙ is) in
+      record {
+        table = map.empty;
+        below = λ n low. absurd (omega (arith, low));
+        above = λ n from. map.get-empty nat_cmp n;
+        exact = record {
+          whole = whole-add_process w bare j.exact.whole (λ n f is. absurd (none n f is));
+          within = within-add_process w bare j.exact.within j.room (record {
+            limit = j.within.limit;
+            numbers = λ n l. absurd (false≢true (sym (ap is_some (map.get-empty nat_cmp n)) ∙ l));
+          });
+          agrees = agrees-add_process w bare k j.exact.whole refl j.known j.exact.agrees;
+          counted = j.exact.counted;
+        };
+      }
+
+  module _ (from : ℕ) (k : Tally) (c : Joining w q from k) where
+    -- It has joined with all its numbers.
+    pub joining-done : ((n : ℕ) → from ≤ n → map.get q.table n ≡ None) → IsExact (add_process w q) k
+    joining-done none = subst (λ t. IsExact (add_process w (record q { table = t })) k) (same-parts c.table q.table from c.below (λ n over. c.above n over ∙ sym (none n over))) c.exact
+
+    -- Numbers that stand for nothing are passed over.
+    pub joining-past : (n : ℕ) → from ≤ n → ((m : ℕ) → from ≤ m → m < n → map.get q.table m ≡ None) → Joining w q n k
+    joining-past n past between = record {
+      table = c.table;
+      below = λ m low. elim (cases_lt m from) [ inl under ↦ c.below m under | inr over ↦ c.above m over ∙ sym (between m over low) ];
+      above = λ m over. c.above m (omega (arith, over, past));
+      exact = c.exact;
+    }
+
+    module _ (old : Tally) (j : Joins w q old) (f : ℕ) (is : map.get q.table from ≡ Some f) where
+      -- One place more of the file of the next descriptor can be counted.
+      pub joining-fits : CanHold Table f k
+      joining-fits = can-hold-table (add_process w (record q { table = c.table })) f k c.exact.within c.exact.agrees
+
+      -- It has joined with one number more.
+      pub joining-more : Joining w q (from + 1) (with_ref Table f k)
+      joining-more =
+          let part : Process = record q { table = c.table } in
+          let free = c.above from (omega arith) in
+          record {
+            table = map.insert c.table from f;
+            below = λ m low. elim (same_or_not m from) [
+              | inl e ↦ ap (map.get (map.insert c.table from f)) e ∙ insert-here c.table from f ∙ sym (ap (map.get q.table) e ∙ is)
+              | inr a ↦ insert-other c.table from f m a ∙ c.below m (let apart = not_same m from a in elim (cases_lt m from) [ inl l ↦ l | inr g ↦ absurd (apart (omega (arith, low, g))) ])
+            ];
+            above = λ m over. insert-other c.table from f m (told_apart m from (λ e. omega (arith, e, over))) ∙ c.above m (omega (arith, over));
+            exact = subst (λ v. IsExact v (with_ref Table f k)) (install-added w part from f)
+                (exact-install (add_process w part) w.next_pid from f part k (insert-here w.processes w.next_pid part) free (j.within.numbers from (ap is_some is)) (j.live from f is) c.exact);
+          }
+
+-- The files of a process's descriptors after one was closed.
+pub table-uninstall : (w : World) (p n m : ℕ) → table_at (uninstall w p n) p m ≡ cond (nat_eq m n) None (table_at w p m)
+table-uninstall w p n m =
+    ap (λ (o : Option Process). option_map_or (λ q. map.get q.table m) o None) (get-change_at less w.processes p p)
+    ∙ ap (λ (b : Bool). option_map_or (λ (q : Process). map.get q.table m) (option_map {T = Process} {U = Process} (λ q. cond b (less q) q) (map.get w.processes p)) None) (unsigned_tied p p ∙ itself p)
+    ∙ by (map.get w.processes p) where
+      less : Process → Process
+      less q = record q { table = map.remove q.table n }
+
+      by : (o : Option Process) → option_map_or (λ (q : Process). map.get q.table m) (option_map {T = Process} {U = Process} (λ q. less q) o) None ≡ cond (nat_eq m n) None (option_map_or (λ (q : Process). map.get q.table m) o None)
+      by None = nothing (nat_eq m n) where
+        nothing : (b : Bool) → ◌≡◌ {A = Option ℕ} None (cond b None None)
+        nothing true = refl
+        nothing false = refl
+      by (Some q) = map.get-remove nat_cmp_total q.table n m ∙ ap (λ b. cond b None (map.get q.table m)) (unsigned_tied m n)
+
+-- Without the process the number does not matter.
+pub removed-uninstall : (w : World) (p n : ℕ) → remove_process (uninstall w p n) p ≡ remove_process w p
+removed-uninstall w p n = ap (λ m. record w { processes = m }) (map.same_map nat_cmp_total nat_cmp-IsAntisymmetric _ _ (λ r. elim (same_or_not r p) [
+  | inl e ↦ ap (map.get (map.remove changed p)) e ∙ remove-here changed p ∙ sym (ap (map.get (map.remove w.processes p)) e ∙ remove-here w.processes p)
+  | inr a ↦ remove-other changed p r a ∙ get-change_at g w.processes p r ∙ ap (λ b. option_map (λ q. cond b (g q) q) (map.get w.processes r)) (unsigned_tied r p ∙ a) ∙ kept (map.get w.processes r) ∙ sym (remove-other w.processes p r a)
+])) where
+  g : Process → Process
+  g q = record q { table = map.remove q.table n }
+
+  changed : Map Process
+  changed = change_at g w.processes p
+
+  kept : (o : Option Process) → option_map (λ q. q) o ≡ o
+  kept None = refl
+  kept (Some q) = refl
+
+-- From w the process p, which was q, gave up its numbers below `from`, and each is counted no longer.
+pub record Leaving (w : World) (p : ℕ) (q : Process) (from : ℕ) (k : Tally) : Type 0 where
+  pub world : World
+  pub rest : remove_process world p ≡ remove_process w p
+  pub below : (n : ℕ) → n < from → table_at world p n ≡ None
+  pub above : (n : ℕ) → from ≤ n → table_at world p n ≡ map.get q.table n
+  pub exact : IsExact world k
+
+-- It gave up no number yet.
+pub leaving-none : (w : World) (p : ℕ) (q : Process) (k : Tally) → map.get w.processes p ≡ Some q → IsExact w k → Leaving w p q 0 k
+leaving-none w p q k at exact = record {
+  world = w;
+  rest = refl;
+  below = λ n low. absurd (omega (arith, low));
+  above = λ n from. there-table w p n q at;
+  exact = exact;
+}
+
+module _ (w : World) (p : ℕ) (q : Process) (from : ℕ) (k : Tally) (c : Leaving w p q from k) where
+  -- It closed all its descriptors, and ends.
+  pub leaving-done : ((n : ℕ) → from ≤ n → map.get q.table n ≡ None) → IsExact (remove_process w p) k
+  leaving-done none = subst (λ v. IsExact v k) c.rest (exact-removed c.world p k (λ n. elim (cases_lt n from) [ inl under ↦ c.below n under | inr over ↦ c.above n over ∙ none n over ]) c.exact)
+
+  -- Numbers that stand for nothing are passed over.
+  pub leaving-past : (n : ℕ) → from ≤ n → ((m : ℕ) → from ≤ m → m < n → map.get q.table m ≡ None) → Leaving w p q n k
+  leaving-past n past between = record {
+    world = c.world;
+    rest = c.rest;
+    below = λ m low. elim (cases_lt m from) [ inl under ↦ c.below m under | inr over ↦ c.above m over ∙ between m over low ];
+    above = λ m over. c.above m (omega (arith, over, past));
+    exact = c.exact;
+  }
+
+  module _ (f : ℕ) (is : map.get q.table from ≡ Some f) where
+    here : table_at c.world p from ≡ Some f
+    here = c.above from (omega arith) ∙ is
+
+    -- Its next number is counted.
+    pub leaving-counted : CanDrop Table f k
+    leaving-counted = can-drop-table c.world p from f k here c.exact.agrees
+
+    -- It gave up one number more.
+    pub leaving-more : Leaving w p q (from + 1) (without_ref Table f k)
+    leaving-more = record {
+      world = uninstall c.world p from;
+      rest = removed-uninstall c.world p from ∙ c.rest;
+      below = λ m low. table-uninstall c.world p from m ∙ lower m low (nat_eq m from) refl;
+      above = λ m over. table-uninstall c.world p from m ∙ ap (λ b. cond b None (table_at c.world p m)) (told_apart m from (λ e. omega (arith, e, over))) ∙ c.above m (omega (arith, over));
+      exact = exact-uninstall c.world p from f k here c.exact;
+    } where
+      lower : (m : ℕ) → m < from + 1 → (b : Bool) → nat_eq m from ≡ b → cond b None (table_at c.world p m) ≡ None
+      lower m low true e = refl
+      lower m low false e = elim (cases_lt m from) [ inl under ↦ c.below m under | inr high ↦ absurd (not_same m from e (omega (arith, low, high))) ]
+
+-- A child with the open numbers of its parent can join.
+pub joins-child : (w : World) (p : ℕ) (q : Process) (k : Tally) → is_at_process_limit w ≡ false → map.get w.processes p ≡ Some q → IsExact w k → Joins w q k
+joins-child w p q k room at h = record {
+  exact = h;
+  room = room;
+  within = h.within.processes p q at;
+  live = λ n f is. h.whole.tables_live f (p, n, there-table w p n q at ∙ is);
+  known = h.agrees.known p q at;
+}
+
+-- So can a copy of a process that is there.
+pub joins-copy : (w : World) (p : ℕ) (q : Process) (k : Tally) → is_at_process_limit w ≡ false → IsTrue (map.contains_key w.processes p) → q ≡ process_at w p → IsExact w k → Joins w q k
+joins-copy w p q k room there is h = subst (λ r. Joins w r k) (sym is) (joins-child w p (process_at w p) k room (process-there w p (ap not there)) h)

@@ -1,0 +1,40 @@
+-- The pass that a caller sees, and what it counts.
+use Rattle.std.proofs.Common.{◌≡◌, ◌+◌, ◌&&◌, ℕ, Bool, true, false, not, refl, ap, ◌∙◌, nat_lt}
+use Rattle.std.specs.Prelude.{Option, Some, None, is_some, if◌then◌else◌}
+use Rattle.std.specs.FinMap as map
+use Rattle.std.specs.Option.{option_and_then, option_map_or}
+use Rattle.std.proofs.Math.Bool.{and_comm}
+use Rattle.std.proofs.lemmas.Bool.{false≢true}
+use Rattle.af_base.specs.World.{AsSocket, File, Plain, World}
+use Rattle.af_base.specs.Pass.{Idle, Pass, Running}
+use Rattle.af_base.specs.Reached.{is_socket}
+use Rattle.af_base.specs.Refusals.{socket_of}
+use Rattle.af_desc.specs.FilesView.{is_unmarked_socket}
+use Rattle.af_mark.specs.MarksView.{MarksView, is_marked, knows}
+use Rattle.af_collect.specs.declared.progress.Stage.{Stage}
+use Rattle.af_collect.specs.declared.progress.Stage.TheVariants.{Marking, Resting, Sweeping}
+use Rattle.af_collect.specs.declared.progress.PassProgress.{PassProgress}
+use Rattle.af_collect.specs.Keeping.{counted, is_sweeping, pass_of, runs}
+
+-- The world at the begin of a pass that runs.
+begun_of : World → Pass → World
+begun_of w Idle = w
+begun_of w (Running begun spent) = begun
+
+-- A caller who sees a pass sees its begin.
+pub seen_begun : (s : Stage) (b begun : World) (n spent : ℕ) → pass_of s b n ≡ Running begun spent → b ≡ begun
+unfolding begun_of
+seen_begun Resting b begun n spent is = absurd (false≢true (ap runs is))
+seen_begun Marking b begun n spent is = ap (begun_of b) is
+seen_begun Sweeping b begun n spent is = ap (begun_of b) is
+
+-- A freed file is counted if it is a socket that the pass had still to mark, and the pass sweeps.
+pub counted_gone : (w : World) (m : MarksView) (c : PassProgress) (f : ℕ) (unmarked : Bool) → knows m f ≡ true → unmarked ≡ is_unmarked_socket w.files m f → record c { reclaimed = c.reclaimed + (if unmarked && is_sweeping c.stage then 1 else 0) } ≡ counted w m f c
+counted_gone w m c f unmarked known is = ap (λ b. record c { reclaimed = c.reclaimed + (if b then 1 else 0) }) (and_comm unmarked (is_sweeping c.stage) ∙ ap (λ b. is_sweeping c.stage && b) (is ∙ same)) where
+  by : (o : Option File) → is_some (option_and_then socket_of o) ≡ option_map_or is_socket o false
+  by None = refl
+  by (Some Plain) = refl
+  by (Some (AsSocket s)) = refl
+
+  same : is_unmarked_socket w.files m f ≡ (option_map_or is_socket (map.get w.files f) false && (nat_lt f m.bound && not (is_marked m f)))
+  same = λ i. by (map.get w.files f) i && (nat_lt f m.bound && (known i && not (is_marked m f)))

@@ -1,0 +1,15 @@
+-- The rest, from the marks now, gives the marks of all.
+use Rattle.std.proofs.Common.{◌≡◌, ◌≤◌, ◌-◌, drop, length}
+use Rattle.af_base.specs.Places.{attached_in, queue_at}
+use Rattle.af_collect.specs.Keeping.{shaded_all}
+use Rattle.af_collect.proofs.shading.shade_attached.Given as goal
+
+abbrev pub invariant-loop-from : goal.invariant-loop-from
+invariant-loop-from l = record {
+  frame : l.places ≡ record l.fn.places { marks = l.places.marks };
+  within : l.from ≤ length (attached_in (queue_at l.fn.places.world l.fn.file));
+  marks : shaded_all (drop l.from (attached_in (queue_at l.fn.places.world l.fn.file))) l.places.marks ≡ shaded_all (attached_in (queue_at l.fn.places.world l.fn.file)) l.fn.places.marks;
+}
+
+abbrev pub decreases-loop-from : goal.decreases-loop-from
+decreases-loop-from l = length (attached_in (queue_at l.fn.places.world l.fn.file)) - l.from

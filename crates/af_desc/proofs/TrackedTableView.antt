@@ -1,0 +1,175 @@
+-- Three maps of one row, as a row is added, changed in one part, and removed; and the messages of all.
+use Rattle.std.proofs.Common.{◌≡◌, ℕ, ◌⊎◌, inl, inr, false, List, [], ◌++◌, refl, sym, ap, ◌∙◌, subst, nat_eq}
+use Rattle.std.specs.Prelude.{Option, Some, None, IfSome, nat_lt, option_map}
+use Rattle.std.specs.Option.{option_and_then}
+use Rattle.std.specs.FinMap as map
+use Rattle.std.specs.FinMap.{nat_cmp-IsAntisymmetric, same_map}
+use Rattle.std.specs.Ordering.{nat_cmp}
+use Rattle.std.specs.Cmp.{nat_cmp_total}
+use Rattle.slab.specs.Slab.{SameValues, Slab}
+use Rattle.af_base.specs.Changes.{change_socket_at, file_with}
+use Rattle.af_base.specs.Places.{attached_in, contents}
+use Rattle.af_base.specs.Refusals.{socket_of}
+use Rattle.af_base.specs.World.{AsSocket, Map, Message, Socket}
+use Rattle.af_base.proofs.Lookups.{insert-here, insert-other, none_some, not_same, remove-here, remove-other, same_or_not, some_same}
+use Rattle.ordered_slab.proofs.Parts.{part_get, part_kept, part_put}
+use Rattle.ordered_slab.proofs.Values.{lent_changed, lent_same}
+use Rattle.af_queue.specs.Chains.{messages_of, IsChain, SameElsewhere}
+use Rattle.af_queue.specs.declared.chain.Node.{Node}
+use Rattle.af_queue.proofs.Chains.{none_chain, none_of, other_queue, same_queue}
+use Rattle.af_desc.specs.FilesView.{socket_in}
+use Rattle.af_desc.specs.FileTableView.{dirty_of}
+use Rattle.af_desc.specs.TrackedTableView.{counts_of, file_in, file_of, files_of, marks_of, refilled, AreChained}
+use Rattle.af_desc.specs.declared.file_row.FileRow.{FileRow}
+use Rattle.af_desc.proofs.FileNames.{unchanged}
+
+-- A socket that has nothing to receive is as it is.
+pub refilled_none : (s : Socket) (q : List Message) → q ≡ [] → s.queue ≡ [] → refilled q s ≡ s
+refilled_none s q none silent = λ i. refilled ((none ∙ sym silent) i) s
+
+-- The row of a file is written to in one part.
+module _ (m : Map FileRow) (f : ℕ) (x : FileRow) (at : map.get m f ≡ Some x) where
+  -- In another part: the counts stay.
+  pub counts_kept : (y : FileRow) → y.count ≡ x.count → counts_of (map.insert m f y) ≡ counts_of m
+  counts_kept y same = part_kept (λ r. r.count) m f x y at same
+
+  -- In another part: the mark stays.
+  pub marks_kept : (y : FileRow) → y.mark ≡ x.mark → marks_of (map.insert m f y) ≡ marks_of m
+  marks_kept y same = part_kept (λ r. r.mark) m f x y at same
+
+  -- In another part: whether it is dirty stays.
+  pub noted_kept : (y : FileRow) → nat_lt 0 y.dirty_at ≡ nat_lt 0 x.dirty_at → dirty_of (map.insert m f y) ≡ dirty_of m
+  noted_kept y same = part_kept (λ r. nat_lt 0 r.dirty_at) m f x y at same
+
+  module _ (s : Slab Node) where
+    -- The file is what its row says, with its messages.
+    pub file_is : map.get (files_of s m) f ≡ Some (file_in s x)
+    file_is = part_get (file_in s) m f ∙ ap (option_map (file_in s)) at
+
+-- A row is written to, but for its chain.
+pub chains_stay : (s : Slab Node) (m : Map FileRow) (f : ℕ) (y : FileRow) → option_map (λ r. r.chain) (map.get m f) ≡ Some y.chain → AreChained s m → AreChained s (map.insert m f y)
+chains_stay s m f y is h = record {
+  each = λ g z at. elim (same_or_not g f) [
+    | inl e ↦
+        let same = some_same y z (sym (ap (map.get (map.insert m f y)) e ∙ insert-here m f y) ∙ at) in
+        subst (λ (r : FileRow). IsChain s r.chain g) same (by g (map.get m f) (ap (map.get m) e) is)
+    | inr e ↦ h.each g z (sym (insert-other m f y g e) ∙ at)
+  ];
+} where
+  by : (g : ℕ) (o : Option FileRow) → map.get m g ≡ o → option_map (λ r. r.chain) o ≡ Some y.chain → IsChain s y.chain g
+  by g None at e = absurd (none_some y.chain e)
+  by g (Some x) at e = subst (λ c. IsChain s c g) (some_same x.chain y.chain e) (h.each g x at)
+
+-- A row comes that has nothing to receive.
+module _ (s : Slab Node) (m : Map FileRow) (f : ℕ) (x : FileRow) (none : x.chain.len ≡ 0) where
+  pub chains_put : AreChained s m → AreChained s (map.insert m f x)
+  chains_put h = record {
+    each = λ g z is. elim (same_or_not g f) [
+      | inl e ↦
+          let same = some_same x z (sym (ap (map.get (map.insert m f x)) e ∙ insert-here m f x) ∙ is) in
+          subst (λ (r : FileRow). IsChain s r.chain g) same (none_chain s x.chain g none)
+      | inr e ↦ h.each g z (sym (insert-other m f x g e) ∙ is)
+    ];
+  }
+
+  pub files_put : IfSome x.endpoint (λ e. e.queue ≡ []) → files_of s (map.insert m f x) ≡ map.insert (files_of s m) f (file_of x.endpoint)
+  files_put silent = part_put (file_in s) m f x ∙ ap (map.insert (files_of s m) f) (by x.endpoint silent) where
+    by : (o : Option Socket) → IfSome o (λ e. e.queue ≡ []) → file_of (option_map (refilled (messages_of s x.chain)) o) ≡ file_of o
+    by None h = refl
+    by (Some e) h = ap AsSocket (refilled_none e (messages_of s x.chain) (none_of s x.chain none) h)
+
+-- A row is removed.
+pub chains_taken : (s : Slab Node) (m : Map FileRow) (f : ℕ) → AreChained s m → AreChained s (map.remove m f)
+chains_taken s m f h = record {
+  each = λ g z is. elim (same_or_not g f) [
+    | inl e ↦ absurd (none_some z (sym (ap (map.get (map.remove m f)) e ∙ remove-here m f) ∙ is))
+    | inr e ↦ h.each g z (sym (remove-other m f g e) ∙ is)
+  ];
+}
+
+-- No row.
+pub chains_none : (s : Slab Node) (m : Map FileRow) → m ≡ map.empty → AreChained s m
+chains_none s m none = record { each = λ g z is. absurd (none_some z (sym (ap (λ n. map.get n g) none ∙ map.get-empty nat_cmp g) ∙ is)) }
+
+-- The rows that exist as rows are added, changed in a part other than their chain, and removed.
+pub ruleset chains = (chains_stay, chains_put, chains_taken, chains_none, files_put)
+
+-- Of a socket: what it has to receive is in its chain.
+module _ (s : Slab Node) (m : Map FileRow) (f : ℕ) (x : FileRow) (at : map.get m f ≡ Some x) (e : Socket) (is : x.endpoint ≡ Some e) where
+  pub shown_is : map.get (files_of s m) f ≡ Some (AsSocket (refilled (messages_of s x.chain) e))
+  shown_is = file_is m f x at s ∙ ap (λ o. Some (file_of (option_map (refilled (messages_of s x.chain)) o))) is
+
+  pub socket_is : socket_in (files_of s m) f ≡ Some (refilled (messages_of s x.chain) e)
+  socket_is = ap (option_and_then socket_of) shown_is
+
+-- A row's queue is its file's.
+pub chained_at : (s : Slab Node) (m : Map FileRow) (f o : ℕ) (x : FileRow) → o ≡ f → map.get m f ≡ Some x → AreChained s m → IsChain s x.chain o
+chained_at s m f o x e at h = subst (IsChain s x.chain) (sym e) (h.each f x at)
+
+-- A file's messages change, and all other files' stay where they are.
+module _ (s t : Slab Node) (m : Map FileRow) (f o : ℕ) (y : FileRow) (e : o ≡ f) (h : AreChained s m) (own : IsChain t y.chain o) (others : SameElsewhere s t o) where
+  apart : (g : ℕ) → nat_eq g f ≡ false → g ≡ o → ⊥
+  apart g off is = not_same g f off (is ∙ e)
+
+  pub chains_changed : AreChained t (map.insert m f y)
+  chains_changed = record {
+    each = λ g z is. elim (same_or_not g f) [
+      | inl here ↦
+          let same = some_same y z (sym (ap (map.get (map.insert m f y)) here ∙ insert-here m f y) ∙ is) in
+          subst (λ (r : FileRow). IsChain t r.chain g) same (subst (IsChain t y.chain) (e ∙ sym here) own)
+      | inr off ↦ (other_queue s t g o z.chain others (apart g off) (h.each g z (sym (insert-other m f y g off) ∙ is))).0
+    ];
+  }
+
+  files_changed : files_of t (map.insert m f y) ≡ map.insert (files_of s m) f (file_in t y)
+  files_changed = same_map nat_cmp_total nat_cmp-IsAntisymmetric _ _ (λ g. each g (same_or_not g f)) where
+    stays : (g : ℕ) → nat_eq g f ≡ false → (q : Option FileRow) → map.get m g ≡ q → option_map (file_in t) q ≡ option_map (file_in s) q
+    stays g off None was = refl
+    stays g off (Some z) was = ap (λ q. Some (file_of (option_map (refilled q) z.endpoint))) (other_queue s t g o z.chain others (apart g off) (h.each g z was)).1
+
+    each : (g : ℕ) → (g ≡ f) ⊎ (nat_eq g f ≡ false) → map.get (files_of t (map.insert m f y)) g ≡ map.get (map.insert (files_of s m) f (file_in t y)) g
+    each g (inl here) =
+        part_get (file_in t) (map.insert m f y) g ∙ ap (option_map (file_in t)) (ap (map.get (map.insert m f y)) here ∙ insert-here m f y)
+        ∙ sym (ap (map.get (map.insert (files_of s m) f (file_in t y))) here ∙ insert-here (files_of s m) f (file_in t y))
+    each g (inr off) =
+        part_get (file_in t) (map.insert m f y) g ∙ ap (option_map (file_in t)) (insert-other m f y g off) ∙ stays g off (map.get m g) refl
+        ∙ sym (part_get (file_in s) m g) ∙ sym (insert-other (files_of s m) f (file_in t y) g off)
+
+  -- Its file changes as its messages do.
+  pub messages_changed : (g : Socket → Socket) (x : FileRow) → map.get m f ≡ Some x → file_in t y ≡ file_with g (file_in s x) → files_of t (map.insert m f y) ≡ change_socket_at g (files_of s m) f
+  messages_changed g x at is = files_changed ∙ lent_changed (files_of s m) f (file_in s x) (file_in t y) (file_is m f x at s) (file_with g) is
+
+  pub messages_stay : (x : FileRow) → map.get m f ≡ Some x → file_in t y ≡ file_in s x → files_of t (map.insert m f y) ≡ files_of s m
+  messages_stay x at is = files_changed ∙ lent_same (files_of s m) f (file_in s x) (file_in t y) (file_is m f x at s) is
+
+-- There is room for messages more: those of all files stay.
+module _ (s t : Slab Node) (m : Map FileRow) (same : SameValues s t) (h : AreChained s m) where
+  pub chains_roomed : AreChained t m
+  chains_roomed = record { each = λ g z at. (same_queue s t g z.chain same (h.each g z at)).0 }
+
+-- A file that is no socket has an empty queue, and no change of a socket changes it.
+module _ (s : Slab Node) (m : Map FileRow) (f : ℕ) where
+  pub stranger_is_none : map.get m f ≡ None → socket_in (files_of s m) f ≡ None
+  stranger_is_none none = ap (option_and_then socket_of) (part_get (file_in s) m f ∙ ap (option_map (file_in s)) none)
+
+  pub plain_is_none : (x : FileRow) → map.get m f ≡ Some x → x.endpoint ≡ None → socket_in (files_of s m) f ≡ None
+  plain_is_none x at none = ap (option_and_then socket_of) (file_is m f x at s) ∙ ap (λ o. socket_of (file_of (option_map (refilled (messages_of s x.chain)) o))) none
+
+-- A socket changes that is written to in its row.
+module _ (s : Slab Node) (m : Map FileRow) (f : ℕ) (g : Socket → Socket) where
+  pub row_changed : (x y : FileRow) → map.get m f ≡ Some x → file_in s y ≡ file_with g (file_in s x) → files_of s (map.insert m f y) ≡ change_socket_at g (files_of s m) f
+  row_changed x y at is = part_put (file_in s) m f y ∙ lent_changed (files_of s m) f (file_in s x) (file_in s y) (file_is m f x at s) (file_with g) is
+
+  pub none_changed : map.get m f ≡ None → files_of s m ≡ change_socket_at g (files_of s m) f
+  none_changed none = unchanged g (files_of s m) f (stranger_is_none s m f none)
+
+-- Sockets that change.
+pub ruleset rows = (row_changed, none_changed, chains_stay, counts_kept, marks_kept, noted_kept)
+
+-- Messages that come and go.
+pub ruleset messages = (chained_at, chains_changed, messages_changed, messages_stay, none_changed, counts_kept, marks_kept, noted_kept)
+
+-- A file that has nothing to receive, and for which nobody waits, holds nothing.
+module _ (s : Slab Node) (x : FileRow) (silent : x.chain.len ≡ 0) where
+  pub bare_socket : (e : Socket) → x.endpoint ≡ Some e → e.backlog ≡ [] → contents (file_in s x) ≡ []
+  bare_socket e is nobody = ap (λ o. contents (file_of (option_map (refilled (messages_of s x.chain)) o))) is ∙ (λ i. attached_in (none_of s x.chain silent i) ++ nobody i)

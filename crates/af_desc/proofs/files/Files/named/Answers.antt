@@ -1,8 +1,0 @@
-use Rattle.std.proofs.Common.{◌∙◌, ap}
-use Rattle.af_base.specs.Names.{named}
-use Rattle.af_desc.specs.FilesView.{FilesView}
-use Rattle.af_desc.proofs.Naming.{named-is}
-use Rattle.af_desc.proofs.files.Files.named.Goals as goal
-
-pub returns : goal.returns
-returns c = c.find.ensures ∙ named-is c.self.inside.names c.self.inside.rows.files c.self.invariant.named c.args.name.now ∙ ap (λ (v : FilesView). named v.files c.args.name.now) c.self.view_is

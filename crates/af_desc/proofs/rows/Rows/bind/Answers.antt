@@ -1,5 +1,0 @@
-use Rattle.af_desc.proofs.Telling.{told-bound}
-use Rattle.af_desc.proofs.rows.Rows.bind.Goals as goal
-
-pub invariant_of-self : goal.invariant_of-self
-invariant_of-self c = told-bound c.self.inside.lines c.bind.new.self _ _ _ _ _ _ c.self.invariant c.bind.result c.args.file.now c.args.name c.bind.ensures.ok c.bind.ensures.err

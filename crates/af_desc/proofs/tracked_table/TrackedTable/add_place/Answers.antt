@@ -1,0 +1,11 @@
+use Rattle.std.proofs.Common.{◌≡◌, true, ap, ◌∙◌}
+use Rattle.std.specs.FinMap as map
+use Rattle.af_desc.specs.TrackedTableView.{TrackedTableView}
+use Rattle.af_desc.proofs.ToldLists.{told-counted}
+use Rattle.af_desc.proofs.tracked_table.TrackedTable.add_place.Goals as goal
+
+pub invariant_of-self : goal.invariant_of-self
+invariant_of-self c =
+    let k = c.args.file.now in
+    let there : map.contains_key c.self.inside.table.counts k ≡ true = ap (λ (v : TrackedTableView). map.contains_key v.counts k) c.self.view_is ∙ c.requires.known in
+    told-counted c.self.inside.table c.add_place.new.self _ _ _ _ _ _ c.self.invariant k _ c.add_place.ensures.counts there c.add_place.ensures.len

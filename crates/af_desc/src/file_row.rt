@@ -1,0 +1,152 @@
+//! The row of one file.
+ghost use Rattle.std.specs.Prelude.{◌≡◌, ◌<◌, ◌∷◌, [], IfSome, IfNone, IfOk, OnOk, OnErr, drop};
+ghost use Rattle.std.specs.Prelude.{length, nat_lt, true};
+ghost use Rattle.af_base.specs.Changes.{file_with, pushed};
+ghost use Rattle.af_base.specs.Places.{contents, queue_of};
+ghost use Rattle.af_base.specs.Refusals.{socket_of};
+ghost use Rattle.af_base.specs.Whole.{IsMessageWithin};
+ghost use Rattle.af_queue.specs.Chains.{has_room, IsChain, SameElsewhere};
+ghost use Rattle.af_desc.specs.FilesView.{popped, received_from, received_of};
+ghost use Rattle.af_desc.specs.TrackedTableView.{file_in};
+
+use crate::socket::Endpoint;
+use af_base::ids::Ino;
+use af_base::limits::MAX_MESSAGES;
+use af_ledger::Count;
+use af_mark::Mark;
+use af_queue::{Chain, Msg, Node, Taken, pool};
+use slab::Slab;
+use std::alloc::{AllocError, Global};
+
+/// The row of one file: what it is, its queue, its count, its mark, and whether it is dirty.
+#[derive(Drop)]
+pub struct FileRow {
+    /// The socket that it is, but for its queue; nothing is known of a plain file.
+    pub endpoint: Option<Endpoint>,
+    /// The messages of its queue.
+    pub chain: Chain,
+    /// How many places hold it.
+    pub count: Count,
+    /// Its colour in a pass of the collector.
+    pub mark: Mark,
+    /// Its position in the list of those whose readiness may have changed, counted from 1: a hint.
+    /// It is 0 where the file is not in that list.
+    pub dirty_at: u32,
+}
+
+impl FileRow {
+    /// Returns whether it has nothing to receive and no name. If so, it holds nothing.
+    #[inline(always)]
+    pub fn is_bare(&self, _nodes: &Slab<Node>) -> bool
+        ensures { result ≡ true → contents (file_in _nodes.now self.now) ≡ [] }
+    {
+        if self.chain.len > 0 {
+            return false;
+        }
+        match &self.endpoint {
+            Some(endpoint) => endpoint.is_nameless(),
+            None => true,
+        }
+    }
+
+    /// Returns whether it is dirty.
+    #[inline(always)]
+    pub fn is_dirty(&self) -> bool
+        ensures { result ≡ nat_lt 0 self.now.dirty_at }
+    {
+        self.dirty_at > 0
+    }
+
+    /// Marks it as in that list, at its first position until `set_list_index` says otherwise, or as
+    /// not in it.
+    #[inline(always)]
+    pub fn set_dirty(&mut self, dirty: bool)
+        ensures dirty { nat_lt 0 self.new.dirty_at ≡ dirty }
+        ensures rest { self.new ≡ record self.old { dirty_at = self.new.dirty_at } }
+    {
+        self.dirty_at = u32::from(dirty);
+    }
+
+    /// Returns its position in the list of dirty files: a hint.
+    #[inline(always)]
+    pub fn list_index(&self) -> usize {
+        self.dirty_at.saturating_sub(1) as usize
+    }
+
+    /// Keeps its position in that list, if it is dirty. It stays dirty or not.
+    #[inline(always)]
+    pub fn set_list_index(&mut self, index: u32)
+        ensures dirty { nat_lt 0 self.new.dirty_at ≡ nat_lt 0 self.old.dirty_at }
+        ensures rest { self.new ≡ record self.old { dirty_at = self.new.dirty_at } }
+    {
+        if self.dirty_at > 0 {
+            self.dirty_at = index.saturating_add(1);
+        }
+    }
+
+    /// Appends a message to its queue, which is not full. A plain file has none, and the message is
+    /// dropped. It cannot fail, since there is room.
+    #[inline(always)]
+    pub fn push(&mut self, nodes: &mut Slab<Node>, owner: Ino, message: Msg)
+        requires chain { IsChain nodes.old self.old.chain owner }
+        requires few { length (queue_of (file_in nodes.old self.old)) < MAX_MESSAGES }
+        requires within { IsMessageWithin message }
+        requires room { has_room nodes.old ≡ true }
+        ensures file { file_in nodes.new self.new
+            ≡ file_with (pushed message) (file_in nodes.old self.old) }
+        ensures chain { IsChain nodes.new self.new.chain owner }
+        ensures others { SameElsewhere nodes.old nodes.new owner }
+        ensures rest { self.new ≡ record self.old { chain = self.new.chain } }
+    {
+        if let Some(_) = &self.endpoint {
+            pool::push(nodes, &mut self.chain, owner, message);
+        }
+    }
+
+    /// Removes the first message from its queue, if there is one. Takes no memory.
+    #[inline(always)]
+    pub fn pop(&mut self, nodes: &mut Slab<Node>, owner: Ino) -> Option<Msg>
+        requires chain { IsChain nodes.old self.old.chain owner }
+        ensures some { IfSome result (λ m. queue_of (file_in nodes.old self.old)
+            ≡ m ∷ drop 1 (queue_of (file_in nodes.old self.old))) }
+        ensures none { IfNone result (queue_of (file_in nodes.old self.old) ≡ []) }
+        ensures file { file_in nodes.new self.new ≡ file_with popped (file_in nodes.old self.old) }
+        ensures chain { IsChain nodes.new self.new.chain owner }
+        ensures others { SameElsewhere nodes.old nodes.new owner }
+        ensures rest { self.new ≡ record self.old { chain = self.new.chain } }
+    {
+        let Some(_) = &self.endpoint else {
+            return None;
+        };
+        pool::pop(nodes, &mut self.chain, owner)
+    }
+
+    /// Takes from its queue what a receive of at most this many bytes gives (recvmsg(2)); nothing
+    /// for a plain file. On an error nothing has changed.
+    #[inline(always)]
+    pub fn take(
+        &mut self,
+        nodes: &mut Slab<Node>,
+        owner: Ino,
+        alloc: Global,
+        max: usize,
+    ) -> Result<Taken, AllocError>
+        requires chain { IsChain nodes.old self.old.chain owner }
+        requires some { 0 < max }
+        ensures taken { IfOk result (λ t.
+            t ≡ received_of (socket_of (file_in nodes.old self.old)) max) }
+        ensures file { OnOk result (file_in nodes.new self.new
+            ≡ file_with (received_from max) (file_in nodes.old self.old)) }
+        ensures err { OnErr result (file_in nodes.new self.new ≡ file_in nodes.old self.old) }
+        ensures unchanged { OnErr result (nodes.new ≡ nodes.old) }
+        ensures chain { IsChain nodes.new self.new.chain owner }
+        ensures others { SameElsewhere nodes.old nodes.new owner }
+        ensures rest { self.new ≡ record self.old { chain = self.new.chain } }
+    {
+        let Some(endpoint) = &self.endpoint else {
+            return Ok(Taken::nothing(alloc));
+        };
+        let kind = endpoint.kind();
+        pool::take(nodes, &mut self.chain, owner, alloc, kind, max)
+    }
+}

@@ -1,0 +1,529 @@
+//! One row for each file.
+ghost use Rattle.std.specs.Prelude.{◌≡◌, ℕ, ◌+◌, ◌≤◌, ◌<◌, ◌∷◌, [], false, None, IsTrue, IsOk};
+ghost use Rattle.std.specs.Prelude.{IfSome, IfNone, IfErr, IfOk, OnOk, OnErr, drop, is_none};
+ghost use Rattle.std.specs.Prelude.{is_some, length, nat_eq, option_copied, true};
+ghost use Rattle.std.specs.FinMap as map;
+ghost use Rattle.std.specs.Option.{option_map_or};
+ghost use Rattle.af_base.specs.Changes.{connected, dequeued, listening, pushed, queued, with_name};
+ghost use Rattle.af_base.specs.Places.{backlog_in, held_in, queue_in};
+ghost use Rattle.af_base.specs.Refusals.{room_of};
+ghost use Rattle.af_base.specs.Whole.{IsMessageWithin};
+ghost use Rattle.af_ledger.specs.Counted.{fewer, more, places_in, IsCountable, IsCounted};
+ghost use Rattle.af_ledger.specs.Tally.{count_in_map};
+ghost use Rattle.af_desc.specs.FilesView.{hung_up, popped, received_from, received_of, socket_in};
+ghost use Rattle.af_desc.specs.FileTableView.{with_entry, with_socket, with_socket_and_room};
+ghost use Rattle.af_desc.specs.FileTableView.{without_entry};
+ghost use Rattle.af_desc.specs.TrackedTableView.{file_of, is_due, is_white_in, marking};
+
+use crate::file_row::FileRow;
+use crate::socket::{Endpoint, Socket};
+use af_base::ids::{FileRef, Ino};
+use af_base::items::Items;
+use af_base::limits::MAX_MESSAGES;
+use af_ledger::{Count, Place};
+use af_mark::{Color, Mark};
+use af_queue::{Chain, Msg, Node, Queue, Taken, pool};
+use ordered_slab::OrderedSlab;
+use slab::Slab;
+use std::alloc::{AllocError, Global};
+use std::marker::Model;
+
+/// A row for each file: what it is, its queue, its count, its mark, and whether it is dirty. All
+/// rows are in one table, and all messages in another; a contract sees them as four maps.
+#[derive(Drop)]
+pub struct FileTable {
+    rows: OrderedSlab<FileRow>,
+    /// The messages of all queues.
+    nodes: Slab<Node>,
+}
+
+impl Model for FileTable {
+    ghost use Rattle.std.specs.FinMap as map;
+    ghost use Rattle.std.specs.Coded.{codes};
+    ghost use Rattle.af_queue.specs.Chains.{has_room};
+    ghost use Rattle.af_desc.specs.FileTableView.{FileTableView, dirty_of};
+    ghost use Rattle.af_desc.specs.TrackedTableView.{counts_of, files_of, marks_of, AreChained};
+
+    ghost Value = { FileTableView };
+
+    ghost coded = { Prim.hlevel (codes, map.code) };
+
+    ghost view = { λ a. record {
+      files = files_of a.nodes a.rows.values;
+      counts = counts_of a.rows.values;
+      marks = marks_of a.rows.values;
+      dirty = dirty_of a.rows.values;
+      last = a.rows.last;
+      room = a.rows.room;
+      message_room = has_room a.nodes;
+    } };
+
+    ghost invariant = { λ a. AreChained a.nodes a.rows.values };
+}
+
+impl FileTable {
+    /// Makes an empty table. Takes no memory.
+    #[tactic(auto, using(crate::proofs::TrackedTableView::chains, ordered_slab::proofs::Parts::parts))]
+    pub fn new(alloc: Global) -> FileTable
+        ensures files { result.files ≡ map.empty }
+        ensures counts { result.counts ≡ map.empty }
+        ensures marks { result.marks ≡ map.empty }
+        ensures dirty { result.dirty ≡ map.empty }
+        ensures last { result.last ≡ 0 }
+    {
+        FileTable {
+            rows: OrderedSlab::new(alloc),
+            nodes: Slab::new(alloc),
+        }
+    }
+
+    /// Returns how many rows there are.
+    #[inline(always)]
+    #[tactic(auto, using(crate::proofs::TrackedTableView::chains, ordered_slab::proofs::Parts::parts))]
+    pub fn len(&self) -> usize
+        ensures files { result ≡ map.len self.now.files }
+        ensures counts { result ≡ map.len self.now.counts }
+        ensures marks { result ≡ map.len self.now.marks }
+        ensures dirty { result ≡ map.len self.now.dirty }
+    {
+        self.rows.len()
+    }
+
+    /// Reserves room for this many rows more: then `push` needs no memory for them, and no other
+    /// call ever does. Nothing else changes, also on an error.
+    #[inline(always)]
+    #[tactic(auto, using(crate::proofs::TrackedTableView::chains))]
+    pub fn reserve(&mut self, rows: usize) -> Result<(), AllocError>
+        ensures same { self.new ≡ record self.old { room = self.new.room } }
+        ensures ok { OnOk result (rows ≤ self.new.room) }
+        ensures room { self.old.room ≤ self.new.room }
+        ensures succeeds { rows ≤ self.old.room → IsOk result }
+    {
+        self.rows.reserve(rows)
+    }
+
+    /// Adds a file, under a number above all earlier ones, with an empty queue, unmarked, and with
+    /// this place as its first reference. There is room for it.
+    #[inline(always)]
+    #[tactic(auto, using(crate::proofs::TrackedTableView::chains, ordered_slab::proofs::Parts::parts))]
+    pub fn push(&mut self, ino: Ino, endpoint: Option<Endpoint>, place: &Place) -> FileRef
+        requires room { 0 < self.old.room }
+        requires above { self.old.last < ino }
+        ensures file { result ≡ ino }
+        ensures pushed { self.new
+            ≡ with_entry ino (file_of endpoint) place.now self.new.room self.old }
+        ensures new { map.contains_key self.old.files ino ≡ false }
+        ensures uncounted { map.contains_key self.old.counts ino ≡ false }
+        ensures unmarked { map.contains_key self.old.marks ino ≡ false }
+        ensures clean { map.contains_key self.old.dirty ino ≡ false }
+        ensures room { self.old.room ≤ self.new.room + 1 }
+    {
+        if let Some(endpoint) = &endpoint {
+            endpoint.lemma_is_silent();
+        }
+        let mut count = Count::none();
+        count.add(place);
+        let row = FileRow {
+            endpoint,
+            chain: Chain::empty(),
+            count,
+            mark: Mark::none(),
+            dirty_at: 0,
+        };
+        self.rows.push(ino, row)
+    }
+
+    /// Removes a file whose queue is empty, and returns its socket, if it was one. Returns also
+    /// whether it was known, and unmarked in this pass. Takes no memory.
+    #[inline(always)]
+    #[tactic(auto, using(crate::proofs::TrackedTableView::chains, ordered_slab::proofs::Parts::parts))]
+    pub fn remove(&mut self, file: &FileRef, epoch: u64) -> (Option<Endpoint>, bool)
+        requires silent { queue_in self.old.files file.now ≡ [] }
+        ensures socket { result.0 ≡ socket_in self.old.files file.now }
+        ensures white { result.1 ≡ is_white_in epoch self.old.marks file.now }
+        ensures removed { self.new ≡ without_entry file.now self.new.room self.old }
+        ensures room { self.old.room ≤ self.new.room }
+    {
+        let Some(row) = self.rows.remove(file) else {
+            return (None, false);
+        };
+        if let Some(endpoint) = &row.endpoint {
+            endpoint.lemma_is_silent();
+        }
+        let white = matches!(row.mark.color_in(epoch), Color::White);
+        (row.endpoint, white)
+    }
+
+    /// Returns the socket that a file is; `None` for a plain or unknown file.
+    #[inline(always)]
+    pub fn socket(&self, file: &FileRef) -> Option<Socket<'_>>
+        ensures { result ≡ socket_in self.now.files file.now }
+    {
+        let row = self.rows.get(file)?;
+        let endpoint = row.endpoint.as_ref()?;
+        Some(Socket::of(endpoint, Queue::of(&self.nodes, &row.chain)))
+    }
+
+    /// Returns how many places hold a file; 0 for an unknown one.
+    #[inline(always)]
+    #[tactic(auto, using(crate::proofs::TrackedTableView::chains, ordered_slab::proofs::Parts::parts))]
+    pub fn count(&self, file: &FileRef) -> Option<&Count>
+        ensures { option_copied result ≡ map.get self.now.counts file.now }
+    {
+        let row = self.rows.get(file)?;
+        Some(&row.count)
+    }
+
+    /// Sets the hint of a new socket to the key of its peer.
+    #[inline(always)]
+    #[tactic(auto, using(crate::proofs::TrackedTableView::rows, ordered_slab::proofs::Parts::parts))]
+    pub fn set_peer_hint(&mut self, file: &FileRef, peer: &FileRef)
+        ensures { self.new ≡ self.old }
+    {
+        let Some(row) = self.rows.get_mut(file) else {
+            return;
+        };
+        let Some(endpoint) = &mut row.endpoint else {
+            return;
+        };
+        endpoint.set_peer_hint(peer);
+    }
+
+    /// Marks the peer of that socket as gone.
+    #[inline(always)]
+    #[tactic(auto, using(crate::proofs::TrackedTableView::rows, ordered_slab::proofs::Parts::parts))]
+    pub fn hang_up(&mut self, file: &FileRef)
+        ensures { self.new ≡ with_socket self.old file.now hung_up }
+    {
+        let Some(row) = self.rows.get_mut(file) else {
+            return;
+        };
+        let Some(endpoint) = &mut row.endpoint else {
+            return;
+        };
+        endpoint.hang_up();
+    }
+
+    /// Connects that socket to this peer.
+    #[inline(always)]
+    #[tactic(auto, using(crate::proofs::TrackedTableView::rows, ordered_slab::proofs::Parts::parts))]
+    pub fn connect(&mut self, file: &FileRef, peer: &FileRef)
+        ensures { self.new ≡ with_socket self.old file.now (connected peer.now) }
+    {
+        let Some(row) = self.rows.get_mut(file) else {
+            return;
+        };
+        let Some(endpoint) = &mut row.endpoint else {
+            return;
+        };
+        endpoint.connect(peer);
+    }
+
+    /// Gives that socket, which has no name, this one. On an error nothing has changed.
+    #[inline(always)]
+    #[tactic(auto, using(crate::proofs::TrackedTableView::rows, ordered_slab::proofs::Parts::parts))]
+    pub fn bind(&mut self, file: &FileRef, alloc: Global, name: Items<u8>) -> Result<(), AllocError>
+        requires { IfSome (socket_in self.old.files file.now) (λ s. s.name ≡ None) }
+        ensures ok { OnOk result (self.new ≡ with_socket self.old file.now (with_name name)) }
+        ensures err { OnErr result (self.new ≡ self.old) }
+    {
+        let Some(row) = self.rows.get_mut(file) else {
+            return Ok(());
+        };
+        let Some(endpoint) = &mut row.endpoint else {
+            return Ok(());
+        };
+        endpoint.bind(alloc, name)
+    }
+
+    /// Makes that socket, which has a name and no embryos, a listener with this backlog. On an
+    /// error nothing has changed.
+    #[inline(always)]
+    #[tactic(auto, using(crate::proofs::TrackedTableView::rows, ordered_slab::proofs::Parts::parts))]
+    pub fn listen(&mut self, file: &FileRef, alloc: Global, most: u32) -> Result<(), AllocError>
+        requires named { IfSome (socket_in self.old.files file.now) (λ s. is_none s.name ≡ false) }
+        requires nobody { IfSome (socket_in self.old.files file.now) (λ s. s.backlog ≡ []) }
+        ensures ok { OnOk result (self.new ≡ with_socket self.old file.now (listening most)) }
+        ensures err { OnErr result (self.new ≡ self.old) }
+    {
+        let Some(row) = self.rows.get_mut(file) else {
+            return Ok(());
+        };
+        let Some(endpoint) = &mut row.endpoint else {
+            return Ok(());
+        };
+        endpoint.listen(alloc, most)
+    }
+
+    /// Appends an embryo to the backlog of that listener, which has room for it.
+    #[inline(always)]
+    #[tactic(auto, using(crate::proofs::TrackedTableView::rows, ordered_slab::proofs::Parts::parts))]
+    pub fn enqueue(&mut self, file: &FileRef, embryo: FileRef)
+        requires { IfSome (socket_in self.old.files file.now) (λ s.
+            length s.backlog < room_of s.state) }
+        ensures { self.new ≡ with_socket self.old file.now (queued embryo) }
+    {
+        let Some(row) = self.rows.get_mut(file) else {
+            return;
+        };
+        let Some(endpoint) = &mut row.endpoint else {
+            return;
+        };
+        endpoint.enqueue(embryo);
+    }
+
+    /// Removes the first embryo of that listener, if there is one.
+    #[inline(always)]
+    #[tactic(auto, using(crate::proofs::TrackedTableView::rows, ordered_slab::proofs::Parts::parts))]
+    pub fn dequeue(&mut self, file: &FileRef) -> Option<FileRef>
+        ensures some { IfSome result (λ f.
+            backlog_in self.old.files file.now ≡ f ∷ drop 1 (backlog_in self.old.files file.now)) }
+        ensures none { IfNone result (backlog_in self.old.files file.now ≡ []) }
+        ensures rest { self.new ≡ with_socket self.old file.now dequeued }
+    {
+        let Some(row) = self.rows.get_mut(file) else {
+            return None;
+        };
+        let Some(endpoint) = &mut row.endpoint else {
+            return None;
+        };
+        endpoint.dequeue()
+    }
+
+    /// Makes room for one message more, so that the next `push_message` cannot fail.
+    pub fn room_for_message(&mut self) -> Result<(), AllocError>
+        ensures ok { OnOk result (self.new.message_room ≡ true) }
+        ensures succeeds { self.old.message_room ≡ true → IsOk result }
+        ensures rest { self.new ≡ record self.old { message_room = self.new.message_room } }
+    {
+        pool::room(&mut self.nodes)
+    }
+
+    /// Appends a message to the queue of that socket, which is not full. For a plain or unknown
+    /// file it drops the message. Cannot fail, since there is room.
+    #[inline(always)]
+    #[tactic(auto, using(crate::proofs::TrackedTableView::messages, ordered_slab::proofs::Parts::parts))]
+    pub fn push_message(&mut self, file: &FileRef, message: Msg)
+        requires few { length (queue_in self.old.files file.now) < MAX_MESSAGES }
+        requires within { IsMessageWithin message }
+        requires room { self.old.message_room ≡ true }
+        ensures { self.new
+            ≡ with_socket_and_room self.old file.now (pushed message) self.new.message_room }
+    {
+        if let Some(row) = self.rows.get_mut(file) {
+            row.push(&mut self.nodes, file.ino(), message);
+        }
+    }
+
+    /// Removes the first message from the queue of that socket, if there is one. Takes no memory.
+    #[inline(always)]
+    #[tactic(auto, using(crate::proofs::TrackedTableView::messages, ordered_slab::proofs::Parts::parts))]
+    pub fn pop_message(&mut self, file: &FileRef) -> Option<Msg>
+        ensures some { IfSome result (λ m.
+            queue_in self.old.files file.now ≡ m ∷ drop 1 (queue_in self.old.files file.now)) }
+        ensures none { IfNone result (queue_in self.old.files file.now ≡ []) }
+        ensures rest { self.new
+            ≡ with_socket_and_room self.old file.now popped self.new.message_room }
+    {
+        let row = self.rows.get_mut(file)?;
+        row.pop(&mut self.nodes, file.ino())
+    }
+
+    /// Takes from the queue of that socket what a receive of at most this many bytes gives
+    /// (recvmsg(2)); nothing for a plain or unknown file. On an error nothing has changed.
+    #[inline(always)]
+    #[tactic(auto, using(crate::proofs::TrackedTableView::messages, ordered_slab::proofs::Parts::parts))]
+    pub fn take(&mut self, file: &FileRef, alloc: Global, max: usize) -> Result<Taken, AllocError>
+        requires { 0 < max }
+        ensures taken { IfOk result (λ t. t ≡ received_of (socket_in self.old.files file.now) max) }
+        ensures rest { OnOk result (self.new
+            ≡ with_socket_and_room self.old file.now (received_from max) self.new.message_room) }
+        ensures err { OnErr result (self.new ≡ self.old) }
+    {
+        let Some(row) = self.rows.get_mut(file) else {
+            return Ok(Taken::nothing(alloc));
+        };
+        row.take(&mut self.nodes, file.ino(), alloc, max)
+    }
+
+    /// Adds one place of a file, which is known. Returns whether it had none. Takes no memory.
+    #[inline(always)]
+    #[tactic(auto, using(crate::proofs::TrackedTableView::chains, ordered_slab::proofs::Parts::parts, ordered_slab::proofs::Values::lent, af_ledger::proofs::Unreferenced::counted))]
+    pub fn add_place(&mut self, place: &Place, file: &FileRef) -> bool
+        requires known { IsTrue (map.contains_key self.old.counts file.now) }
+        requires countable { IsCountable place.now (count_in_map self.old.counts file.now) }
+        ensures counts { self.new ≡ record self.old {
+          counts = map.insert self.old.counts file.now
+              (more place.now (count_in_map self.old.counts file.now));
+        } }
+        ensures len { map.len self.new.counts ≡ map.len self.old.counts }
+        ensures first { result ≡ nat_eq (places_in (count_in_map self.old.counts file.now)) 0 }
+    {
+        let row = self.rows.get_mut(file).unwrap();
+        let first = row.count.is_none();
+        row.count.add(place);
+        first
+    }
+
+    /// Drops one place of a file, which has one. Returns whether it was the last. Takes no memory.
+    #[inline(always)]
+    #[tactic(auto, using(crate::proofs::TrackedTableView::chains, ordered_slab::proofs::Parts::parts, ordered_slab::proofs::Values::lent, af_ledger::proofs::Unreferenced::counted))]
+    pub fn sub_place(&mut self, place: &Place, file: &FileRef) -> bool
+        requires { IsCounted place.now (count_in_map self.old.counts file.now) }
+        ensures counts { self.new ≡ record self.old {
+          counts = map.insert self.old.counts file.now
+              (fewer place.now (count_in_map self.old.counts file.now));
+        } }
+        ensures len { map.len self.new.counts ≡ map.len self.old.counts }
+        ensures last { result ≡ nat_eq (places_in (count_in_map self.old.counts file.now)) 1 }
+    {
+        let row = self.rows.get_mut(file).unwrap();
+        row.count.sub(place);
+        row.count.is_none()
+    }
+
+    /// Returns the mark of a file, if it is known.
+    #[inline(always)]
+    #[tactic(auto, using(crate::proofs::TrackedTableView::chains, ordered_slab::proofs::Parts::parts))]
+    pub fn mark(&self, file: &FileRef) -> Option<Mark>
+        ensures { result ≡ map.get self.now.marks file.now }
+    {
+        let row = self.rows.get(file)?;
+        Some(row.mark)
+    }
+
+    /// Sets the mark of a file, which is known. Takes no memory.
+    #[inline(always)]
+    #[tactic(auto, using(crate::proofs::TrackedTableView::chains, ordered_slab::proofs::Parts::parts, ordered_slab::proofs::Values::lent))]
+    pub fn set_mark(&mut self, file: &FileRef, mark: Mark)
+        requires { IsTrue (map.contains_key self.old.marks file.now) }
+        ensures set { self.new
+            ≡ record self.old { marks = map.insert self.old.marks file.now mark } }
+        ensures len { map.len self.new.marks ≡ map.len self.old.marks }
+    {
+        let row = self.rows.get_mut(file).unwrap();
+        row.mark = mark;
+    }
+
+    /// Marks a file that a table holds, if it is not marked in this pass. It is grey, with this
+    /// place in the list, or black at once, if it holds nothing and may be scanned. Returns whether
+    /// it is black, and nothing where it was not marked now.
+    #[inline(always)]
+    #[tactic(auto, using(crate::proofs::TrackedTableView::chains, ordered_slab::proofs::Parts::parts, ordered_slab::proofs::Values::lent))]
+    pub fn visit(&mut self, file: &FileRef, epoch: u64, at: u32, may_scan: bool) -> Option<bool>
+        ensures due { is_some result ≡ is_due epoch self.old.counts self.old.marks file.now }
+        ensures marked { IfSome result (λ black. self.new ≡ record self.old {
+          marks = map.insert self.old.marks file.now (marking epoch at black);
+        }) }
+        ensures len { map.len self.new.marks ≡ map.len self.old.marks }
+        ensures bare { IfSome result (λ black.
+            black ≡ true → held_in self.old.files file.now ≡ []) }
+        ensures asked { IfSome result (λ black. black ≡ true → may_scan ≡ true) }
+        ensures none { IfNone result (self.new ≡ self.old) }
+    {
+        let Some(row) = self.rows.get_mut(file) else {
+            return None;
+        };
+        if row.count.tabled == 0 || !matches!(row.mark.color_in(epoch), Color::White) {
+            return None;
+        }
+        let black = may_scan && row.is_bare(&self.nodes);
+        let color = if black { Color::Black } else { Color::Grey };
+        row.mark = Mark { epoch, color, at };
+        Some(black)
+    }
+
+    /// Returns whether a file is dirty, if it is known.
+    #[inline(always)]
+    #[tactic(auto, using(crate::proofs::TrackedTableView::chains, ordered_slab::proofs::Parts::parts))]
+    pub fn dirty_flag(&self, file: &FileRef) -> Option<bool>
+        ensures { result ≡ map.get self.now.dirty file.now }
+    {
+        let row = self.rows.get(file)?;
+        Some(row.is_dirty())
+    }
+
+    /// Returns whether a file is dirty; an unknown one is not.
+    #[inline(always)]
+    pub fn is_dirty(&self, file: &FileRef) -> bool
+        ensures { result ≡ option_map_or (λ b. b) (map.get self.now.dirty file.now) false }
+    {
+        matches!(self.dirty_flag(file), Some(true))
+    }
+
+    /// Returns the position of a file in the list of dirty ones: a hint.
+    #[inline(always)]
+    pub fn list_index(&self, file: &FileRef) -> usize {
+        match self.rows.get(file) {
+            Some(row) => row.list_index(),
+            None => 0,
+        }
+    }
+
+    /// Keeps the position of a file in that list: a hint, which no contract sees.
+    #[inline(always)]
+    #[tactic(auto, using(crate::proofs::TrackedTableView::rows, ordered_slab::proofs::Parts::parts))]
+    pub fn set_list_index(&mut self, file: &FileRef, index: u32)
+        ensures { self.new ≡ self.old }
+    {
+        let Some(row) = self.rows.get_mut(file) else {
+            return;
+        };
+        row.set_list_index(index);
+    }
+
+    /// Sets whether a file, which is known, is dirty. Takes no memory.
+    #[inline(always)]
+    #[tactic(auto, using(crate::proofs::TrackedTableView::chains, ordered_slab::proofs::Parts::parts, ordered_slab::proofs::Values::lent))]
+    pub fn set_dirty(&mut self, file: &FileRef, dirty: bool)
+        requires { IsTrue (map.contains_key self.old.dirty file.now) }
+        ensures set { self.new
+            ≡ record self.old { dirty = map.insert self.old.dirty file.now dirty } }
+        ensures len { map.len self.new.dirty ≡ map.len self.old.dirty }
+    {
+        let row = self.rows.get_mut(file).unwrap();
+        row.set_dirty(dirty);
+    }
+
+    /// Does nothing at run time. Shows that all parts of a file come and go together.
+    #[tactic(auto, using(crate::proofs::TrackedTableView::chains, ordered_slab::proofs::Parts::parts))]
+    pub fn lemma_are_one(&self)
+        ensures marks { (f : ℕ) → map.contains_key self.now.marks f
+            ≡ map.contains_key self.now.files f }
+        ensures counts { (f : ℕ) → map.contains_key self.now.counts f
+            ≡ map.contains_key self.now.files f }
+        ensures dirty { (f : ℕ) → map.contains_key self.now.dirty f
+            ≡ map.contains_key self.now.files f }
+        ensures len { map.len self.now.dirty ≡ map.len self.now.counts }
+    {
+        // The view says it: it is enough to look at a field.
+        let _rows = &self.rows;
+    }
+
+    /// Returns the key of the row of a number, if there is one, by a search. A `FileRef` needs
+    /// none.
+    #[tactic(auto, using(crate::proofs::TrackedTableView::chains, ordered_slab::proofs::Parts::parts))]
+    pub fn find(&self, ino: Ino) -> Option<FileRef>
+        ensures there { IfSome result (λ f.
+            (f ≡ ino) × IsTrue (map.contains_key self.now.files ino)) }
+        ensures none { IfNone result (map.contains_key self.now.files ino ≡ false) }
+        ensures uncounted { IfNone result (map.contains_key self.now.counts ino ≡ false) }
+    {
+        self.rows.find(ino)
+    }
+
+    /// Returns the least number above this one that has a row, if there is one, and its position in
+    /// the order. This number need not have a row. Behind the last answer it needs no search.
+    #[inline(always)]
+    #[tactic(auto, using(crate::proofs::TrackedTableView::chains, ordered_slab::proofs::Parts::parts))]
+    pub fn next_after(&self, ino: Ino, at: usize) -> Option<(FileRef, usize)>
+        ensures above { IfSome result (λ n. ino < n.0) }
+        ensures there { IfSome result (λ n. IsTrue (map.contains_key self.now.files n.0)) }
+        ensures least { IfSome result (λ n.
+            (q : ℕ) → ino < q → q < n.0 → map.contains_key self.now.files q ≡ false) }
+        ensures none { IfNone result
+            ((q : ℕ) → ino < q → map.contains_key self.now.files q ≡ false) }
+    {
+        self.rows.next_after(ino, at)
+    }
+}

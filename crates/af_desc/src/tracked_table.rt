@@ -1,0 +1,642 @@
+//! The rows of all files, and beside them the lists of freed files and changed sockets.
+ghost use Rattle.std.specs.Prelude.{◌≡◌, ℕ, ◌+◌, ◌≤◌, ◌<◌, ◌∷◌, [], true, false, None, IsTrue};
+ghost use Rattle.std.specs.Prelude.{IsOk, IfSome, IfNone, IfErr, IfOk, OnOk, OnErr, drop, is_none};
+ghost use Rattle.std.specs.Prelude.{is_some, length, nat_eq, option_copied, vec_capacity, cond};
+ghost use Rattle.std.specs.FinMap as map;
+ghost use Rattle.af_base.specs.Changes.{connected, dequeued, listening, pushed, queued, with_name};
+ghost use Rattle.af_base.specs.Counts.{count_in};
+ghost use Rattle.af_base.specs.Places.{backlog_in, held_in, queue_in};
+ghost use Rattle.af_base.specs.Refusals.{room_of};
+ghost use Rattle.af_base.specs.Whole.{IsMessageWithin};
+ghost use Rattle.af_base.specs.World.{untold};
+ghost use Rattle.af_ledger.specs.Counted.{fewer, more, places_in, IsCountable, IsCounted};
+ghost use Rattle.af_ledger.specs.Tally.{count_in_map};
+ghost use Rattle.af_desc.specs.FilesView.{hung_up, popped, received_from, received_of, socket_in};
+ghost use Rattle.af_desc.specs.TrackedTableView.{file_of, is_due, is_white_in, marking, with_row};
+ghost use Rattle.af_desc.specs.TrackedTableView.{with_socket, with_socket_and_room, without_row};
+ghost use Rattle.af_base.specs.Told.{AreChanged, AreReleased};
+ghost use Rattle.af_desc.specs.Told.{IsDirtyList, MakesDirty};
+
+use crate::file_table::FileTable;
+use crate::socket::{Endpoint, Socket};
+use af_base::file_list::swap_remove_file;
+use af_base::ids::{FileRef, Ino};
+use af_base::items::Items;
+use af_base::limits::MAX_MESSAGES;
+use af_ledger::{Count, Place};
+use af_mark::{Mark, clamp_index};
+use af_queue::{Msg, Taken};
+use std::alloc::{AllocError, Global};
+use std::marker::Model;
+use std::snapshot::Snapshot;
+
+/// The rows of all files; and, where a program asks for it, the list of the files that were freed
+/// and that of the sockets whose readiness may have changed, since both were emptied last. A
+/// contract sees the files as they were then, and not the lists.
+#[derive(Drop)]
+pub struct TrackedTable {
+    table: FileTable,
+    /// For how many files in all there is room in each list of files that is kept, here and in
+    /// `Files`.
+    space: usize,
+    /// Whether the list of changed sockets is kept.
+    tells_changed: bool,
+    /// The files that are dirty.
+    changed: Vec<FileRef>,
+    /// Whether the list of freed files is kept.
+    tells_released: bool,
+    /// The numbers of those that were freed.
+    released: Vec<Ino>,
+    /// The rows when the lists were emptied last: for contracts alone.
+    since: Snapshot<FileTable>,
+}
+
+impl Model for TrackedTable {
+    ghost use Rattle.std.specs.FinMap as map;
+    ghost use Rattle.std.specs.Coded.{codes};
+    ghost use Rattle.std.specs.Prelude.{◌+◌, vec_capacity};
+    ghost use Rattle.af_desc.specs.Told.{AreTold, since_of};
+    ghost use Rattle.af_desc.specs.TrackedTableView.{TrackedTableView};
+
+    ghost Value = { TrackedTableView };
+
+    ghost coded = { Prim.hlevel (codes, map.code) };
+
+    ghost view = { λ a. record {
+      files = a.table.files;
+      counts = a.table.counts;
+      marks = a.table.marks;
+      since = since_of a.tells_changed a.tells_released a.since.value;
+      last = a.table.last;
+      room = a.table.room;
+      space = a.space;
+      message_room = a.table.message_room;
+    } };
+
+    ghost invariant = { λ a. AreTold a.table a.changed.items
+        (vec_capacity a.changed) a.released.items (vec_capacity a.released) a.space
+        (since_of a.tells_changed a.tells_released a.since.value) };
+}
+
+impl TrackedTable {
+    /// Makes an empty table. Takes no memory.
+    pub fn new(alloc: Global) -> TrackedTable
+        ensures files { result.files ≡ map.empty }
+        ensures counts { result.counts ≡ map.empty }
+        ensures marks { result.marks ≡ map.empty }
+        ensures since { result.since ≡ untold }
+        ensures last { result.last ≡ 0 }
+        ensures space { result.space ≡ 0 }
+    {
+        let table = FileTable::new(alloc);
+        let since = Snapshot::of(&table);
+        TrackedTable {
+            table,
+            space: 0,
+            tells_changed: false,
+            changed: Vec::new(alloc),
+            tells_released: false,
+            released: Vec::new(alloc),
+            since,
+        }
+    }
+
+    /// Returns how many rows there are.
+    #[inline(always)]
+    pub fn len(&self) -> usize
+        ensures files { result ≡ map.len self.now.files }
+        ensures counts { result ≡ map.len self.now.counts }
+        ensures marks { result ≡ map.len self.now.marks }
+    {
+        self.table.len()
+    }
+
+    /// Returns for how many files in all each list of files has room.
+    #[inline(always)]
+    pub fn space(&self) -> usize
+        ensures { result ≡ self.now.space }
+    {
+        self.space
+    }
+
+    /// Reserves room for this many rows more. Nothing else changes, also on an error.
+    #[inline(always)]
+    pub fn reserve(&mut self, rows: usize) -> Result<(), AllocError>
+        ensures same { self.new ≡ record self.old { room = self.new.room } }
+        ensures ok { OnOk result (rows ≤ self.new.room) }
+        ensures room { self.old.room ≤ self.new.room }
+        ensures succeeds { rows ≤ self.old.room → IsOk result }
+    {
+        self.table.reserve(rows)
+    }
+
+    /// Reserves room for this many files in all in both lists, so far as they are kept. The other
+    /// lists of files have room for `most`. Nothing else changes, also on an error.
+    #[inline(always)]
+    pub fn widen_lists(&mut self, all: usize, most: usize) -> Result<(), AllocError>
+        requires { all ≤ most }
+        ensures same { self.new ≡ record self.old { space = self.new.space } }
+        ensures ok { OnOk result (all ≤ self.new.space) }
+        ensures most { OnOk result (self.new.space ≤ most) }
+        ensures err { OnErr result (self.new.space ≡ self.old.space) }
+    {
+        let mut space = most;
+        if self.tells_changed {
+            widen(&mut self.changed, all)?;
+            space = space.min(self.changed.capacity());
+        }
+        if self.tells_released {
+            let freed = self.released.len();
+            widen(&mut self.released, all.saturating_add(freed))?;
+            space = space.min(self.released.capacity() - freed);
+        }
+        self.space = space;
+        Ok(())
+    }
+
+    /// Adds a file, under the number after the last, with an empty queue, unmarked, and with this
+    /// place as its first reference. There is room for it, also in the lists.
+    #[inline(always)]
+    pub fn push(&mut self, ino: Ino, endpoint: Option<Endpoint>, place: &Place) -> FileRef
+        requires room { 0 < self.old.room }
+        requires space { map.len self.old.counts < self.old.space }
+        requires next { ino ≡ self.old.last + 1 }
+        ensures file { result ≡ ino }
+        ensures pushed { self.new
+            ≡ with_row ino (file_of endpoint) place.now self.new.room self.old }
+        ensures new { map.contains_key self.old.files ino ≡ false }
+        ensures uncounted { map.contains_key self.old.counts ino ≡ false }
+        ensures unmarked { map.contains_key self.old.marks ino ≡ false }
+        ensures room { self.old.room ≤ self.new.room + 1 }
+    {
+        self.table.lemma_are_one();
+        // Nobody is told of a plain file: it is always ready.
+        let is_socket = endpoint.is_some();
+        let file = self.table.push(ino, endpoint, place);
+        add_dirty(
+            self.tells_changed && is_socket,
+            &mut self.table,
+            &mut self.changed,
+            &file,
+        );
+        file
+    }
+
+    /// Removes a file whose queue is empty, and returns its socket, if it was one. Returns also
+    /// whether it was known, and unmarked in this pass. Takes no memory.
+    #[inline(always)]
+    pub fn remove(&mut self, file: &FileRef, epoch: u64) -> (Option<Endpoint>, bool)
+        requires silent { queue_in self.old.files file.now ≡ [] }
+        ensures socket { result.0 ≡ socket_in self.old.files file.now }
+        ensures white { result.1 ≡ is_white_in epoch self.old.marks file.now }
+        ensures removed { self.new ≡ without_row file.now self.new.room self.new.space self.old }
+        ensures room { self.old.room ≤ self.new.room }
+        ensures space { self.new.space ≤ self.old.space }
+    {
+        tell_released(
+            self.tells_released,
+            &self.table,
+            &mut self.released,
+            &mut self.space,
+            file,
+        );
+        remove_listed(&mut self.table, &mut self.changed, file);
+        self.table.remove(file, epoch)
+    }
+
+    /// Returns the socket that a file is; `None` for a plain or unknown file.
+    #[inline(always)]
+    pub fn socket(&self, file: &FileRef) -> Option<Socket<'_>>
+        ensures { result ≡ socket_in self.now.files file.now }
+    {
+        self.table.socket(file)
+    }
+
+    /// Returns how many places hold a file; 0 for an unknown one.
+    #[inline(always)]
+    pub fn count(&self, file: &FileRef) -> Option<&Count>
+        ensures { option_copied result ≡ map.get self.now.counts file.now }
+    {
+        self.table.count(file)
+    }
+
+    /// Sets the hint of a new socket to the key of its peer.
+    #[inline(always)]
+    pub fn set_peer_hint(&mut self, file: &FileRef, peer: &FileRef)
+        ensures { self.new ≡ self.old }
+    {
+        self.table.set_peer_hint(file, peer);
+    }
+
+    /// Marks the peer of that socket as gone.
+    #[inline(always)]
+    pub fn hang_up(&mut self, file: &FileRef)
+        ensures { self.new ≡ with_socket self.old file.now hung_up }
+    {
+        add_dirty(self.tells_changed, &mut self.table, &mut self.changed, file);
+        self.table.hang_up(file);
+    }
+
+    /// Connects that socket to this peer.
+    #[inline(always)]
+    pub fn connect(&mut self, file: &FileRef, peer: &FileRef)
+        ensures { self.new ≡ with_socket self.old file.now (connected peer.now) }
+    {
+        add_dirty(self.tells_changed, &mut self.table, &mut self.changed, file);
+        self.table.connect(file, peer);
+    }
+
+    /// Gives that socket, which has no name, this one. On an error nothing has changed.
+    #[inline(always)]
+    pub fn bind(&mut self, file: &FileRef, alloc: Global, name: Items<u8>) -> Result<(), AllocError>
+        requires { IfSome (socket_in self.old.files file.now) (λ s. s.name ≡ None) }
+        ensures ok { OnOk result (self.new ≡ with_socket self.old file.now (with_name name)) }
+        ensures err { OnErr result (self.new ≡ self.old) }
+    {
+        self.table.bind(file, alloc, name)
+    }
+
+    /// Makes that socket, which has a name and no embryos, a listener with this backlog. On an
+    /// error nothing has changed.
+    #[inline(always)]
+    pub fn listen(&mut self, file: &FileRef, alloc: Global, most: u32) -> Result<(), AllocError>
+        requires named { IfSome (socket_in self.old.files file.now) (λ s. is_none s.name ≡ false) }
+        requires nobody { IfSome (socket_in self.old.files file.now) (λ s. s.backlog ≡ []) }
+        ensures ok { OnOk result (self.new ≡ with_socket self.old file.now (listening most)) }
+        ensures err { OnErr result (self.new ≡ self.old) }
+    {
+        self.table.listen(file, alloc, most)?;
+        add_dirty(self.tells_changed, &mut self.table, &mut self.changed, file);
+        Ok(())
+    }
+
+    /// Appends an embryo to the backlog of that listener, which has room for it.
+    #[inline(always)]
+    pub fn enqueue(&mut self, file: &FileRef, embryo: FileRef)
+        requires { IfSome (socket_in self.old.files file.now) (λ s.
+            length s.backlog < room_of s.state) }
+        ensures { self.new ≡ with_socket self.old file.now (queued embryo) }
+    {
+        add_dirty(self.tells_changed, &mut self.table, &mut self.changed, file);
+        self.table.enqueue(file, embryo);
+    }
+
+    /// Removes the first embryo of that listener, if there is one.
+    #[inline(always)]
+    pub fn dequeue(&mut self, file: &FileRef) -> Option<FileRef>
+        ensures some { IfSome result (λ f.
+            backlog_in self.old.files file.now ≡ f ∷ drop 1 (backlog_in self.old.files file.now)) }
+        ensures none { IfNone result (backlog_in self.old.files file.now ≡ []) }
+        ensures rest { self.new ≡ with_socket self.old file.now dequeued }
+    {
+        let embryo = self.table.dequeue(file)?;
+        add_dirty(self.tells_changed, &mut self.table, &mut self.changed, file);
+        Some(embryo)
+    }
+
+    /// Makes room for one message more, so that the next `push_message` cannot fail.
+    pub fn room_for_message(&mut self) -> Result<(), AllocError>
+        ensures ok { OnOk result (self.new.message_room ≡ true) }
+        ensures succeeds { self.old.message_room ≡ true → IsOk result }
+        ensures rest { self.new ≡ record self.old { message_room = self.new.message_room } }
+    {
+        self.table.room_for_message()
+    }
+
+    /// Appends a message to the queue of that socket, which is not full. For a plain or unknown
+    /// file it drops the message. Cannot fail, since there is room.
+    #[inline(always)]
+    pub fn push_message(&mut self, file: &FileRef, message: Msg)
+        requires few { length (queue_in self.old.files file.now) < MAX_MESSAGES }
+        requires within { IsMessageWithin message }
+        requires room { self.old.message_room ≡ true }
+        ensures { self.new
+            ≡ with_socket_and_room self.old file.now (pushed message) self.new.message_room }
+    {
+        add_dirty(self.tells_changed, &mut self.table, &mut self.changed, file);
+        self.table.push_message(file, message);
+    }
+
+    /// Removes the first message from the queue of that socket, if there is one. Takes no memory.
+    #[inline(always)]
+    pub fn pop_message(&mut self, file: &FileRef) -> Option<Msg>
+        ensures some { IfSome result (λ m.
+            queue_in self.old.files file.now ≡ m ∷ drop 1 (queue_in self.old.files file.now)) }
+        ensures none { IfNone result (queue_in self.old.files file.now ≡ []) }
+        ensures rest { self.new
+            ≡ with_socket_and_room self.old file.now popped self.new.message_room }
+    {
+        let message = self.table.pop_message(file)?;
+        add_dirty(self.tells_changed, &mut self.table, &mut self.changed, file);
+        Some(message)
+    }
+
+    /// Takes from the queue of that socket what a receive of at most this many bytes gives
+    /// (recvmsg(2)); nothing for a plain or unknown file. On an error nothing has changed.
+    #[inline(always)]
+    pub fn take(&mut self, file: &FileRef, alloc: Global, max: usize) -> Result<Taken, AllocError>
+        requires { 0 < max }
+        ensures taken { IfOk result (λ t. t ≡ received_of (socket_in self.old.files file.now) max) }
+        ensures rest { OnOk result (self.new
+            ≡ with_socket_and_room self.old file.now (received_from max) self.new.message_room) }
+        ensures err { OnErr result (self.new ≡ self.old) }
+    {
+        let taken = self.table.take(file, alloc, max)?;
+        add_dirty(self.tells_changed, &mut self.table, &mut self.changed, file);
+        Ok(taken)
+    }
+
+    /// Adds one place of a file, which is known. Returns whether it had none. Takes no memory.
+    #[inline(always)]
+    pub fn add_place(&mut self, place: &Place, file: &FileRef) -> bool
+        requires known { IsTrue (map.contains_key self.old.counts file.now) }
+        requires countable { IsCountable place.now (count_in_map self.old.counts file.now) }
+        ensures counts { self.new ≡ record self.old {
+          counts = map.insert self.old.counts file.now
+              (more place.now (count_in_map self.old.counts file.now));
+        } }
+        ensures len { map.len self.new.counts ≡ map.len self.old.counts }
+        ensures first { result ≡ nat_eq (places_in (count_in_map self.old.counts file.now)) 0 }
+    {
+        self.table.add_place(place, file)
+    }
+
+    /// Drops one place of a file, which has one. Returns whether it was the last. Takes no memory.
+    #[inline(always)]
+    pub fn sub_place(&mut self, place: &Place, file: &FileRef) -> bool
+        requires { IsCounted place.now (count_in_map self.old.counts file.now) }
+        ensures counts { self.new ≡ record self.old {
+          counts = map.insert self.old.counts file.now
+              (fewer place.now (count_in_map self.old.counts file.now));
+        } }
+        ensures len { map.len self.new.counts ≡ map.len self.old.counts }
+        ensures last { result ≡ nat_eq (places_in (count_in_map self.old.counts file.now)) 1 }
+    {
+        self.table.sub_place(place, file)
+    }
+
+    /// Returns the mark of a file, if it is known.
+    #[inline(always)]
+    pub fn mark(&self, file: &FileRef) -> Option<Mark>
+        ensures { result ≡ map.get self.now.marks file.now }
+    {
+        self.table.mark(file)
+    }
+
+    /// Sets the mark of a file, which is known. Takes no memory.
+    #[inline(always)]
+    pub fn set_mark(&mut self, file: &FileRef, mark: Mark)
+        requires { IsTrue (map.contains_key self.old.marks file.now) }
+        ensures set { self.new
+            ≡ record self.old { marks = map.insert self.old.marks file.now mark } }
+        ensures len { map.len self.new.marks ≡ map.len self.old.marks }
+    {
+        self.table.set_mark(file, mark);
+    }
+
+    /// Marks a file that a table holds, if it is not marked in this pass. It is grey, with this
+    /// place in the list, or black at once, if it holds nothing and may be scanned. Returns whether
+    /// it is black, and nothing where it was not marked now.
+    #[inline(always)]
+    pub fn visit(&mut self, file: &FileRef, epoch: u64, at: u32, may_scan: bool) -> Option<bool>
+        ensures due { is_some result ≡ is_due epoch self.old.counts self.old.marks file.now }
+        ensures marked { IfSome result (λ black. self.new ≡ record self.old {
+          marks = map.insert self.old.marks file.now (marking epoch at black);
+        }) }
+        ensures len { map.len self.new.marks ≡ map.len self.old.marks }
+        ensures bare { IfSome result (λ black.
+            black ≡ true → held_in self.old.files file.now ≡ []) }
+        ensures asked { IfSome result (λ black. black ≡ true → may_scan ≡ true) }
+        ensures none { IfNone result (self.new ≡ self.old) }
+    {
+        self.table.visit(file, epoch, at, may_scan)
+    }
+
+    /// Does nothing at run time. Shows that all parts of a file come and go together.
+    pub fn lemma_are_one(&self)
+        ensures { (f : ℕ) → map.contains_key self.now.marks f ≡ map.contains_key self.now.files f }
+    {
+        self.table.lemma_are_one();
+    }
+
+    /// Returns the key of the row of a number, if there is one, by a search. A `FileRef` needs
+    /// none.
+    pub fn find(&self, ino: Ino) -> Option<FileRef>
+        ensures there { IfSome result (λ f.
+            (f ≡ ino) × IsTrue (map.contains_key self.now.files ino)) }
+        ensures none { IfNone result (map.contains_key self.now.files ino ≡ false) }
+        ensures uncounted { IfNone result (map.contains_key self.now.counts ino ≡ false) }
+    {
+        self.table.find(ino)
+    }
+
+    /// Returns the least number above this one that has a row, if there is one, and its position in
+    /// the order. This number need not have a row. Behind the last answer it needs no search.
+    #[inline(always)]
+    pub fn next_after(&self, ino: Ino, at: usize) -> Option<(FileRef, usize)>
+        ensures above { IfSome result (λ n. ino < n.0) }
+        ensures there { IfSome result (λ n. IsTrue (map.contains_key self.now.files n.0)) }
+        ensures least { IfSome result (λ n.
+            (q : ℕ) → ino < q → q < n.0 → map.contains_key self.now.files q ≡ false) }
+        ensures none { IfNone result
+            ((q : ℕ) → ino < q → map.contains_key self.now.files q ≡ false) }
+    {
+        self.table.next_after(ino, at)
+    }
+
+    /// Tells from now on which files are freed. Both lists are empty then. On an error nothing has
+    /// changed.
+    pub fn tell_released(&mut self) -> Result<(), AllocError>
+        ensures ok { OnOk result (self.new ≡ record self.old {
+          since = record {
+            changed = self.old.since.changed;
+            released = true;
+            files = self.old.files;
+            next = self.old.last + 1;
+          };
+          space = self.new.space;
+        }) }
+        ensures space { self.new.space ≤ self.old.space }
+        ensures err { OnErr result (self.new ≡ self.old) }
+    {
+        widen(&mut self.released, self.table.len())?;
+        self.table.lemma_are_one();
+        clear_dirty(&mut self.table, &mut self.changed);
+        self.released.clear();
+        self.since = Snapshot::of(&self.table);
+        self.tells_released = true;
+        self.space = self.space.min(self.released.capacity());
+        Ok(())
+    }
+
+    /// Tells from now on whose readiness may have changed. Both lists are empty then. On an error
+    /// nothing has changed.
+    pub fn tell_changed(&mut self) -> Result<(), AllocError>
+        ensures ok { OnOk result (self.new ≡ record self.old {
+          since = record {
+            changed = true;
+            released = self.old.since.released;
+            files = self.old.files;
+            next = self.old.last + 1;
+          };
+          space = self.new.space;
+        }) }
+        ensures space { self.new.space ≤ self.old.space }
+        ensures err { OnErr result (self.new ≡ self.old) }
+    {
+        widen(&mut self.changed, self.table.len())?;
+        self.table.lemma_are_one();
+        clear_dirty(&mut self.table, &mut self.changed);
+        self.released.clear();
+        self.since = Snapshot::of(&self.table);
+        self.tells_changed = true;
+        self.space = self.space.min(self.changed.capacity());
+        Ok(())
+    }
+
+    /// Returns the numbers of the files that were freed since the lists were last emptied, each
+    /// once, if that list is kept.
+    pub fn released_files(&self) -> &[Ino]
+        ensures { self.now.since.released ≡ true
+            → AreReleased self.now.files (self.now.last + 1) self.now.since result.now }
+    {
+        self.table.lemma_are_one();
+        self.released.as_slice()
+    }
+
+    /// Returns the sockets whose readiness may have changed since the lists were last emptied, each
+    /// once, if that list is kept.
+    pub fn changed_sockets(&self) -> &[FileRef]
+        ensures { self.now.since.changed ≡ true
+            → AreChanged self.now.files self.now.since result.now }
+    {
+        self.table.lemma_are_one();
+        self.changed.as_slice()
+    }
+
+    /// Empties both lists. It takes no memory.
+    pub fn clear_told(&mut self)
+        ensures { self.new ≡ record self.old {
+          since = record self.old.since { files = self.old.files; next = self.old.last + 1 };
+        } }
+    {
+        self.table.lemma_are_one();
+        clear_dirty(&mut self.table, &mut self.changed);
+        self.released.clear();
+        self.since = Snapshot::of(&self.table);
+    }
+}
+
+/// Reserves room for this many files in a list. Nothing else changes, also on an error.
+#[inline(always)]
+pub(crate) fn widen<T>(list: &mut Vec<T>, files: usize) -> Result<(), AllocError>
+    ensures items { list.new.items ≡ list.old.items }
+    ensures ok { OnOk result (files ≤ vec_capacity list.new) }
+    ensures capacity { vec_capacity list.old ≤ vec_capacity list.new }
+{
+    if files <= list.capacity() {
+        return Ok(());
+    }
+    list.reserve(files - list.len())
+}
+
+/// Adds a socket to the list of changed ones, if that list is kept; it has room. Takes no memory.
+#[inline(always)]
+fn add_dirty(asked: bool, table: &mut FileTable, changed: &mut Vec<FileRef>, file: &FileRef)
+    requires fits { asked ≡ true → map.len table.old.dirty ≤ vec_capacity changed.old }
+    requires listed { IsDirtyList table.old.dirty changed.old.items }
+    ensures dirty { MakesDirty asked table.old table.new file.now }
+    ensures listed { IsDirtyList table.new.dirty changed.new.items }
+    ensures capacity { vec_capacity changed.new ≡ vec_capacity changed.old }
+{
+    if !asked {
+        return;
+    }
+    let Some(false) = table.dirty_flag(file) else {
+        return;
+    };
+    if table.socket(file).is_none() {
+        return;
+    }
+    table.set_dirty(file, true);
+    table.set_list_index(file, clamp_index(changed.len()));
+    changed.push_reserved(file.duplicate());
+}
+
+/// Adds a file that is freed to the list of freed ones, if that list is kept; it has room. Ignores
+/// an unknown file. There is room then for fewer live files. Takes no memory.
+#[inline(always)]
+fn tell_released(
+    asked: bool,
+    table: &FileTable,
+    released: &mut Vec<Ino>,
+    space: &mut usize,
+    file: &FileRef,
+)
+    requires fits { asked ≡ true
+        → length released.old.items + map.len table.now.counts ≤ vec_capacity released.old }
+    requires space { asked ≡ true
+        → length released.old.items + space.old ≤ vec_capacity released.old }
+    ensures goes { asked ≡ true → (f : ℕ) → count_in f released.new.items
+        + cond (map.contains_key (map.remove table.now.counts file.now) f) 1 0
+        ≡ count_in f released.old.items + cond (map.contains_key table.now.counts f) 1 0 }
+    ensures len { asked ≡ true
+        → length released.new.items + map.len (map.remove table.now.counts file.now)
+        ≡ length released.old.items + map.len table.now.counts }
+    ensures still { asked ≡ false → released.new.items ≡ released.old.items }
+    ensures capacity { vec_capacity released.new ≡ vec_capacity released.old }
+    ensures space { asked ≡ true
+        → length released.new.items + space.new ≤ vec_capacity released.new }
+    ensures less { space.new ≤ space.old }
+{
+    if !asked {
+        return;
+    }
+    if table.count(file).is_none() {
+        return;
+    }
+    released.push_reserved(file.ino());
+    *space = (*space).min(released.capacity() - released.len());
+}
+
+/// Removes a freed file from the list of dirty ones.
+#[inline(always)]
+fn remove_listed(table: &mut FileTable, changed: &mut Vec<FileRef>, file: &FileRef)
+    requires listed { IsDirtyList table.old.dirty changed.old.items }
+    ensures listed { IsDirtyList (map.remove table.old.dirty file.now) changed.new.items }
+    ensures table { table.new ≡ table.old }
+    ensures capacity { vec_capacity changed.new ≡ vec_capacity changed.old }
+{
+    if changed.is_empty() {
+        return;
+    }
+    if !table.is_dirty(file) {
+        return;
+    }
+    let at = swap_remove_file(changed, file.ino(), table.list_index(file));
+    update_moved_index(table, changed.as_slice(), at);
+}
+
+/// Keeps the position of the file that took that place in the list: a hint.
+fn update_moved_index(table: &mut FileTable, changed: &[FileRef], at: Option<usize>)
+    ensures { table.new ≡ table.old }
+{
+    if let Some(at) = at
+        && let Some(moved) = changed.get(at)
+    {
+        table.set_list_index(moved, clamp_index(at));
+    }
+}
+
+/// Empties the list: no file is dirty then.
+fn clear_dirty(table: &mut FileTable, changed: &mut Vec<FileRef>)
+    requires listed { IsDirtyList table.old.dirty changed.old.items }
+    ensures rest { table.new ≡ record table.old { dirty = table.new.dirty } }
+    ensures listed { IsDirtyList table.new.dirty changed.new.items }
+    ensures len { map.len table.new.dirty ≡ map.len table.old.dirty }
+    ensures capacity { vec_capacity changed.new ≡ vec_capacity changed.old }
+{
+    while let Some(file) = changed.pop() {
+        table.set_dirty(&file, false);
+    }
+}

@@ -1,6 +1,0 @@
-use Rattle.std.proofs.Common.{◌≤◌, ℕ}
-use Rattle.af_layer.specs.Audit.{Has}
-use Rattle.af_layer.proofs.audit.missing.Given as goal
-
-abbrev pub invariant-loop-before : goal.invariant-loop-before
-invariant-loop-before l = (k : ℕ) → 1 ≤ k → k ≤ l.before → Has l.seats k

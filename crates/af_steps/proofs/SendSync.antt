@@ -1,0 +1,81 @@
+-- An engine may go to another thread. The snapshots in the parts of a store and in the rows of files own nothing; for the rest there are generated facts.
+use denote.Param.Send.{IsSend, sendable}
+use denote.Param.SendFields.{declared_send}
+use Rattle.std.proofs.Crossing.{crosses}
+use Rattle.af_base.proofs.ids.FileRef.TheSendSync as file
+use Rattle.af_base.proofs.ids.Ino.TheSendSync as ino
+use Rattle.af_desc.proofs.file_table.FileTable.TheSendSync as lines
+use Rattle.af_desc.specs.contracts.tracked_table.TrackedTable as TrackedTable
+use Rattle.af_desc.specs.contracts.tracked_table.TrackedTable.TheInside as RowsInside
+use Rattle.af_desc.specs.contracts.files.Files as Files
+use Rattle.af_desc.specs.contracts.files.Files.TheInside as FilesInside
+use Rattle.af_listen.proofs.names.Names.TheSendSync as names
+use Rattle.af_table.proofs.procs.Procs.TheSendSync as procs
+use Rattle.af_ledger.proofs.ledger.Ledger.TheSendSync as ledger
+use Rattle.af_collect.specs.contracts.holdings.Holdings as Holdings
+use Rattle.af_collect.specs.contracts.holdings.Holdings.TheInside as HoldingsInside
+use Rattle.af_collect.proofs.progress.PassProgress.TheSendSync as progress
+use Rattle.af_collect.specs.contracts.parts.Collector as Collector
+use Rattle.af_collect.specs.contracts.store.Store as Store
+use Rattle.af_collect.specs.contracts.store.Store.TheInside as StoreInside
+use Rattle.af_steps.specs.contracts.engine.Engine as Engine
+use Rattle.af_steps.specs.contracts.engine.Engine.TheInside as EngineInside
+
+rows_inside : IsSend RowsInside.the_row
+rows_inside =
+    declared_send RowsInside.the_type (
+      search (sendable, crosses, lines.the_send) depth 20,
+      (
+        search sendable,
+        (
+          search sendable,
+          (
+            search (sendable, crosses, file.the_send) depth 20,
+            (search sendable, (search (sendable, crosses, ino.the_send) depth 20, (search (sendable, crosses) depth 20, tt))),
+          ),
+        ),
+      ),
+    )
+
+rows_send : IsSend TrackedTable.the_row
+rows_send = search (sendable, rows_inside) depth 10
+
+files_inside : IsSend FilesInside.the_row
+files_inside =
+    declared_send FilesInside.the_type (
+      search (sendable, crosses) depth 20,
+      (
+        rows_send,
+        (
+          search (sendable, crosses, file.the_send) depth 20,
+          (
+            search (sendable, crosses, file.the_send) depth 20,
+            (search sendable, (search sendable, (search sendable, (search (sendable, crosses, names.the_send) depth 20, (search sendable, (search sendable, tt)))))),
+          ),
+        ),
+      ),
+    )
+
+files_send : IsSend Files.the_row
+files_send = search (sendable, files_inside) depth 10
+
+holdings_inside : IsSend HoldingsInside.the_row
+holdings_inside = declared_send HoldingsInside.the_type (search (sendable, crosses) depth 20, (search (sendable, crosses, procs.the_send) depth 20, (files_send, (search (sendable, crosses, ledger.the_send) depth 20, tt))))
+
+holdings_send : IsSend Holdings.the_row
+holdings_send = search (sendable, holdings_inside) depth 10
+
+parts_send : IsSend Collector.the_row
+parts_send = search (sendable, crosses, holdings_send, progress.the_field_send) depth 40
+
+store_inside : IsSend StoreInside.the_row
+store_inside = declared_send StoreInside.the_type (parts_send, tt)
+
+store_send : IsSend Store.the_row
+store_send = search (sendable, store_inside) depth 10
+
+engine_inside : IsSend EngineInside.the_row
+engine_inside = declared_send EngineInside.the_type (search (sendable, crosses) depth 20, (store_send, (search sendable, tt)))
+
+pub engine_send : IsSend Engine.the_row
+engine_send = search (sendable, engine_inside) depth 10

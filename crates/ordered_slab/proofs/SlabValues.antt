@@ -1,0 +1,287 @@
+-- Look-ups and changes of values under keys.
+use Rattle.std.proofs.Common.{◌≡◌, ℕ, ◌+◌, ◌-◌, ◌<◌, Bool, true, false, ◌||◌, cond, List, [], ◌∷◌, length, zero, suc, refl, sym, ap, ◌∙◌, arith}
+use Rattle.std.specs.Prelude.{Option, Some, None, nat_eq, is_some, count_by, slice_index_or}
+use Rattle.std.specs.Option.{option_map, option_map_or}
+use Rattle.std.specs.List.{list_any}
+use Rattle.std.specs.Ordering.{eq_by_cmp, nat_cmp}
+use Rattle.std.specs.Cmp.{nat_cmp_total, unsigned_tied, nat_eq_equiv}
+use Rattle.std.specs.FinMap as map
+use Rattle.std.specs.FinMap.{get-insert, get-remove, get-empty, same_map, nat_cmp-IsAntisymmetric}
+use Rattle.slab.specs.Slab as slab
+use Rattle.slab.specs.Slab.{Slab}
+use Rattle.std.proofs.lemmas.Bool.{eqb-true, eqb-false, eq-eqb}
+use Rattle.std.proofs.lemmas.List.{get_or-set_same, get_or-set_other}
+use Rattle.std.proofs.lemmas.List.Sums.{sum_by-set}
+use Rattle.af_base.specs.World.{Map}
+use Rattle.af_base.proofs.Lookups.{none_some, some_is, some_same}
+use Rattle.ordered_slab.specs.declared.numbered_value.NumberedValue.{NumberedValue}
+use Rattle.ordered_slab.specs.SlabValues.{value_at, value_of, values_from, values_of, AreInPlace}
+
+module _ {V : Type 0} where
+  -- Two maps that have the same at each number.
+  same : (m n : Map V) → ((q : ℕ) → map.get m q ≡ map.get n q) → m ≡ n
+  same m n h = same_map nat_cmp_total nat_cmp-IsAntisymmetric m n h
+
+  -- The value at an optional key.
+  abbrev under : Slab (NumberedValue V) → Option ℕ → Option V
+  under s o = option_map_or (value_at s) o None
+
+  from_at : (m : Map ℕ) (qs : List ℕ) (s : Slab (NumberedValue V)) (q : ℕ) → map.get (values_from m qs s) q ≡ cond (list_any (eq_by_cmp nat_cmp q) qs) (value_of m s q) None
+  from_at m [] s q = get-empty nat_cmp q
+  from_at m (x ∷ xs) s q = by (from_at m xs s q) (value_of m s x) refl where
+    rest : Option V
+    rest = cond (list_any (eq_by_cmp nat_cmp q) xs) (value_of m s q) None
+
+    here : (b : Bool) → eq_by_cmp nat_cmp q x ≡ b → (o : Option V) → value_of m s x ≡ o → cond b o rest ≡ cond (b || list_any (eq_by_cmp nat_cmp q) xs) (value_of m s q) None
+    here true e o is = sym is ∙ ap (value_of m s) (sym (eqb-true q x (sym (unsigned_tied q x) ∙ e)))
+    here false e o is = refl
+
+    none : (b : Bool) → eq_by_cmp nat_cmp q x ≡ b → value_of m s x ≡ None → rest ≡ cond b None rest
+    none true e is = by_any (list_any (eq_by_cmp nat_cmp q) xs) where
+      gone : value_of m s q ≡ None
+      gone = ap (value_of m s) (eqb-true q x (sym (unsigned_tied q x) ∙ e)) ∙ is
+
+      by_any : (c : Bool) → cond c (value_of m s q) None ≡ None
+      by_any true = gone
+      by_any false = refl
+    none false e is = refl
+
+    by : map.get (values_from m xs s) q ≡ rest → (o : Option V) → value_of m s x ≡ o → map.get (option_map_or (map.insert (values_from m xs s) x) o (values_from m xs s)) q ≡ cond (list_any (eq_by_cmp nat_cmp q) (x ∷ xs)) (value_of m s q) None
+    by others None is = others ∙ none (eq_by_cmp nat_cmp q x) refl is ∙ here (eq_by_cmp nat_cmp q x) refl None is
+    by others (Some v) is = get-insert nat_cmp_total (values_from m xs s) x v q ∙ ap (cond (eq_by_cmp nat_cmp q x) (Some v)) others ∙ here (eq_by_cmp nat_cmp q x) refl (Some v) is
+
+  -- The value of a number is the value at its key.
+  pub looked : (m : Map ℕ) (s : Slab (NumberedValue V)) (q : ℕ) → map.get (values_of m s) q ≡ value_of m s q
+  unfolding values_of
+  looked m s q = from_at m (map.keys m) s q ∙ ap (λ b. cond b (value_of m s q) None) (sym (map.contains_key-keys m q)) ∙ by (map.get m q) where
+    by : (o : Option ℕ) → cond (is_some o) (under s o) None ≡ under s o
+    by None = refl
+    by (Some k) = refl
+
+  -- No number, no value.
+  pub no_values : (m : Map ℕ) (s : Slab (NumberedValue V)) → m ≡ map.empty → values_of m s ≡ map.empty
+  no_values m s e = same _ _ (λ q. looked m s q ∙ ap (under s) (ap (λ m. map.get m q) e ∙ get-empty nat_cmp q) ∙ sym (get-empty nat_cmp q))
+
+  -- Room alone changes no value.
+  pub values_grown : (m : Map ℕ) (s t : Slab (NumberedValue V)) → t.slots ≡ s.slots → values_of m t ≡ values_of m s
+  values_grown m s t ss = same _ _ (λ q. looked m t q ∙ by (map.get m q) ∙ sym (looked m s q)) where
+    by : (o : Option ℕ) → under t o ≡ under s o
+    by None = refl
+    by (Some k) = ap (λ xs. option_map (λ x. x.value) (slice_index_or xs k None)) ss
+
+  -- And leaves all in place.
+  pub grown_in_place : (m : Map ℕ) (s t : Slab (NumberedValue V)) → t.slots ≡ s.slots → AreInPlace m s → AreInPlace m t
+  grown_in_place m s t ss h = record {
+    kept = λ q k at. ap (λ xs. option_map (λ x. x.ino) (slice_index_or xs k None)) ss ∙ h.kept q k at;
+    found = λ k x at. h.found k x (ap (λ xs. slice_index_or xs k None) (sym ss) ∙ at);
+    many = ap map.len (values_grown m s t ss) ∙ h.many ∙ ap (count_by is_some) (sym ss);
+  }
+
+  -- An empty slab has all in place.
+  pub none_in_place : (m : Map ℕ) (s : Slab (NumberedValue V)) → m ≡ map.empty → s.slots ≡ [] → AreInPlace m s
+  none_in_place m s e ss = record {
+    kept = λ q k at. absurd (none_some k (sym (ap (λ m. map.get m q) e ∙ get-empty nat_cmp q) ∙ at));
+    found = λ k x at. absurd (none_some x (sym (ap (λ xs. slice_index_or xs k None) ss) ∙ at));
+    many = ap map.len (no_values m s e) ∙ map.len-empty nat_cmp V ∙ ap (count_by is_some) (sym ss);
+  }
+
+module _ {V : Type 0} (m : Map ℕ) (s : Slab (NumberedValue V)) (h : AreInPlace m s) where
+  -- A number's key is not empty.
+  pub missing : (q k : ℕ) → map.get m q ≡ Some k → slab.get s k ≡ None → ⊥
+  missing q k at none = none_some q (sym (ap (option_map (λ x. x.ino)) none) ∙ h.kept q k at)
+
+  pub keyed : (q k : ℕ) → map.get m q ≡ Some k → slab.ContainsKey s k
+  keyed q k at = by (slab.get s k) refl where
+    by : (o : Option (NumberedValue V)) → slab.get s k ≡ o → slab.ContainsKey s k
+    by None p = absurd (missing q k at p)
+    by (Some x) p = some_is _ x p
+
+  -- No two numbers have one key.
+  own : (f key : ℕ) → map.get m f ≡ Some key → (q k : ℕ) → (f ≡ q → ⊥) → map.get m q ≡ Some k → k ≡ key → ⊥
+  own f key was q k apart at e = apart (some_same f q (sym (h.kept f key was) ∙ ap (λ j. option_map (λ x. x.ino) (slab.get s j)) (sym e) ∙ h.kept q k at))
+
+  -- No number has an empty key.
+  empty : (f key : ℕ) → slab.get s key ≡ None → (q k : ℕ) → (f ≡ q → ⊥) → map.get m q ≡ Some k → k ≡ key → ⊥
+  empty f key vacant q k _ at e = missing q k at (ap (slab.get s) e ∙ vacant)
+
+  -- The number at a key is that key's.
+  pub hinted : (f key : ℕ) (x : NumberedValue V) → slab.get s key ≡ Some x → x.ino ≡ f → Some key ≡ map.get m f
+  hinted f key x at e = sym (h.found key x at) ∙ ap (map.get m) e
+
+  -- And so it has this key.
+  pub stood : (f key : ℕ) → option_map (λ x. x.ino) (slab.get s key) ≡ Some f → map.get m f ≡ Some key
+  stood f key here = by (slab.get s key) refl here where
+    by : (o : Option (NumberedValue V)) → slab.get s key ≡ o → option_map (λ x. x.ino) o ≡ Some f → map.get m f ≡ Some key
+    by None at none = absurd (none_some f none)
+    by (Some x) at is = sym (hinted f key x at (some_same x.ino f is))
+
+-- The numbers change at f alone, and the slab at a key that no other number has.
+module _ {V : Type 0} (m n : Map ℕ) (s t : Slab (NumberedValue V)) (f key : ℕ) (w : Option ℕ) (x : Option (NumberedValue V))
+    (keys : (q : ℕ) → map.get n q ≡ cond (nat_eq f q) w (map.get m q)) (slots : slab.Updates s t key x)
+    (apart : (q k : ℕ) → (f ≡ q → ⊥) → map.get m q ≡ Some k → k ≡ key → ⊥) where
+  other_key : (q : ℕ) → nat_eq f q ≡ false → map.get n q ≡ map.get m q
+  other_key q e = keys q ∙ ap (λ b. cond b w (map.get m q)) e
+
+  other_entry : (q k : ℕ) → nat_eq f q ≡ false → map.get m q ≡ Some k → slab.get t k ≡ slab.get s k
+  other_entry q k e at = slots.others k (apart q k (eqb-false f q e) at)
+
+  other_value : (q : ℕ) → nat_eq f q ≡ false → (o : Option ℕ) → map.get m q ≡ o → under t o ≡ under s o
+  other_value q e None at = refl
+  other_value q e (Some k) at = ap (option_map (λ x. x.value)) (other_entry q k e at)
+
+  -- So the values change at f alone.
+  values_then : (q : ℕ) → map.get (values_of n t) q ≡ cond (nat_eq f q) (under t w) (map.get (values_of m s) q)
+  values_then q = looked n t q ∙ by (nat_eq f q) refl where
+    by : (b : Bool) → nat_eq f q ≡ b → under t (map.get n q) ≡ cond b (under t w) (map.get (values_of m s) q)
+    by true e = ap (under t) (keys q ∙ ap (λ b. cond b w (map.get m q)) e)
+    by false e = ap (under t) (other_key q e) ∙ other_value q e _ refl ∙ sym (looked m s q)
+
+  -- And all are in place, if f is.
+  in_place_then : AreInPlace m s → ((k : ℕ) → w ≡ Some k → option_map (λ x. x.ino) (slab.get t k) ≡ Some f)
+      → ((y : NumberedValue V) → x ≡ Some y → (y.ino ≡ f) × (w ≡ Some key)) → ((k : ℕ) → map.get m f ≡ Some k → k ≡ key)
+      → map.len (values_of n t) ≡ slab.slab_len t → AreInPlace n t
+  in_place_then h here there only many = record {
+    kept = λ q k at. kept q k at (nat_eq f q) refl;
+    found = λ k y at. found k y at (nat_eq k key) refl;
+    many = many;
+  } where
+    kept : (q k : ℕ) → map.get n q ≡ Some k → (b : Bool) → nat_eq f q ≡ b → option_map (λ x. x.ino) (slab.get t k) ≡ Some q
+    kept q k at true e = here k (sym (keys q ∙ ap (λ b. cond b w (map.get m q)) e) ∙ at) ∙ ap Some (eqb-true f q e)
+    kept q k at false e = let was = sym (other_key q e) ∙ at in ap (option_map (λ x. x.ino)) (other_entry q k e was) ∙ h.kept q k was
+
+    elsewhere : (k : ℕ) (y : NumberedValue V) → (k ≡ key → ⊥) → map.get m y.ino ≡ Some k → (b : Bool) → nat_eq f y.ino ≡ b → map.get n y.ino ≡ Some k
+    elsewhere k y far was true e = absurd (far (only k (ap (map.get m) (eqb-true f y.ino e) ∙ was)))
+    elsewhere k y far was false e = other_key y.ino e ∙ was
+
+    found : (k : ℕ) (y : NumberedValue V) → slab.get t k ≡ Some y → (b : Bool) → nat_eq k key ≡ b → map.get n y.ino ≡ Some k
+    found k y at true e =
+        let same_key = eqb-true k key e in
+        let is = there y (sym slots.changed ∙ ap (slab.get t) (sym same_key) ∙ at) in
+        keys y.ino ∙ ap (λ b. cond b w (map.get m y.ino)) (eq-eqb f y.ino (sym is.0)) ∙ is.1 ∙ ap Some (sym same_key)
+    found k y at false e =
+        let far = eqb-false k key e in
+        elsewhere k y far (h.found k y (sym (slots.others k far) ∙ at)) (nat_eq f y.ino) refl
+
+module _ {V : Type 0} where
+  -- A map with a value at f, and one without f.
+  with_value : (m : Map V) (f : ℕ) (v : V) (q : ℕ) → cond (nat_eq f q) (Some v) (map.get m q) ≡ map.get (map.insert m f v) q
+  with_value m f v q = ap (λ b. cond b (Some v) (map.get m q)) (nat_eq_equiv.symm f q ∙ sym (unsigned_tied q f)) ∙ sym (get-insert nat_cmp_total m f v q)
+
+  without_value : (m : Map V) (f : ℕ) (q : ℕ) → cond (nat_eq f q) None (map.get m q) ≡ map.get (map.remove m f) q
+  without_value m f q = ap (λ b. cond b None (map.get m q)) (nat_eq_equiv.symm f q ∙ sym (unsigned_tied q f)) ∙ sym (get-remove nat_cmp_total m f q)
+
+-- A value more, in an empty key.
+module _ {V : Type 0} (m n : Map ℕ) (s t : Slab (NumberedValue V)) (f key : ℕ) (x : NumberedValue V) (h : AreInPlace m s) (vacant : slab.get s key ≡ None)
+    (inserts : n ≡ map.insert m f key) (new : map.get m f ≡ None) (writes : slab.Updates s t key (Some x)) where
+  put_keys : (q : ℕ) → map.get n q ≡ cond (nat_eq f q) (Some key) (map.get m q)
+  put_keys q = ap (λ n. map.get n q) inserts ∙ sym (with_value m f key q)
+
+  pub put_values : values_of n t ≡ map.insert (values_of m s) f x.value
+  put_values = same _ _ (λ q.
+      values_then m n s t f key (Some key) (Some x) put_keys writes (empty m s h f key vacant) q
+      ∙ ap (λ o. cond (nat_eq f q) (option_map (λ x. x.value) o) (map.get (values_of m s) q)) writes.changed ∙ with_value (values_of m s) f x.value q)
+
+  pub put_new : map.contains_key (values_of m s) f ≡ false
+  put_new = ap is_some (looked m s f ∙ ap (under s) new)
+
+  pub put_in_place : x.ino ≡ f → slab.slab_len t ≡ slab.slab_len s + 1 → AreInPlace n t
+  put_in_place ino more = in_place_then m n s t f key (Some key) (Some x) put_keys writes (empty m s h f key vacant) h
+      (λ k is. ap (λ j. option_map (λ x. x.ino) (slab.get t j)) (sym (some_same key k is)) ∙ ap (option_map (λ x. x.ino)) writes.changed ∙ ap Some ino)
+      (λ y is. (ap (λ x. x.ino) (sym (some_same x y is)) ∙ ino, refl))
+      (λ k was. absurd (none_some k (sym new ∙ was)))
+      (ap map.len put_values ∙ map.len-insert nat_cmp_total (values_of m s) f x.value ∙ ap (λ b. cond b (map.len (values_of m s)) (map.len (values_of m s) + 1)) put_new ∙ ap (λ l. l + 1) h.many ∙ sym more)
+
+-- A value less.
+module _ {V : Type 0} (m n : Map ℕ) (s t : Slab (NumberedValue V)) (f key : ℕ) (h : AreInPlace m s)
+    (removes : n ≡ map.remove m f) (was : map.get m f ≡ Some key) (writes : slab.Updates s t key None) where
+  take_keys : (q : ℕ) → map.get n q ≡ cond (nat_eq f q) None (map.get m q)
+  take_keys q = ap (λ n. map.get n q) removes ∙ sym (without_value m f q)
+
+  pub take_values : values_of n t ≡ map.remove (values_of m s) f
+  take_values = same _ _ (λ q. values_then m n s t f key None None take_keys writes (own m s h f key was) q ∙ without_value (values_of m s) f q)
+
+  was_there : map.contains_key (values_of m s) f ≡ true
+  was_there = ap is_some (looked m s f ∙ ap (under s) was) ∙ by (slab.get s key) refl where
+    by : (o : Option (NumberedValue V)) → slab.get s key ≡ o → is_some (option_map (λ x. x.value) o) ≡ true
+    by None none = absurd (missing m s h f key was none)
+    by (Some x) at = refl
+
+  pub take_in_place : slab.slab_len t + 1 ≡ slab.slab_len s → AreInPlace n t
+  take_in_place less = in_place_then m n s t f key None None take_keys writes (own m s h f key was) h
+      (λ k is. absurd (none_some k is)) (λ y is. absurd (none_some y is)) (λ k at. some_same k key (sym at ∙ was))
+      (ap map.len take_values ∙ map.len-remove nat_cmp_total (values_of m s) f ∙ ap (λ b. cond b (map.len (values_of m s) - 1) (map.len (values_of m s))) was_there ∙ (let all = h.many in omega (arith, less)))
+
+-- Nothing to take away.
+pub take_nothing : {V : Type 0} (m : Map ℕ) (s : Slab (NumberedValue V)) (f : ℕ) → map.get m f ≡ None → values_of m s ≡ map.remove (values_of m s) f
+take_nothing m s f none = same _ _ (λ q. by q (nat_eq f q) refl ∙ without_value (values_of m s) f q) where
+  by : (q : ℕ) (b : Bool) → nat_eq f q ≡ b → map.get (values_of m s) q ≡ cond b None (map.get (values_of m s) q)
+  by q true e = ap (map.get (values_of m s)) (sym (eqb-true f q e)) ∙ looked m s f ∙ ap (under s) none
+  by q false e = refl
+
+within : {X : Type 0} (xs : List (Option X)) (k : ℕ) (x : X) → slice_index_or xs k None ≡ Some x → k < length xs
+within [] k x e = absurd (none_some x e)
+within (y ∷ xs) zero x e = omega arith
+within (y ∷ xs) (suc k) x e = let more = within xs k x e in omega arith
+
+-- A value is changed in place.
+module _ {V : Type 0} (m : Map ℕ) (s : Slab (NumberedValue V)) (f key : ℕ) (x y : NumberedValue V) (h : AreInPlace m s) (was : map.get m f ≡ Some key) (at : slab.get s key ≡ Some x) where
+  wrote : slab.Updates s (slab.with_value s key y) key (Some y)
+  wrote = record {
+    changed = get_or-set_same s.slots key (Some y) None (within s.slots key x at);
+    others = λ other apart. get_or-set_other s.slots key other (Some y) None apart;
+  }
+
+  stays : (q : ℕ) → map.get m q ≡ cond (nat_eq f q) (Some key) (map.get m q)
+  stays q = by (nat_eq f q) refl where
+    by : (b : Bool) → nat_eq f q ≡ b → map.get m q ≡ cond b (Some key) (map.get m q)
+    by true e = sym (ap (map.get m) (eqb-true f q e)) ∙ was
+    by false e = refl
+
+  -- It has its number.
+  pub there : map.get (values_of m s) f ≡ Some x.value
+  there = looked m s f ∙ ap (under s) was ∙ ap (option_map (λ x. x.value)) at
+
+  pub write_values : values_of m (slab.with_value s key y) ≡ map.insert (values_of m s) f y.value
+  write_values = same _ _ (λ q.
+      values_then m m s (slab.with_value s key y) f key (Some key) (Some y) stays wrote (own m s h f key was) q
+      ∙ ap (λ o. cond (nat_eq f q) (option_map (λ x. x.value) o) (map.get (values_of m s) q)) wrote.changed ∙ with_value (values_of m s) f y.value q)
+
+  -- Writing a value unchanged changes nothing.
+  pub write_same : y.value ≡ x.value → values_of m (slab.with_value s key y) ≡ values_of m s
+  write_same e = write_values ∙ ap (map.insert (values_of m s) f) e ∙ same _ _ (λ q. sym (with_value (values_of m s) f x.value q) ∙ by q (nat_eq f q) refl) where
+    by : (q : ℕ) (b : Bool) → nat_eq f q ≡ b → cond b (Some x.value) (map.get (values_of m s) q) ≡ map.get (values_of m s) q
+    by q true e = sym there ∙ ap (map.get (values_of m s)) (eqb-true f q e)
+    by q false e = refl
+
+  -- There are as many values as before.
+  pub write_len : slab.slab_len (slab.with_value s key y) ≡ slab.slab_len s
+  write_len =
+      let weight : Option (NumberedValue V) → ℕ = λ o. cond (is_some o) 1 0 in
+      let one : weight (slice_index_or s.slots key None) ≡ 1 = ap weight at in
+      let both = sum_by-set weight s.slots key (Some y) None (within s.slots key x at) in
+      omega (arith, one, both)
+
+  pub write_in_place : y.ino ≡ x.ino → AreInPlace m (slab.with_value s key y)
+  write_in_place ino = in_place_then m m s (slab.with_value s key y) f key (Some key) (Some y) stays wrote (own m s h f key was) h
+      (λ k is. ap (λ j. option_map (λ x. x.ino) (slab.get (slab.with_value s key y) j)) (sym (some_same key k is)) ∙ ap (option_map (λ x. x.ino)) wrote.changed ∙ ap Some number)
+      (λ z is. (ap (λ x. x.ino) (sym (some_same y z is)) ∙ number, refl)) (λ k also. some_same k key (sym also ∙ was)) (ap map.len write_values ∙ map.len-insert nat_cmp_total (values_of m s) f y.value
+      ∙ ap (λ o. cond (is_some o) (map.len (values_of m s)) (map.len (values_of m s) + 1)) there ∙ h.many ∙ sym write_len) where
+        number : y.ino ≡ f
+        number = ino ∙ some_same x.ino f (sym (ap (option_map (λ x. x.ino)) at) ∙ h.kept f key was)
+
+-- A hint that is written beside a value changes no value.
+module _ {V : Type 0} (m : Map ℕ) (s : Slab (NumberedValue V)) (key : ℕ) (x y : NumberedValue V) (h : AreInPlace m s) (at : slab.get s key ≡ Some x) where
+  pub noted : y.value ≡ x.value → values_of m (slab.with_value s key y) ≡ values_of m s
+  noted e = write_same m s x.ino key x y h (h.found key x at) at e
+
+  pub noted_in_place : y.ino ≡ x.ino → AreInPlace m (slab.with_value s key y)
+  noted_in_place e = write_in_place m s x.ino key x y h (h.found key x at) at e
+
+-- Look-ups.
+pub ruleset finds = (looked, missing, keyed, hinted, stood)
+
+-- Values that come and go.
+pub ruleset comes_and_goes = (looked, no_values, none_in_place, values_grown, grown_in_place, missing, keyed, put_values, put_in_place, put_new, take_values, take_in_place, take_nothing)
+
+-- Hints that are written beside values.
+pub ruleset notes = (noted, noted_in_place)
