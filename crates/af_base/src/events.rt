@@ -118,7 +118,7 @@ pub enum Reply {
     Fds(Fd, Fd),
     /// It was done.
     Ok,
-    /// So many bytes were sent.
+    /// This many bytes were sent.
     Sent(u32),
     /// The bytes and descriptors of a receive or peek, and where they were installed.
     Got {

@@ -160,7 +160,7 @@ live-added w x g = ap is_some (finmap.get-insert nat_cmp_total w.files w.next_in
 pub next-new : (w : World) (k : Tally) (f : ℕ) → IsExact w k → w.next_ino ≤ f → has_count k f ≡ false
 next-new w k f h low = h.counted f ∙ ap is_some (fresh_file w f h.whole low)
 
--- A file more that holds nothing, which waits.
+-- One more file, which holds nothing and is unreferenced.
 pub exact-made : (w : World) (x : File) (k : Tally) → contents x ≡ [] → queue_of x ≡ [] → IsWhole (add_file w x) → IsWithin (add_file w x) → IsExact w k
     → IsExact (add_file w x) (record k { counts = finmap.insert k.counts w.next_ino uncounted })
 exact-made w x k empty silent whole within h = record {
@@ -170,7 +170,7 @@ exact-made w x k empty silent whole within h = record {
   counted = λ g. has-entered k w.next_ino g ∙ ap (cond (nat_eq g w.next_ino) true) (h.counted g) ∙ sym (live-added w x g);
 }
 
--- A plain file more, which waits.
+-- One more plain file, which is unreferenced.
 pub exact-plain : (w : World) (k : Tally) → is_full w 1 ≡ false → IsExact w k → IsExact (add_file w Plain) (record k { counts = finmap.insert k.counts w.next_ino uncounted })
 exact-plain w k fits h = exact-made w Plain k refl refl (whole-plain w h.whole) (within-plain w h.within fits) h
 
@@ -179,7 +179,7 @@ second-stranger : (w : World) (k : Tally) → IsExact w k → has_count (record 
 second-stranger w k h =
     has-entered k w.next_ino (w.next_ino + 1) ∙ ap (λ c. cond c true (has_count k (w.next_ino + 1))) (told_apart (w.next_ino + 1) w.next_ino (λ e. omega (arith, e))) ∙ next-new w k (w.next_ino + 1) h (omega arith)
 
--- Two sockets more, connected to each other, which wait.
+-- Two more sockets, connected to each other, which are unreferenced.
 pub exact-pair : (w : World) (kind : SockType) (k : Tally) → is_full w 2 ≡ false → IsExact w k
     → IsExact (with_pair w kind) (record k { counts = finmap.insert (finmap.insert k.counts w.next_ino uncounted) (w.next_ino + 1) uncounted })
 exact-pair w kind k fits h =

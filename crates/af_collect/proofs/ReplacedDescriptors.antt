@@ -1,4 +1,4 @@
--- A number that stands for another file from now on.
+-- A descriptor that refers to another file from now on.
 use Rattle.std.proofs.Common.{◌≡◌, ◌<◌, ℕ, false, inl, inr, nat_eq, sym, ap, ◌∙◌, subst}
 use Rattle.std.specs.Prelude.{Option, Some, None}
 use Rattle.std.specs.Option.{option_map_or}
@@ -22,7 +22,7 @@ use Rattle.af_collect.proofs.ProcessTables.{insert_twice}
 same-beside : {X : Type 0} (a b : Map X) (k : ℕ) → map.get a k ≡ map.get b k → ((q : ℕ) → nat_eq q k ≡ false → map.get a q ≡ map.get b q) → a ≡ b
 same-beside a b k here beside = map.same_map nat_cmp_total nat_cmp-IsAntisymmetric a b (λ q. elim (same_or_not q k) [ inl e ↦ subst (λ j. map.get a j ≡ map.get b j) (sym e) here | inr apart ↦ beside q apart ])
 
--- What is not there need not be removed.
+-- To remove an absent key changes nothing.
 remove-none : {X : Type 0} (m : Map X) (k : ℕ) → map.get m k ≡ None → map.remove m k ≡ m
 remove-none m k none = same-beside (map.remove m k) m k (remove-here m k ∙ sym none) (λ q a. remove-other m k q a)
 
@@ -39,7 +39,7 @@ module _ (w : World) (p n : ℕ) (q : Process) (there : map.get w.processes p �
   abbrev changed : (Process → Process) → World
   changed g = record w { processes = map.insert w.processes p (g q) }
 
-  -- What a change of the process makes of the world.
+  -- The world after a change of the process.
   changes : (g : Process → Process) → record w { processes = option_map_or (λ x. map.insert w.processes p (g x)) (map.get w.processes p) w.processes } ≡ changed g
   changes g = ap (λ (o : Option Process). record w { processes = option_map_or (λ x. map.insert w.processes p (g x)) o w.processes }) there
 
@@ -54,7 +54,7 @@ module _ (w : World) (p n : ℕ) (q : Process) (there : map.get w.processes p �
       ∙ ap (λ (t : Map ℕ). record w { processes = map.insert w.processes p (record q { table = t }) }) (remove-none q.table n (sym (there-table w p n q there) ∙ free))
       ∙ ap (λ (m : Map Process). record w { processes = m }) (insert_same w.processes p q there)
 
-  -- In place of what it stood for is what it would stand for at once.
+  -- An install is the same after the descriptor was removed first.
   install-uninstalled : (f : ℕ) → install (uninstall w p n) p n f ≡ install w p n f
   install-uninstalled f =
       ap (λ (o : Option Process). record (uninstall w p n) { processes = option_map_or (λ x. map.insert (uninstall w p n).processes p (installed n f x)) o (uninstall w p n).processes }) there-less
@@ -64,12 +64,12 @@ module _ (w : World) (p n : ℕ) (q : Process) (there : map.get w.processes p �
       ∙ sym (changes (installed n f))
 
   module _ (k : Tally) (exact : IsExact w k) where
-    -- What it stood for is given up, if it stood for something.
+    -- The file that it referred to, if any, is given up.
     pub exact-vacated : (o : Option ℕ) → table_at w p n ≡ o → IsExact (uninstall w p n) (option_map_or (λ g. without_ref Table g k) o k)
     exact-vacated None is = subst (λ v. IsExact v k) (sym (uninstall-free is)) exact
     exact-vacated (Some g) is = exact-uninstall w p n g k is exact
 
-    -- It stands for a live file from now on.
+    -- It refers to a live file from now on.
     pub exact-replaced : (o : Option ℕ) (f : ℕ) → table_at w p n ≡ o → n < MAX_NOFILE → IsLive w f → IsExact (install w p n f) (with_ref Table f (option_map_or (λ g. without_ref Table g k) o k))
     exact-replaced o f is low live =
         let vacated = option_map_or (λ g. without_ref Table g k) o k in

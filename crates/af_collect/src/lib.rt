@@ -1,8 +1,8 @@
 //! The store: all that is there, and the collector beside it.
 //!
-//! Places that hold files come and go by the calls of `places` and `sockets`, by whole processes
-//! (`copy_for_fork` and `remove_process`), and by `release`, `slice` and `collect`, and by no
-//! other.
+//! Only these calls add or remove references: those of `places` and `sockets`, those that make
+//! files (`make_plain`, `make_two`), copy or remove a process (`copy_for_fork`, `remove_process`),
+//! and `release`, `slice` and `collect`.
 #![tactic(auto)]
 
 mod holdings;

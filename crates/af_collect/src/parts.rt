@@ -166,7 +166,7 @@ impl Collector {
         }
     }
 
-    /// Takes away a file that nothing holds, and that holds nothing.
+    /// Frees an unheld file that holds nothing.
     fn take_away(&mut self, file: &FileRef)
         requires kept { KeepsPass self.old }
         requires live { IsLive self.old.places.world file.now }

@@ -91,8 +91,8 @@ impl Store {
         self.parts.progress.reclaimed
     }
 
-    /// Takes away what no place holds, one file after another: each place that it held is dropped,
-    /// its peer hangs up, and what thereby lost its last place waits in turn.
+    /// Frees the unreferenced files, one after another. Drops all references that such a file
+    /// holds, and hangs up its peer; files that lose their last reference by that follow in turn.
     #[inline(always)]
     pub fn release(&mut self)
         ensures settles { Settles self.old.world self.new.world }

@@ -1,6 +1,6 @@
-//! Place changes of single numbers and messages. Each is one change of the world, and keeps the
-//! counts in step with it. A file that lost its last place waits, with all that it holds, until
-//! `release` comes to it.
+//! Changes of the references of single descriptors and messages. Each is one change of the world,
+//! and keeps the counts in step with it. An unreferenced file stays, with all that it holds, until
+//! `release` frees it.
 ghost use Rattle.std.specs.Prelude.{◌≡◌, ◌<◌, ◌≤◌, ◌+◌, ◌∷◌, ◌^◌, [], ℕ, None, IsTrue, IfOk};
 ghost use Rattle.std.specs.Prelude.{IfSome, OnOk, OnErr, length, map, drop, false, is_none, true};
 ghost use Rattle.std.specs.List.{zip, All, Contains};
@@ -50,8 +50,8 @@ impl Store {
         places.procs.install(pid, fd, file);
     }
 
-    /// Puts a live file into a table, at a number for which there is room, in place of what the
-    /// number stood for (dup2(2)). It takes no memory.
+    /// Installs a live file at a descriptor for which there is room, in place of the file that it
+    /// referred to, if any (dup2(2)). Takes no memory.
     #[inline(always)]
     pub fn replace(&mut self, pid: Pid, fd: Fd, file: FileRef)
         requires there { IsTrue (finmap.contains_key self.old.world.processes pid) }
@@ -86,8 +86,8 @@ impl Store {
         places.files.drop_one(&Place::Table, &file);
     }
 
-    /// Appends a message to the queue of a socket. It carries live files, and each of these places
-    /// is charged to its user, who is the user of a process. It cannot fail, since there is room.
+    /// Appends a message, whose files are live, to the queue of a socket, and charges each file to
+    /// its user, who is the user of a process. Cannot fail, since there is room.
     pub fn put_msg(&mut self, socket: &FileRef, message: Msg)
         requires live { (f : ℕ) → Contains message.attached f → world.IsLive self.old.world f }
         requires spared { (f : ℕ) → Contains message.attached f → NotBegunGarbage self.old.pass f }
@@ -192,7 +192,7 @@ impl Store {
     }
 }
 
-/// Counts one number less of the file that it stood for, if it stood for one. It takes no memory.
+/// Drops the reference of a descriptor to the file that it referred to, if any. Takes no memory.
 #[inline(always)]
 fn lower_number(files: &mut Files, was: Option<FileRef>)
     requires { IfSome was (λ f. IsCounted Table (count_in_map files.old.counts f)) }

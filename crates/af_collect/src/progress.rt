@@ -22,6 +22,6 @@ pub struct PassProgress {
     pub swept: u64,
     /// How many files were visited, scanned and swept since the pass began.
     pub looked: u64,
-    /// How many sockets that were garbage when the pass began are gone.
+    /// How many sockets that were garbage when the pass began are freed.
     pub reclaimed: u64,
 }

@@ -17,8 +17,8 @@ use af_base::ids::{FileRef, Ino};
 use std::snapshot::Snapshot;
 
 impl Collector {
-    /// Begins a pass over the files that are there: none is marked. It costs the same however many
-    /// there are.
+    /// Begins a pass over the present files: none is marked. Costs the same for any number of
+    /// files.
     pub fn begin(&mut self)
         requires kept { KeepsPass self.old }
         requires sound { IsSound self.old.places.world }

@@ -21,7 +21,7 @@ use std::alloc::{AllocError, Global};
 /// The row of one file: what it is, its queue, its count, its mark, and whether it is dirty.
 #[derive(Drop)]
 pub struct FileRow {
-    /// The socket that it is, but for its queue; nothing is known of a plain file.
+    /// Its socket without the queue; `None` for a plain file.
     pub endpoint: Option<Endpoint>,
     /// The messages of its queue.
     pub chain: Chain,
@@ -57,8 +57,8 @@ impl FileRow {
         self.dirty_at > 0
     }
 
-    /// Marks it as in that list, at its first position until `set_list_index` says otherwise, or as
-    /// not in it.
+    /// Marks it as dirty, at the first position of that list until `set_list_index` sets another,
+    /// or as not dirty.
     #[inline(always)]
     pub fn set_dirty(&mut self, dirty: bool)
         ensures dirty { nat_lt 0 self.new.dirty_at ≡ dirty }
@@ -73,7 +73,7 @@ impl FileRow {
         self.dirty_at.saturating_sub(1) as usize
     }
 
-    /// Keeps its position in that list, if it is dirty. It stays dirty or not.
+    /// Sets its position in that list, if it is dirty. Does not change whether it is.
     #[inline(always)]
     pub fn set_list_index(&mut self, index: u32)
         ensures dirty { nat_lt 0 self.new.dirty_at ≡ nat_lt 0 self.old.dirty_at }

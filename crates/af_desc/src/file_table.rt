@@ -164,7 +164,7 @@ impl FileTable {
         Some(Socket::of(endpoint, Queue::of(&self.nodes, &row.chain)))
     }
 
-    /// Returns how many places hold a file; 0 for an unknown one.
+    /// Returns the counts of a file, if it is known.
     #[inline(always)]
     #[tactic(auto, using(crate::proofs::TrackedTableView::chains, ordered_slab::proofs::Parts::parts))]
     pub fn count(&self, file: &FileRef) -> Option<&Count>
@@ -407,7 +407,7 @@ impl FileTable {
 
     /// Marks a file that a table holds, if it is not marked in this pass. It is grey, with this
     /// place in the list, or black at once, if it holds nothing and may be scanned. Returns whether
-    /// it is black, and nothing where it was not marked now.
+    /// it is black; `None` if this call did not mark it.
     #[inline(always)]
     #[tactic(auto, using(crate::proofs::TrackedTableView::chains, ordered_slab::proofs::Parts::parts, ordered_slab::proofs::Values::lent))]
     pub fn visit(&mut self, file: &FileRef, epoch: u64, at: u32, may_scan: bool) -> Option<bool>

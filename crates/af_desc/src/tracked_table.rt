@@ -30,9 +30,9 @@ use std::alloc::{AllocError, Global};
 use std::marker::Model;
 use std::snapshot::Snapshot;
 
-/// The rows of all files; and, where a program asks for it, the list of the files that were freed
-/// and that of the sockets whose readiness may have changed, since both were emptied last. A
-/// contract sees the files as they were then, and not the lists.
+/// The rows of all files; where a program asks for them, also the lists of files that were freed
+/// and of sockets whose readiness may have changed, since both were emptied last. A contract sees
+/// the files as they were then, and not the lists.
 #[derive(Drop)]
 pub struct TrackedTable {
     table: FileTable,
@@ -212,7 +212,7 @@ impl TrackedTable {
         self.table.socket(file)
     }
 
-    /// Returns how many places hold a file; 0 for an unknown one.
+    /// Returns the counts of a file, if it is known.
     #[inline(always)]
     pub fn count(&self, file: &FileRef) -> Option<&Count>
         ensures { option_copied result ≡ map.get self.now.counts file.now }
@@ -396,7 +396,7 @@ impl TrackedTable {
 
     /// Marks a file that a table holds, if it is not marked in this pass. It is grey, with this
     /// place in the list, or black at once, if it holds nothing and may be scanned. Returns whether
-    /// it is black, and nothing where it was not marked now.
+    /// it is black; `None` if this call did not mark it.
     #[inline(always)]
     pub fn visit(&mut self, file: &FileRef, epoch: u64, at: u32, may_scan: bool) -> Option<bool>
         ensures due { is_some result ≡ is_due epoch self.old.counts self.old.marks file.now }

@@ -21,7 +21,7 @@ use std::snapshot::Snapshot;
 use thiserror::Error;
 
 /// Why a call did nothing. It comes before the step: the engine, the log and the seat are as they
-/// were, and the event is given up.
+/// were, and the event is dropped.
 #[derive(Clone, Copy, Debug, PartialEq, Eq, Drop, Error)]
 pub enum CallError {
     /// There is no seat of that number.

@@ -31,7 +31,7 @@ pub struct Layer<O: Origin = Fresh> {
 /// Why no layer was opened.
 #[derive(Clone, Copy, Debug, PartialEq, Eq, Drop, Error)]
 pub enum OpenError {
-    /// A layer has 1 to 64 seats.
+    /// The number of seats is not 1 to 64.
     #[error("a layer has 1 to 64 seats")]
     BadCount,
     /// Memory was refused.
@@ -60,7 +60,7 @@ pub struct CloseError {
 impl Layer {
     /// Opens an empty layer with this many seats, numbered from 1.
     ///
-    /// Fails with `BadCount` for fewer than 1 and more than 64, and else only if memory is refused.
+    /// Fails with `BadCount` if the number is not 1 to 64, else only if memory is refused.
     pub fn open(alloc: Global, seats: u32) -> Result<(Layer, Vec<Seat>), OpenError>
         ensures count { IfOk result (λ opened. vec_len opened.1 ≡ seats) }
         ensures seats { IfOk result (λ opened. (i : ℕ) (other : SeatView) → i < seats
@@ -105,7 +105,7 @@ impl Layer {
 }
 
 impl<O: Origin> Layer<O> {
-    /// Makes a layer round a book that is there.
+    /// Makes a layer around this book.
     pub fn of(book: Book) -> Layer<O>
         requires { O.begins book.seats book.start }
     {

@@ -1,4 +1,4 @@
-//! One lock round an engine, a log of all that was done, and seats that each keep their part of it.
+//! One lock around an engine, a log of all that was done, and seats that each keep their part.
 //!
 //! A [`Layer`] is opened with a number of seats. Each thread takes a [`Seat`] and makes calls
 //! through the layer: a call waits for the lock, does one event, and puts it with its reply into

@@ -29,7 +29,7 @@ impl Shared {
         Ok(Shared::of(Engine::new(alloc)?))
     }
 
-    /// Shares an engine that is there.
+    /// Shares this engine.
     pub fn of(engine: Engine) -> Shared {
         Shared {
             engine: Mutex::new(engine),
@@ -258,7 +258,7 @@ impl Shared {
         engine.begin()
     }
 
-    /// Goes on with the pass that runs: [`Engine::slice`] under the lock.
+    /// Continues the pass that runs: [`Engine::slice`] under the lock.
     pub fn slice<R: Wait>(&self, rt: &R, budget: u32) -> Result<Progress, Errno>
         ensures { TellsReply (Event.Slice budget) progress_reply result }
     {

@@ -38,18 +38,18 @@ impl Gate for OpenGate {
 /// How often the collector calls in a drive, and the budget of its slices.
 #[derive(Clone, Copy, Debug, PartialEq, Eq)]
 pub struct Turns {
-    /// So many calls.
+    /// How many calls the collector makes.
     pub turns: u32,
-    /// So many units for each slice.
+    /// The budget of each slice, in units.
     pub budget: u32,
 }
 
 /// The work of a seat.
 #[derive(Drop)]
 pub enum Assignment {
-    /// These events, in order.
+    /// The events of a script, in order.
     Script(Vec<Event>),
-    /// So many turns of a collector.
+    /// Turns of a collector.
     Collect(Turns),
 }
 

@@ -17,7 +17,7 @@ pub type Attached = SmallVec<FileRef, 1>;
 #[derive(Drop)]
 pub struct Msg {
     bytes: Vec<u8>,
-    /// So many of its first bytes were received before.
+    /// How many of its first bytes were received before.
     begin: u32,
     user: Uid,
     attached: Attached,

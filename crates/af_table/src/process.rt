@@ -175,7 +175,8 @@ impl Process {
         self.taken.set(fd.0);
     }
 
-    /// Makes the number, for which there is room, stand for the file. Returns what it stood for.
+    /// Installs the file at a descriptor for which there is room. Returns the file that it referred
+    /// to before, if any.
     #[inline(always)]
     #[tactic(auto, using(crate::proofs::Tables::table_changes))]
     pub(crate) fn replace(&mut self, fd: Fd, file: FileRef) -> Option<FileRef>
@@ -279,7 +280,8 @@ impl Process {
         Some((Fd(n), file))
     }
 
-    /// Returns what this number and those right behind it stand for, as far as they are open.
+    /// Returns the files of this descriptor and of those right behind it, up to the first that is
+    /// not open.
     #[inline(always)]
     #[tactic(auto, using(crate::proofs::Tables::table_changes))]
     pub fn run_from(&self, fd: Fd) -> &[FileRef]

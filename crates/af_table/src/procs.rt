@@ -258,8 +258,8 @@ impl Procs {
         process.install(fd, file);
     }
 
-    /// Makes the number of the process, for which there is room, stand for the file. Returns what
-    /// the number stood for, and `None` where it was free. It takes no memory.
+    /// Installs the file at a descriptor of the process for which there is room. Returns the file
+    /// that it referred to before; `None` if it was free. Takes no memory.
     #[inline(always)]
     #[tactic(auto, using(crate::proofs::Parts::part_changes))]
     pub fn replace(&mut self, pid: Pid, fd: Fd, file: FileRef) -> Option<FileRef>

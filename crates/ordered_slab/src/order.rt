@@ -17,7 +17,7 @@ use std::mem;
 /// Packing begins if at least this many rows are dead, and more than half of all.
 const LEAST_DEAD: usize = 64;
 
-/// So many dead rows at most are passed over in one step of packing.
+/// At most this many dead rows are passed over in one step of packing.
 const PASSED_AT_ONCE: usize = 16;
 
 /// A number and the key under which it is to be found. A row with no key is dead: its number is

@@ -35,8 +35,8 @@ fn answer_unreadable(
     }
 }
 
-/// Does a line that can be read, and appends its answer. Of any other line the world stays as it
-/// is: appended is the answer to the question that it asks, or why it cannot be read.
+/// Does a line that can be read, and appends its answer. Any other line changes nothing: appends
+/// the answer to the question that it asks, or why it cannot be read.
 pub fn answer_line(
     alloc: Global,
     engine: &mut Engine,

@@ -19,8 +19,7 @@ pub enum PlayFault {
 }
 
 impl PlayFault {
-    /// Makes the fault of a read that failed. If memory was refused for a line, the fault is one of
-    /// memory.
+    /// Makes the fault of a failed read: `Memory` if memory was refused for a line, else `Read`.
     pub fn of_read(error: io::Error) -> PlayFault {
         if error.kind() == ErrorKind::OutOfMemory {
             return PlayFault::Memory;

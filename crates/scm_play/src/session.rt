@@ -101,7 +101,7 @@ fn play_read<W: Write>(
     write_out(writer, shown.as_slice())
 }
 
-/// Plays the next line, and says whether there was one.
+/// Plays the next line, and returns whether there was one.
 fn play_line<R: BufRead, W: Write>(
     alloc: Global,
     style: Style,
@@ -138,8 +138,8 @@ fn play_line<R: BufRead, W: Write>(
 }
 
 /// Plays a script from the fresh machine to the end of the input: does each line as soon as it was
-/// read, and writes it with its answer. A line that cannot be read is answered by why, and changes
-/// nothing; so does one of the questions `who`, `graph` and `help`.
+/// read, and writes it with its answer. A line that cannot be read changes nothing, and is answered
+/// with the reason; a question (`who`, `graph`, `help`) changes nothing either.
 ///
 /// Lines are cut as by a run of the script, which answers the same to the lines that can be read.
 /// After an error it is not said how much was written.

@@ -15,7 +15,7 @@ fn push_holder(text: &mut String, by: Holder) -> Result<(), AllocError> {
     }
 }
 
-/// Appends the places that hold a file, with commas between them, and gives those of other files
+/// Appends the places that hold a file, with commas between them, and returns those of other files
 /// behind them.
 fn push_holders<'a>(
     text: &mut String,

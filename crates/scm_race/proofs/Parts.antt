@@ -45,7 +45,7 @@ open-fresh n seats count each = record {
   lists = λ i lt. ap (λ s. s.list) (each i nobody lt);
 }
 
--- What an audit says of the seats holds of their parts of the log.
+-- An audit's facts on the seats hold of their parts of the log.
 pub log-has : (n : ℕ) (P : ℕ → List Pair → Type 0) (b : BookView) (seats : List SeatView) → SeatsHave n P seats → IsWholeBook b seats → LogHas n P b.log
 log-has n P b seats had whole i lt =
     subst (P i) (part-at b seats whole i (omega (arith, lt, had.count)) ∙ ap (λ k. of_seat k b.log) (had.numbers i lt)) (had.lists i lt)
@@ -93,7 +93,7 @@ seats-push n P all seats last joined had number list = record {
   behind : slice_index_or all n nobody ≡ last
   behind = ap (λ l. slice_index_or l n nobody) joined ∙ get_or_push seats last nobody n had.count
 
--- What holds of the lists that a seat has holds of others that follow from them.
+-- A fact on the seats' lists gives each fact that follows from it.
 seats-weaker : (n : ℕ) (P Q : ℕ → List Pair → Type 0) (seats : List SeatView) → ((i : ℕ) → i < n → (list : List Pair) → P i list → Q i list) → SeatsHave n P seats → SeatsHave n Q seats
 seats-weaker n P Q seats follows had = record { count = had.count; numbers = had.numbers; lists = λ i lt. follows i lt (list_at seats i) (had.lists i lt) }
 
@@ -107,7 +107,7 @@ module _ (n : ℕ) (all opened : List SeatView) (first : SeatView) (fresh : AreF
   apart : AreFresh (n + 1) opened × (first.number ≡ n + 1 + 1) × (first.list ≡ [])
   apart = seats-pop (n + 1) (λ i list. list ≡ []) all opened first split (subst (λ k. AreFresh k all) (sym (two-more n)) fresh)
 
-  -- What the seats have when the last one is back.
+  -- The lists of the seats once the last one is back.
   together : (P : ℕ → List Pair → Type 0) (after others : List SeatView) (last : SeatView) → after ≡ others ++ last ∷ [] → SeatsHave (n + 1) P others → last.number ≡ first.number → P (n + 1) last.list → SeatsHave (n + 2) P after
   together P after others last joined had number list = subst (λ k. SeatsHave k P after) (two-more n) (seats-push (n + 1) P after others last joined had (number ∙ apart.1) list)
 
@@ -147,13 +147,13 @@ module _ (n : ℕ) (all opened : List SeatView) (first : SeatView) (fresh : AreF
             subst (λ (w : Option Work). Made w [] (list_at driven i)) is
             (subst (λ (old : List Pair). Made (slice_get works i) old (list_at driven i)) (apart.0.lists i lt) (drove.lists i (here i lt)))
 
--- So many elements and then more.
+-- The first elements of a list, and then more of them.
 take-add : {A : Type 0} → (n m : ℕ) (xs : List A) → take (n + m) xs ≡ take n xs ++ take m (drop n xs)
 take-add zero m xs = let none : 0 + m ≡ m = omega arith in ap (λ k. take k xs) none
 take-add (suc n) m [] = let more : suc n + m ≡ suc (n + m) = omega arith in ap (λ k. take k []) more ∙ sym (take-nil m)
 take-add (suc n) m (x ∷ xs) = let more : suc n + m ≡ suc (n + m) = omega arith in ap (λ k. take k (x ∷ xs)) more ∙ ap (λ l. x ∷ l) (take-add n m xs)
 
--- What is left after so many and then more.
+-- The rest behind some first elements, and behind more of them.
 drop-add : {A : Type 0} → (n m : ℕ) (xs : List A) → drop (n + m) xs ≡ drop m (drop n xs)
 drop-add zero m xs = let none : 0 + m ≡ m = omega arith in ap (λ k. drop k xs) none
 drop-add (suc n) m [] = let more : suc n + m ≡ suc (n + m) = omega arith in ap (λ k. drop k []) more ∙ sym (drop-nil m)
@@ -174,7 +174,7 @@ left-less workers steps seed done n old parts new left next = record {
       next.left i (omega (arith, lt, left.count)) ∙ ap (drop n) (left.each i lt) ∙ sym (drop-add done n (script_of (i + 1) workers steps seed));
 }
 
--- A list that goes on by one that ends in a pass ends in a pass.
+-- A list continued by one that ends in a pass ends in a pass.
 ends-after : (old more all part : List Pair) → all ≡ (old ++ more) ++ part → EndsInPass [] part → EndsInPass old all
 ends-after old more all part is ended =
     let last : List Pair = (event.Pass, reply.Done ended.1 ended.2) ∷ [] in (
@@ -287,7 +287,7 @@ module _ (workers steps seed budget : ℕ) (b book : BookView) (is : book ≡ ta
             (whole-part (workers + 2) ∙ ap (λ l. l ++ of_seat (workers + 2) b.log) went.main_thread.1) ended;
       }
 
--- In a part each worker did so many steps.
+-- In a part each worker did this many steps.
 pub part-steps : (workers steps seed budget done n : ℕ) (b : BookView) (sources parts new : List (List Event)) → 5 ≤ steps → done + n ≤ steps → AreLeft workers steps seed done sources → AreNext n sources parts new
     → IsLegalFrom b.start b.seats b.machine b.log → LogHas (workers + 2) (IsOfPart parts n budget) b.log → worker_steps workers b.log ≡ workers * n
 part-steps workers steps seed budget done n b sources parts new some fits left next legal has =
@@ -306,7 +306,7 @@ part-steps workers steps seed budget done n b sources parts new some fits left n
           let few : min n (length (drop done script)) ≡ n = omega (arith, rest, all, fits) in
           ap (λ m. length (of_seat m b.log)) (sym place) ∙ sym pairs ∙ events ∙ few
 
--- A part more of the race: it goes on, less is left, and each worker did so many steps.
+-- One more part of the race: less is left, and each worker did this many steps.
 pub next-part : (workers steps seed budget done n : ℕ) (old b book : BookView) (sources parts new : List (List Event)) (counted_steps : ℕ) → 5 ≤ steps → done + n ≤ steps → Continues workers steps seed budget done old → AreLeft workers steps seed done sources → AreNext n sources parts new
     → IsPart (λ seats machine. (seats ≡ old.seats) × (machine ≡ old.start)) (length parts + 2) (IsOfPart parts n budget) b → book ≡ taken b → counted_steps ≡ worker_steps (length parts) b.log
     → Continues workers steps seed budget (done + n) book × AreLeft workers steps seed (done + n) new × (counted_steps ≡ workers * n)

@@ -40,7 +40,7 @@ abbrev pub IsOfStart : ℕ → ℕ → List Pair → Type 0
 IsOfStart workers i list = (i ≤ workers → list ≡ []) × (i ≡ workers + 1 → list ≡ spawned workers)
 
 -- From one checkpoint to the next each worker has done these steps, and the collector behind them
--- so many turns.
+-- this many turns.
 abbrev pub IsOfPart : List (List Event) → ℕ → ℕ → ℕ → List Pair → Type 0
 IsOfPart steps turns budget i list = (i < length steps → events_of list ≡ slice_index_or steps i [])
     × (i ≡ length steps → Turned budget [] turns list)
@@ -49,22 +49,22 @@ IsOfPart steps turns budget i list = (i < length steps → events_of list ≡ sl
 abbrev pub IsOfEnd : ℕ → ℕ → List Pair → Type 0
 IsOfEnd workers i list = (i ≤ workers → list ≡ []) × (i ≡ workers + 1 → EndsInPass [] list)
 
--- What is left of each worker's script after so many steps.
+-- The rest of each worker's script after this many steps.
 pub record AreLeft (workers steps seed done : ℕ) (sources : List (List Event)) : Type 0 where
   pub count : length sources ≡ workers
   pub each : (i : ℕ) → i < workers
       → slice_index_or sources i [] ≡ drop done (script_of (i + 1) workers steps seed)
 
--- The next so many events of each source are made, and the others are left.
+-- The next events of each source, this many, are made, and the others are left.
 pub record AreNext (count : ℕ) (old : List (List Event)) (parts new : List (List Event)) : Type 0 where
   pub made_count : length parts ≡ length old
   pub left_count : length new ≡ length old
   pub made : (i : ℕ) → i < length old → slice_index_or parts i [] ≡ take count (slice_index_or old i [])
   pub left : (i : ℕ) → i < length old → slice_index_or new i [] ≡ drop count (slice_index_or old i [])
 
--- A race after so many steps of each worker. The logs that were taken, put together, are one legal
--- log. In it the workers have done so much of their scripts, and the collector as many turns; the
--- main thread started the processes first.
+-- A race after this many steps of each worker. The logs that were taken, put together, are one
+-- legal log. In it each worker has done that part of its script, and the collector as many turns;
+-- the main thread started the processes first.
 pub record Continues (workers steps seed budget done : ℕ) (b : BookView) : Type 0 where
   pub here : b.start ≡ b.machine
   pub log : List Entry

@@ -65,7 +65,7 @@ pub fn end_children<R: Wait, O: Origin>(
     Ok(())
 }
 
-/// Goes on with the pass that the collector began, if one runs, until it is done.
+/// Continues the pass that the collector began, if one runs, until it is done.
 pub fn end_pass<R: Wait, O: Origin>(
     rt: &R,
     layer: &Layer<O>,

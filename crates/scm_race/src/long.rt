@@ -28,14 +28,14 @@ pub const MAX_LONG_STEPS: u32 = 100_000_000;
 /// A race that stops at checkpoints. Its memory does not grow with its length.
 #[derive(Clone, Copy, Debug, PartialEq, Eq)]
 pub struct LongRace {
-    /// What is raced. Each worker may do up to 100,000,000 events.
+    /// The settings of the race. Each worker may do up to 100,000,000 events.
     pub race: Race,
     /// How many events the workers do from one checkpoint to the next, 1 to 250,000: each does its
     /// share, and one at least.
     pub checkpoint: u32,
 }
 
-/// What a long race comes to. Each audit ended well.
+/// The totals of a long race. Each audit ended well.
 #[derive(Clone, Copy, Debug, PartialEq, Eq)]
 pub struct RaceTotals {
     /// How many events the workers did, counted in the logs.
@@ -90,7 +90,7 @@ impl LongRace {
         })
     }
 
-    /// Races to the next checkpoint, with so many events of each worker.
+    /// Races to the next checkpoint, with this many events of each worker.
     fn next_part<R: Threads + Wait + Sync>(
         self,
         rt: &R,

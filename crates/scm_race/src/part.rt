@@ -101,7 +101,7 @@ fn end_part<O: Origin>(
     }
 }
 
-/// Opens a race of so many workers, and starts their processes.
+/// Opens a race of this many workers, and starts their processes.
 pub fn open_field<R: Wait>(rt: &R, alloc: Global, workers: u32) -> Result<Field, RaceFault>
     requires { (1 ≤ workers) × (workers ≤ MAX_WORKERS) }
     ensures fresh { IfOk result (λ field. AreFresh (workers + 2) field.seats.items) }

@@ -42,7 +42,7 @@ fn finish<R: Wait>(rt: &R, layer: &Layer, main: &mut Seat, seats: &[Seat]) -> Re
 }
 
 impl Race {
-    /// Races, and audits the log.
+    /// Runs the race, and audits its log.
     ///
     /// Each worker has a seat, a process and a script of its own, and the collector has the seat
     /// after them. The last seat is the calling thread's: from it the processes are started, the

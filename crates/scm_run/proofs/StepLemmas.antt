@@ -40,7 +40,7 @@ use Rattle.scm_run.proofs.ShortReplies.{step-short}
 
 -- ---- steps of processes
 
--- What a call answered, or its error, is the reply of the step.
+-- A call's answer, or its error, is the reply of the step.
 call_answers : (old new : Machine) (p : ℕ) (s : Step) {T : Type 0} (o : Result T Errno) (tells : T → Reply)
     → IfOk o (λ t. Does old p s (tells t) new) → IfErr o (λ e. Refuses old p s e new) → Answers old p s (reply_of tells o) new
 call_answers old new p s (Ok t) tells done refused = does-step old p s new (tells t) done
@@ -61,7 +61,7 @@ start_stays : (o : Option Errno) (answer : Reply) (after w : World) (e : Errno) 
 start_stays (Some f) answer after w e is = (ap reply.Refused (sym (some_same f e is)), refl)
 start_stays None answer after w e is = inr (ap reply.Refused (sym (some_same ENOMEM e is)), refl)
 
--- What a spawn answers is the reply of the event.
+-- A spawn's answer is the reply of the event.
 pub spawn_done : (old new : Machine) (uid nofile : ℕ) (privileged : Bool) (o : Result ℕ Errno)
     → IfOk o (λ pid. Starts old uid nofile privileged pid new) → IfErr o (λ e. RefusesStart old nofile e new)
     → MachineStep old (event.Spawn uid nofile privileged) (reply_of reply.Pid o) new
@@ -72,7 +72,7 @@ spawn_done old new uid nofile privileged (Err e) done refused =
     let kept = start_stays (spawn_refusal old.world nofile) (reply.Pid old.world.next_pid) (spawned old.world uid nofile privileged) old.world e refused.0 in
     subst (λ (m : Machine). MachineStep old (event.Spawn uid nofile privileged) (reply.Refused e) m) (sym refused.1) (kept, (refl, refl, refl))
 
--- What a call of the collector answers is the reply of its event.
+-- The answer of a call of the collector is the reply of its event.
 pub call_done : (old new : Machine) (e : Event) {T : Type 0} (o : Result T Errno) (tells : T → Reply)
     → IfOk o (λ t. MachineStep old e (tells t) new) → IfErr o (λ error. MachineStep old e (reply.Refused error) new) → MachineStep old e (reply_of tells o) new
 call_done old new e (Ok t) tells done refused = done
@@ -111,7 +111,7 @@ pub line_by_none : (k : Verb) (v : Version) (old new : Machine) (p : ℕ) (bytes
 line_by_none k v old new p bytes rest before after unread.Unreadable is (none, same) = (is ∙ ap (option_map (λ does. line.Event (event.Proc p does))) none, same)
 line_by_none k v old new p bytes rest before after unread.Memory is same = same
 
--- What a receive gives is short. The step is found by how it was read.
+-- A receive's reply is short. The step is found by how it was read.
 pub got_short : (old new : Machine) (p : ℕ) (s : Step) (o : Result Received Errno) (read : Option Step) → Some s ≡ read → IsSound old.world → IfOk o (λ got. Does old p s (got_reply got) new) → IfOk o (λ got. IsShort (got_reply got))
 got_short old new p s (Ok got) read is sound done = step-short old new (event.Proc p s) (got_reply got) sound (does-step old p s new (got_reply got) done)
 got_short old new p s (Err e) read is sound done = tt

@@ -21,7 +21,7 @@ use Rattle.scm_run.specs.Text.{reply_line}
 use Rattle.scm_run.specs.declared.fault.RunFault.{RunFault}
 use Rattle.scm_run.specs.declared.fault.RunFault.TheVariants as fault
 
--- The line was done, and its text was gathered behind what is gathered still.
+-- The line was done, and its text was appended to the text that is still gathered.
 pub record LineDone (old : Point) (bytes gathered left : List ℕ) (before after : Option (List ℕ))
     (events : ℕ) (new : Point) : Type 0 where
   pub text : List ℕ
@@ -39,9 +39,9 @@ LineStops v bytes number gathered left before after fault.Read = ⊥
 LineStops v bytes number gathered left before after fault.Write = AppendsFront before after gathered
 LineStops v bytes number gathered left before after fault.Memory = WritesFront gathered left before after
 
--- What came of the step of process p that this verb and the bytes behind it say: it was done, and
--- the line of its reply stands behind the text; or its words cannot be read, or memory for them was
--- refused, and the text is as before.
+-- The outcome of the step of process p that this verb and the bytes behind it say. It was done, and
+-- the line of its reply is appended to the text; or its words cannot be read, or memory for them
+-- was refused, and the text is as before.
 abbrev pub StepDone : Verb → Machine → ℕ → List ℕ → List ℕ → Result (Unit {0}) LineFault → List ℕ
     → Machine → Type 0
 StepDone k old p rest before (Ok _) after new =
@@ -51,9 +51,9 @@ StepDone k old p rest before (Err unread.Unreadable) after new =
     (read_form (step_row k).1 (words_of rest) ≡ None) × (after ≡ before)
 StepDone k old p rest before (Err unread.Memory) after new = after ≡ before
 
--- What came of the bytes of a line that is read as an event's, whatever lines came before: it was
--- done, and the line of its reply stands behind the text; or it is none, and nothing changed; or
--- its words cannot be read, and the text is as before.
+-- The outcome of the bytes of a line that is read as an event's, whatever lines came before. The
+-- event was done, and the line of its reply is appended to the text; or the line is no event's, and
+-- nothing changed; or its words cannot be read, and the text is as before.
 abbrev pub EventDone : Machine → List ℕ → List ℕ → Result Bool LineFault → List ℕ → Machine → Type 0
 EventDone old bytes before (Ok true) after new =
     (does : Event) × (answer : Reply) × ((v : Version) → read_in v bytes ≡ Some (line.Event does))
@@ -63,8 +63,8 @@ EventDone old bytes before (Err unread.Unreadable) after new =
     ((v : Version) → read_in v bytes ≡ None) × (after ≡ before)
 EventDone old bytes before (Err unread.Memory) after new = after ≡ before
 
--- What came of the bytes of a line at this point: they were done, and their text stands behind what
--- was there; or they cannot be read, or memory for them was refused, and the text is as before.
+-- The outcome of the bytes of a line at this point. They were done, and their text is appended; or
+-- they cannot be read, or memory for them was refused, and the text is as before.
 abbrev pub LineRead : Point → List ℕ → List ℕ → Result ℕ LineFault → List ℕ → Point → Type 0
 LineRead old bytes before (Ok events) after new = (text : List ℕ)
     × LineText old bytes events text new × (after ≡ before ++ text)

@@ -47,7 +47,7 @@ fn answer_report(alloc: Global, engine: &Engine, report: Report, text: &mut Vec<
     push_reply(text, &Reply::Refused(Errno::ENOMEM));
 }
 
-/// Does what a line says, appends its text, and says how many events that were.
+/// Does what a line says, appends its text, and returns how many events it did.
 ///
 /// There is room for the text of any reply before the step, so a step that was done has its text.
 pub fn answer(alloc: Global, engine: &mut Engine, says: Line, text: &mut Vec<u8>) -> u64
@@ -95,7 +95,7 @@ fn do_any(
     Ok(answer(alloc, engine, says, text))
 }
 
-/// Reads a line, does what it says, and appends its text. Says how many events that were.
+/// Reads a line, does what it says, and appends its text. Returns how many events it did.
 #[tactic(auto, using(crate::proofs::StepLemmas::line_by_step, crate::proofs::StepLemmas::line_by_none))]
 fn do_bytes(
     alloc: Global,

@@ -257,8 +257,8 @@ impl ScriptRun {
         }
     }
 
-    /// Does and writes the last line, where it has no line feed, and says how many events were done
-    /// in all.
+    /// Does and writes the last line, where it has no line feed, and returns how many events were
+    /// done in all.
     fn finish<W: Write>(&mut self, alloc: Global, writer: &mut Watched<W>) -> Result<u64, RunFault>
         requires { writer.old.has_failed ≡ false }
         ensures ok { IfOk result (λ n. (taken : List ℕ) (before : Option (List ℕ))
@@ -301,7 +301,7 @@ impl ScriptRun {
         ensures write { writer.new.has_failed ≡ is_write_fault result }
     {
         let mut chunk = [0; CHUNK];
-        // The bound is never met: no run does so many lines.
+        // The bound is never met: no run reads as often.
         for _ in 0..u64::MAX {
             let Ok(count) = reader.read(&mut chunk) else {
                 return Err(RunFault::Read);
@@ -316,7 +316,7 @@ impl ScriptRun {
 }
 
 /// Runs a script from the fresh machine, in the version that its first line that is not silent
-/// gives: does each line as soon as its end was read, writes the line of its reply, and says how
+/// gives: does each line as soon as its end was read, writes the line of its reply, and returns how
 /// many events were done.
 ///
 /// Neither stream may have failed before. Lines are cut as by `str::lines`: a last line needs no

@@ -98,7 +98,7 @@ fn recv(engine: &mut Engine, pid: Pid, rest: &[u8], text: &mut Vec<u8>) -> Resul
     ensures { StepDone verb.Recv engine.old pid rest.now
         text.old.items result text.new.items engine.new }
 {
-    // What a sound world answers is short.
+    // The reply of a sound world is short.
     engine.lemma_is_sound();
     call!(push_received(text), engine.recv(pid; on, max_bytes, max_fds), rest);
     Ok(())
@@ -111,14 +111,14 @@ fn peek(engine: &mut Engine, pid: Pid, rest: &[u8], text: &mut Vec<u8>) -> Resul
     ensures { StepDone verb.Peek engine.old pid rest.now
         text.old.items result text.new.items engine.new }
 {
-    // What a sound world answers is short.
+    // The reply of a sound world is short.
     engine.lemma_is_sound();
     call!(push_received(text), engine.peek(pid; on, max_bytes, max_fds), rest);
     Ok(())
 }
 
-/// Does a line of an event that is no step of a process, and appends the line of its reply. Returns
-/// whether it is such a line.
+/// Does the event of a line, if it is one that is no step of a process, and appends the line of its
+/// reply. Returns whether it is one.
 #[inline(always)]
 pub fn do_event(engine: &mut Engine, bytes: &[u8], text: &mut Vec<u8>) -> Result<bool, LineFault>
     requires { vec_len text.old + MAX_REPLY_LINE ≤ vec_capacity text.old }

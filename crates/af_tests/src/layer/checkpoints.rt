@@ -24,7 +24,7 @@ fn take_checkpoint<R: Wait>(
     Ok(layer.checkpoint(rt, seats)?.len())
 }
 
-/// Whether the list of each seat has so many pairs.
+/// Returns whether the list of each seat has this many pairs.
 fn have(seats: &[Seat], pairs: usize) -> bool {
     for seat in seats {
         if seat.list().len() != pairs {

@@ -27,8 +27,8 @@ pub fn generator(worker: u32, seed: u32) -> Xoshiro256PlusPlus
     rng
 }
 
-/// Makes the whole script of a worker ([`Source`]): so many events, all of the process with the
-/// worker's number. The error says that memory was refused.
+/// Makes the whole script of a worker ([`Source`]): this many events, all of the process with the
+/// worker's number. Fails only if memory is refused.
 pub fn make_script(
     alloc: Global,
     worker: u32,

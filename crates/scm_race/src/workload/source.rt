@@ -20,8 +20,8 @@ const BACKLOG: u32 = 8;
 /// How many events each script begins with.
 const OPENING: u32 = 4;
 
-/// What is left of a worker's script. Events are made as they are asked for, so a script of any
-/// length takes no memory.
+/// The rest of a worker's script. Events are made as they are asked for, so a script of any length
+/// takes no memory.
 #[derive(Drop)]
 pub struct Source {
     worker: u32,
@@ -84,7 +84,7 @@ fn opening_step(alloc: Global, worker: u32, place: u32) -> Result<Step, AllocErr
 }
 
 impl Source {
-    /// Makes the source of a worker's whole script, of which nothing was made.
+    /// Makes the source of a worker's whole script. No event of it is made yet.
     ///
     /// The worker makes a listener at 0, a stream where its number is odd and of packets where it
     /// is even, and a pair of sockets. Then come the events of the next words of its generator, and
@@ -129,7 +129,7 @@ impl Source {
         Ok(Some(Event::Proc(Pid(self.worker), Step::Exit)))
     }
 
-    /// Makes the next events, so many or all that are left. The error says that memory was refused.
+    /// Makes the next events: this many, or all that are left. Fails only if memory is refused.
     pub fn part(&mut self, alloc: Global, count: u32) -> Result<Vec<Event>, AllocError>
         ensures made { IfOk result (λ part. part.items ≡ take count self.old) }
         ensures left { IfOk result (λ part. self.new ≡ drop count self.old) }
