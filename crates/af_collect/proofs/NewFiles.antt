@@ -49,7 +49,7 @@ use Rattle.af_collect.specs.declared.parts.Collector.{Collector}
 use Rattle.af_collect.proofs.PlaceChanges.{kept_made, kept_socket, kept_tables, made_spared}
 use Rattle.af_collect.proofs.StoreInvariant.{BothInvariants, both-same}
 
--- What a connect asks for: room for a file, a client that was never connected, and a listener with room for an embryo (connect(2)).
+-- The needs of a connect: room for a file, a client that was never connected, and a listener with room for an embryo (connect(2)).
 abbrev pub Connects : World → ℕ → ℕ → Type 0
 Connects w s l = (is_full w 1 ≡ false) × (is_none (socket_at w s) ≡ false) × IfSome (socket_at w s) (λ x. x.state ≡ state.Idle) × (is_none (socket_at w l) ≡ false) × IfSome (socket_at w l) (λ x. length x.backlog < room_of x.state)
 
@@ -145,7 +145,7 @@ module _ (p : Collector) (h : Inside) (was : BothInvariants p h.procs h.files h.
       (kept_tables (install_all v pid (zip ns fs)) refl refl (λ e. moves_install_files begun v pid ns fs (λ f c. made_spared was.1 e f (later f c))) (λ _. covers_install_lowest begun v pid ns fs (is_marked (born (n + 1) (born n h.files.marks))) (below p.progress.visited) there (2, lowest))
       (kept_made two refl (below-add_file w one numbered) (kept_made one refl numbered was.1)))
 
-  -- Who was never connected has no room for embryos.
+  -- A socket that was never connected has no room for embryos.
   no_room : (o : Option Socket) → is_none o ≡ false → IfSome o (λ x. x.state ≡ state.Idle) → ¬ (IfSome o (λ x. length x.backlog < room_of x.state))
   no_room None there idle room = false≢true (sym there)
   no_room (Some x) there idle room = let none : room_of x.state ≡ 0 = ap room_of idle in omega (arith, room, none)

@@ -75,7 +75,7 @@ module _ (w : World) (q : Process) where
     pub joining-done : ((n : ℕ) → from ≤ n → map.get q.table n ≡ None) → IsExact (add_process w q) k
     joining-done none = subst (λ t. IsExact (add_process w (record q { table = t })) k) (same-parts c.table q.table from c.below (λ n over. c.above n over ∙ sym (none n over))) c.exact
 
-    -- Numbers that stand for nothing are passed over.
+    -- Free descriptors are passed over.
     pub joining-past : (n : ℕ) → from ≤ n → ((m : ℕ) → from ≤ m → m < n → map.get q.table m ≡ None) → Joining w q n k
     joining-past n past between = record {
       table = c.table;
@@ -160,7 +160,7 @@ module _ (w : World) (p : ℕ) (q : Process) (from : ℕ) (k : Tally) (c : Leavi
   pub leaving-done : ((n : ℕ) → from ≤ n → map.get q.table n ≡ None) → IsExact (remove_process w p) k
   leaving-done none = subst (λ v. IsExact v k) c.rest (exact-removed c.world p k (λ n. elim (cases_lt n from) [ inl under ↦ c.below n under | inr over ↦ c.above n over ∙ none n over ]) c.exact)
 
-  -- Numbers that stand for nothing are passed over.
+  -- Free descriptors are passed over.
   pub leaving-past : (n : ℕ) → from ≤ n → ((m : ℕ) → from ≤ m → m < n → map.get q.table m ≡ None) → Leaving w p q n k
   leaving-past n past between = record {
     world = c.world;

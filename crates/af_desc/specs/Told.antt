@@ -37,7 +37,7 @@ pub record AreAccounted (table : FileTableView) (gone : List ℕ) (space : ℕ) 
   pub each : since.released ≡ true → AreReleased table.counts (table.last + 1) since gone
   pub fits : since.released ≡ true → length gone + map.len table.counts ≤ space
 
--- The lists that are kept have room for so many live files in all.
+-- The lists that are kept have room for this many live files in all.
 pub record HaveSpace (all space : ℕ) (gone : List ℕ) (wide : ℕ) (since : Since) : Type 0 where
   pub changed : since.changed ≡ true → all ≤ space
   pub released : since.released ≡ true → length gone + all ≤ wide

@@ -170,7 +170,7 @@ impl TrackedTable {
         ensures room { self.old.room ≤ self.new.room + 1 }
     {
         self.table.lemma_are_one();
-        // Nobody is told of a plain file: it is always ready.
+        // A plain file is never listed as changed: it is always ready.
         let is_socket = endpoint.is_some();
         let file = self.table.push(ino, endpoint, place);
         add_dirty(

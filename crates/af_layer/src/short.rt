@@ -7,8 +7,8 @@ use af_base::errno::Errno;
 use af_base::events::{Event, Reply, SockType, Step};
 use af_base::ids::{Fd, Pid, Uid};
 
-/// An event without bytes whose reply has none either, in 16 bytes. What is smaller than a word
-/// comes first, beside the tag.
+/// An event without bytes whose reply has none either, in 16 bytes. Fields smaller than a word
+/// come first, beside the tag.
 #[derive(Clone, Copy)]
 pub enum ShortEvent {
     Spawn(bool, Uid, u32),

@@ -30,7 +30,7 @@ looked es q = get-from_entries nat_list_cmp_total _ q ∙ found es q
 ties : (k q : List ℕ) → pointwise nat_eq k q ≡ eq_by_cmp (slice_cmp nat_cmp) q k
 ties k q = nat_list_eq_equiv.symm k q ∙ texts_ties q k
 
--- What a change at one name leaves at each.
+-- The value at each name after a change at one.
 changed : (es fs : List (Vec ℕ × ℕ)) (k : List ℕ) (w : Option ℕ) → lookup (has k) fs ≡ w → KeepsOthers alike (has k) es fs
     → (q : List ℕ) → get (named fs) q ≡ cond (eq_by_cmp (slice_cmp nat_cmp) q k) w (get (named es) q)
 unfolding KeepsOthers

@@ -1,4 +1,4 @@
--- What a call appends to a text.
+-- The bytes that a call appends to a text.
 use Rattle.std.specs.Prelude.{◌≡◌, ℕ, ◌++◌, List, String, string_bytes}
 
 -- The text is the old one with these bytes behind it.

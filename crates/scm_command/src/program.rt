@@ -78,7 +78,7 @@ fn race_text<H: Threads + Wait + Sync>(
     Ok(text?)
 }
 
-/// The same of a race with checkpoints.
+/// Runs a race with checkpoints, and returns its text.
 fn long_race_text<H: Threads + Wait + Sync>(
     rt: &H,
     alloc: Global,

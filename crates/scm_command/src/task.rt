@@ -112,7 +112,7 @@ fn with_number<'a>(
     command.arg(number_option(alloc, name, least, most, help))
 }
 
-/// The option for the events between two checkpoints, which may be left out.
+/// Makes the option for the events between two checkpoints, which may be left out.
 fn checkpoint_option<'a>(alloc: Global) -> Arg<'a>
     ensures shape { rule_of result ≡ checkpoint_rule }
     ensures local { result.global ≡ false }
@@ -205,7 +205,7 @@ fn number(matches: &ArgMatches<'_>, name: &str, least: u32, most: u32) -> Option
     }
 }
 
-/// How many events each worker does at most: without checkpoints all have to fit into one log.
+/// Returns how many events each worker does at most: without checkpoints all fit into one log.
 fn most_steps(checkpoint: u32) -> u32
     ensures { result ≡ most_steps checkpoint }
 {
@@ -291,7 +291,7 @@ pub fn task_of<'a, S: AsStr>(alloc: Global, words: &'a [S]) -> Result<Task<'a>, 
     ensures ranges { IfOk result IsInRange }
     ensures fit { IfOk result (λ _. fits (map S.text words.entry.now) ≡ true) }
 
-    // Where the words fit the command and name a task, only want of memory is an error.
+    // Where the words fit the command and name a task, only refused memory is an error.
     ensures err { IfErr result (λ error. (task : Asked) → fits (map S.text words.entry.now) ≡ true
         → Names (map S.text words.entry.now) task → kind_of error ≡ OutOfMemory) }
 {

@@ -47,7 +47,7 @@ pub fn item(word: &[u8]) -> Option<(Fd, usize)>
     }
 }
 
-/// Copies of a descriptor at the end.
+/// Appends copies of a descriptor.
 fn push_copies(fds: &mut Descriptors, fd: Fd, copies: usize) -> Result<(), AllocError>
     ensures { OnOk result (fds.new.items ≡ fds.old.items ++ replicate copies fd) }
 {

@@ -90,7 +90,7 @@ pub fn verb_in(version: Version, bytes: &[u8]) -> Option<(Pid, Verb, &[u8])>
         ≡ option_map (λ does. line.Event (event.Proc found.0 does))
         (read_form (step_row found.1).1 (words_of found.2.now))) }
 {
-    // What begins with no digit is a keyword's line, as a rule.
+    // A line that begins with no digit is a keyword's, as a rule.
     if bytes.len() > MAX_LINE || !matches!(bytes, [b'0'..=b'9', ..]) {
         return None;
     }

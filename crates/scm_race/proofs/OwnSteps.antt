@@ -13,7 +13,7 @@ use Rattle.scm_race.specs.Table.{event_of_word}
 own-steps : (process : ℕ) → (steps : List Step) → All (IsStepOf process) (map (event.Proc process) steps)
 own-steps process steps = All-map (IsStepOf process) (event.Proc process) steps (λ k d _. refl)
 
--- Words stand for steps of the worker's process.
+-- Words give steps of the worker's process.
 own-words : (worker workers : ℕ) → (words : List ℕ) → All (IsStepOf worker) (map (event_of_word worker workers) words)
 own-words worker workers words = All-map (IsStepOf worker) (event_of_word worker workers) words (λ k d _. refl)
 

@@ -72,7 +72,7 @@ works-are made workers steps seed budget is = scripts-work made (record { turns 
 nothing : Work
 nothing = Collects 0 0
 
--- The work of a script stands at its place, before the collector's.
+-- The work of a script is at its place, before the collector's.
 pub script-work : (scripts : List (List Event)) (turns budget i : ℕ) → i < length scripts → slice_get (map Script scripts ++ Collects turns budget ∷ []) i ≡ Some (Script (slice_index_or scripts i []))
 script-work scripts turns budget i lt =
     let mapped = length-map scripts Script in

@@ -56,7 +56,7 @@ EndsInPass old new = (between : List Pair) × (pass : ℕ) × (reclaimed : ℕ)
     × (new ≡ old ++ between ++ (event.Pass, reply.Done pass reclaimed) ∷ [])
 
 -- The log of a race that ended well: it is a run of the machine; each worker did its script, and
--- the collector so many turns, as `Turns` says; the main thread started the processes first, and
+-- the collector this many turns, as `Turns` says; the main thread started the processes first, and
 -- ended with a whole pass that was done.
 pub record RacedBy (Turns : ℕ → List Pair → Type 0) (workers steps seed : ℕ) (b : BookView) : Type 0 where
   pub legal : IsLegal b.seats b.machine b.log

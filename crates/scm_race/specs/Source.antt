@@ -1,4 +1,4 @@
--- What is left of a script that is made in parts.
+-- The rest of a script that is made in parts.
 use Rattle.std.specs.Prelude.{ℕ, zero, suc, Bool, List, [], ◌∷◌, ◌++◌, drop, map, if◌then◌else◌}
 use Rattle.af_base.specs.declared.events.Event.{Event}
 use Rattle.af_base.specs.declared.events.Event.TheVariants as event

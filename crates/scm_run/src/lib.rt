@@ -3,7 +3,7 @@
 //! A caller wants [`run_script`] and [`RunFault`]. Each line is read by `scm_lines`,
 //! done by an engine of `af_steps` (`line`), and its text, of a reply (`text`) or of a report
 //! (`af_report`), is made whole and gathered: it is written before the next read (`gather`).
-//! An event goes from its words to its text by a typed call (`steps`, `outcome`).
+//! An event is read, done by a typed call, and answered as text (`steps`, `outcome`).
 //! A [`Watched`] stream remembers whether it failed, so a fault says which one did (`watched`).
 #![tactic(auto)]
 

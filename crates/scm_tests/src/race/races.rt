@@ -123,7 +123,7 @@ fn one_refused(rt: HostRuntime) {
     ended_well(&rt, end, 18, 9);
 }
 
-/// A race of so many workers and steps with checkpoints.
+/// Makes a race of this many workers and steps with checkpoints.
 fn long_race(workers: u32, steps: u32, checkpoint: u32) -> LongRace
     ensures { result ≡ record {
       race = record { workers = workers; steps = steps; seed = 8; budget = 8 };

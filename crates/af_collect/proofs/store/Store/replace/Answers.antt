@@ -34,7 +34,7 @@ use Rattle.af_collect.proofs.store.Store.replace.Goals as goal
 abbrev vacated : Option ℕ → FilesView → FilesView
 vacated o v = option_map_or (λ f. without_file_ref Table f v) o v
 
--- What is kept of them.
+-- Their counts.
 kept-vacated : (o : Option ℕ) (v : FilesView) (l : LedgerView) → kept_of (vacated o v).counts l ≡ option_map_or (λ f. without_ref Table f (kept_of v.counts l)) o (kept_of v.counts l)
 kept-vacated None v l = refl
 kept-vacated (Some f) v l = refl
@@ -44,7 +44,7 @@ rest-vacated : (o : Option ℕ) (v : FilesView) → vacated o v ≡ record v { c
 rest-vacated None v = refl
 rest-vacated (Some f) v = refl
 
--- What a number stands for is counted.
+-- The file of a descriptor is counted.
 counted : (o : Option ℕ) (w : World) (p n : ℕ) (k : Tally) → table_at w p n ≡ o → Agrees w k → IfSome o (λ f. IsCounted Table (count_in_map k.counts f))
 counted None w p n k is a = tt
 counted (Some f) w p n k is a = (can-drop-table w p n f k is a).0
@@ -54,7 +54,7 @@ lower_number-requires c =
     let h = c.places.inside in
     counted c.replace-was.result (the_view h).world c.args.pid c.args.fd (kept_of h.files.counts h.ledger) (sym c.replace-was.ensures.value) c.places.invariant.agrees
 
--- Without what the number stood for all is exact.
+-- All is exact once the descriptor is closed.
 without : (c : After-lower_number) → IsExact (uninstall (the_view c.places.inside).world c.args.pid c.args.fd) (kept_of c.lower_number.new.files.counts c.places.inside.ledger)
 without c =
     let h = c.places.inside in
