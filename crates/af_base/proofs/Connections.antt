@@ -1,4 +1,5 @@
--- A socket that gets a name, listens, is connected to or accepts: the world stays whole and within the limits.
+-- A socket that gets a name, listens, is connected to or accepts: the world stays whole and within
+-- the limits.
 use Rattle.std.proofs.Common.{◌≡◌, ◌<◌, ◌≤◌, ℕ, true, false, ◌⊎◌, inl, inr, List, [], ◌∷◌, ◌++◌, drop, length, refl, sym, ap, ◌∙◌, subst, cond, nat_eq, arith, length-append}
 use Rattle.std.specs.Prelude.{Some, is_some}
 use Rattle.std.specs.Option.{option_map_or}

@@ -1,4 +1,5 @@
--- The places of a file by their kinds: they add up to its references, and those in flight are among all in flight.
+-- The places of a file by their kinds: they add up to its references, and those in flight are among
+-- all in flight.
 use Rattle.std.proofs.Common.{◌≡◌, ◌≤◌, ℕ, ◌+◌, List, [], ◌∷◌, length, refl, arith}
 use Rattle.std.specs.List.{sum_by}
 use Rattle.std.specs.FinMap as map

@@ -158,7 +158,8 @@ module _ {X : Type 0} (chosen : X → Bool) where
       pub just-struck : (gs : List ℕ) → chosen x ≡ false → ((f : ℕ) → count_in f gs ≡ count_in f fs - one f k) → ListsExactly chosen n gs
       just-struck gs not = less gs (λ f. now f ∙ ap (λ b. cond (nat_eq f k) b (chosen_at m f)) not)
 
-      -- One is chosen, and its key is the last of the list, which is no longer than there are values.
+      -- One is chosen, and its key is the last of the list, which is no longer than there are
+      -- values.
       pub just-pushed : chosen x ≡ true → chosen_at m k ≡ false → ListsExactly chosen n (fs ++ k ∷ []) × (length fs < map.len n)
       just-pushed so not = (each, let most = just-few n (fs ++ k ∷ []) each in omega (arith, most, length-append fs (k ∷ []))) where
         each : ListsExactly chosen n (fs ++ k ∷ [])

@@ -8,7 +8,8 @@ use Rattle.af_base.specs.Unheld.{Goes, IsSettled}
 use Rattle.af_base.proofs.CountSums.{inflight-total, refs-add_up}
 use Rattle.af_base.proofs.PlacesAndCounts.{InTable-tabled, held_by_none}
 
--- Where nothing is in flight and no embryo waits, a table holds each file of a settled world: so nothing is garbage.
+-- Where nothing is in flight and no embryo waits, a table holds each file of a settled world: so
+-- nothing is garbage.
 pub all_tabled : (w : World) → IsSettled w → total w ≡ 0 → ((f : ℕ) → waiting w f ≡ 0) → (f : ℕ) → IsLive w f → InTable w f
 all_tabled w settled none nobody f l = elim (cases_lt 0 (tabled w f)) [
   | inl some ↦ InTable-tabled w f some

@@ -224,7 +224,8 @@ emptied-faces test w f e = ap (option_map face_of) (get-emptied test w f ∙ ap 
   each None = refl
   each (Some x) = refl
 
--- A purge of these files keeps the readiness of each other file whose peer is not among them and stays live.
+-- A purge of these files keeps the readiness of each other file whose peer is not among them and
+-- stays live.
 pub purge-ready : (old new : World) (test : ℕ → Bool) → IsWhole old → Purges test old new → (f : ℕ) → IsLive old f → IsLive new f → test f ≡ false
     → ((q : ℕ) → state_at old f ≡ state.Connected q → IsLive new q × (test q ≡ false)) → ready new f ≡ ready old f
 purge-ready old new test whole purged f was is e peer = same-ready new old f (face f is e (λ q d. (peer q d).0)) (λ q d.

@@ -108,7 +108,8 @@ whole-settles old new s k = subst IsWhole (sym s.2) (whole-gone s.0 old (λ f e.
   by : (f : ℕ) → Unheld old f → (¬ (InTable old f)) × ((q : ℕ) → s.0 q ≡ false → ¬ (Holds old q f))
   by _ (Goes f l no_table hs) = (no_table, λ q e h. false≢true (sym e ∙ (s.1 q).1 (hs q h)))
 
--- A socket changed, with live files only, where peers stay mutual, no two have one name and no file waits twice.
+-- A socket changed, with live files only, where peers stay mutual, no two have one name and no file
+-- waits twice.
 pub whole-socket : (w : World) (s : ℕ) (g : Socket → Socket)
     → ((x : Socket) (f : ℕ) → map.get w.files s ≡ Some (AsSocket x) → Contains (contents (AsSocket (g x))) f → Contains (contents (AsSocket x)) f ⊎ IsLive w f)
     → AreMutual (with_socket w s g) → AreNamedApart (with_socket w s g) → WaitOnce (with_socket w s g) → IsWhole w → IsWhole (with_socket w s g)

@@ -210,7 +210,8 @@ no_room (state.Listening b) e = absurd (false≢true (sym e))
 no_room (state.Connected p) e = refl
 no_room state.HungUp e = refl
 
--- A socket more with nothing in it, which does not listen and has no name, where there is room for one.
+-- A socket more with nothing in it, which does not listen and has no name, where there is room for
+-- one.
 pub within-add_file : (w : World) (s : Socket) → IsWithin w → map.len w.files + 1 ≤ MAX_FILES → w.next_ino ≤ MAX_INO → s.queue ≡ [] → s.backlog ≡ [] → s.name ≡ None → is_listening s.state ≡ false → IsWithin (add_file w (AsSocket s))
 within-add_file w s k room low bare none_waits unnamed silent = record {
   process_count = k.process_count;

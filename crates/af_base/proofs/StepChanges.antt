@@ -40,7 +40,8 @@ IsKnown old f = Reached old f ⊎ (old.next_ino ≤ f)
 abbrev pub Fits : World → Type 0
 Fits w = IsWhole w × IsWithin w
 
--- How the places of a world come of those of the old one: what a table or a socket holds afterwards it held, or it was known; and a new file holds nothing.
+-- How the places of a world come of those of the old one: what a table or a socket holds afterwards
+-- it held, or it was known; and a new file holds nothing.
 pub data Places (old : World) : World → Type 0 where
   Same : Places old old
   Tables : (w : World) (ps : Map Process) (pid : ℕ) (us : List ℕ) → Places old w → ((f : ℕ) → InTable (record w { processes = ps }) f → InTable w f ⊎ IsKnown old f) → Places old (record w { processes = ps; next_pid = pid; users = us })

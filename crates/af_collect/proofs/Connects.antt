@@ -1,4 +1,5 @@
--- A client that is connected to an embryo, and an embryo that comes into a backlog: the store stays exact.
+-- A client that is connected to an embryo, and an embryo that comes into a backlog: the store stays
+-- exact.
 use Rattle.std.proofs.Common.{◌≡◌, ◌<◌, ℕ, true, false, length, refl, sym, ap, ◌∙◌, cond, nat_eq, arith}
 use Rattle.std.specs.Prelude.{Some}
 use Rattle.std.specs.List.{sum_by}

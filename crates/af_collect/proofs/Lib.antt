@@ -36,7 +36,8 @@ pub mod Slices
 pub mod TablePlaces
 pub mod SocketChanges
 pub mod NewFilePlaces
--- The duties of each change to the pass: lost files are shaded before, and the invariant holds after.
+-- The duties of each change to the pass: lost files are shaded before, and the invariant holds
+-- after.
 pub mod FileContents
 pub mod LostFiles
 pub mod PlaceChanges

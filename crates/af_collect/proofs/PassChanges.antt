@@ -203,7 +203,8 @@ module _ {w begun : World} where
       } in
       record { known = k.known; stage = subst (λ s. IsStage s w begun m d) (sym e) q }
 
-  -- The next live file is visited: it is marked if a table holds it. If it was not marked and holds nothing, it may be scanned in the same look, which then counts as two.
+  -- The next live file is visited: it is marked if a table holds it. If it was not marked and holds
+  -- nothing, it may be scanned in the same look, which then counts as two.
   pub kept_visit : (scanned : Bool) (m : MarksView) (c : PassProgress) (x : ℕ) → (scanned ≡ true → (held_by w x ≡ []) × (is_due w m x ≡ true)) → IsWhole w → c.stage ≡ Marking → IsLive w x → c.visited ≤ x → x < m.bound → ((g : ℕ) → c.visited ≤ g → g < x → is_live w g ≡ false)
       → PassInvariant w begun m c → PassInvariant w begun (visited scanned (tabled w x) x m) (record c { visited = x + 1; looked = c.looked + units_of scanned })
   kept_visit scanned m c x bare whole e l from low none k = by scanned refl where
@@ -353,7 +354,8 @@ module _ (w begun : World) (m : MarksView) (c : PassProgress) (x : ℕ) (l : IsL
       running_of (forgotten x m) (counted w m x c) (marked_forgotten m x) (grey_forgotten m x) refl (since_drop begun w x m.bound r.since)
       (λ f e. r.marked f (and_parts (is_marked m f) (not (nat_eq x f)) e).0) (counted_drop begun w x (is_marked m) (is_grey m) (below c.visited) (below c.swept) c.looked r.counted) r.low
 
-  -- An unheld and empty file is freed: it is forgotten, and counted if sweeping and it is an unmarked socket of the begin.
+  -- An unheld and empty file is freed: it is forgotten, and counted if sweeping and it is an
+  -- unmarked socket of the begin.
   pub kept_gone : PassInvariant w begun m c → PassInvariant (without (nat_eq x) w) begun (forgotten x m) (counted w m x c)
   kept_gone k = record { known = known_gone w x m k.known; stage = by c.stage refl k.stage } where
     by : (s : Stage) → c.stage ≡ s → IsStage s w begun m c → IsStage s (without (nat_eq x) w) begun (forgotten x m) (counted w m x c)

@@ -23,7 +23,8 @@ use Rattle.af_collect.specs.declared.holdings.Holdings.TheInside.{Inside}
 use Rattle.af_collect.specs.declared.parts.Collector.{Collector}
 use Rattle.af_collect.proofs.PlaceChanges.{kept_socket}
 
--- These processes, files and charges are exact, and what these parts keep of the pass is kept with them.
+-- These processes, files and charges are exact, and what these parts keep of the pass is kept with
+-- them.
 abbrev pub BothInvariants : Collector → Procs → FilesView → LedgerView → Type 0
 BothInvariants p procs files ledger = AreExact procs files ledger × PassInvariant (world_of procs files ledger) p.begun.value.world files.marks p.progress
 

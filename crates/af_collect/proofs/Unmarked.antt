@@ -1,4 +1,5 @@
--- Where marking has ended, the files of the begin that are not marked are the live garbage of the begin.
+-- Where marking has ended, the files of the begin that are not marked are the live garbage of the
+-- begin.
 use Rattle.std.proofs.Common.{◌≡◌, ◌<◌, ℕ, Bool, true, false, not, ◌&&◌, ◌↔◌, refl, sym, ap, ◌∙◌, inl, inr}
 use Rattle.std.proofs.lemmas.Bool.{false≢true}
 use Rattle.af_base.specs.World.{World, IsLive, is_live}
@@ -28,7 +29,8 @@ module _ {begun now : World} {marked grey visited : ℕ → Bool} (bound : ℕ) 
         | inr (inr waits) ↦ absurd (false≢true (sym waits.1 ∙ scanned s (reached_marked s r waits.0)))
       ]
 
-  -- Where marking has ended, a file of the begin that lives is not marked exactly where it was garbage.
+  -- Where marking has ended, a file of the begin that lives is not marked exactly where it was
+  -- garbage.
   pub exact : (f : ℕ) → IsLive begun f → IsLive now f → (marked f ≡ false) ↔ Garbage begun f
   exact f was live = (λ e. (was, λ r. false≢true (sym e ∙ reached_marked f r live)), λ g. m.only_reached f g)
 

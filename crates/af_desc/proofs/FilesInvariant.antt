@@ -1,4 +1,5 @@
--- Rows stay consistent with all else, whatever files are made, freed or counted, and what they show then.
+-- Rows stay consistent with all else, whatever files are made, freed or counted, and what they show
+-- then.
 use Rattle.std.proofs.Common.{◌≡◌, ◌≤◌, ◌+◌, ◌-◌, ℕ, Bool, false, List, refl, sym, ap, ◌∙◌, subst, nat_eq, arith}
 use Rattle.std.specs.Prelude.{None, Option, Some, Result, Ok, Err, OnErr, OnOk, is_some}
 use Rattle.std.specs.FinMap as map
@@ -57,7 +58,8 @@ module _ {embryos bound white : ℕ} (old new : TrackedTableView) (ws : List ℕ
   filed-renewed m e b gs wide is listed wider n whites =
       subst (λ r. FilesInvariant r ws room names next e gs wide embryos b n) (sym is) (record { last = h.last; begins = h.begins; named = h.named; unreferenced_listed = h.unreferenced_listed; fits = h.fits; listed = listed; backlogged = h.backlogged; whites = whites; space = (h.space.0, let least = h.space.1 in omega (arith, least, wider)) })
 
-  -- Other marks of the same files, the list of those that are grey then, and how many are still to be marked.
+  -- Other marks of the same files, the list of those that are grey then, and how many are still to
+  -- be marked.
   pub filed-marked : (m : Map Mark) (gs : List ℕ) (wide : ℕ) → new ≡ record old { marks = m } → IsGreyList m epoch gs wide → most ≤ wide → (n : ℕ) → AreWhite m epoch bound next n → FilesInvariant new ws room names next epoch gs wide embryos bound n
   filed-marked m gs wide is listed wider n whites = filed-renewed m epoch bound gs wide is listed wider n whites
 
@@ -84,7 +86,8 @@ module _ {embryos bound white : ℕ} (old new : TrackedTableView) (ws : List ℕ
       let few : map.len m ≤ space = omega (arith, fits, many, more, ap (λ r. map.len r.counts) is) in
       subst (λ r. FilesInvariant r vs space names next epoch grey most n bound white) (sym is) (record { last = h.last; begins = h.begins; named = h.named; unreferenced_listed = unreferenced_listed; fits = few; listed = h.listed; backlogged = counted; whites = h.whites; space = (let low = h.space.0 in omega (arith, low, more), h.space.1) })
 
-  -- A file more, without a name, which a place holds: there is room for it in both lists, and it is in none.
+  -- A file more, without a name, which a place holds: there is room for it in both lists, and it is
+  -- in none.
   pub filed-entered : (x : File) (p : Place) → new ≡ with_row next x p new.room old → map.contains_key old.files next ≡ false → map.contains_key old.counts next ≡ false → map.contains_key old.marks next ≡ false → name_of x ≡ None
       → map.len old.counts + 1 ≤ room → map.len old.marks + 1 ≤ most → (k : ℕ) → k ≡ with_embryo p embryos → FilesInvariant new ws room names (next + 1) epoch grey most k bound white
   filed-entered x p is stranger uncounted_before unmarked_before nameless fits few k embryo = let low = h.last in record {
@@ -99,7 +102,8 @@ module _ {embryos bound white : ℕ} (old new : TrackedTableView) (ws : List ℕ
     space = (let most = h.space.0 in omega (arith, most, ap (λ r. r.space) is), let least = h.space.1 in omega (arith, least, ap (λ r. r.space) is));
   }
 
-  -- A file less that was not grey, with the names that are left, and the unreferenced ones without it.
+  -- A file less that was not grey, with the names that are left, and the unreferenced ones without
+  -- it.
   pub filed-removed : (k : ℕ) (left : NamesView) (vs : List ℕ) (space : ℕ) → new ≡ without_row k new.room new.space old → new.space ≤ old.space → AreNamed left (map.remove old.files k) → ((f : ℕ) → count_in f vs ≡ count_in f ws - one f k) → room ≤ space
       → option_map_or is_grey_color (map.get (colors_in epoch old.marks) k) false ≡ false → (n : ℕ) → white_count (record { colors = map.remove (colors_in epoch old.marks) k; bound = bound }) ≤ n
       → FilesInvariant new vs space left next epoch grey most embryos bound n

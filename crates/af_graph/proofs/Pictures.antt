@@ -30,7 +30,8 @@ pub keyed-text : {A X : Type 0} (key : A → ℕ) (value : A → X) (F : ℕ × 
     → flat_map F (finmap.entries (keyed key value xs)) ≡ flat_map (λ x. F (key x, value x)) xs
 keyed-text key value F xs rise = ap (flat_map F) (keyed-entries key value xs rise) ∙ flat_map-map F (λ x. (key x, value x)) xs
 
--- A text that says the same of each value when it is changed says the same of a map whose values are changed.
+-- A text that says the same of each value when it is changed says the same of a map whose values
+-- are changed.
 changed-text : {X : Type 0} (g : X → X) (F : ℕ × X → List ℕ) → ((e : ℕ × X) → F (changed g e) ≡ F e) → (m : Map X)
     → flat_map F (finmap.entries (map_entries (λ _. g) (finmap.entries m))) ≡ flat_map F (finmap.entries m)
 changed-text g F same m =

@@ -84,7 +84,8 @@ module _ (w : World) (p n max_bytes max_fds : ℕ) where
     by None e d = absurd (false≢true (sym d))
     by (Some g) e d = open-install_all w p n g (process_at w p) (got_at w p n max_bytes max_fds) (taken_on w p n max_bytes).attached (there none) (sym (there-table w p n (process_at w p) (there none)) ∙ e) free
 
-  -- The result of a receive is the same, if the files are and the descriptor refers to the same one.
+  -- The result of a receive is the same, if the files are and the descriptor refers to the same
+  -- one.
   same-taken : (v : World) (asked : ℕ) → v.files ≡ w.files → table_at v p n ≡ table_at w p n → taken_on v p n asked ≡ taken_on w p n asked
   same-taken v asked files number = λ i.
       let s = unwrap_or (option_and_then (λ f. option_and_then socket_of (map.get (files i) f)) (number i)) no_socket in

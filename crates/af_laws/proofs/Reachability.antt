@@ -23,7 +23,8 @@ use Rattle.af_base.proofs.SoundSteps.{effect-changes, spawn-changes}
 use Rattle.af_laws.proofs.Chains.{holder_live, purging_keeps_reached, purging_reaches_nothing, reached_before}
 use Rattle.af_laws.specs.Reaching.{GarbageStaysOutOfReach, SpawnReachesNoGarbage, StepReachesNoGarbage}
 
--- Where each place of a world is one of the old, or holds what was reached or is new, a chain leads to what was reached or is new.
+-- Where each place of a world is one of the old, or holds what was reached or is new, a chain leads
+-- to what was reached or is new.
 module _ (old now : World) (whole : IsWhole old) (tables : (f : ℕ) → InTable now f → IsKnown old f) (holders : (s f : ℕ) → Holds now s f → Holds old s f ⊎ IsKnown old f) where
   reached_or_new : (f : ℕ) → Reached now f → IsKnown old f
   reached_or_new _ (ByTable f t) = tables f t
@@ -38,7 +39,8 @@ module _ (old now : World) (whole : IsWhole old) (tables : (f : ℕ) → InTable
 abbrev Leads : World → World → Type 0
 Leads old now = (f : ℕ) → Reached now f → IsKnown old f
 
--- Where the places of a world are from: each is one of the old, or holds what was known; and numbers are given in order.
+-- Where the places of a world are from: each is one of the old, or holds what was known; and
+-- numbers are given in order.
 pub record IsFrom (old now : World) : Type 0 where
   pub tables : (f : ℕ) → InTable now f → IsKnown old f
   pub holders : (s f : ℕ) → Holds now s f → Holds old s f ⊎ IsKnown old f

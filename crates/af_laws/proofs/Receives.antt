@@ -157,7 +157,8 @@ brought-past q c p = ap (λ b. cond b (files q) []) (lt-ltb _ _ p)
 brought-none : (q : List Message) (c : ℕ) → c ≤ before q → brought q c ≡ []
 brought-none q c p = ap (λ b. cond b (files q) []) (le-ltb _ _ p)
 
--- Where one byte and c more can be taken, the c can be taken after the one, and the files come with one or with the others.
+-- Where one byte and c more can be taken, the c can be taken after the one, and the files come with
+-- one or with the others.
 one-byte : (q : List Message) → HaveBytes q → (c : ℕ) → suc c ≤ end q → (c ≤ end (cut 1 q)) × (brought q 1 ++ brought (cut 1 q) c ≡ brought q (suc c))
 one-byte [] h c p = absurd (omega (arith, p))
 one-byte (x ∷ q) h c p = elim (cases_Bool (has_files x)) [

@@ -1,4 +1,5 @@
--- Slices of a pass, with no steps between them, are a whole pass, and one slice can be; and a slice spares what is reached.
+-- Slices of a pass, with no steps between them, are a whole pass, and one slice can be; and a slice
+-- spares what is reached.
 use Rattle.std.proofs.Common.{◌≡◌, ◌⊎◌, inl, inr, ◌≤◌, ℕ, ◌+◌, Bool, true, false, ◌||◌, List, [], ◌∷◌, refl, sym, ap, ◌∙◌, subst, cond, length, map as each, arith}
 use Rattle.std.specs.Prelude.{◌↔◌, Option, Some, None, filter, is_some, nat_eq, option_map, if◌then◌else◌}
 use Rattle.std.specs.List.{All, list_any}
@@ -65,7 +66,8 @@ emptied_dead t w dead = ap (λ fs. record w { files = fs }) (map.same_map nat_cm
 purges_dead : (t : ℕ → Bool) (w : World) → IsSettled w → ((f : ℕ) → t f ≡ true → ¬ (IsLive w f)) → Purges t w w
 purges_dead t w settled dead = subst (λ x. Settles x w) (sym (emptied_dead t w dead)) (settles_none w settled)
 
--- The pass that began at `old` runs, and since then nothing was changed but that some garbage of the begin was purged.
+-- The pass that began at `old` runs, and since then nothing was changed but that some garbage of
+-- the begin was purged.
 record IsPartly (old m : Machine) : Type 0 where
   spent : ℕ
   runs : m.pass ≡ Running old.world spent

@@ -1,4 +1,5 @@
--- A whole pass keeps the rest of the world, and leaves no garbage: neither that of its begin nor any other.
+-- A whole pass keeps the rest of the world, and leaves no garbage: neither that of its begin nor
+-- any other.
 use Rattle.std.proofs.Common.{◌≡◌, ℕ, Bool, true, false, not, [], refl, sym, ap, ◌∙◌, subst, cond}
 use Rattle.std.specs.Prelude.{◌↔◌, Option, Some, None, is_some, option_map, if◌then◌else◌}
 use Rattle.std.specs.Option.{option_map_or}

@@ -19,7 +19,8 @@ use Rattle.af_steps.specs.Outcome.{Does, Refuses, RefusesStart, Starts, error_of
 use Rattle.af_steps.proofs.FoldedReplies.{does-step, refuses-step}
 use Rattle.af_layer.specs.Shared.{IsReplyTo, TellsReply, TellsStep}
 
--- the machine that the lock holds, that which a call begins at, which is the same, and that which it ends at
+-- the machine that the lock holds, that which a call begins at, which is the same, and that which
+-- it ends at
 module _ (held old new : Machine) (sound : IsSound held.world) (same : old ≡ held) where
   -- The call begins at a sound machine.
   begins_sound : IsSound old.world

@@ -204,7 +204,8 @@ module _ (u : ℕ) where
   recharged-by : (g h : ℕ → ℕ) (us : List (ℕ × ℕ)) → ((n : ℕ) → g n ≡ h n) → recharged g u us ≡ recharged h u us
   recharged-by g h us same = λ i. recharged (λ n. same n i) u us
 
-  -- Holding each of several files charges the user by their number, and leaves the rest but for the counts.
+  -- Holding each of several files charges the user by their number, and leaves the rest but for the
+  -- counts.
   pub charged-held_all : (fs : List ℕ) (k : Tally) → record (charged_by (length fs) u k) { counts = (with_refs (Queue u) fs k).counts } ≡ with_refs (Queue u) fs k
   charged-held_all [] k =
       let total : k.total + 0 ≡ k.total = omega arith in

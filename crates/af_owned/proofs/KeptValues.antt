@@ -243,7 +243,8 @@ unlisted-live m values last told h tells f there none = by (is_live m.world f) (
   by false true given e = absurd (omega (arith, e, none))
   by false false given e = absurd (false≢true given)
 
--- An engine to which nothing has happened, and that tells which files are freed, and maybe whose readiness changed.
+-- An engine to which nothing has happened, and that tells which files are freed, and maybe whose
+-- readiness changed.
 abbrev pub asking : Bool → Machine
 asking readiness = record fresh { since = record { changed = readiness; released = true; files = map.empty; next = 1 } }
 

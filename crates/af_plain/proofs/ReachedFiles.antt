@@ -56,7 +56,8 @@ held_listed files s f h = walk files (subst (λ xs. Contains xs f) (held_found f
   walk [] h = absurd (Contains-none f h)
   walk (x ∷ xs) h = either (nat_eq s x.ino) x xs (walk xs) h
 
--- So far: what was found is reached, what tables hold was found, and what a found socket holds was found or the socket is still to be looked at.
+-- So far: what was found is reached, what tables hold was found, and what a found socket holds was
+-- found or the socket is still to be looked at.
 pub record Searches (w : World) (m : Marking) : Type 0 where
   pub sound : (f : ℕ) → tree.contains nat_cmp m.marked f ≡ true → Reached w f
   pub tables : (f : ℕ) → InTable w f → tree.contains nat_cmp m.marked f ≡ true

@@ -1,4 +1,5 @@
--- The count of a number in a rising list is the distance between the end of the lower ones and the begin of the higher ones.
+-- The count of a number in a rising list is the distance between the end of the lower ones and the
+-- begin of the higher ones.
 use Rattle.std.proofs.Common.{◌≡◌, ◌≤◌, ℕ, zero, suc, ◌+◌, Bool, true, false, List, [], ◌∷◌, length, refl, ap, arith, cond, nat_eq, leb}
 use Rattle.std.specs.List.{count_by}
 use Rattle.std.specs.List.Sorted.{IsPartitionPoint}

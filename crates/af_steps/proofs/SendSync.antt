@@ -1,4 +1,5 @@
--- An engine may go to another thread. The snapshots in the parts of a store and in the rows of files own nothing; for the rest there are generated facts.
+-- An engine may go to another thread. The snapshots in the parts of a store and in the rows of
+-- files own nothing; for the rest there are generated facts.
 use denote.Param.Send.{IsSend, sendable}
 use denote.Param.SendFields.{declared_send}
 use Rattle.std.proofs.Crossing.{crosses}

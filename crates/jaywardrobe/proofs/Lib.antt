@@ -1,4 +1,5 @@
--- Lemmas on the machine's words: of look-ups, changes and settling, of tests that do not fit, of listings, and of what threads may share.
+-- Lemmas on the machine's words: of look-ups, changes and settling, of tests that do not fit, of
+-- listings, and of what threads may share.
 pub use Rattle.af_base.proofs.Lookups
 pub use Rattle.af_base.proofs.PlaceMoves
 pub use Rattle.af_base.proofs.SettledWorlds

@@ -184,7 +184,8 @@ ends-after old more all part is ended =
       is ∙ ap (λ l. (old ++ more) ++ l) ended.3 ∙ sym (append_assoc (old ++ more) ended.0 last) ∙ ap (λ l. l ++ last) (append_assoc old more ended.0),
     )
 
--- The book of a part: its log is legal from the machine where the last part ended, to that where this one does.
+-- The book of a part: its log is legal from the machine where the last part ended, to that where
+-- this one does.
 module _ (workers steps seed budget : ℕ) (b book : BookView) (is : book ≡ taken b) (legal : IsLegalFrom b.start b.seats b.machine b.log) where
   -- The first part: the processes were started.
   pub goes-first : b.start ≡ fresh → LogHas (workers + 2) (IsOfStart workers) b.log → Continues workers steps seed budget 0 book

@@ -47,7 +47,8 @@ found-within (x ∷ q) m e = by (found-within q m) (has_files x) refl where
   by rest true t = subst (Contains (x ∷ q)) (some_same x m (sym (find-here x q t) ∙ e)) (Contains-first x q)
   by rest false t = Contains-later x q m (rest (sym (find-later x q t) ∙ e))
 
--- A receive from a stream takes at most as many bytes as it asks for, and the files of one message at most.
+-- A receive from a stream takes at most as many bytes as it asks for, and the files of one message
+-- at most.
 stream-within : (q : List Message) (n : ℕ) → n ≤ MAX_BYTES → AreWithin q → (o : Option Message) → find has_files q ≡ o → (length (up_to q n o).bytes ≤ MAX_BYTES) × (length (up_to q n o).attached ≤ SCM_MAX_FD)
 stream-within q n low k None e = (omega (arith, low, length-take (min n (before q)) (joined q)), by (nat_lt (before q) (min n (before q)))) where
   by : (b : Bool) → length (cond {A = List ℕ} b [] []) ≤ SCM_MAX_FD

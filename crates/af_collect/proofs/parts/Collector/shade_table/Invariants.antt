@@ -1,4 +1,5 @@
--- The files of the descriptors below the next one are marked, if they are of the begin, and the invariant of the pass holds.
+-- The files of the descriptors below the next one are marked, if they are of the begin, and the
+-- invariant of the pass holds.
 use Rattle.std.proofs.Common.{◌≡◌, ◌<◌, ◌≤◌, ◌-◌, ℕ, true}
 use Rattle.std.specs.Prelude.{Some}
 use Rattle.af_base.specs.World.{IsLive}

@@ -10,7 +10,8 @@ use Rattle.af_collect.proofs.EmptiedSockets.{purged_none, purged_one}
 use Rattle.af_collect.specs.declared.parts.Collector.{Collector}
 use Rattle.af_collect.proofs.parts.Collector.sweep.Goals as goal
 
--- The invariant for a world in which all files up to this number are swept, and one file more was looked at.
+-- The invariant for a world in which all files up to this number are swept, and one file more was
+-- looked at.
 abbrev AreSwept : Collector → World → ℕ → Type 0
 AreSwept p w x = PassInvariant w p.begun.value.world p.places.marks (record p.progress { swept = x + 1; looked = p.progress.looked + 1 })
 

@@ -1,4 +1,5 @@
--- So far the pass runs, it looked at as many files as units were done, and it emptied at most as many.
+-- So far the pass runs, it looked at as many files as units were done, and it emptied at most as
+-- many.
 use Rattle.std.proofs.Common.{◌≡◌, ◌≤◌, ◌+◌, ◌-◌, true}
 use Rattle.af_base.specs.Whole.{IsSound}
 use Rattle.af_collect.specs.Keeping.{is_running}

@@ -1,4 +1,5 @@
--- The race goes on by a part, from each checkpoint to the next. The log of the last part begins where these end.
+-- The race goes on by a part, from each checkpoint to the next. The log of the last part begins
+-- where these end.
 use Rattle.std.proofs.Common.{◌≡◌, ◌≤◌, ◌+◌, ◌-◌, ◌*◌}
 use Rattle.scm_race.specs.Parts.{AreFresh, AreLeft, Continues}
 use Rattle.scm_race.proofs.long.LongRace.run.Given as goal

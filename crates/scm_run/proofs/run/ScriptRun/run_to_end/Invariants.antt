@@ -1,4 +1,5 @@
--- Some bytes were read, and what was done is the run of them, whose text is written; no stream has failed.
+-- Some bytes were read, and what was done is the run of them, whose text is written; no stream has
+-- failed.
 use Rattle.std.proofs.Common.{◌≡◌, List, ℕ, [], false}
 use Rattle.std.specs.Io.KnownBytes.{Consumes}
 use Rattle.scm_run.specs.Progress.{Ran}
