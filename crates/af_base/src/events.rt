@@ -33,15 +33,15 @@ pub enum State {
 pub enum Step {
     /// open(2) of a plain file.
     Open,
-    /// dup(2) of a number.
+    /// dup(2) of a descriptor.
     Dup(Fd),
-    /// dup2(2): the first number's description also at the second, in place of what that had.
+    /// dup2(2): the second descriptor refers to the first one's file, in place of its own.
     Dup2(Fd, Fd),
-    /// close(2) of a number.
+    /// close(2) of a descriptor.
     Close(Fd),
     /// fork(2): a child with a copy of the table.
     Fork,
-    /// The process ends (_exit(2)), and all its numbers are closed.
+    /// The process ends (_exit(2)), and all its descriptors are closed.
     Exit,
     /// socketpair(2): two sockets connected to each other.
     Pair(SockType),
@@ -64,7 +64,7 @@ pub enum Step {
     },
     /// accept(2) of the first embryo of a listener.
     Accept(Fd),
-    /// sendmsg(2) with SCM_RIGHTS: bytes, and the numbers whose descriptions go with them.
+    /// sendmsg(2) with SCM_RIGHTS: bytes, and the descriptors whose files are attached.
     Send {
         on: Fd,
         bytes: Items<u8>,
@@ -112,9 +112,9 @@ pub enum Event {
 pub enum Reply {
     /// A process was made.
     Pid(Pid),
-    /// A number was opened.
+    /// A descriptor was opened.
     Fd(Fd),
-    /// Two numbers were opened.
+    /// Two descriptors were opened.
     Fds(Fd, Fd),
     /// It was done.
     Ok,

@@ -193,7 +193,7 @@ impl Book {
     }
 }
 
-/// Logs an event without bytes, in few words if its reply can be told so. Each kind of entry is
+/// Logs an event without bytes, in few words if its reply fits into them. Each kind of entry is
 /// written where it stays, and not moved there.
 #[inline(always)]
 fn log_short(

@@ -130,7 +130,7 @@ impl Seat {
     }
 }
 
-/// Keeps an event without bytes, in few words if its reply can be told so. Each kind of pair is
+/// Keeps an event without bytes, in few words if its reply fits into them. Each kind of pair is
 /// written where it stays, and not moved there.
 #[inline(always)]
 fn keep_short(

@@ -100,8 +100,8 @@ impl Checked {
 }
 
 /// Counts the live files and the garbage, where each number that the engine keeps of a live file or
-/// a user, and the total, is the recount over plain lists of all that holds a file; else nothing,
-/// which no engine comes to.
+/// a user, and the total, is the recount over plain lists of all that holds a file. Else `None`,
+/// which no engine gives.
 pub fn count(alloc: Global, engine: &Engine) -> Result<Option<Checked>, AllocError>
     ensures agree { IfOk result IsSome }
     ensures counts { IfOk result (λ found. IfSome found (λ c. IsChecked engine.now.world c.0 c.1)) }

@@ -124,7 +124,7 @@ impl Process {
         Some(self.slots[fd.0 as usize].duplicate())
     }
 
-    /// Makes room for each descriptor below the limit, and for none beyond that had none.
+    /// Makes room for each descriptor below the limit, and adds none above it.
     #[inline(always)]
     #[tactic(auto, using(crate::proofs::Tables::table_changes))]
     pub(crate) fn make_room(&mut self) -> Result<(), AllocError>

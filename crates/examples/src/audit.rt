@@ -22,8 +22,7 @@ fn audit(rt: &HostRuntime, engine: &mut Engine) -> io::Result<()> {
     }
 }
 
-/// Prints who holds whom, and its picture, lets the collector take what nobody can come to, and
-/// prints what is left.
+/// Prints who holds whom, and its picture; then, after a pass of the collector, what is left.
 fn show(rt: &HostRuntime, engine: &mut Engine) -> io::Result<()> {
     print(rt, engine)?;
     draw(rt, engine)?;
@@ -31,7 +30,7 @@ fn show(rt: &HostRuntime, engine: &mut Engine) -> io::Result<()> {
     print(rt, engine)
 }
 
-/// Lets the collector take what nobody can come to, and prints how much that was.
+/// Runs a whole pass of the collector, and prints how many sockets it reclaimed.
 fn collect(rt: &HostRuntime, engine: &mut Engine) -> io::Result<()> {
     match engine.pass() {
         Ok(finished) => println!(rt; "pass {} reclaimed {}", finished.pass, finished.reclaimed),

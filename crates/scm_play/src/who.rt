@@ -45,7 +45,7 @@ fn push_file(text: &mut String, ino: Ino, lost: &[Ino]) -> Result<(), AllocError
 }
 
 /// Lists the files of the engine's world by rising number, a line for each: its number, whether it
-/// is garbage, which no process can come to, and each place that holds it.
+/// is garbage, which no process can reach, and each place that holds it.
 ///
 /// A place is a descriptor of a process, the queue of a socket that carries the file, or the
 /// backlog of a listener, if the file is an embryo. A file is listed once for each place. Fails

@@ -21,7 +21,7 @@ pub struct End {
 pub enum Undelivered {
     /// Something else waits to be received.
     Busy,
-    /// The receiver had no free number for it, and it was closed.
+    /// The receiver had no free descriptor for it, and it was closed.
     Closed,
     /// A call was refused. Where it was the receive, the descriptor is in flight.
     Refused(Errno),
