@@ -167,7 +167,7 @@ dirty-after old mid new fs gs space most since f g b h is n listed more = record
       ];
 }
 
--- Nobody is dirty where there is no row.
+-- Without rows no file is dirty.
 pub dirty-none : (l : FileTableView) (fs : List ℕ) (space : ℕ) (since : Since) → l.dirty ≡ map.empty → fs ≡ [] → since.changed ≡ false → FitsDirty l fs space since
 dirty-none l fs space since none empty off = record {
   listed = just-empty (λ b. b) l.dirty fs none empty;

@@ -21,7 +21,7 @@ use smallvec::SmallVec;
 use std::alloc::{AllocError, Global};
 use std::marker::Model;
 
-/// How many files `Queue::attached_from` tells at once.
+/// How many files `Queue::attached_from` returns at most.
 pub const BATCH: usize = 16;
 
 /// The messages that a socket has to receive, lent for reading. A contract sees them as a list.
