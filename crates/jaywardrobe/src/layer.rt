@@ -17,6 +17,7 @@
 //! }
 //! ```
 pub use af_layer::{
-    Book, CallError, CloseError, CloseFault, Closed, DriveError, DriveFault, Entry, EventReply,
-    Gate, Layer, OpenError, OpenGate, Seat, Turns, drive, taken_logs_are_one, taken_parts_are_one,
+    AtCheckpoint, Book, CallError, CloseError, CloseFault, Closed, DriveError, DriveFault, Entry,
+    EventReply, Fresh, Gate, Layer, OpenError, OpenGate, Origin, Seat, Turns, drive,
+    taken_logs_are_one, taken_parts_are_one,
 };
