@@ -4,7 +4,9 @@
 enum { MOST_LOOKS = 40, LOOK_MICROSECONDS = 50 };
 
 static void close_fd(const struct process *process, uint32_t fd) {
+    struct file *file = file_of(process, fd);
     record(process->pid, jw_close(&engine, process->pid, fd), "close %u", fd);
+    if (file != NULL) close_spare_placeholder(file);
     is_collection_due = true;
 }
 
@@ -13,43 +15,39 @@ static long duplicate_at(const struct process *process, uint32_t from, uint32_t 
     return record(process->pid, jw_dup2(&engine, process->pid, from, to), "dup2 %u %u", from, to);
 }
 
-/* Opens a plain file at a number that is free. */
-static void open_at(const struct process *process, uint32_t fd) {
-    long lowest = record(process->pid, jw_open(&engine, process->pid), "open");
-    uint64_t ino = 0;
-    if (lowest < 0) return;
-    jw_ino(&engine, process->pid, (uint32_t)lowest, &ino);
-    add_file(ino, JW_PLAIN);
-    if (lowest == fd) return;
-    duplicate_at(process, (uint32_t)lowest, fd);
-    close_fd(process, (uint32_t)lowest);
+/* Moves what the layer has opened at `fd` to another number. If that is an errno, closes it. */
+static void move_fd(const struct process *process, uint32_t fd, long to) {
+    if (to == fd) return;
+    if (to >= 0) duplicate_at(process, fd, (uint32_t)to);
+    close_fd(process, fd);
 }
 
 /* Opens in the layer what the program has opened by itself, and closes what an exec(2) has closed.
  * All else that closes is served, so two tables with as many descriptors are the same. */
 void sync_table(struct process *process) {
     bool is_open[JW_MAX_NOFILE] = {false};
-    struct stat directory = {.st_size = 0}; /* Kernels before 6.2 leave it so. */
+    struct stat table = {.st_size = 0}; /* Kernels before 6.2 leave it so. */
     uint64_t ino;
     off_t count = 0;
+    int looks = process->closer != 0 ? MOST_LOOKS : 0; /* The kernel may not have closed yet. */
+    process->closer = 0;
     for (int64_t fd = 0; (fd = jw_next_fd(&engine, process->pid, (uint32_t)fd, &ino)) >= 0; fd++)
         count++;
-    fstat(dirfd(process->table), &directory);
-    for (int i = 0; process->closer != 0 && directory.st_size > count && i < MOST_LOOKS; i++) {
-        usleep(LOOK_MICROSECONDS); /* Another thread closes, and the kernel has not done it yet. */
-        fstat(dirfd(process->table), &directory);
-    }
-    process->closer = 0;
-    if (directory.st_size == count && !process->has_changed) return;
+    while (fstat(dirfd(process->table), &table) == 0 && table.st_size > count && looks-- > 0)
+        usleep(LOOK_MICROSECONDS);
+    if (table.st_size == count && !process->has_changed) return;
     if (process->has_changed) read_status(process->tgid, &process->status);
     process->has_changed = false;
     rewinddir(process->table);
     for (struct dirent *it; (it = readdir(process->table)) != NULL;)
         if (it->d_name[0] != '.') is_open[atoi(it->d_name) % JW_MAX_NOFILE] = true;
-    for (int64_t fd = 0; (fd = jw_next_fd(&engine, process->pid, (uint32_t)fd, &ino)) >= 0; fd++)
-        if (!is_open[fd]) close_fd(process, (uint32_t)fd);
-    for (uint32_t fd = 0; fd < JW_MAX_NOFILE; fd++)
-        if (is_open[fd] && file_of(process, fd) == NULL) open_at(process, fd);
+    for (uint32_t fd = 0; fd < JW_MAX_NOFILE; fd++) {
+        bool is_known = file_of(process, fd) != NULL;
+        if (is_known && !is_open[fd]) close_fd(process, fd);
+        if (is_known || !is_open[fd]) continue;
+        long lowest = record(process->pid, jw_open(&engine, process->pid), "open");
+        if (lowest >= 0) move_fd(process, (uint32_t)lowest, fd);
+    }
 }
 
 /* Returns the lowest number from here on that is free in the layer. */
@@ -63,6 +61,7 @@ static uint32_t lowest_free(const struct process *process, uint64_t from) {
  * the number, or a negative errno. */
 static long give(const struct call *call, struct file *file, int from, long to,
                  bool closes_on_exec) {
+    if (file == NULL) return -EMFILE; /* It had to leave its place, and found none. */
     if (file->host < 0 && file->kind != JW_PLAIN) reopen_placeholder(file);
     int copy = file->host < 0 ? (int)syscall(SYS_pidfd_getfd, call->process->pidfd, from, 0) : -1;
     struct seccomp_notif_addfd descriptor = {
@@ -75,34 +74,24 @@ static long give(const struct call *call, struct file *file, int from, long to,
     return number;
 }
 
-/* Moves what the layer has opened at `fd` to another number. If that is an errno, closes it. */
-static void move_fd(const struct process *process, uint32_t fd, long to) {
-    if (to == fd) return;
-    if (to >= 0) duplicate_at(process, fd, (uint32_t)to);
-    close_fd(process, fd);
-}
-
 /* Puts what the layer has opened at these numbers into the caller's table. The kernel chooses the
  * numbers, and chooses others if another thread opens or closes something beside this. Then the
  * layer follows. Returns how many there are, or a negative errno if there is none. */
 long install(struct call *call, uint32_t *fds, size_t count, bool closes_on_exec) {
     const struct process *process = call->process;
-    long numbers[JW_MAX_FD], highest = 0, installed = 0;
+    long number = 0, installed = 0;
     for (size_t i = 0; i < count; i++) {
-        numbers[i] = give(call, file_of(process, fds[i]), -1, -1, closes_on_exec);
-        highest = numbers[i] > highest ? numbers[i] : highest;
-        if (numbers[i] >= 0 && numbers[i] != fds[i]) counts.other_numbers += !process->has_threads;
-    }
-    for (size_t i = 0; i < count; i++) {
-        for (size_t j = i + 1; numbers[i] != fds[i] && j < count; j++) {
-            if (fds[j] != numbers[i]) continue; /* It leaves the place of this one. */
-            fds[j] = lowest_free(process, (uint64_t)highest + 1);
-            move_fd(process, (uint32_t)numbers[i], fds[j]);
+        number = give(call, file_of(process, fds[i]), -1, -1, closes_on_exec);
+        if (number >= 0 && number != fds[i]) counts.other_numbers += !process->has_threads;
+        for (size_t j = i + 1; number != fds[i] && j < count; j++) {
+            if (fds[j] != number) continue; /* It leaves the place of this one. */
+            fds[j] = lowest_free(process, 0);
+            move_fd(process, (uint32_t)number, fds[j]);
         }
-        move_fd(process, fds[i], numbers[i]);
-        if (numbers[i] >= 0) fds[installed++] = (uint32_t)numbers[i];
+        move_fd(process, fds[i], number);
+        if (number >= 0) fds[installed++] = (uint32_t)number;
     }
-    return installed > 0 || count == 0 ? installed : numbers[0];
+    return installed > 0 ? installed : number;
 }
 
 /* A close can only be left to the kernel. */

@@ -3,14 +3,14 @@
 #include <linux/audit.h>
 #include <linux/filter.h>
 #include <stdatomic.h>
-#include <time.h>
 
 enum { RESTART = -512, MOST_NUMBERS = 512 };
 #define NEVER UINT64_MAX /* A deadline. */
 
 int notifications = -1;
 pthread_mutex_t serving = PTHREAD_MUTEX_INITIALIZER;
-static struct call *waiting; /* Calls that wait. */
+static TAILQ_HEAD(, call) waiting = TAILQ_HEAD_INITIALIZER(waiting);
+static TAILQ_HEAD(, call) woken = TAILQ_HEAD_INITIALIZER(woken);
 static atomic_bool is_alone; /* There is one process, with one thread. */
 
 /* Refuses what would move bytes or descriptors past the layer, or tell of placeholders. */
@@ -88,7 +88,6 @@ static void answer(struct call *call, long result) {
 /* Serves a call, and answers it or lets it wait. */
 static void run(struct call *call) {
     struct process *process = call->process;
-    struct call **end = &waiting;
     long result = process != NULL ? KERNEL_DOES_IT : -EPERM;
     if (process != NULL && !process->is_over) {
         if (process->closer == call->tid) process->closer = 0; /* It has closed. */
@@ -100,26 +99,35 @@ static void run(struct call *call) {
         if (serve != NULL) result = serve(call);
     }
     settle(false); /* Before its caller goes on, placeholders are ready for what the call left. */
-    if (result != CALL_WAITS) {
+    if (result == CALL_WAITS)
+        TAILQ_INSERT_TAIL(&waiting, call, entries);
+    else
         answer(call, result);
-        return;
+}
+
+/* Serves woken calls once more. Where a signal has come, the kernel makes EINTR of a restart. */
+void rerun_woken_calls(void) {
+    struct status status;
+    for (struct call *call; (call = TAILQ_FIRST(&woken)) != NULL;) {
+        TAILQ_REMOVE(&woken, call, entries);
+        if (!read_status(call->tid, &status) || status.is_signalled)
+            answer(call, call->deadline == NEVER ? RESTART : -EINTR);
+        else
+            run(call);
     }
-    while (*end != NULL) end = &(*end)->next;
-    call->next = NULL;
-    *end = call;
 }
 
 static void serve_call(const struct seccomp_notif *notif) {
-    struct call *call = allocate(sizeof *call);
-    *call = (struct call){.id = notif->id, .number = notif->data.nr, .tid = (pid_t)notif->pid,
-                          .fd = (uint32_t)notif->data.args[0], .process = process_of(notif->pid)};
-    memcpy(call->args, notif->data.args, sizeof call->args);
-    call->pid = call->process != NULL ? call->process->pid : 0;
+    struct call call = {.id = notif->id, .number = notif->data.nr, .tid = (pid_t)notif->pid,
+                        .fd = (uint32_t)notif->data.args[0], .process = process_of(notif->pid)};
+    memcpy(call.args, notif->data.args, sizeof call.args);
+    if (call.process != NULL) call.pid = call.process->pid;
     counts.calls++;
-    run(call);
+    run(copy_of(&call, sizeof call));
     collect();
     rerun_woken_calls();
-    is_alone = processes != NULL && processes->next == NULL && !processes->has_threads;
+    const struct process *first = LIST_FIRST(&processes);
+    is_alone = first != NULL && LIST_NEXT(first, entries) == NULL && !first->has_threads;
 }
 
 /* Receives calls and serves them, in each of several threads. Until a call is received, any signal
@@ -158,33 +166,18 @@ long wait_for(struct call *call, int flags, uint64_t ino) {
         struct timeval limit = {0, 0};
         getsockopt(call->file->host, SOL_SOCKET, option, &limit, &(socklen_t){sizeof limit});
         uint64_t wait = (uint64_t)limit.tv_sec * 1000 + (uint64_t)limit.tv_usec / 1000;
-        call->deadline = wait > 0 ? now() + wait : NEVER;
+        call->deadline = wait > 0 ? now() + wait + 1 : NEVER;
     }
     call->waits_for = ino;
-    call->is_woken = false;
     return may_wait && now() < call->deadline ? CALL_WAITS : -EAGAIN;
 }
 
 /* Wakes the calls that wait for a socket, or all. */
 void wake(uint64_t ino) {
-    for (struct call *it = waiting; it != NULL; it = it->next)
-        it->is_woken |= ino == EVERYONE || it->waits_for == ino || it->waits_for == EVERYONE;
-}
-
-/* Serves woken calls once more. Where a signal has come, the kernel makes EINTR of a restart. */
-void rerun_woken_calls(void) {
-    for (struct call **at = &waiting; *at != NULL;) {
-        struct call *call = *at;
-        struct status status;
-        if (!call->is_woken) {
-            at = &call->next;
-            continue;
-        }
-        *at = call->next;
-        if (!read_status(call->tid, &status) || status.is_signalled)
-            answer(call, call->deadline == NEVER ? RESTART : -EINTR);
-        else
-            run(call);
-        at = &waiting; /* It may have woken those before it. */
+    for (struct call *it = TAILQ_FIRST(&waiting), *next; it != NULL; it = next) {
+        next = TAILQ_NEXT(it, entries);
+        if (ino != EVERYONE && it->waits_for != ino && it->waits_for != EVERYONE) continue;
+        TAILQ_REMOVE(&waiting, it, entries);
+        TAILQ_INSERT_TAIL(&woken, it, entries);
     }
 }

@@ -1,4 +1,4 @@
-/* Steps of the layer: their record, the collector, and what is found. */
+/* Steps of the layer and their record, the collector, and what is found. */
 #include "unixbox.h"
 #include <stdarg.h>
 
@@ -14,22 +14,16 @@ jw_engine engine = JW_ENGINE_INIT;
 struct counts counts;
 bool is_collection_due;
 static bool is_running;
-static FILE *script;
-
-bool open_script(const char *path) {
-    script = fopen(path, "we");
-    return script != NULL && fputs("version 2\n", script) >= 0;
-}
 
 /* Records a step of a process (0: of none), and returns its answer, or a negative errno. */
 long record(uint32_t pid, int64_t answer, const char *line, ...) {
     counts.steps++;
-    if (script != NULL) {
+    if (options.script != NULL) {
         va_list arguments;
         va_start(arguments, line);
-        if (pid > 0) fprintf(script, "%u ", pid);
-        vfprintf(script, line, arguments);
-        fputc('\n', script);
+        if (pid > 0) fprintf(options.script, "%u ", pid);
+        vfprintf(options.script, line, arguments);
+        fputc('\n', options.script);
         va_end(arguments);
     }
     return answer >= 0 ? answer : -jw_errno(answer);
@@ -40,7 +34,7 @@ const char *fds_text(const uint32_t *fds, size_t count) {
     static char text[8 * JW_MAX_FD];
     int length = 0;
     text[0] = '\0';
-    for (size_t i = 0; script != NULL && i < count; i++)
+    for (size_t i = 0; options.script != NULL && i < count; i++)
         length += sprintf(text + length, " %u", fds[i]);
     return text;
 }
@@ -49,8 +43,8 @@ const char *fds_text(const uint32_t *fds, size_t count) {
 bool collect(void) {
     struct jw_finished over = {0, 0};
     uint64_t in_flight = 0, pass = 0;
-    jw_total(&engine, &in_flight);
     if (!is_running) {
+        jw_total(&engine, &in_flight);
         bool is_due = is_collection_due && in_flight > 0 && options.collector != COLLECT_NEVER;
         is_collection_due = false;
         if (!is_due) return false;
@@ -70,19 +64,21 @@ bool collect(void) {
 /* Recounts after a step: the places of each file from all tables, and all by the layer. */
 void inspect(void) {
     struct jw_checked checked = {0, 0};
-    uint64_t ino, refs, inflight;
-    for (struct process *it = processes; options.verifies && it != NULL; it = it->next)
+    uint64_t ino = 0, refs, inflight;
+    struct process *it;
+    if (options.checks) counts.failed_checks += record(0, jw_check(&engine, &checked), "check") < 0;
+    if (!options.verifies) return;
+    LIST_FOREACH(it, &processes, entries)
         for (int64_t fd = 0; (fd = jw_next_fd(&engine, it->pid, (uint32_t)fd, &ino)) >= 0; fd++)
             file_at(ino)->places++;
-    for (int i = 0; options.verifies && i < FILE_SLOTS; i++)
-        for (struct file *it = files[i]; it != NULL; it = it->next) {
-            jw_refs(&engine, it->ino, &refs);
-            jw_inflight(&engine, it->ino, &inflight);
-            counts.wrong_counts += refs != it->places + inflight + it->is_embryo;
-            it->places = 0;
-        }
-    if (options.checks)
-        counts.failed_checks += record(0, jw_check(&engine, &checked), "check") < 0;
+    ino = 0;
+    while (jw_next_after(&engine, ino, &ino) == 0 && ino != 0) {
+        struct file *file = file_at(ino);
+        jw_refs(&engine, ino, &refs);
+        jw_inflight(&engine, ino, &inflight);
+        counts.wrong_counts += refs != file->places + inflight + file->is_embryo;
+        file->places = 0;
+    }
 }
 
 /* Counts a file that the collector frees, by who sent it last. The last row is for all others. */

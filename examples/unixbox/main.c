@@ -13,24 +13,23 @@ static int program, status; /* Its pid and its status. */
 
 /* Reads the options. Returns the place of the program. */
 static int read_options(int argc, char **argv) {
-    static const char *const collectors[] = {"none", "slice", "pass"};
+    static char *const collectors[] = {"none", "slice", "pass", NULL};
     static const struct option names[] = {
         {"gc", required_argument, NULL, 'g'}, {"budget", required_argument, NULL, 'b'},
         {"script", required_argument, NULL, 's'}, {"graph", required_argument, NULL, 'p'},
         {"verify", no_argument, &options.verifies, 1}, {"check", no_argument, &options.checks, 1},
         {"dgram", no_argument, &options.datagrams, 1}, {"oob", no_argument, &options.oob, 1},
         {"procnet", no_argument, &options.networks, 1}, {NULL, 0, NULL, 0}};
-    bool fits = true;
-    for (int option, i; (option = getopt_long(argc, argv, "+", names, NULL)) != -1;) {
-        for (i = 0; option == 'g' && i < 3 && strcmp(collectors[i], optarg) != 0; i++) continue;
-        if (option == 'g') options.collector = i;
+    char *value;
+    bool is_known = true;
+    for (int option; (option = getopt_long(argc, argv, "+", names, NULL)) != -1;) {
+        if (option == 'g') options.collector = getsubopt(&optarg, collectors, &value);
         if (option == 'b') options.budget = (uint32_t)strtoul(optarg, NULL, 10);
-        if (option == 'p') options.graph = fopen(optarg, "we");
-        if ((option == 'p' && options.graph == NULL) || (option == 's' && !open_script(optarg)))
-            err(FAILED, "%s", optarg);
-        fits = fits && option != '?' && i < 3;
+        FILE **output = option == 's' ? &options.script : option == 'p' ? &options.graph : NULL;
+        if (output != NULL && (*output = fopen(optarg, "we")) == NULL) err(FAILED, "%s", optarg);
+        is_known = is_known && option != '?' && options.collector <= COLLECT_PASSES;
     }
-    if (fits && options.budget >= 1 && options.budget <= JW_MAX_BUDGET && optind < argc)
+    if (is_known && options.budget >= 1 && options.budget <= JW_MAX_BUDGET && optind < argc)
         return optind;
     fputs("usage: unixbox [--gc slice|pass|none] [--budget FILES] [--verify] [--check] [--dgram]\n"
           "  [--oob] [--procnet] [--script FILE] [--graph FILE] PROGRAM [ARGUMENT ..]\n", stderr);
@@ -60,15 +59,13 @@ static void start_program(char **arguments) {
 
 static void prepare(void) {
     struct epoll_event event = {.events = EPOLLHUP, .data.ptr = NULL}; /* No program is left. */
-    struct rlimit limit = {2 * JW_MAX_FILES, 2 * JW_MAX_FILES}; /* A placeholder each. */
+    struct rlimit most = {2 * JW_MAX_FILES, 2 * JW_MAX_FILES}, limit; /* A placeholder each. */
     /* A struct sched_attr: slices of 0.1 ms, so that all threads run soon after they are woken. */
     syscall(SYS_sched_setattr, 0, (uint32_t[12]){[0] = 48, [6] = 100000}, 0);
     ioctl(notifications, SECCOMP_IOW(4, __u64), 1UL); /* SECCOMP_USER_NOTIF_FD_SYNC_WAKE_UP */
-    if (setrlimit(RLIMIT_NOFILE, &limit) < 0) { /* Without privileges, as many as there may be. */
-        getrlimit(RLIMIT_NOFILE, &limit);
-        limit.rlim_cur = limit.rlim_max;
-        setrlimit(RLIMIT_NOFILE, &limit);
-    }
+    getrlimit(RLIMIT_NOFILE, &limit);
+    limit.rlim_cur = limit.rlim_max; /* As many as there may be without privileges. */
+    if (setrlimit(RLIMIT_NOFILE, &most) < 0) setrlimit(RLIMIT_NOFILE, &limit);
     signal(SIGINT, SIG_IGN); /* The program answers the terminal. */
     signal(SIGQUIT, SIG_IGN);
     umask(0); /* A pathname gets the mode that its program asks for. */
@@ -109,6 +106,7 @@ int main(int argc, char **argv) {
     pthread_t threads[THREADS];
     start_program(argv + read_options(argc, argv));
     prepare();
+    if (options.script != NULL) fputs("version 2\n", options.script);
     int64_t answer = jw_spawn(&engine, geteuid(), JW_MAX_NOFILE, is_root);
     record(0, answer, is_root ? "spawn %u %u priv" : "spawn %u %u", geteuid(), JW_MAX_NOFILE);
     bind_process(add_process((uint32_t)answer, getpid(), getpid()), program);
@@ -117,7 +115,7 @@ int main(int argc, char **argv) {
     kill(program, SIGCONT);
     while (watch()) continue;
     for (int i = 0; i < THREADS; i++) pthread_join(threads[i], NULL);
-    while (processes != NULL) forget_process(processes);
+    while (!LIST_EMPTY(&processes)) forget_process(LIST_FIRST(&processes));
     settle(false);
     reap(0);
     conclude();

@@ -21,12 +21,10 @@ static long read_parts(const struct call *call) {
     struct msghdr *header = &message.header;
     size_t size = header->msg_iovlen * sizeof *message.parts;
     size_t length = call->number == SYS_sendmsg ? header->msg_controllen : 0;
-    struct iovec here[] = {{message.parts, size}, {control, length}};
-    struct iovec there[] = {{header->msg_iov, size}, {header->msg_control, length}};
     if (header->msg_iovlen > IOV_MAX) return message.at != 0 ? -EMSGSIZE : -EINVAL;
     if (length > sizeof control) return -ENOBUFS;
-    ssize_t got = process_vm_readv(call->tid, here, 2, there, 2, 0);
-    return got == (ssize_t)(size + length) ? 0 : -EFAULT;
+    return read_memory(call, message.parts, (uint64_t)header->msg_iov, size) &&
+           read_memory(call, control, (uint64_t)header->msg_control, length) ? 0 : -EFAULT;
 }
 
 /* Reads what a call is to move, without what it has moved before, and its flags. */
@@ -63,13 +61,12 @@ static long read_message(struct call *call) {
 
 /* Finds the descriptors and the credentials that go with a message. */
 static long read_control(const struct call *call) {
-    size_t length = message.header.msg_controllen;
-    struct msghdr copy = {.msg_control = control, .msg_controllen = length};
+    struct msghdr copy = {.msg_control = control, .msg_controllen = message.header.msg_controllen};
+    char *end = control + copy.msg_controllen;
     message.user = call->process->status.user;
     for (struct cmsghdr *it = CMSG_FIRSTHDR(&copy); it != NULL; it = CMSG_NXTHDR(&copy, it)) {
         size_t size = it->cmsg_len - CMSG_LEN(0), count = size / sizeof(int);
-        if (it->cmsg_len < CMSG_LEN(0) || it->cmsg_len > (size_t)(control + length - (char *)it))
-            return -EINVAL;
+        if (it->cmsg_len < CMSG_LEN(0) || it->cmsg_len > (size_t)(end - (char *)it)) return -EINVAL;
         if (it->cmsg_level != SOL_SOCKET) continue;
         if (it->cmsg_type == SCM_RIGHTS && message.fd_count + count <= JW_MAX_FD) {
             memcpy(message.fds + message.fd_count, CMSG_DATA(it), count * sizeof(int));
@@ -176,10 +173,8 @@ static void write_header(const struct call *call, bool has_user) {
         used = add_control(used, SCM_RIGHTS, message.fds, message.fd_count * sizeof(int));
     header->msg_controllen = used < header->msg_controllen ? used : header->msg_controllen;
     header->msg_namelen = 0;
-    struct iovec here[] = {{control, header->msg_controllen}, {header, sizeof *header}};
-    struct iovec there[] = {{header->msg_control, header->msg_controllen},
-                            {(void *)message.at, sizeof *header}};
-    process_vm_writev(call->tid, here, 2, there, 2, 0);
+    write_memory(call, (uint64_t)header->msg_control, control, header->msg_controllen);
+    write_memory(call, message.at, header, sizeof *header);
 }
 
 long serve_recv(struct call *call) {

@@ -5,43 +5,45 @@
 
 enum { TOKEN = 768 }; /* What a byte takes of a buffer (SIOCOUTQ). */
 
-struct file *files[FILE_SLOTS];
+struct file_list files[FILE_SLOTS];
 
-void *allocate(size_t size) {
-    void *place = calloc(1, size);
-    if (place == NULL) abort();
-    return place;
+void *copy_of(const void *value, size_t size) {
+    void *copy = malloc(size);
+    if (copy == NULL) abort();
+    return memcpy(copy, value, size);
+}
+
+static struct jw_file state_of(uint64_t ino) {
+    struct jw_file state;
+    jw_file(&engine, ino, &state);
+    return state;
 }
 
 struct file *file_at(uint64_t ino) {
-    struct file *it = files[ino % FILE_SLOTS];
-    while (it != NULL && it->ino != ino) it = it->next;
+    struct file_list *slot = &files[ino % FILE_SLOTS];
+    struct file *it;
+    LIST_FOREACH(it, slot, entries)
+        if (it->ino == ino) return it;
+    struct file file = {.ino = ino, .kind = state_of(ino).kind, .host = -1, .path = -1};
+    if (file.kind == JW_NO_FILE) return NULL;
+    it = copy_of(&file, sizeof file);
+    LIST_INSERT_HEAD(slot, it, entries);
     return it;
 }
 
 struct file *file_of(const struct process *process, uint64_t fd) {
     uint64_t ino = 0;
     if (fd < JW_MAX_NOFILE) jw_ino(&engine, process->pid, (uint32_t)fd, &ino);
-    return file_at(ino);
+    return ino != 0 ? file_at(ino) : NULL;
 }
 
 struct file *peer_of(const struct file *file) {
-    struct jw_file state;
-    jw_file(&engine, file->ino, &state);
-    return file_at(state.peer);
-}
-
-struct file *add_file(uint64_t ino, uint32_t kind) {
-    if (file_at(ino) != NULL) return file_at(ino);
-    struct file *file = allocate(sizeof *file), **slot = &files[ino % FILE_SLOTS];
-    *file = (struct file){.ino = ino, .kind = kind, .host = -1, .path = -1, .next = *slot};
-    return *slot = file;
+    uint64_t peer = state_of(file->ino).peer;
+    return peer != 0 ? file_at(peer) : NULL;
 }
 
 static void free_file(struct file *file) {
-    struct file **at = &files[file->ino % FILE_SLOTS];
-    while (*at != file) at = &(*at)->next;
-    *at = file->next;
+    LIST_REMOVE(file, entries);
     if (file->host >= 0) close(file->host);
     if (file->path >= 0) close(file->path);
     free(file);
@@ -53,50 +55,32 @@ void size_buffer(int host) {
     setsockopt(host, SOL_SOCKET, SO_SNDBUF, &bytes, sizeof bytes);
 }
 
-/* Closes the placeholders of sockets that are hung up and only in flight. Such a socket is ready
- * for what any other is. Returns whether there were any. */
-static bool close_spare_placeholders(void) {
-    bool has_closed = false;
-    for (struct file **slot = files; slot < files + FILE_SLOTS; slot++)
-        for (struct file *it = *slot; it != NULL; it = it->next) {
-            struct jw_file state;
-            uint64_t refs, inflight;
-            jw_file(&engine, it->ino, &state);
-            jw_refs(&engine, it->ino, &refs);
-            jw_inflight(&engine, it->ino, &inflight);
-            if (it->host < 0 || state.state != JW_HUNG_UP || refs > inflight) continue;
-            close(it->host);
-            it->host = -1;
-            has_closed = true;
-        }
-    return has_closed;
-}
-
-/* Opens one placeholder, or two that are connected. */
-long open_placeholders(int *hosts, size_t count, int type) {
-    do {
-        if (count == 2 && socketpair(AF_UNIX, type | SOCK_CLOEXEC, 0, hosts) == 0) return 0;
-        if (count == 1 && (*hosts = socket(AF_UNIX, type | SOCK_CLOEXEC, 0)) >= 0) return 0;
-    } while (errno == EMFILE && close_spare_placeholders());
-    return -ENFILE; /* The supervisor has no descriptor left. */
+/* Closes the placeholder of a socket that is hung up and only in flight, if few descriptors are
+ * left. Such a socket is ready for what any other is. */
+void close_spare_placeholder(struct file *file) {
+    uint64_t refs, inflight;
+    if (state_of(file->ino).state != JW_HUNG_UP) return;
+    jw_refs(&engine, file->ino, &refs);
+    jw_inflight(&engine, file->ino, &inflight);
+    if (refs > inflight || file->host < sysconf(_SC_OPEN_MAX) / 2) return;
+    close(file->host);
+    file->host = -1;
 }
 
 /* Opens the placeholder of a socket once more, if that is hung up. */
 void reopen_placeholder(struct file *file) {
     int hosts[2], type = file->kind == JW_STREAM ? SOCK_STREAM : SOCK_SEQPACKET;
-    struct jw_file state;
-    jw_file(&engine, file->ino, &state);
-    if (state.state != JW_HUNG_UP || open_placeholders(hosts, 2, type) < 0) return;
+    if (state_of(file->ino).state != JW_HUNG_UP) return;
+    if (socketpair(AF_UNIX, type | SOCK_CLOEXEC, 0, hosts) < 0) return;
     close(hosts[1]);
     file->host = hosts[0];
 }
 
 /* Makes the bytes in the placeholder as many as the socket has messages. */
 void refresh(struct file *file) {
-    struct jw_file state;
+    struct jw_file state = state_of(file->ino);
+    const struct file *peer = peer_of(file);
     char token;
-    jw_file(&engine, file->ino, &state);
-    const struct file *peer = file_at(state.peer);
     while (file->tokens < state.messages && peer != NULL &&
            send(peer->host, "", 1, MSG_DONTWAIT | MSG_NOSIGNAL) == 1)
         file->tokens++;
@@ -115,8 +99,8 @@ void settle(bool is_collected) {
     }
     int64_t changed = jw_changed(&engine, inos, JW_MAX_FILES);
     for (int64_t i = 0; i < changed; i++) {
-        struct file *file = file_at(inos[i]), *peer = file != NULL ? peer_of(file) : NULL;
-        if (file != NULL) refresh(file);
+        struct file *file = file_at(inos[i]), *peer = peer_of(file);
+        refresh(file);
         wake(inos[i]);
         if (peer != NULL) wake(peer->ino);
     }

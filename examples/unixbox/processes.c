@@ -3,11 +3,12 @@
 #include <linux/sched.h>
 #include <sys/epoll.h>
 
-struct process *processes;
+struct process_list processes = LIST_HEAD_INITIALIZER(processes);
 
-/* Reads a small file of /proc as a string, which is empty where there is none. */
-static void read_text(const char *path, char *text, size_t room) {
-    int file = open(path, O_RDONLY | O_CLOEXEC);
+/* Reads a small file on a thread as a string, which is empty where there is none. */
+static void read_text(pid_t tid, const char *name, char *text, size_t room) {
+    snprintf(text, room, "/proc/%d/task/%d/%s", tid, tid, name);
+    int file = open(text, O_RDONLY | O_CLOEXEC);
     ssize_t length = read(file, text, room - 1);
     text[length > 0 ? length : 0] = '\0';
     close(file);
@@ -15,10 +16,9 @@ static void read_text(const char *path, char *text, size_t room) {
 
 /* Reads what a thread and its process are. Returns false where it is over. */
 bool read_status(pid_t tid, struct status *out) {
-    char path[64], text[4096], state;
+    char text[4096], state;
     uint64_t own = 0, shared = 0, blocked = 0, ignored = 0;
-    snprintf(path, sizeof path, "/proc/%d/status", tid);
-    read_text(path, text, sizeof text);
+    read_text(tid, "status", text, sizeof text);
     const char *users = strstr(text, "\nUid:"), *signals = strstr(text, "\nSigPnd:");
     if (users == NULL || signals == NULL ||
         sscanf(text, "Name:\t%15[^\n] Umask: %o State: %c%*[^\n] Tgid: %d", out->name, &out->umask,
@@ -32,17 +32,18 @@ bool read_status(pid_t tid, struct status *out) {
 }
 
 static struct process *process_by(pid_t tgid) {
-    struct process *it = processes;
-    while (it != NULL && it->tgid != tgid) it = it->next;
+    struct process *it;
+    LIST_FOREACH(it, &processes, entries)
+        if (it->tgid == tgid) break;
     return it;
 }
 
 /* Adds a process of the layer, which is not bound yet. */
 struct process *add_process(uint32_t pid, pid_t parent, pid_t forker) {
-    struct process *process = allocate(sizeof *process);
-    *process = (struct process){.pid = pid, .parent = parent, .forker = forker, .pidfd = -1,
-                                .has_changed = true, .next = processes};
-    return processes = process;
+    struct process value = {.pid = pid, .parent = parent, .forker = forker, .pidfd = -1,
+                            .has_changed = true}, *process = copy_of(&value, sizeof value);
+    LIST_INSERT_HEAD(&processes, process, entries);
+    return process;
 }
 
 /* Binds it to a process of the host. Where that is over, it exits. */
@@ -63,10 +64,8 @@ static void exit_process(struct process *process) {
 }
 
 void forget_process(struct process *process) {
-    struct process **at = &processes;
     exit_process(process);
-    while (*at != process) at = &(*at)->next;
-    *at = process->next;
+    LIST_REMOVE(process, entries);
     wake(EVERYONE); /* Its calls end. */
     close(process->pidfd);
     if (process->table != NULL) closedir(process->table);
@@ -74,28 +73,26 @@ void forget_process(struct process *process) {
 }
 
 /* Returns a child of this thread that no process is bound to, or 0. */
-static pid_t unbound_child(pid_t parent, pid_t tid) {
-    char path[64], text[4096], *at = text;
+static pid_t unbound_child(pid_t tid) {
+    char text[4096], *at = text;
     struct status status;
-    snprintf(path, sizeof path, "/proc/%d/task/%d/children", parent, tid);
-    read_text(path, text, sizeof text);
-    pid_t pid = (pid_t)strtol(at, &at, 10);
-    while (pid > 0 && (process_by(pid) != NULL || !read_status(pid, &status)))
-        pid = (pid_t)strtol(at, &at, 10);
+    pid_t pid;
+    read_text(tid, "children", text, sizeof text);
+    do pid = (pid_t)strtol(at, &at, 10);
+    while (pid > 0 && (process_by(pid) != NULL || !read_status(pid, &status)));
     return pid;
 }
 
 /* Binds children that are there. The others go where their fork(2) has failed: it is over. */
 static void bind_children(pid_t caller) {
-    for (struct process *it = processes, *next; it != NULL; it = next) {
-        next = it->next;
+    for (struct process *it = LIST_FIRST(&processes), *next; it != NULL; it = next) {
+        next = LIST_NEXT(it, entries);
         if (it->tgid != 0) continue;
-        bool has_parent = process_by(it->parent) != NULL;
-        pid_t pid = has_parent ? unbound_child(it->parent, it->forker)
-                               : unbound_child(getpid(), getpid());
+        bool is_orphan = process_by(it->parent) == NULL; /* It is adopted by this process. */
+        pid_t pid = unbound_child(is_orphan ? getpid() : it->forker);
         if (pid > 0)
             bind_process(it, pid);
-        else if (it->forker == caller || !has_parent)
+        else if (it->forker == caller || is_orphan)
             forget_process(it);
     }
 }
@@ -113,9 +110,9 @@ long serve_fork(struct call *call) {
     uint64_t flags = call->number == SYS_clone ? call->args[0] : 0;
     if (call->number == SYS_clone3) read_memory(call, &flags, call->args[0], sizeof flags);
     flags &= CLONE_THREAD | CLONE_FILES | CLONE_PARENT;
-    call->process->has_threads |= flags == (CLONE_THREAD | CLONE_FILES);
-    if (flags == (CLONE_THREAD | CLONE_FILES)) return KERNEL_DOES_IT;
-    if (flags != 0) return -EINVAL; /* Threads of a process, and no others, share a table. */
+    bool is_thread = flags == (CLONE_THREAD | CLONE_FILES); /* No others may share a table. */
+    call->process->has_threads |= is_thread;
+    if (flags != 0) return is_thread ? KERNEL_DOES_IT : -EINVAL;
     sync_table(call->process);
     long pid = record(call->pid, jw_fork(&engine, call->pid), "fork");
     if (pid < 0) return pid;

@@ -20,6 +20,7 @@
 #include <string.h>
 #include <sys/ioctl.h>
 #include <sys/prctl.h>
+#include <sys/queue.h>
 #include <sys/resource.h>
 #include <sys/socket.h>
 #include <sys/stat.h>
@@ -36,7 +37,7 @@ extern struct options {
     uint32_t budget;                       /* Of a slice, in files. */
     int verifies, checks;                  /* Whether all is recounted after each step. */
     int datagrams, oob, networks;          /* What is served beside the usual. */
-    FILE *graph;                           /* Where the picture goes, or NULL. */
+    FILE *script, *graph;                  /* Where steps and the picture go, or NULL. */
 } options;
 
 extern struct counts { /* Of calls of programs, of calls of the layer (steps), and so on. */
@@ -60,7 +61,7 @@ struct process {
     bool is_over, has_threads, has_changed; /* By exec(2) or setuid(2): what follows is stale. */
     struct status status;
     pid_t closer;         /* The thread whose close(2) the kernel may not have done yet, or 0. */
-    struct process *next;
+    LIST_ENTRY(process) entries;
 };
 
 /* What the supervisor keeps for a file of the layer. */
@@ -79,7 +80,7 @@ struct file {
     struct ucred owner, last; /* For SO_PEERCRED at its peer; who sent to this socket last. */
     struct status sender; /* Who sent this file last. */
     uint64_t places;      /* How many places in tables a recount finds. */
-    struct file *next;
+    LIST_ENTRY(file) entries;
 };
 
 struct call {
@@ -90,20 +91,19 @@ struct call {
     uint32_t pid, fd;     /* The layer's number of the process; the first argument. */
     struct file *file;    /* The socket of the layer that the first argument names, or NULL. */
     uint64_t waits_for;   /* The socket whose change it waits for, or EVERYONE. */
-    bool is_woken, raises_sigpipe;
+    bool raises_sigpipe;
     size_t moved, room;   /* Bytes that it has moved, and of control data that are left. */
     uint64_t deadline;    /* In milliseconds. 0 until it waits. */
-    struct call *next;
+    TAILQ_ENTRY(call) entries;
 };
 
 extern jw_engine engine;
 extern bool is_collection_due; /* Something was closed since the last pass began. */
-extern struct process *processes;
-extern struct file *files[FILE_SLOTS];  /* Lists, by inode number modulo FILE_SLOTS. */
+extern LIST_HEAD(process_list, process) processes;
+extern LIST_HEAD(file_list, file) files[FILE_SLOTS]; /* By inode number modulo FILE_SLOTS. */
 extern int notifications, watches; /* The filter's listener; an epoll(7) of it and all pidfds. */
 extern pthread_mutex_t serving; /* Whoever has it may use all else. */
 
-bool open_script(const char *path);
 long record(uint32_t pid, int64_t answer, const char *line, ...)
     __attribute__((format(printf, 3, 4)));
 const char *fds_text(const uint32_t *fds, size_t count);
@@ -126,13 +126,12 @@ void bind_process(struct process *process, pid_t tgid);
 struct process *process_of(pid_t tid);
 void forget_process(struct process *process);
 
-void *allocate(size_t size);
+void *copy_of(const void *value, size_t size);
 struct file *file_at(uint64_t ino);
 struct file *file_of(const struct process *process, uint64_t fd);
 struct file *peer_of(const struct file *file);
-struct file *add_file(uint64_t ino, uint32_t kind);
 void size_buffer(int host);
-long open_placeholders(int *hosts, size_t count, int type);
+void close_spare_placeholder(struct file *file);
 void reopen_placeholder(struct file *file);
 void refresh(struct file *file);
 void settle(bool is_collected);
