@@ -29,14 +29,56 @@ long record(uint32_t pid, int64_t answer, const char *line, ...) {
     return answer >= 0 ? answer : -jw_errno(answer);
 }
 
-/* Returns descriptors as a line of the script has them. */
-const char *fds_text(const uint32_t *fds, size_t count) {
-    static char text[8 * JW_MAX_FD];
-    int length = 0;
-    text[0] = '\0';
-    for (size_t i = 0; options.script != NULL && i < count; i++)
-        length += sprintf(text + length, " %u", fds[i]);
-    return text;
+/* Recounts after a step: the places of each file from all tables, and all by the layer. */
+static void inspect(void) {
+    struct jw_checked checked = {0, 0};
+    uint64_t ino = 0, refs, inflight;
+    struct process *it;
+    if (options.checks) counts.failed_checks += record(0, jw_check(&engine, &checked), "check") < 0;
+    if (!options.verifies) return;
+    LIST_FOREACH(it, &processes, entries)
+        for (int64_t fd = 0; (fd = jw_next_fd(&engine, it->pid, (uint32_t)fd, &ino)) >= 0; fd++)
+            file_at(ino)->places++;
+    ino = 0;
+    while (jw_next_after(&engine, ino, &ino) == 0 && ino != 0) {
+        struct file *file = file_at(ino);
+        jw_refs(&engine, ino, &refs);
+        jw_inflight(&engine, ino, &inflight);
+        counts.wrong_counts += refs != file->places + inflight + file->is_embryo;
+        file->places = 0;
+    }
+}
+
+/* Counts a file that the collector frees, by who sent it last. The last row is for all others. */
+static void note_leak(const struct file *file) {
+    int i = 0;
+    while (i < MOST_LEAKS - 1 && leaks[i].count[0] + leaks[i].count[1] > 0 &&
+           (leaks[i].sender.user.pid != file->sender.user.pid ||
+            strcmp(leaks[i].sender.name, file->sender.name) != 0))
+        i++;
+    leaks[i].sender = file->sender;
+    leaks[i].count[file->kind == JW_PLAIN]++;
+}
+
+/* Frees what the last step freed, or collected, and refreshes and wakes what it changed. */
+void settle(bool is_collected) {
+    static uint64_t inos[JW_MAX_FILES];
+    int64_t freed = jw_released(&engine, inos, JW_MAX_FILES);
+    for (int64_t i = 0; i < freed; i++) {
+        struct file *file = file_at(inos[i]);
+        if (file != NULL && is_collected) note_leak(file);
+        if (file != NULL) free_file(file);
+    }
+    int64_t changed = jw_changed(&engine, inos, JW_MAX_FILES);
+    for (int64_t i = 0; i < changed; i++) {
+        struct file *file = file_at(inos[i]), *peer = peer_of(file);
+        refresh(file);
+        wake(inos[i]);
+        if (peer != NULL) wake(peer->ino);
+    }
+    if (freed + changed == 0) return;
+    jw_clear_told(&engine);
+    inspect();
 }
 
 /* Does one slice or one pass, if one is due. Returns whether more is to do. */
@@ -59,37 +101,6 @@ bool collect(void) {
     counts.reclaimed += over.reclaimed;
     settle(true);
     return is_running || is_collection_due;
-}
-
-/* Recounts after a step: the places of each file from all tables, and all by the layer. */
-void inspect(void) {
-    struct jw_checked checked = {0, 0};
-    uint64_t ino = 0, refs, inflight;
-    struct process *it;
-    if (options.checks) counts.failed_checks += record(0, jw_check(&engine, &checked), "check") < 0;
-    if (!options.verifies) return;
-    LIST_FOREACH(it, &processes, entries)
-        for (int64_t fd = 0; (fd = jw_next_fd(&engine, it->pid, (uint32_t)fd, &ino)) >= 0; fd++)
-            file_at(ino)->places++;
-    ino = 0;
-    while (jw_next_after(&engine, ino, &ino) == 0 && ino != 0) {
-        struct file *file = file_at(ino);
-        jw_refs(&engine, ino, &refs);
-        jw_inflight(&engine, ino, &inflight);
-        counts.wrong_counts += refs != file->places + inflight + file->is_embryo;
-        file->places = 0;
-    }
-}
-
-/* Counts a file that the collector frees, by who sent it last. The last row is for all others. */
-void note_leak(const struct file *file) {
-    int i = 0;
-    while (i < MOST_LEAKS - 1 && leaks[i].count[0] + leaks[i].count[1] > 0 &&
-           (leaks[i].sender.user.pid != file->sender.user.pid ||
-            strcmp(leaks[i].sender.name, file->sender.name) != 0))
-        i++;
-    leaks[i].sender = file->sender;
-    leaks[i].count[file->kind == JW_PLAIN]++;
 }
 
 /* Writes the picture, does the last pass, and says what was found. */

@@ -107,9 +107,9 @@ int main(int argc, char **argv) {
     start_program(argv + read_options(argc, argv));
     prepare();
     if (options.script != NULL) fputs("version 2\n", options.script);
-    int64_t answer = jw_spawn(&engine, geteuid(), JW_MAX_NOFILE, is_root);
-    record(0, answer, is_root ? "spawn %u %u priv" : "spawn %u %u", geteuid(), JW_MAX_NOFILE);
-    bind_process(add_process((uint32_t)answer, getpid(), getpid()), program);
+    long pid = record(0, jw_spawn(&engine, geteuid(), JW_MAX_NOFILE, is_root),
+                      is_root ? "spawn %u %u priv" : "spawn %u %u", geteuid(), JW_MAX_NOFILE);
+    add_process((uint32_t)pid, getpid(), getpid());
     for (int i = 0; i < THREADS; i++)
         if (pthread_create(&threads[i], NULL, serve_calls, NULL) != 0) err(FAILED, "a thread");
     kill(program, SIGCONT);

@@ -16,6 +16,16 @@ static struct message {
 static uint8_t bytes[JW_MAX_BYTES];
 static _Alignas(struct cmsghdr) char control[MOST_CONTROL];
 
+/* Returns descriptors as a line of the script has them. */
+static const char *fds_text(const uint32_t *fds, size_t count) {
+    static char text[8 * JW_MAX_FD];
+    int length = 0;
+    text[0] = '\0';
+    for (size_t i = 0; options.script != NULL && i < count; i++)
+        length += sprintf(text + length, " %u", fds[i]);
+    return text;
+}
+
 /* Reads the parts of a call's bytes, and the control data of a sendmsg(2). */
 static long read_parts(const struct call *call) {
     struct msghdr *header = &message.header;

@@ -3,8 +3,6 @@
  * that one is writable exactly if the layer's queue is not full. */
 #include "unixbox.h"
 
-enum { TOKEN = 768 }; /* What a byte takes of a buffer (SIOCOUTQ). */
-
 struct file_list files[FILE_SLOTS];
 
 void *copy_of(const void *value, size_t size) {
@@ -42,17 +40,11 @@ struct file *peer_of(const struct file *file) {
     return peer != 0 ? file_at(peer) : NULL;
 }
 
-static void free_file(struct file *file) {
+void free_file(struct file *file) {
     LIST_REMOVE(file, entries);
     if (file->host >= 0) close(file->host);
     if (file->path >= 0) close(file->path);
     free(file);
-}
-
-/* A socket is writable while at most a quarter of twice this number is taken. */
-void size_buffer(int host) {
-    int bytes = 2 * JW_MAX_MESSAGES * TOKEN - 1;
-    setsockopt(host, SOL_SOCKET, SO_SNDBUF, &bytes, sizeof bytes);
 }
 
 /* Closes the placeholder of a socket that is hung up and only in flight, if few descriptors are
@@ -86,25 +78,4 @@ void refresh(struct file *file) {
         file->tokens++;
     while (file->tokens > state.messages && recv(file->host, &token, 1, MSG_DONTWAIT) == 1)
         file->tokens--;
-}
-
-/* Frees what the last step freed, or collected, and refreshes and wakes what it changed. */
-void settle(bool is_collected) {
-    static uint64_t inos[JW_MAX_FILES];
-    int64_t freed = jw_released(&engine, inos, JW_MAX_FILES);
-    for (int64_t i = 0; i < freed; i++) {
-        struct file *file = file_at(inos[i]);
-        if (file != NULL && is_collected) note_leak(file);
-        if (file != NULL) free_file(file);
-    }
-    int64_t changed = jw_changed(&engine, inos, JW_MAX_FILES);
-    for (int64_t i = 0; i < changed; i++) {
-        struct file *file = file_at(inos[i]), *peer = peer_of(file);
-        refresh(file);
-        wake(inos[i]);
-        if (peer != NULL) wake(peer->ino);
-    }
-    if (freed + changed == 0) return;
-    jw_clear_told(&engine);
-    inspect();
 }

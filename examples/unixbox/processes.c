@@ -39,15 +39,14 @@ static struct process *process_by(pid_t tgid) {
 }
 
 /* Adds a process of the layer, which is not bound yet. */
-struct process *add_process(uint32_t pid, pid_t parent, pid_t forker) {
+void add_process(uint32_t pid, pid_t parent, pid_t forker) {
     struct process value = {.pid = pid, .parent = parent, .forker = forker, .pidfd = -1,
                             .has_changed = true}, *process = copy_of(&value, sizeof value);
     LIST_INSERT_HEAD(&processes, process, entries);
-    return process;
 }
 
 /* Binds it to a process of the host. Where that is over, it exits. */
-void bind_process(struct process *process, pid_t tgid) {
+static void bind_process(struct process *process, pid_t tgid) {
     struct epoll_event event = {.events = EPOLLIN, .data.ptr = process};
     char path[64];
     snprintf(path, sizeof path, "/proc/%d/fd", tgid);

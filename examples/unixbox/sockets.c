@@ -1,7 +1,14 @@
 /* Sockets: their making, their names, and their connections. */
 #include "unixbox.h"
 
+enum { TOKEN = 768 }; /* What a byte takes of a buffer (SIOCOUTQ). */
 enum { KEY_ROOM = JW_MAX_NAME + 1, PATH_START = offsetof(struct sockaddr_un, sun_path) };
+
+/* A socket is writable while at most a quarter of twice this number is taken. */
+static void size_buffer(int host) {
+    int bytes = 2 * JW_MAX_MESSAGES * TOKEN - 1;
+    setsockopt(host, SOL_SOCKET, SO_SNDBUF, &bytes, sizeof bytes);
+}
 
 long serve_socket(struct call *call) {
     int flags = (int)call->args[1], type = flags & 0xf, hosts[2];

@@ -106,10 +106,8 @@ extern pthread_mutex_t serving; /* Whoever has it may use all else. */
 
 long record(uint32_t pid, int64_t answer, const char *line, ...)
     __attribute__((format(printf, 3, 4)));
-const char *fds_text(const uint32_t *fds, size_t count);
+void settle(bool is_collected);
 bool collect(void);
-void inspect(void);
-void note_leak(const struct file *file);
 void conclude(void);
 
 int install_filter(void);
@@ -121,8 +119,7 @@ bool read_memory(const struct call *call, void *to, uint64_t from, size_t length
 bool write_memory(const struct call *call, uint64_t to, const void *from, size_t length);
 
 bool read_status(pid_t tid, struct status *out);
-struct process *add_process(uint32_t pid, pid_t parent, pid_t forker);
-void bind_process(struct process *process, pid_t tgid);
+void add_process(uint32_t pid, pid_t parent, pid_t forker);
 struct process *process_of(pid_t tid);
 void forget_process(struct process *process);
 
@@ -130,11 +127,10 @@ void *copy_of(const void *value, size_t size);
 struct file *file_at(uint64_t ino);
 struct file *file_of(const struct process *process, uint64_t fd);
 struct file *peer_of(const struct file *file);
-void size_buffer(int host);
+void free_file(struct file *file);
 void close_spare_placeholder(struct file *file);
 void reopen_placeholder(struct file *file);
 void refresh(struct file *file);
-void settle(bool is_collected);
 
 void sync_table(struct process *process);
 long install(struct call *call, uint32_t *fds, size_t count, bool closes_on_exec);
