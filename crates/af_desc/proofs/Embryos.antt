@@ -43,7 +43,7 @@ module _ (m : Map Count) (f : ℕ) where
         by k x true is = absurd (none_some x is)
         by k x false is = is
 
-  -- A place more than these, which are no more in backlogs than the file had.
+  -- These places and one more; at most as many of these are in backlogs as the file had.
   embryos-more : (c : Count) → c.waiting ≤ (count_in_map m f).waiting → (p : Place) (n : ℕ) → AreEmbryos m n → AreEmbryos (map.insert m f (more p c)) (with_embryo p n)
   embryos-more c few Table n h = λ low. let most = h low in omega (arith, most, few, changed (more Table c))
   embryos-more c few (Queue u) n h = λ low. let most = h low in omega (arith, most, few, changed (more (Queue u) c))

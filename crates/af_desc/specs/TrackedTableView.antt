@@ -32,8 +32,8 @@ pub record TrackedTableView : Type 0 where
   pub space : ℕ
   pub message_room : Bool
 
--- A row more, of this file, which this place holds and no pass has marked; there is so much room
--- then.
+-- A row more, of this file, which this place holds and no pass has marked, with the room that is
+-- left then.
 abbrev pub with_row : ℕ → File → Place → ℕ → TrackedTableView → TrackedTableView
 with_row f x p room r = record r {
   files = map.insert r.files f x;

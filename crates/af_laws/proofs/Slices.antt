@@ -208,7 +208,7 @@ all_left P t passes (x ∷ xs) = by (all_left P t passes xs) (t x) refl where
   by rest true e = All-cons P x (filter t xs) (passes x e) rest
   by rest false e = rest
 
--- no more keys are left than there are entries
+-- at most as many keys are left as there are entries
 few_left : (t : ℕ → Bool) (es : List (ℕ × File)) → length (filter t (each (λ e. e.0) es)) ≤ length es
 few_left t [] = omega arith
 few_left t (e ∷ es) = by (t e.0) (few_left t es) where

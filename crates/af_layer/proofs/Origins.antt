@@ -20,7 +20,7 @@ pub reached-after : {A E : Type 0} (X : Type 0) (old new : BookView) (r : Result
 reached-after X old new (Ok a) reached legal made same = subst (λ (b : BookView). IsReached b.seats b.start) (sym made) (reached-on old.seats old.start old.machine old.log reached legal)
 reached-after X old new (Err e) reached legal made same = subst (λ (b : BookView). IsReached b.seats b.start) (sym same.0) reached
 
--- What holds of an answer and what holds beside it.
+-- A fact of an answer, and a fact beside it.
 pub ok-beside : {A E Q : Type 0} (P R : A → Type 0) (r : Result A E) → ((a : A) → P a → Q → R a) → IfOk r P → OnOk r Q → IfOk r R
 ok-beside P R (Ok a) both p q = both a p q
 ok-beside P R (Err e) both p q = tt

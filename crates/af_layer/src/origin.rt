@@ -19,7 +19,7 @@ use std::marker::{Brand, Model, PhantomData};
 /// A contract knows of a locked value only what its type says. So the type of a layer says what
 /// holds of the machine at which its log begins.
 pub trait Origin {
-    /// What holds of the number of seats and of the machine at which the log begins.
+    /// Relates the number of seats to the machine at which the log begins.
     ghost begins: { ℕ → Machine → Type 0 };
 }
 

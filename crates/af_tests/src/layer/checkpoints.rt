@@ -5,7 +5,7 @@ use std::process::Abort;
 use std::sync::Wait;
 use std::test::Fail;
 
-/// A process starts from each seat.
+/// Starts a process from each seat.
 fn spawn_from_each<R: Wait>(rt: &R, layer: &Layer<AtCheckpoint>, seats: &mut [Seat]) -> bool {
     for seat in seats {
         if layer.call(rt, seat, spawn()).is_err() {
@@ -15,7 +15,7 @@ fn spawn_from_each<R: Wait>(rt: &R, layer: &Layer<AtCheckpoint>, seats: &mut [Se
     true
 }
 
-/// How many entries a checkpoint hands over, or what it finds.
+/// Returns how many entries a checkpoint hands over, or the fault that it finds.
 fn take_checkpoint<R: Wait>(
     rt: &R,
     layer: &Layer<AtCheckpoint>,
@@ -34,7 +34,7 @@ fn have(seats: &[Seat], pairs: usize) -> bool {
     true
 }
 
-/// Two processes start, and both entries are taken.
+/// Starts two processes, and takes both entries.
 fn spawn_and_take<R: Wait + Abort>(rt: &R, layer: &Layer<AtCheckpoint>, seats: &mut [Seat]) {
     assert!(rt; spawn_from_each(rt, layer, seats) && have(seats, 1));
     assert!(rt; take_checkpoint(rt, layer, seats) == Ok(2) && have(seats, 0));
