@@ -89,6 +89,7 @@ module _ (old new : FileTableView) (fs : List ℕ) (space : ℕ) (since : Since)
   dirty-faces dirty faces = record {
     listed = subst (λ n. IsDirtyList n fs) (sym dirty) h.listed;
     fits = λ a. let most = h.fits a in omega (arith, most, ap map.len dirty);
+    silent = h.silent;
     same = λ a f s e. faces f ∙ h.same a f (sym (alike new.files old.files f (faces f)) ∙ s) (sym (ap (λ n. map.get n f) dirty) ∙ e);
   }
 
@@ -109,6 +110,7 @@ module _ (old new : FileTableView) (fs : List ℕ) (space : ℕ) (since : Since)
   dirty-roomy most is more = let same = dirty-faces (ap (λ l. l.dirty) is) (λ f. ap (λ l. face_in l.files f) is) in record {
     listed = same.listed;
     fits = λ a. let few = same.fits a in omega (arith, few, more);
+    silent = same.silent;
     same = same.same;
   }
 
@@ -118,10 +120,11 @@ module _ (old new : FileTableView) (fs : List ℕ) (space : ℕ) (since : Since)
   dirty-bound (Err b) f name ok err = dirty-still err
 
   -- A file is freed, and leaves the list.
-  pub dirty-gone : (f : ℕ) (gs : List ℕ) (most : ℕ) → new ≡ without_entry f new.room old → IsDirtyList (map.remove old.dirty f) gs → space ≤ most → FitsDirty new gs most since
-  dirty-gone f gs most is listed more = record {
+  pub dirty-gone : (f : ℕ) (gs : List ℕ) (most : ℕ) → new ≡ without_entry f new.room old → IsDirtyList (map.remove old.dirty f) gs → (since.changed ≡ false → gs ≡ []) → space ≤ most → FitsDirty new gs most since
+  dirty-gone f gs most is listed silent more = record {
     listed = subst (λ n. IsDirtyList n gs) (sym (ap (λ l. l.dirty) is)) listed;
     fits = λ a. let few = h.fits a in omega (arith, few, more, ap (λ l. map.len l.dirty) is, gone_few old.dirty f);
+    silent = silent;
     same = λ a g s e. elim (same_or_not g f) [
       | inl here ↦ absurd (none_some false (sym (ap (λ l. map.get l.dirty g) is ∙ ap (map.get (map.remove old.dirty f)) here ∙ remove-here old.dirty f) ∙ e))
       | inr apart ↦
@@ -131,11 +134,12 @@ module _ (old new : FileTableView) (fs : List ℕ) (space : ℕ) (since : Since)
   }
 
 -- A file is dirty, and changes then.
-module _ (old mid : FileTableView) (fs gs : List ℕ) (space most : ℕ) (since : Since) (f : ℕ) (h : FitsDirty old fs space since) (n : MakesDirty since.changed old mid f) (listed : IsDirtyList mid.dirty gs) (more : space ≤ most) where
+module _ (old mid : FileTableView) (fs gs : List ℕ) (space most : ℕ) (since : Since) (f : ℕ) (h : FitsDirty old fs space since) (n : MakesDirty since.changed old mid f) (listed : IsDirtyList mid.dirty gs) (still : since.changed ≡ false → gs ≡ fs) (more : space ≤ most) where
   pub dirty-first : FitsDirty mid gs most since
   dirty-first = record {
     listed = listed;
     fits = λ a. let few = h.fits a in omega (arith, few, more, n.len);
+    silent = λ off. still off ∙ h.silent off;
     same = λ a g s e. let at = ap (λ l. face_in l.files g) n.rest in at ∙ h.same a g (sym (alike mid.files old.files g at) ∙ s) (n.others g e);
   }
 
@@ -143,6 +147,7 @@ module _ (old mid : FileTableView) (fs gs : List ℕ) (space most : ℕ) (since 
   dirty-changed new g is = subst (λ l. FitsDirty l gs most since) (sym is) (record {
     listed = dirty-first.listed;
     fits = dirty-first.fits;
+    silent = dirty-first.silent;
     same = λ a q s e.
         let was = sym (socket-stays mid.files f q g) ∙ s in
         elim (same_or_not q f) [
@@ -153,10 +158,11 @@ module _ (old mid : FileTableView) (fs gs : List ℕ) (space most : ℕ) (since 
 
 -- A file changes, and is dirty then.
 pub dirty-after : (old mid new : FileTableView) (fs gs : List ℕ) (space most : ℕ) (since : Since) (f : ℕ) (g : Socket → Socket) (b : Bool) → FitsDirty old fs space since → mid ≡ record old { files = change_socket_at g old.files f; message_room = b }
-    → MakesDirty since.changed mid new f → IsDirtyList new.dirty gs → space ≤ most → FitsDirty new gs most since
-dirty-after old mid new fs gs space most since f g b h is n listed more = record {
+    → MakesDirty since.changed mid new f → IsDirtyList new.dirty gs → (since.changed ≡ false → gs ≡ fs) → space ≤ most → FitsDirty new gs most since
+dirty-after old mid new fs gs space most since f g b h is n listed still more = record {
   listed = listed;
   fits = λ a. let few = h.fits a in omega (arith, few, more, n.len, ap (λ l. map.len l.dirty) is);
+  silent = λ off. still off ∙ h.silent off;
   same = λ a q s e.
       let socket = sym (ap (λ l. is_socket_in l.files q) n.rest) ∙ s in
       elim (same_or_not q f) [
@@ -172,6 +178,7 @@ pub dirty-none : (l : FileTableView) (fs : List ℕ) (space : ℕ) (since : Sinc
 dirty-none l fs space since none empty off = record {
   listed = just-empty (λ b. b) l.dirty fs none empty;
   fits = λ a. absurd (false≢true (sym off ∙ a));
+  silent = λ _. empty;
   same = λ a. absurd (false≢true (sym off ∙ a));
 }
 
@@ -244,10 +251,11 @@ module _ (p : Place) (old mid : FileTableView) (fs : List ℕ) (space : ℕ) (si
     by None e = refl
     by (Some b) e = absurd (false≢true (sym e))
 
-  pub dirty-pushed : (new : FileTableView) (gs : List ℕ) (most k : ℕ) → k ≡ ino → MakesDirty since.changed mid new k → IsDirtyList new.dirty gs → (since.changed ≡ true → map.len mid.dirty ≤ space) → space ≤ most → FitsDirty new gs most since
-  dirty-pushed new gs most k here n listed fits more = record {
+  pub dirty-pushed : (new : FileTableView) (gs : List ℕ) (most k : ℕ) → k ≡ ino → MakesDirty since.changed mid new k → IsDirtyList new.dirty gs → (since.changed ≡ false → gs ≡ fs) → (since.changed ≡ true → map.len mid.dirty ≤ space) → space ≤ most → FitsDirty new gs most since
+  dirty-pushed new gs most k here n listed still fits more = record {
     listed = listed;
     fits = λ a. let few = fits a in omega (arith, few, more, n.len);
+    silent = λ off. still off ∙ h.silent off;
     same = λ a g s e. elim (same_or_not g ino) [
       | inl own ↦ absurd (n.dirty a (ap (is_socket_in mid.files) (here ∙ sym own) ∙ sym (ap (λ l. is_socket_in l.files g) n.rest) ∙ s) (ap (map.get new.dirty) (here ∙ sym own) ∙ e))
       | inr apart ↦

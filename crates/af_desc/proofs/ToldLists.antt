@@ -1,6 +1,6 @@
 -- That both lists fit the rows, as rows come, change and go.
-use Rattle.std.proofs.Common.{◌≡◌, ◌≤◌, ◌<◌, ℕ, ◌+◌, ◌-◌, Bool, true, false, inl, inr, List, [], ◌∷◌, ◌++◌, drop, length, refl, sym, ap, ◌∙◌, subst, cond, nat_eq, arith, length-append}
-use Rattle.std.specs.Prelude.{Result, Ok, Err, OnErr, OnOk, is_some, min, nat_lt}
+use Rattle.std.proofs.Common.{◌≡◌, ◌≤◌, ◌<◌, ℕ, ◌+◌, ◌-◌, Bool, true, false, inl, inr, List, [], ◌∷◌, ◌++◌, drop, length, sym, ap, ◌∙◌, subst, cond, nat_eq, arith, length-append}
+use Rattle.std.specs.Prelude.{Result, Ok, Err, OnErr, OnOk, is_some, nat_lt}
 use Rattle.std.specs.Option.{option_map_or}
 use Rattle.std.specs.FinMap as map
 use Rattle.std.specs.Ordering.{nat_cmp}
@@ -127,10 +127,11 @@ accounted-anew table gone wide since none next files same below fits = record {
 }
 
 -- And of sockets: none has another face than now.
-pub dirty-anew : (table : FileTableView) (fs : List ℕ) (space : ℕ) (since : Since) → since.files ≡ table.files → IsDirtyList table.dirty fs → (since.changed ≡ true → map.len table.dirty ≤ space) → FitsDirty table fs space since
-dirty-anew table fs space since files listed fits = record {
+pub dirty-anew : (table : FileTableView) (fs : List ℕ) (space : ℕ) (since : Since) → since.files ≡ table.files → IsDirtyList table.dirty fs → fs ≡ [] → (since.changed ≡ true → map.len table.dirty ≤ space) → FitsDirty table fs space since
+dirty-anew table fs space since files listed none fits = record {
   listed = listed;
   fits = fits;
+  silent = λ _. none;
   same = λ a f s e. ap (λ m. face_in m f) (sym files);
 }
 
@@ -164,7 +165,7 @@ module _ (old new : FileTableView) (fs : List ℕ) (space : ℕ) (gone : List �
 
   -- Room for a message more.
   pub told-roomed : (b : Bool) → new ≡ record old { message_room = b } → AreTold new fs space gone wide all since
-  told-roomed b is = subst (λ l. AreTold l fs space gone wide all since) (sym is) (record { dirty = record { listed = h.dirty.listed; fits = h.dirty.fits; same = h.dirty.same }; accounted = record { later = h.accounted.later; below = h.accounted.below; each = h.accounted.each; fits = h.accounted.fits }; roomy = h.roomy })
+  told-roomed b is = subst (λ l. AreTold l fs space gone wide all since) (sym is) (record { dirty = record { listed = h.dirty.listed; fits = h.dirty.fits; silent = h.dirty.silent; same = h.dirty.same }; accounted = record { later = h.accounted.later; below = h.accounted.below; each = h.accounted.each; fits = h.accounted.fits }; roomy = h.roomy })
 
   -- Other counts of one that is there.
   pub told-counted : (f : ℕ) (c : Count) → new ≡ record old { counts = map.insert old.counts f c } → map.contains_key old.counts f ≡ true → map.len new.counts ≡ map.len old.counts → AreTold new fs space gone wide all since
@@ -193,7 +194,7 @@ module _ (old new : FileTableView) (fs : List ℕ) (space : ℕ) (gone : List �
     by (Err b) ok err = accounted-same old new gone wide since h.accounted wide (ap (λ l. l.last) err) (ap (λ l. l.counts) err) (omega arith)
 
 -- A file is dirty, and changes then.
-module _ (old mid : FileTableView) (fs gs : List ℕ) (space most : ℕ) (gone : List ℕ) (wide all : ℕ) (since : Since) (f : ℕ) (h : AreTold old fs space gone wide all since) (n : MakesDirty since.changed old mid f) (listed : IsDirtyList mid.dirty gs) (same : most ≡ space) where
+module _ (old mid : FileTableView) (fs gs : List ℕ) (space most : ℕ) (gone : List ℕ) (wide all : ℕ) (since : Since) (f : ℕ) (h : AreTold old fs space gone wide all since) (n : MakesDirty since.changed old mid f) (listed : IsDirtyList mid.dirty gs) (still : since.changed ≡ false → gs ≡ fs) (same : most ≡ space) where
   accounted-dirty : AreAccounted mid gone wide since
   accounted-dirty = accounted-same old mid gone wide since h.accounted wide (ap (λ l. l.last) n.rest) (ap (λ l. l.counts) n.rest) (omega arith)
 
@@ -202,16 +203,16 @@ module _ (old mid : FileTableView) (fs gs : List ℕ) (space most : ℕ) (gone :
 
   pub told-changed : (b : Bool) (new : FileTableView) (g : Socket → Socket) → new ≡ record mid { files = change_socket_at g mid.files f; message_room = b } → AreTold new gs most gone wide all since
   told-changed b new g is = record {
-    dirty = dirty-changed old mid fs gs space most since f h.dirty n listed (omega (arith, same)) new g is;
+    dirty = dirty-changed old mid fs gs space most since f h.dirty n listed still (omega (arith, same)) new g is;
     accounted = accounted-same mid new gone wide since accounted-dirty wide (ap (λ l. l.last) is) (ap (λ l. l.counts) is) (omega arith);
     roomy = roomy-dirty;
   }
 
 -- A file changes, and is dirty then.
 pub told-after : (old mid new : FileTableView) (fs gs : List ℕ) (space most : ℕ) (gone : List ℕ) (wide all : ℕ) (since : Since) (f : ℕ) (g : Socket → Socket) (b : Bool) → AreTold old fs space gone wide all since
-    → mid ≡ record old { files = change_socket_at g old.files f; message_room = b } → MakesDirty since.changed mid new f → IsDirtyList new.dirty gs → most ≡ space → AreTold new gs most gone wide all since
-told-after old mid new fs gs space most gone wide all since f g b h is n listed same = record {
-  dirty = dirty-after old mid new fs gs space most since f g b h.dirty is n listed (omega (arith, same));
+    → mid ≡ record old { files = change_socket_at g old.files f; message_room = b } → MakesDirty since.changed mid new f → IsDirtyList new.dirty gs → (since.changed ≡ false → gs ≡ fs) → most ≡ space → AreTold new gs most gone wide all since
+told-after old mid new fs gs space most gone wide all since f g b h is n listed still same = record {
+  dirty = dirty-after old mid new fs gs space most since f g b h.dirty is n listed still (omega (arith, same));
   accounted = accounted-same old new gone wide since h.accounted wide (ap (λ l. l.last) n.rest ∙ ap (λ l. l.last) is) (ap (λ l. l.counts) n.rest ∙ ap (λ l. l.counts) is) (omega arith);
   roomy = record { changed = λ a. let few = h.roomy.changed a in omega (arith, few, same); released = h.roomy.released };
 }

@@ -1,6 +1,6 @@
 -- The lists of the files that were freed and of the sockets whose readiness may have changed,
 -- beside the rows. Definitions that name no manual page are this project's own.
-use Rattle.std.specs.Prelude.{◌≡◌, ◌≤◌, ◌<◌, ◌+◌, ℕ, Bool, true, false, List, Some, IsTrue, length}
+use Rattle.std.specs.Prelude.{◌≡◌, ◌≤◌, ◌<◌, ◌+◌, ℕ, Bool, true, false, List, [], Some, IsTrue, length}
 use Rattle.std.specs.FinMap as map
 use Rattle.af_base.specs.Counts.{ListsExactly}
 use Rattle.af_base.specs.Ready.{face_in}
@@ -22,10 +22,11 @@ abbrev pub IsDirtyList : Map Bool → List ℕ → Type 0
 IsDirtyList dirty fs = ListsExactly (λ b. b) dirty fs
 
 -- The list has just the dirty files; where it is kept it has room for all, and a socket that is not
--- dirty has the face that it had.
+-- dirty has the face that it had; where it is not kept it is empty.
 pub record FitsDirty (table : FileTableView) (fs : List ℕ) (space : ℕ) (since : Since) : Type 0 where
   pub listed : IsDirtyList table.dirty fs
   pub fits : since.changed ≡ true → map.len table.dirty ≤ space
+  pub silent : since.changed ≡ false → fs ≡ []
   pub same : since.changed ≡ true → (f : ℕ) → IsTrue (is_socket_in table.files f)
       → map.get table.dirty f ≡ Some false → face_in table.files f ≡ face_in since.files f
 

@@ -25,13 +25,13 @@ pub struct FileRow {
     pub endpoint: Option<Endpoint>,
     /// The messages of its queue.
     pub chain: Chain,
+    /// Its position in the list of those whose readiness may have changed, counted from 1: a hint.
+    /// It is 0 where the file is not in that list.
+    pub dirty_at: u32,
     /// How many places hold it.
     pub count: Count,
     /// Its colour in a pass of the collector.
     pub mark: Mark,
-    /// Its position in the list of those whose readiness may have changed, counted from 1: a hint.
-    /// It is 0 where the file is not in that list.
-    pub dirty_at: u32,
 }
 
 impl FileRow {

@@ -126,9 +126,9 @@ impl FileTable {
         let row = FileRow {
             endpoint,
             chain: Chain::empty(),
+            dirty_at: 0,
             count,
             mark: Mark::none(),
-            dirty_at: 0,
         };
         self.rows.push(ino, row)
     }

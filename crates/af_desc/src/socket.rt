@@ -10,6 +10,7 @@ use af_base::events::{SockType, State};
 use af_base::ids::FileRef;
 use af_base::items::Items;
 use af_listen::Backlog;
+use af_mark::clamp_index;
 use af_queue::Queue;
 use std::alloc::{AllocError, Global};
 use std::marker::Model;
@@ -18,9 +19,9 @@ use std::marker::Model;
 #[derive(Drop)]
 pub struct Endpoint {
     kind: SockType,
-    state: State,
     /// The key of the peer's row, if there is a peer: a hint.
-    peer_key: usize,
+    peer_key: u32,
+    state: State,
     /// The parts that only a socket with a name has; most have none.
     named_parts: Option<Box<NamedParts>>,
 }
@@ -59,8 +60,8 @@ impl Endpoint {
     {
         Endpoint {
             kind,
-            state: State::Idle,
             peer_key: 0,
+            state: State::Idle,
             named_parts: None,
         }
     }
@@ -71,8 +72,8 @@ impl Endpoint {
     {
         Endpoint {
             kind,
+            peer_key: clamp_index(peer.key()),
             state: State::Connected(peer.ino()),
-            peer_key: peer.key(),
             named_parts: None,
         }
     }
@@ -106,7 +107,7 @@ impl Endpoint {
         ensures none { IfNone result ((peer : ℕ) → ¬ (self.now.state ≡ State.Connected peer)) }
     {
         match self.state {
-            State::Connected(ino) => Some(FileRef::new(ino, self.peer_key)),
+            State::Connected(ino) => Some(FileRef::new(ino, self.peer_key as usize)),
             State::Idle | State::Listening(_) | State::HungUp => None,
         }
     }
@@ -157,7 +158,7 @@ impl Endpoint {
         ensures { self.new ≡ connected peer.now self.old }
     {
         self.state = State::Connected(peer.ino());
-        self.peer_key = peer.key();
+        self.peer_key = clamp_index(peer.key());
     }
 
     /// Appends an embryo. Takes no memory.
@@ -185,7 +186,7 @@ impl Endpoint {
     pub fn set_peer_hint(&mut self, peer: &FileRef)
         ensures { self.new ≡ self.old }
     {
-        self.peer_key = peer.key();
+        self.peer_key = clamp_index(peer.key());
     }
 
     /// Marks the peer as gone.

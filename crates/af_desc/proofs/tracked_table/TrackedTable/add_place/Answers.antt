@@ -8,4 +8,4 @@ pub invariant_of-self : goal.invariant_of-self
 invariant_of-self c =
     let k = c.args.file.now in
     let there : map.contains_key c.self.inside.table.counts k ≡ true = ap (λ (v : TrackedTableView). map.contains_key v.counts k) c.self.view_is ∙ c.requires.known in
-    told-counted c.self.inside.table c.add_place.new.self _ _ _ _ _ _ c.self.invariant k _ c.add_place.ensures.counts there c.add_place.ensures.len
+    (told-counted c.self.inside.table c.add_place.new.self _ _ _ _ _ _ c.self.invariant.0 k _ c.add_place.ensures.counts there c.add_place.ensures.len, c.self.invariant.1)

@@ -7,4 +7,4 @@ pub invariant_of-self : goal.invariant_of-self
 invariant_of-self c =
     let a = c.self.inside in
     let n = c.add_dirty.ensures in
-    told-changed a.table c.add_dirty.new.table a.changed.items _ (vec_capacity a.changed) _ a.released.items (vec_capacity a.released) _ _ c.args.file.now c.self.invariant n.dirty n.listed n.capacity _ c.connect.new.self (connected c.args.peer.now) c.connect.ensures
+    (told-changed a.table c.add_dirty.new.table a.changed.items _ (vec_capacity a.changed) _ a.released.items (vec_capacity a.released) _ _ c.args.file.now c.self.invariant.0 n.dirty n.listed n.still n.capacity _ c.connect.new.self (connected c.args.peer.now) c.connect.ensures, c.self.invariant.1)

@@ -4,10 +4,10 @@ use Rattle.af_desc.proofs.ToldLists.{told-nobody, told-after}
 use Rattle.af_desc.proofs.tracked_table.TrackedTable.dequeue.Goals as goal
 
 pub invariant_of-self : goal.invariant_of-self
-invariant_of-self c = told-nobody c.self.inside.table c.dequeue.new.self _ _ _ _ _ _ c.args.file.now c.self.invariant c.in_err-embryo.ensures.none c.dequeue.ensures.rest
+invariant_of-self c = (told-nobody c.self.inside.table c.dequeue.new.self _ _ _ _ _ _ c.args.file.now c.self.invariant.0 c.in_err-embryo.ensures.none c.dequeue.ensures.rest, c.self.invariant.1)
 
 pub invariant_of-self-2 : goal.invariant_of-self-2
 invariant_of-self-2 c =
     let a = c.self.inside in
     let n = c.add_dirty.ensures in
-    told-after a.table c.dequeue.new.self c.add_dirty.new.table a.changed.items _ (vec_capacity a.changed) _ a.released.items (vec_capacity a.released) _ _ c.args.file.now dequeued _ c.self.invariant c.dequeue.ensures.rest n.dirty n.listed n.capacity
+    (told-after a.table c.dequeue.new.self c.add_dirty.new.table a.changed.items _ (vec_capacity a.changed) _ a.released.items (vec_capacity a.released) _ _ c.args.file.now dequeued _ c.self.invariant.0 c.dequeue.ensures.rest n.dirty n.listed n.still n.capacity, c.self.invariant.1)

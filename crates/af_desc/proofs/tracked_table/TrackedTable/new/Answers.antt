@@ -6,4 +6,4 @@ use Rattle.af_desc.proofs.tracked_table.TrackedTable.new.Goals as goal
 pub invariant_of-result : goal.invariant_of-result
 invariant_of-result c =
     let l = c.new-table.ensures in
-    told-none c.new-table.result c.new.result.items (vec_capacity c.new.result) c.new-2.result.items (vec_capacity c.new-2.result) _ _ l.dirty l.counts l.last c.new.ensures.items refl refl (ap (λ x. x.last + 1) c.of-since.ensures ∙ ap (λ n. n + 1) l.last)
+    (told-none c.new-table.result c.new.result.items (vec_capacity c.new.result) c.new-2.result.items (vec_capacity c.new-2.result) _ _ l.dirty l.counts l.last c.new.ensures.items refl refl (ap (λ x. x.last + 1) c.of-since.ensures ∙ ap (λ n. n + 1) l.last), λ _. (refl, refl))

@@ -19,14 +19,14 @@ add_dirty-requires-clause-fits c = λ asked.
       | then-self w ↦ w.if-self.true
       | else-self w ↦ sym w.add_dirty-is ∙ asked
     ] in
-    let enough = c.self.invariant.roomy.changed tells in
+    let enough = c.self.invariant.0.roomy.changed tells in
     let dirty = len-insert_most a.table.dirty c.args.ino false in
     omega (arith, c.requires.space, enough, dirty, c.lemma_are_one.ensures.len, ap (λ (v : TrackedTableView). map.len v.counts) c.self.view_is, ap (λ (v : TrackedTableView). v.space) c.self.view_is, ap (λ l. map.len l.dirty) c.push-file.ensures.pushed)
 
 pub add_dirty-requires-clause-listed : goal.add_dirty-requires-clause-listed
 add_dirty-requires-clause-listed c =
     let a = c.self.inside in
-    pushed-listed c.args.place.now a.table c.push-file.new.self a.changed.items (vec_capacity a.changed) _ c.args.ino _ (file_of c.args.endpoint) c.self.invariant.dirty c.push-file.ensures.pushed c.push-file.ensures.clean
+    pushed-listed c.args.place.now a.table c.push-file.new.self a.changed.items (vec_capacity a.changed) _ c.args.ino _ (file_of c.args.endpoint) c.self.invariant.0.dirty c.push-file.ensures.pushed c.push-file.ensures.clean
 
 pub invariant_of-self : goal.invariant_of-self
 invariant_of-self c =
@@ -34,7 +34,7 @@ invariant_of-self c =
     let s = since_of a.tells_changed a.tells_released a.since.value in
     let n = c.add_dirty.ensures in
     let p = c.push-file.ensures in
-    let h = c.self.invariant in
+    let h = c.self.invariant.0 in
     let low = c.requires.space in
     let many = ap (λ (v : TrackedTableView). map.len v.counts) c.self.view_is in
     let all = ap (λ (v : TrackedTableView). v.space) c.self.view_is in
@@ -46,9 +46,15 @@ invariant_of-self c =
       | else-self w ↦ absurd (false≢true (sym w.if-self.false ∙ tells))
     ]) in
     let accounted = accounted-pushed c.args.place.now a.table c.push-file.new.self a.released.items (vec_capacity a.released) _ c.args.ino _ (file_of c.args.endpoint) h.accounted p.pushed next (λ asked. let enough = h.roomy.released asked in omega (arith, low, many, all, enough, counted, ap (λ l. map.len l.counts) p.pushed)) in
-    record {
-      dirty = dirty-pushed c.args.place.now a.table c.push-file.new.self a.changed.items (vec_capacity a.changed) s c.args.ino _ (file_of c.args.endpoint) h.dirty p.pushed c.add_dirty.new.table _ _ c.push-file.result p.file told n.listed
-          (λ asked. let enough = h.roomy.changed asked in omega (arith, low, many, all, enough, dirty, c.lemma_are_one.ensures.len, ap (λ l. map.len l.dirty) p.pushed)) (omega (arith, n.capacity));
-      accounted = accounted-same c.push-file.new.self c.add_dirty.new.table a.released.items (vec_capacity a.released) _ accounted (vec_capacity a.released) (ap (λ l. l.last) n.dirty.rest) (ap (λ l. l.counts) n.dirty.rest) (omega arith);
-      roomy = record { changed = λ asked. let enough = h.roomy.changed asked in omega (arith, enough, n.capacity); released = h.roomy.released };
-    }
+    let still : a.tells_changed ≡ false → c.add_dirty.new.changed.items ≡ a.changed.items = λ off. n.still (elim c.if-self.branch [
+      | then-self w ↦ absurd (false≢true (sym off ∙ w.if-self.true))
+      | else-self w ↦ w.add_dirty-is ∙ off
+    ]) in (
+      record {
+        dirty = dirty-pushed c.args.place.now a.table c.push-file.new.self a.changed.items (vec_capacity a.changed) s c.args.ino _ (file_of c.args.endpoint) h.dirty p.pushed c.add_dirty.new.table _ _ c.push-file.result p.file told n.listed still
+            (λ asked. let enough = h.roomy.changed asked in omega (arith, low, many, all, enough, dirty, c.lemma_are_one.ensures.len, ap (λ l. map.len l.dirty) p.pushed)) (omega (arith, n.capacity));
+        accounted = accounted-same c.push-file.new.self c.add_dirty.new.table a.released.items (vec_capacity a.released) _ accounted (vec_capacity a.released) (ap (λ l. l.last) n.dirty.rest) (ap (λ l. l.counts) n.dirty.rest) (omega arith);
+        roomy = record { changed = λ asked. let enough = h.roomy.changed asked in omega (arith, enough, n.capacity); released = h.roomy.released };
+      },
+      c.self.invariant.1,
+    )

@@ -12,4 +12,4 @@ invariant_of-self c =
     let k = c.args.file.now in
     let counted = subst (λ (v : TrackedTableView). IsCounted c.args.place.now (count_in_map v.counts k)) (sym c.self.view_is) c.requires in
     let there : map.contains_key c.self.inside.table.counts k ≡ true = counted-known c.args.place.now c.self.inside.table.counts k counted in
-    told-counted c.self.inside.table c.sub_place.new.self _ _ _ _ _ _ c.self.invariant k _ c.sub_place.ensures.counts there c.sub_place.ensures.len
+    (told-counted c.self.inside.table c.sub_place.new.self _ _ _ _ _ _ c.self.invariant.0 k _ c.sub_place.ensures.counts there c.sub_place.ensures.len, c.self.invariant.1)

@@ -4,10 +4,10 @@ use Rattle.af_desc.proofs.ToldLists.{told-after, told-still}
 use Rattle.af_desc.proofs.tracked_table.TrackedTable.take.Goals as goal
 
 pub invariant_of-self : goal.invariant_of-self
-invariant_of-self c = told-still c.self.inside.table c.take.new.self _ _ _ _ _ _ c.self.invariant c.in_err-taken.ensures.err
+invariant_of-self c = (told-still c.self.inside.table c.take.new.self _ _ _ _ _ _ c.self.invariant.0 c.in_err-taken.ensures.err, c.self.invariant.1)
 
 pub invariant_of-self-2 : goal.invariant_of-self-2
 invariant_of-self-2 c =
     let a = c.self.inside in
     let n = c.add_dirty.ensures in
-    told-after a.table c.take.new.self c.add_dirty.new.table a.changed.items _ (vec_capacity a.changed) _ a.released.items (vec_capacity a.released) _ _ c.args.file.now (received_from c.args.max) _ c.self.invariant c.in_ok-taken.ensures.rest n.dirty n.listed n.capacity
+    (told-after a.table c.take.new.self c.add_dirty.new.table a.changed.items _ (vec_capacity a.changed) _ a.released.items (vec_capacity a.released) _ _ c.args.file.now (received_from c.args.max) _ c.self.invariant.0 c.in_ok-taken.ensures.rest n.dirty n.listed n.still n.capacity, c.self.invariant.1)
