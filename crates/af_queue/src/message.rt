@@ -146,19 +146,19 @@ impl Msg {
           trunc = nat_lt max (length self.bytes);
         } }
     {
-        let trunc = self.len() > max;
+        let len = self.len();
+        let kept = len.min(max);
         let Msg {
             mut bytes,
             begin,
             user,
             attached,
         } = self;
+        let begin = begin as usize;
         if begin > 0 {
-            bytes.drain(..begin as usize);
+            bytes.copy_within(begin..begin + kept, 0);
         }
-        if trunc {
-            bytes.truncate(max);
-        }
-        Taken::new(bytes, attached, user, trunc)
+        bytes.truncate(kept);
+        Taken::new(bytes, attached, user, len > max)
     }
 }
