@@ -1,15 +1,19 @@
 -- How the list of users changes with the hash map.
-use Rattle.std.proofs.Common.{◌≡◌, ℕ, ◌+◌, ◌-◌, ◌≤◌, Bool, true, false, ◌||◌, List, [], ◌∷◌, ◌++◌, refl, sym, ap, ◌∙◌, subst, cond}
-use Rattle.std.specs.Prelude.{Some, None, nat_eq, unwrap_or, is_some, IsTrue}
+use Rattle.std.proofs.Common.{◌≡◌, ℕ, ◌+◌, ◌-◌, ◌≤◌, zero, suc, Bool, true, false, ◌||◌, List, [], ◌∷◌, ◌++◌, refl, sym, ap, ◌∙◌, subst, cond}
+use Rattle.std.specs.Prelude.{Some, None, nat_eq, unwrap_or, is_some, slice_get, IsTrue}
 use Rattle.std.specs.List.{list_any}
-use Rattle.std.specs.Map.{keys_of, lookup, set_value}
+use Rattle.std.specs.Map.{keys_of, lookup, lookup_key, set_value}
 use Rattle.std.proofs.Math.Bool.{or-true}
 use Rattle.std.proofs.lemmas.List.Folds.{list_any-append}
 use Rattle.std.specs.Option.{option_map_or}
-use Rattle.indexmap.specs.IndexMap.{IndexMap, get, insert_entry}
+use Rattle.std.specs.Cmp.{nat_eq_equiv}
+use Rattle.std.proofs.lemmas.Bool.{eqb-true}
+use Rattle.indexmap.specs.IndexMap.{IndexMap, IsUnique, get, insert_entry, set_value_at}
 use Rattle.indexmap.proofs.CallerLemmas.{insert_entry-new}
-use Rattle.std.proofs.lemmas.Map.Made.{is_some-lookup}
-use Rattle.af_base.proofs.Lookups.{itself}
+use Rattle.indexmap.proofs.MapLemmas.{insert_entry-first}
+use Rattle.indexmap.proofs.RemoveLemmas.{own_first}
+use Rattle.std.proofs.lemmas.Map.Made.{is_some-lookup, lookup_key_passes}
+use Rattle.af_base.proofs.Lookups.{itself, none_some, some_same}
 use Rattle.af_ledger.specs.Tally.{recharged, is_user, with_user}
 use Rattle.af_ledger.proofs.Laws.{users-added}
 
@@ -40,6 +44,24 @@ user_found us u b e = sym (is_some-lookup (nat_eq u) us) ∙ e
 -- A user that is there stays.
 pub user_kept : (us : List (ℕ × ℕ)) (u : ℕ) → is_some (lookup (nat_eq u) us) ≡ true → us ≡ with_user u us
 user_kept us u e = ap (λ b. cond b us (us ++ (u, 0) ∷ [])) (sym (user_found us u true e))
+
+-- The entry that a search for a user finds is the user's.
+pub entry_of_user : (us : List (ℕ × ℕ)) (u i : ℕ) (e : ℕ × ℕ) → Some e.0 ≡ lookup_key (nat_eq u) us → slice_get us i ≡ Some e → slice_get us i ≡ Some (u, e.1)
+entry_of_user us u i e key at = at ∙ ap (λ k. Some (k, e.1)) (sym (eqb-true u e.0 (lookup_key_passes (nat_eq u) us e.0 (sym key))))
+
+-- A charge that is inserted for a user at this index replaces the one there.
+inserted_again : (u n w : ℕ) (es : List (ℕ × ℕ)) (i : ℕ) → slice_get es i ≡ Some (u, n) → insert_entry nat_eq es u w ≡ set_value (nat_eq u) es w
+inserted_again u n w [] i at = absurd (none_some (u, n) at)
+inserted_again u n w (e ∷ es) zero at =
+    let passes : nat_eq u e.0 ≡ true = ap (λ k. nat_eq u k) (ap (λ x. x.0) (some_same e (u, n) at)) ∙ itself u in
+    ap (λ b. cond b ((e.0, w) ∷ es) (e ∷ insert_entry nat_eq es u w)) passes
+    ∙ sym (ap (λ b. cond b ((e.0, w) ∷ es) (e ∷ set_value (nat_eq u) es w)) passes)
+inserted_again u n w (e ∷ es) (suc i) at = ap (λ l. cond (nat_eq u e.0) ((e.0, w) ∷ es) (e ∷ l)) (inserted_again u n w es i at)
+
+-- A charge that is set at a user's index is set for the user.
+pub set_at_index : {S : Type 0} (m : IndexMap ℕ ℕ S) (u n i w : ℕ) → IsUnique nat_eq m → slice_get m.entries i ≡ Some (u, n) → set_value_at m.entries i w ≡ set_value (nat_eq u) m.entries w
+set_at_index m u n i w unique at =
+    sym (insert_entry-first nat_eq u w m.entries i (own_first nat_eq nat_eq_equiv m.entries i u n unique at)) ∙ inserted_again u n w m.entries i at
 
 -- A new user is added at the end.
 pub user_added : {S : Type 0} (m : IndexMap ℕ ℕ S) (new : List (ℕ × ℕ)) (u : ℕ) → get nat_eq m u ≡ None → new ≡ insert_entry nat_eq m.entries u 0 → new ≡ with_user u m.entries

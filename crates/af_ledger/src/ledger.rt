@@ -1,7 +1,8 @@
 //! The charges of users.
 ghost use Rattle.std.specs.Prelude.{◌≡◌, ℕ, ◌+◌, ◌≤◌, ◌-◌, ◌^◌, [], None, Some, IsTrue, IsOk};
-ghost use Rattle.std.specs.Prelude.{IfErr, OnOk, OnErr, length, slice_get};
-ghost use Rattle.std.specs.Map.{keys_of};
+ghost use Rattle.std.specs.Prelude.{IfErr, IfSome, OnOk, OnErr, length, nat_eq, option_map};
+ghost use Rattle.std.specs.Prelude.{slice_get};
+ghost use Rattle.std.specs.Map.{keys_of, lookup, set_value};
 ghost use Rattle.af_ledger.specs.Tally.{charge_in, is_user, recharged, with_user};
 ghost use Rattle.af_ledger.specs.Sending.{send_refusal};
 
@@ -17,6 +18,8 @@ use std::marker::Model;
 #[derive(Drop)]
 pub struct Ledger {
     users: IndexMap<Uid, u64>,
+    /// The index of the user whose charge changed last: a hint.
+    last: usize,
     total: u64,
 }
 
@@ -39,6 +42,7 @@ impl Ledger {
     {
         Ledger {
             users: IndexMap::new(alloc),
+            last: 0,
             total: 0,
         }
     }
@@ -47,7 +51,40 @@ impl Ledger {
     pub fn charged(&self, uid: Uid) -> u64
         ensures { result ≡ charge_in self.now.users uid }
     {
-        self.users.get(&uid).copied().unwrap_or(0)
+        match self.find(uid) {
+            Some((_, charge)) => charge,
+            None => 0,
+        }
+    }
+
+    /// Returns the index and the charge of a user, if it is known. The user whose charge changed
+    /// last needs no search.
+    #[inline(always)]
+    fn find(&self, uid: Uid) -> Option<(usize, u64)>
+        ensures charge { option_map (λ found. found.1) result ≡ lookup (nat_eq uid) self.now.users }
+        ensures place { IfSome result (λ found.
+            slice_get self.now.users found.0 ≡ Some (uid, found.1)) }
+    {
+        if let Some((user, charge)) = self.users.get_index(self.last)
+            && *user == uid
+        {
+            return Some((self.last, *charge));
+        }
+        let (index, _, charge) = self.users.get_full(&uid)?;
+        Some((index, *charge))
+    }
+
+    /// Sets the charge of the user at this index, which it keeps as the hint.
+    #[inline(always)]
+    fn set_charge(&mut self, index: usize, charge: u64)
+        ensures { (uid was : ℕ) → slice_get self.old.users index ≡ Some (uid, was)
+            → self.new ≡ record self.old { users = set_value (nat_eq uid) self.old.users charge } }
+    {
+        self.last = index;
+        let Some(place) = self.users.get_index_mut(index) else {
+            return;
+        };
+        *place = charge;
     }
 
     /// Returns the charge of all users together, in the same units.
@@ -125,10 +162,9 @@ impl Ledger {
         } }
     {
         self.total += units;
-        let Some(charge) = self.users.get_mut(&uid) else {
-            return;
-        };
-        *charge += units;
+        if let Some((index, charge)) = self.find(uid) {
+            self.set_charge(index, charge + units);
+        }
     }
 
     /// Lowers the charge of a user by this many units, which it has. Takes no memory.
@@ -143,9 +179,8 @@ impl Ledger {
         } }
     {
         self.total -= units;
-        let Some(charge) = self.users.get_mut(&uid) else {
-            return;
-        };
-        *charge -= units;
+        if let Some((index, charge)) = self.find(uid) {
+            self.set_charge(index, charge - units);
+        }
     }
 }

@@ -6,5 +6,5 @@ use Rattle.af_ledger.proofs.ledger.Ledger.charge.Goals as goal
 pub overflow_add-charge : goal.overflow_add-charge
 overflow_add-charge c =
     let P : LedgerView → Type 0 = λ k. charge_in k.users c.args.uid + c.args.units ≤ 2 ^ 63 in
-    let below = found_below c.self.inside.users.entries c.args.uid c.in-Some.charge.now c.args.units (2 ^ 63) c.in-Some.ensures.value (subst P (sym c.self.view_is) c.requires.charge) in
+    let below = found_below c.self.inside.users.entries c.args.uid c.in-Some.charge c.args.units (2 ^ 63) c.in-Some.ensures.charge (subst P (sym c.self.view_is) c.requires.charge) in
     omega arith
