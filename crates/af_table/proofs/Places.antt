@@ -1,8 +1,9 @@
 -- The process at an index of the hash map, and what a write there does.
-use Rattle.std.proofs.Common.{◌≡◌, ℕ, suc, ◌+◌, ◌<◌, ◌≤◌, List, [], ◌∷◌, length, refl, sym, ap, subst, ◌∙◌, Bool, true, false, cond, arith}
+use Rattle.std.proofs.Common.{◌≡◌, ℕ, suc, ◌+◌, ◌<◌, ◌≤◌, List, [], ◌∷◌, length, refl, sym, ap, subst, ◌∙◌, Bool, true, false, cond, arith, rules}
 use Rattle.std.specs.Prelude.{Option, Some, None, IfSome, unwrap_or, not, nat_eq, nat_lt, slice_get, position}
 use Rattle.std.specs.List.{position_or_len}
-use Rattle.std.specs.Option.{option_map}
+use Rattle.std.specs.Option.{IsSome, option_map}
+use Rattle.std.specs.Map.{keys_of}
 use Rattle.std.specs.Cmp.{nat_eq_equiv}
 use Rattle.std.specs.HashMap as hash
 use Rattle.std.specs.HashMap.{HashMap}
@@ -13,6 +14,7 @@ use Rattle.std.proofs.lemmas.Map.Entries.{hash_map_get_place}
 use Rattle.indexmap.specs.IndexMap.{with_value_at}
 use Rattle.indexmap.proofs.CallerLemmas.{updates-with_value_at}
 use Rattle.af_base.specs.World.{Process}
+use Rattle.af_base.proofs.Lookups.{none_some}
 use Rattle.af_base.specs.Changes.{change_at}
 use Rattle.af_table.specs.Slots.{ProcessView}
 use Rattle.af_table.specs.Procs.{processes_of, rows_of}
@@ -34,6 +36,13 @@ position_is ks pid o e = subst (λ r. IfSome r (λ i. slice_get ks i ≡ Some pi
   by : (b : Bool) → nat_lt (position_or_len (nat_eq pid) ks) (length ks) ≡ b → IfSome (cond b (Some (position_or_len (nat_eq pid) ks)) None) (λ i. slice_get ks i ≡ Some pid)
   by true low = first_is ks pid (ltb-true _ _ low)
   by false high = tt
+
+-- an index with a key has an entry
+pub entry_known : (es : List (ℕ × ProcessView)) (i k : ℕ) → slice_get (keys_of es) i ≡ Some k → IsSome (slice_get es i)
+entry_known es i k there = by (slice_get es i) refl where
+  by : (o : Option (ℕ × ProcessView)) → slice_get es i ≡ o → IsSome o
+  by None e = absurd (none_some k (sym (ap (option_map (λ p. p.0)) e) ∙ sym (slice_get-map (λ p. p.0) es i) ∙ there))
+  by (Some p) e = search rules
 
 same_some : (k l : ℕ) → Some k ≡ Some l → k ≡ l
 same_some k l e = cc

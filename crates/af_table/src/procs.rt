@@ -143,6 +143,7 @@ impl Procs {
     }
 
     /// Adds the process under the next pid. There is room for it.
+    #[inline(always)]
     #[tactic(auto, using(crate::proofs::Parts::part_changes))]
     pub fn add(&mut self, process: Process) -> Pid
         requires room { 0 < self.old.room }
@@ -181,6 +182,7 @@ impl Procs {
     /// Copies the process, for a fork: of the same user, with the same limit and privilege, and
     /// with all its open descriptors. The copy is to be added, for which there is room then; room
     /// for further descriptors is not reserved. No process changes, also on an error.
+    #[tactic(auto, using(crate::proofs::Parts::part_changes))]
     pub fn copy_for_fork(&mut self, pid: Pid) -> Result<Process, AllocError>
         requires { IsTrue (map.contains_key self.old.processes pid) }
         ensures copy { IfOk result (λ p. p.process ≡ process_in self.old.processes pid) }
@@ -191,7 +193,9 @@ impl Procs {
         ensures room { self.old.room ≤ self.new.room }
     {
         self.room_to_spawn()?;
-        self.find(pid).unwrap().copy(self.alloc)
+        let index = self.hints.find(&self.processes, pid).unwrap();
+        let (_, parent) = self.processes.get_index(index).unwrap();
+        parent.copy(self.alloc)
     }
 
     /// Reserves room to install at every descriptor of the process below its limit, if more than 0
@@ -304,11 +308,12 @@ impl Procs {
         ensures next { self.new.next_pid ≡ self.old.next_pid }
         ensures room { self.old.room ≤ self.new.room }
     {
-        let (index, _, gone) = self.processes.swap_remove_full(&pid)?;
-        // The last process has this index now.
-        if let Some((moved, _)) = self.processes.get_index(index) {
-            self.hints.set(*moved, index);
-        }
+        let index = self.hints.find(&self.processes, pid)?;
+        // The last process takes its index.
+        let last = self.processes.len() - 1;
+        let (moved, _) = self.processes.get_index(last).unwrap();
+        self.hints.set(*moved, index);
+        let (_, gone) = self.processes.swap_remove_index(index).unwrap();
         Some(gone)
     }
 }
