@@ -2,13 +2,12 @@
 ghost use Rattle.std.specs.Prelude.{◌≡◌, ◌<◌, IfOk, IfErr, length};
 ghost use Rattle.std.specs.List.{zip};
 ghost use Rattle.af_base.specs.Run.{fresh, Run, Step};
-ghost use Rattle.af_base.specs.declared.events.Step.TheVariants.{Peek, Recv};
 ghost use Rattle.af_steps.specs.Outcome.{Answers};
 
 use af_base::errno::Errno;
 use af_base::events;
 use af_base::events::{Event, Reply};
-use af_base::ids::{Fd, Pid};
+use af_base::ids::Pid;
 use af_collect::Store;
 use std::alloc::{AllocError, Global};
 use std::marker::Model;
@@ -114,21 +113,20 @@ impl Engine {
         ensures { Answers self.old pid step.now result self.new }
     {
         match step {
-            events::Step::Open => reply_of(self.open(pid)),
-            events::Step::Dup(from) => reply_of(self.dup(pid, *from)),
-            events::Step::Dup2(from, to) => reply_of(self.dup2(pid, *from, *to)),
+            events::Step::Open => self.open_reply(pid),
+            events::Step::Dup(from) => self.dup_reply(pid, *from),
+            events::Step::Dup2(from, to) => self.dup2_reply(pid, *from, *to),
             events::Step::Close(fd) => reply_of(self.close(pid, *fd)),
-            events::Step::Fork => reply_of(self.fork(pid)),
+            events::Step::Fork => self.fork_reply(pid),
             events::Step::Exit => reply_of(self.exit(pid)),
-            events::Step::Pair(kind) => reply_of(self.pair(pid, *kind)),
-            events::Step::Socket(kind) => reply_of(self.socket(pid, *kind)),
+            events::Step::Pair(kind) => self.pair_reply(pid, *kind),
+            events::Step::Socket(kind) => self.socket_reply(pid, *kind),
             events::Step::Bind { on, name } => reply_of(self.bind(pid, *on, name.as_slice())),
             events::Step::Listen { on, backlog } => reply_of(self.listen(pid, *on, *backlog)),
             events::Step::Connect { on, name } => reply_of(self.connect(pid, *on, name.as_slice())),
-            events::Step::Accept(on) => reply_of(self.accept(pid, *on)),
+            events::Step::Accept(on) => self.accept_reply(pid, *on),
             events::Step::Send { on, bytes, attach } => {
-                let sent = self.send(pid, *on, bytes.as_slice(), attach.as_slice());
-                reply_of(sent.map(Reply::Sent))
+                self.send_reply(pid, *on, bytes.as_slice(), attach.as_slice())
             }
             events::Step::Recv {
                 on,
@@ -142,23 +140,6 @@ impl Engine {
             } => self.peek_reply(pid, *on, *max_bytes, *max_fds),
             events::Step::Limit(nofile) => reply_of(self.limit(pid, *nofile)),
         }
-    }
-
-    /// Does a receive. It is a function of its own, so that no other step clears room on the stack
-    /// for its result.
-    #[inline(always)]
-    fn recv_reply(&mut self, pid: Pid, on: Fd, max_bytes: u32, max_fds: u32) -> Reply
-        ensures { Answers self.old pid (Recv on max_bytes max_fds) result self.new }
-    {
-        reply_of(self.recv(pid, on, max_bytes, max_fds))
-    }
-
-    /// Does a peek, in a function of its own for the same reason.
-    #[inline(always)]
-    fn peek_reply(&mut self, pid: Pid, on: Fd, max_bytes: u32, max_fds: u32) -> Reply
-        ensures { Answers self.old pid (Peek on max_bytes max_fds) result self.new }
-    {
-        reply_of(self.peek(pid, on, max_bytes, max_fds))
     }
 
     /// Does the same for a step that is given away.
@@ -207,7 +188,7 @@ impl Engine {
 
 /// Returns the reply of a call's answer, or its error as a refusal.
 #[inline(always)]
-fn reply_of<T: Into<Reply>>(outcome: Result<T, Errno>) -> Reply
+pub(crate) fn reply_of<T: Into<Reply>>(outcome: Result<T, Errno>) -> Reply
     ensures ok { IfOk outcome (λ answer. T.converts answer result) }
     ensures err { IfErr outcome (λ error. result ≡ Reply.Refused error) }
 {

@@ -9,6 +9,7 @@ mod lookups;
 mod messages;
 mod passes;
 mod ready;
+mod replies;
 mod sockets;
 mod tables;
 mod told;

@@ -1,0 +1,91 @@
+//! Steps that answer a number or a message, each with its reply. Each is a function of its own, so
+//! that no other step clears room on the stack for its answer.
+ghost use Rattle.af_base.specs.declared.events.Step.TheVariants.{Accept, Dup, Dup2, Fork, Open};
+ghost use Rattle.af_base.specs.declared.events.Step.TheVariants.{Pair, Peek, Recv, Send, Socket};
+ghost use Rattle.af_steps.specs.Outcome.{Answers};
+
+use crate::engine::{Engine, reply_of};
+use af_base::events::{Reply, SockType};
+use af_base::ids::{Fd, Pid};
+
+impl Engine {
+    /// Opens a plain file.
+    #[inline(always)]
+    pub(crate) fn open_reply(&mut self, pid: Pid) -> Reply
+        ensures { Answers self.old pid Open result self.new }
+    {
+        reply_of(self.open(pid))
+    }
+
+    /// Duplicates a descriptor.
+    #[inline(always)]
+    pub(crate) fn dup_reply(&mut self, pid: Pid, from: Fd) -> Reply
+        ensures { Answers self.old pid (Dup from) result self.new }
+    {
+        reply_of(self.dup(pid, from))
+    }
+
+    /// Sets a descriptor to the file of another.
+    #[inline(always)]
+    pub(crate) fn dup2_reply(&mut self, pid: Pid, from: Fd, to: Fd) -> Reply
+        ensures { Answers self.old pid (Dup2 from to) result self.new }
+    {
+        reply_of(self.dup2(pid, from, to))
+    }
+
+    /// Makes a child.
+    #[inline(always)]
+    pub(crate) fn fork_reply(&mut self, pid: Pid) -> Reply
+        ensures { Answers self.old pid Fork result self.new }
+    {
+        reply_of(self.fork(pid))
+    }
+
+    /// Makes two connected sockets.
+    #[inline(always)]
+    pub(crate) fn pair_reply(&mut self, pid: Pid, kind: SockType) -> Reply
+        ensures { Answers self.old pid (Pair kind) result self.new }
+    {
+        reply_of(self.pair(pid, kind))
+    }
+
+    /// Makes a socket.
+    #[inline(always)]
+    pub(crate) fn socket_reply(&mut self, pid: Pid, kind: SockType) -> Reply
+        ensures { Answers self.old pid (Socket kind) result self.new }
+    {
+        reply_of(self.socket(pid, kind))
+    }
+
+    /// Accepts an embryo.
+    #[inline(always)]
+    pub(crate) fn accept_reply(&mut self, pid: Pid, on: Fd) -> Reply
+        ensures { Answers self.old pid (Accept on) result self.new }
+    {
+        reply_of(self.accept(pid, on))
+    }
+
+    /// Sends a message.
+    #[inline(always)]
+    pub(crate) fn send_reply(&mut self, pid: Pid, on: Fd, bytes: &[u8], attach: &[Fd]) -> Reply
+        ensures { Answers self.old pid (Send on bytes.now attach.now) result self.new }
+    {
+        reply_of(self.send(pid, on, bytes, attach).map(Reply::Sent))
+    }
+
+    /// Receives a message.
+    #[inline(always)]
+    pub(crate) fn recv_reply(&mut self, pid: Pid, on: Fd, max_bytes: u32, max_fds: u32) -> Reply
+        ensures { Answers self.old pid (Recv on max_bytes max_fds) result self.new }
+    {
+        reply_of(self.recv(pid, on, max_bytes, max_fds))
+    }
+
+    /// Peeks at a message.
+    #[inline(always)]
+    pub(crate) fn peek_reply(&mut self, pid: Pid, on: Fd, max_bytes: u32, max_fds: u32) -> Reply
+        ensures { Answers self.old pid (Peek on max_bytes max_fds) result self.new }
+    {
+        reply_of(self.peek(pid, on, max_bytes, max_fds))
+    }
+}
