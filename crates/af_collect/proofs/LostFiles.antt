@@ -21,7 +21,7 @@ use Rattle.af_collect.specs.Losing.{without_place}
 use Rattle.af_mark.specs.MarksView.{MarksView, is_marked, shaded}
 use Rattle.af_collect.specs.declared.progress.PassProgress.{PassProgress}
 use Rattle.af_collect.specs.Since.{Covers, Moves}
-use Rattle.af_collect.specs.Keeping.{PassInvariant, below, first_held, is_marking, shaded_all}
+use Rattle.af_collect.specs.Keeping.{PassInvariant, below, first_held, is_marking, shaded_all, shaded_in}
 use Rattle.af_collect.proofs.PassChanges.{in_marking, kept_moves, kept_shaded, kept_shaded_all, marking_only}
 use Rattle.af_collect.proofs.ShadedMarks.{all_marked, stays_marked}
 use Rattle.af_collect.proofs.SocketChanges.{covers_dequeued, covers_popped, moves_dequeued, moves_popped}
@@ -112,6 +112,18 @@ module _ {w begun : World} {m : MarksView} {c : PassProgress} where
   marked_number p n x f whole t here k at b =
       let same : f ≡ x = ap (λ o. unwrap_or o f) (sym at ∙ here) in
       subst (λ y. is_marked (shaded y m) f ≡ true) same (marked_there (f ∷ []) f t (Contains-first f []) (whole.tables_live f (p, n, at)) k b)
+
+  module _ (p n x : ℕ) (whole : IsWhole w) (here : table_at w p n ≡ Some x) where
+    -- The file of a descriptor is shaded while marking, and the invariant is kept.
+    pub kept_closed : PassInvariant w begun m c → PassInvariant w begun (shaded_in c.stage (x ∷ []) m) c
+    kept_closed k = by (is_marking c.stage) refl where
+      by : (b : Bool) → is_marking c.stage ≡ b → PassInvariant w begun (if b then shaded x m else m) c
+      by true t = kept_tabled x whole t (p, n, here) k
+      by false t = k
+
+    -- It is marked then, if it is of the begin.
+    pub marked_closed : is_marking c.stage ≡ true → PassInvariant w begun m c → (f : ℕ) → table_at w p n ≡ Some f → IsLive begun f → is_marked (shaded_in c.stage (x ∷ []) m) f ≡ true
+    marked_closed t k f at b = ap (λ a. is_marked (if a then shaded x m else m) f) t ∙ marked_number p n x f whole t here k at b
 
   -- All descriptors up to one are done, if those before were, none follows, and its file is shaded.
   pub marked_next : (p next n x : ℕ) → IsWhole w → is_marking c.stage ≡ true → table_at w p n ≡ Some x → ((q : ℕ) → next ≤ q → q < n → table_at w p q ≡ None) → PassInvariant w begun m c

@@ -1,5 +1,5 @@
 -- A descriptor that refers to another file from now on.
-use Rattle.std.proofs.Common.{◌≡◌, ◌<◌, ℕ, false, inl, inr, nat_eq, sym, ap, ◌∙◌, subst}
+use Rattle.std.proofs.Common.{◌≡◌, ◌<◌, ℕ, false, inl, inr, nat_eq, refl, sym, ap, ◌∙◌, subst}
 use Rattle.std.specs.Prelude.{Option, Some, None}
 use Rattle.std.specs.Option.{option_map_or}
 use Rattle.std.specs.Cmp.{nat_cmp_total}
@@ -74,3 +74,10 @@ module _ (w : World) (p n : ℕ) (q : Process) (there : map.get w.processes p �
     exact-replaced o f is low live =
         let vacated = option_map_or (λ g. without_ref Table g k) o k in
         subst (λ v. IsExact v (with_ref Table f vacated)) (install-uninstalled f) (exact-install (uninstall w p n) p n f less vacated there-less (remove-here q.table n) low live (exact-vacated o is))
+
+-- To close a descriptor that is not open changes nothing.
+pub uninstall-none : (w : World) (p n : ℕ) → table_at w p n ≡ None → uninstall w p n ≡ w
+uninstall-none w p n free = by (map.get w.processes p) refl where
+  by : (o : Option Process) → map.get w.processes p ≡ o → uninstall w p n ≡ w
+  by None none = ap (λ (o : Option Process). record w { processes = option_map_or (λ x. map.insert w.processes p (taken_out n x)) o w.processes }) none
+  by (Some q) there = uninstall-free w p n q there free

@@ -2,7 +2,8 @@
 //! and keeps the counts in step with it. An unreferenced file stays, with all that it holds, until
 //! `release` frees it.
 ghost use Rattle.std.specs.Prelude.{◌≡◌, ◌<◌, ◌≤◌, ◌+◌, ◌∷◌, ◌^◌, [], ℕ, None, IsTrue, IfOk};
-ghost use Rattle.std.specs.Prelude.{IfSome, OnOk, OnErr, length, map, drop, false, is_none, true};
+ghost use Rattle.std.specs.Prelude.{IfSome, OnOk, OnErr, length, map, drop, false, is_none, is_some};
+ghost use Rattle.std.specs.Prelude.{true};
 ghost use Rattle.std.specs.List.{zip, All, Contains};
 ghost use Rattle.std.specs.Option.{option_map_or};
 ghost use Rattle.std.specs.FinMap as finmap;
@@ -15,7 +16,7 @@ ghost use Rattle.af_base.specs.Table.{lowest_free};
 ghost use Rattle.af_base.specs.Whole.{IsMessageWithin};
 ghost use Rattle.af_collect.specs.Limits.{IsBelowLimit, IsOfProcess};
 ghost use Rattle.af_collect.specs.Receiving.{taken_at};
-ghost use Rattle.af_collect.specs.Keeping.{NotBegunGarbage};
+ghost use Rattle.af_collect.specs.Keeping.{NotBegunGarbage, shaded_in};
 ghost use Rattle.af_collect.specs.StoreView.{room_at};
 ghost use Rattle.af_desc.specs.FilesView.{received_of, without_file_ref};
 ghost use Rattle.af_ledger.specs.Counted.{IsCounted};
@@ -23,6 +24,7 @@ ghost use Rattle.af_ledger.specs.Tally.{count_in_map};
 ghost use Rattle.af_ledger.specs.declared.place.Place.TheVariants.{Table};
 
 use crate::messages::{charge_message, uncharge_message};
+use crate::progress::{PassProgress, Stage};
 use crate::shading::shade_taken;
 use crate::store::Store;
 use crate::tables::table_in_all;
@@ -71,6 +73,24 @@ impl Store {
         places.files.hold(&Place::Table, &file);
     }
 
+    /// Closes a descriptor of a process, if it is open. Returns whether it was. Takes no memory.
+    #[inline(always)]
+    pub fn close_at(&mut self, pid: Pid, fd: Fd) -> bool
+        ensures open { result ≡ is_some (table_at self.old.world pid fd) }
+        ensures closed { result ≡ true → self.new ≡ record self.old {
+          world = uninstall self.old.world pid fd;
+          marks = self.new.marks;
+        } }
+        ensures unchanged { result ≡ false → self.new ≡ self.old }
+    {
+        let places = &mut self.parts.places;
+        let Some(file) = places.procs.take_out(pid, fd) else {
+            return false;
+        };
+        drop_descriptor(&self.parts.progress, &mut places.files, &file);
+        true
+    }
+
     /// Closes an open descriptor of a process. Takes no memory.
     #[inline(always)]
     pub fn table_out(&mut self, pid: Pid, fd: Fd)
@@ -80,10 +100,7 @@ impl Store {
           marks = self.new.marks;
         } }
     {
-        self.parts.shade_number(pid, fd);
-        let places = &mut self.parts.places;
-        let file = places.procs.take_out(pid, fd).unwrap();
-        places.files.drop_one(&Place::Table, &file);
+        let _was_open = self.close_at(pid, fd);
     }
 
     /// Appends a message, whose files are live, to the queue of a socket, and charges each file to
@@ -201,4 +218,19 @@ fn lower_number(files: &mut Files, was: Option<FileRef>)
     if let Some(was) = was {
         files.drop_one(&Place::Table, &was);
     }
+}
+
+/// Drops the reference of a descriptor to a file, which is marked first, while marking. Takes no
+/// memory.
+#[inline(always)]
+fn drop_descriptor(progress: &PassProgress, files: &mut Files, file: &FileRef)
+    requires { IsCounted Table (count_in_map files.old.counts file.now) }
+    ensures { files.new ≡ without_file_ref Table file.now (record files.old {
+      marks = shaded_in progress.now.stage (file.now ∷ []) files.old.marks;
+    }) }
+{
+    if matches!(progress.stage, Stage::Marking) {
+        files.shade(file);
+    }
+    files.drop_one(&Place::Table, file);
 }
