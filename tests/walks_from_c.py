@@ -22,7 +22,7 @@ from functools import reduce
 from importlib.machinery import SourceFileLoader
 from importlib.util import module_from_spec, spec_from_loader
 from itertools import islice
-from typing import Dict, Iterator, List, NamedTuple, Set, Tuple
+from typing import Callable, Dict, Iterator, List, NamedTuple, Set, Tuple
 
 sys.dont_write_bytecode = True
 ROOT = os.path.dirname(os.path.dirname(os.path.realpath(__file__)))
@@ -84,20 +84,27 @@ class Library:
     """An engine behind the calls of C. Each `do_` does the event of that name, and returns the line of its reply."""
 
     def __init__(self, path: str):
-        self.calls, self.handle = ctypes.CDLL(path), ctypes.c_void_p()
+        self.calls, self.handle = ctypes.CDLL(path), ctypes.byref(ctypes.c_void_p())
+        # (a look-up in the library costs more than most calls)
+        self.functions: Dict[str, Callable[..., int]] = {}
         self.call("engine_new")
+
+    def function(self, name: str) -> Callable[..., int]:
+        """Returns jw_NAME, which answers a number of 64 bits."""
+        if name not in self.functions:
+            self.functions[name] = self.calls[f"jw_{name}"]
+            self.functions[name].restype = ctypes.c_int64
+        return self.functions[name]
 
     def call(self, name: str, *inputs) -> int:
         """Calls jw_NAME with the handle before these inputs."""
-        function = self.calls[f"jw_{name}"]
-        function.restype = ctypes.c_int64
-        answer = function(ctypes.byref(self.handle), *inputs)
+        answer = self.function(name)(self.handle, *inputs)
         if answer < 0:
             raise Refused(ERRORS[-answer])
         return answer
 
     def free(self):
-        self.calls.jw_engine_free(ctypes.byref(self.handle))
+        self.calls.jw_engine_free(self.handle)
 
     def step(self, event: Event) -> str:
         who = [] if event.pid is None else [ctypes.c_uint32(event.pid)]
