@@ -1,72 +1,90 @@
 //! Why a line cannot be read, in words for its author.
 
-use thiserror::Error;
+use std::error::Error;
+use std::fmt;
 
 /// The reason why a line cannot be read.
-#[derive(Clone, Copy, Debug, PartialEq, Eq, Error)]
+#[derive(Clone, Copy, Debug, PartialEq, Eq)]
 pub enum Reason {
     /// The line has too many bytes.
-    #[error("a line has at most 262144 bytes")]
     LineTooLong,
     /// A byte is no printable ASCII character, space or tab.
-    #[error("this byte is not printable ASCII")]
     NotPrintable,
     /// No line begins with this word.
-    #[error("no line begins with this word")]
     UnknownKeyword,
     /// No event of a process has this name.
-    #[error("no event of a process has this name")]
     UnknownVerb,
     /// The line ends before all its words are there.
-    #[error("a word is missing")]
     WordMissing,
     /// The line has more words than its form.
-    #[error("a word too many")]
     WordTooMany,
     /// A number has only decimal digits.
-    #[error("a number has only the digits 0 to 9")]
     NotANumber,
     /// A number other than 0 begins with 0.
-    #[error("a number has no leading zero")]
     LeadingZero,
     /// A number does not fit 32 bits.
-    #[error("a number is at most 4294967295")]
     NumberTooLarge,
     /// A type of sockets is one of two words.
-    #[error("a type is seqpacket or stream")]
     UnknownType,
     /// Only one word may follow the numbers of `spawn`.
-    #[error("only priv can stand here")]
     NotPriv,
     /// A character that has no meaning in BYTES.
-    #[error("BYTES have letters, digits, _ - . and % with two hexadecimal digits")]
     NotInBytes,
     /// A `%` without two hexadecimal digits behind it.
-    #[error("% needs two hexadecimal digits")]
     NotHexadecimal,
     /// The word has too many bytes.
-    #[error("BYTES are at most 65537 bytes")]
     BytesTooLong,
     /// A count of copies is 0 or too large.
-    #[error("a count is from 1 to 1024")]
     CountOutOfRange,
     /// The items up to this one have too many descriptors.
-    #[error("the items of a line are at most 1024 descriptors")]
     TooManyDescriptors,
     /// The script is of version 1, which has no such event.
-    #[error("this event needs the first line `version 2`")]
     NeedsVersion2,
     /// No version has this name.
-    #[error("the only version to name is 2")]
     UnknownVersion,
     /// Only silent lines may precede `version 2`.
-    #[error("only comments and empty lines can stand before `version 2`")]
     VersionTooLate,
 }
 
+impl Reason {
+    /// Returns the reason in words, for the author of the line.
+    fn words(self) -> &'static str {
+        match self {
+            Reason::LineTooLong => "a line has at most 262144 bytes",
+            Reason::NotPrintable => "this byte is not printable ASCII",
+            Reason::UnknownKeyword => "no line begins with this word",
+            Reason::UnknownVerb => "no event of a process has this name",
+            Reason::WordMissing => "a word is missing",
+            Reason::WordTooMany => "a word too many",
+            Reason::NotANumber => "a number has only the digits 0 to 9",
+            Reason::LeadingZero => "a number has no leading zero",
+            Reason::NumberTooLarge => "a number is at most 4294967295",
+            Reason::UnknownType => "a type is seqpacket or stream",
+            Reason::NotPriv => "only priv can stand here",
+            Reason::NotInBytes => {
+                "BYTES have letters, digits, _ - . and % with two hexadecimal digits"
+            }
+            Reason::NotHexadecimal => "% needs two hexadecimal digits",
+            Reason::BytesTooLong => "BYTES are at most 65537 bytes",
+            Reason::CountOutOfRange => "a count is from 1 to 1024",
+            Reason::TooManyDescriptors => "the items of a line are at most 1024 descriptors",
+            Reason::NeedsVersion2 => "this event needs the first line `version 2`",
+            Reason::UnknownVersion => "the only version to name is 2",
+            Reason::VersionTooLate => "only comments and empty lines can stand before `version 2`",
+        }
+    }
+}
+
+impl fmt::Display for Reason {
+    fn fmt<W: fmt::Write>(&self, f: &mut fmt::Formatter<W>) -> fmt::Result {
+        f.write_str(self.words())
+    }
+}
+
+impl Error for Reason {}
+
 /// Why a line cannot be read, and where.
-#[derive(Clone, Copy, Debug, PartialEq, Eq, Error)]
-#[error("column {column}: {reason}")]
+#[derive(Clone, Copy, Debug, PartialEq, Eq)]
 pub struct Unreadable {
     /// The column of the first byte that does not fit, counted from 1. A missing word has the
     /// column behind the line's last byte.
@@ -74,3 +92,11 @@ pub struct Unreadable {
     /// The reason there.
     pub reason: Reason,
 }
+
+impl fmt::Display for Unreadable {
+    fn fmt<W: fmt::Write>(&self, f: &mut fmt::Formatter<W>) -> fmt::Result {
+        write!(f, "column {}: {}", self.column, self.reason)
+    }
+}
+
+impl Error for Unreadable {}
