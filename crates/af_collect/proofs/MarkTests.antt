@@ -1,5 +1,5 @@
 -- How marks change, as equations of tests.
-use Rattle.std.proofs.Common.{◌≡◌, ◌<◌, ℕ, Bool, true, false, not, ◌&&◌, ◌||◌, refl, sym, ap, ◌∙◌, cond, nat_eq}
+use Rattle.std.proofs.Common.{◌≡◌, ◌<◌, ℕ, Bool, true, false, not, ◌&&◌, ◌||◌, ◌⊎◌, inl, inr, refl, sym, ap, ◌∙◌, cond, nat_eq}
 use Rattle.std.specs.Prelude.{Option, Some, None, is_some, nat_lt, ◌≤◌}
 use Rattle.std.specs.Cmp.{both_ways, nat_cmp_total, unsigned_tied}
 use Rattle.std.specs.FinMap as map
@@ -9,7 +9,7 @@ use Rattle.std.specs.Option.{option_map_or}
 use Rattle.std.proofs.lemmas.Bool.{eq-eqb, eqb-true, false≢true, le-ltb, lt-ltb}
 use Rattle.std.proofs.Math.Bool.{or-false, or-true, and-true, and-false}
 use Rattle.af_base.specs.World.{Map}
-use Rattle.af_base.proofs.Lookups.{insert-here}
+use Rattle.af_base.proofs.Lookups.{insert-here, insert-other, same_or_not, told_apart}
 use Rattle.af_base.proofs.DerivedEquality.{both}
 use Rattle.af_mark.specs.MarksView.{blackened, born, forgotten, is_grey, is_grey_color, is_mark, is_marked, is_white, knows, MarksView, shaded}
 use Rattle.af_mark.specs.declared.color.Color.{Color}
@@ -68,7 +68,7 @@ module _ (m : MarksView) (x : ℕ) where
   shaded_beyond high = ap (λ b. cond (b && is_white m x) (put m x Grey) m) (le-ltb x m.bound high)
 
   -- A marked file stays as it is when shaded.
-  shaded_marked : is_marked m x ≡ true → shaded x m ≡ m
+  pub shaded_marked : is_marked m x ≡ true → shaded x m ≡ m
   shaded_marked e =
       ap (λ b. cond (nat_lt x m.bound && (knows m x && not b)) (put m x Grey) m) e
       ∙ ap (λ b. cond (nat_lt x m.bound && b) (put m x Grey) m) (and-false (knows m x))
@@ -179,6 +179,44 @@ module _ (m : MarksView) (x : ℕ) where
           each : (q : ℕ) (b : Bool) → cond b (Some Black) (cond b (Some Grey) (map.get m.colors q)) ≡ cond b (Some Black) (map.get m.colors q)
           each q true = refl
           each q false = refl
+
+-- x is scanned and y is shaded.
+module _ (m : MarksView) (x y : ℕ) (grey : is_grey m x ≡ true) where
+  -- Two colours of two files are put in, in either order.
+  put_both : nat_eq x y ≡ false → nat_eq y x ≡ false → map.insert (map.insert m.colors x Black) y Grey ≡ map.insert (map.insert m.colors y Grey) x Black
+  put_both apart other = map.same_map nat_cmp_total nat_cmp-IsAntisymmetric _ _ (λ q. each q (same_or_not q x) (same_or_not q y)) where
+    each : (q : ℕ) → (q ≡ x) ⊎ (nat_eq q x ≡ false) → (q ≡ y) ⊎ (nat_eq q y ≡ false) → map.get (map.insert (map.insert m.colors x Black) y Grey) q ≡ map.get (map.insert (map.insert m.colors y Grey) x Black) q
+    each q (inl here) b =
+        ap (map.get (map.insert (map.insert m.colors x Black) y Grey)) here ∙ insert-other (map.insert m.colors x Black) y Grey x apart ∙ insert-here m.colors x Black
+        ∙ sym (ap (map.get (map.insert (map.insert m.colors y Grey) x Black)) here ∙ insert-here (map.insert m.colors y Grey) x Black)
+    each q (inr off) (inl here) =
+        ap (map.get (map.insert (map.insert m.colors x Black) y Grey)) here ∙ insert-here (map.insert m.colors x Black) y Grey
+        ∙ sym (ap (map.get (map.insert (map.insert m.colors y Grey) x Black)) here ∙ insert-other (map.insert m.colors y Grey) x Black y other ∙ insert-here m.colors y Grey)
+    each q (inr off) (inr beside) =
+        insert-other (map.insert m.colors x Black) y Grey q beside ∙ insert-other m.colors x Black q off ∙ sym (insert-other (map.insert m.colors y Grey) x Black q off ∙ insert-other m.colors y Grey q beside)
+
+  -- It does not matter whether a grey file is scanned before another is shaded, or after.
+  pub shaded_after : shaded y (blackened x m) ≡ blackened x (shaded y m)
+  shaded_after = by (is_marked m y) refl where
+    by : (b : Bool) → is_marked m y ≡ b → shaded y (blackened x m) ≡ blackened x (shaded y m)
+    by true e = shaded_marked (blackened x m) y (ap (λ t. t y) (marked_blackened m x) ∙ e) ∙ sym (ap (blackened x) (shaded_marked m y e))
+    by false e =
+        ap (λ b. cond b (put (blackened x m) y Grey) (blackened x m)) (λ i. nat_lt y (bound_blackened m x i) && (knows_blackened m x y i && not (marked_blackened m x i y)))
+        ∙ cases (nat_lt y m.bound && is_white m y) where
+          apart : nat_eq x y ≡ false
+          apart = told_apart x y (λ same. false≢true (sym e ∙ ap (is_marked m) (sym same) ∙ grey_marked m x grey))
+
+          other : nat_eq y x ≡ false
+          other = turned y x ∙ apart
+
+          still : is_grey (put m y Grey) x ≡ true
+          still = seen_put is_grey_color m.colors y Grey x ∙ ap (λ b. cond b true (is_grey m x)) other ∙ grey
+
+          cases : (b : Bool) → cond b (put (blackened x m) y Grey) (blackened x m) ≡ blackened x (cond b (put m y Grey) m)
+          cases true =
+              ap (λ b. put (cond b (put m x Black) m) y Grey) grey ∙ ap (λ cs. record m { colors = cs }) (put_both apart other)
+              ∙ sym (ap (λ b. cond b (put (put m y Grey) x Black) (put m y Grey)) still)
+          cases false = refl
 
 -- x is forgotten
 module _ (m : MarksView) (x : ℕ) where

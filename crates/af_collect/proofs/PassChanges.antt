@@ -21,12 +21,12 @@ use Rattle.af_collect.specs.declared.progress.Stage.{Stage}
 use Rattle.af_collect.specs.declared.progress.Stage.TheVariants.{Marking, Resting, Sweeping}
 use Rattle.af_collect.specs.declared.progress.PassProgress.{PassProgress}
 use Rattle.af_collect.specs.Since.{AreCounted, Covers, IsMarking, IsSince, IsSweeping, Moves, is_scanned, is_socket_at}
-use Rattle.af_collect.specs.Keeping.{AreKnown, IsInMarking, IsInSweeping, PassInvariant, IsRunning, IsStage, below, counted, is_counted, is_due, is_marking, is_running, is_sweeping, shaded_all, units_of}
+use Rattle.af_collect.specs.Keeping.{AreKnown, after_visit, IsInMarking, IsInSweeping, PassInvariant, IsRunning, IsStage, below, counted, is_counted, is_due, is_marking, is_running, is_sweeping, shaded_all, units_of}
 use Rattle.af_collect.proofs.PassFrees.{counted_drop, is_reclaimed, marking_drop, never_garbage, since_drop, sweeping_drop}
 use Rattle.af_collect.proofs.KnownFiles.{known_gone, known_marks, known_world}
 use Rattle.af_collect.proofs.MarkTests.{bound_blackened, bound_shaded, grey_blackened, grey_forgotten, grey_marked, grey_shaded, knows_blackened, knows_shaded, marked_blackened, marked_forgotten, marked_known, marked_shaded, shaded_beyond, shaded_black, shaded_grey}
 use Rattle.af_collect.proofs.PlaceMoves.{counted_moves, marking_moves, since_moves, sweeping_moves}
-use Rattle.af_collect.proofs.ShadedMarks.{all_marked, itself_marked, stays_grey_all}
+use Rattle.af_collect.proofs.ShadedMarks.{all_marked, bound_shaded_all, itself_marked, shaded_all_after, stays_grey_all, stays_marked_all}
 use Rattle.af_collect.proofs.PassUnits.{scan_counted, scan_marking, shade_counted, shade_marking, skip_counted, skip_marking, sweep_counted, visit_counted, visit_marking}
 use Rattle.af_collect.proofs.PassStages.{counted_begin, marking_begin, moves_sweep, none_left, reclaimed_all, reclaimed_none, since_begin, sweeping_begin, sweeping_marked, sweeping_sweep}
 
@@ -203,11 +203,11 @@ module _ {w begun : World} where
       } in
       record { known = k.known; stage = subst (λ s. IsStage s w begun m d) (sym e) q }
 
-  -- The next live file is visited: it is marked if a table holds it. If it was not marked and holds
-  -- nothing, it may be scanned in the same look, which then counts as two.
-  pub kept_visit : (scanned : Bool) (m : MarksView) (c : PassProgress) (x : ℕ) → (scanned ≡ true → (held_by w x ≡ []) × (is_due w m x ≡ true)) → IsWhole w → c.stage ≡ Marking → IsLive w x → c.visited ≤ x → x < m.bound → ((g : ℕ) → c.visited ≤ g → g < x → is_live w g ≡ false)
-      → PassInvariant w begun m c → PassInvariant w begun (visited scanned (tabled w x) x m) (record c { visited = x + 1; looked = c.looked + units_of scanned })
-  kept_visit scanned m c x bare whole e l from low none k = by scanned refl where
+  -- The next live file is visited: it is marked if a table holds it. If it was not marked it may be
+  -- scanned by the same look, which then counts as two.
+  pub kept_visit : (scanned : Bool) (m : MarksView) (c : PassProgress) (x : ℕ) → (scanned ≡ true → is_due w m x ≡ true) → IsWhole w → c.stage ≡ Marking → IsLive w x → c.visited ≤ x → x < m.bound → ((g : ℕ) → c.visited ≤ g → g < x → is_live w g ≡ false)
+      → PassInvariant w begun m c → PassInvariant w begun (after_visit scanned (held_by w x) (tabled w x) x m) (record c { visited = x + 1; looked = c.looked + units_of scanned })
+  kept_visit scanned m c x may whole e l from low none k = by scanned refl where
     known : knows m x ≡ true
     known = k.known x ∙ l
 
@@ -225,19 +225,24 @@ module _ {w begun : World} where
           let untabled = ltb-false 0 (tabled w x) d in
           here m c e from none refl (λ t. let some = tabled-InTable w x t in absurd (omega (arith, untabled, some))) k
 
-    scans : (held_by w x ≡ []) × (is_due w m x ≡ true) → PassInvariant w begun (visited true (tabled w x) x m) (record c { visited = x + 1; looked = c.looked + 2 })
-    scans h =
-        let due = and_parts (nat_lt 0 (tabled w x)) (nat_lt x m.bound && is_white m x) h.1 in
-        let t = InTable-tabled w x (ltb-true 0 (tabled w x) due.0) in
-        let d : PassProgress = record c { looked = c.looked + 1 } in
-        let black : PassInvariant w begun (blackened x (shaded x m)) d = subst (λ fs. PassInvariant w begun (blackened x (shaded_all fs (shaded x m))) d) h.0 (kept_scan (shaded x m) c x whole e (shaded_grey m x due.1) (grey t)) in
-        let past = here (blackened x (shaded x m)) d e from none (bound_blackened (shaded x m) x ∙ bound_shaded m x) (λ _. ap (λ t. t x) (marked_blackened (shaded x m) x) ∙ itself_marked m x known low) black in
-        let is : blackened x (shaded x m) ≡ visited true (tabled w x) x m = shaded_black m x due.1 ∙ sym (λ i. if due.0 i then (if due.1 i then record m { colors = map.insert m.colors x Black } else m) else m) in
-        let counts : c.looked + 1 + 1 ≡ c.looked + 2 = omega arith in
-        subst (λ n. PassInvariant w begun (visited true (tabled w x) x m) (record c { visited = x + 1; looked = n })) counts (subst (λ n. PassInvariant w begun n (record c { visited = x + 1; looked = c.looked + 1 + 1 })) is past)
+    held : List ℕ
+    held = held_by w x
 
-    by : (s : Bool) → scanned ≡ s → PassInvariant w begun (visited s (tabled w x) x m) (record c { visited = x + 1; looked = c.looked + units_of s })
-    by true y = scans (bare y)
+    scans : is_due w m x ≡ true → PassInvariant w begun (shaded_all held (visited true (tabled w x) x m)) (record c { visited = x + 1; looked = c.looked + 2 })
+    scans h =
+        let due = and_parts (nat_lt 0 (tabled w x)) (nat_lt x m.bound && is_white m x) h in
+        let t = InTable-tabled w x (ltb-true 0 (tabled w x) due.0) in
+        let all = shaded_all held (shaded x m) in
+        let black = kept_scan (shaded x m) c x whole e (shaded_grey m x due.1) (grey t) in
+        let marked = ap (λ t. t x) (marked_blackened all x) ∙ stays_marked_all held (shaded x m) x (itself_marked m x known low) in
+        let past = here (blackened x all) (record c { looked = c.looked + 1 }) e from none (bound_blackened all x ∙ bound_shaded_all held (shaded x m) ∙ bound_shaded m x) (λ _. marked) black in
+        let once : visited true (tabled w x) x m ≡ blackened x (shaded x m) = (λ i. if due.0 i then (if due.1 i then record m { colors = map.insert m.colors x Black } else m) else m) ∙ sym (shaded_black m x due.1) in
+        let is : blackened x all ≡ shaded_all held (visited true (tabled w x) x m) = sym (ap (shaded_all held) once ∙ shaded_all_after held (shaded x m) x (shaded_grey m x due.1)) in
+        let counts : c.looked + 1 + 1 ≡ c.looked + 2 = omega arith in
+        subst (λ n. PassInvariant w begun (shaded_all held (visited true (tabled w x) x m)) (record c { visited = x + 1; looked = n })) counts (subst (λ n. PassInvariant w begun n (record c { visited = x + 1; looked = c.looked + 1 + 1 })) is past)
+
+    by : (s : Bool) → scanned ≡ s → PassInvariant w begun (after_visit s (held_by w x) (tabled w x) x m) (record c { visited = x + 1; looked = c.looked + units_of s })
+    by true y = scans (may y)
     by false y = marks
 
   -- Marking ends, where all are visited and none is grey.

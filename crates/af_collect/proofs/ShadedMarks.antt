@@ -7,10 +7,10 @@ use Rattle.std.proofs.lemmas.Bool.{cases_Bool, cases_lt}
 use Rattle.std.proofs.Math.Bool.{and-false, or-true}
 use Rattle.af_base.proofs.Elements.{Contains-none, Contains-rest}
 use Rattle.af_base.proofs.Lookups.{itself, not_same, same_or_not}
-use Rattle.af_mark.specs.MarksView.{MarksView, is_grey, is_marked, knows, shaded}
+use Rattle.af_mark.specs.MarksView.{MarksView, blackened, is_grey, is_marked, knows, shaded}
 use Rattle.af_mark.specs.declared.color.Color.TheVariants.{Grey}
 use Rattle.af_collect.specs.Keeping.{shaded_all}
-use Rattle.af_collect.proofs.MarkTests.{bound_shaded, grey_shaded, knows_shaded, marked_shaded, shaded_beyond}
+use Rattle.af_collect.proofs.MarkTests.{bound_shaded, grey_shaded, knows_shaded, marked_shaded, shaded_after, shaded_beyond}
 
 module _ (m : MarksView) (x : ℕ) where
   -- An unknown file is not shaded.
@@ -66,3 +66,13 @@ all_marked (x ∷ fs) m f h known low = elim (same_or_not x f) [
 pub shaded_append : (xs ys : List ℕ) (m : MarksView) → shaded_all (xs ++ ys) m ≡ shaded_all ys (shaded_all xs m)
 shaded_append [] ys m = refl
 shaded_append (x ∷ xs) ys m = shaded_append xs ys (shaded x m)
+
+-- To shade files keeps the bound.
+pub bound_shaded_all : (fs : List ℕ) (m : MarksView) → (shaded_all fs m).bound ≡ m.bound
+bound_shaded_all [] m = refl
+bound_shaded_all (x ∷ fs) m = bound_shaded_all fs (shaded x m) ∙ bound_shaded m x
+
+-- It does not matter whether a grey file is scanned before others are shaded, or after.
+pub shaded_all_after : (fs : List ℕ) (m : MarksView) (x : ℕ) → is_grey m x ≡ true → shaded_all fs (blackened x m) ≡ blackened x (shaded_all fs m)
+shaded_all_after [] m x grey = refl
+shaded_all_after (y ∷ fs) m x grey = ap (shaded_all fs) (shaded_after m x y grey) ∙ shaded_all_after fs (shaded y m) x (stays_grey m y x grey)

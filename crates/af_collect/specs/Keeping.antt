@@ -6,7 +6,7 @@ use Rattle.af_base.specs.Counts.{tabled}
 use Rattle.af_base.specs.Pass.{Idle, Pass, Running}
 use Rattle.af_base.specs.Places.{attached_in, backlog_at, queue_at}
 use Rattle.af_base.specs.Reached.{Garbage}
-use Rattle.af_mark.specs.MarksView.{MarksView, is_grey, is_marked, is_white, knows, shaded}
+use Rattle.af_mark.specs.MarksView.{MarksView, is_grey, is_marked, is_white, knows, shaded, visited}
 use Rattle.af_collect.specs.declared.progress.Stage.{Stage}
 use Rattle.af_collect.specs.declared.progress.Stage.TheVariants.{Marking, Resting, Sweeping}
 use Rattle.af_collect.specs.declared.progress.PassProgress.{PassProgress}
@@ -96,6 +96,12 @@ shaded_all (f ∷ fs) m = shaded_all fs (shaded f m)
 -- The same, while marking.
 abbrev pub shaded_in : Stage → List ℕ → MarksView → MarksView
 shaded_in stage fs m = if is_marking stage then shaded_all fs m else m
+
+-- The marks after a visit of f, to which so many descriptors refer. Where f was scanned too, all
+-- that it holds is marked.
+abbrev pub after_visit : Bool → List ℕ → ℕ → ℕ → MarksView → MarksView
+after_visit scanned held tabled f m = if scanned then shaded_all held (visited true tabled f m)
+    else visited false tabled f m
 
 -- Whether a visit marks the file: a table holds it, it was there at the begin, and it is not marked
 -- (net/unix/garbage.c: from the tables on).

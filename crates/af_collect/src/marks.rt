@@ -1,11 +1,13 @@
 //! The marks of a pass of the collector. No call takes memory.
-ghost use Rattle.std.specs.Prelude.{◌≡◌, ℕ, [], false, true};
+ghost use Rattle.std.specs.Prelude.{◌≡◌, ℕ, IfSome, IfNone, false, true};
 ghost use Rattle.af_base.specs.Counts.{tabled};
 ghost use Rattle.af_base.specs.Places.{held_by};
-ghost use Rattle.af_mark.specs.MarksView.{blackened, is_marked, knows, shaded, visited};
-ghost use Rattle.af_collect.specs.Keeping.{is_due};
+ghost use Rattle.af_mark.specs.MarksView.{blackened, is_grey, is_marked, knows};
+ghost use Rattle.af_mark.specs.MarksView.{shaded, visited};
+ghost use Rattle.af_collect.specs.Keeping.{after_visit, is_due, shaded_all};
 
 use crate::holdings::Holdings;
+use crate::shading::shade_found;
 use af_base::ids::FileRef;
 
 impl Holdings {
@@ -37,25 +39,54 @@ impl Holdings {
     }
 
     /// Marks a file if a table holds it, it was there when the pass began, and it is not marked. If
-    /// it holds nothing and may be scanned, it is scanned in the same look at its row; else it is
-    /// to be scanned. Returns whether it was scanned.
+    /// it may be scanned, it is, by the same look at its row: all that it holds is marked too. Else
+    /// it is to be scanned. Returns whether it was scanned.
     #[inline(always)]
     pub(crate) fn visit(&mut self, file: &FileRef, may_scan: bool) -> bool
         ensures marks { self.new ≡ record self.old {
-          marks = visited result (tabled self.old.world file.now) file.now self.old.marks;
+          marks = after_visit result (held_by self.old.world file.now)
+              (tabled self.old.world file.now) file.now self.old.marks;
         } }
-        ensures scanned { result ≡ true → (held_by self.old.world file.now ≡ [])
-            × (is_due self.old.world self.old.marks file.now ≡ true) }
+        ensures scanned { result ≡ true → is_due self.old.world self.old.marks file.now ≡ true }
         ensures asked { result ≡ true → may_scan ≡ true }
     {
-        self.files.visit(file, may_scan)
+        if !may_scan {
+            self.shade_tabled(file);
+            return false;
+        }
+        let Some(held) = self.files.visit(file) else {
+            return false;
+        };
+        shade_found(self, file, &held);
+        true
     }
 
-    /// Makes a grey file black.
-    #[inline(always)]
-    pub(crate) fn blacken(&mut self, file: &FileRef)
-        ensures { self.new ≡ record self.old { marks = blackened file.now self.old.marks } }
+    /// Marks a file grey if a table holds it, it was there when the pass began, and it is not
+    /// marked.
+    #[inline(never)]
+    fn shade_tabled(&mut self, file: &FileRef)
+        ensures { self.new ≡ record self.old {
+          marks = visited false (tabled self.old.world file.now) file.now self.old.marks;
+        } }
     {
-        self.files.blacken(file);
+        if self.files.tabled(file) > 0 {
+            self.files.shade(file);
+        }
+    }
+
+    /// Scans a grey file, if there is one: makes it black, and marks all that it holds. Returns the
+    /// file.
+    #[inline(always)]
+    pub(crate) fn scan_next(&mut self) -> Option<FileRef>
+        ensures some { IfSome result (λ f. (is_grey self.old.marks f ≡ true)
+            × (self.new ≡ record self.old {
+              marks = shaded_all (held_by self.old.world f) (blackened f self.old.marks);
+            })) }
+        ensures none { IfNone result
+            ((self.new ≡ self.old) × ((f : ℕ) → is_grey self.old.marks f ≡ false)) }
+    {
+        let (file, held) = self.files.scan_next()?;
+        shade_found(self, &file, &held);
+        Some(file)
     }
 }

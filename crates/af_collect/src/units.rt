@@ -12,7 +12,6 @@ ghost use Rattle.af_collect.specs.StoreView.{KeepsPass};
 
 use crate::parts::Collector;
 use crate::progress::{PassProgress, Stage};
-use crate::shading::shade_held;
 use af_base::ids::{FileRef, Ino};
 use std::snapshot::Snapshot;
 
@@ -135,8 +134,7 @@ impl Collector {
             self.order_hint = at;
             return self.visit(&file, left);
         }
-        if let Some(file) = self.places.files().next_grey() {
-            self.scan(&file);
+        if self.scan() {
             return 1;
         }
         self.progress.visited = self.places.files().bound().0;
@@ -193,8 +191,8 @@ impl Collector {
         Some((file, at))
     }
 
-    /// Visits a file: marks it if a table holds it, and scans it in the same look if it holds
-    /// nothing and two units are left. Returns how many units that was.
+    /// Visits a file: marks it if a table holds it, and scans it by the same look at its row if two
+    /// units are left. Returns how many units that was.
     #[inline(always)]
     fn visit(&mut self, file: &FileRef, left: u32) -> u32
         requires kept { KeepsPass self.old }
@@ -223,24 +221,27 @@ impl Collector {
         units
     }
 
-    /// Scans a marked file: marks all files that it holds.
-    #[inline(never)]
-    fn scan(&mut self, file: &FileRef)
+    /// Scans a marked file, if one is to be scanned. Returns whether there was one.
+    #[inline(always)]
+    fn scan(&mut self) -> bool
         requires kept { KeepsPass self.old }
         requires marking { self.old.progress.stage ≡ stage.Marking }
-        requires grey { is_grey self.old.places.marks file.now ≡ true }
         ensures kept { KeepsPass self.new }
         ensures places { self.new.places
             ≡ record self.old.places { marks = self.new.places.marks } }
         ensures begun { self.new.begun ≡ self.old.begun }
-        ensures progress { self.new.progress
+        ensures progress { result ≡ true → self.new.progress
             ≡ record self.old.progress { looked = self.old.progress.looked + 1 } }
+        ensures none { result ≡ false → (self.new ≡ self.old)
+            × ((f : ℕ) → is_grey self.old.places.marks f ≡ false) }
     {
         // A held file is live, as in each well-formed world.
         self.places.lemma_is_whole();
-        shade_held(&mut self.places, file);
-        self.places.blacken(file);
+        let Some(_) = self.places.scan_next() else {
+            return false;
+        };
         self.progress.looked += 1;
+        true
     }
 
     /// Sweeps a file: if it is not marked, empties its queue and its backlog, and frees the files

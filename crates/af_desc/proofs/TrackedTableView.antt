@@ -1,6 +1,6 @@
 -- Three maps of one row, as a row is added, changed in one part, and removed; and the messages of
 -- all.
-use Rattle.std.proofs.Common.{◌≡◌, ℕ, ◌⊎◌, inl, inr, false, List, [], ◌++◌, refl, sym, ap, ◌∙◌, subst, nat_eq}
+use Rattle.std.proofs.Common.{◌≡◌, ℕ, ◌⊎◌, inl, inr, false, List, [], refl, sym, ap, ◌∙◌, subst, nat_eq}
 use Rattle.std.specs.Prelude.{Option, Some, None, IfSome, nat_lt, option_map}
 use Rattle.std.specs.Option.{option_and_then}
 use Rattle.std.specs.FinMap as map
@@ -9,7 +9,6 @@ use Rattle.std.specs.Ordering.{nat_cmp}
 use Rattle.std.specs.Cmp.{nat_cmp_total}
 use Rattle.slab.specs.Slab.{SameValues, Slab}
 use Rattle.af_base.specs.Changes.{change_socket_at, file_with}
-use Rattle.af_base.specs.Places.{attached_in, contents}
 use Rattle.af_base.specs.Refusals.{socket_of}
 use Rattle.af_base.specs.World.{AsSocket, Map, Message, Socket}
 use Rattle.af_base.proofs.Lookups.{insert-here, insert-other, none_some, not_same, remove-here, remove-other, same_or_not, some_same}
@@ -169,8 +168,3 @@ pub ruleset rows = (row_changed, none_changed, chains_stay, counts_kept, marks_k
 
 -- Messages that come and go.
 pub ruleset messages = (chained_at, chains_changed, messages_changed, messages_stay, none_changed, counts_kept, marks_kept, noted_kept)
-
--- A file that has nothing to receive, and for which nobody waits, holds nothing.
-module _ (s : Slab Node) (x : FileRow) (silent : x.chain.len ≡ 0) where
-  pub bare_socket : (e : Socket) → x.endpoint ≡ Some e → e.backlog ≡ [] → contents (file_in s x) ≡ []
-  bare_socket e is nobody = ap (λ o. contents (file_of (option_map (refilled (messages_of s x.chain)) o))) is ∙ (λ i. attached_in (none_of s x.chain silent i) ++ nobody i)

@@ -1,5 +1,6 @@
 -- Files under numbers, and the representation that is seen so.
 pub mod FilesView
 pub mod FileTableView
+pub mod Holding
 pub mod TrackedTableView
 pub mod Told

@@ -1,6 +1,6 @@
 -- One row for each file, and the messages of all, seen as three maps. Definitions that name no
 -- manual page are this project's own.
-use Rattle.std.specs.Prelude.{◌≡◌, ◌&&◌, ℕ, Bool, List, Option, Some, false, nat_lt, not, option_map, if◌then◌else◌}
+use Rattle.std.specs.Prelude.{◌≡◌, ◌&&◌, ℕ, Bool, List, Option, Some, false, nat_lt, not, option_map}
 use Rattle.std.specs.Option.{option_map_or}
 use Rattle.std.specs.FinMap as map
 use Rattle.slab.specs.Slab.{Slab}
@@ -12,7 +12,6 @@ use Rattle.af_ledger.specs.declared.place.Place.{Place}
 use Rattle.af_ledger.specs.Tally.{count_in_map}
 use Rattle.af_mark.specs.Grey.{color_in, unmarked}
 use Rattle.af_mark.specs.MarksView.{is_mark}
-use Rattle.af_mark.specs.declared.color.Color.TheVariants.{Black, Grey}
 use Rattle.af_mark.specs.declared.mark.Mark.{Mark}
 use Rattle.ordered_slab.specs.Parts.{part}
 use Rattle.af_queue.specs.Chains.{messages_of, IsChain}
@@ -99,7 +98,3 @@ is_white_in epoch marks f = option_map_or (λ x. not (is_mark (color_in epoch x)
 -- Whether a pass has still to mark the file, and a table holds it.
 abbrev pub is_due : ℕ → Map Count → Map Mark → ℕ → Bool
 is_due epoch counts marks f = nat_lt 0 (count_in_map counts f).tabled && is_white_in epoch marks f
-
--- The mark of a file that is marked in this pass, and to be scanned unless it is black.
-abbrev pub marking : ℕ → ℕ → Bool → Mark
-marking epoch at black = record { epoch = epoch; color = if black then Black else Grey; at = at }

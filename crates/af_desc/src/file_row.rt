@@ -1,5 +1,5 @@
 //! The row of one file.
-ghost use Rattle.std.specs.Prelude.{◌≡◌, ◌<◌, ◌∷◌, [], IfSome, IfNone, IfOk, OnOk, OnErr, drop};
+ghost use Rattle.std.specs.Prelude.{◌≡◌, ◌<◌, ◌∷◌, [], ℕ, IfSome, IfNone, IfOk, OnOk, OnErr, drop};
 ghost use Rattle.std.specs.Prelude.{length, nat_lt, true};
 ghost use Rattle.af_base.specs.Changes.{file_with, pushed};
 ghost use Rattle.af_base.specs.Places.{contents, queue_of};
@@ -7,14 +7,16 @@ ghost use Rattle.af_base.specs.Refusals.{socket_of};
 ghost use Rattle.af_base.specs.Whole.{IsMessageWithin};
 ghost use Rattle.af_queue.specs.Chains.{has_room, IsChain, SameElsewhere};
 ghost use Rattle.af_desc.specs.FilesView.{popped, received_from, received_of};
+ghost use Rattle.af_desc.specs.Holding.{HoldsJust};
 ghost use Rattle.af_desc.specs.TrackedTableView.{file_in};
 
+use crate::held::Held;
 use crate::socket::Endpoint;
 use af_base::ids::Ino;
 use af_base::limits::MAX_MESSAGES;
 use af_ledger::Count;
 use af_mark::Mark;
-use af_queue::{Chain, Msg, Node, Taken, pool};
+use af_queue::{Chain, Msg, Node, Queue, Taken, pool};
 use slab::Slab;
 use std::alloc::{AllocError, Global};
 
@@ -35,18 +37,27 @@ pub struct FileRow {
 }
 
 impl FileRow {
-    /// Returns whether it has nothing to receive and no name. If so, it holds nothing.
+    /// Returns what it holds, as far as one look tells.
     #[inline(always)]
-    pub fn is_bare(&self, _nodes: &Slab<Node>) -> bool
-        ensures { result ≡ true → contents (file_in _nodes.now self.now) ≡ [] }
+    pub fn held(&self, nodes: &Slab<Node>) -> Held
+        requires chain { (owner : ℕ) × IsChain nodes.now self.now.chain owner }
+        ensures { HoldsJust result (contents (file_in nodes.now self.now)) }
     {
-        if self.chain.len > 0 {
-            return false;
+        let Some(endpoint) = &self.endpoint else {
+            return Held::Nothing;
+        };
+        if !endpoint.is_nameless() {
+            return Held::Several;
         }
-        match &self.endpoint {
-            Some(endpoint) => endpoint.is_nameless(),
-            None => true,
+        let mut queue = Queue::of(nodes, &self.chain);
+        while let Some((message, rest)) = queue.split_first() {
+            match message.attached() {
+                [] => queue = rest,
+                [file] if rest.len() == 0 => return Held::One(file.duplicate()),
+                _ => return Held::Several,
+            }
         }
+        Held::Nothing
     }
 
     /// Returns whether it is dirty.

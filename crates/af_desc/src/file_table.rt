@@ -1,7 +1,7 @@
 //! One row for each file.
 ghost use Rattle.std.specs.Prelude.{◌≡◌, ℕ, ◌+◌, ◌≤◌, ◌<◌, ◌∷◌, [], false, None, IsTrue, IsOk};
 ghost use Rattle.std.specs.Prelude.{IfSome, IfNone, IfErr, IfOk, OnOk, OnErr, drop, is_none};
-ghost use Rattle.std.specs.Prelude.{is_some, length, nat_eq, option_copied, true};
+ghost use Rattle.std.specs.Prelude.{if◌then◌else◌, is_some, length, nat_eq, option_copied, true};
 ghost use Rattle.std.specs.FinMap as map;
 ghost use Rattle.std.specs.Option.{option_map_or};
 ghost use Rattle.af_base.specs.Changes.{connected, dequeued, listening, pushed, queued, with_name};
@@ -13,9 +13,12 @@ ghost use Rattle.af_ledger.specs.Tally.{count_in_map};
 ghost use Rattle.af_desc.specs.FilesView.{hung_up, popped, received_from, received_of, socket_in};
 ghost use Rattle.af_desc.specs.FileTableView.{with_entry, with_socket, with_socket_and_room};
 ghost use Rattle.af_desc.specs.FileTableView.{without_entry};
-ghost use Rattle.af_desc.specs.TrackedTableView.{file_of, is_due, is_white_in, marking};
+ghost use Rattle.af_desc.specs.Holding.{HoldsJust};
+ghost use Rattle.af_desc.specs.TrackedTableView.{file_of, is_due, is_white_in};
+ghost use Rattle.af_mark.specs.Grey.{black_mark, grey_mark};
 
 use crate::file_row::FileRow;
+use crate::held::Held;
 use crate::socket::{Endpoint, Socket};
 use af_base::ids::{FileRef, Ino};
 use af_base::items::Items;
@@ -405,32 +408,63 @@ impl FileTable {
         row.mark = mark;
     }
 
-    /// Marks a file that a table holds, if it is not marked in this pass. It is grey, with this
-    /// place in the list, or black at once, if it holds nothing and may be scanned. Returns whether
-    /// it is black; `None` if this call did not mark it.
+    /// Marks a file grey, with this place in the list, if it is not marked in this pass. Returns
+    /// whether this call marked it.
     #[inline(always)]
     #[tactic(auto, using(crate::proofs::TrackedTableView::chains, ordered_slab::proofs::Parts::parts, ordered_slab::proofs::Values::lent))]
-    pub fn visit(&mut self, file: &FileRef, epoch: u64, at: u32, may_scan: bool) -> Option<bool>
-        ensures due { is_some result ≡ is_due epoch self.old.counts self.old.marks file.now }
-        ensures marked { IfSome result (λ black. self.new ≡ record self.old {
-          marks = map.insert self.old.marks file.now (marking epoch at black);
-        }) }
+    pub fn shade(&mut self, file: &FileRef, epoch: u64, at: u32) -> bool
+        ensures white { result ≡ is_white_in epoch self.old.marks file.now }
+        ensures marked { self.new ≡ record self.old {
+          marks = if result then map.insert self.old.marks file.now (grey_mark epoch at)
+              else self.old.marks;
+        } }
         ensures len { map.len self.new.marks ≡ map.len self.old.marks }
-        ensures bare { IfSome result (λ black.
-            black ≡ true → held_in self.old.files file.now ≡ []) }
-        ensures asked { IfSome result (λ black. black ≡ true → may_scan ≡ true) }
-        ensures none { IfNone result (self.new ≡ self.old) }
     {
         let Some(row) = self.rows.get_mut(file) else {
-            return None;
+            return false;
         };
+        if !matches!(row.mark.color_in(epoch), Color::White) {
+            return false;
+        }
+        row.mark = Mark::grey(epoch, at);
+        true
+    }
+
+    /// Marks a file black that a table holds, if it is not marked in this pass. Returns what it
+    /// holds, by the same look at its row; `None` if this call did not mark it.
+    #[inline(always)]
+    #[tactic(auto, using(crate::proofs::TrackedTableView::chains, ordered_slab::proofs::Parts::parts, ordered_slab::proofs::Values::lent))]
+    pub fn visit(&mut self, file: &FileRef, epoch: u64) -> Option<Held>
+        ensures due { is_some result ≡ is_due epoch self.old.counts self.old.marks file.now }
+        ensures marked { is_some result ≡ true → self.new ≡ record self.old {
+          marks = map.insert self.old.marks file.now (black_mark epoch);
+        } }
+        ensures len { map.len self.new.marks ≡ map.len self.old.marks }
+        ensures held { IfSome result (λ held. HoldsJust held (held_in self.old.files file.now)) }
+        ensures none { IfNone result (self.new ≡ self.old) }
+    {
+        let row = self.rows.get_mut(file)?;
         if row.count.tabled == 0 || !matches!(row.mark.color_in(epoch), Color::White) {
             return None;
         }
-        let black = may_scan && row.is_bare(&self.nodes);
-        let color = if black { Color::Black } else { Color::Grey };
-        row.mark = Mark { epoch, color, at };
-        Some(black)
+        row.mark = Mark::black(epoch);
+        Some(row.held(&self.nodes))
+    }
+
+    /// Marks a file black, which is known. Returns what it holds, by the same look at its row.
+    #[inline(always)]
+    #[tactic(auto, using(crate::proofs::TrackedTableView::chains, ordered_slab::proofs::Parts::parts, ordered_slab::proofs::Values::lent))]
+    pub fn scan(&mut self, file: &FileRef, epoch: u64) -> Held
+        requires { IsTrue (map.contains_key self.old.marks file.now) }
+        ensures set { self.new ≡ record self.old {
+          marks = map.insert self.old.marks file.now (black_mark epoch);
+        } }
+        ensures len { map.len self.new.marks ≡ map.len self.old.marks }
+        ensures held { HoldsJust result (held_in self.old.files file.now) }
+    {
+        let row = self.rows.get_mut(file).unwrap();
+        row.mark = Mark::black(epoch);
+        row.held(&self.nodes)
     }
 
     /// Returns whether a file is dirty, if it is known.

@@ -6,9 +6,11 @@ mod counts;
 mod file_row;
 mod file_table;
 mod files;
+mod held;
 mod marks;
 mod socket;
 mod tracked_table;
 
 pub use files::Files;
+pub use held::Held;
 pub use socket::Socket;

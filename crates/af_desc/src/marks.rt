@@ -1,6 +1,6 @@
 //! Which files a pass of the collector has marked, and which of these it has still to scan. No call
 //! takes memory.
-ghost use Rattle.std.specs.Prelude.{◌≡◌, ◌<◌, ℕ, ◌-◌, Some, IsTrue, IfSome, IfNone, Bool, [], cond};
+ghost use Rattle.std.specs.Prelude.{◌≡◌, ◌<◌, ◌-◌, ◌&&◌, ℕ, IfSome, IfNone, cond, is_some, nat_lt};
 ghost use Rattle.std.specs.Prelude.{false, nat_eq, option_map, true, vec_capacity};
 ghost use Rattle.std.specs.FinMap as map;
 ghost use Rattle.af_base.specs.Counts.{count_in};
@@ -8,11 +8,13 @@ ghost use Rattle.af_base.specs.Changes.{change_at};
 ghost use Rattle.af_base.specs.Places.{held_in};
 ghost use Rattle.af_ledger.specs.Tally.{count_in_map};
 ghost use Rattle.af_mark.specs.Grey.{AreUpTo, colors_in, placed};
-ghost use Rattle.af_mark.specs.MarksView.{blackened, is_grey, is_marked, is_white, knows, shaded};
-ghost use Rattle.af_mark.specs.MarksView.{visited};
+ghost use Rattle.af_desc.specs.Holding.{HoldsJust};
+ghost use Rattle.af_mark.specs.MarksView.{blackened, is_grey, is_marked, is_unmarked, knows};
+ghost use Rattle.af_mark.specs.MarksView.{shaded, visited};
 ghost use Rattle.af_mark.specs.declared.color.Color.TheVariants.{Black, Grey, White};
 
 use crate::files::Files;
+use crate::held::Held;
 use crate::tracked_table::TrackedTable;
 use af_base::file_list::swap_remove_file;
 use af_base::ids::{FileRef, Ino};
@@ -67,57 +69,50 @@ impl Files {
     pub fn shade(&mut self, file: &FileRef)
         ensures { self.new ≡ record self.old { marks = shaded file.now self.old.marks } }
     {
-        if file.ino().0 < self.bound && self.is_white(file) {
-            self.push_grey(file);
-        }
-    }
-
-    /// Marks a file if a table holds it, it was there when the pass began, and it is not marked. If
-    /// it holds nothing and may be scanned, it is scanned in the same look at its row; else it is
-    /// to be scanned. Returns whether it was scanned.
-    #[inline(always)]
-    pub fn visit(&mut self, file: &FileRef, may_scan: bool) -> bool
-        ensures marks { self.new ≡ record self.old {
-          marks = visited result
-              (count_in_map self.old.counts file.now).tabled file.now self.old.marks;
-        } }
-        ensures bare { result ≡ true → held_in self.old.files file.now ≡ [] }
-        ensures tabled { result ≡ true → 0 < (count_in_map self.old.counts file.now).tabled }
-        ensures white { result ≡ true
-            → (file.now < self.old.marks.bound) × (is_white self.old.marks file.now ≡ true) }
-        ensures asked { result ≡ true → may_scan ≡ true }
-    {
         if file.ino().0 >= self.bound {
-            return false;
+            return;
         }
         let at = clamp_index(self.grey.len());
-        let Some(scanned) = self.rows.visit(file, self.epoch, at, may_scan) else {
-            return false;
-        };
-        self.white -= 1;
-        if !scanned {
+        if self.rows.shade(file, self.epoch, at) {
+            self.white -= 1;
             self.grey.push_reserved(file.duplicate());
         }
-        scanned
     }
 
-    /// Marks a white file grey.
+    /// Marks a file black if a table holds it, it was there when the pass began, and it is not
+    /// marked. Returns what it holds, which is to be marked next; `None` if this call did not mark
+    /// it.
     #[inline(always)]
-    fn push_grey(&mut self, file: &FileRef)
-        requires white { is_white self.old.marks file.now ≡ true }
-        requires within { file.now < self.old.marks.bound }
-        ensures colors { self.new.marks
-            ≡ record self.old.marks { colors = map.insert self.old.marks.colors file.now Grey } }
-        ensures rest { self.new ≡ record self.old { marks = self.new.marks } }
+    pub fn visit(&mut self, file: &FileRef) -> Option<Held>
+        ensures marks { self.new ≡ record self.old {
+          marks = visited true
+              (count_in_map self.old.counts file.now).tabled file.now self.old.marks;
+        } }
+        ensures due { is_some result ≡ (nat_lt 0 (count_in_map self.old.counts file.now).tabled
+            && is_unmarked self.old.marks file.now) }
+        ensures held { IfSome result (λ held. HoldsJust held (held_in self.old.files file.now)) }
     {
-        let mark = Mark {
-            epoch: self.epoch,
-            color: Color::Grey,
-            at: clamp_index(self.grey.len()),
-        };
-        self.rows.set_mark(file, mark);
+        if file.ino().0 >= self.bound {
+            return None;
+        }
+        let held = self.rows.visit(file, self.epoch)?;
         self.white -= 1;
-        self.grey.push_reserved(file.duplicate());
+        Some(held)
+    }
+
+    /// Makes a grey file black, if there is one. Returns it with what it holds, which is to be
+    /// marked next.
+    #[inline(always)]
+    pub fn scan_next(&mut self) -> Option<(FileRef, Held)>
+        ensures some { IfSome result (λ scanned. (is_grey self.old.marks scanned.0 ≡ true)
+            × HoldsJust scanned.1 (held_in self.old.files scanned.0)
+            × (self.new ≡ record self.old { marks = blackened scanned.0 self.old.marks })) }
+        ensures none { IfNone result
+            ((self.new ≡ self.old) × ((f : ℕ) → is_grey self.old.marks f ≡ false)) }
+    {
+        let file = self.grey.pop()?;
+        let held = self.rows.scan(&file, self.epoch);
+        Some((file, held))
     }
 
     /// Returns a grey file, if there is one. It stays grey until `blacken`.
@@ -171,14 +166,6 @@ impl Files {
     {
         let mark = self.rows.mark(file)?;
         Some(mark.color_in(self.epoch))
-    }
-
-    /// Returns whether a file is known, and not marked.
-    #[inline(always)]
-    fn is_white(&self, file: &FileRef) -> bool
-        ensures { result ≡ is_white self.now.marks file.now }
-    {
-        matches!(self.color(file), Some(Color::White))
     }
 
     /// Returns whether a file is marked; an unknown one is not.

@@ -1,7 +1,8 @@
 //! The rows of all files, and beside them the lists of freed files and changed sockets.
 ghost use Rattle.std.specs.Prelude.{◌≡◌, ℕ, ◌+◌, ◌≤◌, ◌<◌, ◌∷◌, [], true, false, None, IsTrue};
 ghost use Rattle.std.specs.Prelude.{IsOk, IfSome, IfNone, IfErr, IfOk, OnOk, OnErr, drop, is_none};
-ghost use Rattle.std.specs.Prelude.{is_some, length, nat_eq, option_copied, vec_capacity, cond};
+ghost use Rattle.std.specs.Prelude.{if◌then◌else◌, is_some, length, nat_eq, option_copied, cond};
+ghost use Rattle.std.specs.Prelude.{vec_capacity};
 ghost use Rattle.std.specs.FinMap as map;
 ghost use Rattle.af_base.specs.Changes.{connected, dequeued, listening, pushed, queued, with_name};
 ghost use Rattle.af_base.specs.Counts.{count_in};
@@ -11,13 +12,16 @@ ghost use Rattle.af_base.specs.Whole.{IsMessageWithin};
 ghost use Rattle.af_base.specs.World.{untold};
 ghost use Rattle.af_ledger.specs.Counted.{fewer, more, places_in, IsCountable, IsCounted};
 ghost use Rattle.af_ledger.specs.Tally.{count_in_map};
+ghost use Rattle.af_mark.specs.Grey.{black_mark, grey_mark};
 ghost use Rattle.af_desc.specs.FilesView.{hung_up, popped, received_from, received_of, socket_in};
-ghost use Rattle.af_desc.specs.TrackedTableView.{file_of, is_due, is_white_in, marking, with_row};
+ghost use Rattle.af_desc.specs.Holding.{HoldsJust};
+ghost use Rattle.af_desc.specs.TrackedTableView.{file_of, is_due, is_white_in, with_row};
 ghost use Rattle.af_desc.specs.TrackedTableView.{with_socket, with_socket_and_room, without_row};
 ghost use Rattle.af_base.specs.Told.{AreChanged, AreReleased};
 ghost use Rattle.af_desc.specs.Told.{IsDirtyList, MakesDirty};
 
 use crate::file_table::FileTable;
+use crate::held::Held;
 use crate::socket::{Endpoint, Socket};
 use af_base::file_list::swap_remove_file;
 use af_base::ids::{FileRef, Ino};
@@ -402,22 +406,46 @@ impl TrackedTable {
         self.table.set_mark(file, mark);
     }
 
-    /// Marks a file that a table holds, if it is not marked in this pass. It is grey, with this
-    /// place in the list, or black at once, if it holds nothing and may be scanned. Returns whether
-    /// it is black; `None` if this call did not mark it.
+    /// Marks a file grey, with this place in the list, if it is not marked in this pass. Returns
+    /// whether this call marked it.
     #[inline(always)]
-    pub fn visit(&mut self, file: &FileRef, epoch: u64, at: u32, may_scan: bool) -> Option<bool>
-        ensures due { is_some result ≡ is_due epoch self.old.counts self.old.marks file.now }
-        ensures marked { IfSome result (λ black. self.new ≡ record self.old {
-          marks = map.insert self.old.marks file.now (marking epoch at black);
-        }) }
+    pub fn shade(&mut self, file: &FileRef, epoch: u64, at: u32) -> bool
+        ensures white { result ≡ is_white_in epoch self.old.marks file.now }
+        ensures marked { self.new ≡ record self.old {
+          marks = if result then map.insert self.old.marks file.now (grey_mark epoch at)
+              else self.old.marks;
+        } }
         ensures len { map.len self.new.marks ≡ map.len self.old.marks }
-        ensures bare { IfSome result (λ black.
-            black ≡ true → held_in self.old.files file.now ≡ []) }
-        ensures asked { IfSome result (λ black. black ≡ true → may_scan ≡ true) }
+    {
+        self.table.shade(file, epoch, at)
+    }
+
+    /// Marks a file black that a table holds, if it is not marked in this pass. Returns what it
+    /// holds, by the same look at its row; `None` if this call did not mark it.
+    #[inline(always)]
+    pub fn visit(&mut self, file: &FileRef, epoch: u64) -> Option<Held>
+        ensures due { is_some result ≡ is_due epoch self.old.counts self.old.marks file.now }
+        ensures marked { is_some result ≡ true → self.new ≡ record self.old {
+          marks = map.insert self.old.marks file.now (black_mark epoch);
+        } }
+        ensures len { map.len self.new.marks ≡ map.len self.old.marks }
+        ensures held { IfSome result (λ held. HoldsJust held (held_in self.old.files file.now)) }
         ensures none { IfNone result (self.new ≡ self.old) }
     {
-        self.table.visit(file, epoch, at, may_scan)
+        self.table.visit(file, epoch)
+    }
+
+    /// Marks a file black, which is known. Returns what it holds, by the same look at its row.
+    #[inline(always)]
+    pub fn scan(&mut self, file: &FileRef, epoch: u64) -> Held
+        requires { IsTrue (map.contains_key self.old.marks file.now) }
+        ensures set { self.new ≡ record self.old {
+          marks = map.insert self.old.marks file.now (black_mark epoch);
+        } }
+        ensures len { map.len self.new.marks ≡ map.len self.old.marks }
+        ensures held { HoldsJust result (held_in self.old.files file.now) }
+    {
+        self.table.scan(file, epoch)
     }
 
     /// Does nothing at run time. Shows that all parts of a file come and go together.

@@ -7,12 +7,20 @@ use Rattle.af_base.specs.World.{Map}
 use Rattle.ordered_slab.specs.Parts.{part}
 use Rattle.af_mark.specs.MarksView.{is_grey_color}
 use Rattle.af_mark.specs.declared.color.Color.{Color}
-use Rattle.af_mark.specs.declared.color.Color.TheVariants.{White}
+use Rattle.af_mark.specs.declared.color.Color.TheVariants.{Black, Grey, White}
 use Rattle.af_mark.specs.declared.mark.Mark.{Mark}
 
 -- A mark of no pass.
 abbrev pub unmarked : Mark
 unmarked = record { epoch = 0; color = White; at = 0 }
+
+-- A mark of a file that is scanned in this pass.
+abbrev pub black_mark : ℕ → Mark
+black_mark epoch = record { epoch = epoch; color = Black; at = 0 }
+
+-- A mark of a file that is to be scanned in this pass, with its place in the list.
+abbrev pub grey_mark : ℕ → ℕ → Mark
+grey_mark epoch at = record { epoch = epoch; color = Grey; at = at }
 
 -- The colour of a mark in this pass: one of an earlier pass is none.
 abbrev pub color_in : ℕ → Mark → Color

@@ -1,6 +1,6 @@
 //! A file's mark.
 ghost use Rattle.std.specs.Prelude.{◌≡◌};
-ghost use Rattle.af_mark.specs.Grey.{color_in, unmarked};
+ghost use Rattle.af_mark.specs.Grey.{black_mark, color_in, grey_mark, unmarked};
 ghost use Rattle.af_mark.specs.MarksView.{is_grey_color};
 
 use crate::color::Color;
@@ -32,6 +32,30 @@ impl Mark {
             epoch: 0,
             color: Color::White,
             at: 0,
+        }
+    }
+
+    /// Makes a mark of a file that is scanned in this pass.
+    #[inline(always)]
+    pub fn black(epoch: u64) -> Mark
+        ensures { result ≡ black_mark epoch }
+    {
+        Mark {
+            epoch,
+            color: Color::Black,
+            at: 0,
+        }
+    }
+
+    /// Makes a mark of a file that is to be scanned in this pass, with its place in the list.
+    #[inline(always)]
+    pub fn grey(epoch: u64, at: u32) -> Mark
+        ensures { result ≡ grey_mark epoch at }
+    {
+        Mark {
+            epoch,
+            color: Color::Grey,
+            at,
         }
     }
 

@@ -1,6 +1,7 @@
-use Rattle.std.proofs.Common.{◌≡◌, ℕ, false, ap, sym, subst, ◌∙◌}
-use Rattle.af_mark.specs.MarksView.{MarksView, is_grey}
+use Rattle.std.proofs.Common.{false, ap, sym, subst, ◌∙◌}
+use Rattle.af_mark.specs.MarksView.{MarksView}
 use Rattle.af_collect.specs.Keeping.{PassInvariant}
+use Rattle.af_collect.specs.declared.parts.Collector.{Collector}
 use Rattle.af_collect.specs.declared.progress.Stage.TheVariants.{Sweeping}
 use Rattle.af_collect.proofs.PassChanges.{kept_finish}
 use Rattle.af_collect.proofs.parts.Collector.mark_on.Goals as goal
@@ -10,7 +11,9 @@ pub returns-clause-kept : goal.returns-clause-kept
 returns-clause-kept c =
     let now = c.args.self.now in
     let r = c.requires in
-    let none = subst (λ (m : MarksView). (f : ℕ) → is_grey m f ≡ false) c.files.ensures.marks c.in_default-next_grey.ensures.none in
-    let visited = sym (ap (λ (m : MarksView). m.bound) c.files-2.ensures.marks) ∙ sym c.bound.ensures ∙ sym c.self.view_is in
-    subst (λ n. PassInvariant now.places.world now.begun.value.world now.places.marks (record now.progress { stage = Sweeping; visited = n })) visited
-    (kept_finish now.places.marks now.progress r.sound.whole r.marking c.in_default.ensures.none none r.kept)
+    let p = c.scan.new.self in
+    let none = c.scan.ensures.none c.if-scan.false in
+    let visited = sym (ap (λ (m : MarksView). m.bound) c.files.ensures.marks) ∙ sym c.bound.ensures ∙ sym c.self.view_is in
+    subst (λ n. PassInvariant p.places.world p.begun.value.world p.places.marks (record p.progress { stage = Sweeping; visited = n })) visited
+    (subst (λ (p : Collector). PassInvariant p.places.world p.begun.value.world p.places.marks (record p.progress { stage = Sweeping; visited = p.places.marks.bound })) (sym none.0)
+    (kept_finish now.places.marks now.progress r.sound.whole r.marking c.in_default.ensures.none none.1 r.kept))

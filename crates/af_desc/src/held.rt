@@ -1,0 +1,14 @@
+//! What a file holds, by one look at its row.
+use af_base::ids::FileRef;
+
+/// What a file holds, as far as one look at its row tells.
+#[derive(Drop)]
+pub enum Held {
+    /// No file.
+    Nothing,
+    /// This file alone.
+    One(FileRef),
+    /// Perhaps several files: it has a name, or a message with files that is not its last, or with
+    /// several.
+    Several,
+}
