@@ -14,7 +14,7 @@ use Rattle.af_ledger.proofs.Laws.{has-held, tabled-tabled}
 use Rattle.af_table.specs.Procs.{row_in}
 use Rattle.af_collect.specs.HoldingsView.{filled}
 use Rattle.af_collect.proofs.TableFills.{no-files, no-numbers}
-use Rattle.af_collect.proofs.tables.table_in_all.Goals as goal
+use Rattle.af_collect.proofs.tables.table_in_each.Goals as goal
 
 pub loop-fd-init : goal.loop-fd-init
 loop-fd-init c =
