@@ -90,6 +90,14 @@ module _ (w : World) (q : Process) where
       pub joining-fits : CanHold Table f k
       joining-fits = can-hold-table (add_process w (record q { table = c.table })) f k c.exact.within c.exact.agrees
 
+      -- A process of the world that has all its numbers holds the file of the next descriptor.
+      pub joining-held : (p : ℕ) → map.get w.processes p ≡ Some q → CanDrop Table f k
+      joining-held p at =
+          let part : Process = record q { table = c.table } in
+          let low = j.exact.whole.processes_numbered p (ap is_some at) in
+          let there = insert-other w.processes w.next_pid part p (told_apart p w.next_pid (λ e. omega (arith, e, low))) ∙ at in
+          can-drop-table (add_process w part) p from f k (there-table (add_process w part) p from q there ∙ is) c.exact.agrees
+
       -- It has joined with one number more.
       pub joining-more : Joining w q (from + 1) (with_ref Table f k)
       joining-more =

@@ -64,10 +64,11 @@ fn table_in_each(procs: &mut Procs, files: &mut Files, pid: Pid, fds: &[Fd], att
     }
 }
 
-/// Adds a reference for each open descriptor of a process that joins the world. Takes no memory.
+/// Adds a reference for each open descriptor of a process that joins the world as a copy of one
+/// that is there, so each file is held already. Takes no memory.
 pub fn ref_table(files: &mut Files, process: &Process)
-    requires { (w : World) × (c : LedgerView)
-        × Joins w process.now.process (kept_of files.old.counts c) }
+    requires { (w : World) × (c : LedgerView) × (pid : ℕ) × (map.get w.processes pid
+        ≡ Some process.now.process) × Joins w process.now.process (kept_of files.old.counts c) }
     ensures exact { (w : World) (c : LedgerView)
         → Joins w process.now.process (kept_of files.old.counts c)
         → IsExact (add_process w process.now.process) (kept_of files.new.counts c) }
@@ -76,11 +77,11 @@ pub fn ref_table(files: &mut Files, process: &Process)
     // Most tables have no gaps.
     let front = process.run_from(Fd(0));
     for file in front {
-        files.hold(&Place::Table, file);
+        files.hold_again(&Place::Table, file);
     }
     let mut from = Fd(front.len() as u32);
     while let Some((fd, file)) = process.next_open(from) {
-        files.hold(&Place::Table, &file);
+        files.hold_again(&Place::Table, &file);
         from = Fd(fd.0 + 1);
     }
 }

@@ -1,5 +1,5 @@
 //! How many places hold each file, and which files are unreferenced.
-ghost use Rattle.std.specs.Prelude.{◌≡◌, ℕ, false, true, IfSome, IfNone, IsTrue};
+ghost use Rattle.std.specs.Prelude.{◌≡◌, ◌<◌, ℕ, false, true, IfSome, IfNone, IsTrue};
 ghost use Rattle.std.specs.FinMap as map;
 ghost use Rattle.af_ledger.specs.Counted.{places_in, IsCountable, IsCounted};
 ghost use Rattle.af_ledger.specs.Tally.{count_in_map, is_unreferenced};
@@ -101,6 +101,17 @@ impl Files {
             // Of several unreferenced files, mostly the first gains a reference.
             swap_remove_file(&mut self.unreferenced, file.ino(), 0);
         }
+    }
+
+    /// Adds one place that holds a file, which another place holds already. Takes no memory.
+    #[inline(always)]
+    pub fn hold_again(&mut self, place: &Place, file: &FileRef)
+        requires held { 0 < places_in (count_in_map self.old.counts file.now) }
+        requires countable { IsCountable place.now (count_in_map self.old.counts file.now) }
+        ensures { self.new ≡ with_file_ref place.now file.now self.old }
+    {
+        self.rows.add_place(place, file);
+        self.embryos = with_embryo(self.embryos, place);
     }
 
     /// Drops one place of a file, which has it. Without another, the file becomes unreferenced.

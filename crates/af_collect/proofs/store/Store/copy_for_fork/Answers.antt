@@ -1,9 +1,10 @@
-use Rattle.std.proofs.Common.{◌+◌, ◌∙◌, ◌≡◌, ap, false, refl, subst, sym}
+use Rattle.std.proofs.Common.{not, ◌+◌, ◌∙◌, ◌≡◌, ap, false, refl, subst, sym}
 use Rattle.std.specs.FinMap as map
-use Rattle.std.specs.Prelude.{IsTrue}
+use Rattle.std.specs.Prelude.{IsTrue, Some}
 use Rattle.af_base.specs.Changes.{add_process}
 use Rattle.af_base.specs.Refusals.{is_at_process_limit}
 use Rattle.af_base.specs.World.{World}
+use Rattle.af_base.proofs.SoundSteps.{process-there}
 use Rattle.af_ledger.specs.Tally.{kept_of}
 use Rattle.af_mark.specs.MarksView.{is_marked}
 use Rattle.af_collect.proofs.Exact.{world-is}
@@ -23,7 +24,8 @@ ref_table-requires c =
     let back = seen-world c.self.inside.parts c.places.inside _ c.places.view_is c.self.view_is in
     let room = subst (λ (v : World). is_at_process_limit v ≡ false) back c.requires.room in
     let there = subst (λ (v : World). IsTrue (map.contains_key v.processes c.args.pid)) back c.requires.there in
-    (w, h.ledger, joins-copy w c.args.pid c.in_ok-child.child.process (kept_of h.files.counts h.ledger) room there c.in_ok-child.ensures.copy c.places.invariant)
+    let at = process-there w c.args.pid (ap not there) ∙ ap Some (sym c.in_ok-child.ensures.copy) in
+    (w, h.ledger, c.args.pid, at, joins-copy w c.args.pid c.in_ok-child.child.process (kept_of h.files.counts h.ledger) room there c.in_ok-child.ensures.copy c.places.invariant)
 
 both : (c : goal.After-add) → BothInvariants c.self.inside.parts c.add.new.self c.ref_table.new.files c.places.inside.ledger
 both c =
