@@ -23,7 +23,7 @@ same-beside : {X : Type 0} (a b : Map X) (k : ℕ) → map.get a k ≡ map.get b
 same-beside a b k here beside = map.same_map nat_cmp_total nat_cmp-IsAntisymmetric a b (λ q. elim (same_or_not q k) [ inl e ↦ subst (λ j. map.get a j ≡ map.get b j) (sym e) here | inr apart ↦ beside q apart ])
 
 -- To remove an absent key changes nothing.
-remove-none : {X : Type 0} (m : Map X) (k : ℕ) → map.get m k ≡ None → map.remove m k ≡ m
+pub remove-none : {X : Type 0} (m : Map X) (k : ℕ) → map.get m k ≡ None → map.remove m k ≡ m
 remove-none m k none = same-beside (map.remove m k) m k (remove-here m k ∙ sym none) (λ q a. remove-other m k q a)
 
 -- A value put where one was removed is put once.

@@ -284,9 +284,11 @@ impl Store {
     {
         self.parts.shade_table(pid);
         let places = &mut self.parts.places;
-        let Some(process) = places.procs.remove(pid) else {
+        let Some(process) = places.procs.find(pid) else {
             return;
         };
-        unref_table(&mut places.files, &process);
+        // The table is counted out where it stands, since a removal moves it.
+        unref_table(&mut places.files, process);
+        places.procs.remove(pid);
     }
 }

@@ -1,21 +1,21 @@
-use Rattle.std.proofs.Common.{◌≡◌, None, ℕ, ap, refl, subst, sym}
-use Rattle.std.specs.FinMap as map
-use Rattle.std.specs.Option.{option_map_or}
+use Rattle.std.proofs.Common.{◌∙◌, ◌≡◌, ℕ, ap, refl, subst, sym}
 use Rattle.std.specs.Prelude.{Some}
 use Rattle.af_base.specs.Changes.{remove_process}
 use Rattle.af_base.specs.Places.{table_at}
+use Rattle.af_base.specs.World.{World}
 use Rattle.af_ledger.specs.Tally.{kept_of}
 use Rattle.af_mark.specs.MarksView.{is_marked}
 use Rattle.af_collect.specs.HoldingsView.{HoldingsView}
-use Rattle.af_collect.proofs.Exact.{exact-removed, exact-same, world-is}
+use Rattle.af_collect.proofs.Exact.{exact-same, world-is}
 use Rattle.af_collect.specs.Keeping.{PassInvariant, below}
 use Rattle.af_collect.proofs.TablePlaces.{covers_remove_process, moves_remove_process}
-use Rattle.af_collect.specs.StoreView.{KeepsPass, KeepsPassWith, MarksAll, with_marks}
+use Rattle.af_collect.specs.StoreView.{KeepsPass, KeepsPassWith, MarksAll, StoreView, with_marks}
 use Rattle.af_collect.specs.contracts.holdings.Holdings.{the_view}
 use Rattle.af_collect.specs.declared.holdings.Holdings.TheInside.{Inside}
 use Rattle.af_collect.specs.declared.parts.Collector.{Collector}
 use Rattle.af_collect.proofs.PlaceChanges.{kept_tables}
-use Rattle.af_collect.proofs.StoreInvariant.{BothInvariants, both-same, kept-same}
+use Rattle.af_collect.proofs.ReplacedDescriptors.{remove-none}
+use Rattle.af_collect.proofs.StoreInvariant.{kept-same}
 use Rattle.af_collect.proofs.store.Store.remove_process.Goals as goal
 
 -- The files that a process loses were marked before, so the invariant of the pass holds.
@@ -28,23 +28,8 @@ kept q h o pid seen frame all k =
     let marked = subst (λ (t : HoldingsView). MarksAll (λ f. (n : ℕ) × (table_at t.world pid n ≡ Some f)) q (record q { places = t })) (sym seen) shaded in
     kept_tables (remove_process w pid) refl refl (λ _. moves_remove_process begun w pid) (λ t. covers_remove_process begun w pid (is_marked h.files.marks) (below q.progress.visited) (λ n f at. marked t f (n, at))) (subst (KeepsPassWith q) (sym seen) k)
 
-both : (c : goal.In_default) → BothInvariants c.shade_table.new.self c.remove.new.self c.places.inside.files c.places.inside.ledger
-both c =
-    let h = c.places.inside in
-    let w = (the_view h).world in
-    let e = c.shade_table.ensures in
-    both-same _ (remove_process w c.args.pid) _ _ _ _ (world-is _ _ c.remove.ensures.processes refl refl c.remove.ensures.next refl) refl refl
-    (exact-removed w c.args.pid (kept_of h.files.counts h.ledger) (λ n. ap (λ o. option_map_or (λ q. map.get q.table n) o None) c.in_default.ensures.none) c.places.invariant)
-    (kept c.shade_table.new.self h c.self.inside.parts c.args.pid c.places.view_is e.frame e.marked e.kept)
-
 pub invariant_of-places : goal.invariant_of-places
-invariant_of-places c = (both c).0
-
-pub invariant_of-self : goal.invariant_of-self
-invariant_of-self c = (both c).1
-
-pub invariant_of-places-2 : goal.invariant_of-places-2
-invariant_of-places-2 c =
+invariant_of-places c =
     let h = c.places.inside in
     let rest = c.unref_table.ensures.rest in
     exact-same _ _ _ _ (world-is _ _ c.remove.ensures.processes (ap (λ v. v.files) rest) (ap (λ v. v.next) rest) c.remove.ensures.next refl) refl
@@ -58,3 +43,12 @@ invariant_of-self-2 c =
     let rest = c.unref_table.ensures.rest in
     kept-same _ (remove_process (the_view h).world c.args.pid) _ _ (world-is _ _ c.remove.ensures.processes (ap (λ v. v.files) rest) (ap (λ v. v.next) rest) c.remove.ensures.next refl) (ap (λ v. v.marks) rest)
     (kept q h c.self.inside.parts c.args.pid c.places.view_is e.frame e.marked e.kept)
+
+pub returns-in_default-clause-world : goal.returns-in_default-clause-world
+returns-in_default-clause-world c =
+    let w = (the_view c.places.inside).world in
+    let none = remove-none w.processes c.args.pid c.in_default.ensures.none in
+    let same : w ≡ c.args.self.now.world = ap (λ (p : HoldingsView). p.world) c.places.view_is ∙ ap (λ (q : Collector). q.places.world) c.shade_table.ensures.frame ∙ ap (λ (s : StoreView). s.world) c.self.view_is in
+    ap (λ (p : HoldingsView). p.world) (sym c.places.view_is)
+    ∙ ap {B = World} (λ m. record w { processes = m }) (sym none)
+    ∙ ap (λ (v : World). remove_process v c.args.pid) same
