@@ -1,10 +1,10 @@
 -- No reply is longer than its event allows.
 use Rattle.std.proofs.Common.{◌≡◌, ◌≤◌, ◌+◌, ℕ, Bool, true, false, not, List, [], ◌∷◌, length, min, inl, inr, refl, sym, ◌∙◌, subst, cond, arith, length-take}
-use Rattle.std.specs.Prelude.{Option, Some, None, MatchBool, ◌||◌, nat_eq, nat_lt}
+use Rattle.std.specs.Prelude.{Option, Some, None, nat_eq, nat_lt}
 use Rattle.std.specs.List.{find}
 use Rattle.std.proofs.lemmas.Bool.{cases_Bool}
 use Rattle.af_base.specs.declared.errno.Errno.{Errno}
-use Rattle.af_base.specs.declared.errno.Errno.TheVariants.{EINVAL, ESRCH}
+use Rattle.af_base.specs.declared.errno.Errno.TheVariants.{ESRCH}
 use Rattle.af_base.specs.declared.events.Event.{Event}
 use Rattle.af_base.specs.declared.events.Event.TheVariants as event
 use Rattle.af_base.specs.declared.events.Reply.{Reply}
@@ -13,10 +13,10 @@ use Rattle.af_base.specs.declared.events.SockType.{SockType}
 use Rattle.af_base.specs.declared.events.SockType.TheVariants.{Seqpacket, Stream}
 use Rattle.af_base.specs.declared.events.Step.{Step}
 use Rattle.af_base.specs.declared.events.Step.TheVariants as step
-use Rattle.af_base.specs.declared.limits.TheConstants.{MAX_BUDGET, MAX_BYTES, SCM_MAX_FD}
+use Rattle.af_base.specs.declared.limits.TheConstants.{MAX_BYTES, SCM_MAX_FD}
 use Rattle.std.specs.FinMap as map
 use Rattle.af_base.specs.Names.{is_between}
-use Rattle.af_base.specs.Pass.{Begins, GoesOn, Idle, Machine, Pass, PassesWhole, Running, Slices}
+use Rattle.af_base.specs.Pass.{Begins, GoesOn, Idle, Machine, Pass, PassesWhole, Running}
 use Rattle.af_base.specs.Refusals.{ino_on, process_at, recv_row, refusal, socket_on}
 use Rattle.af_base.specs.Run as run
 use Rattle.af_base.specs.Steps.{Outcome, answer, effect, got_at, needs_no_memory, received, taken_on}

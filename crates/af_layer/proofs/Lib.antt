@@ -9,5 +9,7 @@ pub mod SeatPositions
 pub mod Replies
 pub mod Scripts
 pub mod SendSync
+pub mod ShortSteps
+pub mod Starts
 pub mod Steps
 pub mod LogWalks

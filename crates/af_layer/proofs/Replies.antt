@@ -1,22 +1,18 @@
 -- The outcome of a call of a sound engine is the reply of some sound machine.
-use Rattle.std.proofs.Common.{◌≡◌, ℕ, Bool, false, ap, inr, refl, sym, subst}
-use Rattle.std.specs.Prelude.{Option, Some, None, Result, Ok, Err, IfErr, IfOk, OnOk}
+use Rattle.std.proofs.Common.{◌≡◌, ℕ, Bool, sym, subst}
+use Rattle.std.specs.Prelude.{Result, Ok, Err, IfErr, IfOk, OnOk}
 use Rattle.af_base.specs.declared.errno.Errno.{Errno}
-use Rattle.af_base.specs.declared.errno.Errno.TheVariants.{ENOMEM}
 use Rattle.af_base.specs.declared.events.Event.{Event}
 use Rattle.af_base.specs.declared.events.Event.TheVariants as event
 use Rattle.af_base.specs.declared.events.Reply.{Reply}
 use Rattle.af_base.specs.declared.events.Reply.TheVariants as reply
 use Rattle.af_base.specs.declared.events.Step.{Step}
-use Rattle.af_base.specs.Pass.{Machine, SamePass}
-use Rattle.af_base.specs.Refusals.{spawn_refusal}
+use Rattle.af_base.specs.Pass.{Machine}
 use Rattle.af_base.specs.Run as run
-use Rattle.af_base.specs.Steps.{Outcome, SpawnStep, spawned}
 use Rattle.af_base.specs.Whole.{IsSound}
-use Rattle.af_base.proofs.Lookups.{some_same}
-use Rattle.af_base.proofs.AllowedSteps.{accepted}
-use Rattle.af_steps.specs.Outcome.{Does, Refuses, RefusesStart, Starts, error_of}
+use Rattle.af_steps.specs.Outcome.{Does, Refuses, RefusesStart, Starts}
 use Rattle.af_steps.proofs.FoldedReplies.{does-step, refuses-step}
+use Rattle.af_layer.proofs.Starts.{refuses-start, starts-step}
 use Rattle.af_layer.specs.Shared.{IsReplyTo, TellsReply, TellsStep}
 
 -- the machine that the lock holds, that which a call begins at, which is the same, and that which
@@ -47,8 +43,5 @@ module _ (held old new : Machine) (sound : IsSound held.world) (same : old ≡ h
 
   -- A call that starts a process.
   pub tells_start : (uid nofile : ℕ) (privileged : Bool) (o : Result ℕ Errno) → IfOk o (λ p. Starts old uid nofile privileged p new) → IfErr o (λ e. RefusesStart old nofile e new) → TellsReply (event.Spawn uid nofile privileged) reply.Pid o
-  tells_start uid nofile privileged (Ok p) done refused = (old, new, begins_sound, (subst (λ n. SpawnStep old.world uid nofile privileged (reply.Pid n) new.world) (sym done.1) (accepted (spawn_refusal old.world nofile) false (reply.Pid old.world.next_pid) (spawned old.world uid nofile privileged) old.world new.world done.0 done.2), done.3))
-  tells_start uid nofile privileged (Err e) done refused = (old, new, begins_sound, subst (λ (m : Machine). SpawnStep old.world uid nofile privileged (reply.Refused e) m.world × SamePass old m) (sym refused.1) (by (spawn_refusal old.world nofile) refused.0, (refl, refl, refl))) where
-    by : (o : Option Errno) → error_of o false ≡ Some e → Outcome o false (reply.Pid old.world.next_pid) (spawned old.world uid nofile privileged) old.world (reply.Refused e) old.world
-    by (Some f) is = (ap reply.Refused (sym (some_same f e is)), refl)
-    by None is = inr (ap reply.Refused (sym (some_same ENOMEM e is)), refl)
+  tells_start uid nofile privileged (Ok p) done refused = (old, new, begins_sound, starts-step old uid nofile privileged new p done)
+  tells_start uid nofile privileged (Err e) done refused = (old, new, begins_sound, refuses-start old uid nofile privileged new e refused)

@@ -11,6 +11,8 @@ use Rattle.af_layer.specs.declared.short.ShortEvent.{ShortEvent}
 use Rattle.af_layer.specs.declared.short.ShortEvent.TheVariants as asked
 use Rattle.af_layer.specs.declared.short.ShortReply.{ShortReply}
 use Rattle.af_layer.specs.declared.short.ShortReply.TheVariants as answered
+use Rattle.af_layer.specs.declared.short.TurnReply.{TurnReply}
+use Rattle.af_layer.specs.declared.short.TurnReply.TheVariants as turned
 use Rattle.af_layer.specs.Log.{Entry}
 
 -- The event that few words tell.
@@ -27,9 +29,6 @@ event_of (asked.Socket kind pid) = event.Proc pid (step.Socket kind)
 event_of (asked.Listen pid on backlog) = event.Proc pid (step.Listen on backlog)
 event_of (asked.Accept pid on) = event.Proc pid (step.Accept on)
 event_of (asked.Limit pid nofile) = event.Proc pid (step.Limit nofile)
-event_of asked.Begin = event.Begin
-event_of (asked.Slice budget) = event.Slice budget
-event_of asked.Pass = event.Pass
 
 -- The reply that few words tell.
 abbrev pub reply_of : ShortReply → Reply
@@ -37,12 +36,19 @@ reply_of (answered.Pid pid) = reply.Pid pid
 reply_of (answered.Fd fd) = reply.Fd fd
 reply_of (answered.Fds first second) = reply.Fds first second
 reply_of answered.Ok = reply.Ok
-reply_of (answered.Started pass) = reply.Started pass
-reply_of answered.Working = reply.Working
-reply_of (answered.Done pass reclaimed) = reply.Done pass reclaimed
 reply_of (answered.Refused error) = reply.Refused error
+
+-- The reply of the collector that few words tell.
+abbrev pub turn_reply_of : TurnReply → Reply
+turn_reply_of (turned.Started pass) = reply.Started pass
+turn_reply_of turned.Working = reply.Working
+turn_reply_of (turned.Done pass reclaimed) = reply.Done pass reclaimed
+turn_reply_of (turned.Refused error) = reply.Refused error
 
 -- The entry that is kept in this form.
 abbrev pub entry_of : Form → Entry
-entry_of (form.Short seat e r) = record { seat = seat; event = event_of e; reply = reply_of r }
+entry_of (form.Step seat e r) = record { seat = seat; event = event_of e; reply = reply_of r }
+entry_of (form.Begin seat r) = record { seat = seat; event = event.Begin; reply = turn_reply_of r }
+entry_of (form.Slice seat budget r) = record { seat = seat; event = event.Slice budget; reply = turn_reply_of r }
+entry_of (form.Pass seat r) = record { seat = seat; event = event.Pass; reply = turn_reply_of r }
 entry_of (form.Whole seat both) = record { seat = seat; event = both.value.0; reply = both.value.1 }

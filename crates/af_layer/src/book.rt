@@ -5,8 +5,7 @@ ghost use Rattle.af_base.specs.Pass.{Machine};
 ghost use Rattle.af_base.specs.Run.{fresh};
 ghost use Rattle.af_layer.specs.Calls.{Answers, Calls, refusal};
 ghost use Rattle.af_layer.specs.Log.{IsLegalFrom};
-ghost use Rattle.af_layer.specs.Room.{HasRoomFor, most_bytes, most_fds};
-ghost use Rattle.af_layer.specs.Short.{event_of};
+ghost use Rattle.af_layer.specs.Short.{event_of, reply_of};
 
 use crate::entry::{Entry, Pair, fill};
 use crate::room::ReplyRoom;
@@ -137,9 +136,9 @@ impl Book {
         ensures refused { Answers (refusal self.old seat) result }
         ensures same { OnErr result (self.new ≡ self.old) }
     {
-        match ShortEvent::of(&event) {
-            Some(short) => self.call_short(seat, &event, &short),
-            None => self.call_whole(seat, event),
+        match ShortEvent::of(event) {
+            Ok(short) => self.call_short(seat, &short).map(ShortReply::reply),
+            Err(event) => self.call_whole(seat, event),
         }
     }
 
@@ -148,38 +147,30 @@ impl Book {
     pub(crate) fn call_short(
         &mut self,
         seat: u32,
-        event: &Event,
-        short: &ShortEvent,
-    ) -> Result<Reply, CallError>
-        requires event { event_of short.now ≡ event.now }
-        requires bytes { most_bytes event.now ≡ 0 }
-        requires fds { most_fds event.now ≡ 0 }
-        ensures done { IfOk result (λ reply. Calls self.old seat event.now reply self.new) }
+        event: &ShortEvent,
+    ) -> Result<ShortReply, CallError>
+        ensures done { IfOk result (λ reply.
+            Calls self.old seat (event_of event.now) (reply_of reply) self.new) }
         ensures refused { Answers (refusal self.old seat) result }
         ensures same { OnErr result (self.new ≡ self.old) }
     {
-        room_for(self.alloc, self.seats, &mut self.log, &mut self.spare, seat)?;
-        // The reply of a sound world has no bytes.
-        self.engine.lemma_is_sound();
-        let reply = self.engine.step(event);
-        log_short(
-            self.alloc,
-            &mut self.log,
-            &mut self.spare,
-            seat as u8,
-            short,
-            &reply,
-        );
+        room_for(self.seats, &mut self.log, seat)?;
+        let reply = event.step(&mut self.engine);
+        self.log
+            .push_reserved(Entry::short(seat as u8, event, &reply));
         Ok(reply)
     }
 
-    /// Does an event, and logs it in a box.
+    /// Does any event. What it needs for a copy of the reply is reserved before.
     pub(crate) fn call_whole(&mut self, seat: u32, event: Event) -> Result<Reply, CallError>
         ensures done { IfOk result (λ reply. Calls self.old seat event reply self.new) }
         ensures refused { Answers (refusal self.old seat) result }
         ensures same { OnErr result (self.new ≡ self.old) }
     {
-        room_for(self.alloc, self.seats, &mut self.log, &mut self.spare, seat)?;
+        room_for(self.seats, &mut self.log, seat)?;
+        if fill(self.alloc, &mut self.spare).is_err() {
+            return Err(CallError::NoRoom);
+        }
         let Ok(room) = ReplyRoom::for_event(self.alloc, &event) else {
             return Err(CallError::NoRoom);
         };
@@ -187,68 +178,17 @@ impl Book {
         self.engine.lemma_is_sound();
         let reply = self.engine.step(&event);
         let logged = room.copy(&reply);
-        let entry = Entry::whole(seat as u8, event, logged, &mut self.spare);
+        let entry = Entry::of(seat as u8, event, logged, &mut self.spare);
         self.log.push_reserved(entry);
         Ok(reply)
     }
 }
 
-/// Logs an event without bytes, in few words if its reply fits into them. Each kind of entry is
-/// written where it stays, and not moved there.
-#[inline(always)]
-fn log_short(
-    alloc: Global,
-    log: &mut Vec<Entry>,
-    spare: &mut Option<Pair>,
-    seat: u8,
-    event: &ShortEvent,
-    reply: &Reply,
-)
-    requires room { vec_len log.old < vec_capacity log.old }
-    requires spare { IsSome spare.old }
-    requires fits { HasRoomFor (record { bytes = 0; fds = 0 }) reply.now }
-    ensures { log.new.items ≡ log.old.items
-        ++ record { seat = seat; event = event_of event.now; reply = reply.now } ∷ [] }
-{
-    match ShortReply::of(reply) {
-        Some(short) => log.push_reserved(Entry::short(seat, *event, short)),
-        None => log_boxed(alloc, log, spare, seat, event, reply),
-    }
-}
-
-/// Logs an event without bytes in a box.
-#[cold]
-#[inline(never)]
-fn log_boxed(
-    alloc: Global,
-    log: &mut Vec<Entry>,
-    spare: &mut Option<Pair>,
-    seat: u8,
-    event: &ShortEvent,
-    reply: &Reply,
-)
-    requires room { vec_len log.old < vec_capacity log.old }
-    requires spare { IsSome spare.old }
-    requires fits { HasRoomFor (record { bytes = 0; fds = 0 }) reply.now }
-    ensures { log.new.items ≡ log.old.items
-        ++ record { seat = seat; event = event_of event.now; reply = reply.now } ∷ [] }
-{
-    let logged = ReplyRoom::new(alloc).copy(reply);
-    log.push_reserved(Entry::whole(seat, event.event(), logged, spare));
-}
-
 /// Reserves room in the log of this many seats for an entry of this one; or returns why the call
 /// does nothing. The log is unchanged.
 #[inline(always)]
-fn room_for(
-    alloc: Global,
-    seats: u32,
-    log: &mut Vec<Entry>,
-    spare: &mut Option<Pair>,
-    seat: u32,
-) -> Result<(), CallError>
+fn room_for(seats: u32, log: &mut Vec<Entry>, seat: u32) -> Result<(), CallError>
     ensures entry { OnOk result (vec_len log.new < vec_capacity log.new) }
-    ensures spare { OnOk result (IsSome spare.new) }
     ensures seat { OnOk result ((1 ≤ seat) × (seat ≤ seats)) }
     ensures refused { (start machine : Machine) → Answers (refusal (record {
       seats = seats;
@@ -264,7 +204,7 @@ fn room_for(
     if log.len() >= MAX_LOG {
         return Err(CallError::LogFull);
     }
-    if log.reserve(1).is_err() || fill(alloc, spare).is_err() {
+    if log.reserve(1).is_err() {
         return Err(CallError::NoRoom);
     }
     Ok(())

@@ -1,13 +1,13 @@
 //! The entries of a log, and of the lists of seats. Each takes 32 bytes.
 //!
-//! Where the event and its reply have no bytes, an entry has them in few words. Else they are in a
-//! box, which is allocated before the step, so that no step is done that cannot be logged.
-ghost use Rattle.std.specs.Prelude.{◌≡◌, ◌↔◌, IsSome, IsTrue, OnOk};
+//! Where neither an event nor its reply may have bytes, an entry has them in few words. Else they
+//! are in a box, which is allocated before the step, so that no step is done that cannot be logged.
+ghost use Rattle.std.specs.Prelude.{◌≡◌, ◌↔◌, IfSome, IsSome, IsTrue, OnOk};
 ghost use Rattle.std.specs.Cow.{cow_value};
 ghost use Rattle.af_layer.specs.Log.{pair_of};
-ghost use Rattle.af_layer.specs.Short.{event_of, reply_of};
+ghost use Rattle.af_layer.specs.Short.{entry_of, event_of, reply_of};
 
-use crate::short::{ShortEvent, ShortReply};
+use crate::short::{ShortEvent, ShortReply, TurnReply};
 use af_base::equality::{events_equal, replies_equal};
 use af_base::events::{Event, Reply};
 use std::alloc::{AllocError, Global};
@@ -20,10 +20,42 @@ pub type Pair = Box<(Event, Reply)>;
 /// How an entry is kept, after the number of its seat.
 #[derive(Drop)]
 pub enum Form {
-    /// In few words.
-    Short(u8, ShortEvent, ShortReply),
+    /// A process started or made a step.
+    Step(u8, ShortEvent, ShortReply),
+    /// The collector began a pass.
+    Begin(u8, TurnReply),
+    /// It continued the pass, with this budget.
+    Slice(u8, u32, TurnReply),
+    /// It made a whole pass.
+    Pass(u8, TurnReply),
     /// In a box.
     Whole(u8, Pair),
+}
+
+impl Form {
+    /// Keeps an event of the collector in few words; `None` if it is a process's.
+    fn of_turn(seat: u8, event: &Event, reply: &Reply) -> Option<Form>
+        ensures { IfSome result (λ form. entry_of form
+            ≡ record { seat = seat; event = event.now; reply = reply.now }) }
+    {
+        let reply = TurnReply::of(reply)?;
+        match event {
+            Event::Begin => Some(Form::Begin(seat, reply)),
+            Event::Slice(budget) => Some(Form::Slice(seat, *budget, reply)),
+            Event::Pass => Some(Form::Pass(seat, reply)),
+            _ => None,
+        }
+    }
+
+    /// Keeps an event in the box that is there, and leaves none.
+    fn whole(seat: u8, event: Event, reply: Reply, spare: &mut Option<Pair>) -> Form
+        requires { IsSome spare.old }
+        ensures { entry_of result ≡ record { seat = seat; event = event; reply = reply } }
+    {
+        let mut pair = spare.take().unwrap();
+        *pair = (event, reply);
+        Form::Whole(seat, pair)
+    }
 }
 
 /// One event that was done, from which seat, and what was answered.
@@ -44,24 +76,25 @@ impl Model for Entry {
 impl Entry {
     /// Makes an entry in few words.
     #[inline(always)]
-    pub(crate) fn short(seat: u8, event: ShortEvent, reply: ShortReply) -> Entry
-        ensures { result ≡ record { seat = seat; event = event_of event; reply = reply_of reply } }
+    pub(crate) fn short(seat: u8, event: &ShortEvent, reply: &ShortReply) -> Entry
+        ensures { result
+            ≡ record { seat = seat; event = event_of event.now; reply = reply_of reply.now } }
     {
         Entry {
-            form: Form::Short(seat, event, reply),
+            form: Form::Step(seat, *event, *reply),
         }
     }
 
-    /// Makes an entry in the box that is there, and leaves none.
-    pub(crate) fn whole(seat: u8, event: Event, reply: Reply, spare: &mut Option<Pair>) -> Entry
+    /// Makes an entry: in few words if the event is the collector's, else in the box that is there.
+    pub(crate) fn of(seat: u8, event: Event, reply: Reply, spare: &mut Option<Pair>) -> Entry
         requires { IsSome spare.old }
         ensures { result ≡ record { seat = seat; event = event; reply = reply } }
     {
-        let mut pair = spare.take().unwrap();
-        *pair = (event, reply);
-        Entry {
-            form: Form::Whole(seat, pair),
-        }
+        let form = match Form::of_turn(seat, &event, &reply) {
+            Some(form) => form,
+            None => Form::whole(seat, event, reply, spare),
+        };
+        Entry { form }
     }
 
     /// Returns the number of the seat, from 1.
@@ -69,7 +102,11 @@ impl Entry {
         ensures { result ≡ self.now.seat }
     {
         match &self.form {
-            Form::Short(seat, _, _) | Form::Whole(seat, _) => u32::from(*seat),
+            Form::Step(seat, _, _)
+            | Form::Begin(seat, _)
+            | Form::Slice(seat, _, _)
+            | Form::Pass(seat, _)
+            | Form::Whole(seat, _) => u32::from(*seat),
         }
     }
 
@@ -78,7 +115,10 @@ impl Entry {
         ensures { cow_value result ≡ self.now.event }
     {
         match &self.form {
-            Form::Short(_, event, _) => Cow::Owned(event.event()),
+            Form::Step(_, event, _) => Cow::Owned(event.event()),
+            Form::Begin(_, _) => Cow::Owned(Event::Begin),
+            Form::Slice(_, budget, _) => Cow::Owned(Event::Slice(*budget)),
+            Form::Pass(_, _) => Cow::Owned(Event::Pass),
             Form::Whole(_, pair) => Cow::Borrowed(&pair.0),
         }
     }
@@ -88,7 +128,10 @@ impl Entry {
         ensures { cow_value result ≡ self.now.reply }
     {
         match &self.form {
-            Form::Short(_, _, reply) => Cow::Owned(reply.reply()),
+            Form::Step(_, _, reply) => Cow::Owned(reply.reply()),
+            Form::Begin(_, reply) | Form::Slice(_, _, reply) | Form::Pass(_, reply) => {
+                Cow::Owned(reply.reply())
+            }
             Form::Whole(_, pair) => Cow::Borrowed(&pair.1),
         }
     }
@@ -142,7 +185,6 @@ impl EventReply {
 }
 
 /// Allocates a box, unless there is one.
-#[inline(always)]
 pub fn fill(alloc: Global, spare: &mut Option<Pair>) -> Result<(), AllocError>
     ensures { OnOk result (IsSome spare.new) }
 {

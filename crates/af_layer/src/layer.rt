@@ -12,6 +12,7 @@ use crate::book::{Book, CallError};
 use crate::entry::Entry;
 use crate::origin::{AtCheckpoint, BookFrom, Fresh, Origin};
 use crate::seat::Seat;
+use crate::short::ShortEvent;
 use af_base::events::Event;
 use af_base::limits::MAX_SEATS;
 use std::alloc::Global;
@@ -126,7 +127,10 @@ impl<O: Origin> Layer<O> {
         ensures done { OnOk result ((reply : Answer) × (seat.new ≡ grown seat.old event reply)) }
         ensures same { OnErr result (seat.new ≡ seat.old) }
     {
-        self.book.lock(rt).call_from(seat, event)
+        match ShortEvent::of(event) {
+            Ok(short) => seat.call_locked(rt, &self.book, &short),
+            Err(event) => self.book.lock(rt).call_from(seat, event),
+        }
     }
 
     /// Ends the layer without an audit, and gives its book back. It waits for nobody.

@@ -4,13 +4,16 @@ ghost use Rattle.af_base.specs.declared.events.Reply.{Reply as Answer};
 ghost use Rattle.af_base.specs.Pass.{Machine};
 ghost use Rattle.af_base.specs.Run.{fresh};
 ghost use Rattle.af_layer.specs.Audit.{AreEmptied, HasFault, IsWholeBook};
+ghost use Rattle.af_layer.specs.Calls.{Calls};
 ghost use Rattle.af_layer.specs.Log.{HasLegalLog, IsReached};
 ghost use Rattle.af_layer.specs.Seats.{grown};
+ghost use Rattle.af_layer.specs.Short.{event_of, reply_of};
 
 use crate::audit::CloseFault;
 use crate::book::{Book, CallError};
 use crate::entry::Entry;
 use crate::seat::Seat;
+use crate::short::{ShortEvent, ShortReply};
 use af_base::events::Event;
 use std::marker::{Brand, Model, PhantomData};
 
@@ -66,6 +69,16 @@ impl<O: Origin> Model for BookFrom<O> {
 }
 
 impl<O: Origin> BookFrom<O> {
+    /// Does an event for the seat of this number that has no bytes, and whose reply has none.
+    #[inline(always)]
+    pub fn call_short(&mut self, seat: u32, event: &ShortEvent) -> Result<ShortReply, CallError>
+        ensures done { IfOk result (λ reply.
+            Calls self.old seat (event_of event.now) (reply_of reply) self.new) }
+        ensures same { OnErr result (self.new ≡ self.old) }
+    {
+        self.book.call_short(seat, event)
+    }
+
     /// Does one event from this seat.
     pub fn call_from(&mut self, seat: &mut Seat, event: Event) -> Result<(), CallError>
         ensures done { OnOk result ((reply : Answer) × (seat.new ≡ grown seat.old event reply)) }

@@ -54,16 +54,6 @@ fn most_of(event: &Event) -> (usize, usize)
 }
 
 impl ReplyRoom {
-    /// Makes room for a reply without bytes and descriptors. Takes no memory.
-    pub fn new(alloc: Global) -> ReplyRoom
-        ensures { result ≡ record { bytes = 0; fds = 0 } }
-    {
-        ReplyRoom {
-            bytes: Vec::new(alloc),
-            fds: Vec::new(alloc),
-        }
-    }
-
     /// Reserves room for the reply to an event, whichever it will be, and for no other.
     pub fn for_event(alloc: Global, event: &Event) -> Result<ReplyRoom, AllocError>
         ensures bytes { IfOk result (λ room. room.bytes ≡ most_bytes event.now) }

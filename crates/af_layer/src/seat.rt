@@ -3,16 +3,17 @@ ghost use Rattle.std.specs.Prelude.{◌≡◌, ◌<◌, ◌⊎◌, ◌++◌, ◌
 ghost use Rattle.std.specs.Prelude.{OnOk, Some, vec_capacity, vec_len};
 ghost use Rattle.af_base.specs.declared.events.Reply.{Reply as Answer};
 ghost use Rattle.af_layer.specs.Calls.{Calls, refusal};
-ghost use Rattle.af_layer.specs.Room.{most_bytes, most_fds};
 ghost use Rattle.af_layer.specs.Seats.{grown};
-ghost use Rattle.af_layer.specs.Short.{event_of};
+ghost use Rattle.af_layer.specs.Short.{event_of, reply_of};
 
 use crate::book::{Book, CallError};
 use crate::entry::{Entry, EventReply, Pair, fill};
+use crate::origin::{BookFrom, Origin};
 use crate::short::{ShortEvent, ShortReply};
 use af_base::events::{Event, Reply};
 use std::alloc::{AllocError, Global};
 use std::marker::Model;
+use std::sync::{Mutex, Wait};
 
 /// A caller, with all its events and their replies.
 #[derive(Drop)]
@@ -78,39 +79,49 @@ impl Seat {
         ensures seat { OnErr result (self.new ≡ self.old) }
         ensures book { OnErr result (book.new ≡ book.old) }
     {
-        match ShortEvent::of(&event) {
-            Some(short) => self.call_short(book, &event, &short),
-            None => self.call_whole(book, event),
+        match ShortEvent::of(event) {
+            Ok(short) => self.call_short(book, &short),
+            Err(event) => self.call_whole(book, event),
         }
     }
 
     /// Does an event that has no bytes, and whose reply has none.
-    #[inline(always)]
-    fn call_short(
-        &mut self,
-        book: &mut Book,
-        event: &Event,
-        short: &ShortEvent,
-    ) -> Result<(), CallError>
-        requires event { event_of short.now ≡ event.now }
-        requires bytes { most_bytes event.now ≡ 0 }
-        requires fds { most_fds event.now ≡ 0 }
+    fn call_short(&mut self, book: &mut Book, event: &ShortEvent) -> Result<(), CallError>
         ensures done { OnOk result ((reply : Answer)
-            × (self.new ≡ grown self.old event.now reply)
-            × Calls book.old self.old.number event.now reply book.new) }
+            × (self.new ≡ grown self.old (event_of event.now) reply)
+            × Calls book.old self.old.number (event_of event.now) reply book.new) }
         ensures open { OnOk result (refusal book.old self.old.number ≡ None) }
         ensures refused { IfErr result (λ e.
             (e ≡ CallError.NoRoom) ⊎ (refusal book.old self.old.number ≡ Some e)) }
         ensures seat { OnErr result (self.new ≡ self.old) }
         ensures book { OnErr result (book.new ≡ book.old) }
     {
-        reserve(&mut self.list, &mut self.spare)?;
-        let reply = book.call_short(self.number, event, short)?;
-        keep_short(&mut self.list, &mut self.spare, short, reply);
+        reserve(&mut self.list)?;
+        let reply = book.call_short(self.number, event)?;
+        keep_short(&mut self.list, event, &reply);
         Ok(())
     }
 
-    /// Does an event, and keeps it in a box.
+    /// Does the same on a book behind a lock. Only the step and its entry in the log are under the
+    /// lock, and not the work on the list.
+    #[inline(always)]
+    pub(crate) fn call_locked<R: Wait, O: Origin>(
+        &mut self,
+        rt: &R,
+        book: &Mutex<BookFrom<O>>,
+        event: &ShortEvent,
+    ) -> Result<(), CallError>
+        ensures done { OnOk result ((reply : Answer)
+            × (self.new ≡ grown self.old (event_of event.now) reply)) }
+        ensures same { OnErr result (self.new ≡ self.old) }
+    {
+        reserve(&mut self.list)?;
+        let reply = book.lock(rt).call_short(self.number, event)?;
+        keep_short(&mut self.list, event, &reply);
+        Ok(())
+    }
+
+    /// Does any event. What it needs for a copy of the event is reserved before.
     fn call_whole(&mut self, book: &mut Book, event: Event) -> Result<(), CallError>
         ensures done { OnOk result ((reply : Answer) × (self.new ≡ grown self.old event reply)
             × Calls book.old self.old.number event reply book.new) }
@@ -120,7 +131,11 @@ impl Seat {
         ensures seat { OnErr result (self.new ≡ self.old) }
         ensures book { OnErr result (book.new ≡ book.old) }
     {
-        reserve(&mut self.list, &mut self.spare)?;
+        reserve(&mut self.list)?;
+        let alloc = *self.list.allocator();
+        if fill(alloc, &mut self.spare).is_err() {
+            return Err(CallError::NoRoom);
+        }
         let Ok(kept) = copy_of(&event) else {
             return Err(CallError::NoRoom);
         };
@@ -130,50 +145,33 @@ impl Seat {
     }
 }
 
-/// Keeps an event without bytes, in few words if its reply fits into them. Each kind of pair is
-/// written where it stays, and not moved there.
+/// Keeps an event and its reply, in few words.
 #[inline(always)]
-fn keep_short(
-    list: &mut Vec<EventReply>,
-    spare: &mut Option<Pair>,
-    event: &ShortEvent,
-    reply: Reply,
-)
-    requires room { vec_len list.old < vec_capacity list.old }
-    requires spare { IsSome spare.old }
-    ensures { list.new.items ≡ list.old.items ++ (event_of event.now, reply) ∷ [] }
+fn keep_short(list: &mut Vec<EventReply>, event: &ShortEvent, reply: &ShortReply)
+    requires { vec_len list.old < vec_capacity list.old }
+    ensures { list.new.items ≡ list.old.items ++ (event_of event.now, reply_of reply.now) ∷ [] }
 {
-    match ShortReply::of(&reply) {
-        Some(short) => list.push_reserved(EventReply::of(Entry::short(0, *event, short))),
-        None => keep_whole(list, spare, event.event(), reply),
-    }
+    list.push_reserved(EventReply::of(Entry::short(0, event, reply)));
 }
 
-/// Keeps an event and its reply in a box.
-#[cold]
-#[inline(never)]
+/// Keeps an event and its reply, in the box if they need one.
 fn keep_whole(list: &mut Vec<EventReply>, spare: &mut Option<Pair>, event: Event, reply: Reply)
     requires room { vec_len list.old < vec_capacity list.old }
     requires spare { IsSome spare.old }
     ensures { list.new.items ≡ list.old.items ++ (event, reply) ∷ [] }
 {
-    let entry = Entry::whole(0, event, reply, spare);
+    let entry = Entry::of(0, event, reply, spare);
     list.push_reserved(EventReply::of(entry));
 }
 
 /// Reserves room for one pair more. The list is unchanged.
 #[inline(always)]
-fn reserve(list: &mut Vec<EventReply>, spare: &mut Option<Pair>) -> Result<(), CallError>
+fn reserve(list: &mut Vec<EventReply>) -> Result<(), CallError>
     ensures room { OnOk result (vec_len list.new < vec_capacity list.new) }
-    ensures spare { OnOk result (IsSome spare.new) }
     ensures err { IfErr result (λ e. e ≡ CallError.NoRoom) }
     ensures list { list.new.items ≡ list.old.items }
 {
-    let alloc = *list.allocator();
-    if list.reserve(1).is_err() || fill(alloc, spare).is_err() {
-        return Err(CallError::NoRoom);
-    }
-    Ok(())
+    list.reserve(1).map_err(|_| CallError::NoRoom)
 }
 
 /// Copies an event.

@@ -1,11 +1,8 @@
-use Rattle.std.proofs.Common.{arith, subst, sym}
+use Rattle.std.proofs.Common.{◌++◌, ◌∷◌, [], ap, subst, ◌∙◌}
 use Rattle.std.specs.Prelude.{Ok}
-use Rattle.af_base.specs.declared.events.Event.{Event}
-use Rattle.af_base.specs.Run.{Step}
 use Rattle.af_layer.specs.Calls.{Answers, refusal}
-use Rattle.af_layer.specs.Log.{BookView}
-use Rattle.af_layer.specs.Short.{event_of}
-use Rattle.af_layer.proofs.Fits.{replies_fit}
+use Rattle.af_layer.specs.Log.{BookView, Entry}
+use Rattle.af_layer.specs.Short.{event_of, reply_of}
 use Rattle.af_layer.proofs.Logs.{answers-err, answers-ok, logged}
 use Rattle.af_layer.proofs.book.Book.call_short.Goals as goal
 
@@ -15,10 +12,6 @@ returns-in_err-room_for-clause-refused c =
     subst (λ (b : BookView). Answers (refusal b c.args.seat) c.from_residual.result) c.self.view_is
     (answers-err _ (refusal (record { seats = c.self.inside.seats; start = c.self.inside.start.value; machine = c.self.inside.engine; log = c.self.inside.log.items }) c.args.seat) e c.from_residual.result c.from_residual.ensures.1 (c.in_err-room_for.ensures.refused c.self.inside.start.value c.self.inside.engine))
 
-pub log_short-requires-clause-fits : goal.log_short-requires-clause-fits
-log_short-requires-clause-fits c =
-    replies_fit (record { bytes = 0; fds = 0 }) c.self.inside.engine c.args.event.now c.step-reply.result c.step-reply.new.self c.lemma_is_sound.ensures (omega (arith, c.requires.bytes)) (omega (arith, c.requires.fds)) c.step-reply.ensures
-
 pub returns-clause-refused : goal.returns-clause-refused
 returns-clause-refused c =
     subst (λ (b : BookView). Answers (refusal b c.args.seat) (Ok c.step-reply.result)) c.self.view_is
@@ -27,6 +20,7 @@ returns-clause-refused c =
 pub invariant_of-self-2 : goal.invariant_of-self-2
 invariant_of-self-2 c =
     let seat = c.in_ok-room_for.ensures.seat in
-    logged c.self.inside.seats c.self.inside.start.value c.self.inside.engine c.step-reply.new.self c.self.inside.log.items c.room_for.new.log.items c.log_short.new.log.items
-    (record { seat = c.args.seat; event = event_of c.args.short.now; reply = c.step-reply.result }) c.room_for.ensures.log c.log_short.ensures
-    seat.0 seat.1 c.self.invariant (subst (λ (e : Event). Step c.self.inside.engine e c.step-reply.result c.step-reply.new.self) (sym c.requires.event) c.step-reply.ensures)
+    logged c.self.inside.seats c.self.inside.start.value c.self.inside.engine c.step-reply.new.engine c.self.inside.log.items c.room_for.new.log.items c.push_reserved.new.self.items
+    (record { seat = c.args.seat; event = event_of c.args.event.now; reply = reply_of c.step-reply.result }) c.room_for.ensures.log
+    (c.push_reserved.ensures.items ∙ ap (λ (e : Entry). c.room_for.new.log.items ++ e ∷ []) c.short.ensures)
+    seat.0 seat.1 c.self.invariant c.step-reply.ensures

@@ -19,6 +19,11 @@ returns-in_default-clause-refused c =
     subst (λ (b : BookView). Answers (refusal b c.args.seat) (Err fault.NoRoom)) c.self.view_is
     (answers-no-room _ (refusal (record { seats = c.self.inside.seats; start = c.self.inside.start.value; machine = c.self.inside.engine; log = c.self.inside.log.items }) c.args.seat) c.in_ok-room_for.field-0 (c.in_ok-room_for.ensures.refused c.self.inside.start.value c.self.inside.engine))
 
+pub returns-then-is_err-clause-refused : goal.returns-then-is_err-clause-refused
+returns-then-is_err-clause-refused c =
+    subst (λ (b : BookView). Answers (refusal b c.args.seat) (Err fault.NoRoom)) c.self.view_is
+    (answers-no-room _ (refusal (record { seats = c.self.inside.seats; start = c.self.inside.start.value; machine = c.self.inside.engine; log = c.self.inside.log.items }) c.args.seat) c.in_ok-room_for.field-0 (c.in_ok-room_for.ensures.refused c.self.inside.start.value c.self.inside.engine))
+
 pub copy-logged-requires : goal.copy-logged-requires
 copy-logged-requires c =
     replies_fit c.in-Ok.room c.self.inside.engine c.args.event c.step-reply.result c.step-reply.new.self c.lemma_is_sound.ensures (omega (arith, c.in-Ok.ensures.bytes)) (omega (arith, c.in-Ok.ensures.fds)) c.step-reply.ensures
@@ -33,5 +38,5 @@ invariant_of-self-2 c =
     let seat = c.in_ok-room_for.ensures.seat in
     logged c.self.inside.seats c.self.inside.start.value c.self.inside.engine c.step-reply.new.self c.self.inside.log.items c.room_for.new.log.items c.push_reserved.new.self.items
     (record { seat = c.args.seat; event = c.args.event; reply = c.copy-logged.result }) c.room_for.ensures.log
-    (c.push_reserved.ensures.items ∙ ap (λ (e : Entry). c.room_for.new.log.items ++ e ∷ []) c.whole-entry.ensures)
+    (c.push_reserved.ensures.items ∙ ap (λ (e : Entry). c.room_for.new.log.items ++ e ∷ []) c.of-entry.ensures)
     seat.0 seat.1 c.self.invariant (subst (λ r. Step c.self.inside.engine c.args.event r c.step-reply.new.self) (sym c.copy-logged.ensures) c.step-reply.ensures)
