@@ -1,20 +1,13 @@
 -- How a name is written: no byte of it can leave its quotes. The definition that names no manual
 -- page is of this project's profile (docs/PROFILE.md).
-use Rattle.std.specs.Prelude.{ℕ, ◌≡◌, ◌≢◌, ◌≤◌, ◌<◌, ◌+◌, ◌/◌, ◌%◌, nat_lt, true, List, [], ◌∷◌, if◌then◌else◌}
+use Rattle.std.specs.Prelude.{ℕ, ◌≡◌, ◌≢◌, ◌≤◌, ◌<◌, true, List}
 use Rattle.std.specs.List.{All, flat_map}
-use Rattle.af_base.specs.Names.{is_name, is_name_byte}
-
--- The capital hexadecimal digit of a number below 16.
-abbrev pub hex_digit : ℕ → ℕ
-hex_digit d = if nat_lt d 10 then 48 + d else 55 + d
-
--- A byte as itself where names may have it, else % and its two hexadecimal digits.
-abbrev pub quoted_byte : ℕ → List ℕ
-quoted_byte b = if is_name_byte b then b ∷ [] else 37 ∷ hex_digit (b / 16) ∷ hex_digit (b % 16) ∷ []
+use Rattle.af_base.specs.Names.{is_name}
+use Rattle.af_report.specs.Texts.{escaped}
 
 -- A name, byte by byte.
 abbrev pub quoted : List ℕ → List ℕ
-quoted name = flat_map quoted_byte name
+quoted name = flat_map escaped name
 
 -- Printable ASCII, and none of `"`, `&` and `\`: what means nothing but itself between two quotes.
 abbrev pub IsHarmless : ℕ → Type 0

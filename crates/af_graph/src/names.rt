@@ -1,31 +1,11 @@
 //! Names, so written that they cannot leave their quotes.
-ghost use Rattle.std.specs.Prelude.{◌≡◌, ◌<◌, ◌∷◌, [], OnOk, option_copied};
-ghost use Rattle.af_base.specs.Names.{is_name_byte};
-ghost use Rattle.af_report.specs.Texts.{AppendsText};
+ghost use Rattle.std.specs.Prelude.{◌<◌, ◌∷◌, [], OnOk, option_copied};
+ghost use Rattle.af_report.specs.Texts.{AppendsText, escaped};
 ghost use Rattle.af_graph.specs.Graph.{name_text};
-ghost use Rattle.af_graph.specs.Quoted.{hex_digit, quoted, quoted_byte};
+ghost use Rattle.af_graph.specs.Quoted.{quoted};
 
+use af_report::escape::{hex_digit, is_name_byte};
 use std::alloc::AllocError;
-
-/// Returns whether names may have the byte: it is written as itself.
-fn is_name_byte(byte: u8) -> bool
-    ensures { result ≡ is_name_byte byte }
-{
-    matches!(byte, b'0'..=b'9' | b'A'..=b'Z' | b'a'..=b'z' | b'_' | b'-' | b'.')
-}
-
-/// Returns a capital hexadecimal digit.
-fn hex_digit(value: u8) -> u8
-    requires { value < 16 }
-    ensures digit { result ≡ hex_digit value }
-    ensures ascii { result < 128 }
-{
-    if value < 10 {
-        b'0' + value
-    } else {
-        b'A' + (value - 10)
-    }
-}
 
 /// Appends a character of ASCII.
 fn push_ascii(text: &mut String, byte: u8) -> Result<(), AllocError>
@@ -37,7 +17,7 @@ fn push_ascii(text: &mut String, byte: u8) -> Result<(), AllocError>
 
 /// Appends a byte as itself, or % and its two hexadecimal digits.
 fn push_byte(text: &mut String, byte: u8) -> Result<(), AllocError>
-    ensures { OnOk result (AppendsText text.old text.new (quoted_byte byte)) }
+    ensures { OnOk result (AppendsText text.old text.new (escaped byte)) }
 {
     if is_name_byte(byte) {
         return push_ascii(text, byte);

@@ -6,6 +6,7 @@
 
 mod agreed;
 mod columns;
+pub mod escape;
 mod file_lines;
 mod recount;
 mod user_lines;

@@ -1,31 +1,19 @@
 -- The text of replies.
-use Rattle.std.specs.Prelude.{ℕ, ◌+◌, ◌/◌, ◌%◌, ◌==◌, ◌&&◌, ◌||◌, ◌≤◌, nat_le, nat_lt, length, List, [], ◌∷◌, ◌++◌, Bool, true, if◌then◌else◌, codes, Result, Ok, Err}
+use Rattle.std.specs.Prelude.{ℕ, ◌==◌, ◌&&◌, ◌≤◌, length, List, [], ◌∷◌, ◌++◌, Bool, true, if◌then◌else◌, codes, Result, Ok, Err}
 use Rattle.std.specs.List.{flat_map}
 use Rattle.std.specs.Fmt.{decimal}
 use Rattle.af_base.specs.Errno.{name_of}
+use Rattle.af_base.specs.Names.{is_name_byte}
 use Rattle.af_base.specs.declared.errno.Errno.{Errno}
 use Rattle.af_base.specs.declared.events.Reply.{Reply}
 use Rattle.af_base.specs.declared.events.Reply.TheVariants as reply
 use Rattle.af_base.specs.declared.limits.TheConstants.{MAX_BYTES, SCM_MAX_FD}
-
--- A letter, a digit, `_`, `-` or `.` is printed as itself. This project's profile.
-abbrev pub is_plain : ℕ → Bool
-is_plain b = (nat_le 48 b && nat_le b 57) || (nat_le 65 b && nat_le b 90)
-    || (nat_le 97 b && nat_le b 122) || (b == 95) || (b == 45) || (b == 46)
+use Rattle.af_report.specs.Texts.{escaped}
 
 -- Each byte is printed as itself.
 abbrev pub all_plain : List ℕ → Bool
 all_plain [] = true
-all_plain (b ∷ bytes) = is_plain b && all_plain bytes
-
--- The capital hexadecimal digit of a number below 16.
-abbrev pub hex_digit : ℕ → ℕ
-hex_digit d = if nat_lt d 10 then 48 + d else 55 + d
-
--- A byte as itself where it is plain, else % and its two hexadecimal digits. This project's
--- profile.
-abbrev pub escaped : ℕ → List ℕ
-escaped b = if is_plain b then b ∷ [] else 37 ∷ hex_digit (b / 16) ∷ hex_digit (b % 16) ∷ []
+all_plain (b ∷ bytes) = is_name_byte b && all_plain bytes
 
 -- A number behind a space.
 abbrev pub spaced : ℕ → List ℕ

@@ -2,12 +2,14 @@
 ghost use Rattle.std.specs.Prelude.{◌≡◌, ◌<◌, ◌≤◌, ◌+◌, ◌*◌, ◌++◌, OnOk, OnErr, decimal, length};
 ghost use Rattle.std.specs.Prelude.{vec_capacity, vec_len};
 ghost use Rattle.std.specs.List.{flat_map};
-ghost use Rattle.scm_run.specs.Text.{IsShort, all_plain, is_plain, hex_digit, escaped, spaced};
+ghost use Rattle.af_report.specs.Texts.{escaped};
+ghost use Rattle.scm_run.specs.Text.{IsShort, all_plain, spaced};
 ghost use Rattle.scm_run.specs.Text.{fds_text, flag_text, got_text, reply_line, reply_text};
 
 use af_base::events::Reply;
 use af_base::ids::Fd;
 use af_base::limits::{MAX_BYTES, SCM_MAX_FD};
+use af_report::escape::{hex_digit, is_name_byte};
 use itoa::Buffer;
 use std::alloc::AllocError;
 
@@ -20,26 +22,6 @@ const BLOCK: usize = 256;
 
 /// How many bytes are many enough to look at all of them before any is appended.
 const MANY: usize = 8;
-
-/// Returns whether a byte is printed as itself.
-fn is_plain(byte: u8) -> bool
-    ensures { result ≡ is_plain byte }
-{
-    matches!(byte, b'0'..=b'9' | b'A'..=b'Z' | b'a'..=b'z' | b'_' | b'-' | b'.')
-}
-
-/// Returns a capital hexadecimal digit.
-fn hex_digit(value: u8) -> u8
-    requires { value < 16 }
-    ensures digit { result ≡ hex_digit value }
-    ensures ascii { result < 128 }
-{
-    if value < 10 {
-        b'0' + value
-    } else {
-        b'A' + (value - 10)
-    }
-}
 
 // Appending to a text fails only without room for as many bytes as it may take, and then some
 // beginning may be in the text; room is never lost.
@@ -62,7 +44,7 @@ fn push_escaped(text: &mut Vec<u8>, byte: u8) -> Result<(), AllocError>
     ensures room { vec_capacity text.old ≤ vec_capacity text.new }
     ensures full { OnErr result (vec_capacity text.old < vec_len text.old + 3) }
 {
-    if is_plain(byte) {
+    if is_name_byte(byte) {
         text.push(byte)?;
         return Ok(());
     }
@@ -80,7 +62,7 @@ fn all_plain(bytes: &[u8]) -> bool
 {
     let mut plain = true;
     for byte in bytes {
-        plain &= is_plain(*byte);
+        plain &= is_name_byte(*byte);
     }
     plain
 }

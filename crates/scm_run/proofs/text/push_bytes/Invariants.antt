@@ -1,7 +1,7 @@
 -- The text so far and what the rest adds to it, and the room that it took.
 use Rattle.std.proofs.Common.{◌≡◌, ◌≤◌, ◌+◌, ◌*◌, ◌++◌, length, vec_capacity, vec_len}
 use Rattle.std.specs.List.{flat_map}
-use Rattle.scm_run.specs.Text.{escaped}
+use Rattle.af_report.specs.Texts.{escaped}
 use Rattle.scm_run.proofs.text.push_bytes.Given as goal
 
 abbrev pub invariant-loop-rest : goal.invariant-loop-rest

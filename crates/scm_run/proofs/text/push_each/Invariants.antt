@@ -1,7 +1,7 @@
 -- The text so far, and the room that it took.
 use Rattle.std.proofs.Common.{◌≡◌, ◌≤◌, ◌+◌, ◌*◌, ◌++◌, take, vec_capacity, vec_len}
 use Rattle.std.specs.List.{flat_map}
-use Rattle.scm_run.specs.Text.{escaped}
+use Rattle.af_report.specs.Texts.{escaped}
 use Rattle.scm_run.proofs.text.push_each.Given as goal
 
 abbrev pub invariant-loop-byte : goal.invariant-loop-byte
