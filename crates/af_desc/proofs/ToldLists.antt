@@ -135,6 +135,19 @@ dirty-anew table fs space since files listed none fits = record {
   same = λ a f s e. ap (λ m. face_in m f) (sym files);
 }
 
+-- For how many rows more there is room, and how many there are.
+abbrev pub rooms : FileTableView → ℕ × ℕ
+rooms table = (table.room, map.len table.counts)
+
+-- Where both are as before, there is room for as many files as before.
+pub room-kept : (old new : FileTableView) (room space : ℕ) → rooms new ≡ rooms old → (room ≤ old.room) × (room + map.len old.counts ≤ space) → (room ≤ new.room) × (room + map.len new.counts ≤ space)
+room-kept old new room space same h = subst (λ p. (room ≤ p.0) × (room + p.1 ≤ space)) (sym same) h
+
+-- Other files are as many.
+pub rooms-either : {A B : Type 0} (r : Result A B) (old new : FileTableView) (files : Map File) → OnOk r (new ≡ record old { files = files }) → OnErr r (new ≡ old) → rooms new ≡ rooms old
+rooms-either (Ok a) old new files ok err = ap rooms ok
+rooms-either (Err b) old new files ok err = ap rooms err
+
 -- ---- both lists
 
 -- A new layer tells nothing.

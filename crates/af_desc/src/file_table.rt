@@ -92,6 +92,14 @@ impl FileTable {
         self.rows.len()
     }
 
+    /// Returns how many more rows there is room for.
+    #[tactic(auto, using(crate::proofs::TrackedTableView::chains))]
+    pub fn room(&self) -> usize
+        ensures { result ≡ self.now.room }
+    {
+        self.rows.room()
+    }
+
     /// Reserves room for this many rows more: then `push` needs no memory for them, and no other
     /// call ever does. Nothing else changes, also on an error.
     #[inline(always)]
@@ -529,6 +537,7 @@ impl FileTable {
         ensures dirty { (f : ℕ) → map.contains_key self.now.dirty f
             ≡ map.contains_key self.now.files f }
         ensures len { map.len self.now.dirty ≡ map.len self.now.counts }
+        ensures as_many { map.len self.now.marks ≡ map.len self.now.counts }
     {
         // The view says it: it is enough to look at a field.
         let _rows = &self.rows;

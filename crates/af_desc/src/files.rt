@@ -33,6 +33,9 @@ use af_queue::{Msg, Taken};
 use std::alloc::{AllocError, Global};
 use std::marker::Model;
 
+/// Room is reserved for at least this many files at once, so that most of them compare one number.
+const RESERVED_AT_ONCE: usize = 64;
+
 /// The files, each under a number that is never used again, with its count, its mark in a pass, and
 /// its name, if it has one. A `FileRef` has a hint of the key of its row.
 #[derive(Drop)]
@@ -508,14 +511,46 @@ fn reserve(
     ensures capacity { vec_capacity unreferenced.old ≤ vec_capacity unreferenced.new }
     ensures greys { vec_capacity grey.old ≤ vec_capacity grey.new }
 {
-    rows.reserve(files)?;
-    let all = rows.len().saturating_add(files);
-    if all <= rows.space() {
+    if files <= rows.room() {
         return Ok(());
     }
-    widen(unreferenced, all)?;
-    widen(grey, all)?;
-    rows.widen_lists(all, unreferenced.capacity().min(grey.capacity()))
+    let many = files.max(RESERVED_AT_ONCE);
+    if reserve_anew(rows, unreferenced, grey, many).is_ok() {
+        return Ok(());
+    }
+    // Where memory is short there may be room for these alone.
+    reserve_anew(rows, unreferenced, grey, files)
+}
+
+/// Does the same, by a look at each of them.
+#[cold]
+#[inline(never)]
+fn reserve_anew(
+    rows: &mut TrackedTable,
+    unreferenced: &mut Vec<FileRef>,
+    grey: &mut Vec<FileRef>,
+    files: usize,
+) -> Result<(), AllocError>
+    requires unreferenced { rows.old.space ≤ vec_capacity unreferenced.old }
+    requires grey { rows.old.space ≤ vec_capacity grey.old }
+    ensures rows { rows.new ≡ record rows.old { room = rows.new.room; space = rows.new.space } }
+    ensures unreferenced { unreferenced.new.items ≡ unreferenced.old.items }
+    ensures grey { grey.new.items ≡ grey.old.items }
+    ensures room { OnOk result (files ≤ rows.new.room) }
+    ensures counts { OnOk result (map.len rows.old.counts + files ≤ rows.new.space) }
+    ensures marks { OnOk result (map.len rows.old.marks + files ≤ rows.new.space) }
+    ensures fits { rows.new.space ≤ vec_capacity unreferenced.new }
+    ensures grey_fits { rows.new.space ≤ vec_capacity grey.new }
+    ensures capacity { vec_capacity unreferenced.old ≤ vec_capacity unreferenced.new }
+    ensures greys { vec_capacity grey.old ≤ vec_capacity grey.new }
+{
+    let all = rows.len().saturating_add(files);
+    if all > rows.space() {
+        widen(unreferenced, all)?;
+        widen(grey, all)?;
+        rows.widen_lists(all, unreferenced.capacity().min(grey.capacity()))?;
+    }
+    rows.reserve(files)
 }
 
 /// Frees the name of a socket that is gone, if it had one.

@@ -43,6 +43,9 @@ pub struct TrackedTable {
     /// For how many files in all there is room in each list of files that is kept, here and in
     /// `Files`.
     space: usize,
+    /// For how many files more there is room, in the table and in each of these lists. It falls
+    /// with each file that is made, and `reserve` counts it anew.
+    room: usize,
     /// Whether one of the two lists is kept.
     is_asked: bool,
     /// Whether the list of changed sockets is kept.
@@ -60,7 +63,7 @@ pub struct TrackedTable {
 impl Model for TrackedTable {
     ghost use Rattle.std.specs.FinMap as map;
     ghost use Rattle.std.specs.Coded.{codes};
-    ghost use Rattle.std.specs.Prelude.{◌≡◌, ◌+◌, false, vec_capacity};
+    ghost use Rattle.std.specs.Prelude.{◌≡◌, ◌≤◌, ◌+◌, false, vec_capacity};
     ghost use Rattle.af_desc.specs.Told.{AreTold, since_of};
     ghost use Rattle.af_desc.specs.TrackedTableView.{TrackedTableView};
 
@@ -74,7 +77,7 @@ impl Model for TrackedTable {
       marks = a.table.marks;
       since = since_of a.tells_changed a.tells_released a.since.value;
       last = a.table.last;
-      room = a.table.room;
+      room = a.room;
       space = a.space;
       message_room = a.table.message_room;
     } };
@@ -82,7 +85,8 @@ impl Model for TrackedTable {
     ghost invariant = { λ a. AreTold a.table a.changed.items
         (vec_capacity a.changed) a.released.items (vec_capacity a.released) a.space
         (since_of a.tells_changed a.tells_released a.since.value)
-        × (a.is_asked ≡ false → (a.tells_changed ≡ false) × (a.tells_released ≡ false)) };
+        × (a.is_asked ≡ false → (a.tells_changed ≡ false) × (a.tells_released ≡ false))
+        × (a.room ≤ a.table.room) × (a.room + map.len a.table.counts ≤ a.space) };
 }
 
 impl TrackedTable {
@@ -100,6 +104,7 @@ impl TrackedTable {
         TrackedTable {
             table,
             space: 0,
+            room: 0,
             is_asked: false,
             tells_changed: false,
             changed: Vec::new(alloc),
@@ -127,22 +132,36 @@ impl TrackedTable {
         self.space
     }
 
-    /// Reserves room for this many rows more. Nothing else changes, also on an error.
+    /// Returns for how many files more there is room, in the table and in each list of files.
     #[inline(always)]
+    pub fn room(&self) -> usize
+        ensures room { result ≡ self.now.room }
+        ensures counts { map.len self.now.counts + result ≤ self.now.space }
+        ensures marks { map.len self.now.marks + result ≤ self.now.space }
+    {
+        self.table.lemma_are_one();
+        self.room
+    }
+
+    /// Reserves room for this many rows more, for which each list of files has room. Nothing else
+    /// changes, also on an error.
     pub fn reserve(&mut self, rows: usize) -> Result<(), AllocError>
+        requires { map.len self.old.counts + rows ≤ self.old.space }
         ensures same { self.new ≡ record self.old { room = self.new.room } }
         ensures ok { OnOk result (rows ≤ self.new.room) }
         ensures room { self.old.room ≤ self.new.room }
         ensures succeeds { rows ≤ self.old.room → IsOk result }
     {
-        self.table.reserve(rows)
+        self.table.reserve(rows)?;
+        self.room = self.table.room().min(self.space - self.table.len());
+        Ok(())
     }
 
     /// Reserves room for this many files in all in both lists, so far as they are kept. The other
     /// lists of files have room for `most`. Nothing else changes, also on an error.
-    #[inline(always)]
     pub fn widen_lists(&mut self, all: usize, most: usize) -> Result<(), AllocError>
-        requires { all ≤ most }
+        requires most { all ≤ most }
+        requires more { self.old.space ≤ all }
         ensures same { self.new ≡ record self.old { space = self.new.space } }
         ensures ok { OnOk result (all ≤ self.new.space) }
         ensures most { OnOk result (self.new.space ≤ most) }
@@ -167,7 +186,6 @@ impl TrackedTable {
     #[inline(always)]
     pub fn push(&mut self, ino: Ino, endpoint: Option<Endpoint>, place: &Place) -> FileRef
         requires room { 0 < self.old.room }
-        requires space { map.len self.old.counts < self.old.space }
         requires next { ino ≡ self.old.last + 1 }
         ensures file { result ≡ ino }
         ensures pushed { self.new
@@ -181,6 +199,7 @@ impl TrackedTable {
         // A plain file is never listed as changed: it is always ready.
         let is_socket = endpoint.is_some();
         let file = self.table.push(ino, endpoint, place);
+        self.room -= 1;
         add_dirty(
             self.tells_changed && is_socket,
             &mut self.table,
@@ -202,17 +221,16 @@ impl TrackedTable {
         ensures space { self.new.space ≤ self.old.space }
     {
         // Mostly nobody asks for a list, and one test tells.
-        if !self.is_asked {
-            return self.table.remove(file, epoch);
+        if self.is_asked {
+            tell_released(
+                self.tells_released,
+                &self.table,
+                &mut self.released,
+                &mut self.space,
+                file,
+            );
+            remove_listed(&mut self.table, &mut self.changed, file);
         }
-        tell_released(
-            self.tells_released,
-            &self.table,
-            &mut self.released,
-            &mut self.space,
-            file,
-        );
-        remove_listed(&mut self.table, &mut self.changed, file);
         self.table.remove(file, epoch)
     }
 
@@ -490,6 +508,7 @@ impl TrackedTable {
             files = self.old.files;
             next = self.old.last + 1;
           };
+          room = self.new.room;
           space = self.new.space;
         }) }
         ensures space { self.new.space ≤ self.old.space }
@@ -503,6 +522,7 @@ impl TrackedTable {
         self.is_asked = true;
         self.tells_released = true;
         self.space = self.space.min(self.released.capacity());
+        self.room = 0;
         Ok(())
     }
 
@@ -516,6 +536,7 @@ impl TrackedTable {
             files = self.old.files;
             next = self.old.last + 1;
           };
+          room = self.new.room;
           space = self.new.space;
         }) }
         ensures space { self.new.space ≤ self.old.space }
@@ -529,6 +550,7 @@ impl TrackedTable {
         self.is_asked = true;
         self.tells_changed = true;
         self.space = self.space.min(self.changed.capacity());
+        self.room = 0;
         Ok(())
     }
 
@@ -628,6 +650,8 @@ fn tell_released(
     ensures space { asked ≡ true
         → length released.new.items + space.new ≤ vec_capacity released.new }
     ensures less { space.new ≤ space.old }
+    ensures room { space.old + map.len (map.remove table.now.counts file.now)
+        ≤ space.new + map.len table.now.counts }
 {
     if !asked {
         return;

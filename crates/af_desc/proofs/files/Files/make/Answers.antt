@@ -10,7 +10,7 @@ pub push-file-requires : goal.push-file-requires
 push-file-requires c =
     let low = c.self.invariant.last in
     let room = c.in_ok-reserve.ensures.room in
-    record { room = omega (arith, room); space = omega (arith, c.in_ok-reserve.ensures.counts, ap (λ r. map.len r.counts) c.reserve.ensures.rows); next = omega (arith, low, ap (λ r. r.last) c.reserve.ensures.rows) }
+    record { room = omega (arith, room); next = omega (arith, low, ap (λ r. r.last) c.reserve.ensures.rows) }
 
 pub invariant_of-self : goal.invariant_of-self
 invariant_of-self c =

@@ -15,12 +15,12 @@ pub push-first-requires : goal.push-first-requires
 push-first-requires c =
     let low = c.self.invariant.last in
     let room = c.in_ok-reserve.ensures.room in
-    record { room = omega (arith, room); space = omega (arith, c.in_ok-reserve.ensures.counts, ap (λ r. map.len r.counts) c.reserve.ensures.rows); next = omega (arith, low, ap (λ r. r.last) c.reserve.ensures.rows) }
+    record { room = omega (arith, room); next = omega (arith, low, ap (λ r. r.last) c.reserve.ensures.rows) }
 
 pub push-second-requires : goal.push-second-requires
 push-second-requires c =
     let room = c.in_ok-reserve.ensures.room in
-    record { room = omega (arith, room, c.push-first.ensures.room); space = omega (arith, c.in_ok-reserve.ensures.counts, ap (λ r. map.len r.counts) c.reserve.ensures.rows, ap (λ r. map.len r.counts) c.push-first.ensures.pushed, ap (λ r. r.space) c.push-first.ensures.pushed, len-insert_most c.reserve.new.rows.counts c.self.inside.next (more c.args.place.now uncounted)); next = omega (arith, ap (λ r. r.last) c.push-first.ensures.pushed) }
+    record { room = omega (arith, room, c.push-first.ensures.room); next = omega (arith, ap (λ r. r.last) c.push-first.ensures.pushed) }
 
 pub invariant_of-self : goal.invariant_of-self
 invariant_of-self c =

@@ -1,4 +1,4 @@
-use Rattle.std.proofs.Common.{◌≡◌, true, sym, subst}
+use Rattle.std.proofs.Common.{◌≡◌, true, sym, subst, ap, arith}
 use Rattle.std.specs.FinMap as map
 use Rattle.af_ledger.specs.Counted.{IsCounted}
 use Rattle.af_ledger.specs.Tally.{count_in_map}
@@ -12,4 +12,4 @@ invariant_of-self c =
     let k = c.args.file.now in
     let counted = subst (λ (v : TrackedTableView). IsCounted c.args.place.now (count_in_map v.counts k)) (sym c.self.view_is) c.requires in
     let there : map.contains_key c.self.inside.table.counts k ≡ true = counted-known c.args.place.now c.self.inside.table.counts k counted in
-    (told-counted c.self.inside.table c.sub_place.new.self _ _ _ _ _ _ c.self.invariant.0 k _ c.sub_place.ensures.counts there c.sub_place.ensures.len, c.self.invariant.1)
+    (told-counted c.self.inside.table c.sub_place.new.self _ _ _ _ _ _ c.self.invariant.0 k _ c.sub_place.ensures.counts there c.sub_place.ensures.len, c.self.invariant.1, (let low = c.self.invariant.2 in omega (arith, low, ap (λ l. l.room) c.sub_place.ensures.counts)), (let few = c.self.invariant.3 in omega (arith, few, c.sub_place.ensures.len)))
