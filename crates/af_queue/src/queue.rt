@@ -247,6 +247,7 @@ impl<'a> Queue<'a> {
     }
 
     /// Copies this many of the first bytes.
+    #[inline(always)]
     pub(crate) fn copy(&self, alloc: Global, count: usize) -> Result<Vec<u8>, AllocError>
         ensures { IfOk result (λ v. v.items ≡ take count (joined self.now)) }
     {
