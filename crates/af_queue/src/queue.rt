@@ -253,11 +253,10 @@ impl<'a> Queue<'a> {
     {
         let mut bytes = Vec::with_capacity(alloc, count)?;
         let mut queue = self.duplicate();
-        while let Some((message, rest)) = queue.split_first() {
+        while bytes.len() < count
+            && let Some((message, rest)) = queue.split_first()
+        {
             let left = count - bytes.len();
-            if left == 0 {
-                return Ok(bytes);
-            }
             bytes.extend_from_slice(&message.bytes()[..left.min(message.len())])?;
             queue = rest;
         }

@@ -3,11 +3,11 @@ use Rattle.std.proofs.Common.{◌≡◌, ◌≤◌, ◌-◌, ◌++◌, length, t
 use Rattle.af_base.specs.Take.{joined}
 use Rattle.af_queue.proofs.queue.Queue.copy.Given as goal
 
-abbrev pub invariant-loop-message : goal.invariant-loop-message
-invariant-loop-message l = record {
+abbrev pub invariant-loop-queue : goal.invariant-loop-queue
+invariant-loop-queue l = record {
   within : length l.bytes.items ≤ l.count;
   bytes : l.bytes.items ++ take (l.count - length l.bytes.items) (joined l.queue) ≡ take l.count (joined l.self);
 }
 
-abbrev pub decreases-loop-message : goal.decreases-loop-message
-decreases-loop-message l = length l.queue
+abbrev pub decreases-loop-queue : goal.decreases-loop-queue
+decreases-loop-queue l = length l.queue
