@@ -14,6 +14,7 @@ use Rattle.af_base.proofs.PlaceMoves.{there-table}
 use Rattle.af_base.proofs.Trees.{insert_same}
 use Rattle.af_ledger.specs.Tally.{Tally, with_ref, without_ref}
 use Rattle.af_ledger.specs.declared.place.Place.TheVariants.{Table}
+use Rattle.af_table.proofs.Tables.{remove-none}
 use Rattle.af_collect.specs.Agreement.{IsExact}
 use Rattle.af_collect.proofs.Exact.{exact-install, exact-uninstall}
 use Rattle.af_collect.proofs.ProcessTables.{insert_twice}
@@ -21,10 +22,6 @@ use Rattle.af_collect.proofs.ProcessTables.{insert_twice}
 -- Maps with the same at a key and beside it are one.
 same-beside : {X : Type 0} (a b : Map X) (k : ℕ) → map.get a k ≡ map.get b k → ((q : ℕ) → nat_eq q k ≡ false → map.get a q ≡ map.get b q) → a ≡ b
 same-beside a b k here beside = map.same_map nat_cmp_total nat_cmp-IsAntisymmetric a b (λ q. elim (same_or_not q k) [ inl e ↦ subst (λ j. map.get a j ≡ map.get b j) (sym e) here | inr apart ↦ beside q apart ])
-
--- To remove an absent key changes nothing.
-pub remove-none : {X : Type 0} (m : Map X) (k : ℕ) → map.get m k ≡ None → map.remove m k ≡ m
-remove-none m k none = same-beside (map.remove m k) m k (remove-here m k ∙ sym none) (λ q a. remove-other m k q a)
 
 -- A value put where one was removed is put once.
 insert-removed : {X : Type 0} (m : Map X) (k : ℕ) (x : X) → map.insert (map.remove m k) k x ≡ map.insert m k x

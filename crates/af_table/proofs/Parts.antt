@@ -16,6 +16,7 @@ use Rattle.af_base.specs.Changes.{change_at}
 use Rattle.af_base.specs.Listing.{keyed}
 use Rattle.af_table.specs.Slots.{ProcessView}
 use Rattle.af_table.specs.Procs.{processes_of, rows_of}
+use Rattle.af_table.proofs.Tables.{remove-none}
 
 -- One part of each entry, as a map.
 abbrev part_of : {X Y : Type 0} → (X → Y) → List (ℕ × X) → Map Y
@@ -65,16 +66,6 @@ module _ {X Y S : Type 0} (f : X → Y) where
       part_at f n.entries q ∙ ap (option_map f) (h.0 q) ∙ without f (nat_eq k q) (hash.get nat_eq m q)
       ∙ (λ i. cond (tied k q i) None (sym (part_at f m.entries q) i))
       ∙ sym (get-remove nat_cmp_total (part_of f m.entries) k q))
-
-  -- taking out what is not there changes nothing,
-  part_absent : (m : HashMap ℕ X S) (k : ℕ) → hash.get nat_eq m k ≡ None → part_of f m.entries ≡ map.remove (part_of f m.entries) k
-  part_absent m k none = same_map nat_cmp_total nat_cmp-IsAntisymmetric _ _ (λ q.
-      part_at f m.entries q ∙ ap (option_map f) (by q (nat_eq k q) refl) ∙ without f (nat_eq k q) (hash.get nat_eq m q)
-      ∙ (λ i. cond (tied k q i) None (sym (part_at f m.entries q) i))
-      ∙ sym (get-remove nat_cmp_total (part_of f m.entries) k q)) where
-        by : (q : ℕ) (b : Bool) → nat_eq k q ≡ b → hash.get nat_eq m q ≡ cond b None (hash.get nat_eq m q)
-        by q true same = ap (hash.get nat_eq m) (sym (eqb-true k q same)) ∙ none
-        by q false apart = refl
 
   -- with a change,
   part_changed : (g : Y → Y) (m n : HashMap ℕ X S) (k : ℕ) (x v : X) → Some x ≡ hash.get nat_eq m k → f v ≡ g (f x) → hash.Updates nat_eq m n k (Some v) → part_of f n.entries ≡ change_at g (part_of f m.entries) k
@@ -133,12 +124,10 @@ module _ {S : Type 0} where
   rows_removed m n k h = part_removed (λ h. h.row) m n k h
 
   pub processes_absent : (m : HashMap ℕ ProcessView S) (k : ℕ) → hash.get nat_eq m k ≡ None → processes_of m.entries ≡ map.remove (processes_of m.entries) k
-  unfolding processes_of
-  processes_absent m k none = part_absent (λ h. h.process) m k none
+  processes_absent m k was = sym (remove-none (processes_of m.entries) k (processes_none m k was))
 
   pub rows_absent : (m : HashMap ℕ ProcessView S) (k : ℕ) → hash.get nat_eq m k ≡ None → rows_of m.entries ≡ map.remove (rows_of m.entries) k
-  unfolding rows_of
-  rows_absent m k none = part_absent (λ h. h.row) m k none
+  rows_absent m k was = sym (remove-none (rows_of m.entries) k (rows_none m k was))
 
   pub processes_changed : (g : Process → Process) (m n : HashMap ℕ ProcessView S) (k : ℕ) (x v : ProcessView) → Some x ≡ hash.get nat_eq m k → v ≡ record x { process = g x.process } → hash.Updates nat_eq m n k (Some v)
       → processes_of n.entries ≡ change_at g (processes_of m.entries) k

@@ -18,6 +18,13 @@ neither : (b : Bool) (o : Option ℕ) → o ≡ None → cond b o None ≡ None
 neither true o e = e
 neither false o e = refl
 
+-- to remove an absent key changes nothing
+pub remove-none : {X : Type 0} (m : map.FinMap nat_cmp X) (k : ℕ) → map.get m k ≡ None → map.remove m k ≡ m
+remove-none m k none = same_map nat_cmp_total nat_cmp-IsAntisymmetric _ _ (λ q. by q (nat_eq q k) refl) where
+  by : (q : ℕ) (b : Bool) → nat_eq q k ≡ b → map.get (map.remove m k) q ≡ map.get m q
+  by q true e = ap (map.get (map.remove m k)) (eqb-true q k e) ∙ remove-here m k ∙ sym (ap (map.get m) (eqb-true q k e) ∙ none)
+  by q false e = remove-other m k q e
+
 slice_get-set_same : (fs : List ℕ) (n f : ℕ) → n < length fs → slice_get (slice_set fs n f) n ≡ Some f
 slice_get-set_same [] n f h = absurd (omega arith)
 slice_get-set_same (x ∷ fs) zero f h = refl
@@ -110,10 +117,7 @@ module _ (ws : List ℕ) where
 
   -- removing a free descriptor changes nothing
   pub none_there : (fs : List ℕ) (n : ℕ) → map.get (table_of ws fs) n ≡ None → table_of ws fs ≡ map.remove (table_of ws fs) n
-  none_there fs n none = same_map nat_cmp_total nat_cmp-IsAntisymmetric _ _ (λ q. by q (nat_eq q n) refl) where
-    by : (q : ℕ) (b : Bool) → nat_eq q n ≡ b → map.get (table_of ws fs) q ≡ map.get (map.remove (table_of ws fs) n) q
-    by q true e = ap (map.get (table_of ws fs)) (eqb-true q n e) ∙ none ∙ sym (ap (map.get (map.remove (table_of ws fs) n)) (eqb-true q n e) ∙ remove-here (table_of ws fs) n)
-    by q false e = sym (remove-other (table_of ws fs) n q e)
+  none_there fs n none = sym (remove-none (table_of ws fs) n none)
 
   -- slots from n on say nothing where no bit is set from n on
   pub same_below : (fs gs : List ℕ) (n : ℕ) → NoneFrom n ws → ((q : ℕ) → q < n → slice_get gs q ≡ slice_get fs q) → table_of ws gs ≡ table_of ws fs

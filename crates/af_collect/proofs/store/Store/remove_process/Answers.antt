@@ -5,6 +5,7 @@ use Rattle.af_base.specs.Places.{table_at}
 use Rattle.af_base.specs.World.{World}
 use Rattle.af_ledger.specs.Tally.{kept_of}
 use Rattle.af_mark.specs.MarksView.{is_marked}
+use Rattle.af_table.proofs.Tables.{remove-none}
 use Rattle.af_collect.specs.HoldingsView.{HoldingsView}
 use Rattle.af_collect.proofs.Exact.{exact-same, world-is}
 use Rattle.af_collect.specs.Keeping.{PassInvariant, below}
@@ -14,7 +15,6 @@ use Rattle.af_collect.specs.contracts.holdings.Holdings.{the_view}
 use Rattle.af_collect.specs.declared.holdings.Holdings.TheInside.{Inside}
 use Rattle.af_collect.specs.declared.parts.Collector.{Collector}
 use Rattle.af_collect.proofs.PlaceChanges.{kept_tables}
-use Rattle.af_collect.proofs.ReplacedDescriptors.{remove-none}
 use Rattle.af_collect.proofs.StoreInvariant.{kept-same}
 use Rattle.af_collect.proofs.store.Store.remove_process.Goals as goal
 
