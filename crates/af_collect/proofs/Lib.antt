@@ -43,4 +43,5 @@ pub mod LostFiles
 pub mod PlaceChanges
 pub mod NewFiles
 pub mod StoreInvariant
+pub mod LentProcesses
 pub mod VisiblePass

@@ -44,6 +44,31 @@ impl Store {
         Ok(())
     }
 
+    /// Makes a socket that was never connected, at a free descriptor below the limit (socket(2)):
+    /// `room_for` and `make_sock` by one look at the process. On an error no process can see a
+    /// change.
+    #[inline(always)]
+    pub fn socket_at(&mut self, kind: SockType, pid: Pid, fd: Fd) -> Result<(), AllocError>
+        requires full { is_full self.old.world 1 ≡ false }
+        requires there { IsTrue (finmap.contains_key self.old.world.processes pid) }
+        requires limit { IsBelowLimit self.old.world pid fd }
+        requires free { table_at self.old.world pid fd ≡ None }
+        ensures ok { OnOk result (self.new ≡ record self.old {
+          world = install (add_file self.old.world (world.AsSocket (idle_socket kind))) pid fd
+              self.old.world.next_ino;
+          rows = self.new.rows;
+          marks = self.new.marks;
+        }) }
+        ensures err { OnErr result (self.new ≡ record self.old { rows = self.new.rows }) }
+    {
+        let places = &mut self.parts.places;
+        let process = places.procs.find_mut(pid).unwrap();
+        process.make_room()?;
+        let file = places.files.make_sock(kind, &Place::Table)?;
+        process.install(fd, file);
+        Ok(())
+    }
+
     /// Gives a socket that has no name and never listened this one, which is free (bind(2)). On an
     /// error nothing has changed.
     pub fn bind(&mut self, socket: &FileRef, name: &[u8]) -> Result<(), AllocError>

@@ -227,6 +227,29 @@ impl Store {
         Ok(())
     }
 
+    /// Makes a plain file, at a free descriptor below the limit (open(2)): `room_for` and
+    /// `make_plain` by one look at the process. On an error no process can see a change.
+    #[inline(always)]
+    pub fn open_at(&mut self, pid: Pid, fd: Fd) -> Result<(), AllocError>
+        requires full { is_full self.old.world 1 ≡ false }
+        requires there { IsTrue (map.contains_key self.old.world.processes pid) }
+        requires limit { IsBelowLimit self.old.world pid fd }
+        requires free { table_at self.old.world pid fd ≡ None }
+        ensures ok { OnOk result (self.new ≡ record self.old {
+          world = install (add_file self.old.world Plain) pid fd self.old.world.next_ino;
+          rows = self.new.rows;
+          marks = self.new.marks;
+        }) }
+        ensures err { OnErr result (self.new ≡ record self.old { rows = self.new.rows }) }
+    {
+        let places = &mut self.parts.places;
+        let process = places.procs.find_mut(pid).unwrap();
+        process.make_room()?;
+        let file = places.files.make_plain(&Place::Table)?;
+        process.install(fd, file);
+        Ok(())
+    }
+
     /// Makes two sockets that are connected to each other, at the two lowest free descriptors, for
     /// which there is room (socketpair(2)). On an error it makes none, and nothing has changed.
     pub fn make_two(
@@ -252,6 +275,38 @@ impl Store {
         let (first, second) = places.files.make_two(kind, &Place::Table)?;
         places.procs.install(pid, lower, first);
         places.procs.install(pid, higher, second);
+        Ok(())
+    }
+
+    /// Makes two sockets that are connected to each other, at the two lowest free descriptors
+    /// (socketpair(2)): `room_for` and `make_two` by one look at the process. On an error it makes
+    /// none, and no process can see a change.
+    #[inline(always)]
+    pub fn pair_at(
+        &mut self,
+        kind: SockType,
+        pid: Pid,
+        lower: Fd,
+        higher: Fd,
+    ) -> Result<(), AllocError>
+        requires full { is_full self.old.world 2 ≡ false }
+        requires there { IsTrue (map.contains_key self.old.world.processes pid) }
+        requires lowest { lower ∷ higher ∷ [] ≡ lowest_free 2 (process_at self.old.world pid) }
+        ensures ok { OnOk result (self.new ≡ record self.old {
+          world = install
+              (install (with_pair self.old.world kind) pid lower self.old.world.next_ino) pid higher
+              (self.old.world.next_ino + 1);
+          rows = self.new.rows;
+          marks = self.new.marks;
+        }) }
+        ensures err { OnErr result (self.new ≡ record self.old { rows = self.new.rows }) }
+    {
+        let places = &mut self.parts.places;
+        let process = places.procs.find_mut(pid).unwrap();
+        process.make_room()?;
+        let (first, second) = places.files.make_two(kind, &Place::Table)?;
+        process.install(lower, first);
+        process.install(higher, second);
         Ok(())
     }
 

@@ -27,8 +27,7 @@ impl Engine {
         if self.store.holdings().files().is_full(2) {
             return Err(Errno::ENFILE);
         }
-        self.store.room_for(pid, 2)?;
-        self.store.make_two(kind, pid, lower, higher)?;
+        self.store.pair_at(kind, pid, lower, higher)?;
         self.store.release();
         Ok((lower, higher))
     }
@@ -41,8 +40,7 @@ impl Engine {
         ensures refused { IfErr result (λ e. Refuses self.old pid (Step.Socket kind) e self.new) }
     {
         let fd = place_for_file(&self.store, pid)?;
-        self.store.room_for(pid, 1)?;
-        self.store.make_sock(kind, pid, fd)?;
+        self.store.socket_at(kind, pid, fd)?;
         self.store.release();
         Ok(fd)
     }

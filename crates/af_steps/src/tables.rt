@@ -35,8 +35,7 @@ impl Engine {
         ensures refused { IfErr result (λ e. Refuses self.old pid Step.Open e self.new) }
     {
         let fd = place_for_file(&self.store, pid)?;
-        self.store.room_for(pid, 1)?;
-        self.store.make_plain(pid, fd)?;
+        self.store.open_at(pid, fd)?;
         self.store.release();
         Ok(fd)
     }

@@ -18,7 +18,7 @@ use Rattle.af_base.proofs.Lookups.{none_some}
 use Rattle.af_base.specs.Changes.{change_at}
 use Rattle.af_table.specs.Slots.{ProcessView}
 use Rattle.af_table.specs.Procs.{processes_of, rows_of}
-use Rattle.af_table.proofs.Parts.{processes_there, rows_there, processes_changed, processes_kept, rows_kept, rows_grown, row_made}
+use Rattle.af_table.proofs.Parts.{processes_there, rows_there, processes_inserted, rows_inserted, processes_changed, processes_kept, rows_kept, rows_grown, row_made}
 
 -- the first key that is equal to this one is this one
 first_is : (ks : List ℕ) (pid : ℕ) → position_or_len (nat_eq pid) ks < length ks → slice_get ks (position_or_len (nat_eq pid) ks) ≡ Some pid
@@ -82,6 +82,13 @@ module _ {S : Type 0} (m : HashMap ℕ ProcessView S) (index pid key : ℕ) (h :
 
       pub processes_written : (g : Process → Process) → w ≡ record h { process = g h.process } → processes_of (with_value_at m index w).entries ≡ change_at g (processes_of m.entries) pid
       processes_written g e = processes_changed g m (with_value_at m index w) pid h w process_there e written
+
+      -- it is at the pid then, and the others stay
+      pub processes_put : processes_of (with_value_at m index w).entries ≡ map.insert (processes_of m.entries) pid w.process
+      processes_put = processes_inserted m (with_value_at m index w) pid w written
+
+      pub rows_put : rows_of (with_value_at m index w).entries ≡ map.insert (rows_of m.entries) pid w.row
+      rows_put = rows_inserted m (with_value_at m index w) pid w written
 
       pub processes_left : w.process ≡ h.process → processes_of (with_value_at m index w).entries ≡ processes_of m.entries
       processes_left e = processes_kept m (with_value_at m index w) pid h w process_there e written

@@ -2,3 +2,4 @@ pub mod Bits
 pub mod Slots
 pub mod Free
 pub mod Procs
+pub mod Lending

@@ -127,7 +127,7 @@ impl Process {
     /// Makes room for each descriptor below the limit, and adds none above it.
     #[inline(always)]
     #[tactic(auto, using(crate::proofs::Tables::table_changes))]
-    pub(crate) fn make_room(&mut self) -> Result<(), AllocError>
+    pub fn make_room(&mut self) -> Result<(), AllocError>
         ensures process { self.new.process ≡ self.old.process }
         ensures ok { OnOk result (self.old.process.limit ≤ self.new.row) }
         ensures rows { self.old.row ≤ self.new.row }
@@ -167,7 +167,7 @@ impl Process {
     /// Sets the descriptor, for which there is room, to the file.
     #[inline(always)]
     #[tactic(auto, using(crate::proofs::Tables::table_changes))]
-    pub(crate) fn install(&mut self, fd: Fd, file: FileRef)
+    pub fn install(&mut self, fd: Fd, file: FileRef)
         requires { fd < self.old.row }
         ensures { self.new ≡ record self.old { process = installed fd file self.old.process } }
     {
@@ -179,7 +179,7 @@ impl Process {
     /// to before, if any.
     #[inline(always)]
     #[tactic(auto, using(crate::proofs::Tables::table_changes))]
-    pub(crate) fn replace(&mut self, fd: Fd, file: FileRef) -> Option<FileRef>
+    pub fn replace(&mut self, fd: Fd, file: FileRef) -> Option<FileRef>
         requires { fd < self.old.row }
         ensures value { result ≡ map.get self.old.process.table fd }
         ensures installed { self.new

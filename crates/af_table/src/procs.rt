@@ -44,6 +44,9 @@ impl Model for Procs {
 }
 
 impl Procs {
+    ghost use Rattle.std.specs.Borrow.{sem};
+    ghost use Rattle.af_table.specs.Lending.{lends_process};
+
     /// Makes an empty table of processes; pids begin at 1. Takes no memory.
     #[tactic(auto, using(crate::proofs::Parts::part_changes))]
     pub fn new(alloc: Global) -> Procs
@@ -84,6 +87,20 @@ impl Procs {
     {
         let index = self.hints.index_of(&self.processes, pid)?;
         let (_, process) = self.processes.get_index(index).unwrap();
+        Some(process)
+    }
+
+    /// Lends the process of that pid to write to, if it is known.
+    #[inline(always)]
+    #[tactic(auto, using(crate::proofs::Parts::part_changes))]
+    pub fn find_mut(&mut self, pid: Pid) -> Option<&mut Process>
+        ensures* writes_back { sem 𝓛 (lends_process self.entry pid result) }
+        ensures there { IfSome result (λ p. map.get self.old.processes pid ≡ Some p.now.process) }
+        ensures row { IfSome result (λ p. map.get self.old.rows pid ≡ Some p.now.row) }
+        ensures none { IfNone result (map.get self.old.processes pid ≡ None) }
+    {
+        let index = self.hints.find(&self.processes, pid)?;
+        let (_, process) = self.processes.pair_mut(index);
         Some(process)
     }
 
