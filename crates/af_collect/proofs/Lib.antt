@@ -44,4 +44,5 @@ pub mod PlaceChanges
 pub mod NewFiles
 pub mod StoreInvariant
 pub mod LentProcesses
+pub mod Replacements
 pub mod VisiblePass

@@ -1,8 +1,8 @@
 //! The store: all that is there, and the collector beside it.
 //!
 //! Only these calls add or remove references: those of `places` and `sockets`, those that make
-//! files (`make_plain`, `make_two`), copy or remove a process (`copy_for_fork`, `remove_process`),
-//! and `release`, `slice` and `collect`.
+//! files (`make_plain`, `make_two`, `open_at`, `pair_at`), copy or remove a process
+//! (`copy_for_fork`, `remove_process`), and `release`, `slice` and `collect`.
 #![tactic(auto)]
 
 mod holdings;

@@ -93,25 +93,6 @@ impl Collector {
         self.places.drop_place(file);
     }
 
-    /// Marks the file that a descriptor is about to lose, while marking.
-    #[inline(always)]
-    pub fn shade_number(&mut self, pid: Pid, fd: Fd)
-        requires kept { KeepsPass self.old }
-        ensures kept { KeepsPass self.new }
-        ensures frame { self.new ≡ with_marks self.new.places.marks self.old }
-        ensures marked { MarksAll
-            (λ f. table_at self.old.places.world pid fd ≡ Some f) self.old self.new }
-    {
-        if !self.is_marking() {
-            return;
-        }
-        if let Some(file) = self.places.procs().lookup(pid, fd) {
-            // Tables hold live files: that is what a whole world says of them.
-            self.places.lemma_is_whole();
-            self.places.shade(&file);
-        }
-    }
-
     /// Marks the files that a process is about to lose, while marking.
     pub fn shade_table(&mut self, pid: Pid)
         requires kept { KeepsPass self.old }

@@ -5,7 +5,6 @@ ghost use Rattle.std.specs.Prelude.{◌≡◌, ◌<◌, ◌≤◌, ◌+◌, ◌�
 ghost use Rattle.std.specs.Prelude.{IfSome, OnOk, OnErr, length, map, drop, false, is_none, is_some};
 ghost use Rattle.std.specs.Prelude.{true};
 ghost use Rattle.std.specs.List.{zip, All, Contains};
-ghost use Rattle.std.specs.Option.{option_map_or};
 ghost use Rattle.std.specs.FinMap as finmap;
 ghost use Rattle.af_base.specs.World as world;
 ghost use Rattle.af_base.specs.Places.{queue_at, table_at};
@@ -16,9 +15,10 @@ ghost use Rattle.af_base.specs.Table.{lowest_free};
 ghost use Rattle.af_base.specs.Whole.{IsMessageWithin};
 ghost use Rattle.af_collect.specs.Limits.{IsBelowLimit, IsOfProcess};
 ghost use Rattle.af_collect.specs.Receiving.{taken_at};
-ghost use Rattle.af_collect.specs.Keeping.{NotBegunGarbage, shaded_in};
+ghost use Rattle.af_collect.specs.Keeping.{NotBegunGarbage};
+ghost use Rattle.af_collect.specs.Losing.{vacated, without_descriptor};
 ghost use Rattle.af_collect.specs.StoreView.{room_at};
-ghost use Rattle.af_desc.specs.FilesView.{received_of, without_file_ref};
+ghost use Rattle.af_desc.specs.FilesView.{received_of};
 ghost use Rattle.af_ledger.specs.Counted.{IsCounted};
 ghost use Rattle.af_ledger.specs.Tally.{count_in_map};
 ghost use Rattle.af_ledger.specs.declared.place.Place.TheVariants.{Table};
@@ -66,11 +66,35 @@ impl Store {
           marks = self.new.marks;
         } }
     {
-        self.parts.shade_number(pid, fd);
         let places = &mut self.parts.places;
         let was = places.procs.replace(pid, fd, file.duplicate());
-        lower_number(&mut places.files, was);
+        drop_replaced(&self.parts.progress, &mut places.files, was);
         places.files.hold(&Place::Table, &file);
+    }
+
+    /// Installs a live file at a descriptor below the limit, in place of the file that it referred
+    /// to, if any (dup2(2)): `room_for` and `replace` by one look at the process. On an error no
+    /// process can see a change.
+    #[inline(always)]
+    pub fn replace_at(&mut self, pid: Pid, fd: Fd, file: FileRef) -> Result<(), AllocError>
+        requires there { IsTrue (finmap.contains_key self.old.world.processes pid) }
+        requires limit { IsBelowLimit self.old.world pid fd }
+        requires live { world.IsLive self.old.world file }
+        requires spared { NotBegunGarbage self.old.pass file }
+        ensures ok { OnOk result (self.new ≡ record self.old {
+          world = install self.old.world pid fd file;
+          rows = self.new.rows;
+          marks = self.new.marks;
+        }) }
+        ensures err { OnErr result (self.new ≡ record self.old { rows = self.new.rows }) }
+    {
+        let places = &mut self.parts.places;
+        let process = places.procs.find_mut(pid).unwrap();
+        process.make_room()?;
+        let was = process.replace(fd, file.duplicate());
+        drop_replaced(&self.parts.progress, &mut places.files, was);
+        places.files.hold(&Place::Table, &file);
+        Ok(())
     }
 
     /// Closes a descriptor of a process, if it is open. Returns whether it was. Takes no memory.
@@ -209,28 +233,26 @@ impl Store {
     }
 }
 
-/// Drops the reference of a descriptor to the file that it referred to, if any. Takes no memory.
-#[inline(always)]
-fn lower_number(files: &mut Files, was: Option<FileRef>)
-    requires { IfSome was (λ f. IsCounted Table (count_in_map files.old.counts f)) }
-    ensures { files.new ≡ option_map_or (λ f. without_file_ref Table f files.old) was files.old }
-{
-    if let Some(was) = was {
-        files.drop_one(&Place::Table, &was);
-    }
-}
-
 /// Drops the reference of a descriptor to a file, which is marked first, while marking. Takes no
 /// memory.
 #[inline(always)]
 fn drop_descriptor(progress: &PassProgress, files: &mut Files, file: &FileRef)
     requires { IsCounted Table (count_in_map files.old.counts file.now) }
-    ensures { files.new ≡ without_file_ref Table file.now (record files.old {
-      marks = shaded_in progress.now.stage (file.now ∷ []) files.old.marks;
-    }) }
+    ensures { files.new ≡ without_descriptor progress.now.stage file.now files.old }
 {
     if matches!(progress.stage, Stage::Marking) {
         files.shade(file);
     }
     files.drop_one(&Place::Table, file);
+}
+
+/// Drops the same of the file that a descriptor referred to, if any.
+#[inline(always)]
+fn drop_replaced(progress: &PassProgress, files: &mut Files, was: Option<FileRef>)
+    requires { IfSome was (λ f. IsCounted Table (count_in_map files.old.counts f)) }
+    ensures { files.new ≡ vacated progress.now.stage was files.old }
+{
+    if let Some(was) = was {
+        drop_descriptor(progress, files, &was);
+    }
 }

@@ -76,8 +76,7 @@ impl Engine {
         }
         // A file in a table is no garbage of a running pass.
         self.store.lemma_is_spared();
-        self.store.room_for(pid, 1)?;
-        self.store.replace(pid, to, file);
+        self.store.replace_at(pid, to, file)?;
         self.store.release();
         Ok(to)
     }

@@ -1,4 +1,4 @@
-use Rattle.std.proofs.Common.{rules, ◌≡◌, ◌<◌, false, true, not, ◌&&◌, ◌∷◌, [], nat_eq, refl, sym, ap, subst, ◌∙◌, arith}
+use Rattle.std.proofs.Common.{rules, ◌≡◌, ◌<◌, false, true, not, ◌&&◌, ◌∷◌, [], nat_eq, refl, sym, ap, ◌∙◌, arith}
 use Rattle.std.specs.Prelude.{nat_le, if◌then◌else◌}
 use Rattle.std.proofs.lemmas.Bool.{lt-leb}
 use Rattle.af_base.specs.declared.errno.Errno.TheVariants.{EBADF}
@@ -6,11 +6,9 @@ use Rattle.af_base.specs.declared.events.Reply.TheVariants as reply
 use Rattle.af_base.specs.declared.events.Step.TheVariants as step
 use Rattle.af_base.specs.Changes.{install}
 use Rattle.af_base.specs.Refusals.{first_fit, ino_on, on_place, refusal}
-use Rattle.af_base.specs.World.{IsLive, World}
 use Rattle.af_collect.specs.StoreView.{StoreView}
-use Rattle.af_collect.specs.Keeping.{NotBegunGarbage}
 use Rattle.af_steps.specs.Found.{HasNumber}
-use Rattle.af_steps.proofs.LookupRows.{after-number, below-limit, held, in-same, ino-is, is-there}
+use Rattle.af_steps.proofs.LookupRows.{after-number, below-limit, held, ino-is, is-there}
 use Rattle.af_steps.proofs.Outcomes.{does, does-nothing}
 use Rattle.af_steps.proofs.engine.Engine.dup2.Goals.{In_ok-file}
 use Rattle.af_steps.proofs.engine.Engine.dup2.Goals as goal
@@ -32,18 +30,15 @@ returns-then-eq-clause-done c =
     let fits = row (goal.at.returns-then-eq-clause-done c).In_ok-file ∙ ap (λ b. first_fit ((not b && nat_le q.limit c.args.to, EBADF) ∷ [])) same in
     does-nothing c.self.view_is p (step.Dup2 c.args.from c.args.to) (reply.Fd c.args.to) fits refl (ap (λ b. if b then w else install w p c.args.to (ino_on w p c.args.from)) same) c.self.invariant.0
 
-pub replace-requires : goal.replace-requires
-replace-requires c =
+pub replace_at-requires : goal.replace_at-requires
+replace_at-requires c =
     let f = c.in_ok-file.file in
-    let to = c.args.to in
-    let found = has (goal.at.replace-requires c).In_ok-file in
-    let made = in-same found.process c.room_for.new.self.world (ap (λ (v : World). v.processes) c.room_for.ensures.world) in
+    let found = has (goal.at.replace_at-requires c).In_ok-file in
     record {
-      there = is-there made;
-      row = search rules;
-      limit = below-limit made to (omega (arith, c.if-to-limit.false, c.limit.ensures.value));
-      live = subst (λ v. IsLive v f) (sym c.room_for.ensures.world) (c.self.invariant.0.whole.tables_live f (held found));
-      spared = subst (λ s. NotBegunGarbage s f) (sym c.room_for.ensures.pass) (c.lemma_is_spared.ensures f (held found));
+      there = is-there found.process;
+      limit = below-limit found.process c.args.to (omega (arith, c.if-to-limit.false, c.limit.ensures.value));
+      live = c.self.invariant.0.whole.tables_live f (held found);
+      spared = c.lemma_is_spared.ensures f (held found);
     }
 
 pub returns-clause-done : goal.returns-clause-done
@@ -58,8 +53,8 @@ returns-clause-done c =
     let other : nat_eq to c.args.from ≡ false = search rules in
     let low : to < q.limit = omega (arith, c.if-to-limit.false, c.limit.ensures.value) in
     let fits = row at ∙ (λ i. first_fit ((not (other i) && lt-leb q.limit to low i, EBADF) ∷ [])) in
-    let placed : c.replace.new.self.world ≡ install w p to f = ap (λ (s : StoreView). s.world) c.replace.ensures ∙ ap (λ v. install v p to f) c.room_for.ensures.world in
-    let leads = ap (λ b. if b then w else install w p to (ino_on w p c.args.from)) other ∙ ap (install w p to) (ino-is found) ∙ sym placed in
-    let pass = c.release.ensures.pass ∙ ap (λ (s : StoreView). s.pass) c.replace.ensures ∙ c.room_for.ensures.pass in
-    let since = c.release.ensures.since ∙ ap (λ (s : StoreView). s.since) c.replace.ensures ∙ c.room_for.ensures.since in
-    does c.self.view_is p (step.Dup2 c.args.from to) c.release.new.self (reply.Fd to) c.replace.new.self.world fits refl leads c.release.ensures.settles pass since
+    let placed = c.in_ok-replace_at.ensures.ok in
+    let leads = ap (λ b. if b then w else install w p to (ino_on w p c.args.from)) other ∙ ap (install w p to) (ino-is found) ∙ sym (ap (λ (s : StoreView). s.world) placed) in
+    let pass = c.release.ensures.pass ∙ ap (λ (s : StoreView). s.pass) placed in
+    let since = c.release.ensures.since ∙ ap (λ (s : StoreView). s.since) placed in
+    does c.self.view_is p (step.Dup2 c.args.from to) c.release.new.self (reply.Fd to) c.replace_at.new.self.world fits refl leads c.release.ensures.settles pass since
