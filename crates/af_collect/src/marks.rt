@@ -7,7 +7,7 @@ ghost use Rattle.af_mark.specs.MarksView.{shaded, visited};
 ghost use Rattle.af_collect.specs.Keeping.{after_visit, is_due, shaded_all};
 
 use crate::holdings::Holdings;
-use crate::shading::shade_found;
+use crate::shading::shade_contents;
 use af_base::ids::FileRef;
 
 impl Holdings {
@@ -57,7 +57,7 @@ impl Holdings {
         let Some(held) = self.files.visit(file) else {
             return false;
         };
-        shade_found(self, file, &held);
+        shade_contents(self, file, &held);
         true
     }
 
@@ -86,7 +86,7 @@ impl Holdings {
             ((self.new ≡ self.old) × ((f : ℕ) → is_grey self.old.marks f ≡ false)) }
     {
         let (file, held) = self.files.scan_next()?;
-        shade_found(self, &file, &held);
+        shade_contents(self, &file, &held);
         Some(file)
     }
 }

@@ -5,14 +5,14 @@ ghost use Rattle.std.specs.Option.{option_map_or};
 ghost use Rattle.af_base.specs.Places.{attached_in, backlog_at, held_by, queue_at};
 ghost use Rattle.af_base.specs.Refusals.{socket_at};
 ghost use Rattle.af_collect.specs.Keeping.{first_held, shaded_all, shaded_in};
-ghost use Rattle.af_desc.specs.Holding.{HoldsJust};
+ghost use Rattle.af_desc.specs.Holding.{IsContents};
 ghost use Rattle.af_collect.specs.StoreView.{Shades, first_attached};
 
 use crate::holdings::Holdings;
 use crate::progress::{PassProgress, Stage};
 use af_base::ids::FileRef;
 use af_base::limits::{MAX_MESSAGES, SCM_MAX_FD};
-use af_desc::{Files, Held, Socket};
+use af_desc::{Contents, Files, Socket};
 use af_queue::BATCH;
 use arrayvec::ArrayVec;
 
@@ -37,14 +37,14 @@ fn shade_all(files: &mut Files, taken: &[FileRef])
 
 /// Marks all that the file holds, of which one look has told this.
 #[inline(always)]
-pub fn shade_found(places: &mut Holdings, file: &FileRef, held: &Held)
-    requires { HoldsJust held.now (held_by places.old.world file.now) }
+pub fn shade_contents(places: &mut Holdings, file: &FileRef, contents: &Contents)
+    requires { IsContents contents.now (held_by places.old.world file.now) }
     ensures { Shades (held_by places.old.world file.now) places.old places.new }
 {
-    match held {
-        Held::Nothing => {}
-        Held::One(held) => places.shade(held),
-        Held::Several => shade_held(places, file),
+    match contents {
+        Contents::Nothing => {}
+        Contents::One(held) => places.shade(held),
+        Contents::Several => shade_held(places, file),
     }
 }
 

@@ -7,10 +7,10 @@ ghost use Rattle.af_base.specs.Refusals.{socket_of};
 ghost use Rattle.af_base.specs.Whole.{IsMessageWithin};
 ghost use Rattle.af_queue.specs.Chains.{has_room, IsChain, SameElsewhere};
 ghost use Rattle.af_desc.specs.FilesView.{popped, received_from, received_of};
-ghost use Rattle.af_desc.specs.Holding.{HoldsJust};
+ghost use Rattle.af_desc.specs.Holding.{IsContents};
 ghost use Rattle.af_desc.specs.TrackedTableView.{file_in};
 
-use crate::held::Held;
+use crate::contents::Contents;
 use crate::socket::Endpoint;
 use af_base::ids::Ino;
 use af_base::limits::MAX_MESSAGES;
@@ -39,25 +39,25 @@ pub struct FileRow {
 impl FileRow {
     /// Returns what it holds, as far as one look tells.
     #[inline(always)]
-    pub fn held(&self, nodes: &Slab<Node>) -> Held
+    pub fn contents(&self, nodes: &Slab<Node>) -> Contents
         requires chain { (owner : ℕ) × IsChain nodes.now self.now.chain owner }
-        ensures { HoldsJust result (contents (file_in nodes.now self.now)) }
+        ensures { IsContents result (contents (file_in nodes.now self.now)) }
     {
         let Some(endpoint) = &self.endpoint else {
-            return Held::Nothing;
+            return Contents::Nothing;
         };
         if !endpoint.is_nameless() {
-            return Held::Several;
+            return Contents::Several;
         }
         let mut queue = Queue::of(nodes, &self.chain);
         while let Some((message, rest)) = queue.split_first() {
             match message.attached() {
                 [] => queue = rest,
-                [file] if rest.len() == 0 => return Held::One(file.duplicate()),
-                _ => return Held::Several,
+                [file] if rest.len() == 0 => return Contents::One(file.duplicate()),
+                _ => return Contents::Several,
             }
         }
-        Held::Nothing
+        Contents::Nothing
     }
 
     /// Returns whether it is dirty.

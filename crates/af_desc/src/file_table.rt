@@ -13,12 +13,12 @@ ghost use Rattle.af_ledger.specs.Tally.{count_in_map};
 ghost use Rattle.af_desc.specs.FilesView.{hung_up, popped, received_from, received_of, socket_in};
 ghost use Rattle.af_desc.specs.FileTableView.{with_entry, with_socket, with_socket_and_room};
 ghost use Rattle.af_desc.specs.FileTableView.{without_entry};
-ghost use Rattle.af_desc.specs.Holding.{HoldsJust};
+ghost use Rattle.af_desc.specs.Holding.{IsContents};
 ghost use Rattle.af_desc.specs.TrackedTableView.{file_of, is_due, is_white_in};
 ghost use Rattle.af_mark.specs.Grey.{black_mark, grey_mark};
 
+use crate::contents::Contents;
 use crate::file_row::FileRow;
-use crate::held::Held;
 use crate::socket::{Endpoint, Socket};
 use af_base::ids::{FileRef, Ino};
 use af_base::items::Items;
@@ -442,13 +442,13 @@ impl FileTable {
     /// holds, by the same look at its row; `None` if this call did not mark it.
     #[inline(always)]
     #[tactic(auto, using(crate::proofs::TrackedTableView::chains, ordered_slab::proofs::Parts::parts, ordered_slab::proofs::Values::lent))]
-    pub fn visit(&mut self, file: &FileRef, epoch: u64) -> Option<Held>
+    pub fn visit(&mut self, file: &FileRef, epoch: u64) -> Option<Contents>
         ensures due { is_some result ≡ is_due epoch self.old.counts self.old.marks file.now }
         ensures marked { is_some result ≡ true → self.new ≡ record self.old {
           marks = map.insert self.old.marks file.now (black_mark epoch);
         } }
         ensures len { map.len self.new.marks ≡ map.len self.old.marks }
-        ensures held { IfSome result (λ held. HoldsJust held (held_in self.old.files file.now)) }
+        ensures held { IfSome result (λ held. IsContents held (held_in self.old.files file.now)) }
         ensures none { IfNone result (self.new ≡ self.old) }
     {
         let row = self.rows.get_mut(file)?;
@@ -456,23 +456,23 @@ impl FileTable {
             return None;
         }
         row.mark = Mark::black(epoch);
-        Some(row.held(&self.nodes))
+        Some(row.contents(&self.nodes))
     }
 
     /// Marks a file black, which is known. Returns what it holds, by the same look at its row.
     #[inline(always)]
     #[tactic(auto, using(crate::proofs::TrackedTableView::chains, ordered_slab::proofs::Parts::parts, ordered_slab::proofs::Values::lent))]
-    pub fn scan(&mut self, file: &FileRef, epoch: u64) -> Held
+    pub fn scan(&mut self, file: &FileRef, epoch: u64) -> Contents
         requires { IsTrue (map.contains_key self.old.marks file.now) }
         ensures set { self.new ≡ record self.old {
           marks = map.insert self.old.marks file.now (black_mark epoch);
         } }
         ensures len { map.len self.new.marks ≡ map.len self.old.marks }
-        ensures held { HoldsJust result (held_in self.old.files file.now) }
+        ensures held { IsContents result (held_in self.old.files file.now) }
     {
         let row = self.rows.get_mut(file).unwrap();
         row.mark = Mark::black(epoch);
-        row.held(&self.nodes)
+        row.contents(&self.nodes)
     }
 
     /// Returns whether a file is dirty, if it is known.

@@ -2,15 +2,15 @@
 //! and what a pass of the collector has marked, under inode numbers that are never used again.
 #![tactic(auto)]
 
+mod contents;
 mod counts;
 mod file_row;
 mod file_table;
 mod files;
-mod held;
 mod marks;
 mod socket;
 mod tracked_table;
 
+pub use contents::Contents;
 pub use files::Files;
-pub use held::Held;
 pub use socket::Socket;

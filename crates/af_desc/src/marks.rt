@@ -8,13 +8,13 @@ ghost use Rattle.af_base.specs.Changes.{change_at};
 ghost use Rattle.af_base.specs.Places.{held_in};
 ghost use Rattle.af_ledger.specs.Tally.{count_in_map};
 ghost use Rattle.af_mark.specs.Grey.{AreUpTo, colors_in, placed};
-ghost use Rattle.af_desc.specs.Holding.{HoldsJust};
+ghost use Rattle.af_desc.specs.Holding.{IsContents};
 ghost use Rattle.af_mark.specs.MarksView.{blackened, is_grey, is_marked, is_unmarked, knows};
 ghost use Rattle.af_mark.specs.MarksView.{shaded, visited};
 ghost use Rattle.af_mark.specs.declared.color.Color.TheVariants.{Black, Grey, White};
 
+use crate::contents::Contents;
 use crate::files::Files;
-use crate::held::Held;
 use crate::tracked_table::TrackedTable;
 use af_base::file_list::swap_remove_file;
 use af_base::ids::{FileRef, Ino};
@@ -83,14 +83,14 @@ impl Files {
     /// marked. Returns what it holds, which is to be marked next; `None` if this call did not mark
     /// it.
     #[inline(always)]
-    pub fn visit(&mut self, file: &FileRef) -> Option<Held>
+    pub fn visit(&mut self, file: &FileRef) -> Option<Contents>
         ensures marks { self.new ≡ record self.old {
           marks = visited true
               (count_in_map self.old.counts file.now).tabled file.now self.old.marks;
         } }
         ensures due { is_some result ≡ (nat_lt 0 (count_in_map self.old.counts file.now).tabled
             && is_unmarked self.old.marks file.now) }
-        ensures held { IfSome result (λ held. HoldsJust held (held_in self.old.files file.now)) }
+        ensures held { IfSome result (λ held. IsContents held (held_in self.old.files file.now)) }
     {
         if file.ino().0 >= self.bound {
             return None;
@@ -103,9 +103,9 @@ impl Files {
     /// Makes a grey file black, if there is one. Returns it with what it holds, which is to be
     /// marked next.
     #[inline(always)]
-    pub fn scan_next(&mut self) -> Option<(FileRef, Held)>
+    pub fn scan_next(&mut self) -> Option<(FileRef, Contents)>
         ensures some { IfSome result (λ scanned. (is_grey self.old.marks scanned.0 ≡ true)
-            × HoldsJust scanned.1 (held_in self.old.files scanned.0)
+            × IsContents scanned.1 (held_in self.old.files scanned.0)
             × (self.new ≡ record self.old { marks = blackened scanned.0 self.old.marks })) }
         ensures none { IfNone result
             ((self.new ≡ self.old) × ((f : ℕ) → is_grey self.old.marks f ≡ false)) }

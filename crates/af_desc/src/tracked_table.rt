@@ -14,14 +14,14 @@ ghost use Rattle.af_ledger.specs.Counted.{fewer, more, places_in, IsCountable, I
 ghost use Rattle.af_ledger.specs.Tally.{count_in_map};
 ghost use Rattle.af_mark.specs.Grey.{black_mark, grey_mark};
 ghost use Rattle.af_desc.specs.FilesView.{hung_up, popped, received_from, received_of, socket_in};
-ghost use Rattle.af_desc.specs.Holding.{HoldsJust};
+ghost use Rattle.af_desc.specs.Holding.{IsContents};
 ghost use Rattle.af_desc.specs.TrackedTableView.{file_of, is_due, is_white_in, with_row};
 ghost use Rattle.af_desc.specs.TrackedTableView.{with_socket, with_socket_and_room, without_row};
 ghost use Rattle.af_base.specs.Told.{AreChanged, AreReleased};
 ghost use Rattle.af_desc.specs.Told.{IsDirtyList, MakesDirty};
 
+use crate::contents::Contents;
 use crate::file_table::FileTable;
-use crate::held::Held;
 use crate::socket::{Endpoint, Socket};
 use af_base::file_list::swap_remove_file;
 use af_base::ids::{FileRef, Ino};
@@ -441,13 +441,13 @@ impl TrackedTable {
     /// Marks a file black that a table holds, if it is not marked in this pass. Returns what it
     /// holds, by the same look at its row; `None` if this call did not mark it.
     #[inline(always)]
-    pub fn visit(&mut self, file: &FileRef, epoch: u64) -> Option<Held>
+    pub fn visit(&mut self, file: &FileRef, epoch: u64) -> Option<Contents>
         ensures due { is_some result ≡ is_due epoch self.old.counts self.old.marks file.now }
         ensures marked { is_some result ≡ true → self.new ≡ record self.old {
           marks = map.insert self.old.marks file.now (black_mark epoch);
         } }
         ensures len { map.len self.new.marks ≡ map.len self.old.marks }
-        ensures held { IfSome result (λ held. HoldsJust held (held_in self.old.files file.now)) }
+        ensures held { IfSome result (λ held. IsContents held (held_in self.old.files file.now)) }
         ensures none { IfNone result (self.new ≡ self.old) }
     {
         self.table.visit(file, epoch)
@@ -455,13 +455,13 @@ impl TrackedTable {
 
     /// Marks a file black, which is known. Returns what it holds, by the same look at its row.
     #[inline(always)]
-    pub fn scan(&mut self, file: &FileRef, epoch: u64) -> Held
+    pub fn scan(&mut self, file: &FileRef, epoch: u64) -> Contents
         requires { IsTrue (map.contains_key self.old.marks file.now) }
         ensures set { self.new ≡ record self.old {
           marks = map.insert self.old.marks file.now (black_mark epoch);
         } }
         ensures len { map.len self.new.marks ≡ map.len self.old.marks }
-        ensures held { HoldsJust result (held_in self.old.files file.now) }
+        ensures held { IsContents result (held_in self.old.files file.now) }
     {
         self.table.scan(file, epoch)
     }

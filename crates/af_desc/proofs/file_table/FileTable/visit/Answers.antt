@@ -3,8 +3,8 @@ use Rattle.std.specs.Option.{option_copied_mut}
 use Rattle.af_desc.proofs.TrackedTableView.{chained_at}
 use Rattle.af_desc.proofs.file_table.FileTable.visit.Goals as goal
 
-pub held-requires : goal.held-requires
-held-requires c =
+pub contents-requires : goal.contents-requires
+contents-requires c =
     let a = c.self.inside in
     let f = c.args.file.now in
     let at = sym c.get_mut.ensures.value ∙ ap option_copied_mut c.in_ok-row.was in

@@ -3,7 +3,7 @@ use Rattle.std.specs.Prelude.{vec_capacity}
 use Rattle.af_mark.specs.MarksView.{blackened, is_grey}
 use Rattle.af_base.specs.Places.{held_in}
 use Rattle.af_desc.specs.FilesView.{FilesView}
-use Rattle.af_desc.specs.Holding.{HoldsJust}
+use Rattle.af_desc.specs.Holding.{IsContents}
 use Rattle.af_desc.proofs.FilesInvariant.{seen}
 use Rattle.af_desc.proofs.Visits.{filed-scanned, last-grey, last-known, seen-scanned}
 use Rattle.af_desc.proofs.files.Files.scan_next.Goals as goal
@@ -33,7 +33,7 @@ returns-clause-some c =
     let set = c.scan-held.ensures in
     let grey = last-grey a.epoch a.bound a.rows f c.self.invariant c.pop.new.self.items items in (
       ap (λ (v : FilesView). is_grey v.marks f) (sym c.self.view_is) ∙ grey,
-      subst (λ (v : FilesView). HoldsJust c.scan-held.result (held_in v.files f)) c.self.view_is set.held,
+      subst (λ (v : FilesView). IsContents c.scan-held.result (held_in v.files f)) c.self.view_is set.held,
       subst (λ (v : FilesView). seen a.epoch a.bound c.scan-held.new.self a.next ≡ record v { marks = blackened f v.marks }) c.self.view_is
           (ap (λ r. seen a.epoch a.bound r a.next) set.set ∙ seen-scanned a.epoch a.bound a.rows f c.self.invariant c.pop.new.self.items items),
     )

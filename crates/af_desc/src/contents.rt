@@ -3,7 +3,7 @@ use af_base::ids::FileRef;
 
 /// What a file holds, as far as one look at its row tells.
 #[derive(Drop)]
-pub enum Held {
+pub enum Contents {
     /// No file.
     Nothing,
     /// This file alone.

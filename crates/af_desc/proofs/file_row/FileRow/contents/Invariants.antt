@@ -2,7 +2,7 @@
 use Rattle.std.proofs.Common.{◌≡◌, length}
 use Rattle.af_base.specs.Places.{attached_in}
 use Rattle.af_queue.specs.Chains.{messages_of}
-use Rattle.af_desc.proofs.file_row.FileRow.held.Given as goal
+use Rattle.af_desc.proofs.file_row.FileRow.contents.Given as goal
 
 abbrev pub invariant-loop-message : goal.invariant-loop-message
 invariant-loop-message l = record {
