@@ -8,7 +8,7 @@ ghost use Rattle.af_layer.specs.Log.{IsLegalFrom};
 ghost use Rattle.af_layer.specs.Short.{event_of, reply_of};
 
 use crate::entry::{Entry, Pair, fill};
-use crate::room::ReplyRoom;
+use crate::room::{ReplyRoom, reserve_touched};
 use crate::short::{ShortEvent, ShortReply};
 use af_base::events::{Event, Reply};
 use af_base::limits::{MAX_LOG, MAX_SEATS};
@@ -118,6 +118,15 @@ impl Book {
     {
         self.start = Snapshot::of(&self.engine);
         mem::replace(&mut self.log, Vec::new(self.alloc))
+    }
+
+    /// Reserves room in the log for this many entries more, as far as it may grow, and touches it:
+    /// until they are there, no call takes memory for the log, or is the first on a page of it.
+    pub fn reserve(&mut self, entries: usize) -> Result<(), AllocError>
+        ensures { self.new ≡ self.old }
+    {
+        let most = MAX_LOG.saturating_sub(self.log.len());
+        reserve_touched(&mut self.log, entries.min(most), Entry::blank)
     }
 
     /// Lends the engine.

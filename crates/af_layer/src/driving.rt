@@ -61,6 +61,15 @@ fn rooms(alloc: Global, count: usize) -> Result<(Vec<Worker>, Vec<Seat>), AllocE
     ))
 }
 
+/// Returns how many events the scripts have.
+fn events_in(scripts: &[Vec<Event>]) -> usize {
+    let mut events = 0usize;
+    for script in scripts {
+        events = events.saturating_add(script.len());
+    }
+    events
+}
+
 /// Gives script i to the i-th seat, the collector's turns to the next, and nothing to the others.
 fn hand_out(
     mut workers: Vec<Worker>,
@@ -157,6 +166,8 @@ pub fn drive<R: Threads + Wait + Sync, O: Origin + Send, G: Gate + Sync>(
             seats,
         });
     };
+    // A refusal of this room shows at the call that needs it.
+    let _room = layer.reserve(rt, events_in(scripts.as_slice()));
     let workers = hand_out(workers, seats, scripts, collector);
     let workers = run(rt, layer, workers, gate);
     let fault = least_fault(workers.as_slice());

@@ -74,6 +74,13 @@ impl Model for Entry {
 }
 
 impl Entry {
+    /// Makes an entry that is to be dropped unread.
+    pub(crate) fn blank() -> Entry {
+        Entry {
+            form: Form::Pass(0, TurnReply::Working),
+        }
+    }
+
     /// Makes an entry in few words.
     #[inline(always)]
     pub(crate) fn short(seat: u8, event: &ShortEvent, reply: &ShortReply) -> Entry

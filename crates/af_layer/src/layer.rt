@@ -15,9 +15,9 @@ use crate::seat::Seat;
 use crate::short::ShortEvent;
 use af_base::events::Event;
 use af_base::limits::MAX_SEATS;
-use std::alloc::Global;
+use std::alloc::{AllocError, Global};
 use std::marker::PhantomData;
-use std::sync::{Mutex, Wait};
+use std::sync::{Mutex, MutexGuard, Wait};
 use thiserror::Error;
 
 /// A book that threads share: one lock, and under it one call at a time.
@@ -27,6 +27,12 @@ use thiserror::Error;
 #[derive(Drop)]
 pub struct Layer<O: Origin = Fresh> {
     book: Mutex<BookFrom<O>>,
+}
+
+/// A layer that is locked until this is dropped: no other thread calls between its calls.
+#[derive(Drop)]
+pub struct LayerGuard<'a, O: Origin = Fresh> {
+    book: MutexGuard<'a, BookFrom<O>>,
 }
 
 /// Why no layer was opened.
@@ -123,14 +129,29 @@ impl<O: Origin> Layer<O> {
     ///
     /// The errors are those of [`Seat::call_in`]. Of the log nothing can be said here, since other
     /// threads call too: [`Layer::close`] does.
+    #[inline(always)]
     pub fn call<R: Wait>(&self, rt: &R, seat: &mut Seat, event: Event) -> Result<(), CallError>
         ensures done { OnOk result ((reply : Answer) × (seat.new ≡ grown seat.old event reply)) }
         ensures same { OnErr result (seat.new ≡ seat.old) }
     {
         match ShortEvent::of(event) {
             Ok(short) => seat.call_locked(rt, &self.book, &short),
-            Err(event) => self.book.lock(rt).call_from(seat, event),
+            Err(event) => self.book.lock(rt).call_whole_from(seat, event),
         }
+    }
+
+    /// Waits for the lock, and holds it until the guard is dropped: for calls that belong together,
+    /// or several for the price of one lock.
+    pub fn lock<R: Wait>(&self, rt: &R) -> LayerGuard<'_, O> {
+        LayerGuard {
+            book: self.book.lock(rt),
+        }
+    }
+
+    /// Waits for the lock, and reserves room in the log for this many entries more:
+    /// [`Book::reserve`].
+    pub fn reserve<R: Wait>(&self, rt: &R, entries: usize) -> Result<(), AllocError> {
+        self.book.lock(rt).reserve(entries)
     }
 
     /// Ends the layer without an audit, and gives its book back. It waits for nobody.
@@ -143,6 +164,17 @@ impl<O: Origin> Layer<O> {
         // The invariant of the book, which says where its log begins and ends.
         book.log();
         book
+    }
+}
+
+impl<O: Origin> LayerGuard<'_, O> {
+    /// Does one event from this seat. The errors are those of [`Seat::call_in`].
+    #[inline(always)]
+    pub fn call(&mut self, seat: &mut Seat, event: Event) -> Result<(), CallError>
+        ensures done { OnOk result ((reply : Answer) × (seat.new ≡ grown seat.old event reply)) }
+        ensures same { OnErr result (seat.new ≡ seat.old) }
+    {
+        self.book.call_from(seat, event)
     }
 }
 

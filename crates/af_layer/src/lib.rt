@@ -25,7 +25,7 @@ pub use audit::CloseFault;
 pub use book::{Book, CallError};
 pub use driving::{DriveError, DriveFault, drive};
 pub use entry::{Entry, EventReply};
-pub use layer::{CloseError, Closed, Layer, OpenError};
+pub use layer::{CloseError, Closed, Layer, LayerGuard, OpenError};
 pub use origin::{AtCheckpoint, Fresh, Origin};
 pub use seat::Seat;
 pub use shared::Shared;

@@ -15,6 +15,7 @@ use crate::entry::Entry;
 use crate::seat::Seat;
 use crate::short::{ShortEvent, ShortReply};
 use af_base::events::Event;
+use std::alloc::AllocError;
 use std::marker::{Brand, Model, PhantomData};
 
 /// Where the log of a layer begins, as a type says it.
@@ -79,12 +80,29 @@ impl<O: Origin> BookFrom<O> {
         self.book.call_short(seat, event)
     }
 
+    /// Does one event from this seat, in a way that fits any event.
+    #[inline(never)]
+    pub fn call_whole_from(&mut self, seat: &mut Seat, event: Event) -> Result<(), CallError>
+        ensures done { OnOk result ((reply : Answer) × (seat.new ≡ grown seat.old event reply)) }
+        ensures same { OnErr result (seat.new ≡ seat.old) }
+    {
+        seat.call_whole(&mut self.book, event)
+    }
+
     /// Does one event from this seat.
+    #[inline(always)]
     pub fn call_from(&mut self, seat: &mut Seat, event: Event) -> Result<(), CallError>
         ensures done { OnOk result ((reply : Answer) × (seat.new ≡ grown seat.old event reply)) }
         ensures same { OnErr result (seat.new ≡ seat.old) }
     {
         seat.call_in(&mut self.book, event)
+    }
+
+    /// Reserves room in the log: [`Book::reserve`].
+    pub fn reserve(&mut self, entries: usize) -> Result<(), AllocError>
+        ensures { self.new ≡ self.old }
+    {
+        self.book.reserve(entries)
     }
 }
 

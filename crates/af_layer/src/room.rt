@@ -1,4 +1,4 @@
-//! Room for a copy of a reply, had before the step that gives it.
+//! Room, had before the step that needs it: for a copy of its reply, or for entries.
 ghost use Rattle.std.specs.Prelude.{◌≡◌, IfOk};
 ghost use Rattle.af_layer.specs.Room.{HasRoomFor, most_bytes, most_fds};
 
@@ -103,4 +103,27 @@ impl ReplyRoom {
             Reply::Refused(error) => Reply::Refused(*error),
         }
     }
+}
+
+/// Reserves room for this many values more, and writes a blank into all room that is new, so that
+/// no page of it is touched for the first time later. The list is unchanged.
+pub fn reserve_touched<T: Drop, F: Fn() -> T>(
+    list: &mut Vec<T>,
+    more: usize,
+    blank: F,
+) -> Result<(), AllocError>
+    requires { F.IsAlwaysCallable blank }
+    ensures { list.new.items ≡ list.old.items }
+{
+    let len = list.len();
+    if list.capacity() - len >= more {
+        return Ok(());
+    }
+    list.reserve(more)?;
+    let capacity = list.capacity();
+    for _ in len..capacity {
+        list.push_reserved(blank());
+    }
+    list.truncate(len);
+    Ok(())
 }

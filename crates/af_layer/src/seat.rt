@@ -9,6 +9,7 @@ ghost use Rattle.af_layer.specs.Short.{event_of, reply_of};
 use crate::book::{Book, CallError};
 use crate::entry::{Entry, EventReply, Pair, fill};
 use crate::origin::{BookFrom, Origin};
+use crate::room::reserve_touched;
 use crate::short::{ShortEvent, ShortReply};
 use af_base::events::{Event, Reply};
 use std::alloc::{AllocError, Global};
@@ -58,6 +59,14 @@ impl Seat {
         self.list.as_slice()
     }
 
+    /// Reserves room in the list for this many pairs more, and touches it: until they are there, no
+    /// call takes memory for the list, or is the first on a page of it.
+    pub fn reserve(&mut self, pairs: usize) -> Result<(), AllocError>
+        ensures { self.new ≡ self.old }
+    {
+        reserve_touched(&mut self.list, pairs, || EventReply::of(Entry::blank()))
+    }
+
     /// Forgets what was asked from here. The room for it stays.
     pub(crate) fn empty_list(&mut self)
         ensures { self.new ≡ record self.old { list = [] } }
@@ -70,6 +79,7 @@ impl Seat {
     /// Room for the pair is reserved first; if it is refused, the error is `NoRoom`. The other
     /// errors are those of [`Book::call`]. After an error the book and the seat are as they were,
     /// and the event is dropped.
+    #[inline(always)]
     pub fn call_in(&mut self, book: &mut Book, event: Event) -> Result<(), CallError>
         ensures done { OnOk result ((reply : Answer) × (self.new ≡ grown self.old event reply)
             × Calls book.old self.old.number event reply book.new) }
@@ -86,6 +96,7 @@ impl Seat {
     }
 
     /// Does an event that has no bytes, and whose reply has none.
+    #[inline(always)]
     fn call_short(&mut self, book: &mut Book, event: &ShortEvent) -> Result<(), CallError>
         ensures done { OnOk result ((reply : Answer)
             × (self.new ≡ grown self.old (event_of event.now) reply)
@@ -122,7 +133,8 @@ impl Seat {
     }
 
     /// Does any event. What it needs for a copy of the event is reserved before.
-    fn call_whole(&mut self, book: &mut Book, event: Event) -> Result<(), CallError>
+    #[inline(never)]
+    pub(crate) fn call_whole(&mut self, book: &mut Book, event: Event) -> Result<(), CallError>
         ensures done { OnOk result ((reply : Answer) × (self.new ≡ grown self.old event reply)
             × Calls book.old self.old.number event reply book.new) }
         ensures open { OnOk result (refusal book.old self.old.number ≡ None) }

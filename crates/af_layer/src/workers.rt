@@ -105,6 +105,8 @@ fn play<R: Wait, O: Origin, G: Gate>(
     ensures made { OnOk result (Made (Some (Script script.items)) seat.old.list seat.new.list) }
     ensures short { OnErr result (Short (Some (Script script.items)) seat.old.list seat.new.list) }
 {
+    // A refusal of this room shows at the call that needs it.
+    let _room = seat.reserve(script.len());
     // A log is full long before this count could stop rising.
     let mut nth = 0u32;
     for event in script {
