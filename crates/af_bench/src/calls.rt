@@ -3,7 +3,7 @@
 //! A process opens a plain file and closes it, by turns; behind a lock, one in each thread. Each
 //! run is over a fresh engine.
 
-use crate::runs::{Runs, print_times, refusal, time_of};
+use crate::runs::{Runs, print_times, refusal, time_since};
 use af_base::ids::{Fd, Pid, Uid};
 use af_layer::Shared;
 use af_steps::Engine;
@@ -11,7 +11,7 @@ use std::alloc::Global;
 use std::io::{self, Print};
 use std::sync::{Mutex, Wait};
 use std::thread::{self, Threads};
-use std::time::Clock;
+use std::time::{Clock, Instant};
 
 /// The user of all processes.
 const USER: Uid = Uid(1_000);
@@ -28,21 +28,27 @@ struct Caller {
 
 /// Measures calls of an engine alone.
 pub fn measure_engine<R: Clock + Print>(rt: &R, alloc: Global, runs: Runs) -> io::Result<()> {
-    print_times(
-        rt,
-        alloc,
-        runs.count,
-        || time_of_engine(rt, alloc, runs.events),
-    )
+    let mut times = Vec::new(alloc);
+    for _ in 0..runs.count {
+        times.push(time_of_engine(rt, alloc, runs.events)?)?;
+    }
+    print_times(rt, times.as_slice())
 }
 
-/// Returns how long a run of an engine alone takes, in nanoseconds.
+/// Returns how long a run over a new engine takes, in nanoseconds.
 fn time_of_engine<R: Clock>(rt: &R, alloc: Global, events: usize) -> io::Result<u128> {
     let mut engine = Engine::new(alloc)?;
+    time_of_calls(rt, &mut engine, events)
+}
+
+/// Starts a process, and returns how long its calls take, in nanoseconds.
+fn time_of_calls<R: Clock>(rt: &R, engine: &mut Engine, events: usize) -> io::Result<u128> {
     let Ok(pid) = engine.spawn(USER, NOFILE, false) else {
         return Err(refusal());
     };
-    time_of(rt, || calls_engine(&mut engine, pid, events))
+    let start = Instant::now(rt)?;
+    let is_done = calls_engine(engine, pid, events);
+    time_since(rt, start, is_done)
 }
 
 /// Makes these calls of an engine, and returns whether none was refused.
@@ -67,12 +73,11 @@ pub fn measure_shared<R: Threads + Wait + Clock + Print + Sync>(
     threads: u32,
     runs: Runs,
 ) -> io::Result<()> {
-    print_times(
-        rt,
-        alloc,
-        runs.count,
-        || time_of_shared(rt, alloc, threads, runs.events),
-    )
+    let mut times = Vec::new(alloc);
+    for _ in 0..runs.count {
+        times.push(time_of_shared(rt, alloc, threads, runs.events)?)?;
+    }
+    print_times(rt, times.as_slice())
 }
 
 /// Returns how long a run from this many threads takes, in nanoseconds.
@@ -83,6 +88,19 @@ fn time_of_shared<R: Threads + Wait + Clock + Sync>(
     events: usize,
 ) -> io::Result<u128> {
     let shared = Shared::new(alloc)?;
+    let mut callers = start_callers(rt, alloc, &shared, threads)?;
+    let start = Instant::now(rt)?;
+    let is_done = call_beside(rt, &shared, callers.as_mut_slice(), events);
+    time_since(rt, start, is_done)
+}
+
+/// Starts a process for each thread.
+fn start_callers<R: Wait>(
+    rt: &R,
+    alloc: Global,
+    shared: &Shared,
+    threads: u32,
+) -> io::Result<Vec<Caller>> {
     let mut callers = Vec::new(alloc);
     for _ in 0..threads {
         let Ok(pid) = shared.spawn(rt, USER, NOFILE, false) else {
@@ -93,10 +111,7 @@ fn time_of_shared<R: Threads + Wait + Clock + Sync>(
             is_done: false,
         })?;
     }
-    time_of(
-        rt,
-        || call_beside(rt, &shared, callers.as_mut_slice(), events),
-    )
+    Ok(callers)
 }
 
 /// Makes these calls from each caller in a thread of its own, and returns whether none was refused.
@@ -118,7 +133,16 @@ fn call_beside<R: Threads + Wait + Sync>(
             caller.is_done = calls_shared(rt, shared, caller.pid, events);
         },
     );
-    callers.iter().all(|caller| caller.is_done)
+    are_all_done(callers)
+}
+
+fn are_all_done(callers: &[Caller]) -> bool {
+    for caller in callers {
+        if !caller.is_done {
+            return false;
+        }
+    }
+    true
 }
 
 /// Makes these calls of an engine behind a lock, and returns whether none was refused.
@@ -139,19 +163,19 @@ fn calls_shared<R: Wait>(rt: &R, shared: &Shared, pid: Pid, events: usize) -> bo
 /// Measures a lock that is taken and released, with a number under it.
 pub fn measure_lock<R: Wait + Clock + Print>(rt: &R, alloc: Global, runs: Runs) -> io::Result<()> {
     let mutex = Mutex::new(0u64);
-    print_times(
-        rt,
-        alloc,
-        runs.count,
-        || time_of(rt, || locks(rt, &mutex, runs.events)),
-    )
+    let mut times = Vec::new(alloc);
+    for _ in 0..runs.count {
+        let start = Instant::now(rt)?;
+        lock_often(rt, &mutex, runs.events);
+        times.push(start.elapsed(rt)?.as_nanos())?;
+    }
+    print_times(rt, times.as_slice())
 }
 
 /// Takes the lock and releases it this many times.
-fn locks<R: Wait>(rt: &R, mutex: &Mutex<u64>, events: usize) -> bool {
+fn lock_often<R: Wait>(rt: &R, mutex: &Mutex<u64>, events: usize) {
     for _ in 0..events {
         let mut count = mutex.lock(rt);
         *count = count.wrapping_add(1);
     }
-    true
 }

@@ -3,7 +3,7 @@
 //! Each run is over a fresh layer. In each thread a process of its own opens a plain file and
 //! closes it, by turns.
 
-use crate::runs::{Runs, print_times, refusal, time_of};
+use crate::runs::{Runs, print_times, refusal, time_since};
 use af_base::events::{Event, Step};
 use af_base::ids::{Fd, Pid, Uid};
 use af_layer::{Layer, OpenGate, Seat, drive};
@@ -11,7 +11,7 @@ use std::alloc::Global;
 use std::io::{self, Print};
 use std::sync::Wait;
 use std::thread::Threads;
-use std::time::Clock;
+use std::time::{Clock, Instant};
 
 /// A process starts.
 const SPAWN: Event = Event::Spawn {
@@ -27,12 +27,11 @@ pub fn measure<R: Threads + Wait + Clock + Print + Sync>(
     threads: u32,
     runs: Runs,
 ) -> io::Result<()> {
-    print_times(
-        rt,
-        alloc,
-        runs.count,
-        || time_of_run(rt, alloc, threads, runs.events),
-    )
+    let mut times = Vec::new(alloc);
+    for _ in 0..runs.count {
+        times.push(time_of_run(rt, alloc, threads, runs.events)?)?;
+    }
+    print_times(rt, times.as_slice())
 }
 
 /// Returns how long a run takes, in nanoseconds.
@@ -85,7 +84,9 @@ fn time_of_scripts<R: Threads + Wait + Clock + Sync>(
     if !start_processes(rt, layer, seats.as_mut_slice()) {
         return Err(refusal());
     }
-    time_of(rt, || are_driven(rt, layer, seats, scripts))
+    let start = Instant::now(rt)?;
+    let is_done = are_driven(rt, layer, seats, scripts);
+    time_since(rt, start, is_done)
 }
 
 /// Starts a process from each seat, and says whether all have started.

@@ -1,6 +1,5 @@
 //! Runs, and how long they take.
 
-use std::alloc::Global;
 use std::io::{self, Print};
 use std::time::{Clock, Instant};
 
@@ -21,36 +20,21 @@ impl Runs {
     }
 }
 
-/// Makes this many runs by `time_of_run`, and then prints their times, so that no printing comes
-/// between them.
-pub fn print_times<R: Print, F: FnMut() -> io::Result<u128>>(
-    rt: &R,
-    alloc: Global,
-    count: usize,
-    mut time_of_run: F,
-) -> io::Result<()>
-    requires can_run { F.IsAlwaysCallable time_of_run }
-{
-    let mut times = Vec::new(alloc);
-    for _ in 0..count {
-        times.push(time_of_run()?)?;
-    }
-    for time in &times {
-        println!(rt; "{time}")?;
-    }
-    Ok(())
-}
-
-/// Returns how long `are_done` takes, in nanoseconds. It does events, and returns whether none was
-/// refused.
-pub fn time_of<R: Clock, F: FnOnce() -> bool>(rt: &R, are_done: F) -> io::Result<u128>
-    requires can_do { F.IsAlwaysCallable are_done }
-{
-    let start = Instant::now(rt)?;
-    if !are_done() {
+/// Returns how long a run took that began at this time, in nanoseconds. It fails if an event of the
+/// run was refused.
+pub fn time_since<R: Clock>(rt: &R, start: Instant, is_done: bool) -> io::Result<u128> {
+    if !is_done {
         return Err(refusal());
     }
     Ok(start.elapsed(rt)?.as_nanos())
+}
+
+/// Prints the times of all runs, which are over: no printing comes between two of them.
+pub fn print_times<R: Print>(rt: &R, times: &[u128]) -> io::Result<()> {
+    for time in times {
+        println!(rt; "{time}")?;
+    }
+    Ok(())
 }
 
 /// Returns the fault of an event that is refused.

@@ -4,7 +4,7 @@
 //! over: a run continues where the one before it stopped, and the first line of the rest follows
 //! the last.
 
-use crate::runs::{Runs, print_times, refusal, time_of};
+use crate::runs::{Runs, print_times, refusal, time_since};
 use af_base::events::{Event, Reply};
 use af_steps::Engine;
 use scm_lines::{Line, LineFault, line_of};
@@ -13,6 +13,7 @@ use std::io;
 use std::iter::Cycle;
 use std::slice::Iter;
 use std::str::Lines;
+use std::time::Instant;
 
 /// Measures the script from standard input, without its first lines, this many.
 pub fn measure_input(rt: &HostRuntime, setup: usize, runs: Runs) -> io::Result<()> {
@@ -76,12 +77,13 @@ fn is_done(engine: &mut Engine, event: &Event) -> bool {
 /// Does these events over and over, and prints what each run took.
 fn measure(rt: &HostRuntime, engine: &mut Engine, events: &[Event], runs: Runs) -> io::Result<()> {
     let mut round = events.iter().cycle();
-    print_times(
-        rt,
-        rt.alloc(),
-        runs.count,
-        || time_of(rt, || are_done(engine, &mut round, runs.events)),
-    )
+    let mut times = Vec::new(rt.alloc());
+    for _ in 0..runs.count {
+        let start = Instant::now(rt)?;
+        let is_done = are_done(engine, &mut round, runs.events);
+        times.push(time_since(rt, start, is_done)?)?;
+    }
+    print_times(rt, times.as_slice())
 }
 
 /// Does this many events, and returns whether none was refused. Stops at the first that is.
