@@ -33,8 +33,11 @@ rows_inside =
           (
             search sendable,
             (
-              search (sendable, crosses, file.the_send) depth 20,
-              (search sendable, (search (sendable, crosses, ino.the_send) depth 20, (search (sendable, crosses) depth 20, tt))),
+              search sendable,
+              (
+                search (sendable, crosses, file.the_send) depth 20,
+                (search sendable, (search (sendable, crosses, ino.the_send) depth 20, (search (sendable, crosses) depth 20, tt))),
+              ),
             ),
           ),
         ),
