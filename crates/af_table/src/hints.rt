@@ -14,7 +14,7 @@ const HINTS: usize = 256;
 /// costs time, and no clause speaks of one.
 #[derive(Drop)]
 pub struct Hints {
-    places: [u16; HINTS],
+    places: [usize; HINTS],
 }
 
 impl Hints {
@@ -26,7 +26,7 @@ impl Hints {
     /// Sets the hint for this pid to this index.
     #[inline(always)]
     pub fn set(&mut self, pid: Pid, index: usize) {
-        self.places[pid.0 as usize % HINTS] = (index % (u16::MAX as usize + 1)) as u16;
+        self.places[pid.0 as usize % HINTS] = index;
     }
 
     /// Returns the index of the process of this pid, if it is known. Asks the map only if another
@@ -61,7 +61,7 @@ impl Hints {
     fn hinted_index(&self, processes: &IndexMap<Pid, Process>, pid: Pid) -> Option<usize>
         ensures { IfSome result (λ i. slice_get (keys processes.now) i ≡ Some pid) }
     {
-        let hint = self.places[pid.0 as usize % HINTS] as usize;
+        let hint = self.places[pid.0 as usize % HINTS];
         match processes.get_index(hint) {
             Some((there, _)) if *there == pid => Some(hint),
             _ => None,
