@@ -8,6 +8,7 @@ use Rattle.af_mark.specs.MarksView.{is_marked}
 use Rattle.af_collect.proofs.Bounds.{can-drop-table}
 use Rattle.af_collect.proofs.Exact.{exact-uninstall, world-is}
 use Rattle.af_collect.specs.Keeping.{below, shaded_in}
+use Rattle.af_collect.proofs.LentProcesses.{stands-same}
 use Rattle.af_collect.proofs.LostFiles.{kept_closed, marked_closed}
 use Rattle.af_collect.proofs.TablePlaces.{covers_uninstall, moves_uninstall}
 use Rattle.af_collect.specs.contracts.holdings.Holdings.{the_view}
@@ -22,10 +23,7 @@ same c = c.take_out.ensures.processes ∙ ap (λ (v : World). v.processes) (unin
 
 -- And so are the invariants.
 neither : (c : goal.In_default) → BothInvariants c.self.inside.parts c.take_out.new.self c.places.inside.files c.places.inside.ledger
-neither c =
-    let h = c.places.inside in
-    let was = stood c.self.inside.parts h c.places.view_is c.places.invariant c.self.invariant in
-    both-same _ (the_view h).world _ (kept_of h.files.counts h.ledger) _ h.files.marks (world-is _ _ (same c) refl refl c.take_out.ensures.next refl) refl refl was.0 was.1
+neither c = stands-same c.self.inside.parts c.places.inside c.take_out.new.self (same c) c.take_out.ensures.next (stood c.self.inside.parts c.places.inside c.places.view_is c.places.invariant c.self.invariant)
 
 pub invariant_of-places : goal.invariant_of-places
 invariant_of-places c = (neither c).0
