@@ -8,5 +8,6 @@ mod drives;
 mod gates;
 mod growths;
 mod limits;
+mod locks;
 mod shared;
 mod wide;

@@ -1,0 +1,48 @@
+//! Several calls under one lock.
+use super::bench::{LayerOutcome, Play, end_of, event_at, spawn};
+use af_layer::{Layer, Seat};
+use std::alloc::Global;
+use std::sync::Wait;
+use std::thread::Threads;
+
+const STEPS: u32 = 500;
+
+/// A process starts and does a script under one lock, after room for it was reserved.
+fn play_locked<R: Wait>(rt: &R, alloc: Global, layer: &Layer, seat: &mut Seat) -> Option<()> {
+    layer.reserve(rt, STEPS as usize).ok()?;
+    seat.reserve(STEPS as usize).ok()?;
+    let mut locked = layer.lock(rt);
+    locked.call(seat, spawn()).ok()?;
+    for turn in 0..STEPS {
+        let event = event_at(alloc, 1, turn).ok()?;
+        locked.call(seat, event).ok()?;
+    }
+    Some(())
+}
+
+/// All calls are made under one lock.
+struct OneLock;
+
+impl Play for OneLock {
+    fn on<R: Threads + Wait + Sync>(
+        &self,
+        rt: &R,
+        alloc: Global,
+        layer: &Layer,
+        mut seats: Vec<Seat>,
+    ) -> Option<Vec<Seat>> {
+        play_locked(rt, alloc, layer, seats.first_mut()?)?;
+        Some(seats)
+    }
+}
+
+/// The audit ends well: so the log has what the list has.
+#[test]
+fn log_has_the_calls_under_one_lock(rt: HostRuntime) {
+    let well = LayerOutcome {
+        fault: None,
+        entries: 501,
+        seats: 0,
+    };
+    assert!(rt; end_of(&rt, rt.alloc(), 1, &OneLock) == Some(well));
+}
