@@ -1,16 +1,16 @@
 //! Measures calls of a layer, from threads beside each other.
 //!
-//! Each run is over a fresh layer. In each thread a process of its own opens a plain file and
-//! closes it, by turns.
+//! Each run is over a fresh layer, with room for all that it logs. In each thread a process of its
+//! own opens a plain file and closes it, by turns.
 
 use crate::runs::{Runs, print_times, refusal, time_since};
 use af_base::events::{Event, Step};
 use af_base::ids::{Fd, Pid, Uid};
-use af_layer::{Layer, OpenGate, Seat, drive};
+use af_layer::{Layer, Seat};
 use std::alloc::Global;
 use std::io::{self, Print};
 use std::sync::Wait;
-use std::thread::Threads;
+use std::thread::{self, Threads};
 use std::time::{Clock, Instant};
 
 /// A process starts.
@@ -20,16 +20,34 @@ const SPAWN: Event = Event::Spawn {
     privileged: false,
 };
 
+/// How the calls of a thread take the lock.
+#[derive(Clone, Copy)]
+pub enum Locking {
+    /// Each call takes it.
+    Calls,
+    /// It is taken once for this many calls.
+    Batches(usize),
+}
+
+/// A thread's seat and process, and whether no call of it was refused.
+#[derive(Drop)]
+struct Caller {
+    seat: Seat,
+    pid: Pid,
+    is_done: bool,
+}
+
 /// Measures calls from this many threads, each of which does the events of a run.
 pub fn measure<R: Threads + Wait + Clock + Print + Sync>(
     rt: &R,
     alloc: Global,
     threads: u32,
+    locking: Locking,
     runs: Runs,
 ) -> io::Result<()> {
     let mut times = Vec::new(alloc);
     for _ in 0..runs.count {
-        times.push(time_of_run(rt, alloc, threads, runs.events)?)?;
+        times.push(time_of_run(rt, alloc, threads, locking, runs.events)?)?;
     }
     print_times(rt, times.as_slice())
 }
@@ -39,72 +57,99 @@ fn time_of_run<R: Threads + Wait + Clock + Sync>(
     rt: &R,
     alloc: Global,
     threads: u32,
+    locking: Locking,
     events: usize,
 ) -> io::Result<u128> {
-    let scripts = scripts(alloc, threads, events)?;
-    match Layer::open(alloc, threads) {
-        Ok((layer, seats)) => time_of_scripts(rt, &layer, seats, scripts),
-        Err(_) => Err(io::Error::other("no layer was opened")),
-    }
-}
-
-/// Makes a script of this many events for each thread.
-fn scripts(alloc: Global, threads: u32, events: usize) -> io::Result<Vec<Vec<Event>>> {
-    let mut scripts = Vec::new(alloc);
-    for pid in 1..=threads {
-        scripts.push(script(alloc, Pid(pid), events)?)?;
-    }
-    Ok(scripts)
-}
-
-/// Makes this many events of a process that opens a plain file and closes it, by turns.
-fn script(alloc: Global, pid: Pid, events: usize) -> io::Result<Vec<Event>> {
-    let mut script = Vec::with_capacity(alloc, events)?;
-    for turn in 0..events {
-        script.push(Event::Proc(pid, open_or_close(turn)))?;
-    }
-    Ok(script)
-}
-
-fn open_or_close(turn: usize) -> Step {
-    if turn % 2 == 0 {
-        Step::Open
-    } else {
-        Step::Close(Fd(0))
-    }
-}
-
-/// Returns how long it takes to do these scripts from these seats, in nanoseconds.
-fn time_of_scripts<R: Threads + Wait + Clock + Sync>(
-    rt: &R,
-    layer: &Layer,
-    mut seats: Vec<Seat>,
-    scripts: Vec<Vec<Event>>,
-) -> io::Result<u128> {
-    if !start_processes(rt, layer, seats.as_mut_slice()) {
-        return Err(refusal());
+    let Ok((layer, seats)) = Layer::open(alloc, threads) else {
+        return Err(io::Error::other("no layer was opened"));
+    };
+    let pairs = events.saturating_add(1);
+    layer.reserve(rt, pairs.saturating_mul(threads as usize))?;
+    let mut callers = Vec::new(alloc);
+    for seat in seats {
+        callers.push(caller_of(rt, &layer, seat, pairs)?)?;
     }
     let start = Instant::now(rt)?;
-    let is_done = are_driven(rt, layer, seats, scripts);
+    let is_done = are_made(rt, &layer, callers.as_mut_slice(), locking, events);
     time_since(rt, start, is_done)
 }
 
-/// Starts a process from each seat, and says whether all have started.
-fn start_processes<R: Wait>(rt: &R, layer: &Layer, seats: &mut [Seat]) -> bool {
-    for seat in seats {
-        if layer.call(rt, seat, SPAWN).is_err() {
+/// Starts a process from a seat, which gets room for this many pairs.
+fn caller_of<R: Wait>(rt: &R, layer: &Layer, mut seat: Seat, pairs: usize) -> io::Result<Caller> {
+    seat.reserve(pairs)?;
+    if layer.call(rt, &mut seat, SPAWN).is_err() {
+        return Err(refusal());
+    }
+    let pid = Pid(seat.number());
+    Ok(Caller {
+        seat,
+        pid,
+        is_done: false,
+    })
+}
+
+/// Makes these calls from each caller in a thread of its own, and returns whether none was refused.
+fn are_made<R: Threads + Wait + Sync>(
+    rt: &R,
+    layer: &Layer,
+    callers: &mut [Caller],
+    locking: Locking,
+    events: usize,
+) -> bool {
+    let count = callers.len();
+    if count == 0 {
+        return true;
+    }
+    thread::for_each_mut(
+        rt,
+        callers,
+        count,
+        &|_, caller: &mut Caller| {
+            caller.is_done = match locking {
+                Locking::Calls => calls(rt, layer, caller, events),
+                Locking::Batches(size) => batches(rt, layer, caller, events, size),
+            };
+        },
+    );
+    callers.iter().all(|caller| caller.is_done)
+}
+
+/// Makes these calls from a seat, and returns whether none was refused.
+fn calls<R: Wait>(rt: &R, layer: &Layer, caller: &mut Caller, events: usize) -> bool {
+    for turn in 0..events {
+        let event = open_or_close(caller.pid, turn);
+        if layer.call(rt, &mut caller.seat, event).is_err() {
             return false;
         }
     }
     true
 }
 
-/// Does these scripts from these seats beside each other, and says whether no call was refused.
-fn are_driven<R: Threads + Wait + Sync>(
+/// Makes about as many calls, so many under each lock, and returns whether none was refused.
+fn batches<R: Wait>(
     rt: &R,
     layer: &Layer,
-    seats: Vec<Seat>,
-    scripts: Vec<Vec<Event>>,
+    caller: &mut Caller,
+    events: usize,
+    size: usize,
 ) -> bool {
-    drive(rt, layer, seats, scripts, None, &OpenGate).is_ok()
+    for _ in 0..events.checked_div(size).unwrap_or(0) {
+        let mut layer = layer.lock(rt);
+        for turn in 0..size {
+            let event = open_or_close(caller.pid, turn);
+            if layer.call(&mut caller.seat, event).is_err() {
+                return false;
+            }
+        }
+    }
+    true
+}
+
+/// Returns the event of a process at this turn.
+fn open_or_close(pid: Pid, turn: usize) -> Event {
+    if turn % 2 == 0 {
+        Event::Proc(pid, Step::Open)
+    } else {
+        Event::Proc(pid, Step::Close(Fd(0)))
+    }
 }

@@ -2,9 +2,9 @@
 //!
 //! `af_bench script SETUP EVENTS RUNS` does a script from standard input over and over on one
 //! engine. `layer` and `shared`, with `THREADS EVENTS RUNS`, make calls of an engine behind a lock,
-//! with a log or without one. `engine` and `lock`, with `EVENTS RUNS`, make the calls of an engine
-//! alone, and take the lock alone. A line on standard output for each run says how many nanoseconds
-//! it took.
+//! with a log or without one; `batches` makes 16 calls of a layer under each lock. `engine` and
+//! `lock`, with `EVENTS RUNS`, make the calls of an engine alone, and take the lock alone. A line on
+//! standard output for each run says how many nanoseconds it took.
 //!
 //! With no argument nothing is read, and nothing is printed.
 #![tactic(auto)]
@@ -14,8 +14,12 @@ mod layer;
 mod runs;
 mod script;
 
+use crate::layer::Locking;
 use crate::runs::Runs;
 use std::{env, io};
+
+/// How many calls of a batch are made under one lock.
+const BATCH: usize = 16;
 
 /// The work that a command line asks for.
 #[derive(Clone, Copy)]
@@ -23,7 +27,7 @@ enum Benchmark {
     /// Measures a script, without its first lines, this many.
     Script(usize, Runs),
     /// Measures calls of a layer from this many threads.
-    Layer(u32, Runs),
+    Layer(u32, Locking, Runs),
     /// Measures calls of an engine behind a lock from this many threads.
     Shared(u32, Runs),
     /// Measures calls of an engine alone.
@@ -59,7 +63,8 @@ impl Benchmark {
     fn of_threads(form: &str, first: &str, runs: Runs) -> Option<Benchmark> {
         match form {
             "script" => Some(Benchmark::Script(first.parse().ok()?, runs)),
-            "layer" => Some(Benchmark::Layer(first.parse().ok()?, runs)),
+            "layer" => Some(Benchmark::Layer(first.parse().ok()?, Locking::Calls, runs)),
+            "batches" => Some(Benchmark::Layer(first.parse().ok()?, Locking::Batches(BATCH), runs)),
             "shared" => Some(Benchmark::Shared(first.parse().ok()?, runs)),
             _ => None,
         }
@@ -73,7 +78,13 @@ fn main(rt: HostRuntime) -> io::Result<()> {
     }
     match Benchmark::of(words.as_slice()) {
         Some(Benchmark::Script(setup, runs)) => script::measure_input(&rt, setup, runs),
-        Some(Benchmark::Layer(threads, runs)) => layer::measure(&rt, rt.alloc(), threads, runs),
+        Some(Benchmark::Layer(threads, locking, runs)) => layer::measure(
+            &rt,
+            rt.alloc(),
+            threads,
+            locking,
+            runs,
+        ),
         Some(Benchmark::Shared(threads, runs)) => calls::measure_shared(
             &rt,
             rt.alloc(),
@@ -90,6 +101,7 @@ fn main(rt: HostRuntime) -> io::Result<()> {
 fn usage() -> io::Result<()> {
     Err(io::Error::other(
         "usage: af_bench [script SETUP EVENTS RUNS | layer THREADS EVENTS RUNS | \
-         shared THREADS EVENTS RUNS | engine EVENTS RUNS | lock EVENTS RUNS]",
+         batches THREADS EVENTS RUNS | shared THREADS EVENTS RUNS | engine EVENTS RUNS | \
+         lock EVENTS RUNS]",
     ))
 }
