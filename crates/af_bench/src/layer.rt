@@ -125,7 +125,7 @@ fn calls<R: Wait>(rt: &R, layer: &Layer, caller: &mut Caller, events: usize) -> 
     true
 }
 
-/// Makes about as many calls, so many under each lock, and returns whether none was refused.
+/// Makes these calls, `size` under each lock without the rest, and returns whether none failed.
 fn batches<R: Wait>(
     rt: &R,
     layer: &Layer,

@@ -35,7 +35,7 @@ module _ (p : Collector) (h : Inside) (procs : Procs) (processes : procs.process
       (λ i. shown p (record (the_view h) { world = record (the_view h).world { processes = processes i; next_pid = next i }; rows = procs.rows }))
       ∙ ap {B = StoreView} (λ t. shown p (record t { rows = procs.rows })) opened ∙ ap {A = StoreView} {B = StoreView} (λ t. record t { rows = procs.rows }) is
 
--- What holds in any case holds at an error.
+-- A fact that holds in any case holds at an error.
 pub at-error : {T E : Type 0} {P : Type 0} (r : Result T E) → P → OnErr r P
 at-error (Ok t) holds = tt
 at-error (Err e) holds = holds

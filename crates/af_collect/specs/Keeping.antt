@@ -97,8 +97,8 @@ shaded_all (f ∷ fs) m = shaded_all fs (shaded f m)
 abbrev pub shaded_in : Stage → List ℕ → MarksView → MarksView
 shaded_in stage fs m = if is_marking stage then shaded_all fs m else m
 
--- The marks after a visit of f, to which so many descriptors refer. Where f was scanned too, all
--- that it holds is marked.
+-- The marks after a visit of f, given how many descriptors refer to it. Where f was scanned too,
+-- all that it holds is marked.
 abbrev pub after_visit : Bool → List ℕ → ℕ → ℕ → MarksView → MarksView
 after_visit scanned held tabled f m = if scanned then shaded_all held (visited true tabled f m)
     else visited false tabled f m

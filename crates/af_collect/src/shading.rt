@@ -35,7 +35,7 @@ fn shade_all(files: &mut Files, taken: &[FileRef])
     }
 }
 
-/// Marks all that the file holds, of which one look has told this.
+/// Marks all that the file holds, given its contents by one look.
 #[inline(always)]
 pub fn shade_contents(places: &mut Holdings, file: &FileRef, contents: &Contents)
     requires { IsContents contents.now (held_by places.old.world file.now) }

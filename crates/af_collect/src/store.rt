@@ -342,7 +342,7 @@ impl Store {
         let Some(process) = places.procs.find(pid) else {
             return;
         };
-        // The table is counted out where it stands, since a removal moves it.
+        // The table is counted out before it is removed, since a removal moves it.
         unref_table(&mut places.files, process);
         places.procs.remove(pid);
     }

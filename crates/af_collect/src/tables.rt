@@ -43,7 +43,7 @@ pub fn table_in_all(
     }
 }
 
-/// Installs these files likewise. It stands apart, so that a receive without files makes no call.
+/// Installs these files likewise, in a function that a receive without files does not call.
 fn table_in_each(procs: &mut Procs, files: &mut Files, pid: Pid, fds: &[Fd], attached: &[FileRef])
     requires row { All (λ n. n < row_in procs.old.rows pid) fds.now }
     requires known { (f : ℕ) → Contains attached.now f

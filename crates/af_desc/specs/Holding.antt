@@ -1,5 +1,5 @@
--- What a file holds, as far as one look at its row tells. Definitions that name no manual page are
--- this project's own.
+-- The contents of a file, as far as one look at its row tells. Definitions that name no manual page
+-- are this project's own.
 use Rattle.std.specs.Prelude.{◌≡◌, ℕ, List, [], ◌∷◌}
 use Rattle.af_desc.specs.declared.contents.Contents.{Contents}
 use Rattle.af_desc.specs.declared.contents.Contents.TheVariants.{Nothing, One, Several}

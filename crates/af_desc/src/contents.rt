@@ -1,7 +1,7 @@
-//! What a file holds, by one look at its row.
+//! The contents of a file, by one look at its row.
 use af_base::ids::FileRef;
 
-/// What a file holds, as far as one look at its row tells.
+/// The contents of a file, as far as one look at its row tells.
 #[derive(Drop)]
 pub enum Contents {
     /// No file.

@@ -16,7 +16,7 @@ use Rattle.af_layer.specs.Short.{event_of, reply_of}
 use Rattle.af_layer.proofs.Starts.{refuses-start, starts-step}
 
 module _ (old new : Machine) where
-  -- A step stays one where its event and its reply are told in other words.
+  -- A step stays one where its event and its reply are replaced by equal ones.
   told-step : (x : ShortEvent) (e : Event) (r told : ShortReply) → event_of x ≡ e → r ≡ told → run.Step old e (reply_of told) new → run.Step old (event_of x) (reply_of r) new
   told-step x e r told is same step = subst (λ y. run.Step old y (reply_of r) new) (sym is) (subst (λ y. run.Step old e (reply_of y) new) (sym same) step)
 

@@ -170,7 +170,7 @@ impl Book {
         Ok(reply)
     }
 
-    /// Does any event. What it needs for a copy of the reply is reserved before.
+    /// Does any event. Reserves room for a copy of the reply before.
     pub(crate) fn call_whole(&mut self, seat: u32, event: Event) -> Result<Reply, CallError>
         ensures done { IfOk result (λ reply. Calls self.old seat event reply self.new) }
         ensures refused { Answers (refusal self.old seat) result }

@@ -132,7 +132,7 @@ impl Seat {
         Ok(())
     }
 
-    /// Does any event. What it needs for a copy of the event is reserved before.
+    /// Does any event. Reserves room for a copy of the event before.
     #[inline(never)]
     pub(crate) fn call_whole(&mut self, book: &mut Book, event: Event) -> Result<(), CallError>
         ensures done { OnOk result ((reply : Answer) × (self.new ≡ grown self.old event reply)

@@ -1,7 +1,7 @@
 //! Events without bytes and their replies, in few words.
 //!
-//! An event is told apart once, and goes to its typed call. So no event is made from few words
-//! before it is done, and no reply is taken apart into them after.
+//! An event is matched once, and does its typed call. So no event is made from few words before it
+//! is done, and no reply is taken apart into them after.
 ghost use Rattle.std.specs.Prelude.{◌≡◌, IfErr, IfOk, IfSome};
 ghost use Rattle.af_base.specs.Run as run;
 ghost use Rattle.af_layer.specs.Short.{event_of, reply_of, turn_reply_of};

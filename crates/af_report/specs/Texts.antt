@@ -1,4 +1,4 @@
--- The bytes that a call appends to a text, and those that stand for a byte.
+-- The bytes that a call appends to a text, and those that show a byte.
 use Rattle.std.specs.Prelude.{◌≡◌, ℕ, ◌+◌, ◌/◌, ◌%◌, nat_lt, List, [], ◌∷◌, ◌++◌, String, string_bytes, if◌then◌else◌}
 use Rattle.af_base.specs.Names.{is_name_byte}
 

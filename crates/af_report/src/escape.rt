@@ -1,4 +1,4 @@
-//! The bytes of a text: one that names may have stands as itself, and any other by its digits.
+//! The bytes of a text: one that names may have is shown as itself, and any other by its digits.
 ghost use Rattle.std.specs.Prelude.{◌≡◌, ◌<◌};
 ghost use Rattle.af_base.specs.Names.{is_name_byte};
 ghost use Rattle.af_report.specs.Texts.{hex_digit};

@@ -7,7 +7,7 @@ use std::thread::Threads;
 
 const STEPS: u32 = 500;
 
-/// A process starts and does a script under one lock, after room for it was reserved.
+/// Starts a process and does a script under one lock, in room that was reserved before.
 fn play_locked<R: Wait>(rt: &R, alloc: Global, layer: &Layer, seat: &mut Seat) -> Option<()> {
     layer.reserve(rt, STEPS as usize).ok()?;
     seat.reserve(STEPS as usize).ok()?;
@@ -36,7 +36,7 @@ impl Play for OneLock {
     }
 }
 
-/// The audit ends well: so the log has what the list has.
+/// Checks that the audit ends well: so the log has what the list has.
 #[test]
 fn log_has_the_calls_under_one_lock(rt: HostRuntime) {
     let well = LayerOutcome {

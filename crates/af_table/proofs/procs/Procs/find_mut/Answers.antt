@@ -1,4 +1,4 @@
--- A process that is written through the borrow stands at its pid, and all else stays.
+-- A process that is written through the borrow keeps its pid, and all else stays.
 use Rattle.std.proofs.Common.{inl, ap, sym, ◌∙◌}
 use Rattle.std.specs.FinMap as map
 use Rattle.indexmap.specs.IndexMap.{spare}
