@@ -8,6 +8,7 @@ ghost use Rattle.af_layer.specs.Log.{BookView, HasLegalLog, IsLegal, IsLegalFrom
 ghost use Rattle.af_layer.specs.Seats.{SeatView, grown};
 
 use crate::audit::{CloseFault, audit};
+use crate::backoff;
 use crate::book::{Book, CallError};
 use crate::entry::Entry;
 use crate::origin::{AtCheckpoint, BookFrom, Fresh, Origin};
@@ -136,7 +137,7 @@ impl<O: Origin> Layer<O> {
     {
         match ShortEvent::of(event) {
             Ok(short) => seat.call_locked(rt, &self.book, &short),
-            Err(event) => self.book.lock(rt).call_whole_from(seat, event),
+            Err(event) => backoff::lock(&self.book, rt).call_whole_from(seat, event),
         }
     }
 
@@ -144,14 +145,14 @@ impl<O: Origin> Layer<O> {
     /// or several for the price of one lock.
     pub fn lock<R: Wait>(&self, rt: &R) -> LayerGuard<'_, O> {
         LayerGuard {
-            book: self.book.lock(rt),
+            book: backoff::lock(&self.book, rt),
         }
     }
 
     /// Waits for the lock, and reserves room in the log for this many entries more:
     /// [`Book::reserve`].
     pub fn reserve<R: Wait>(&self, rt: &R, entries: usize) -> Result<(), AllocError> {
-        self.book.lock(rt).reserve(entries)
+        backoff::lock(&self.book, rt).reserve(entries)
     }
 
     /// Ends the layer without an audit, and gives its book back. It waits for nobody.
@@ -200,6 +201,6 @@ impl Layer<AtCheckpoint> {
             × HasLegalLog book × HasFault book seats.old fault) }
         ensures same { OnErr result (seats.new ≡ seats.old) }
     {
-        self.book.lock(rt).checkpoint(seats)
+        backoff::lock(&self.book, rt).checkpoint(seats)
     }
 }

@@ -8,6 +8,7 @@
 #![tactic(auto)]
 
 mod audit;
+mod backoff;
 mod book;
 mod checkpoint;
 mod driving;

@@ -6,6 +6,7 @@ ghost use Rattle.af_layer.specs.Calls.{Calls, refusal};
 ghost use Rattle.af_layer.specs.Seats.{grown};
 ghost use Rattle.af_layer.specs.Short.{event_of, reply_of};
 
+use crate::backoff;
 use crate::book::{Book, CallError};
 use crate::entry::{Entry, EventReply, Pair, fill};
 use crate::origin::{BookFrom, Origin};
@@ -127,7 +128,7 @@ impl Seat {
         ensures same { OnErr result (self.new ≡ self.old) }
     {
         reserve(&mut self.list)?;
-        let reply = book.lock(rt).call_short(self.number, event)?;
+        let reply = backoff::lock(book, rt).call_short(self.number, event)?;
         keep_short(&mut self.list, event, &reply);
         Ok(())
     }

@@ -6,6 +6,7 @@ ghost use Rattle.af_base.specs.Whole.{IsSound};
 ghost use Rattle.af_layer.specs.Shared.{IsReplyTo, TellsReply, TellsStep};
 ghost use Rattle.af_steps.specs.Outcome.{finished_reply, got_reply, progress_reply};
 
+use crate::backoff;
 use af_base::errno::Errno;
 use af_base::events::{Event, Reply, SockType, Step};
 use af_base::ids::{Fd, Pid, Uid};
@@ -41,7 +42,7 @@ impl Shared {
     pub fn lock<R: Wait>(&self, rt: &R) -> MutexGuard<'_, Engine>
         ensures { IsSound (mutex_guard_value result).world }
     {
-        let engine = self.engine.lock(rt);
+        let engine = backoff::lock(&self.engine, rt);
         engine.lemma_is_sound();
         engine
     }
