@@ -7,10 +7,10 @@ use std::hint::spin_loop;
 use std::sync::{Mutex, MutexGuard, Wait};
 
 /// The pauses of the processor before a thread looks at the lock for the second time.
-const FIRST_PAUSES: u32 = 128;
+const FIRST_PAUSES: u32 = 64;
 
-/// How often a thread looks again, each time after twice as many pauses, before it sleeps.
-const LOOKS: u32 = 8;
+/// How often a thread looks again, each time after four times as many pauses, before it sleeps.
+const LOOKS: u32 = 5;
 
 /// Waits for the lock, as [`Mutex::lock`] does.
 #[inline(always)]
@@ -33,7 +33,7 @@ fn lock_later<'a, T, R: Wait>(mutex: &'a Mutex<T>, rt: &R) -> MutexGuard<'a, T> 
         if let Some(guard) = mutex.try_lock() {
             return guard;
         }
-        pauses = pauses.saturating_mul(2);
+        pauses = pauses.saturating_mul(4);
     }
     mutex.lock(rt)
 }
