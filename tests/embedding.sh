@@ -2,12 +2,12 @@
 # Whether the library for C and Rust programs is what its header and its examples say.
 # usage: tests/embedding.sh out/libjaywardrobe.a
 #
-# Headers, manual page and bindings are compared with the sources, and these with the library's exports;
-# the examples are built, run, and compared with their stored output, and the samples of pages with
-# the examples; bad numbers and want of memory are tried; a program owns pipes that stand behind
-# files; threads share an engine; seeded walks go through the calls, beside the plain engine;
-# programs see under unixbox what they see natively. What needs a tool that is not there is left out, with a line that says so. The
-# first that fails ends the script; else its last line is 'N passed, 0 failed'.
+# Compares headers, manual page and bindings with the sources, and these with the library's exports.
+# Builds and runs the examples, and compares their output with what is stored, and the samples of
+# pages with them. Tries bad numbers and refused memory, a program that owns a pipe for each file,
+# threads that share an engine, seeded walks through the calls beside the plain engine, and
+# programs under unixbox. Says in a line what it leaves out, since a tool is missing. The first
+# that fails ends the script; else its last line is 'N passed, 0 failed'.
 set -eu
 if [ $# -ne 1 ]; then
     echo "usage: tests/embedding.sh out/libjaywardrobe.a (make embed builds the library, and calls this)" >&2

@@ -14,7 +14,7 @@ from typing import Dict, Iterator, Set, Tuple
 
 ROOT = Path(os.path.realpath(__file__)).parent.parent
 OWN = "mine: jaywardrobe\n"
-# What a check is called, and whether it holds.
+# The name of a check, and whether it holds.
 Check = Tuple[str, bool]
 
 

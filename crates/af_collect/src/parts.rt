@@ -71,7 +71,8 @@ impl Collector {
         }
     }
 
-    /// Drops the first place of an unheld file. While marking, it first marks the file there.
+    /// Drops the first message or embryo that an unheld file holds. While marking, it first marks
+    /// the files there.
     #[inline(always)]
     fn drop_place(&mut self, file: &FileRef)
         requires kept { KeepsPass self.old }

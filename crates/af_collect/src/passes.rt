@@ -35,7 +35,7 @@ impl Store {
         ensures { (begun : World) (spent : ℕ) → self.now.pass ≡ Running begun spent
             → PassInvariant self.now.world begun self.now.marks self.now.progress }
     {
-        // The invariant says it: it is enough to look at a field.
+        // The invariant says it: reading a field gives it to the prover.
         let _parts = &self.parts;
     }
 

@@ -40,7 +40,7 @@ impl Holdings {
         ensures whole { IsWhole self.now.world }
         ensures within { IsWithin self.now.world }
     {
-        // The invariant says it: it is enough to look at a field.
+        // The invariant says it: reading a field gives it to the prover.
         let _ledger = &self.ledger;
     }
 

@@ -23,7 +23,7 @@ impl Store {
     pub fn lemma_is_spared(&self)
         ensures { (f : ℕ) → InTable self.now.world f → NotBegunGarbage self.now.pass f }
     {
-        // The invariant says it: it is enough to look at a field.
+        // The invariant says it: reading a field gives it to the prover.
         let _parts = &self.parts;
     }
 }

@@ -129,8 +129,8 @@ impl Files {
     }
 }
 
-/// Returns the number of embryos with one place of this kind more. At its largest it does not
-/// change.
+/// Returns this number of embryos after one more place of this kind: one more for a backlog, unless
+/// it is at its largest.
 #[inline(always)]
 pub fn with_embryo(embryos: u64, place: &Place) -> u64
     ensures { result ≡ with_embryo place.now embryos }
@@ -141,8 +141,8 @@ pub fn with_embryo(embryos: u64, place: &Place) -> u64
     }
 }
 
-/// Returns the number of embryos with one place of this kind less. At its largest it does not
-/// change.
+/// Returns this number of embryos after one place of this kind less: one less for a backlog, unless
+/// it is at its largest, where the true number may be larger.
 #[inline(always)]
 fn without_embryo(embryos: u64, place: &Place) -> u64
     ensures { result ≡ without_embryo place.now embryos }

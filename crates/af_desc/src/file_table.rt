@@ -539,7 +539,7 @@ impl FileTable {
         ensures len { map.len self.now.dirty ≡ map.len self.now.counts }
         ensures as_many { map.len self.now.marks ≡ map.len self.now.counts }
     {
-        // The view says it: it is enough to look at a field.
+        // The view says it: reading a field gives it to the prover.
         let _rows = &self.rows;
     }
 

@@ -82,7 +82,7 @@ impl Endpoint {
     pub fn lemma_is_silent(&self)
         ensures { self.now.queue ≡ [] }
     {
-        // The view says it: it is enough to look at a field.
+        // The view says it: reading a field gives it to the prover.
         let _kind = &self.kind;
     }
 

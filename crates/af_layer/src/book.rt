@@ -120,8 +120,9 @@ impl Book {
         mem::replace(&mut self.log, Vec::new(self.alloc))
     }
 
-    /// Reserves room in the log for this many entries more, as far as it may grow, and touches it:
-    /// until they are there, no call takes memory for the log, or is the first on a page of it.
+    /// Reserves room in the log for this many entries more, as far as it may grow, and writes to
+    /// each page of it. Until they are there, no call takes memory for the log, or is the first to
+    /// touch a page of it.
     pub fn reserve(&mut self, entries: usize) -> Result<(), AllocError>
         ensures { self.new ≡ self.old }
     {

@@ -1,4 +1,4 @@
-//! Room, had before the step that needs it: for a copy of its reply, or for entries.
+//! Room that is reserved before the step that needs it: for a copy of its reply, or for entries.
 ghost use Rattle.std.specs.Prelude.{◌≡◌, IfOk};
 ghost use Rattle.af_layer.specs.Room.{HasRoomFor, most_bytes, most_fds};
 

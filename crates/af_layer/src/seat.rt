@@ -60,8 +60,8 @@ impl Seat {
         self.list.as_slice()
     }
 
-    /// Reserves room in the list for this many pairs more, and touches it: until they are there, no
-    /// call takes memory for the list, or is the first on a page of it.
+    /// Reserves room in the list for this many pairs more, and writes to each page of it. Until
+    /// they are there, no call takes memory for the list, or is the first to touch a page of it.
     pub fn reserve(&mut self, pairs: usize) -> Result<(), AllocError>
         ensures { self.new ≡ self.old }
     {

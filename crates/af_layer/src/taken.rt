@@ -7,7 +7,7 @@ pub fn taken_logs_are_one()
     ensures { TakenLogsAreOne }
 {}
 
-/// Each seat's part of these logs put together is its parts of them, put together.
+/// A seat's part of these logs, put together, is its parts of each log, put together.
 pub fn taken_parts_are_one()
     ensures { TakenPartsAreOne }
 {}

@@ -21,8 +21,8 @@ use slab::Slab;
 use smallvec::SmallVec;
 use std::alloc::{AllocError, Global};
 
-/// Makes room for one message more, so that the next `push` cannot fail. No queue changes. Refused
-/// where memory is, and where no key of 32 bits is left.
+/// Makes room for one message more, so that the next `push` cannot fail. No queue changes. Fails if
+/// memory is refused, or if no key of 32 bits is left.
 #[inline(always)]
 pub fn room(nodes: &mut Slab<Node>) -> Result<(), AllocError>
     ensures ok { OnOk result (has_room nodes.new ≡ true) }
@@ -102,10 +102,9 @@ pub fn pop(nodes: &mut Slab<Node>, chain: &mut Chain, owner: Ino) -> Option<Msg>
     Some(node.message)
 }
 
-/// Takes what a receive of at most this many bytes gives of this chain, which is that file's
-/// (recvmsg(2)). Of packets (SOCK_SEQPACKET) it is the first one, and takes no memory; of a stream
-/// (SOCK_STREAM) the bytes up to the end of the first message with files, over the borders of
-/// messages. On an error nothing has changed.
+/// Takes what a receive of at most this many bytes gives (recvmsg(2)) from this chain of that file:
+/// of packets (SOCK_SEQPACKET) the first, without memory; of a stream (SOCK_STREAM) bytes across
+/// messages, up to the end of the first one with files. On an error nothing has changed.
 #[inline(always)]
 pub fn take(
     nodes: &mut Slab<Node>,

@@ -109,13 +109,14 @@ impl<'a> Queue<'a> {
         Some(message)
     }
 
-    /// Returns the files attached to its messages, from this one on, 16 at most: a caller that
-    /// cannot keep the queue while it looks at them takes some steps for each. Takes no memory.
+    /// Returns the files attached to its messages, from this position among them on, 16 at most.
+    /// For a caller that cannot keep the queue while it looks at them. Takes no memory.
     pub fn attached_from(&self, from: usize) -> ArrayVec<FileRef, BATCH>
         ensures files { result.items ≡ take BATCH (drop from (attached_in self.now)) }
         ensures few { length (attached_in self.now) ≤ MAX_MESSAGES * SCM_MAX_FD }
     {
-        // Messages are few, and each carries few: it is enough to look at a field.
+        // Messages are few, with few files each, by the invariant: reading a field gives it to the
+        // prover.
         let _len = self.len;
         let mut files = ArrayVec::new();
         let mut skip = from;

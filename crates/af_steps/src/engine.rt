@@ -181,7 +181,7 @@ impl Engine {
     pub fn lemma_is_sound(&self)
         ensures { IsSound self.now.world }
     {
-        // The invariant says it: it is enough to look at a field.
+        // The invariant says it: reading a field gives it to the prover.
         let _store = &self.store;
     }
 }

@@ -1,7 +1,8 @@
 //! The engine: one event after another, each with its reply.
 //!
-//! The state is in a store (`af_collect`), whose place changes keep all counts; the events are
-//! here. Each looks up, is refused in order, makes room, changes places, releases, and answers.
+//! The state is in a store (`af_collect`), whose calls keep all counts; the events are here. Each
+//! looks up, is refused in order, makes room, changes references, releases, and answers. Where no
+//! file is unreferenced, a release is one look.
 #![tactic(auto)]
 
 mod engine;

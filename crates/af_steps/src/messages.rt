@@ -126,6 +126,7 @@ impl Engine {
         self.store
             .holdings()
             .may_send(user, limit, privileged, attach.len())?;
+        // The peer of a connected socket is a live socket.
         if socket_at(&self.store, &peer).unwrap().queue().len() >= MAX_MESSAGES {
             return Err(Errno::EAGAIN);
         }
@@ -197,7 +198,7 @@ impl Engine {
     /// Installed descriptors refer to files that are then in a table and in the queue; the others
     /// are in the queue alone. A second peek sees the same. Refused, in this order: ESRCH, EBADF,
     /// ENOTSOCK, EINVAL (`max_bytes` is not 1 to 65,536), ENOTCONN, EAGAIN, ENOMEM.
-    // Apart for the same reason.
+    // Apart, so that no other step clears room on the stack for what it gives.
     #[inline(never)]
     pub fn peek(
         &mut self,

@@ -102,7 +102,8 @@ impl<T> OrderedSlab<T> {
         put(&mut self.order, &mut self.slab, ino, value)
     }
 
-    /// Removes the value of a file, and returns it, if there is one. Takes no memory.
+    /// Removes the value under this reference's number, and returns it, if there is one. Takes no
+    /// memory.
     #[inline(always)]
     #[tactic(auto, using(crate::proofs::SlabValues::comes_and_goes))]
     pub fn remove(&mut self, file: &FileRef) -> Option<T>
@@ -116,7 +117,7 @@ impl<T> OrderedSlab<T> {
         take(&mut self.order, &mut self.slab, file)
     }
 
-    /// Returns the value of a file, if there is one.
+    /// Returns the value under this reference's number, if there is one.
     #[inline(always)]
     #[tactic(auto, using(crate::proofs::SlabValues::finds))]
     pub fn get(&self, file: &FileRef) -> Option<&T>
@@ -132,7 +133,7 @@ impl<T> OrderedSlab<T> {
         Some(&entry.value)
     }
 
-    /// Lends the value of a file to write to, if there is one.
+    /// Lends the value under this reference's number to write to, if there is one.
     #[inline(always)]
     #[tactic(auto, using(crate::proofs::SlabValues::finds))]
     pub fn get_mut(&mut self, file: &FileRef) -> Option<&mut T>
@@ -148,8 +149,8 @@ impl<T> OrderedSlab<T> {
         Some(self.slab[key].value_mut())
     }
 
-    /// Returns the key of the value of a number, if there is one, by a search. A `FileRef` needs
-    /// none.
+    /// Returns a reference to the value of this number, if there is one, by a search. A look-up by
+    /// `FileRef` needs none if its hint is right.
     #[tactic(auto, using(crate::proofs::SlabValues::finds))]
     pub fn find(&self, ino: Ino) -> Option<FileRef>
         ensures there { IfSome result (λ f.

@@ -53,8 +53,8 @@ pub fn stands_at<T>(slab: &Slab<NumberedValue<T>>, key: usize, ino: Ino) -> bool
     }
 }
 
-/// Returns the key of a file. Tries the file's own key first, and asks the order if another number
-/// is there, or none.
+/// Returns the key of the value under this reference's number. Tries the hint first, and asks the
+/// order if another number is there, or none.
 #[inline(always)]
 #[tactic(auto, using(crate::proofs::SlabValues::finds))]
 fn key_of<T>(order: &Order, slab: &Slab<NumberedValue<T>>, file: &FileRef) -> Option<usize>
@@ -150,7 +150,8 @@ fn set_hint<T>(slab: &mut Slab<NumberedValue<T>>, key: usize, at: usize)
     entry.at = at;
 }
 
-/// Removes the value of a file, and returns it, if there is one. Takes no memory.
+/// Removes the value under this reference's number, and returns it, if there is one. Takes no
+/// memory.
 #[inline(always)]
 #[tactic(auto, using(crate::proofs::SlabValues::comes_and_goes))]
 pub fn take<T>(order: &mut Order, slab: &mut Slab<NumberedValue<T>>, file: &FileRef) -> Option<T>

@@ -37,13 +37,13 @@ Refuses old e result new = (result ≡ error_code e) × (new ≡ old)
 abbrev pub Makes : ℤ → Option Machine → Type 0
 Makes result new = ((result ≡ pos 0) × (new ≡ Some fresh)) ⊎ ((result ≡ error_code ENOMEM) × (new ≡ None))
 
--- The call answers 0 and writes `y`, of which this holds; or there is no engine, and it writes
+-- The call answers 0 and writes a `y` that meets `holds`; or there is no engine, and it writes
 -- nothing.
 abbrev pub Tells : {X : Type 0} → Option Machine → (Machine → X → Type 0) → X → ℤ → X → Type 0
 Tells (Some m) holds x result y = (result ≡ pos 0) × holds m y
 Tells None holds x result y = (result ≡ no_engine) × (y ≡ x)
 
--- The call answers a number and writes `y`, of which this holds; or there is no engine, and it
+-- The call answers a number and writes a `y` that meet `holds`; or there is no engine, and it
 -- writes nothing.
 abbrev pub Asks : {X : Type 0} → Option Machine → (Machine → ℤ → X → Type 0) → X → ℤ → X → Type 0
 Asks (Some m) holds x result y = holds m result y

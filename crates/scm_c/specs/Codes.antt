@@ -46,6 +46,6 @@ outcome_code (Err e) = error_code e
 abbrev pub type_named : ℕ → Option SockType
 type_named n = if nat_eq n 1 then Some Stream else (if nat_eq n 2 then Some Seqpacket else None)
 
--- A version as one number, of which a later one is larger (the header's JW_VERSION).
+-- A version as one number: a later version has a larger one (the header's JW_VERSION).
 abbrev pub version_number : ℕ → ℕ → ℕ → ℕ
 version_number major minor patch = major * 1000000 + minor * 1000 + patch

@@ -5,7 +5,7 @@ use Rattle.scm_race.specs.Race.{LongRaceText}
 use Rattle.scm_command.specs.Program.{TextOf}
 use Rattle.scm_command.proofs.program.race_lines.Goals as goal
 
--- A race with checkpoints is told as such.
+-- Where the task has checkpoints, the lines of a long race are those of the task.
 long_text : (workers steps seed budget n : ℕ) (text : List ℕ) → ¬ (n ≡ 0) → LongRaceText workers steps seed budget text → TextOf workers steps seed budget n text
 long_text workers steps seed budget zero text some told = absurd (some refl)
 long_text workers steps seed budget (suc n) text some told = told

@@ -1,4 +1,4 @@
--- The race goes on by a part, from each checkpoint to the next. The log of the last part begins
+-- The race continues by a part, from each checkpoint to the next. The log of the last part begins
 -- where these end.
 use Rattle.std.proofs.Common.{◌≡◌, ◌≤◌, ◌+◌, ◌-◌, ◌*◌}
 use Rattle.scm_race.specs.Parts.{AreFresh, AreLeft, Continues}
