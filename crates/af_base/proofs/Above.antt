@@ -9,6 +9,7 @@ use Rattle.std.specs.BTreeMap.Range.{IsRangeOf}
 use Rattle.std.specs.declared.ops.Bound.TheVariants.{Excluded, Unbounded}
 use Rattle.af_base.proofs.Trees.{nat_looked}
 
+-- An option that is some value is there.
 is_there : {A : Type 0} (o : Option A) (a : A) → o ≡ Some a → IsTrue (is_some o)
 is_there o a e = subst (λ o. IsTrue (is_some o)) (sym e) (search rules)
 

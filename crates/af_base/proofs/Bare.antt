@@ -41,6 +41,7 @@ contents-bare : (x : File) → contents (bare_file x) ≡ contents x
 contents-bare Plain = refl
 contents-bare (AsSocket s) = ap (λ c. c ++ s.backlog) (carried-bare s.queue)
 
+-- A bare file has the same files in its queue.
 queue-bare : (x : File) → attached_in (queue_of (bare_file x)) ≡ attached_in (queue_of x)
 queue-bare Plain = refl
 queue-bare (AsSocket s) = carried-bare s.queue

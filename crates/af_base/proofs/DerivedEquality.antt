@@ -19,14 +19,17 @@ use Rattle.af_base.specs.contracts.events.StepPartialEq.TheImpl as step_eq
 use Rattle.af_base.specs.contracts.events.EventPartialEq.TheImpl as event_eq
 use Rattle.af_base.specs.contracts.events.ReplyPartialEq.TheImpl as reply_eq
 
+-- Where a conjunction is true, both parts are.
 pub both : (a b : Bool) → (a && b) ≡ true → (a ≡ true) × (b ≡ true)
 both true b e = (refl, e)
 both false b e = absurd (false≢true e)
 
+-- Where both parts are true, a conjunction is.
 each : (a b : Bool) → a ≡ true → b ≡ true → (a && b) ≡ true
 each true b p q = q
 each false b p q = p
 
+-- A number equals itself.
 number_itself : (x : ℕ) → nat_eq x x ≡ true
 number_itself x = eq-eqb x x refl
 
@@ -38,6 +41,7 @@ list_same xs ys e = (slice_eq-Decides Decides-eqb xs ys (pointwise nat_eq xs ys)
 pub list_itself : (xs : List ℕ) → pointwise nat_eq xs xs ≡ true
 list_itself xs = (slice_eq-Decides Decides-eqb xs xs (pointwise nat_eq xs xs) refl).1 refl
 
+-- Steps that compare equal are equal.
 pub step_same : (a b : Step) → step_eq.ghosts.eq a b ≡ true → a ≡ b
 step_same step.Open step.Open e = refl
 step_same (step.Dup x) (step.Dup y) e = ap step.Dup (eqb-true x y e)
@@ -68,6 +72,7 @@ step_same (step.Peek x z t) (step.Peek y w u) e =
 step_same (step.Limit x) (step.Limit y) e = ap step.Limit (eqb-true x y e)
 step_same a b e = absurd (false≢true e)
 
+-- A step compares equal to itself.
 pub step_itself : (a : Step) → step_eq.ghosts.eq a a ≡ true
 step_itself step.Open = refl
 step_itself (step.Dup x) = number_itself x
@@ -88,6 +93,7 @@ step_itself (step.Recv x z t) = each _ _ (number_itself x) (each _ _ (number_its
 step_itself (step.Peek x z t) = each _ _ (number_itself x) (each _ _ (number_itself z) (number_itself t))
 step_itself (step.Limit x) = number_itself x
 
+-- Events that compare equal are equal.
 pub event_same : (a b : Event) → event_eq.ghosts.eq a b ≡ true → a ≡ b
 event_same (event.Spawn x z t) (event.Spawn y w u) e =
     let h = both _ _ e in
@@ -99,6 +105,7 @@ event_same (event.Slice x) (event.Slice y) e = ap event.Slice (eqb-true x y e)
 event_same event.Pass event.Pass e = refl
 event_same a b e = absurd (false≢true e)
 
+-- An event compares equal to itself.
 pub event_itself : (a : Event) → event_eq.ghosts.eq a a ≡ true
 event_itself (event.Spawn x z t) = each _ _ (number_itself x) (each _ _ (number_itself z) ((booleans_Decides t t).1 refl))
 event_itself (event.Proc x s) = each _ _ (number_itself x) (step_itself s)
@@ -106,6 +113,7 @@ event_itself event.Begin = refl
 event_itself (event.Slice x) = number_itself x
 event_itself event.Pass = refl
 
+-- Replies that compare equal are equal.
 pub reply_same : (a b : Reply) → reply_eq.ghosts.eq a b ≡ true → a ≡ b
 reply_same (reply.Pid x) (reply.Pid y) e = ap reply.Pid (eqb-true x y e)
 reply_same (reply.Fd x) (reply.Fd y) e = ap reply.Fd (eqb-true x y e)
@@ -124,6 +132,7 @@ reply_same (reply.Done x z) (reply.Done y w) e = let h = both _ _ e in λ i. rep
 reply_same (reply.Refused x) (reply.Refused y) e = ap reply.Refused (same_true errno.the_type (search rules) x y e)
 reply_same a b e = absurd (false≢true e)
 
+-- A reply compares equal to itself.
 pub reply_itself : (a : Reply) → reply_eq.ghosts.eq a a ≡ true
 reply_itself (reply.Pid x) = number_itself x
 reply_itself (reply.Fd x) = number_itself x

@@ -32,16 +32,19 @@ is_peer state.Idle q = false
 is_peer (state.Listening b) q = false
 is_peer state.HungUp q = false
 
+-- To map a file to itself changes nothing.
 same : (o : Option File) → o ≡ option_map (λ x. x) o
 same None = refl
 same (Some x) = refl
 
+-- What a number has after a file is freed: nothing if it is that file, hung up if it is the peer.
 get-drop_with : (t : State) (f : ℕ) (m : Map File) (q : ℕ) → map.get (drop_with t f m) q ≡ option_map (λ x. cond (is_peer t q) (hang_up x) x) (cond (eq_by_cmp nat_cmp q f) None (map.get m q))
 get-drop_with (state.Connected p) f m q = get-change_at hang_up (map.remove m f) p q ∙ ap (option_map (λ x. cond (eq_by_cmp nat_cmp q p) (hang_up x) x)) (map.get-remove nat_cmp_total m f q)
 get-drop_with state.Idle f m q = map.get-remove nat_cmp_total m f q ∙ same _
 get-drop_with (state.Listening b) f m q = map.get-remove nat_cmp_total m f q ∙ same _
 get-drop_with state.HungUp f m q = map.get-remove nat_cmp_total m f q ∙ same _
 
+-- The peer that a state names is the one that it is connected to.
 peer_is : (t : State) (q : ℕ) → is_peer t q ≡ true → t ≡ state.Connected q
 peer_is (state.Connected p) q e = ap state.Connected (sym (eqb-true q p (sym (unsigned_tied q p) ∙ e)))
 peer_is state.Idle q e = absurd (false≢true e)

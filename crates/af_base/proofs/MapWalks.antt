@@ -14,6 +14,7 @@ use Rattle.af_base.proofs.PlacesAndCounts.{here}
 use Rattle.af_base.proofs.Lookups.{none_some, some_same, there}
 use Rattle.af_base.proofs.Sums.{first, second}
 
+-- A key that compares less is less.
 less : (k j : ℕ) (o : Ordering) → o ≡ nat_cmp k j → T (is_lt o) → k < j
 less k j Less e p = ranked k j Less e
 less k j Equal e p = absurd p

@@ -16,6 +16,7 @@ use Rattle.af_base.specs.Places.{Holds, InTable, contents}
 use Rattle.af_base.specs.Counts.{count_in, one, refs, tabled, total_of}
 use Rattle.af_base.proofs.Sums.{total-remove, first, second}
 
+-- A file is in a list as often as it is the first, and then in the rest.
 pub count-cons : (f x : ℕ) (xs : List ℕ) → count_in f (x ∷ xs) ≡ one f x + count_in f xs
 count-cons f x xs = sum_by-cons _ x xs
 
@@ -28,6 +29,7 @@ pub count-length : (f : ℕ) (xs : List ℕ) → count_in f xs ≤ length xs
 count-length f [] = omega arith
 count-length f (x ∷ xs) = omega (arith, count-cons f x xs, one-most f x, count-length f xs)
 
+-- A file counts once where it is that file.
 one-same : (f x : ℕ) → f ≡ x → one f x ≡ 1
 one-same f x e = ap {B = ℕ} (λ b. cond b 1 0) (eq-eqb f x e)
 
@@ -52,6 +54,7 @@ count-Contains f xs h = at xs h.0 h.1 h.2 where
 pub total-has : {X : Type 0} (F : X → ℕ) (m : Map X) (k : ℕ) (x : X) → map.get m k ≡ Some x → F x ≤ total_of F m
 total-has F m k x is = omega (arith, total-remove F m k x is)
 
+-- A test for less answers yes only of what compares less.
 less : (o : Ordering) → T (is_lt o) → o ≡ Less
 less Less p = refl
 less Equal p = absurd p
@@ -89,6 +92,7 @@ module _ {X : Type 0} where
       let at = found F (map.entries m) (entries_sorted m) h in
       (at.0, at.1, get-entries m at.0 ∙ at.2, at.3)
 
+-- A file that counts is that file.
 pub one-positive : (f g : ℕ) → 0 < one f g → f ≡ g
 one-positive f g h = elim (nat_eq f g) as (λ b. nat_eq f g ≡ b → f ≡ g) [
   | true ↦ λ e. eqb-true f g e
@@ -102,6 +106,7 @@ InTable-tabled w f h =
     let n = total-some (one f) p.1.table p.3 in
     (p.0, n.0, ap (λ o. option_map_or (λ q. map.get q.table n.0) o None) p.2 ∙ n.2 ∙ ap Some (sym (one-positive f n.1 n.3)))
 
+-- A file that a table has counts there.
 pub tabled-InTable : (w : World) (f : ℕ) → InTable w f → 0 < tabled w f
 tabled-InTable w f t = by (map.get w.processes t.0) refl t.2 where
   by : (o : Option Process) → map.get w.processes t.0 ≡ o → option_map_or (λ q. map.get q.table t.1) o None ≡ Some f → 0 < tabled w f

@@ -15,15 +15,18 @@ use Rattle.af_base.specs.Pass.{Purges, emptied, empty_file}
 use Rattle.af_base.proofs.SettledWorlds.{from_without, get-map_entries, get-without, live-without, stays, to_without, without-without}
 use Rattle.af_base.proofs.StaysWithin.{neither}
 
+-- A file that is purged is empty, and any other is as it was.
 pub get-emptied : (t : ℕ → Bool) (w : World) (q : ℕ) → map.get (emptied t w).files q ≡ option_map (λ x. if t q then empty_file x else x) (map.get w.files q)
 get-emptied t w q = get-map_entries (λ f x. if t f then empty_file x else x) (map.entries w.files) q ∙ ap (option_map (λ x. if t q then empty_file x else x)) (sym (map.get-entries w.files q))
 
+-- To empty files frees none.
 pub live-emptied : (t : ℕ → Bool) (w : World) (q : ℕ) → is_live (emptied t w) q ≡ is_live w q
 live-emptied t w q = ap is_some (get-emptied t w q) ∙ each (map.get w.files q) where
   each : (o : Option File) → is_some (option_map (λ x. if t q then empty_file x else x) o) ≡ is_some o
   each None = refl
   each (Some x) = refl
 
+-- An emptied socket holds nothing, and any other what it held.
 pub held-emptied : (t : ℕ → Bool) (w : World) (s : ℕ) → held_by (emptied t w) s ≡ cond (t s) [] (held_by w s)
 held-emptied t w s = ap (λ o. option_map_or contents o []) (get-emptied t w s) ∙ each (t s) (map.get w.files s) where
   each : (b : Bool) (o : Option File) → option_map_or contents (option_map (λ x. if b then empty_file x else x) o) [] ≡ cond b [] (option_map_or contents o [])
@@ -42,6 +45,7 @@ in_first false xs x h = (refl, h)
 pub from_emptied : (t : ℕ → Bool) (w : World) (s f : ℕ) → Holds (emptied t w) s f → (t s ≡ false) × Holds w s f
 from_emptied t w s f h = in_first (t s) (held_by w s) f (subst (λ xs. Contains xs f) (held-emptied t w s) h)
 
+-- A socket that is not emptied still holds what it held.
 pub to_emptied : (t : ℕ → Bool) (w : World) (s f : ℕ) → t s ≡ false → Holds w s f → Holds (emptied t w) s f
 to_emptied t w s f e h = subst (λ xs. Contains xs f) (sym (held-emptied t w s ∙ ap (λ b. cond b [] (held_by w s)) e)) h
 

@@ -23,6 +23,7 @@ before q = length (joined (take_while (λ m. not (has_files m)) q))
 abbrev pub up_to : List Message → ℕ → Option Message → TakeResult
 up_to q n o = option_map_or (λ m. take_to q n m.attached (before q) (before q + length m.bytes)) o (take_to q n [] (before q) (before q))
 
+-- A list whose length is not above 0 is empty.
 pub no_files : (xs : List ℕ) → nat_lt 0 (length xs) ≡ false → xs ≡ []
 no_files [] e = refl
 no_files (x ∷ xs) e = absurd (let h = ltb-false _ _ e in omega (arith, h))
@@ -52,6 +53,7 @@ module _ (x : Message) (q : List Message) where
   carried-later : has_files x ≡ false → attached_in (x ∷ q) ≡ attached_in q
   carried-later e = ap (λ xs. xs ++ attached_in q) (no_files x.attached e)
 
+-- A choice between two empty lists is empty.
 pub either_none : (b : Bool) → cond {A = List ℕ} b [] [] ≡ []
 either_none true = refl
 either_none false = refl
@@ -167,6 +169,7 @@ fewer-cut c (m ∷ q) = by (fewer-cut (c - length m.bytes) q) (nat_le (length m.
   by rest false true = omega arith
   by rest false false = omega arith
 
+-- A cut queue is within the limits.
 within-cut : (c : ℕ) (q : List Message) → AreWithin q → AreWithin (cut c q)
 within-cut c [] k = k
 within-cut c (m ∷ q) k = by (within-cut (c - length m.bytes) q (λ n h. k n (Contains-later m q n h))) (nat_le (length m.bytes) c) refl (nat_lt 0 c) where

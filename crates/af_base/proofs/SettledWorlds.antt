@@ -22,6 +22,7 @@ settles_once w a b s t =
     let same : (f : ℕ) → s.0 f ≡ t.0 f = λ f. both_ways (s.0 f) (t.0 f) (λ e. (t.1 f).1 ((s.1 f).0 e)) (λ e. (s.1 f).1 ((t.1 f).0 e)) in
     s.2 ∙ (λ i. without (λ f. same f i) w) ∙ sym t.2
 
+-- A change of each value of a map is seen at each key.
 pub get-map_entries : {X : Type 0} (g : ℕ → X → X) (es : List (ℕ × X)) (q : ℕ) → map.get (map_entries g es) q ≡ option_map (g q) (find nat_cmp q es)
 get-map_entries g [] q = map.get-empty nat_cmp q
 get-map_entries g (e ∷ es) q =
@@ -39,6 +40,7 @@ get-without gone w q =
     map.get-retain_keys (map_entries (λ _. file_without gone) (map.entries w.files)) (λ f. not (gone f)) q (λ x e. ap (λ y. not (gone y)) (sym (nat_cmp-IsAntisymmetric q x e)))
     ∙ ap (λ o. cond (not (gone q)) o None) (get-map_entries (λ _. file_without gone) (map.entries w.files) q ∙ ap (option_map (file_without gone)) (sym (map.get-entries w.files q)))
 
+-- A file without the files of an empty set is as it was.
 same_file : (x : File) → file_without (λ _. false) x ≡ x
 same_file Plain = refl
 same_file (AsSocket s) = ap (λ t. AsSocket (record s { state = t })) (same_state s.state) where
@@ -48,6 +50,7 @@ same_file (AsSocket s) = ap (λ t. AsSocket (record s { state = t })) (same_stat
   same_state (state.Connected p) = refl
   same_state state.HungUp = refl
 
+-- A world without the files of an empty set is as it was.
 pub without_none : (w : World) → without (λ _. false) w ≡ w
 without_none w = ap (λ fs. record w { files = fs }) (map.same_map nat_cmp_total nat_cmp-IsAntisymmetric _ _ (λ q. get-without (λ _. false) w q ∙ each (map.get w.files q))) where
   each : (o : Option File) → option_map (file_without (λ _. false)) o ≡ o
@@ -66,6 +69,7 @@ settled_by w held _ (Goes f live no_table holders) =
       | inr h ↦ settled_by w held h.0 (holders h.0 h.1)
     ]
 
+-- A freed socket holds nothing, and any other what it held.
 pub held-without : (gone : ℕ → Bool) (w : World) (s : ℕ) → held_by (without gone w) s ≡ cond (not (gone s)) (held_by w s) []
 held-without gone w s = ap (λ o. option_map_or contents o []) (get-without gone w s) ∙ each (gone s) (map.get w.files s) where
   same : (x : File) → contents (file_without gone x) ≡ contents x
@@ -77,6 +81,7 @@ held-without gone w s = ap (λ o. option_map_or contents o []) (get-without gone
   each false None = refl
   each false (Some x) = same x
 
+-- A file is live after others are freed, if it was live and is not among them.
 pub live-without : (gone : ℕ → Bool) (w : World) (f : ℕ) → is_live (without gone w) f ≡ cond (not (gone f)) (is_live w f) false
 live-without gone w f = ap is_some (get-without gone w f) ∙ each (gone f) (map.get w.files f) where
   each : (b : Bool) (o : Option File) → is_some (cond (not b) (option_map (file_without gone) o) None) ≡ cond (not b) (is_some o) false
@@ -84,9 +89,11 @@ live-without gone w f = ap is_some (get-without gone w f) ∙ each (gone f) (map
   each false None = refl
   each false (Some x) = refl
 
+-- An empty list has no element.
 pub none_in : (x : ℕ) → ¬ (Contains [] x)
 none_in x h = omega (arith, h.1)
 
+-- What is live without the freed files was live, and is not freed.
 pub stays : (b c : Bool) → cond (not b) c false ≡ true → (b ≡ false) × (c ≡ true)
 stays true c e = absurd (false≢true e)
 stays false c e = (refl, e)
@@ -96,9 +103,11 @@ in_left : (b : Bool) (xs : List ℕ) (x : ℕ) → Contains (cond (not b) xs [])
 in_left true xs x h = absurd (none_in x h)
 in_left false xs x h = (refl, h)
 
+-- A socket that holds a file after others are freed is not among them, and held it before.
 pub from_without : (g : ℕ → Bool) (w : World) (s f : ℕ) → Holds (without g w) s f → (g s ≡ false) × Holds w s f
 from_without g w s f h = in_left (g s) (held_by w s) f (subst (λ xs. Contains xs f) (held-without g w s) h)
 
+-- A socket that is not freed still holds what it held.
 pub to_without : (g : ℕ → Bool) (w : World) (s f : ℕ) → g s ≡ false → Holds w s f → Holds (without g w) s f
 to_without g w s f e h = subst (λ xs. Contains xs f) (sym (held-without g w s ∙ ap (λ b. cond (not b) (held_by w s) []) e)) h
 

@@ -14,6 +14,7 @@ use Rattle.std.specs.BTreeMap.{BTreeMap}
 use Rattle.std.proofs.lemmas.List.Sums.{sum_by-cons}
 use Rattle.af_base.specs.Counts.{total_of}
 
+-- A list of length 0 is empty.
 none : {A : Type 0} (xs : List A) → length xs ≡ 0 → xs ≡ []
 none [] e = refl
 none (x ∷ xs) e = absurd (omega arith)

@@ -13,6 +13,7 @@ use Rattle.std.specs.Option.{option_map_or}
 use Rattle.af_base.specs.Changes.{change_at}
 use Rattle.std.specs.FinMap.{nat_cmp-IsAntisymmetric, FinMap, IsAntisymmetric, find, from_entries, insert, remove, get, get-from_entries, get-insert, get-remove, same_map}
 
+-- A search by order and a look-up by equality find the same.
 find_is : {K X : Type 0} (R : K → K → Ordering) (es : List (K × X)) (q : K) → find R q es ≡ lookup (is_at (R q)) es
 find_is R [] q = refl
 find_is R (e ∷ es) q = ap (cond (is_at (R q) e.0) (Some e.1)) (find_is R es q)
@@ -38,9 +39,11 @@ module _ {K X : Type 0} {R : K → K → Ordering} where
 pub nat_looked : {X : Type 0} (m : BTreeMap ℕ X) (q : ℕ) → get (from_entries {R = nat_cmp} m.entries) q ≡ tree.get nat_cmp m q
 nat_looked m q = looked nat_cmp_total m q
 
+-- The entries of a tree after an insertion are those of the map after it.
 pub nat_inserted : {X : Type 0} (m n : BTreeMap ℕ X) (k : ℕ) (v : X) → tree.Updates nat_cmp m n k (Some v) → from_entries {R = nat_cmp} n.entries ≡ insert (from_entries m.entries) k v
 nat_inserted m n k v h = inserted nat_cmp_total nat_cmp-IsAntisymmetric m n k v h
 
+-- The entries of a tree after a removal are those of the map after it.
 pub nat_removed : {X : Type 0} (m n : BTreeMap ℕ X) (k : ℕ) → tree.Updates nat_cmp m n k None → from_entries {R = nat_cmp} n.entries ≡ remove (from_entries m.entries) k
 nat_removed m n k h = removed nat_cmp_total nat_cmp-IsAntisymmetric m n k h
 

@@ -26,6 +26,7 @@ scanned_also marked grey x f = by (marked f) (grey f) (nat_eq x f) where
   by false false true = refl
   by false false false = refl
 
+-- A file that leaves the grey list changes nothing of another file.
 scanned_other : (marked grey : ℕ → Bool) (x f : ℕ) → nat_eq x f ≡ false → is_scanned marked (but grey x) f ≡ is_scanned marked grey f
 scanned_other marked grey x f e = ap (λ b. marked f && not b) (but_other grey x f e)
 

@@ -33,6 +33,7 @@ entry key value x = (key x, value x)
 abbrev pub changed : {X : Type 0} → (X → X) → ℕ × X → ℕ × X
 changed g e = (e.0, g e.1)
 
+-- A test for less answers yes only of what compares less.
 less : (o : Ordering) → T (is_lt o) → o ≡ Less
 less Less p = refl
 less Equal p = absurd p

@@ -31,6 +31,7 @@ shown None = false
 shown (Some Blank) = false
 shown (Some (Shows r full t)) = true
 
+-- A file is a socket exactly if its face is that of one.
 face-shown : (files : Map File) (f : ℕ) → is_socket_in files f ≡ shown (face_in files f)
 face-shown files f = by (map.get files f) where
   by : (o : Option File) → is_some (option_and_then socket_of o) ≡ shown (option_map face_of o)

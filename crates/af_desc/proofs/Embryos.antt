@@ -18,6 +18,7 @@ use Rattle.af_ledger.specs.declared.place.Place.{Place}
 use Rattle.af_ledger.specs.declared.place.Place.TheVariants.{Backlog, Queue, Table}
 use Rattle.af_desc.specs.FilesView.{AreEmbryos, with_embryo, without_embryo}
 
+-- How many backlogs a file's count has.
 abbrev waits : Count → ℕ
 waits c = c.waiting
 

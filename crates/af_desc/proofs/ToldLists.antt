@@ -303,6 +303,7 @@ module _ {V : Type 0} (m : Map V) (k : ℕ) (fs gs : List ℕ) where
 pub changed-told : (table : FileTableView) (fs : List ℕ) (space : ℕ) (since : Since) → FitsDirty table fs space since → since.changed ≡ true → ((f : ℕ) → map.contains_key table.dirty f ≡ map.contains_key table.files f) → AreChanged table.files since fs
 changed-told table fs space since h asked one f socket none = h.same asked f socket (dirty-absent table.dirty fs f h.listed (one f ∙ socket-there table.files f socket) none)
 
+-- The list of freed files is right where it is asked for.
 pub released-told : (table : FileTableView) (gone : List ℕ) (wide : ℕ) (since : Since) → AreAccounted table gone wide since → since.released ≡ true → ((f : ℕ) → map.contains_key table.counts f ≡ map.contains_key table.files f) → AreReleased table.files (table.last + 1) since gone
 released-told table gone wide since h asked one f = ap (λ b. count_in f gone + bit b) (sym (one f)) ∙ h.each asked f
 

@@ -15,9 +15,11 @@ use Rattle.af_layer.specs.contracts.origin.BookFrom.TheInside as BookFromInside
 use Rattle.af_layer.specs.declared.origin.Origin as Origin
 use Rattle.af_layer.specs.contracts.shared.Shared as Shared
 
+-- The fields of a book may go to another thread.
 book_inside : IsSend BookInside.the_row
 book_inside = declared_send BookInside.the_type (search (sendable, crosses) depth 20, (search sendable, (search (sendable, crosses) depth 20, (engine_send, (search (sendable, crosses, entry.the_send) depth 20, (search (sendable, crosses, event.the_send, reply.the_send) depth 20, tt))))))
 
+-- So may a book.
 book_send : IsSend Book.the_row
 book_send = search (sendable, book_inside) depth 10
 
@@ -32,5 +34,6 @@ module _ (O : RattleType) (o : Origin.Ghosts O.Denot) where
   pub layer_sync : IsSync (Layer.the_row O o)
   layer_sync = search (sendable, crosses, book_from_send) depth 20
 
+-- A shared engine may be used by several threads.
 pub shared_sync : IsSync Shared.the_row
 shared_sync = search (sendable, crosses, engine_send) depth 20

@@ -19,6 +19,7 @@ use Rattle.af_ledger.specs.declared.count.Count.{Count}
 use Rattle.af_ledger.specs.declared.place.Place.{Place}
 use Rattle.af_ledger.specs.declared.place.Place.TheVariants.{Table, Queue, Backlog}
 
+-- A count that is set is seen at its file, and no other count changes.
 looked : (m : Map Count) (f g : ℕ) (c : Count) → count_in_map (map.insert m f c) g ≡ cond (nat_eq g f) c (count_in_map m g)
 looked m f g c = ap (λ o. unwrap_or o uncounted) (get-insert nat_cmp_total m f c g ∙ ap (λ b. cond b (Some c) (map.get m g)) (unsigned_tied g f)) ∙ by (nat_eq g f) where
   by : (b : Bool) → unwrap_or (cond b (Some c) (map.get m g)) uncounted ≡ cond b c (count_in_map m g)
@@ -118,6 +119,7 @@ inflight-unbacklogged f g k = stays (λ c. c.inflight) k.counts f g (fewer Backl
 pub waiting-unbacklogged : (f g : ℕ) (k : Tally) → 0 < (count_of k f).waiting → (count_of (without_ref Backlog f k) g).waiting + one g f ≡ (count_of k g).waiting
 waiting-unbacklogged f g k some = falls (λ c. c.waiting) k.counts f g (fewer Backlog (count_of k f)) (omega arith)
 
+-- A charge that is set is seen at its user, and no other charge changes.
 charge_set : (us : List (ℕ × ℕ)) (u v n m : ℕ) → lookup (nat_eq u) us ≡ Some n → charge_in (set_value (nat_eq u) us m) v ≡ cond (nat_eq u v) m (charge_in us v)
 charge_set us u v n m e =
     ap (λ o. unwrap_or o 0) (lookup-set_value nat_eq_equiv (nat_eq u) (λ x y same. ap (λ z. nat_eq z y) (eqb-true u x same)) v m us (subst IsSome (sym e) (search rules))) ∙ by (nat_eq u v) where
@@ -151,9 +153,11 @@ charge-unqueued u f v k some = by (lookup (nat_eq u) k.users) refl where
 pub total-queued : (u f : ℕ) (k : Tally) → (with_ref (Queue u) f k).total ≡ k.total + 1
 total-queued u f k = refl
 
+-- A reference that leaves a queue is one less in the total.
 pub total-unqueued : (u f : ℕ) (k : Tally) → 0 < k.total → (without_ref (Queue u) f k).total + 1 ≡ k.total
 total-unqueued u f k some = omega arith
 
+-- A changed charge leaves the users as they are.
 keys-recharged : (g : ℕ → ℕ) (u : ℕ) (us : List (ℕ × ℕ)) → keys_of (recharged g u us) ≡ keys_of us
 keys-recharged g u us = by (lookup (nat_eq u) us) where
   by : (o : Option ℕ) → keys_of (option_map_or (λ n. set_value (nat_eq u) us (g n)) o us) ≡ keys_of us
@@ -166,6 +170,7 @@ users-held Table f k = refl
 users-held (Queue u) f k = keys-recharged (λ n. n + 1) u k.users
 users-held Backlog f k = refl
 
+-- A reference that goes leaves the users as they are.
 pub users-dropped : (p : Place) (f : ℕ) (k : Tally) → keys_of (without_ref p f k).users ≡ keys_of k.users
 users-dropped Table f k = refl
 users-dropped (Queue u) f k = keys-recharged (λ n. n - 1) u k.users
@@ -178,6 +183,7 @@ users-added u us = by (is_user u us) where
   by true = refl
   by false = map-append (λ e. e.0) us ((u, 0) ∷ [])
 
+-- A new user is charged nothing, and no other charge changes.
 charge_last : (us : List (ℕ × ℕ)) (u v : ℕ) → charge_in (us ++ (u, 0) ∷ []) v ≡ charge_in us v
 charge_last [] u v = by (nat_eq v u) where
   by : (b : Bool) → unwrap_or {T = ℕ} (cond b (Some 0) None) 0 ≡ 0

@@ -18,6 +18,7 @@ has q k = pointwise nat_eq q k.items
 abbrev alike : Vec ℕ → Vec ℕ → Bool
 alike k = has k.items
 
+-- A search by order and a look-up by equality find the same name.
 found : (es : List (Vec ℕ × ℕ)) (q : List ℕ) → find (slice_cmp nat_cmp) q (map (λ e. (e.0.items, e.1)) es) ≡ lookup (has q) es
 found [] q = refl
 found (e ∷ es) q = λ i. cond (sym (texts_ties q e.0.items) i) (Some e.1) (found es q i)

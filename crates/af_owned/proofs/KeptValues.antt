@@ -75,6 +75,7 @@ pub owned-call : {T : Type 0} (m n : Machine) (values : Map T) (last : ℕ) → 
 owned-call m n values last h p s closed (Ok x) tells done refused = owned-follows m n values last h done.3.2 (follows-step m.world n.world p s closed done.2)
 owned-call m n values last h p s closed (Err e) tells done refused = owned-same m n values last h refused.1
 
+-- The same for the start of a process.
 pub owned-spawn : {T : Type 0} (m n : Machine) (values : Map T) (last : ℕ) → AreOwned m values last → (uid nofile : ℕ) (privileged : Bool)
     → (o : Result ℕ Errno) → IfOk o (λ p. Starts m uid nofile privileged p n) → IfErr o (λ e. RefusesStart m nofile e n) → AreOwned n values last
 owned-spawn m n values last h uid nofile privileged (Ok p) done refused = owned-follows m n values last h done.3.2 (follows-spawn m.world n.world uid nofile privileged done.2)

@@ -39,6 +39,7 @@ grows-same u v files next = record {
   rises = omega (arith, next);
 }
 
+-- Two growths in turn are one.
 grows-join : (u v w : World) → Grows u v → Grows v w → Grows u w
 grows-join u v w a b = record {
   kinds = λ f. elim (b.kinds f) [
@@ -147,6 +148,7 @@ settled-kind mid new s f = elim (each (s.0 f) (map.get mid.files f)) [
   each false (Some Plain) = inr refl
   each false (Some (AsSocket x)) = inr refl
 
+-- A world that grew and then settled follows the old one.
 follows-settles : (old mid new : World) → Grows old mid → Settles mid new → Follows old new
 follows-settles old mid new g s = record {
   kinds = λ f. elim (settled-kind mid new s f) [

@@ -18,9 +18,11 @@ use Rattle.af_queue.specs.Chains.{next_at, keys_from, messages_from, messages_of
 use Rattle.af_queue.specs.Queued.{AreWithin}
 use Rattle.af_queue.proofs.Spans.{cut-part}
 
+-- The next key of a node that is there is the one that it names.
 next_there : (s : Slab Node) (k : ℕ) (x : Node) → slots.get s k ≡ Some x → next_at s k ≡ x.next
 next_there s k x e = ap (λ o. option_map_or (λ y. y.next) o 0) e
 
+-- The messages from a node on are its own and those from the next on.
 first_there : (s : Slab Node) (k n : ℕ) (x : Node) → slots.get s k ≡ Some x → messages_from s k (suc n) ≡ x.message ∷ messages_from s x.next n
 first_there s k n x e = ap (λ o. option_map_or (λ y. y.message ∷ messages_from s y.next n) o []) e
 
@@ -28,9 +30,11 @@ first_there s k n x e = ap (λ o. option_map_or (λ y. y.message ∷ messages_fr
 abbrev pub KeepsKeys : Slab Node → Slab Node → List ℕ → Type 0
 KeepsKeys s t ks = (q : ℕ) → list_any (nat_eq q) ks ≡ true → slots.get t q ≡ slots.get s q
 
+-- A key is among the keys that begin with it.
 itself : (k : ℕ) (ks : List ℕ) → list_any (nat_eq k) (k ∷ ks) ≡ true
 itself k ks = ap (λ b. b || list_any (nat_eq k) ks) (eq-eqb k k refl)
 
+-- A key among some is among these and one more in front.
 behind : (q k : ℕ) (ks : List ℕ) → list_any (nat_eq q) ks ≡ true → list_any (nat_eq q) (k ∷ ks) ≡ true
 behind q k ks h = by (nat_eq q k) where
   by : (b : Bool) → b || list_any (nat_eq q) ks ≡ true
@@ -86,6 +90,7 @@ module _ (s t : Slab Node) (f l : ℕ) where
         by true e h rest = subst (λ z. slots.get t z ≡ slots.get s z) (sym (eqb-true q k e)) here
         by false e h rest = rest h
 
+-- Numbers that differ compare unequal.
 neqb : (a b : ℕ) → a ≢ b → nat_eq a b ≡ false
 neqb a b ne = by (nat_eq a b) refl where
   by : (c : Bool) → nat_eq a b ≡ c → nat_eq a b ≡ false
@@ -283,6 +288,7 @@ pub path_many : (s : Slab Node) (f l k n : ℕ) → IsPath s f l k n → length 
 path_many s f l k zero p = refl
 path_many s f l k (suc n) p = ap length (first_there s k n p.0 p.1.0) ∙ ap suc (path_many s f l p.0.next n p.1.5)
 
+-- The messages of a path are within the limits.
 pub path_within : (s : Slab Node) (f l k n : ℕ) → IsPath s f l k n → AreWithin (messages_from s k n)
 path_within s f l k zero p = tt
 path_within s f l k (suc n) p = subst AreWithin (sym (first_there s k n p.0 p.1.0)) (p.1.4, path_within s f l p.0.next n p.1.5)
@@ -302,5 +308,6 @@ same_queue s t f c same h = (record { few = h.few; path = path_kept s t f c.last
 pub none_of : (s : Slab Node) (c : Chain) → c.len ≡ 0 → messages_of s c ≡ []
 none_of s c e = ap (messages_from s c.first) e
 
+-- A chain of length 0 is a chain of any file.
 pub none_chain : (s : Slab Node) (c : Chain) (f : ℕ) → c.len ≡ 0 → IsChain s c f
 none_chain s c f e = record { few = omega (arith, e); path = subst (IsPath s f c.last c.first) (sym e) refl }

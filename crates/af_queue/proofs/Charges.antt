@@ -20,6 +20,7 @@ use Rattle.af_queue.proofs.Spans.{at-front, at-rest, cut-part, cut-rest, cut-who
 abbrev charged : ℕ → ℕ → List ℕ → ℕ
 charged u v fs = cond (nat_eq u v) (length fs) 0
 
+-- No files charge nobody.
 charged-none : (u v : ℕ) (fs : List ℕ) → fs ≡ [] → charged u v fs ≡ 0
 charged-none u v fs e = ap (λ l. cond (nat_eq u v) (length l) 0) e ∙ by (nat_eq u v) where
   by : (b : Bool) → cond {A = ℕ} b 0 0 ≡ 0

@@ -4,6 +4,7 @@ use Rattle.std.proofs.lemmas.Bool.{cases_lt}
 use Rattle.std.proofs.lemmas.List.{length-append, length-take, take-append-le, take_min}
 use Rattle.std.proofs.Math.Seq.{take-append-add}
 
+-- No bytes are taken where none are asked for.
 take-nothing : (k : ℕ) (xs : List ℕ) → k ≡ 0 → take k xs ≡ []
 take-nothing k xs e = ap (λ n. take n xs) e
 

@@ -17,6 +17,7 @@ use Rattle.af_queue.specs.Streams.{files_in, stream_cut}
 abbrev end_of : List Message → Option Message → ℕ
 end_of q o = option_map_or (λ m. before q + length m.bytes) o (before q)
 
+-- How many bytes there are up to the end of the first message with files, or in all.
 abbrev end : List Message → ℕ
 end q = end_of q (find has_files q)
 
@@ -78,6 +79,7 @@ pub either : (a b : Bool) → a || b ≡ true → ¬ (a ≡ true) → b ≡ true
 either true b e n = absurd (n refl)
 either false b e n = e
 
+-- A receive takes of a stream as many bytes as it asks for, but none behind that end.
 stream_cut-is : (n : ℕ) (q : List Message) → stream_cut n q ≡ min n (end q)
 stream_cut-is n [] = omega arith
 stream_cut-is n (m ∷ q) = by (stream_cut-is (n - length m.bytes) q) (has_files m) refl (nat_le n (length m.bytes)) refl where

@@ -24,6 +24,7 @@ right_written width n =
     let none : width - digits - (width - digits) ≡ 0 = omega arith in
     rw (short, none, repeat_space (width - digits)) (simp append-nil)
 
+-- A choice between two equal values is that value.
 same_both : {A : Type 0} (b : Bool) (x y z : A) → x ≡ z → y ≡ z → cond b x y ≡ z
 same_both true x y z e f = e
 same_both false x y z e f = f

@@ -22,6 +22,7 @@ use Rattle.af_collect.specs.contracts.store.Store.TheInside as StoreInside
 use Rattle.af_steps.specs.contracts.engine.Engine as Engine
 use Rattle.af_steps.specs.contracts.engine.Engine.TheInside as EngineInside
 
+-- The fields of the table of files may go to another thread.
 rows_inside : IsSend RowsInside.the_row
 rows_inside =
     declared_send RowsInside.the_type (
@@ -44,9 +45,11 @@ rows_inside =
       ),
     )
 
+-- So may that table.
 rows_send : IsSend TrackedTable.the_row
 rows_send = search (sendable, rows_inside) depth 10
 
+-- The fields of the files may go to another thread.
 files_inside : IsSend FilesInside.the_row
 files_inside =
     declared_send FilesInside.the_type (
@@ -63,26 +66,34 @@ files_inside =
       ),
     )
 
+-- So may the files.
 files_send : IsSend Files.the_row
 files_send = search (sendable, files_inside) depth 10
 
+-- The fields of the holdings may go to another thread.
 holdings_inside : IsSend HoldingsInside.the_row
 holdings_inside = declared_send HoldingsInside.the_type (search (sendable, crosses) depth 20, (search (sendable, crosses, procs.the_send) depth 20, (files_send, (search (sendable, crosses, ledger.the_send) depth 20, tt))))
 
+-- So may the holdings.
 holdings_send : IsSend Holdings.the_row
 holdings_send = search (sendable, holdings_inside) depth 10
 
+-- The holdings with their pass may go to another thread.
 parts_send : IsSend Collector.the_row
 parts_send = search (sendable, crosses, holdings_send, progress.the_field_send) depth 40
 
+-- The fields of a store may go to another thread.
 store_inside : IsSend StoreInside.the_row
 store_inside = declared_send StoreInside.the_type (parts_send, tt)
 
+-- So may a store.
 store_send : IsSend Store.the_row
 store_send = search (sendable, store_inside) depth 10
 
+-- The fields of an engine may go to another thread.
 engine_inside : IsSend EngineInside.the_row
 engine_inside = declared_send EngineInside.the_type (search (sendable, crosses) depth 20, (store_send, (search sendable, tt)))
 
+-- So may an engine.
 pub engine_send : IsSend Engine.the_row
 engine_send = search (sendable, engine_inside) depth 10

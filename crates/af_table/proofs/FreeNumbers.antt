@@ -35,6 +35,7 @@ left_first k n m len s le e none below =
     ∙ (λ i. left (here i) (rest i) s)
     ∙ ap (λ b. cond (not b) (n ∷ left (n + 1) m s) (left (n + 1) m s)) none
 
+-- Where all of a stretch are taken, none is left.
 left_none : (k len : ℕ) (s : ℕ → Bool) → ((q : ℕ) → k ≤ q → q < k + len → s q ≡ true) → left k len s ≡ []
 left_none k len s h = left_past len k len s h (omega arith) ∙ (let no : len - len ≡ 0 = omega arith in ap (λ m. left (k + len) m s) no)
 
@@ -53,6 +54,7 @@ module _ (p : Process) (words slots : List ℕ) (e : p.table ≡ table_of words 
 
 pub ruleset free_changes = (free_some, free_none)
 
+-- The free numbers from 0 on are all free numbers.
 pub free_all : (p : Process) → free_from 0 p ≡ free_numbers p
 unfolding free_from
 free_all p = let all : p.limit - 0 ≡ p.limit = omega arith in ap (λ n. left 0 n (map.contains_key p.table)) all
@@ -66,9 +68,11 @@ free_head p (Some n) some none = ap (λ l. slice_get l 0) (sym some ∙ free_all
 pub free_two : (p : Process) (a b : ℕ) → free_from 0 p ≡ a ∷ free_from (a + 1) p → free_from (a + 1) p ≡ b ∷ free_from (b + 1) p → lowest_free 2 p ≡ a ∷ b ∷ []
 free_two p a b first second = ap (take 2) (sym (free_all p) ∙ first ∙ ap (λ l. a ∷ l) second)
 
+-- Where no number is free, no two are.
 pub free_no_two : (p : Process) → free_from 0 p ≡ [] → length (free_numbers p) < 2
 free_no_two p none = let few : length (free_numbers p) ≡ 0 = ap length (sym (free_all p) ∙ none) in omega arith
 
+-- Where no number behind the first free one is free, no two are.
 pub free_only_one : (p : Process) (a : ℕ) → free_from 0 p ≡ a ∷ free_from (a + 1) p → free_from (a + 1) p ≡ [] → length (free_numbers p) < 2
 free_only_one p a first none = let few : length (free_numbers p) ≡ 1 = ap length (sym (free_all p) ∙ first ∙ ap (λ l. a ∷ l) none) in omega arith
 

@@ -49,6 +49,7 @@ module _ {X Y : Type 0} (f : X → Y) where
       let rest = part_of_len es h.1 in
       len-insert nat_cmp_total (part_of f es) e.0 (f e.1) ∙ ap (λ b. cond b (map.len (part_of f es)) (map.len (part_of f es) + 1)) new ∙ ap (λ n. n + 1) rest ∙ omega arith
 
+-- Two tests of equality agree.
 tied : (k q : ℕ) → nat_eq k q ≡ eq_by_cmp nat_cmp q k
 tied k q = nat_eq_equiv.symm k q ∙ sym (unsigned_tied q k)
 
@@ -164,10 +165,12 @@ module _ {S : Type 0} where
   unfolding processes_of
   process_count m h = part_of_len (λ h. h.process) m.entries h
 
+-- No entries show no processes.
 pub no_processes : (es : List (ℕ × ProcessView)) → es ≡ [] → processes_of es ≡ map.empty
 unfolding processes_of
 no_processes es e = ap (part_of (λ h. h.process)) e
 
+-- No entries show no rows.
 pub no_rows : (es : List (ℕ × ProcessView)) → es ≡ [] → rows_of es ≡ map.empty
 unfolding rows_of
 no_rows es e = ap (part_of (λ h. h.row)) e

@@ -49,6 +49,7 @@ module _ {Y : Type 0} where
       let entries = listed (with_value d ks) (subst (IsStrictlySortedBy nat_cmp) (sym (keys_back d ks)) (sorted_from_strictly_increasing ks rising)) in
       sym (ap finmap.keys (sym is) ∙ ap (map (λ e. e.0)) entries ∙ keys_back d ks)
 
+-- A pid is found exactly if it is among the keys.
 has_key : {X : Type 0} (es : List (ℕ × X)) (q : ℕ) → is_some (lookup (nat_eq q) es) ≡ list_any (nat_eq q) (keys_of es)
 has_key [] q = refl
 has_key (e ∷ es) q = by (nat_eq q e.0) (has_key es q) where
@@ -56,6 +57,7 @@ has_key (e ∷ es) q = by (nat_eq q e.0) (has_key es q) where
   by true rest = refl
   by false rest = rest
 
+-- A changed value is there exactly if the value was.
 has_value : {X Y : Type 0} (f : X → Y) (o : Option X) → is_some (option_map f o) ≡ is_some o
 has_value f None = refl
 has_value f (Some x) = refl

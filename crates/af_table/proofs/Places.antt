@@ -31,6 +31,7 @@ first_is (k ∷ ks) pid h = by (nat_eq pid k) refl (first_is ks pid) h where
       let next : 1 + position_or_len (nat_eq pid) ks ≡ suc (position_or_len (nat_eq pid) ks) = omega arith in
       ap (slice_get (k ∷ ks)) next ∙ rest (omega arith)
 
+-- A pid is at the position at which it is found.
 pub position_is : (ks : List ℕ) (pid : ℕ) (o : Option ℕ) → o ≡ position (nat_eq pid) ks → IfSome o (λ i. slice_get ks i ≡ Some pid)
 position_is ks pid o e = subst (λ r. IfSome r (λ i. slice_get ks i ≡ Some pid)) (sym e) (by (nat_lt (position_or_len (nat_eq pid) ks) (length ks)) refl) where
   by : (b : Bool) → nat_lt (position_or_len (nat_eq pid) ks) (length ks) ≡ b → IfSome (cond b (Some (position_or_len (nat_eq pid) ks)) None) (λ i. slice_get ks i ≡ Some pid)
@@ -44,6 +45,7 @@ entry_known es i k there = by (slice_get es i) refl where
   by None e = absurd (none_some k (sym (ap (option_map (λ p. p.0)) e) ∙ sym (slice_get-map (λ p. p.0) es i) ∙ there))
   by (Some p) e = search rules
 
+-- Keys that are found alike are equal.
 same_some : (k l : ℕ) → Some k ≡ Some l → k ≡ l
 same_some k l e = cc
 

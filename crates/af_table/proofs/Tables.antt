@@ -25,11 +25,13 @@ remove-none m k none = same_map nat_cmp_total nat_cmp-IsAntisymmetric _ _ (λ q.
   by q true e = ap (map.get (map.remove m k)) (eqb-true q k e) ∙ remove-here m k ∙ sym (ap (map.get m) (eqb-true q k e) ∙ none)
   by q false e = remove-other m k q e
 
+-- A slot that is set has the new file.
 slice_get-set_same : (fs : List ℕ) (n f : ℕ) → n < length fs → slice_get (slice_set fs n f) n ≡ Some f
 slice_get-set_same [] n f h = absurd (omega arith)
 slice_get-set_same (x ∷ fs) zero f h = refl
 slice_get-set_same (x ∷ fs) (suc n) f h = slice_get-set_same fs n f (omega arith)
 
+-- Any other slot is as it was.
 slice_get-set_other : (fs : List ℕ) (n q f : ℕ) → (q ≡ n → ⊥) → slice_get (slice_set fs n f) q ≡ slice_get fs q
 slice_get-set_other [] n q f apart = refl
 slice_get-set_other (x ∷ fs) zero zero f apart = absurd (apart refl)
@@ -37,12 +39,14 @@ slice_get-set_other (x ∷ fs) zero (suc q) f apart = refl
 slice_get-set_other (x ∷ fs) (suc n) zero f apart = refl
 slice_get-set_other (x ∷ fs) (suc n) (suc q) f apart = slice_get-set_other fs n q f (λ e. apart (ap suc e))
 
+-- The first slots are as in the whole list.
 slice_get-take : (m : ℕ) (fs : List ℕ) (q : ℕ) → q < m → slice_get (take m fs) q ≡ slice_get fs q
 slice_get-take zero fs q h = absurd (omega arith)
 slice_get-take (suc m) [] q h = refl
 slice_get-take (suc m) (f ∷ fs) zero h = refl
 slice_get-take (suc m) (f ∷ fs) (suc q) h = slice_get-take m fs q (omega arith)
 
+-- Slots added behind leave those in front.
 slice_get-append : (fs gs : List ℕ) (q : ℕ) → q < length fs → slice_get (fs ++ gs) q ≡ slice_get fs q
 slice_get-append [] gs q h = absurd (omega arith)
 slice_get-append (f ∷ fs) gs zero h = refl

@@ -10,6 +10,7 @@ use Rattle.std.proofs.lemmas.Nat.Bits.{bit_at-zero, bit_at-lt, bit_at_and, bit_a
 use Rattle.af_base.specs.declared.limits.TheConstants.{MAX_NOFILE}
 use Rattle.af_table.specs.Bits.{is_set, is_taken, IsPlace, HasNoPlace}
 
+-- Numbers with the same word and the same bit are equal.
 same_number : (q n : ℕ) → q / 64 ≡ n / 64 → q % 64 ≡ n % 64 → q ≡ n
 same_number q n e f = omega arith
 
@@ -32,11 +33,13 @@ module _ (ws : List ℕ) (n q x : ℕ) (long : n / 64 < length ws) where
     by true e = ap (λ k. is_taken (slice_set ws (n / 64) x) k) (eqb-true q n e) ∙ ap (λ w. is_set w (n % 64)) (get_or-set_same ws (n / 64) x 0 long) ∙ here
     by false e = other _ refl (eqb-false q n e)
 
+-- After a bit is set its number is taken, and the others are as they were.
 pub set_bit : (ws : List ℕ) (n q : ℕ) → n < MAX_NOFILE → length ws ≡ MAX_NOFILE / 64 → is_taken (slice_set ws (n / 64) (bit_or (slice_index_or ws (n / 64) 0) (1 * 2 ^ (n % 64) % 18446744073709551616))) q ≡ cond (nat_eq q n) true (is_taken ws q)
 set_bit ws n q h l =
     let low : n % 64 < 64 = omega arith in
     changed_bit ws n q _ (omega arith) true (same_bit _ 1 (bit_at_set_same w64 (slice_index ws (n / 64)) (n % 64) low)) (λ i _ apart. same_bit _ _ (bit_at_set_other w64 (slice_index ws (n / 64)) (n % 64) low i apart))
 
+-- After a bit is cleared its number is free, and the others are as they were.
 pub clear_bit : (ws : List ℕ) (n q : ℕ) → n < MAX_NOFILE → length ws ≡ MAX_NOFILE / 64 → is_taken (slice_set ws (n / 64) (bit_and (slice_index_or ws (n / 64) 0) (18446744073709551615 - 1 * 2 ^ (n % 64) % 18446744073709551616))) q ≡ cond (nat_eq q n) false (is_taken ws q)
 clear_bit ws n q h l =
     let low : n % 64 < 64 = omega arith in
@@ -46,18 +49,23 @@ clear_bit ws n q h l =
 abbrev pub high_of : ℕ → ℕ → ℕ
 high_of word k = bit_and word (18446744073709551615 * 2 ^ k % 18446744073709551616)
 
+-- A bit of the word without its low bits is there if it is in the word and not among these.
 high_bit : (word k i : ℕ) → k < 64 → bit_at (high_of word k) i ≡ min (bit_at word i) (bit_at (2 ^ 64 - 2 ^ k) i)
 high_bit word k i h = ap (λ m. bit_at (bit_and word m) i) (ones_shl 64 k (omega arith)) ∙ bit_at_and word (2 ^ 64 - 2 ^ k) i
 
+-- A bit masked by one is itself.
 min_one : (b : ℕ) → b < 2 → min b 1 ≡ b
 min_one b h = omega arith
 
+-- A bit masked by zero is zero.
 min_zero : (b : ℕ) → min b 0 ≡ 0
 min_zero b = omega arith
 
+-- From k on the bits are as in the word.
 high_from : (word k i : ℕ) → k < 64 → k ≤ i → i < 64 → bit_at (high_of word k) i ≡ bit_at word i
 high_from word k i h le lt = high_bit word k i h ∙ ap (min (bit_at word i)) (bit_at_mask_inside k 64 i le lt) ∙ min_one (bit_at word i) (bit_at-lt word i)
 
+-- Below k no bit is set.
 high_below : (word k i : ℕ) → k < 64 → i < k → bit_at (high_of word k) i ≡ 0
 high_below word k i h lt = high_bit word k i h ∙ ap (min (bit_at word i)) (bit_at_mask_below k 64 i lt) ∙ min_zero (bit_at word i)
 
@@ -80,9 +88,11 @@ place_found word k h fits some =
       reached t true e set = let no = sym set ∙ high_below word k t h (omega (arith, ltb-true t k e)) in absurd (omega arith)
       reached t false e set = omega (arith, ltb-false t k e)
 
+-- Where no bit is left, no place from k on is set.
 pub place_none : (word k : ℕ) → k < 64 → high_of word k ≡ 0 → HasNoPlace word k true
 place_none word k h none = λ q le lt. same_bit (bit_at word q) 0 (sym (high_from word k q h le lt) ∙ ap (λ w. bit_at w q) none ∙ bit_at-zero q)
 
+-- The complement of a bit is set exactly if the bit is not.
 turned : (b : ℕ) → b < 2 → nat_eq (1 - b) 1 ≡ not (nat_eq b 1)
 turned zero h = refl
 turned (suc zero) h = refl
@@ -92,6 +102,7 @@ turned (suc (suc b)) h = absurd (omega arith)
 pub set_of_not : (word q : ℕ) → word < 2 ^ 64 → q < 64 → is_set (18446744073709551615 - word) q ≡ not (is_set word q)
 set_of_not word q fits h = same_bit _ _ (bit_at_not w64 word q fits h) ∙ turned (bit_at word q) (bit_at-lt word q)
 
+-- To negate twice is to change nothing.
 twice : (b : Bool) → not (not b) ≡ b
 twice true = refl
 twice false = refl
@@ -105,10 +116,12 @@ place_of_not word k n fits h = record {
   least = λ q le lt. sym (twice (is_set word q)) ∙ ap not (sym (set_of_not word q fits (let low = h.low in omega arith)) ∙ h.least q le lt);
 }
 
+-- The same of a place that may be missing.
 pub places_of_not : (word k : ℕ) (b : Bool) (o : Option ℕ) → b ≡ false → word < 2 ^ 64 → IfSome o (λ n. IsPlace (18446744073709551615 - word) k true n) → IfSome o (λ n. IsPlace word k b n)
 places_of_not word k b None e fits h = h
 places_of_not word k b (Some n) e fits h = subst (λ r. IsPlace word k r n) (sym e) (place_of_not word k n fits h)
 
+-- Where the complement has no place that is set, the word has none that is clear.
 pub no_place_of_not : (word k : ℕ) → word < 2 ^ 64 → HasNoPlace (18446744073709551615 - word) k true → HasNoPlace word k false
 no_place_of_not word k fits h = λ q le lt. sym (twice (is_set word q)) ∙ ap not (sym (set_of_not word q fits lt) ∙ h q le lt)
 

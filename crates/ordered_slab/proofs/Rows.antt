@@ -25,10 +25,12 @@ held rows q = map.get (live_of rows) q
 pub same : (m n : Map ℕ) → ((q : ℕ) → map.get m q ≡ map.get n q) → m ≡ n
 same m n h = same_map nat_cmp_total nat_cmp-IsAntisymmetric m n h
 
+-- A choice between two equal values is that value.
 either_way : (b : Bool) (o : Option ℕ) → o ≡ cond b o o
 either_way true o = refl
 either_way false o = refl
 
+-- A value or else nothing is that value.
 pub or_none : (o : Option ℕ) → or_else o None ≡ o
 or_none None = refl
 or_none (Some k) = refl
@@ -40,9 +42,11 @@ row_held r rows q = by r.key where
   by None = either_way (nat_eq q r.ino) (held rows q)
   by (Some k) = get-insert nat_cmp_total (live_of rows) r.ino k q ∙ ap (λ b. cond b (Some k) (held rows q)) (unsigned_tied q r.ino)
 
+-- A row in front holds its own number, if it is live.
 row_here : (r : OrderRow) (rows : List OrderRow) (q : ℕ) → nat_eq q r.ino ≡ true → held (r ∷ rows) q ≡ or_else r.key (held rows q)
 row_here r rows q e = row_held r rows q ∙ ap (λ b. cond b (or_else r.key (held rows q)) (held rows q)) e
 
+-- A row in front changes nothing of other numbers.
 row_other : (r : OrderRow) (rows : List OrderRow) (q : ℕ) → nat_eq q r.ino ≡ false → held (r ∷ rows) q ≡ held rows q
 row_other r rows q e = row_held r rows q ∙ ap (λ b. cond b (or_else r.key (held rows q)) (held rows q)) e
 
@@ -83,9 +87,11 @@ append_held (r ∷ xs) ys q = by (append_held xs ys q) (nat_eq q r.ino) refl r.k
 rise_rest : (r : OrderRow) (rows : List OrderRow) → Rise (r ∷ rows) → Rise rows
 rise_rest r rows h i j l m = h (suc i) (suc j) (omega arith) (omega arith)
 
+-- Each row is above the first one.
 above_first : (r : OrderRow) (rows : List OrderRow) → Rise (r ∷ rows) → (i : ℕ) → i < length rows → r.ino < (row_at rows i).ino
 above_first r rows h i l = h 0 (suc i) (omega arith) (omega arith)
 
+-- No row behind the first has its number.
 first_alone : (r : OrderRow) (rows : List OrderRow) → Rise (r ∷ rows) → held rows r.ino ≡ None
 first_alone r rows h = nowhere rows r.ino (λ i l e. let m = above_first r rows h i l in omega arith)
 
@@ -97,6 +103,7 @@ at_place (r ∷ rows) h (suc i) l =
     let m = above_first r rows h i (omega arith) in
     row_other r rows (row_at rows i).ino (told_apart (row_at rows i).ino r.ino (λ e. omega arith)) ∙ at_place rows (rise_rest r rows h) i (omega arith)
 
+-- The number of a live row is held under its key.
 pub live_place : (rows : List OrderRow) → Rise rows → (n i k : ℕ) → i < length rows → row_at rows i ≡ record { ino = n; key = Some k } → held rows n ≡ Some k
 live_place rows h n i k l e = ap (held rows) (sym (ap (λ r. r.ino) e)) ∙ at_place rows h i l ∙ ap (λ r. r.key) e
 
@@ -124,9 +131,11 @@ module _ (d : OrderRow) (dead : d.key ≡ None) where
 pub push_held : (rows : List OrderRow) (r : OrderRow) (q : ℕ) → held (rows ++ r ∷ []) q ≡ or_else (held rows q) (cond (nat_eq q r.ino) r.key None)
 push_held rows r q = append_held rows (r ∷ []) q ∙ ap (or_else (held rows q)) (row_held r [] q ∙ ap (λ o. cond (nat_eq q r.ino) (or_else r.key o) o) (get-empty nat_cmp q) ∙ ap (λ o. cond (nat_eq q r.ino) o None) (or_none r.key))
 
+-- A row added at the end leaves those in front.
 pub row_before : (rows : List OrderRow) (r : OrderRow) (i : ℕ) → i < length rows → row_at (rows ++ r ∷ []) i ≡ row_at rows i
 row_before rows r i l = get_or_append_left rows (r ∷ []) (record { ino = 0; key = None }) i l
 
+-- And it is the last.
 pub row_last : (rows : List OrderRow) (r : OrderRow) → row_at (rows ++ r ∷ []) (length rows) ≡ r
 row_last rows r = get_or_push rows r (record { ino = 0; key = None }) (length rows) refl
 
@@ -140,6 +149,7 @@ each_push P rows r h p i l = elim (cases_lt i (length rows)) [
       subst P (sym (ap (row_at (rows ++ r ∷ [])) e ∙ row_last rows r)) p
 ]
 
+-- Rows still rise with one more that is above all.
 pub rise_push : (rows : List OrderRow) (r : OrderRow) → Rise rows → ((i : ℕ) → i < length rows → (row_at rows i).ino < r.ino) → Rise (rows ++ r ∷ [])
 rise_push rows r h below i j l m = elim (cases_lt j (length rows)) [
   | inl n ↦ let o = h i j l n in omega (arith, ap (λ r. r.ino) (row_before rows r i (omega arith)), ap (λ r. r.ino) (row_before rows r j n))
@@ -150,12 +160,14 @@ rise_push rows r h below i j l m = elim (cases_lt j (length rows)) [
       omega (arith, ap (λ r. r.ino) (row_before rows r i (omega arith)), ap (λ r. r.ino) (ap (row_at (rows ++ r ∷ [])) e ∙ row_last rows r))
 ]
 
+-- Rows without the last one still rise.
 pub rise_front : (rows : List OrderRow) (r : OrderRow) → Rise (rows ++ r ∷ []) → Rise rows
 rise_front rows r h i j l m =
     let long = length_push rows r in
     let o = h i j l (omega arith) in
     omega (arith, ap (λ r. r.ino) (row_before rows r i (omega arith)), ap (λ r. r.ino) (row_before rows r j m))
 
+-- The last row is above all others.
 pub rise_last : (rows : List OrderRow) (r : OrderRow) → Rise (rows ++ r ∷ []) → (i : ℕ) → i < length rows → (row_at rows i).ino < r.ino
 rise_last rows r h i l =
     let long = length_push rows r in

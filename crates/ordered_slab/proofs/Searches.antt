@@ -23,6 +23,7 @@ none_row = record { ino = 0; key = None }
 pub live_row : (rows : List OrderRow) (at : ℕ) → at < length rows → IsTrue (is_some (row_at rows at).key) → IsLiveAt rows (row_at rows at).ino at
 live_row rows at l some = let k = there (row_at rows at).key some in (k.0, l, (λ i. record { ino = (row_at rows at).ino; key = k.1 i }))
 
+-- A row with this number and a key is live.
 pub live_number : (rows : List OrderRow) (n at : ℕ) → at < length rows → (row_at rows at).ino ≡ n → IsTrue (is_some (row_at rows at).key) → IsLiveAt rows n at
 live_number rows n at l e some = subst (λ m. IsLiveAt rows m at) e (live_row rows at l some)
 
@@ -50,9 +51,11 @@ row_is rows at k r is e = sym is ∙ (λ i. record { ino = r.ino; key = e i })
 pub key_read : (rows : List OrderRow) (at : ℕ) (r : OrderRow) → at < length rows → (get_or rows at r).key ≡ (row_at rows at).key
 key_read rows at r l = ap (λ r. r.key) (get_or_default rows at r none_row l)
 
+-- The same as the code reads it.
 pub live_read : (rows : List OrderRow) (n at : ℕ) (r : OrderRow) → at < length rows → (row_at rows at).ino ≡ n → true ≡ is_some (get_or rows at r).key → IsLiveAt rows n at
 live_read rows n at r l e some = live_number rows n at l e (sym (some ∙ ap is_some (key_read rows at r l)))
 
+-- A row that is read as dead has no key.
 pub dead_read : (rows : List OrderRow) (at : ℕ) (r : OrderRow) → at < length rows → false ≡ is_some (get_or rows at r).key → (row_at rows at).key ≡ None
 dead_read rows at r l none = by (row_at rows at).key (none ∙ ap is_some (key_read rows at r l)) where
   by : (o : Option ℕ) → false ≡ is_some o → o ≡ None

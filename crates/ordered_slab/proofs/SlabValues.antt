@@ -218,6 +218,7 @@ take_nothing m s f none = same _ _ (λ q. by q (nat_eq f q) refl ∙ without_val
   by q true e = ap (map.get (values_of m s)) (sym (eqb-true f q e)) ∙ looked m s f ∙ ap (under s) none
   by q false e = refl
 
+-- A slot with a value is within the list.
 within : {X : Type 0} (xs : List (Option X)) (k : ℕ) (x : X) → slice_index_or xs k None ≡ Some x → k < length xs
 within [] k x e = absurd (none_some x e)
 within (y ∷ xs) zero x e = omega arith

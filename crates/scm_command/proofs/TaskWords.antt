@@ -30,14 +30,17 @@ one_task : (words : List Text) (task other : Task) → Names words task → Name
 unfolding Names
 one_task words task other names too = one_name (subcommand_of whole_app words) task other names too
 
+-- Words that name a run name no race.
 pub run_not_race : (words : List Text) → (workers steps seed budget checkpoint : ℕ) → Names words Run → Names words (Race workers steps seed budget checkpoint) → ⊥
 run_not_race words workers steps seed budget checkpoint run race =
     let bad : 3 ≡ 4 = ap length (one_task words Run (Race workers steps seed budget checkpoint) run race) in absurd (omega (arith, bad))
 
+-- Words that name a run name no play.
 pub run_not_play : (words : List Text) (file : Option (Bor (List ℕ))) → Names words Run → Names words (Play file) → ⊥
 run_not_play words file run play =
     let bad : 3 ≡ 4 = ap length (one_task words Run (Play file) run play) in absurd (omega (arith, bad))
 
+-- Words that name a race name no play.
 pub race_not_play : (words : List Text) (workers steps seed budget checkpoint : ℕ) (file : Option (Bor (List ℕ))) → Names words (Race workers steps seed budget checkpoint) → Names words (Play file) → ⊥
 race_not_play words workers steps seed budget checkpoint file race play =
     let bad : 114 ≡ 112 = ap (λ name. get_or name 0 0) (one_task words (Race workers steps seed budget checkpoint) (Play file) race play) in absurd (omega (arith, bad))

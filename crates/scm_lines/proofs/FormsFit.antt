@@ -34,6 +34,7 @@ HasWords (items makes) [] last.Items = Unit {0}
 HasWords (k ◂ form) (first ∷ others) ending = (kind_of first ≡ k) × ((v : Value k) → HasWords (form v) others ending)
 HasWords form wanted ending = ⊥
 
+-- A word fits what is wanted exactly if it is read.
 word_fits : (first : Wanted) (word : List ℕ) → fits_word first word ≡ is_some (value_of (kind_of first) word)
 word_fits wanted.Number word = refl
 word_fits wanted.Type word = refl
@@ -49,18 +50,22 @@ word_fits wanted.Two word = by (bytes_eq word (codes "2"))
     by true = refl
     by false = refl
 
+-- What is not there is none.
 none_not_some : {A : Type 0} (r : Option A) → not (is_some r) ≡ is_none r
 none_not_some None = refl
 none_not_some (Some x) = refl
 
+-- A changed value is there exactly if the value was.
 mapped_some : {A B : Type 0} (f : A → B) (r : Option A) → is_some (option_map f r) ≡ is_some r
 mapped_some f None = refl
 mapped_some f (Some x) = refl
 
+-- A value at the end is there exactly where no word is left.
 ended_some : {A : Type 0} (x : A) (words : List (List ℕ)) → no_words words ≡ is_some (at_end x words)
 ended_some x [] = refl
 ended_some x (word ∷ words) = refl
 
+-- Words fit what is wanted exactly if the form reads them.
 words_fit : {A : Type 0} (form : Form A) (wanted : List Wanted) (ending : Last) → HasWords form wanted ending
     → (words : List (List ℕ)) → fits_words wanted ending words ≡ is_some (read_form form words)
 words_fit (end makes) [] last.Nothing has words = ended_some makes words
@@ -106,6 +111,7 @@ step_words verb.Listen = (wanted.Number ∷ wanted.Number ∷ [], last.Nothing)
 step_words verb.Peek = (wanted.Number ∷ wanted.Number ∷ wanted.Number ∷ [], last.Nothing)
 step_words verb.Limit = (wanted.Number ∷ [], last.Nothing)
 
+-- The form of a step has the words that are wanted of it.
 step_has : (v : Verb) → HasWords (step_row v).1 (step_words v).0 (step_words v).1
 step_has verb.Send = (refl, λ on. (refl, λ bytes. tt))
 step_has verb.Recv = (refl, λ on. (refl, λ max_bytes. (refl, λ max_fds. tt)))
@@ -139,6 +145,7 @@ line_words keyword.Totals = ([], last.Nothing)
 line_words keyword.Check = ([], last.Nothing)
 line_words keyword.Version = (wanted.Two ∷ [], last.Nothing)
 
+-- The form of another line has the words that are wanted of it.
 line_has : (k : Keyword) → HasWords (line_row k).1 (line_words k).0 (line_words k).1
 line_has keyword.Spawn = (refl, λ uid. (refl, λ nofile. tt))
 line_has keyword.Begin = tt

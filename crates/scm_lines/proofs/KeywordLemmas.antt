@@ -15,6 +15,7 @@ pub verb_found : (v : Verb) → named step_row verbs (step_row v).0 ≡ Some v
 verb_found verb.Open = refl
 verb_found other = refl
 
+-- Each keyword is found by its name.
 pub keyword_found : (k : Keyword) → named line_row keywords (line_row k).0 ≡ Some k
 keyword_found keyword.Spawn = refl
 keyword_found other = refl
@@ -24,6 +25,7 @@ pub verb_printable : (v : Verb) → all_printable (step_row v).0 ≡ true
 verb_printable verb.Open = refl
 verb_printable other = refl
 
+-- The name of each keyword is printable.
 pub keyword_printable : (k : Keyword) → all_printable (line_row k).0 ≡ true
 keyword_printable keyword.Spawn = refl
 keyword_printable other = refl

@@ -19,22 +19,26 @@ use Rattle.scm_lines.proofs.KeywordLemmas.{keyword_found, keyword_letters, keywo
 
 -- ---- steps
 
+-- Words that are read as a step are in the table.
 step_said : (words : List (List ℕ)) (does : Step) → step_of words ≡ Some does → SaysStep words does
 unfolding step_of
 step_said [] does e = cc
 step_said (word ∷ words) does e = row_said step_row verbs word words does e
 
+-- A step in the table is read so.
 step_read : (words : List (List ℕ)) (does : Step) → SaysStep words does → step_of words ≡ Some does
 unfolding step_of
 step_read [] does says = absurd says
 step_read (word ∷ words) does says = row_read step_row verbs verb_found word words does says
 
+-- The words of a step are printable.
 step_printable : (words : List (List ℕ)) (does : Step) → SaysStep words does → words_printable words ≡ true
 step_printable [] does says = absurd says
 step_printable (word ∷ words) does says = row_printable step_row verb_printable word words does says
 
 -- ---- the words of a line
 
+-- Words that are read as a line are in the table.
 words_said : (words : List (List ℕ)) (said : Line) → words_say words ≡ Some said → Says words said
 unfolding form_of
 words_said [] said e = cc
@@ -44,6 +48,7 @@ words_said (word ∷ words) said e = by (number_of word) refl e
     by (Some pid) number e = let (does, (e1, is)) = mapped _ (step_of words) said e in inl (pid, does, number_said word pid number, step_said words does e1, is)
     by None other e = inr (row_said line_row keywords word words said e)
 
+-- A line in the table is read so.
 words_read : (words : List (List ℕ)) (said : Line) → Says words said → words_say words ≡ Some said
 unfolding form_of
 words_read [] said e = ap Some e
@@ -51,6 +56,7 @@ words_read (word ∷ words) said (inl (pid, does, number, says, is)) = rw (numbe
 words_read (word ∷ words) said (inr (k, is, says)) =
     rw (ap number_of is ∙ keyword_letters k) (row_read line_row keywords keyword_found word words said (k, is, says))
 
+-- The words of a line are printable.
 says_printable : (words : List (List ℕ)) (said : Line) → Says words said → words_printable words ≡ true
 says_printable [] said e = refl
 says_printable (word ∷ words) said (inl (pid, does, number, says, is)) = both_true (number_printable word pid number) (step_printable words does says)
@@ -58,6 +64,7 @@ says_printable (word ∷ words) said (inr says) = row_printable line_row keyword
 
 -- ---- lines
 
+-- Bytes that are read as a line are one of the table.
 pub line_said : (bytes : List ℕ) (said : Line) → line_of bytes ≡ Some said → IsLine bytes said
 unfolding line_of
 line_said bytes said e = elim (chosen (nat_lt MAX_LINE (length bytes)) None _ _ e) [
@@ -79,6 +86,7 @@ line_said bytes said e = elim (chosen (nat_lt MAX_LINE (length bytes)) None _ _ 
 within_line : (n : ℕ) → n ≤ MAX_LINE → nat_lt MAX_LINE n ≡ false
 within_line n h = grind (arith, common_steps)
 
+-- A line of the table is read so.
 pub line_read : (bytes : List ℕ) (said : Line) → IsLine bytes said → line_of bytes ≡ Some said
 unfolding line_of
 line_read bytes said (short, which) =

@@ -9,9 +9,11 @@ use Rattle.scm_lines.specs.declared.line.TheConstants.{MAX_LINE}
 use Rattle.scm_lines.specs.declared.version.Version.{Version}
 use Rattle.scm_lines.proofs.LineLemmas.{comment_by_word, line_by_words}
 
+-- A number up to the limit passes the test of length.
 within : (n : ℕ) → n ≤ MAX_LINE → nat_lt MAX_LINE n ≡ false
 within n h = grind (arith, common_steps)
 
+-- A number above the limit fails the test of length.
 beyond : (n : ℕ) → MAX_LINE < n → nat_lt MAX_LINE n ≡ true
 beyond n h = grind (arith, common_steps)
 

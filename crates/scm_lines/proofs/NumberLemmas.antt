@@ -8,11 +8,13 @@ use Rattle.scm_lines.specs.Numbers.{all_digits, is_numeral, leads_with_zero, num
 use Rattle.scm_lines.specs.Spelling.{IsNumber}
 use Rattle.scm_lines.proofs.Choices.{guarded, split_and}
 
+-- Digits with their value are the numerals of the library.
 own : IsNumeralModel (λ ds. all_digits ds ≡ true) (value_on 0)
 own = numerals_by_fold _ (search rules) value_on (search rules)
 
 -- ---- a number that is read
 
+-- A number that begins with 0 is that digit alone.
 lone_zero : (word : List ℕ) → 0 < length word → leads_with_zero word ≡ false → get_or word 0 0 ≡ 48 → length word ≡ 1
 lone_zero [] some lead first = absurd (omega arith)
 lone_zero (b ∷ []) some lead first = refl
@@ -21,9 +23,11 @@ lone_zero (b ∷ c ∷ bytes) some lead first = ten_lead b first lead
     ten_lead : (b : ℕ) → b ≡ 48 → (b == 48) ≡ false → length (b ∷ c ∷ bytes) ≡ 1
     ten_lead b same lead = absurd (grind (arith, common_steps))
 
+-- A numeral has a digit, nothing but digits, and no leading zero.
 numeral_parts : (word : List ℕ) → is_numeral word ≡ true → (0 < length word) × (all_digits word ≡ true) × (leads_with_zero word ≡ false)
 numeral_parts word e = (grind (arith, common_steps), grind (arith, common_steps), grind (arith, common_steps))
 
+-- A number that is read is spelt as one.
 pub number_said : (word : List ℕ) (n : ℕ) → number_of word ≡ Some n → IsNumber word n
 number_said word n e =
     let (test, same) = guarded (is_numeral word && nat_lt (value_on 0 word) (2 ^ 32)) (value_on 0 word) n e in
@@ -35,6 +39,7 @@ number_said word n e =
 
 -- ---- a number that is said
 
+-- A word that begins above 0 has no leading zero.
 no_lead : (word : List ℕ) → 48 < get_or word 0 0 → leads_with_zero word ≡ false
 no_lead [] h = refl
 no_lead (b ∷ []) h = refl
@@ -43,10 +48,12 @@ no_lead (b ∷ c ∷ bytes) h = above b h
     above : (b : ℕ) → 48 < b → (b == 48) ≡ false
     above b h = grind (arith, common_steps)
 
+-- A decimal text has no leading zero.
 decimal_lead : (n : ℕ) → n < 2 ^ 32 → leads_with_zero (decimal n) ≡ false
 decimal_lead zero h = rw (decimal_digit 0 (omega arith)) refl
 decimal_lead (suc n) h = no_lead (decimal (suc n)) (first_decimal (suc n) (omega arith) (omega arith))
 
+-- A decimal text is a numeral.
 decimal_numeral : (n : ℕ) → n < 2 ^ 32 → is_numeral (decimal n) ≡ true
 decimal_numeral n h =
     let digits : all_digits (decimal n) ≡ true = digits_decimal own n (omega arith) in
@@ -55,6 +62,7 @@ decimal_numeral n h =
     let few : length (decimal n) ≤ 10 = length-decimal-le 10 n (omega arith) (omega arith) (omega arith) in
     grind (arith, common_steps)
 
+-- A number spelt as one is read so.
 pub number_read : (word : List ℕ) (n : ℕ) → IsNumber word n → number_of word ≡ Some n
 number_read word n (small, text) =
     let numeral = decimal_numeral n small in
@@ -62,5 +70,6 @@ number_read word n (small, text) =
     let below : nat_lt n (2 ^ 32) ≡ true = grind (arith, common_steps) in
     rw (text, numeral, value, below) refl
 
+-- A number has nothing but digits.
 pub number_digits : (word : List ℕ) (n : ℕ) → IsNumber word n → all_digits word ≡ true
 number_digits word n (small, e) = subst (λ (w : List ℕ). all_digits w ≡ true) (sym e) (digits_decimal own n (omega arith))

@@ -10,17 +10,20 @@ use Rattle.scm_lines.proofs.NumberLemmas.{number_read, number_said}
 
 -- ---- bytes that are read
 
+-- A byte before others comes of both.
 before_parts : (o : Option ℕ) (r : Option (List ℕ)) (y : List ℕ) → byte_before o r ≡ Some y → (b : ℕ) × ((rest : List ℕ) × (o ≡ Some b) × (r ≡ Some rest) × (b ∷ rest ≡ y))
 before_parts None r y e = cc
 before_parts (Some b) None y e = cc
 before_parts (Some b) (Some rest) y e = (b, (rest, refl, refl, cc))
 
+-- A plain byte that is read spells itself.
 spells_plain : (a : ℕ) (tail y : List ℕ) → ((z : List ℕ) → unescape tail ≡ Some z → Spells tail z) → byte_before (plain_byte a) (unescape tail) ≡ Some y → Spells (a ∷ tail) y
 spells_plain a tail y more e =
     let (b, (rest, e1, e2, e3)) = before_parts (plain_byte a) (unescape tail) y e in
     let (plain, same) = guarded (is_plain a) a b e1 in
     subst (λ (z : List ℕ). Spells (a ∷ tail) z) (ap (λ (c : ℕ). c ∷ rest) same ∙ e3) (tail, (inl (plain, refl), more rest e2))
 
+-- Two hexadecimal digits that are read spell their byte.
 spells_escaped : (high low : ℕ) (tail y : List ℕ) → ((z : List ℕ) → unescape tail ≡ Some z → Spells tail z) → byte_before (hex_pair high low) (unescape tail) ≡ Some y
     → Spells (37 ∷ high ∷ low ∷ tail) y
 spells_escaped high low tail y more e =
@@ -29,6 +32,7 @@ spells_escaped high low tail y more e =
     let (l, (f2, g2)) = mapped _ (hex_value low) b g1 in
     subst (λ (z : List ℕ). Spells (37 ∷ high ∷ low ∷ tail) z) e3 (tail, (inr (high, low, h, l, refl, f1, f2, sym g2), more rest e2))
 
+-- A word that is read spells its bytes.
 spells_read : (word bytes : List ℕ) → unescape word ≡ Some bytes → Spells word bytes
 spells_read [] [] e = refl
 spells_read [] (b ∷ bytes) e = cc
@@ -40,10 +44,12 @@ spells_read (a ∷ b ∷ c ∷ rest) bytes e = elim (chosen (a == 37) _ _ _ e) [
   | inr (f, e2) ↦ spells_plain a (b ∷ c ∷ rest) bytes (spells_read (b ∷ c ∷ rest)) e2
 ]
 
+-- A word that is not empty spells some byte.
 some_bytes : (a : ℕ) (word bytes : List ℕ) → Spells (a ∷ word) bytes → 0 < length bytes
 some_bytes a word [] e = cc
 some_bytes a word (b ∷ bytes) e = omega arith
 
+-- A payload that is read is spelt as one.
 pub payload_said : (word bytes : List ℕ) → payload_of word ≡ Some bytes → IsPayload word bytes
 payload_said [] bytes e = cc
 payload_said (a ∷ word) bytes e = elim (chosen (a == 42) _ _ _ e) [
@@ -63,6 +69,7 @@ payload_said (a ∷ word) bytes e = elim (chosen (a == 42) _ _ _ e) [
 
 -- ---- bytes that are said
 
+-- A plain byte is read as itself.
 plain_byte-read : (b : ℕ) (rest : List ℕ) → is_plain b ≡ true → unescape (b ∷ rest) ≡ byte_before (Some b) (unescape rest)
 plain_byte-read b [] h = rw h refl
 plain_byte-read b (c ∷ []) h = rw h refl
@@ -71,6 +78,7 @@ plain_byte-read b (c ∷ d ∷ rest) h = let no_percent : (b == 37) ≡ false = 
     plain_no_percent : (b : ℕ) → is_plain b ≡ true → (b == 37) ≡ false
     plain_no_percent b h = grind (arith, common_steps)
 
+-- A word that spells bytes is read so.
 spelt_is_read : (word bytes : List ℕ) → Spells word bytes → unescape word ≡ Some bytes
 spelt_is_read word [] e = rw e refl
 spelt_is_read word (b ∷ bytes) (rest, (byte, more)) = elim byte [
@@ -78,6 +86,7 @@ spelt_is_read word (b ∷ bytes) (rest, (byte, more)) = elim byte [
   | inr (high, low, h, l, e, e1, e2, e3) ↦ rw (e, e1, e2, e3, spelt_is_read rest bytes more) refl
 ]
 
+-- No spelt byte begins with a star.
 no_star : (a : ℕ) (word : List ℕ) (b : ℕ) (rest : List ℕ) → SpellsByte (a ∷ word) b rest → (a == 42) ≡ false
 no_star a word b rest byte = elim byte [
   | inl (plain, e) ↦ plain_no_star a b plain cc
@@ -87,6 +96,7 @@ no_star a word b rest byte = elim byte [
     plain_no_star : (a b : ℕ) → is_plain b ≡ true → a ≡ b → (a == 42) ≡ false
     plain_no_star a b plain same = grind (arith, common_steps)
 
+-- A payload spelt as one is read so.
 pub payload_read : (word bytes : List ℕ) → IsPayload word bytes → payload_of word ≡ Some bytes
 payload_read word bytes (short, inl (digits, (n, e, number, copies))) =
     let few_copies : length {A = ℕ} (replicate n 120) ≤ 65537 = subst (λ (l : List ℕ). length l ≤ 65537) copies short in

@@ -33,6 +33,7 @@ not_comment (b ∷ bytes) n e = above b (split_and (is_digit b) (all_digits byte
 abbrev Counts : Option (ℕ × List (List ℕ)) → ℕ → List (List ℕ) → Type 0
 Counts found pid words = ◌≡◌ {A = Option (ℕ × List (List ℕ))} (Some (pid, words)) found
 
+-- A line that begins with a number is no comment.
 words_plain : (ws words : List (List ℕ)) (pid : ℕ) → Counts (number_in ws) pid words → is_comment_of ws ≡ false
 words_plain [] words pid e = refl
 words_plain (w ∷ others) words pid e = by (number_of w) refl e

@@ -42,12 +42,14 @@ pub none_of : (r : Option ℕ) → false ≡ is_some r → None ≡ r
 none_of None e = refl
 none_of (Some x) e = cc
 
+-- Where words misfit or the version has them, a misfit is one by either reason.
 unless : (misfit has : Bool) → (misfit ≡ true) ⊎ (has ≡ true) → misfit ≡ (misfit || not has)
 unless true has either = refl
 unless false true either = refl
 unless false false (inl e) = cc
 unless false false (inr e) = cc
 
+-- A choice with truth is true.
 or_true : (b : Bool) → true ≡ (b || true)
 or_true true = refl
 or_true false = refl

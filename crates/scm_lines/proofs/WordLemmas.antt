@@ -11,10 +11,12 @@ front_of_word front (word ∷ words) = (front ++ word) ∷ words
 abbrev pub words_after : List ℕ → List ℕ → List (List ℕ)
 words_after front rest = cond (ends_word rest) (front ∷ words_of rest) (front_of_word front (words_of rest))
 
+-- A byte onto the first word may as well end what is in front.
 front-onto : (front : List ℕ) (b : ℕ) (words : List (List ℕ)) → front_of_word front (onto_word b words) ≡ front_of_word (front ++ b ∷ []) words
 front-onto front b [] = refl
 front-onto front b (word ∷ words) = ap (λ w. w ∷ words) (sym (append_assoc front (b ∷ []) word))
 
+-- A byte that is no blank belongs to the word in front.
 pub words_after-more : (front : List ℕ) (b : ℕ) (rest : List ℕ) → is_blank b ≡ false → words_after front (b ∷ rest) ≡ words_after (front ++ b ∷ []) rest
 words_after-more front b [] h = rw h refl
 words_after-more front b (c ∷ rest) h = rw h (by_end (is_blank c))

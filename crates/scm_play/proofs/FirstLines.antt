@@ -20,6 +20,7 @@ pub record IsFirst (input x r : List ℕ) : Type 0 where
   pub taken : take_through 10 input ≡ x ++ 10 ∷ []
   pub left : drop_through 10 input ≡ r
 
+-- Each input begins with bytes without a line feed, which end it or come before one.
 through : (input : List ℕ) → (x : List ℕ) × (NoFeed x × (IsLast input x ⊎ ((r : List ℕ) × IsFirst input x r)))
 through [] = ([], (All-nil (λ c. (c == 10) ≡ false), inl (record { all = refl; taken = refl; left = refl })))
 through (b ∷ input) = by_test (b == 10) refl (through input)

@@ -47,6 +47,7 @@ lines-front (w ∷ whole) rest (here, others) =
     ∙ line-front w (flat_map ended_by_feed whole ++ rest) here
     ∙ ap (λ l. strip_carriage_return w ∷ l) (lines-front whole rest others)
 
+-- Lines without a line feed, and one more, are such lines.
 all_end : (whole : List (List ℕ)) (rest : List ℕ) → AllByRecursion NoFeed whole → NoFeed rest → AllByRecursion NoFeed (whole ++ rest ∷ [])
 all_end [] rest all h = (h, tt)
 all_end (w ∷ whole) rest (here, others) h = (here, all_end whole rest others h)
@@ -87,6 +88,7 @@ firsts taken whole rest more n cut counted =
     ap (λ l. take n l) (front_lines taken whole rest more cut)
     ∙ take_at (map strip_carriage_return whole) (lines (rest ++ more)) n (length-map whole strip_carriage_return ∙ sym counted)
 
+-- The element behind some is at their number.
 pub slice_get_at : (xs : List (List ℕ)) (y : List ℕ) (ys : List (List ℕ)) → slice_get (xs ++ y ∷ ys) (length xs) ≡ Some y
 slice_get_at [] y ys = refl
 slice_get_at (x ∷ xs) y ys = slice_get_at xs y ys
@@ -102,6 +104,7 @@ line_at taken whole rest more n cut counted =
 
 -- ---- a line that is too long
 
+-- A byte that compares equal to a line feed is one.
 is_ten : (b : ℕ) → (b == 10) ≡ true → b ≡ 10
 is_ten b e = grind (arith, common_steps)
 
@@ -132,15 +135,19 @@ long_line bytes h = grind (arith, common_steps)
 long_read : (v : Version) (bytes : List ℕ) → MAX_LINE < length bytes → read_in v bytes ≡ None
 long_read v bytes h = ap (λ o. o >>= λ said. cond (has_line v said) (Some said) None) (long_line bytes h)
 
+-- A line of more than 262,145 bytes is too long without its carriage return too.
 strip_long : (line : List ℕ) → 262145 < length line → MAX_LINE < length (strip_carriage_return line)
 strip_long line h = grind (arith, common_steps)
 
+-- A line that may not fit is too long without its carriage return.
 past_limit : (bytes : List ℕ) → may_fit bytes ≡ false → MAX_LINE < length (strip_carriage_return bytes)
 past_limit bytes over = grind (arith, common_steps)
 
+-- To strip a carriage return adds no byte.
 strip_shorter : (bytes : List ℕ) → length (strip_carriage_return bytes) ≤ length bytes
 strip_shorter bytes = grind (arith, common_steps)
 
+-- A line that may not fit is too long.
 long_bare : (bytes : List ℕ) → may_fit bytes ≡ false → MAX_LINE < length bytes
 long_bare bytes over = omega (arith, past_limit bytes over, strip_shorter bytes)
 
@@ -173,11 +180,13 @@ long_first v bad more none over =
 
 -- ---- the end of the input
 
+-- The lines of a cut script are those that were cut off, and those of the rest.
 pub all_lines : (taken : List ℕ) (whole : List (List ℕ)) (rest : List ℕ) → IsCut taken whole rest → lines taken ≡ map strip_carriage_return whole ++ lines rest
 all_lines taken whole rest cut = ap lines cut.joined ∙ lines-front whole rest cut.each
 
 -- ---- the bytes of a chunk
 
+-- What is not true is false.
 not_true : (b : Bool) → ¬ (b ≡ true) → b ≡ false
 not_true true never = absurd (never refl)
 not_true false never = refl

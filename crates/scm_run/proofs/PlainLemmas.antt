@@ -6,6 +6,7 @@ use Rattle.af_base.specs.Names.{is_name_byte}
 use Rattle.af_report.specs.Texts.{escaped}
 use Rattle.scm_run.specs.Text.{all_plain}
 
+-- Where a conjunction is true, both parts are.
 both : (a b : Bool) → (a && b) ≡ true → (a ≡ true) × (b ≡ true)
 both true true e = (refl, refl)
 both true false e = (refl, e)

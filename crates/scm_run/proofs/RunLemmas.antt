@@ -33,6 +33,7 @@ RunText-more old mid new (x ∷ script) events k text out bytes (w, first, writt
   rw joins (append_assoc written rest out),
 )
 
+-- Text and then a beginning of a text are a beginning of both.
 Appends-front : (a b c : Option (List ℕ)) (x y : List ℕ) → Appends a b x → AppendsFront b c y → AppendsFront a c (x ++ y)
 Appends-front a b c x y first (front, rest, e, second) =
     (x ++ front, rest, ap (λ l. x ++ l) e ∙ sym (append_assoc x front rest), Appends-trans a b c x front first second)
@@ -62,6 +63,7 @@ waits says before mid after written gathered kept f wrote m whole part =
 still : (gathered : List ℕ) (now : Option (List ℕ)) → WritesFront gathered gathered now now
 still gathered now = record { front = []; split = refl; wrote = Appends-nil now }
 
+-- A fault is what it says once the gathered text is written, and the writer's where a part is.
 waits_settled : (says : Option (List ℕ) → RunFault → Type 0) (before mid after : Option (List ℕ)) (gathered : List ℕ) (f answer : RunFault)
     → Waits says before mid gathered f → ((answer ≡ f) × Appends mid after gathered) ⊎ ((answer ≡ fault.Write) × AppendsFront mid after gathered) → says after answer
 waits_settled says before mid after gathered f answer w (inl (e, a)) = subst (says after) (sym e) (w.whole after (Appends-trans before mid after w.written gathered w.wrote a))
@@ -75,6 +77,7 @@ settled says before mid after gathered fault.Read answer h s = absurd h
 settled says before mid after gathered fault.Write answer h (e, same) = subst (says after) (sym e) (subst (λ a. says a fault.Write) (sym same) h)
 settled says before mid after gathered fault.Memory answer h s = waits_settled says before mid after gathered fault.Memory answer h s
 
+-- A fault that says one thing says what follows from it.
 waits_as : (says tells : Option (List ℕ) → RunFault → Type 0) (before after : Option (List ℕ)) (gathered : List ℕ) (f : RunFault)
     → ((last : Option (List ℕ)) (g : RunFault) → says last g → tells last g) → Waits says before after gathered f → Waits tells before after gathered f
 waits_as says tells before after gathered f so w = record {
@@ -102,6 +105,7 @@ fault_later taken bs before last f h = λ more. subst (λ l. FaultAt l before la
 abbrev pub longer : RunProgress → List ℕ → RunProgress
 longer old bs = record { point = old.point; pending = old.pending ++ bs; gathered = old.gathered; events = old.events; done = old.done }
 
+-- A run reads bytes without a line feed by keeping them.
 pub ran_more : (taken bs : List ℕ) (before after : Option (List ℕ)) (old : RunProgress) → Ran taken before after old → NoFeed bs → Ran (taken ++ bs) before after (longer old bs)
 ran_more taken bs before after old ran none = record {
   written = ran.written;
@@ -109,6 +113,7 @@ ran_more taken bs before after old ran none = record {
   wrote = ran.wrote;
 }
 
+-- A run that does the line that a line feed ends has run so far.
 pub end_ok : (taken : List ℕ) (before mid after : Option (List ℕ)) (old : RunProgress) (left : List ℕ) (k : ℕ) (point : Point) → Ran taken before mid old
     → LineDone old.point (strip_carriage_return old.pending) old.gathered left mid after k point
     → Ran (taken ++ 10 ∷ []) before after (record { point = point; pending = []; gathered = left; events = old.events + k; done = old.done + 1 })
@@ -157,6 +162,7 @@ run_cut taken text before last old run wrote = λ more. record {
   };
 }
 
+-- A line that cannot be read is the fault of the run.
 run_bad : (taken text : List ℕ) (before last : Option (List ℕ)) (old : RunProgress) → Runs taken text old → read_in old.point.version (strip_carriage_return old.pending) ≡ None → Appends before last text
     → FaultIn (taken ++ 10 ∷ []) before last (fault.Unreadable (old.done + 1))
 run_bad taken text before last old run bad wrote = λ more.
@@ -229,6 +235,7 @@ end_ok_after taken back before mid after old left k point free ran done =
     subst (λ t. Ran t before after (record { point = point; pending = []; gathered = left; events = old.events + k; done = old.done + 1 })) (append_assoc taken back (10 ∷ []))
     (end_ok (taken ++ back) before mid after (longer old back) left k point (ran_more taken back before mid old ran free) done)
 
+-- A run that stops at the line that a line feed ends stops there.
 pub end_stops_after : (taken back : List ℕ) (before mid after : Option (List ℕ)) (old : RunProgress) (left : List ℕ) (f : RunFault) → NoFeed back → Ran taken before mid old
     → LineStops old.point.version (strip_carriage_return (old.pending ++ back)) (old.done + 1) old.gathered left mid after f
     → Halts (FaultIn (taken ++ ended_by_feed back) before) before after left f
@@ -257,6 +264,7 @@ keep_stops rest bytes front first now begun old new (Err f) joined ran h = λ ta
 
 -- ---- a line that is too long
 
+-- A line that is too long is the fault of the run.
 run_long : (taken text : List ℕ) (before last : Option (List ℕ)) (old : RunProgress) → Runs taken text old → may_fit old.pending ≡ false → Appends before last text
     → FaultIn taken before last (fault.Unreadable (old.done + 1))
 run_long taken text before last old run over wrote = λ more.
@@ -279,6 +287,7 @@ run_long taken text before last old run over wrote = λ more.
       };
     }
 
+-- A run stops at a line that is too long.
 pub ran_too_long : (taken : List ℕ) (before mid : Option (List ℕ)) (old : RunProgress) (f : RunFault) → TooLong old.done f → Ran taken before mid old → may_fit old.pending ≡ false
     → Halts (FaultIn taken before) before mid old.gathered f
 ran_too_long taken before mid old (fault.Unreadable number) h ran over =
@@ -290,6 +299,7 @@ ran_too_long taken before mid old fault.Memory h ran over = ran_stops taken befo
 
 -- ---- what is gathered is written
 
+-- Once the gathered text is written, the run has come as far, and none is gathered.
 pub ran_out : (taken : List ℕ) (before mid after : Option (List ℕ)) (old : RunProgress) → Ran taken before mid old → Appends mid after old.gathered
     → Ran taken before after (record { point = old.point; pending = old.pending; gathered = []; events = old.events; done = old.done })
 ran_out taken before mid after old ran wrote = record {
@@ -298,21 +308,25 @@ ran_out taken before mid after old ran wrote = record {
   wrote = Appends-trans before mid after ran.written old.gathered ran.wrote wrote;
 }
 
+-- A run whose write fails has written a beginning of its text.
 pub ran_part : (taken : List ℕ) (before mid after : Option (List ℕ)) (old : RunProgress) → Ran taken before mid old → AppendsFront mid after old.gathered → FaultIn taken before after fault.Write
 ran_part taken before mid after old ran part = run_cut taken _ before after old ran.runs (Appends-front before mid after ran.written old.gathered ran.wrote part)
 
 -- ---- the end of the input
 
+-- A run with no bytes pending has run all.
 pub finish_empty : (taken : List ℕ) (before mid : Option (List ℕ)) (old : RunProgress) → Ran taken before mid old → old.pending ≡ [] → RanAll taken before mid old
 finish_empty taken before mid old ran none =
     let all : lines taken ≡ map strip_carriage_return ran.runs.whole = all_lines taken ran.runs.whole old.pending ran.runs.cut ∙ ap (λ r. map strip_carriage_return ran.runs.whole ++ lines r) none ∙ append-nil _ in
     record { written = ran.written; runs = rw all ran.runs.runs; wrote = ran.wrote }
 
+-- Pending bytes are the last line of the script.
 finish_lines : (taken text : List ℕ) (old : RunProgress) → (run : Runs taken text old) → 0 < length old.pending
     → lines taken ≡ map strip_carriage_return run.whole ++ old.pending ∷ []
 finish_lines taken text old run some =
     all_lines taken run.whole old.pending run.cut ∙ ap (λ l. map strip_carriage_return run.whole ++ l) (last_line old.pending run.cut.open_end some)
 
+-- A run that does its pending bytes has run all.
 pub finish_ok : (taken : List ℕ) (before mid after : Option (List ℕ)) (old : RunProgress) (left : List ℕ) (k n : ℕ) (point : Point) → Ran taken before mid old → 0 < length old.pending
     → LineDone old.point old.pending old.gathered left mid after k point
     → RanAll taken before after (record { point = point; pending = old.pending; gathered = left; events = old.events + k; done = n })
@@ -331,6 +345,7 @@ finish_ok taken before mid after old left k n point ran some done =
 here : (taken : List ℕ) (before last : Option (List ℕ)) (f : RunFault) → FaultIn taken before last f → FaultAt taken before last f
 here taken before last f h = subst (λ t. FaultAt t before last f) (append-nil taken) (h [])
 
+-- A last line that cannot be read is the fault of the run.
 finish_bad : (taken text : List ℕ) (before last : Option (List ℕ)) (old : RunProgress) → Runs taken text old → 0 < length old.pending
     → read_in old.point.version old.pending ≡ None → Appends before last text → FaultAt taken before last (fault.Unreadable (old.done + 1))
 finish_bad taken text before last old run some unread wrote =
@@ -359,6 +374,7 @@ pub finish_refused : (taken : List ℕ) (before mid after : Option (List ℕ)) (
 finish_refused taken before mid after old left ran m =
     halts_as (FaultIn taken before) (FaultAt taken before) before after left fault.Memory (here taken before) (ran_stops taken before mid after old left ran m)
 
+-- A run that is out of memory at its end stops there.
 pub finish_still : (taken : List ℕ) (before mid : Option (List ℕ)) (old : RunProgress) → Ran taken before mid old → Halts (FaultAt taken before) before mid old.gathered fault.Memory
 finish_still taken before mid old ran = finish_refused taken before mid mid old old.gathered ran (still old.gathered mid)
 
@@ -399,11 +415,13 @@ all_part taken before mid after old ran part =
 
 -- ---- what the reader tells
 
+-- What was read is the beginning of the input.
 pub told_input : (told left : Option (List ℕ)) (taken : List ℕ) → Consumes told left taken → (more : List ℕ) × Tells told (taken ++ more)
 told_input None left taken p = ([], tt)
 told_input (Some xs) None taken p = absurd p
 told_input (Some xs) (Some ys) taken p = (ys, p)
 
+-- What was read to the end is the whole input.
 pub told_all : (told left : Option (List ℕ)) (taken : List ℕ) → Consumes told left taken → IsAtEnd left → Tells told taken
 told_all None left taken p q = tt
 told_all (Some xs) None taken p q = absurd p
@@ -411,6 +429,7 @@ told_all (Some xs) (Some ys) taken p q = p ∙ ap (λ l. taken ++ l) q ∙ appen
 
 -- ---- why a run stops
 
+-- Each reader tells some input.
 pub told_any : (told : Option (List ℕ)) → (input : List ℕ) × Tells told input
 told_any None = ([], tt)
 told_any (Some xs) = (xs, refl)
@@ -423,6 +442,7 @@ nothing_ran input before = record {
   all = record { text = []; point = first_point; runs = (refl, refl, refl); wrote = Appends-nil before };
 }
 
+-- A fault in what was read is one of the script.
 pub stops_in : (told left before after : Option (List ℕ)) (bytes : List ℕ) (f : RunFault) → is_read_fault {A = ℕ} (Err f) ≡ false → Consumes told left bytes
     → FaultIn bytes before after f → StopsBy told left before after f
 stops_in told left before after bytes (fault.Unreadable number) unread p h = let (more, t) = told_input told left bytes p in (bytes ++ more, t, h more)
@@ -430,12 +450,14 @@ stops_in told left before after bytes fault.Read unread p h = absurd (h [])
 stops_in told left before after bytes fault.Write unread p h = let (more, t) = told_input told left bytes p in (bytes ++ more, t, h more)
 stops_in told left before after bytes fault.Memory unread p h = let (more, t) = told_input told left bytes p in (bytes ++ more, t, h more)
 
+-- A fault at the end of the script is one of the script.
 stops_at : (told left before after : Option (List ℕ)) (bytes : List ℕ) (f : RunFault) → Tells told bytes → FaultAt bytes before after f → StopsBy told left before after f
 stops_at told left before after bytes (fault.Unreadable number) t h = (bytes, t, h)
 stops_at told left before after bytes fault.Read t h = absurd h
 stops_at told left before after bytes fault.Write t h = (bytes, t, h)
 stops_at told left before after bytes fault.Memory t h = (bytes, t, h)
 
+-- What ends a run whose reader is at its end ends the run of the script.
 pub stops_at_end : (told left before mid after : Option (List ℕ)) (bytes : List ℕ) (old : RunProgress) (r : Result ℕ RunFault) → Consumes told left bytes → IsAtEnd left → Ran bytes before mid old
     → IfErr r (λ f. (taken : List ℕ) (first : Option (List ℕ)) → Ran taken first mid old → FaultAt taken first after f) → IfErr r (StopsBy told left before after)
 stops_at_end told left before mid after bytes old (Ok n) p q ran h = tt

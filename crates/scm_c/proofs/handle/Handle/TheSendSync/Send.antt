@@ -29,5 +29,6 @@ keyless : (a : Global) (p : Ptr) (s : Option Machine) → Keyless (held a p s)
 keyless a p None = tt
 keyless a p (Some m) = (lies p m, frees.frees a (raw (lone Eng.mir)) p)
 
+-- A handle may go to another thread.
 pub send : IsSend the_row
 send = owning_send the_type (search sendable, (search sendable, tt)) (λ d. keyless d.alloc d.at d.shown) (λ k x w. tt)
