@@ -31,7 +31,8 @@ is-socket w s = by (map.get w.files s) refl where
 known-sender : (w : World) (u : ℕ) (k : Tally) → IsOfProcess w u → Agrees w k → IsTrue (is_user u k.users)
 known-sender w u k sender agrees = subst (λ v. IsTrue (is_user v k.users)) (sym sender.2) (agrees.known sender.0 _ sender.1)
 
--- A message that may be put, by what is said of the world that is shown.
+-- For a message that may be put: what contracts say of the world that is shown (v) holds of the
+-- equal one that the store has (w).
 module _ (w v : World) (same : w ≡ v) (k : Tally) (m : Message) (h : IsExact w k) (user : IsOfProcess v m.user) (flying : total v + length m.attached ≤ MAX_INFLIGHT) (live : (f : ℕ) → Contains m.attached f → IsLive v f) where
   flies : total w + length m.attached ≤ MAX_INFLIGHT
   flies = subst (λ x. total x + length m.attached ≤ MAX_INFLIGHT) (sym same) flying

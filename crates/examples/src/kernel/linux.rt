@@ -7,18 +7,25 @@ use jaywardrobe::{Errno, SockType};
 /// The only domain that there is (unix(7)).
 pub const AF_UNIX: u32 = 1;
 
+/// The number of close(2).
 pub const CLOSE: u32 = 3;
 
+/// The number of dup2(2).
 pub const DUP2: u32 = 33;
 
+/// The number of sendmsg(2).
 pub const SENDMSG: u32 = 46;
 
+/// The number of recvmsg(2).
 pub const RECVMSG: u32 = 47;
 
+/// The number of socketpair(2).
 pub const SOCKETPAIR: u32 = 53;
 
+/// The number of fork(2).
 pub const FORK: u32 = 57;
 
+/// The number of _exit(2).
 pub const EXIT: u32 = 60;
 
 /// The number is no call (errno(3)).

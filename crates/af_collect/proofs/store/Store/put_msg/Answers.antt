@@ -26,11 +26,11 @@ charge_message-requires c =
     let here = ap (λ (t : HoldingsView). t.world) c.places.view_is ∙ ap (λ (t : StoreView). t.world) c.self.view_is in
     subst (λ u. CanHoldAll u c.attached.result.now k) (sym c.user.ensures) (subst (λ fs. CanHoldAll c.args.message.user fs k) (sym c.attached.ensures.value) (can-put (the_view h).world _ here k c.args.message c.places.invariant c.requires.user c.requires.flying c.requires.live))
 
--- The invariant once the message is queued.
+-- The counts and charges once the message is queued: those with its places.
 kept : (c : goal.After-push) → let m = c.args.message in kept_of c.push.new.self.counts c.charge_message.new.ledger ≡ with_refs (Queue m.user) m.attached (kept_of c.places.inside.files.counts c.places.inside.ledger)
 kept c = ap (λ v. kept_of v.counts c.charge_message.new.ledger) c.push.ensures ∙ c.charge_message.ensures.kept ∙ (λ i. with_refs (Queue (c.user.ensures i)) (c.attached.ensures.value i) (kept_of c.places.inside.files.counts c.places.inside.ledger))
 
--- The world then.
+-- The world then is the one with the message in the queue.
 put : (c : goal.After-push) → (the_view (record c.places.inside { files = c.push.new.self; ledger = c.charge_message.new.ledger })).world ≡ push_message (the_view c.places.inside).world c.args.socket.now c.args.message
 put c =
     let h = c.places.inside in
@@ -39,6 +39,7 @@ put c =
     world-is _ (push_message (the_view h).world c.args.socket.now m) refl (ap (λ v. v.files) rest) (ap (λ v. v.next) rest) refl
     (ap (λ l. keys_of l.users) (kept c) ∙ users-held_all m.user m.attached (kept_of h.files.counts h.ledger))
 
+-- Both invariants hold then.
 both : (c : goal.After-push) → BothInvariants c.self.inside.parts c.places.inside.procs c.push.new.self c.charge_message.new.ledger
 both c =
     let p = c.self.inside.parts in
