@@ -15,14 +15,14 @@ use Rattle.af_base.specs.Steps.{Outcome}
 use Rattle.af_base.specs.Changes.{change_at, file_with, with_socket}
 use Rattle.std.proofs.lemmas.Bool.{false≢true}
 
--- where no refusal fits, the answer is given and the world settles
+-- Where no refusal fits, the answer is given and the world settles.
 pub accepted : (o : Option Errno) (frugal : Bool) (answer : Reply) (effect old new : World) → o ≡ None → Settles effect new → Outcome o frugal answer effect old answer new
 accepted o frugal answer effect old new e s = subst (λ x. Outcome x frugal answer effect old answer new) (sym e) (by frugal) where
   by : (b : Bool) → Outcome None b answer effect old answer new
   by true = (refl, s)
   by false = inl (refl, s)
 
--- what a map has after a change at one key
+-- What a map has after a change at one key.
 pub get-change_at : {X : Type 0} (g : X → X) (m : Map X) (k q : ℕ) → map.get (change_at g m k) q ≡ option_map (λ x. cond (eq_by_cmp nat_cmp q k) (g x) x) (map.get m q)
 get-change_at {X = X} g m k q = by (map.get m k) refl (nat_cmp q k) refl where
   each : (b : Bool) → b ≡ false → (o : Option X) → o ≡ option_map (λ x. cond b (g x) x) o
@@ -40,7 +40,7 @@ get-change_at {X = X} g m k q = by (map.get m k) refl (nat_cmp q k) refl where
   by (Some x) e Less p = map.get-insert nat_cmp_total m k (g x) q ∙ ap (λ r. cond (is_eq r) (Some (g x)) (map.get m q)) p ∙ each false refl _
   by (Some x) e Greater p = map.get-insert nat_cmp_total m k (g x) q ∙ ap (λ r. cond (is_eq r) (Some (g x)) (map.get m q)) p ∙ each false refl _
 
--- a socket changed in no queue and no backlog
+-- A socket changed in no queue and no backlog.
 module _ (w : World) (s : ℕ) (g : Socket → Socket) (same : (x : Socket) → contents (AsSocket (g x)) ≡ contents (AsSocket x)) where
   pub held-with_socket : (q : ℕ) → held_by (with_socket w s g) q ≡ held_by w q
   held-with_socket q = ap (λ o. option_map_or contents o []) (get-change_at (file_with g) w.files s q) ∙ each (eq_by_cmp nat_cmp q s) (map.get w.files q) where

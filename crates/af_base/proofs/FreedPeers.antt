@@ -19,7 +19,7 @@ use Rattle.af_base.proofs.AllowedSteps.{get-change_at}
 abbrev pub hang_up : File → File
 hang_up x = file_with (λ s. record s { state = state.HungUp }) x
 
--- the file gone, and its peer hung up
+-- The file gone, and its peer hung up.
 abbrev pub drop_with : State → ℕ → Map File → Map File
 drop_with (state.Connected p) f m = change_at hang_up (map.remove m f) p
 drop_with state.Idle f m = map.remove m f
@@ -52,7 +52,7 @@ peer_is (state.Listening b) q e = absurd (false≢true e)
 peer_is state.HungUp q e = absurd (false≢true e)
 
 module _ (w : World) (f : ℕ) (pairs : AreMutual w) where
-  -- the state that a socket has then
+  -- The state that a socket has then.
   state_then : (q : ℕ) (s : Socket) → map.get w.files q ≡ Some (AsSocket s) → (b : Bool) → is_peer (state_at w f) q ≡ b → state_without (nat_eq f) s.state ≡ cond b state.HungUp s.state
   state_then q s is true e =
       let at : state_at w q ≡ state.Connected f = pairs f q (peer_is (state_at w f) q e) in

@@ -34,7 +34,7 @@ held-pushed w s m q f h = held-changed w s (pushed m) q f (λ x is d. elim (Cont
   | inr y ↦ inl (Contains-append_right (attached_in x.queue) x.backlog f y)
 ]) h
 
--- without the first embryo of a listener, a held file was held
+-- Without the first embryo of a listener, a held file was held.
 pub held-dequeued : (w : World) (s q f : ℕ) → Holds (with_socket w s dequeued) q f → Holds w q f
 held-dequeued w s q f h = elim (held-changed {A = ⊥} w s dequeued q f (λ x is d. inl (gain x d)) h) [ inl y ↦ y | inr y ↦ absurd y ] where
   gain : (x : Socket) → Contains (contents (AsSocket (dequeued x))) f → Contains (contents (AsSocket x)) f
@@ -43,7 +43,7 @@ held-dequeued w s q f h = elim (held-changed {A = ⊥} w s dequeued q f (λ x is
     | inr z ↦ Contains-append_right (attached_in x.queue) x.backlog f (Contains-dropped x.backlog f z)
   ]
 
--- after a receive, a held file was held
+-- After a receive, a held file was held.
 module _ (w : World) (s n : ℕ) (x : Socket) (at : map.get w.files s ≡ Some (AsSocket x)) where
   abbrev rest : List Message
   rest = (take_from x.kind x.queue n).rest
@@ -58,7 +58,7 @@ module _ (w : World) (s n : ℕ) (x : Socket) (at : map.get w.files s ≡ Some (
           | inr z ↦ Contains-append_right (attached_in y.queue) y.backlog f z
         ]
 
--- with one process more, a file in a table was in one before
+-- With one process more, a file in a table was in one before.
 pub tabled-more : (w : World) (q : Process) → ((n f : ℕ) → map.get q.table n ≡ Some f → InTable w f) → (f : ℕ) → InTable (add_process w q) f → InTable w f
 tabled-more w q had f t =
     let now = table-there (add_process w q) t.0 t.1 f t.2 in

@@ -11,7 +11,7 @@ use Rattle.af_base.specs.Counts.{count_in, inflight, one, refs, total_of}
 use Rattle.af_base.specs.Changes.{file_with, install, push_message, uninstall, with_queue}
 use Rattle.af_base.proofs.Sums.{total-change_at, total-insert, total-remove}
 
--- a number taken into use
+-- A number taken into use.
 pub refs-install : (w : World) (p n g f : ℕ) (q : Process) → map.get w.processes p ≡ Some q → map.get q.table n ≡ None → refs (install w p n g) f ≡ refs w f + one f g
 refs-install w p n g f q there free =
     let table = total-insert (one f) q.table n g in
@@ -31,7 +31,7 @@ count-append f xs ys = sum_by-append _ xs ys
 pub carried-push : (q : List Message) (m : Message) → attached_in (q ++ m ∷ []) ≡ attached_in q ++ m.attached
 carried-push q m = flat_map-append (λ m. m.attached) q (m ∷ []) ∙ ap (λ xs. attached_in q ++ xs) (append-nil m.attached)
 
--- a message put into a queue
+-- A message put into a queue.
 pub refs-push : (w : World) (s : ℕ) (m : Message) (f : ℕ) (x : Socket) → map.get w.files s ≡ Some (AsSocket x) → refs (push_message w s m) f ≡ refs w f + count_in f m.attached
 refs-push w s m f x there =
     omega (
@@ -53,7 +53,7 @@ inflight-push w s m f x there =
       count-append f (attached_in x.queue) m.attached,
     )
 
--- these files taken out of a queue
+-- These files taken out of a queue.
 pub refs-left : (w : World) (s : ℕ) (fs : List ℕ) (rest : List Message) (f : ℕ) (x : Socket) → map.get w.files s ≡ Some (AsSocket x) → fs ++ attached_in rest ≡ attached_in x.queue → refs (with_queue w s rest) f + count_in f fs ≡ refs w f
 refs-left w s fs rest f x there is =
     omega (

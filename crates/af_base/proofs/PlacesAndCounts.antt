@@ -33,7 +33,7 @@ count-length f (x ∷ xs) = omega (arith, count-cons f x xs, one-most f x, count
 one-same : (f x : ℕ) → f ≡ x → one f x ≡ 1
 one-same f x e = ap {B = ℕ} (λ b. cond b 1 0) (eq-eqb f x e)
 
--- what is counted is there
+-- What is counted is there.
 pub Contains-count : (f : ℕ) (xs : List ℕ) → 0 < count_in f xs → Contains xs f
 Contains-count f [] h = absurd (omega (arith, h))
 Contains-count f (x ∷ xs) h =
@@ -42,7 +42,7 @@ Contains-count f (x ∷ xs) h =
       | false ↦ λ e. let at = Contains-count f xs (omega (arith, h, count-cons f x xs, ap {B = ℕ} (λ b. cond b 1 0) e)) in (suc at.0, omega (arith, at.1), at.2)
     ] refl
 
--- what is there is counted
+-- What is there is counted.
 pub count-Contains : (f : ℕ) (xs : List ℕ) → Contains xs f → 0 < count_in f xs
 count-Contains f xs h = at xs h.0 h.1 h.2 where
   at : (xs : List ℕ) (k : ℕ) → k < length xs → slice_index_or xs k f ≡ f → 0 < count_in f xs
@@ -50,7 +50,7 @@ count-Contains f xs h = at xs h.0 h.1 h.2 where
   at (x ∷ xs) zero h e = omega (arith, count-cons f x xs, one-same f x (sym e))
   at (x ∷ xs) (suc k) h e = omega (arith, count-cons f x xs, at xs k (omega (arith, h)) e)
 
--- a value's term is at most the sum
+-- A value's term is at most the sum.
 pub total-has : {X : Type 0} (F : X → ℕ) (m : Map X) (k : ℕ) (x : X) → map.get m k ≡ Some x → F x ≤ total_of F m
 total-has F m k x is = omega (arith, total-remove F m k x is)
 
@@ -68,7 +68,7 @@ module _ {X : Type 0} where
   none_some : (x : X) → None ≡ Some x → ⊥
   none_some x e = false≢true (ap (λ o. option_map_or (λ _. true) o false) e)
 
-  -- what a later entry has at k is what the map has there
+  -- What a later entry has at k is what the map has there.
   pub later : (e : ℕ × X) (es : List (ℕ × X)) (k : ℕ) (x : X) → T (below_all nat_cmp e.0 es) → find nat_cmp k es ≡ Some x → (o : Ordering) → nat_cmp k e.0 ≡ o → cond (is_eq o) (Some e.1) (find nat_cmp k es) ≡ Some x
   later e es k x h is Equal p = absurd (none_some x (sym (ap (λ q. find nat_cmp q es) (nat_cmp-IsAntisymmetric _ _ p) ∙ none_below e.0 es h) ∙ is))
   later e es k x h is Less p = is
@@ -86,7 +86,7 @@ module _ {X : Type 0} where
         (rest.0, rest.1, later e es rest.0 rest.1 (first _ _ s) rest.2 (nat_cmp rest.0 e.0) refl, rest.3)
   ]
 
-  -- a sum that is not zero has a term that is not
+  -- A sum that is not zero has a term that is not.
   pub total-some : (F : X → ℕ) (m : Map X) → 0 < total_of F m → (k : ℕ) × (x : X) × (map.get m k ≡ Some x) × (0 < F x)
   total-some F m h =
       let at = found F (map.entries m) (entries_sorted m) h in
@@ -99,7 +99,7 @@ one-positive f g h = elim (nat_eq f g) as (λ b. nat_eq f g ≡ b → f ≡ g) [
   | false ↦ λ e. let none : one f g ≡ 0 = ap {B = ℕ} (λ b. cond b 1 0) e in absurd (omega (arith, h, none))
 ] refl
 
--- counted in a table, so in a table
+-- Counted in a table, so in a table.
 pub InTable-tabled : (w : World) (f : ℕ) → 0 < tabled w f → InTable w f
 InTable-tabled w f h =
     let p = total-some (λ q. total_of (one f) q.table) w.processes h in
@@ -113,7 +113,7 @@ tabled-InTable w f t = by (map.get w.processes t.0) refl t.2 where
   by None e is = absurd (none_some f is)
   by (Some q) e is = omega (arith, one-same f f refl, total-has (one f) q.table t.1 f is, total-has (λ q. total_of (one f) q.table) w.processes t.0 q e)
 
--- where the count is not zero, there is a holder
+-- Where the count is not zero, there is a holder.
 pub held_by_some : (w : World) (f : ℕ) → 0 < refs w f → InTable w f ⊎ ((s : ℕ) × Holds w s f)
 held_by_some w f h = elim (cases_lt 0 (tabled w f)) [
   | inl p ↦ inl (InTable-tabled w f p)
@@ -122,7 +122,7 @@ held_by_some w f h = elim (cases_lt 0 (tabled w f)) [
       inr (at.0, subst (λ o. Contains (option_map_or contents o []) f) (sym at.2) (Contains-count f (contents at.1) at.3))
 ]
 
--- where the count is zero, there is none
+-- Where the count is zero, there is none.
 pub held_by_none : (w : World) (f : ℕ) → refs w f ≡ 0 → (¬ (InTable w f)) × ((s : ℕ) → ¬ (Holds w s f))
 held_by_none w f z = (λ t. omega (arith, z, tabled-InTable w f t), λ s h. by s (map.get w.files s) refl h) where
   by : (s : ℕ) (o : Option File) → map.get w.files s ≡ o → Contains (option_map_or contents o []) f → ⊥

@@ -36,12 +36,12 @@ held-emptied t w s = ap (λ o. option_map_or contents o []) (get-emptied t w s) 
   each false None = refl
   each false (Some x) = refl
 
--- in one list or the other
+-- In one list or the other.
 in_first : (b : Bool) (xs : List ℕ) (x : ℕ) → Contains (cond b [] xs) x → (b ≡ false) × Contains xs x
 in_first true xs x h = absurd (omega (arith, h.1))
 in_first false xs x h = (refl, h)
 
--- what holds where some are emptied
+-- What holds where some are emptied.
 pub from_emptied : (t : ℕ → Bool) (w : World) (s f : ℕ) → Holds (emptied t w) s f → (t s ≡ false) × Holds w s f
 from_emptied t w s f h = in_first (t s) (held_by w s) f (subst (λ xs. Contains xs f) (held-emptied t w s) h)
 
@@ -49,7 +49,7 @@ from_emptied t w s f h = in_first (t s) (held_by w s) f (subst (λ xs. Contains 
 pub to_emptied : (t : ℕ → Bool) (w : World) (s f : ℕ) → t s ≡ false → Holds w s f → Holds (emptied t w) s f
 to_emptied t w s f e h = subst (λ xs. Contains xs f) (sym (held-emptied t w s ∙ ap (λ b. cond b [] (held_by w s)) e)) h
 
--- the tests commute
+-- The tests commute.
 emptied-without : (t g : ℕ → Bool) (w : World) → emptied t (without g w) ≡ without g (emptied t w)
 emptied-without t g w = ap (λ fs. record w { files = fs }) (map.same_map nat_cmp_total nat_cmp-IsAntisymmetric _ _ (λ q.
     get-emptied t (without g w) q ∙ ap (option_map (λ x. if t q then empty_file x else x)) (get-without g w q) ∙ each q (t q) (g q) (map.get w.files q)
@@ -61,7 +61,7 @@ emptied-without t g w = ap (λ fs. record w { files = fs }) (map.same_map nat_cm
       each q true false (Some (AsSocket s)) = refl
       each q false false (Some x) = refl
 
--- what was emptied may be emptied again
+-- What was emptied may be emptied again.
 pub emptied-emptied : (t u : ℕ → Bool) (w : World) → emptied u (emptied t w) ≡ emptied (λ f. t f || u f) w
 emptied-emptied t u w = ap (λ fs. record w { files = fs }) (map.same_map nat_cmp_total nat_cmp-IsAntisymmetric _ _ (λ q.
     get-emptied u (emptied t w) q ∙ ap (option_map (λ x. if u q then empty_file x else x)) (get-emptied t w q) ∙ each (t q) (u q) (map.get w.files q) ∙ sym (get-emptied (λ f. t f || u f) w q))) where
@@ -79,13 +79,13 @@ module _ (t u : ℕ → Bool) (w v z : World) (first : Purges t w v) (second : P
   abbrev all : World
   all = emptied both w
 
-  -- a file freed by the first part is freed
+  -- A file freed by the first part is freed.
   goes_first : (f : ℕ) → Unheld (emptied t w) f → Unheld all f
   goes_first _ (Goes f l no_table hs) = Goes f (live-emptied both w f ∙ sym (live-emptied t w f) ∙ l) no_table (λ s h.
       let from = from_emptied both w s f h in
       goes_first s (hs s (to_emptied t w s f (neither _ _ from.0).0 from.1)))
 
-  -- v is the world without the first
+  -- v is the world without the first.
   live_v : (f : ℕ) → is_live v f ≡ cond (not (first.0 f)) (is_live w f) false
   live_v f = ap (λ x. is_live x f) first.2 ∙ live-without first.0 (emptied t w) f ∙ ap (λ b. cond (not (first.0 f)) b false) (live-emptied t w f)
 
@@ -103,7 +103,7 @@ module _ (t u : ℕ → Bool) (w v z : World) (first : Purges t w v) (second : P
   to_tables_v : (f : ℕ) → InTable w f → InTable v f
   to_tables_v f h = subst (λ x. InTable x f) (sym first.2) h
 
-  -- a file freed by the second part is freed
+  -- A file freed by the second part is freed.
   goes_second : (f : ℕ) → Unheld (emptied u v) f → Unheld all f
   goes_second _ (Goes f l no_table hs) =
       let live = stays _ _ (sym (live_v f) ∙ sym (live-emptied u v f) ∙ l) in
@@ -115,7 +115,7 @@ module _ (t u : ℕ → Bool) (w v z : World) (first : Purges t w v) (second : P
         | inr e ↦ goes_second s (hs s (to_emptied u v s f apart.1 (to_v s f e apart.0 from.1)))
       ])
 
-  -- no other file is freed
+  -- No other file is freed.
   goes_by : (f : ℕ) → Unheld all f → (first.0 f ≡ true) ⊎ Unheld (emptied u v) f
   goes_by _ (Goes f l no_table hs) =
       elim (cases_Bool (first.0 f)) [

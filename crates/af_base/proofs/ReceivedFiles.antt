@@ -208,7 +208,7 @@ leaves-taken Seqpacket (m ∷ q) n k = record { carried = refl; fewer = omega ar
 pub leaves-first : (q : List Message) (m : Message) (rest : List Message) → AreWithin q → q ≡ m ∷ rest → Leaves q m.attached rest
 leaves-first q m rest k e = subst (λ l. Leaves l m.attached rest) (sym e) (record { carried = refl; fewer = omega arith; within = λ x h. k x (subst (λ l. Contains l x) (sym e) (Contains-later m rest x h)) })
 
--- files that travel with a message of a queue are in the queue
+-- Files that travel with a message of a queue are in the queue.
 found-carried : (q : List Message) (m : Message) (f : ℕ) → find has_files q ≡ Some m → Contains m.attached f → Contains (attached_in q) f
 found-carried [] m f e h = absurd (none_some m e)
 found-carried (x ∷ q) m f e h = elim (cases_Bool (has_files x)) [
@@ -218,7 +218,7 @@ found-carried (x ∷ q) m f e h = elim (cases_Bool (has_files x)) [
   | inr t ↦ Contains-append_right x.attached (attached_in q) f (found-carried q m f (sym (find-later x q t) ∙ e) h)
 ]
 
--- what is left after a cut was there
+-- What is left after a cut was there.
 cut-carried : (c : ℕ) (q : List Message) (f : ℕ) → Contains (attached_in (cut c q)) f → Contains (attached_in q) f
 cut-carried c [] f h = h
 cut-carried c (m ∷ q) f h = by (cut-carried (c - length m.bytes) q f) (nat_le (length m.bytes) c) (nat_lt 0 c) h where
@@ -230,7 +230,7 @@ cut-carried c (m ∷ q) f h = by (cut-carried (c - length m.bytes) q f) (nat_le 
   by rest false true h = later h
   by rest false false h = h
 
--- what is taken and what is left were in the queue
+-- What is taken and what is left were in the queue.
 pub taken-before : (kind : SockType) (q : List Message) (n f : ℕ) → Contains ((take_from kind q n).attached ++ attached_in (take_from kind q n).rest) f → Contains (attached_in q) f
 taken-before Seqpacket [] n f h = h
 taken-before Seqpacket (m ∷ q) n f h = h

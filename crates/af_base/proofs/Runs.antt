@@ -5,16 +5,16 @@ use Rattle.af_base.specs.declared.events.Reply.{Reply}
 use Rattle.af_base.specs.Pass.{Machine}
 use Rattle.af_base.specs.Run.{Run, RunEntry, Step}
 
--- two runs, one after the other
+-- Two runs, one after the other.
 pub run-append : (a b c : Machine) (xs ys : List RunEntry) → Run a xs b → Run b ys c → Run a (xs ++ ys) c
 run-append a b c [] ys r s = subst (λ m. Run m ys c) r s
 run-append a b c (x ∷ xs) ys r s = (r.0, r.1, run-append r.0 b c xs ys r.2 s)
 
--- a run and a step
+-- A run and a step.
 pub run-push : (a b c : Machine) (xs : List RunEntry) (e : Event) (r : Reply) → Run a xs b → Step b e r c → Run a (xs ++ (e, r) ∷ []) c
 run-push a b c xs e r run step = run-append a b c xs ((e, r) ∷ []) run (c, step, refl)
 
--- a run of a list and one more is a run and a step
+-- A run of a list and one more is a run and a step.
 pub run-last : (a c : Machine) (xs : List RunEntry) (e : Event) (r : Reply) → Run a (xs ++ (e, r) ∷ []) c → (b : Machine) × Run a xs b × Step b e r c
 run-last a c [] e r run = (a, refl, subst (Step a e r) (sym run.2) run.1)
 run-last a c (x ∷ xs) e r run =

@@ -16,7 +16,7 @@ use Rattle.af_base.specs.World.{AsSocket, File, Plain, World, is_live}
 use Rattle.af_base.specs.Places.{Holds, InTable, contents, held_by}
 use Rattle.af_base.specs.Unheld.{Goes, IsSettled, Settles, Unheld, file_without, map_entries, state_without, without}
 
--- the members determine the new world
+-- The members determine the new world.
 pub settles_once : (w a b : World) → Settles w a → Settles w b → a ≡ b
 settles_once w a b s t =
     let same : (f : ℕ) → s.0 f ≡ t.0 f = λ f. both_ways (s.0 f) (t.0 f) (λ e. (t.1 f).1 ((s.1 f).0 e)) (λ e. (s.1 f).1 ((t.1 f).0 e)) in
@@ -34,7 +34,7 @@ get-map_entries g (e ∷ es) q =
       mapped Less p = refl
       mapped Greater p = refl
 
--- a file after the others were freed
+-- A file after the others were freed.
 pub get-without : (gone : ℕ → Bool) (w : World) (q : ℕ) → map.get (without gone w).files q ≡ cond (not (gone q)) (option_map (file_without gone) (map.get w.files q)) None
 get-without gone w q =
     map.get-retain_keys (map_entries (λ _. file_without gone) (map.entries w.files)) (λ f. not (gone f)) q (λ x e. ap (λ y. not (gone y)) (sym (nat_cmp-IsAntisymmetric q x e)))
@@ -57,11 +57,11 @@ without_none w = ap (λ fs. record w { files = fs }) (map.same_map nat_cmp_total
   each None = refl
   each (Some x) = ap Some (same_file x)
 
--- where nothing is to go, nothing changes
+-- Where nothing is to go, nothing changes.
 pub settles_none : (w : World) → IsSettled w → Settles w w
 settles_none w s = (λ _. false, λ f. (λ e. absurd (false≢true e), λ u. absurd (s f u)), sym (without_none w))
 
--- where each live file has a holder, nothing is to go
+-- Where each live file has a holder, nothing is to go.
 pub settled_by : (w : World) → ((f : ℕ) → IsTrue (is_live w f) → InTable w f ⊎ ((s : ℕ) × Holds w s f)) → IsSettled w
 settled_by w held _ (Goes f live no_table holders) =
     elim (held f live) [
@@ -98,7 +98,7 @@ pub stays : (b c : Bool) → cond (not b) c false ≡ true → (b ≡ false) × 
 stays true c e = absurd (false≢true e)
 stays false c e = (refl, e)
 
--- what is held where some are gone
+-- A list that is kept or dropped by a test has an element only if it is kept.
 in_left : (b : Bool) (xs : List ℕ) (x : ℕ) → Contains (cond (not b) xs []) x → (b ≡ false) × Contains xs x
 in_left true xs x h = absurd (none_in x h)
 in_left false xs x h = (refl, h)
@@ -111,7 +111,7 @@ from_without g w s f h = in_left (g s) (held_by w s) f (subst (λ xs. Contains x
 pub to_without : (g : ℕ → Bool) (w : World) (s f : ℕ) → g s ≡ false → Holds w s f → Holds (without g w) s f
 to_without g w s f e h = subst (λ xs. Contains xs f) (sym (held-without g w s ∙ ap (λ b. cond (not b) (held_by w s) []) e)) h
 
--- two goings, one after the other, are one
+-- To free some files and then others is to free both at once.
 pub without-without : (g h : ℕ → Bool) (w : World) → without h (without g w) ≡ without (λ f. g f || h f) w
 without-without g h w = ap (λ fs. record w { files = fs }) (map.same_map nat_cmp_total nat_cmp-IsAntisymmetric _ _ (λ q.
     get-without h (without g w) q ∙ ap (λ o. cond (not (h q)) (option_map (file_without h) o) None) (get-without g w q) ∙ each (g q) (h q) (map.get w.files q) ∙ sym (get-without (λ f. g f || h f) w q))) where
@@ -145,14 +145,14 @@ module _ (w : World) (f : ℕ) (live : IsTrue (is_live w f)) (no_table : ¬ (InT
   same_of : (g : ℕ) → nat_eq f g ≡ true → f ≡ g
   same_of g e = eqb-true f g e
 
-  -- where f is not, and where it is
+  -- Where f is not, and where it is.
   other : (s : ℕ) → nat_eq f s ≡ false → held_by rest s ≡ held_by w s
   other s e = held-without (nat_eq f) w s ∙ ap (λ b. cond (not b) (held_by w s) []) e
 
   itself : (s : ℕ) → nat_eq f s ≡ true → held_by rest s ≡ []
   itself s e = held-without (nat_eq f) w s ∙ ap (λ b. cond (not b) (held_by w s) []) e
 
-  -- a file freed from the rest is freed from the whole
+  -- A file freed from the rest is freed from the whole.
   pub goes_up : (g : ℕ) → Unheld rest g → Unheld w g
   goes_up _ (Goes g l t hs) =
       Goes g (stays _ _ (sym (live-without (nat_eq f) w g) ∙ l)).1 t (λ s h. elim (nat_eq f s) as (λ b. nat_eq f s ≡ b → Unheld w s) [
@@ -160,7 +160,7 @@ module _ (w : World) (f : ℕ) (live : IsTrue (is_live w f)) (no_table : ¬ (InT
         | false ↦ λ e. goes_up s (hs s (subst (λ xs. Contains xs g) (sym (other s e)) h))
       ] refl)
 
-  -- a freed file is f, or is freed from the rest
+  -- A freed file is f, or is freed from the rest.
   pub goes_down : (g : ℕ) → Unheld w g → (nat_eq f g ≡ true) ⊎ Unheld rest g
   goes_down _ (Goes g l t hs) = elim (nat_eq f g) as (λ b. nat_eq f g ≡ b → (nat_eq f g ≡ true) ⊎ Unheld rest g) [
     | true ↦ λ e. inl e
@@ -170,7 +170,7 @@ module _ (w : World) (f : ℕ) (live : IsTrue (is_live w f)) (no_table : ¬ (InT
     ] refl))
   ] refl
 
-  -- freeing an unheld file first and settling the rest gives the settled world
+  -- Freeing an unheld file first and settling the rest gives the settled world.
   pub settles_first : (new : World) → Settles rest new → Settles w new
   settles_first new t =
       let up : (g : ℕ) → (nat_eq f g || t.0 g) ≡ true → Unheld w g = λ g e. elim (or_cases _ _ e) [ inl y ↦ subst (Unheld w) (same_of g y) first_goes | inr y ↦ goes_up g ((t.1 g).0 y) ] in

@@ -29,11 +29,11 @@ module _ {X : Type 0} where
   listed [] h = none _ (sym (len-entries (map.empty {X = X} {R = nat_cmp})) ∙ map.len-empty nat_cmp X)
   listed (e ∷ es) h = entries-insert nat_cmp_total (map.from_entries es) e.0 e.1 ∙ ap (put nat_cmp e.0 e.1) (listed es h.1) ∙ put_least e.0 e.1 es h.0
 
-  -- the entries of the map are those of the tree
+  -- The entries of the map are those of the tree.
   pub nat_entries : (m : BTreeMap ℕ X) → tree.IsOrdered nat_cmp m → map.entries (map.from_entries {R = nat_cmp} m.entries) ≡ m.entries
   nat_entries m h = listed m.entries h
 
-  -- and it has as many
+  -- And it has as many.
   pub nat_len : (m : BTreeMap ℕ X) → tree.IsOrdered nat_cmp m → map.len (map.from_entries {R = nat_cmp} m.entries) ≡ tree.btree_map_len m
   nat_len m h = len-entries _ ∙ ap length (nat_entries m h)
 
@@ -41,7 +41,7 @@ module _ {X : Type 0} where
   sum_of_values f [] = refl
   sum_of_values f (e ∷ es) = sum_by-cons (λ x. f x.1) e es ∙ ap (λ n. f e.1 + n) (sum_of_values f es) ∙ sym (sum_by-cons f e.1 (values_of es))
 
-  -- what its values add up to is what the tree's values add up to
+  -- What its values add up to is what the tree's values add up to.
   pub nat_total : (f : X → ℕ) (m : BTreeMap ℕ X) → tree.IsOrdered nat_cmp m → total_of f (map.from_entries m.entries) ≡ sum_by f (tree.values m)
   nat_total f m h = ap (sum_by (λ e. f e.1)) (nat_entries m h) ∙ sum_of_values f m.entries
 

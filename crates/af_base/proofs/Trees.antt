@@ -20,7 +20,7 @@ find_is R (e ∷ es) q = ap (cond (is_at (R q) e.0) (Some e.1)) (find_is R es q)
 
 module _ {K X : Type 0} {R : K → K → Ordering} where
   module _ (o : IsTotalOrder R) where
-    -- the tree's look-up is the map's
+    -- The tree's look-up is the map's.
     pub looked : (m : BTreeMap K X) (q : K) → get (from_entries {R = R} m.entries) q ≡ tree.get R m q
     looked m q = get-from_entries o m.entries q ∙ find_is R m.entries q
 
@@ -35,7 +35,7 @@ module _ {K X : Type 0} {R : K → K → Ordering} where
           looked n q ∙ h.0 q ∙ ap (λ b. cond b None (tree.get R m q)) ((eq_by_cmp_equiv o).symm k q)
           ∙ sym (get-remove o (from_entries m.entries) k q ∙ ap (cond (eq_by_cmp R q k) None) (looked m q)))
 
--- the same at numbers
+-- The same at numbers.
 pub nat_looked : {X : Type 0} (m : BTreeMap ℕ X) (q : ℕ) → get (from_entries {R = nat_cmp} m.entries) q ≡ tree.get nat_cmp m q
 nat_looked m q = looked nat_cmp_total m q
 
@@ -47,17 +47,17 @@ nat_inserted m n k v h = inserted nat_cmp_total nat_cmp-IsAntisymmetric m n k v 
 pub nat_removed : {X : Type 0} (m n : BTreeMap ℕ X) (k : ℕ) → tree.Updates nat_cmp m n k None → from_entries {R = nat_cmp} n.entries ≡ remove (from_entries m.entries) k
 nat_removed m n k h = removed nat_cmp_total nat_cmp-IsAntisymmetric m n k h
 
--- a change at a key that is there, as through `get_mut`
+-- A change at a key that is there, as through `get_mut`.
 pub nat_changed : {X : Type 0} (f : X → X) (m n : BTreeMap ℕ X) (k : ℕ) (x v : X) → Some x ≡ tree.get nat_cmp m k → v ≡ f x → tree.Updates nat_cmp m n k (Some v) → from_entries {R = nat_cmp} n.entries ≡ change_at f (from_entries m.entries) k
 nat_changed f m n k x v was e h =
     nat_inserted m n k v h ∙ ap (insert (from_entries m.entries) k) e
     ∙ ap (λ o. option_map_or (λ y. insert (from_entries m.entries) k (f y)) o (from_entries m.entries)) (was ∙ sym (nat_looked m k))
 
--- no change where there is no key
+-- No change where there is no key.
 pub nat_unchanged : {X : Type 0} (f : X → X) (m : BTreeMap ℕ X) (k : ℕ) → tree.get nat_cmp m k ≡ None → from_entries {R = nat_cmp} m.entries ≡ change_at f (from_entries m.entries) k
 nat_unchanged f m k was = ap (λ o. option_map_or (λ y. insert (from_entries m.entries) k (f y)) o (from_entries m.entries)) (sym (nat_looked m k ∙ was))
 
--- inserting the present value changes nothing
+-- Inserting the present value changes nothing.
 pub insert_same : {X : Type 0} (m : FinMap nat_cmp X) (k : ℕ) (v : X) → get m k ≡ Some v → insert m k v ≡ m
 insert_same m k v is = same_map nat_cmp_total nat_cmp-IsAntisymmetric _ _ (λ q. get-insert nat_cmp_total m k v q ∙ put_back q (nat_cmp q k) refl) where
   put_back : (q : ℕ) (o : Ordering) → nat_cmp q k ≡ o → cond (is_eq o) (Some v) (get m q) ≡ get m q
@@ -65,5 +65,5 @@ insert_same m k v is = same_map nat_cmp_total nat_cmp-IsAntisymmetric _ _ (λ q.
   put_back q Less p = refl
   put_back q Greater p = refl
 
--- what changes of a tree do to its map
+-- What changes of a tree do to its map.
 pub ruleset changes = (nat_looked, nat_inserted, nat_removed, nat_changed, nat_unchanged, insert_same)

@@ -25,12 +25,12 @@ module _ (w : World) (f : ℕ) (peers : AreMutual w) where
     by (state.Connected p) e = absurd (none p e)
     by state.HungUp e = ap (λ t. record w { files = drop_with t f w.files }) (sym e)
 
--- what is this socket
+-- What is this socket.
 pub socket_is : (x : File) (s : Socket) → socket_of x ≡ Some s → x ≡ AsSocket s
 socket_is Plain s e = cc
 socket_is (AsSocket r) s e = ap AsSocket (some_same r s e)
 
--- who has hung up has the backlog that it had
+-- A socket that has hung up has the backlog that it had.
 pub same_backlog : (gone : ℕ → Bool) (x : File) → backlog_of (file_without gone x) ≡ backlog_of x
 same_backlog gone Plain = refl
 same_backlog gone (AsSocket s) = refl

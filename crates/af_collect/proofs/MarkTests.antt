@@ -218,7 +218,7 @@ module _ (m : MarksView) (x y : ℕ) (grey : is_grey m x ≡ true) where
               ∙ sym (ap (λ b. cond b (put (put m y Grey) x Black) (put m y Grey)) still)
           cases false = refl
 
--- x is forgotten
+-- x is forgotten.
 module _ (m : MarksView) (x : ℕ) where
   -- A forgotten file is no longer marked.
   pub marked_forgotten : is_marked (forgotten x m) ≡ but (is_marked m) x
@@ -235,7 +235,7 @@ module _ (m : MarksView) (x : ℕ) where
     by true = sym (and-false (knows m f))
     by false = sym (and-true (knows m f))
 
--- x is born
+-- x is born.
 module _ (m : MarksView) (x : ℕ) (stranger : knows m x ≡ false) where
   -- A test that no white file passes, and no unknown one.
   same_test : (t : Color → Bool) → t White ≡ false → (f : ℕ) → option_map_or t (map.get (map.insert m.colors x White) f) false ≡ option_map_or t (map.get m.colors f) false

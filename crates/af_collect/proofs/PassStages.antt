@@ -24,7 +24,7 @@ count_none : {X : Type 0} (es : List X) → count_by (λ _. false) es ≡ 0
 count_none [] = refl
 count_none (e ∷ es) = count_none es
 
--- a pass begins
+-- A pass begins.
 module _ (w : World) (bound : ℕ) (sound : IsSound w) (below : (f : ℕ) → IsLive w f → f < bound) where
   -- A sound world is one since itself.
   pub since_begin : IsSince w w bound
@@ -39,7 +39,7 @@ module _ (w : World) (bound : ℕ) (sound : IsSound w) (below : (f : ℕ) → Is
     };
   }
 
--- nothing is marked and nothing visited
+-- Nothing is marked and nothing visited.
 module _ (w : World) (marked grey visited : ℕ → Bool) (unmarked : (f : ℕ) → marked f ≡ false) (unvisited : (f : ℕ) → visited f ≡ false) where
   -- Where nothing is marked and nothing visited, marking may begin.
   pub marking_begin : IsMarking w w marked grey visited
@@ -68,7 +68,7 @@ module _ (w : World) (marked grey visited : ℕ → Bool) (unmarked : (f : ℕ) 
         nothing : (p : ℕ → Bool) → ((f : ℕ) → p f ≡ false) → (es : List (ℕ × File)) → count_by (λ e. is_live w e.0 && p e.0) es ≡ 0
         nothing p h es = (λ i. count_by (λ e. is_live w e.0 && h e.0 i) es) ∙ (λ i. count_by (λ e. and-false (is_live w e.0) i) es) ∙ count_none es
 
--- marking has ended
+-- Marking has ended.
 module _ {begun now : World} (bound : ℕ) (s : IsSince begun now bound) (marked grey visited : ℕ → Bool) (i : IsMarking begun now marked grey visited)
     (all_visited : (f : ℕ) → f < bound → visited f ≡ true) (none_grey : (f : ℕ) → grey f ≡ false) where
   -- Where all below the bound was visited and none is grey, sweeping may begin.
@@ -85,7 +85,7 @@ module _ {begun now : World} (bound : ℕ) (s : IsSince begun now bound) (marked
     );
   }
 
--- x is swept: its queue and backlog are emptied
+-- x is swept: its queue and backlog are emptied.
 module _ (begun old : World) (x : ℕ) where
   -- The world with x emptied.
   abbrev rest : World
@@ -137,14 +137,14 @@ module _ (begun old : World) (x : ℕ) where
     counted = i.counted;
   }
 
--- all are swept, and nothing is to go
+-- All are swept, and nothing is to go.
 module _ {begun now : World} (bound : ℕ) (s : IsSince begun now bound) (marked swept : ℕ → Bool) (reclaimed : ℕ) (i : IsSweeping begun now marked swept reclaimed)
     (settled : IsSettled now) (all : (f : ℕ) → IsLive now f → f < bound → swept f ≡ true) where
   -- Where all are swept, no garbage of the begin is live.
   pub none_left : (f : ℕ) → Garbage begun f → ¬ (IsLive now f)
   none_left f g l = settled f (Goes f l (s.stray.tables f g) (λ q h. absurd (i.empty q f (all q (holder_live now q f h) (s.below q (s.stray.queues q f h g).0)) h g)))
 
--- no garbage of the begin is live
+-- No garbage of the begin is live.
 module _ {begun now : World} (none : (f : ℕ) → Garbage begun f → ¬ (IsLive now f)) where
   -- While sweeping, the sockets that were counted are the garbage of the begin.
   pub reclaimed_all : (marked swept : ℕ → Bool) (reclaimed : ℕ) → IsSweeping begun now marked swept reclaimed → IsGarbageCount begun reclaimed

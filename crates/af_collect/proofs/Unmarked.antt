@@ -41,7 +41,7 @@ all_three true true true e = absurd (false≢true e)
 all_three true false c e = absurd (false≢true e)
 all_three false b c e = absurd (false≢true e)
 
--- no garbage was lost before
+-- No garbage was lost before.
 module _ {begun now : World} {marked grey visited : ℕ → Bool} (bound : ℕ) (m : AreMarks begun now marked grey visited)
     (all_visited : (f : ℕ) → f < bound → visited f ≡ true) (none_grey : (f : ℕ) → grey f ≡ false)
     (below : (f : ℕ) → InTable begun f → f < bound) (kept : (f : ℕ) → Garbage begun f → IsLive now f) where

@@ -75,7 +75,7 @@ module _ (w : World) (p n : ℕ) (name : List ℕ) (sound : IsSound w) (fits : r
   listener_there : map.get w.files l ≡ Some (AsSocket listener)
   listener_there = listener-there w name row.rest.rest.rest.rest.here
 
-  -- who listens is not who connects
+  -- Who listens is not who connects.
   listens : not (is_listening listener.state) ≡ false → is_listening client.state ≡ false → ¬ (listener ≡ client)
   listens hears deaf same = false≢true (sym hears ∙ ap not (ap (λ x. is_listening x.state) same ∙ deaf))
 
@@ -100,7 +100,7 @@ module _ (w : World) (p n : ℕ) (name : List ℕ) (sound : IsSound w) (fits : r
         count-cons f e [],
       )
 
-  -- what is counted of queues alone stays
+  -- What is counted of queues alone stays.
   queues_now : (F : List Message → ℕ) → F [] ≡ 0 → total_of (λ y. F (queue_of y)) now.files ≡ total_of (λ y. F (queue_of y)) w.files
   queues_now F none =
       let before : option_map_or (λ y. F (queue_of y)) (map.get w.files e) 0 ≡ 0 = ap (λ o. option_map_or (λ y. F (queue_of y)) o 0) (fresh_file w e sound.whole (omega arith)) in
@@ -125,7 +125,7 @@ module _ (w : World) (p n : ℕ) (name : List ℕ) (sound : IsSound w) (fits : r
     | inr other ↦ let held = settled-held w f sound.settled (sym (live_base f ∙ ap is_some (insert-other w.files e embryo f other)) ∙ live) in omega (arith, held, refs_now f)
   ])
 
-  -- the new number has no place before
+  -- The new number has no place before.
   none_before : refs w e ≡ 0
   none_before = elim (none_or_some (refs w e)) [
     | inl z ↦ z
@@ -172,7 +172,7 @@ count_first : (f : ℕ) (xs : List ℕ) → nat_eq (length xs) 0 ≡ false → c
 count_first f [] some = absurd (false≢true (sym some))
 count_first f (x ∷ xs) some = omega (arith, count-cons f x xs)
 
--- one more than the number that was answered
+-- One more than the number that was answered.
 number_in : Reply → ℕ
 number_in (reply.Fd n) = suc n
 number_in r = 0

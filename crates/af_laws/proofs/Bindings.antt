@@ -41,25 +41,25 @@ names_find_their_sockets w f name whole = (named-some w name f, λ has. by has (
   by has None e = absurd (named-none w name e f has)
   by has (Some g) e = e ∙ ap Some (whole.names g f name (named-some w name g e) has)
 
--- a world with the same live files, and as many references to each
+-- A world with the same live files, and as many references to each.
 pub settled_alike : (w now : World) → ((f : ℕ) → is_live now f ≡ is_live w f) → ((f : ℕ) → refs now f ≡ refs w f) → IsSettled w → IsSettled now
 settled_alike w now live same settled = settled-counted now (λ f l. let held = settled-held w f settled (sym (live f) ∙ l) in omega (arith, held, same f))
 
 unchanged : (w : World) → SameCounts w w
 unchanged w = record { references = λ f. refl; in_flight = λ f. refl; in_backlogs = λ f. refl; charges = λ u. refl; all = refl }
 
--- what is settled after a step is its effect
+-- What is settled after a step is its effect.
 module _ (now old new : World) (settled : IsSettled now) where
   is_effect : Settles now new → new ≡ now
   is_effect t = (settled_stays now new settled).0 t
 
-  -- a step that changes no count, done or refused
+  -- A step that changes no count, done or refused.
   same_outcome : SameCounts old now → (o : Option Errno) (answer r : Reply) → Outcome o false answer now old r new → SameCounts old new
   same_outcome same (Some e) answer r h = subst (SameCounts old) (sym h.1) (unchanged old)
   same_outcome same None answer r (inl h) = subst (SameCounts old) (sym (is_effect h.1)) same
   same_outcome same None answer r (inr h) = subst (SameCounts old) (sym h.1) (unchanged old)
 
--- a socket changed, but not in its queue and not in its backlog
+-- A socket changed, but not in its queue and not in its backlog.
 module _ (w : World) (s : ℕ) (g : Socket → Socket) (same_queue : (x : Socket) → (g x).queue ≡ x.queue) (same_backlog : (x : Socket) → (g x).backlog ≡ x.backlog) where
   abbrev altered : World
   altered = with_socket w s g
@@ -90,12 +90,12 @@ pub listen_changes_no_count : ListenChangesNoCount
 listen_changes_no_count old new p n b r settled h =
     same_outcome (effect old p (step.Listen n b)) old new (altered_settled old (ino_on old p n) (listening b) (λ x. refl) (λ x. refl) settled) (alike old (ino_on old p n) (listening b) (λ x. refl) (λ x. refl)) (refusal old p (step.Listen n b)) reply.Ok r h
 
--- where a test for somebody does not fit, there is nobody
+-- Where a test for somebody does not fit, there is nobody.
 nobody : (o : Option ℕ) → not (is_none o) ≡ false → o ≡ None
 nobody None e = refl
 nobody (Some f) e = absurd (false≢true (sym e))
 
--- a bind that nothing refuses
+-- A bind that nothing refuses.
 module _ (w : World) (p n : ℕ) (name : List ℕ) (sound : IsSound w) (fits : refusal w p (step.Bind n name) ≡ None) where
   abbrev named_world : World
   named_world = effect w p (step.Bind n name)

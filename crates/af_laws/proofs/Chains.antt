@@ -22,7 +22,7 @@ use Rattle.af_base.proofs.SettledWorlds.{from_without, none_in, to_without}
 use Rattle.af_base.proofs.AllowedSteps.{get-change_at}
 use Rattle.af_laws.specs.Reaching.{GroupsOfTheirOwnAreGarbage, InstallKeepsReached, NothingInFlightIsNoGarbage, PlacesKeepReached, PurgingKeepsReached, ReachedIsHeld, SendKeepsReached, SettlingKeepsReached}
 
--- what holds something is live
+-- What holds something is live.
 pub holder_live : (w : World) (s f : ℕ) → Holds w s f → IsLive w s
 holder_live w s f h = by (map.get w.files s) h where
   by : (o : Option File) → Contains (option_map_or contents o []) f → is_some o ≡ true
@@ -67,7 +67,7 @@ module _ (w new : World) (t : Settles w new) where
 pub settling_keeps_reached : SettlingKeepsReached
 settling_keeps_reached w new t f = (reached_after w new t f, reached_before w new t f)
 
--- nothing of what is emptied is reached
+-- Nothing of what is emptied is reached.
 module _ (w : World) (test : ℕ → Bool) (apart : (f : ℕ) → test f ≡ true → ¬ (Reached w f)) where
   pub not_emptied : (s : ℕ) → Reached w s → test s ≡ false
   not_emptied s r = elim (cases_Bool (test s)) [
@@ -79,7 +79,7 @@ module _ (w : World) (test : ℕ → Bool) (apart : (f : ℕ) → test f ≡ tru
   reached_emptied _ (ByTable f h) = ByTable f h
   reached_emptied _ (BySocket s f r h) = BySocket s f (reached_emptied s r) (to_emptied test w s f (not_emptied s r) h)
 
--- to purge any files makes nothing reached that was not
+-- To purge any files makes nothing reached that was not.
 pub purging_reaches_nothing : (w new : World) (test : ℕ → Bool) → Purges test w new → (f : ℕ) → Reached new f → Reached w f
 purging_reaches_nothing w new test t f r = places_keep_reached (emptied test w) w (λ g h. h, λ s g h. (from_emptied test w s g h).1) f (reached_before (emptied test w) new t f r)
 
@@ -89,7 +89,7 @@ purging_keeps_reached w new test garbage t f = (
   purging_reaches_nothing w new test t f,
 )
 
--- what the tables have after one was changed
+-- What the tables have after one was changed.
 pub table-with_table : (w : World) (p : ℕ) (g : Map ℕ → Map ℕ) (k m : ℕ) → table_at (with_table w p g) k m ≡ option_map_or (λ q. cond (eq_by_cmp nat_cmp k p) (map.get (g q.table) m) (map.get q.table m)) (map.get w.processes k) None
 table-with_table w p g k m = ap (λ o. option_map_or (λ q. map.get q.table m) o None) (get-change_at (λ q. record q { table = g q.table }) w.processes p k) ∙ each (eq_by_cmp nat_cmp k p) (map.get w.processes k) where
   each : (b : Bool) (o : Option Process) → option_map_or (λ q. map.get q.table m) (option_map (λ q. cond b (record q { table = g q.table }) q) o) None ≡ option_map_or (λ q. cond b (map.get (g q.table) m) (map.get q.table m)) o None
@@ -100,7 +100,7 @@ table-with_table w p g k m = ap (λ o. option_map_or (λ q. map.get q.table m) o
 pub same_number : (x y : ℕ) → eq_by_cmp nat_cmp x y ≡ true → x ≡ y
 same_number x y e = eqb-true x y (sym (unsigned_tied x y) ∙ e)
 
--- a number taken into use: what was open before is open
+-- A number taken into use: what was open before is open.
 still_open : (w : World) (p n g k m h : ℕ) → table_at w p n ≡ None → table_at w k m ≡ Some h → table_at (install w p n g) k m ≡ Some h
 still_open w p n g k m h free e = table-with_table w p (λ t. map.insert t n g) k m ∙ by (map.get w.processes k) refl (eq_by_cmp nat_cmp k p) refl where
   by : (o : Option Process) → map.get w.processes k ≡ o → (b : Bool) → eq_by_cmp nat_cmp k p ≡ b → option_map_or (λ q. cond b (map.get (map.insert q.table n g) m) (map.get q.table m)) o None ≡ Some h
@@ -114,7 +114,7 @@ still_open w p n g k m h free e = table-with_table w p (λ t. map.insert t n g) 
 pub install_keeps_reached : InstallKeepsReached
 install_keeps_reached w p n g f free = places_keep_reached w (install w p n g) (λ h t. (t.0, t.1, still_open w p n g t.0 t.1 h free t.2), λ s h x. x) f
 
--- a message put into a queue: what was held before is held
+-- A message put into a queue: what was held before is held.
 module _ (w : World) (s : ℕ) (m : Message) where
   abbrev pushed : Socket → Socket
   pushed x = record x { queue = x.queue ++ m ∷ [] }

@@ -39,14 +39,14 @@ use Rattle.af_laws.specs.Rows.{IsSmallestCycle, SmallestCycle, cycle_events}
 abbrev pub none : {X : Type 0} → Map X
 none = map.empty
 
--- a map of nothing
+-- A map of nothing.
 pub entries_none : {X : Type 0} → map.entries (none {X = X}) ≡ []
 entries_none {X = X} = nothing (map.entries (none {X = X})) (sym (map.len-entries (none {X = X})) ∙ map.len-empty nat_cmp X) where
   nothing : (es : List (ℕ × X)) → length es ≡ 0 → es ≡ []
   nothing [] e = refl
   nothing (x ∷ es) e = absurd (omega (arith, e))
 
--- a value put in twice, and a value changed where it was put in
+-- A value put in twice, and a value changed where it was put in.
 module _ {X : Type 0} (m : Map X) (k : ℕ) (x : X) where
   insert_twice : (y : X) → map.insert (map.insert m k x) k y ≡ map.insert m k y
   insert_twice y = map.same_map nat_cmp_total nat_cmp-IsAntisymmetric _ _ (λ q.
@@ -61,7 +61,7 @@ module _ {X : Type 0} (m : Map X) (k : ℕ) (x : X) where
   change_there : (g : X → X) → change_at g (map.insert m k x) k ≡ map.insert m k (g x)
   change_there g = ap (λ o. option_map_or (λ y. map.insert (map.insert m k x) k (g y)) o (map.insert m k x)) get_there ∙ insert_twice (g x)
 
--- the process, and a world with it
+-- The process, and a world with it.
 abbrev pub starter : Map ℕ → Process
 starter t = record { user = 1000; limit = 16; privileged = false; table = t }
 
@@ -96,7 +96,7 @@ module _ (t : Map ℕ) (files : Map File) (n : ℕ) where
   uninstall_there : (k : ℕ) → uninstall here 1 k ≡ with_process (map.remove t k) files n
   uninstall_there k = ap (λ ps. record here { processes = ps }) (change_there none 1 (starter t) (λ q. record q { table = map.remove q.table k }))
 
--- the two sockets; what waits, waits at the first
+-- The two sockets; what waits, waits at the first.
 abbrev pub end_of : ℕ → List Message → File
 end_of peer q = AsSocket (record no_socket { state = state.Connected peer; queue = q })
 
@@ -129,12 +129,12 @@ module _ (q : List Message) where
       entries-insert nat_cmp_total (map.insert none 1 (end_of 2 q)) 2 (end_of 1 [])
       ∙ ap (put nat_cmp 2 (end_of 1 [])) (entries-insert nat_cmp_total none 1 (end_of 2 q) ∙ ap (put nat_cmp 1 (end_of 2 q)) entries_none)
 
--- the row's tests, none of which fits
+-- The row's tests, none of which fits.
 pub none_fits : (row : RefusalRow) → AllByRecursion (λ r. r.0 ≡ false) row → first_fit row ≡ None
 none_fits [] h = refl
 none_fits (r ∷ row) h = ap (λ b. cond b (Some r.1) (first_fit row)) h.0 ∙ none_fits row h.1
 
--- a step that is done, and leaves nothing to go
+-- A step that is done, and leaves nothing to go.
 outcome_done : (o : Option Errno) (frugal : Bool) (answer r : Reply) (now old new : World) → o ≡ None → r ≡ answer → now ≡ new → IsSettled new → Outcome o frugal answer now old r new
 outcome_done o frugal answer r now old new fits answers leads settled = subst (λ x. Outcome x frugal answer now old r new) (sym fits) (by frugal) where
   settles : Settles now new
@@ -144,7 +144,7 @@ outcome_done o frugal answer r now old new fits answers leads settled = subst (�
   by true = (answers, settles)
   by false = inl (answers, settles)
 
--- the worlds
+-- The worlds.
 abbrev both_open : Map ℕ
 both_open = map.insert (map.insert none 0 1) 1 2
 
@@ -166,7 +166,7 @@ sent = with_process both_open (ends (hi ∷ [])) 3
 abbrev pub closed : World
 closed = with_process one_open (ends (hi ∷ [])) 3
 
--- a process starts
+-- A process starts.
 started_settled : IsSettled started
 started_settled _ (Goes f live no_table hs) = false≢true (sym (ap is_some (map.get-empty {X = File} nat_cmp f)) ∙ live)
 
@@ -178,7 +178,7 @@ spawns = outcome_done _ false (reply.Pid 1) (reply.Pid 1) (spawned empty_world 1
   fits : first_fit (spawn_row empty_world 16) ≡ None
   fits = none_fits (spawn_row empty_world 16) (refl, (ap (λ n. nat_le MAX_PROCESSES n || nat_lt MAX_PID 1) alone, tt))
 
--- a pair is made
+-- A pair is made.
 all_free : free_numbers (process_at started 1) ≡ range_with_len 0 16
 all_free = ap free_numbers (process_there none none 1) ∙ (λ i. filter (λ n. not (is_some (map.get-empty {X = ℕ} nat_cmp n i))) (range_with_len 0 16))
 
@@ -214,7 +214,7 @@ pairs = outcome_done _ false (answer started 1 (step.Pair Seqpacket)) (reply.Fds
       ∙ ap (λ w. install w 1 1 2) (install_there none (ends []) 3 0 1)
       ∙ install_there (map.insert none 0 1) (ends []) 3 1 2
 
--- one end is sent through the other, to itself
+-- One end is sent through the other, to itself.
 socket_two : socket_on paired 1 1 ≡ record no_socket { state = state.Connected 1 }
 socket_two =
     let number : table_at paired 1 1 ≡ Some 2 = table_there both_open (ends []) 3 1 ∙ simp gets refl in
@@ -304,7 +304,7 @@ sends = outcome_done _ false (answer paired 1 send_step) (reply.Sent 2) (effect 
       ∙ ap (λ q. push_message paired 1 (record { bytes = 104 ∷ 105 ∷ []; attached = 1 ∷ []; user = q.user })) user
       ∙ ap (λ fs. record paired { files = fs }) queue_pushed
 
--- and is closed
+-- And is closed.
 pub number_at : (k : ℕ) → map.get one_open k ≡ cond (eq_by_cmp nat_cmp k 0) None (cond (eq_by_cmp nat_cmp k 1) (Some 2) (cond (eq_by_cmp nat_cmp k 0) (Some 1) None))
 number_at k = simp gets refl
 
@@ -331,7 +331,7 @@ closes = outcome_done _ true reply.Ok reply.Ok (effect sent 1 (step.Close 0)) se
   fits : refusal sent 1 (step.Close 0) ≡ None
   fits = none_fits ((not (map.contains_key sent.processes 1), ESRCH) ∷ step_row sent 1 (step.Close 0)) (not_missing both_open (ends (hi ∷ [])) 3, (ap is_none open_at, tt))
 
--- the second alone is in the table, and it holds nothing
+-- The second alone is in the table, and it holds nothing.
 pub only_two : (f : ℕ) → InTable closed f → f ≡ 2
 only_two f t =
     let at = in_table one_open (ends (hi ∷ [])) 3 f t in

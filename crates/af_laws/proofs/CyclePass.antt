@@ -28,7 +28,7 @@ use Rattle.af_base.proofs.SoundSteps.{goes-on, passes-on}
 use Rattle.af_laws.proofs.Cycle.{closed, cycle_runs, end_of, ends, entries_ends, entries_none, file_at, hi, machine, none, none_fits, not_missing, number_at, one_counted, one_open, only_one, only_two, table_there, with_process}
 use Rattle.af_laws.specs.Rows.{CycleIsCollected, IsCollected}
 
--- the first socket's queue emptied, and then the first socket gone
+-- The first socket's queue emptied, and then the first socket gone.
 abbrev drained : World
 drained = with_process one_open (ends []) 3
 
@@ -44,7 +44,7 @@ collected = with_process one_open alone 3
 alone_at : (f : ℕ) → map.get alone f ≡ cond (eq_by_cmp nat_cmp f 2) (Some last) None
 alone_at f = simp gets refl
 
--- the queue is emptied
+-- The queue is emptied.
 turned_round : map.insert (map.insert none 2 (end_of 1 [])) 1 (end_of 2 []) ≡ ends []
 turned_round = map.same_map nat_cmp_total nat_cmp-IsAntisymmetric _ _ (λ q. at q ∙ each q (eq_by_cmp nat_cmp q 1) refl (eq_by_cmp nat_cmp q 2) refl ∙ sym (file_at [] q)) where
   at : (q : ℕ) → map.get (map.insert (map.insert none 2 (end_of 1 [])) 1 (end_of 2 [])) q ≡ cond (eq_by_cmp nat_cmp q 1) (Some (end_of 2 [])) (cond (eq_by_cmp nat_cmp q 2) (Some (end_of 1 [])) None)
@@ -59,7 +59,7 @@ turned_round = map.same_map nat_cmp_total nat_cmp-IsAntisymmetric _ _ (λ q. at 
 emptied_closed : emptied (nat_eq 1) closed ≡ drained
 emptied_closed = ap (λ es. record closed { files = map_entries (λ f x. if nat_eq 1 f then empty_file x else x) es }) (entries_ends (hi ∷ [])) ∙ ap (λ fs. record closed { files = fs }) turned_round
 
--- then nothing holds the first socket
+-- Then nothing holds the first socket.
 no_table : ¬ (InTable drained 1)
 no_table t = omega (arith, only_two 1 t)
 
@@ -70,7 +70,7 @@ no_holder s h = by (eq_by_cmp nat_cmp s 2) (eq_by_cmp nat_cmp s 1) (subst (λ o.
   by false true h = none_in 1 h
   by false false h = none_in 1 h
 
--- and it is freed, and the other hangs up
+-- And it is freed, and the other hangs up.
 first_gone : without (nat_eq 1) drained ≡ collected
 first_gone = ap (λ fs. record collected { files = fs }) (map.same_map nat_cmp_total nat_cmp-IsAntisymmetric _ _ (λ q.
     get-without (nat_eq 1) drained q ∙ ap (λ o. cond (not (nat_eq 1 q)) (option_map (file_without (nat_eq 1)) o) None) (file_at [] q)
@@ -105,7 +105,7 @@ purged =
     let rest : Settles (without (nat_eq 1) drained) collected = subst (λ w. Settles w collected) (sym first_gone) (settles_none collected collected_settled) in
     subst (λ w. Settles w collected) (sym emptied_closed) (settles_first drained 1 (ap is_some (file_at [] 1)) no_table no_holder collected rest)
 
--- nothing is garbage, nor charged
+-- Nothing is garbage, nor charged.
 none_counted : IsGarbageCount collected 0
 none_counted = (λ f. false, λ f. (λ e. absurd (false≢true e), λ g. absurd (g.1 (ByTable f (two_in_table f g.0)))), sym (ap (count_by (λ e. is_socket e.1 && false)) entries)) where
   entries : map.entries alone ≡ (2, last) ∷ []
@@ -118,11 +118,11 @@ none_charged =
     let before : option_map_or F (map.get (none {X = File}) 2) 0 ≡ 0 = ap (λ o. option_map_or F o 0) (map.get-empty nat_cmp 2) in
     omega (arith, nothing, before, total-insert F none 2 last)
 
--- a send to it is refused
+-- A send to it is refused.
 abbrev send_step : Step
 send_step = step.Send 1 (120 ∷ []) []
 
--- the tests that pass, and those that are not read
+-- The tests that pass, and those that are not read.
 abbrev before : RefusalRow
 before =
     (not (map.contains_key collected.processes 1), ESRCH) ∷ (is_none (table_at collected 1 1), EBADF) ∷ (is_none (socket_at collected (ino_on collected 1 1)), ENOTSOCK)

@@ -21,7 +21,7 @@ use Rattle.af_laws.proofs.Reachability.{event_leads, from_places, numbered_leads
 use Rattle.af_laws.proofs.Logs.{events_keep_sound}
 use Rattle.af_laws.specs.Reaching.{GarbageIsNeverReached}
 
--- numbers are given in order
+-- Numbers are given in order.
 outcome_next : (now old new : World) (o : Option Errno) → (o ≡ None → Changed old now) → (frugal : Bool) (answer r : Reply) → Outcome o frugal answer now old r new → old.next_ino ≤ new.next_ino
 outcome_next now old new o leads frugal answer r h = by o leads frugal h where
   settled : Changed old now → Settles now new → old.next_ino ≤ new.next_ino
@@ -40,7 +40,7 @@ pass_next : (p : Pass) (old new : Machine) (r : Reply) → PassesWhole p old r n
 pass_next Idle old new r h = omega (arith, ap (λ w. w.next_ino) h.0.purged.2)
 pass_next (Running begun spent) old new r h = omega (arith, ap (λ m. m.world.next_ino) h.1)
 
--- a begin and a slice give no number
+-- A begin and a slice give no number.
 begin_next : (p : Pass) (old new : Machine) (r : Reply) → Begins p old r new → old.world.next_ino ≤ new.world.next_ino
 begin_next Idle old new r h = omega (arith, ap (λ m. m.world.next_ino) h.1)
 begin_next (Running begun spent) old new r h = omega (arith, ap (λ m. m.world.next_ino) h.1)

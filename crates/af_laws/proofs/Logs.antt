@@ -31,13 +31,13 @@ use Rattle.af_laws.proofs.Decidability.{garbage_decided}
 use Rattle.af_laws.proofs.SettlingOutcome.{settles_to_some}
 use Rattle.af_laws.specs.Running.{EventsHaveReplies, EventsKeepSound, FreshIsSound, HasBudget, LeavesNoChoice, LogDetermines, RefusedChangesNothing, RepliesDetermine, RunsAreSound, RunsJoin}
 
--- an outcome there is
+-- An outcome there is.
 outcome_some : (o : Option Errno) (frugal : Bool) (answer : Reply) (now old : World) → (r : Reply) × (new : World) × Outcome o frugal answer now old r new
 outcome_some (Some e) frugal answer now old = (reply.Refused e, old, (refl, refl))
 outcome_some None true answer now old = let s = settles_to_some now in (answer, s.0, (refl, s.1))
 outcome_some None false answer now old = let s = settles_to_some now in (answer, s.0, inl (refl, s.1))
 
--- a whole pass is refused, or done: its garbage can be told
+-- A whole pass is refused, or done: its garbage can be told.
 pass_some : (p : Pass) (old : Machine) → IsWhole old.world → (r : Reply) × (new : Machine) × PassesWhole p old r new
 pass_some Idle old whole =
     let g = garbage_decided old.world whole in
@@ -49,12 +49,12 @@ pass_some Idle old whole =
     )
 pass_some (Running begun spent) old whole = (reply.Refused EBUSY, old, (refl, refl))
 
--- a pass that is to begin begins, or is refused
+-- A pass that is to begin begins, or is refused.
 begin_some : (p : Pass) (old : Machine) → (r : Reply) × (new : Machine) × Begins p old r new
 begin_some Idle old = (reply.Started (next_pass old.last_pass), record old { pass = Running old.world 0; last_pass = next_pass old.last_pass }, (refl, refl))
 begin_some (Running begun spent) old = (reply.Refused EBUSY, old, (refl, refl))
 
--- a slice within the budgets may empty nothing, and go on
+-- A slice within the budgets may empty nothing, and go on.
 slice_some : (p : Pass) (old : Machine) (b : ℕ) → HasBudget p b → (r : Reply) × (new : Machine) × GoesOn p old b r new
 slice_some Idle old b has = (reply.Refused EIDLE, old, (refl, refl))
 slice_some (Running begun spent) old b has = by (nat_eq b 0 || nat_lt MAX_BUDGET b) refl where
@@ -89,7 +89,7 @@ events_have_replies old event.Begin sound answered = begin_some old.pass old
 events_have_replies old (event.Slice b) sound answered = slice_some old.pass old b answered
 events_have_replies old event.Pass sound answered = pass_some old.pass old sound.whole
 
--- whether the reply is a refusal
+-- Whether the reply is a refusal.
 pub is_refused : Reply → Bool
 is_refused (reply.Refused e) = true
 is_refused (reply.Pid p) = false
@@ -103,13 +103,13 @@ is_refused (reply.Started n) = false
 is_refused reply.Working = false
 is_refused (reply.Done n m) = false
 
--- what a receive answers is none
+-- What a receive answers is none.
 either : (b : Bool) (bytes fds : List ℕ) (trunc ctrunc : Bool) → is_refused (cond b reply.End (reply.Got bytes fds trunc ctrunc)) ≡ false
 unfolding is_refused
 either true bytes fds trunc ctrunc = refl
 either false bytes fds trunc ctrunc = refl
 
--- an answer is none
+-- An answer is none.
 answers : (w : World) (p : ℕ) (s : ProcStep) → is_refused (answer w p s) ≡ false
 unfolding is_refused
 answers w p (step.Recv n max_bytes max_fds) = either _ _ _ _ _
@@ -132,7 +132,7 @@ module _ (answer : Reply) (given : is_refused answer ≡ false) (now old a b : W
 same_machine : (a b : Machine) → a.world ≡ b.world → a.pass ≡ b.pass → a.last_pass ≡ b.last_pass → a.since ≡ b.since → a ≡ b
 same_machine a b x y z s = λ i. record { world = x i; pass = y i; last_pass = z i; since = s i }
 
--- the garbage of a world determines what a whole pass leaves
+-- The garbage of a world determines what a whole pass leaves.
 passes_one : (w a b : World) (n : ℕ) (r s : Reply) → Passes w n r a → Passes w n s b → a ≡ b
 passes_one w a b n r s x y =
     let same : (f : ℕ) → x.test f ≡ y.test f = λ f. both_ways (x.test f) (y.test f) (λ e. (y.is_garbage f).1 ((x.is_garbage f).0 e)) (λ e. (x.is_garbage f).1 ((y.is_garbage f).0 e)) in
@@ -143,7 +143,7 @@ unfolding is_refused
 pass_one Idle old a b r x y = same_machine a b (passes_one old.world a.world b.world _ r r x.0 y.0) (x.1 ∙ sym y.1) (x.2 ∙ sym y.2) (x.3 ∙ sym y.3)
 pass_one (Running begun spent) old a b r x y = x.1 ∙ sym y.1
 
--- a begin, with its reply, leads to one machine
+-- A begin, with its reply, leads to one machine.
 begin_one : (p : Pass) (old a b : Machine) (r : Reply) → Begins p old r a → Begins p old r b → a ≡ b
 begin_one Idle old a b r x y = x.1 ∙ sym y.1
 begin_one (Running begun spent) old a b r x y = x.1 ∙ sym y.1
@@ -166,7 +166,7 @@ pub number_is_done : (n : ℕ) → is_refused (reply.Fd n) ≡ false
 unfolding is_refused
 number_is_done n = refl
 
--- what is not refused comes of the effect
+-- What is not refused comes of the effect.
 pub outcome_done : (o : Option Errno) (frugal : Bool) (answer : Reply) (now old : World) (r : Reply) (new : World) → is_refused r ≡ false → Outcome o frugal answer now old r new → (o ≡ None) × (r ≡ answer) × Settles now new
 unfolding is_refused
 outcome_done (Some e) frugal answer now old r new given h = absurd (false≢true (sym given ∙ ap is_refused h.0))
@@ -186,13 +186,13 @@ unfolding is_refused
 pass_refused Idle old new error h = absurd (false≢true (sym (ap is_refused h.0.answered)))
 pass_refused (Running begun spent) old new error h = h.1
 
--- a begin that is refused changes nothing
+-- A begin that is refused changes nothing.
 begin_refused : (p : Pass) (old new : Machine) (error : Errno) → Begins p old (reply.Refused error) new → new ≡ old
 unfolding is_refused
 begin_refused Idle old new error h = absurd (false≢true (sym (ap is_refused h.0)))
 begin_refused (Running begun spent) old new error h = h.1
 
--- nor does a slice that is
+-- Nor does a slice that is.
 slice_refused : (p : Pass) (old new : Machine) (b : ℕ) (error : Errno) → GoesOn p old b (reply.Refused error) new → new ≡ old
 unfolding is_refused
 slice_refused Idle old new b error h = h.1

@@ -10,7 +10,7 @@ use Rattle.af_base.specs.World.{Process}
 use Rattle.af_base.specs.Table.{free_numbers}
 use Rattle.af_laws.specs.Numbering.{AsManyAsThereAre, FreeNumbersAreFree, GivenInOrder, NoLowerIsPassedOver}
 
--- an element of a list is its first, or one of the rest
+-- An element of a list is its first, or one of the rest.
 first_or_rest : (x : ℕ) (xs : List ℕ) (k : ℕ) → Contains (x ∷ xs) k → (x ≡ k) ⊎ Contains xs k
 first_or_rest x xs k h = elim (Contains-append_cases (x ∷ []) xs k h) [
   | inl a ↦ inl (only a)
@@ -27,7 +27,7 @@ module _ (test : ℕ → Bool) where
   abbrev step : Bool → ℕ → ℕ → List ℕ
   step b a n = cond b (a ∷ passing (a + 1) n) (passing (a + 1) n)
 
-  -- what passes is in the range, and passes
+  -- What passes is in the range, and passes.
   is_passing : (a n k : ℕ) → Contains (passing a n) k → (a ≤ k) × (k < a + n) × (test k ≡ true)
   is_passing a zero k h = absurd (omega (arith, h.1))
   is_passing a (suc n) k h = by (test a) refl (is_passing (a + 1) n k) h where
@@ -38,7 +38,7 @@ module _ (test : ℕ → Bool) where
       | inr more ↦ let r = rest more in (omega (arith, r.0), omega (arith, r.1), r.2)
     ]
 
-  -- and what is in the range and passes is there
+  -- And what is in the range and passes is there.
   passes : (a n k : ℕ) → a ≤ k → k < a + n → test k ≡ true → Contains (passing a n) k
   passes a zero k low high e = absurd (omega (arith, low, high))
   passes a (suc n) k low high e = by (test a) refl (λ above. passes (a + 1) n k above (omega (arith, high)) e) (cases_order a k) where
@@ -49,7 +49,7 @@ module _ (test : ℕ → Bool) where
     by false d rest (inr (inl above)) = rest (omega (arith, above))
     by b d rest (inr (inr below)) = absurd (omega (arith, below, low))
 
-  -- of the first few, none is there while a lower one is not
+  -- Of the first few, none is there while a lower one is not.
   none_passed_over : (a n j k m : ℕ) → Contains (take j (passing a n)) k → Contains (passing a n) m → m < k → Contains (take j (passing a n)) m
   none_passed_over a zero j k m h g below = absurd (omega (arith, g.1))
   none_passed_over a (suc n) j k m h g below = by (test a) j (λ i. none_passed_over (a + 1) n i k m) (is_passing (a + 1) n m) h g where
@@ -63,7 +63,7 @@ module _ (test : ℕ → Bool) where
       first (inl same) (inr more) = absurd (omega (arith, same, below, (above more).0))
       first (inr c) (inr more) = Contains-append_right (a ∷ []) (take j (passing (a + 1) n)) m (rest j c more below)
 
-  -- they rise
+  -- They rise.
   abbrev Rises : List ℕ → Type 0
   Rises xs = (i j : ℕ) → i < j → j < length xs → slice_index_or xs i 0 < slice_index_or xs j 0
 

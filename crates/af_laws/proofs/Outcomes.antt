@@ -49,7 +49,7 @@ module _ (w new : World) (f : ℕ) (live : IsLive w f) (no_table : ¬ (InTable w
   abbrev rest : World
   rest = without (nat_eq f) w
 
-  -- the files freed from the rest: all that are freed but f
+  -- The files freed from the rest: all that are freed but f.
   abbrev gone : ℕ → Bool
   gone g = s.0 g && not (nat_eq f g)
 

@@ -134,7 +134,7 @@ send_counts w s f m x there = (refs-push w s m f x there, inflight-push w s m f 
 pub receive_counts : ReceiveCounts
 receive_counts w s f m rest x there is = let left = sym (ap attached_in is) in (refs-left w s m.attached rest f x there left, inflight-left w s m.attached rest f x there left)
 
--- the sum over a queue with a message more, and with one less
+-- The sum over a queue with a message more, and with one less.
 module _ (F : Message → ℕ) (w : World) (s : ℕ) (m : Message) (x : Socket) (there : map.get w.files s ≡ Some (AsSocket x)) where
   queues-push : total_of (λ y. sum_by F (queue_of y)) (push_message w s m).files ≡ total_of (λ y. sum_by F (queue_of y)) w.files + F m
   queues-push =

@@ -46,7 +46,7 @@ pub record IsFrom (old now : World) : Type 0 where
   pub holders : (s f : ℕ) → Holds now s f → Holds old s f ⊎ IsKnown old f
   pub next : old.next_ino ≤ now.next_ino
 
--- the places after each change
+-- The places after each change.
 pub from_places : (old now : World) → Places old now → IsFrom old now
 from_places old _ Same = record { tables = λ f t. inl (ByTable f t); holders = λ s f h. inl h; next = omega arith }
 from_places old _ (Tables w ps pid us c gain) = let k = from_places old w c in record { tables = λ f t. elim (gain f t) [ inl y ↦ k.tables f y | inr y ↦ y ]; holders = k.holders; next = k.next }
@@ -56,11 +56,11 @@ from_places old _ (Adds w x c blank) =
     record { tables = k.tables; holders = λ q f h. k.holders q f (held-blank w x blank q f h); next = omega (arith, low) }
 from_places old _ (Sets w s g c gain) = let k = from_places old w c in record { tables = k.tables; holders = λ q f h. elim (gain q f h) [ inl y ↦ k.holders q f y | inr y ↦ inr y ]; next = k.next }
 
--- what changes lead to
+-- What changes lead to.
 changes_lead : (old now : World) → IsWhole old → Changed old now → Leads old now
 changes_lead old now whole c = let k = from_places old now c.places in reached_or_new old now whole k.tables k.holders
 
--- whatever the outcome
+-- Whatever the outcome.
 module _ (old now new : World) where
   settled_leads : Leads old now → Settles now new → Leads old new
   settled_leads leads t f r = leads f (reached_before now new t f r)
@@ -100,12 +100,12 @@ pass_leads : (p : Pass) (old new : Machine) (r : Reply) → PassesWhole p old r 
 pass_leads Idle old new r h f d = inl ((purging_keeps_reached old.world new.world h.0.test (λ g e. (h.0.is_garbage g).0 e) h.0.purged f).1 d)
 pass_leads (Running begun spent) old new r h f d = inl (subst (λ m. Reached m.world f) h.1 d)
 
--- a begin leaves the world
+-- A begin leaves the world.
 begin_leads : (p : Pass) (old new : Machine) (r : Reply) → Begins p old r new → Leads old.world new.world
 begin_leads Idle old new r h f d = inl (subst (λ m. Reached m.world f) h.1 d)
 begin_leads (Running begun spent) old new r h f d = inl (subst (λ m. Reached m.world f) h.1 d)
 
--- a slice purges, which makes nothing reached
+-- A slice purges, which makes nothing reached.
 slice_leads : (p : Pass) (old new : Machine) (b : ℕ) (r : Reply) → GoesOn p old b r new → Leads old.world new.world
 slice_leads Idle old new b r h f d = inl (subst (λ m. Reached m.world f) h.1 d)
 slice_leads (Running begun spent) old new b r h f d = elim (slice-by begun spent b old new r h) [

@@ -15,7 +15,7 @@ use Rattle.af_laws.proofs.Chains.{same_number}
 use Rattle.af_laws.proofs.PlaceCounts.{none_or_some}
 use Rattle.af_laws.specs.Settling.{SettlesToSome}
 
--- a test that fails where another passes passes less often
+-- A test that fails where another passes passes less often.
 module _ (p q : ℕ → Bool) (weaker : (x : ℕ) → q x ≡ true → p x ≡ true) where
   one_less : (x : ℕ) → cond {A = ℕ} (q x) 1 0 ≤ cond {A = ℕ} (p x) 1 0
   one_less x = by (q x) refl (p x) refl where
@@ -43,7 +43,7 @@ module _ (p q : ℕ → Bool) (weaker : (x : ℕ) → q x ≡ true → p x ≡ t
       only (zero, l, e) = e
       only (suc k, l, e) = absurd (omega (arith, l))
 
--- among some numbers, a live file that no place holds, or none
+-- Among some numbers, a live file that no place holds, or none.
 unplaced_or_not : (w : World) (ks : List ℕ) → ((f : ℕ) × IsLive w f × (refs w f ≡ 0)) ⊎ ((f : ℕ) → Contains ks f → IsLive w f → 0 < refs w f)
 unplaced_or_not w [] = inr (λ f h. absurd (omega (arith, h.1)))
 unplaced_or_not w (k ∷ ks) = by (none_or_some (refs w k)) (cases_Bool (is_live w k)) (unplaced_or_not w ks) where
@@ -59,7 +59,7 @@ unplaced_or_not w (k ∷ ks) = by (none_or_some (refs w k)) (cases_Bool (is_live
   by (inr p) live (inr rest) = inr (λ f h. here f (λ l. p) rest (Contains-append_cases (k ∷ []) ks f h))
   by (inl z) (inr dead) (inr rest) = inr (λ f h. here f (λ l. absurd (false≢true (sym dead ∙ l))) rest (Contains-append_cases (k ∷ []) ks f h))
 
--- a live file taken away is one live file less
+-- A live file taken away is one live file less.
 still_live : (w : World) (f x : ℕ) → IsLive (without (nat_eq f) w) x → IsLive w x
 still_live w f x l = (stays _ _ (sym (live-without (nat_eq f) w x) ∙ l)).1
 
@@ -67,11 +67,11 @@ fewer_live : (w : World) (f : ℕ) (ks : List ℕ) → IsLive w f → Contains k
 fewer_live w f ks live among =
     fewer (is_live w) (is_live (without (nat_eq f) w)) (still_live w f) f live (live-without (nat_eq f) w f ∙ ap (λ b. cond (not b) (is_live w f) false) (eq-eqb f f refl)) ks among
 
--- where each live file has a place
+-- Where each live file has a place.
 held_settles : (w : World) (ks : List ℕ) → ((f : ℕ) → IsLive w f → Contains ks f) → ((f : ℕ) → Contains ks f → IsLive w f → 0 < refs w f) → (new : World) × Settles w new
 held_settles w ks among held = (w, settles_none w (settled_by w (λ f live. held_by_some w f (held f (among f live) live))))
 
--- where as many files are live as n at most, and each is among some numbers
+-- Where as many files are live as n at most, and each is among some numbers.
 settles_within : (n : ℕ) (ks : List ℕ) (w : World) → ((f : ℕ) → IsLive w f → Contains ks f) → count_by (is_live w) ks ≤ n → (new : World) × Settles w new
 settles_within zero ks w among few = elim (unplaced_or_not w ks) [
   | inr held ↦ held_settles w ks among held
@@ -85,7 +85,7 @@ settles_within (suc n) ks w among few = elim (unplaced_or_not w ks) [
       (rest.0, settles_first w found.0 found.1 unplaced.0 unplaced.1 rest.0 rest.1)
 ]
 
--- what is live is among the keys
+-- What is live is among the keys.
 pub among_keys : (w : World) (f : ℕ) → IsLive w f → Contains (map.keys w.files) f
 among_keys w f live = found (map.keys w.files) (sym (map.contains_key-keys w.files f) ∙ live) where
   found : (ks : List ℕ) → list_any (eq_by_cmp nat_cmp f) ks ≡ true → Contains ks f

@@ -18,7 +18,7 @@ use Rattle.af_base.proofs.SoundSteps.{none-fits, process-there}
 use Rattle.af_laws.proofs.Outcomes.{settled_stays}
 use Rattle.af_laws.specs.Stepping.{CloseNeverFails, Dup2ToItselfChangesNothing, ExitNeverFails, ExitTakesOneTable, ForkCopies}
 
--- one more than the process that was made
+-- One more than the process that was made.
 pid_in : Reply → ℕ
 pid_in (reply.Pid p) = suc p
 pid_in r = 0
@@ -34,7 +34,7 @@ fork_copies old new p child h = by (refusal old p step.Fork) refl h where
       let same : child ≡ old.next_pid = omega (arith, ap pid_in out.0) in
       ap (λ w. map.get w.processes child) out.1.2 ∙ ap (map.get (map.insert old.processes old.next_pid (process_at old p))) same ∙ insert-here old.processes old.next_pid (process_at old p) ∙ sym (process-there old p row.here)
 
--- whether it was done
+-- Whether it was done.
 is_ok : Reply → Bool
 is_ok reply.Ok = true
 is_ok r = false

@@ -34,19 +34,19 @@ use Rattle.af_laws.proofs.Logs.{replies_determine}
 use Rattle.af_laws.proofs.WholePasses.{released, spared, spares_all}
 use Rattle.af_laws.specs.Purging.{IsSlice, PassHasOneOutcome, PassIsOneSlice, SlicesAreAPass, SlicesSpareTheReached}
 
--- who is done is not refused
+-- Who is done is not refused.
 done_refused : (pass count : ℕ) (e : Errno) → reply.Done pass count ≡ reply.Refused e → ⊥
 done_refused pass count e d = cc
 
--- nor is a pass done that has work left
+-- Nor is a pass done that has work left.
 done_working : (pass count : ℕ) → reply.Done pass count ≡ reply.Working → ⊥
 done_working pass count d = cc
 
--- nor is what began refused
+-- Nor is what began refused.
 started_refused : (n : ℕ) (e : Errno) → reply.Started n ≡ reply.Refused e → ⊥
 started_refused n e d = cc
 
--- what is true of all is true of what is among them
+-- What is true of all is true of what is among them.
 among : (P : ℕ → Type 0) (f : ℕ) (xs : List ℕ) → All P xs → list_any (nat_eq f) xs ≡ true → P f
 among P f [] all e = absurd (false≢true e)
 among P f (x ∷ xs) all e = elim (or_cases (nat_eq f x) (list_any (nat_eq f) xs) e) [
@@ -54,7 +54,7 @@ among P f (x ∷ xs) all e = elim (or_cases (nat_eq f x) (list_any (nat_eq f) xs
   | inr later ↦ among P f xs (All-tail P x xs all) later
 ]
 
--- to empty what is not live changes nothing
+-- To empty what is not live changes nothing.
 emptied_dead : (t : ℕ → Bool) (w : World) → ((f : ℕ) → t f ≡ true → ¬ (IsLive w f)) → emptied t w ≡ w
 emptied_dead t w dead = ap (λ fs. record w { files = fs }) (map.same_map nat_cmp_total nat_cmp-IsAntisymmetric _ _ (λ q. get-emptied t w q ∙ each q (t q) refl (map.get w.files q) refl)) where
   each : (q : ℕ) (b : Bool) → t q ≡ b → (o : Option File) → map.get w.files q ≡ o → option_map (λ x. if b then empty_file x else x) o ≡ o
@@ -62,7 +62,7 @@ emptied_dead t w dead = ap (λ fs. record w { files = fs }) (map.same_map nat_cm
   each q false e (Some x) is = refl
   each q true e (Some x) is = absurd (dead q e (ap is_some is))
 
--- so it purges nothing of a settled world
+-- So it purges nothing of a settled world.
 purges_dead : (t : ℕ → Bool) (w : World) → IsSettled w → ((f : ℕ) → t f ≡ true → ¬ (IsLive w f)) → Purges t w w
 purges_dead t w settled dead = subst (λ x. Settles x w) (sym (emptied_dead t w dead)) (settles_none w settled)
 
@@ -77,11 +77,11 @@ record IsPartly (old m : Machine) : Type 0 where
   of_garbage : (f : ℕ) → test f ≡ true → Garbage old.world f
   purged : Purges test old.world m.world
 
--- the machine after a begin
+-- The machine after a begin.
 abbrev begun : Machine → Machine
 begun old = record old { pass = Running old.world 0; last_pass = next_pass old.last_pass }
 
--- nothing was purged at the begin
+-- Nothing was purged at the begin.
 partly_begun : (old : Machine) → IsSettled old.world → IsPartly old (begun old)
 partly_begun old settled = record {
   spent = 0;
@@ -95,22 +95,22 @@ partly_begun old settled = record {
 
 module _ (old m new : Machine) (b : ℕ) (partly : IsPartly old m) where
   module _ (r : Reply) (made : Slices old.world m.world partly.spent b m.last_pass r new.world new.pass) where
-    -- what was purged before, and what the slice purges
+    -- What was purged before, and what the slice purges.
     abbrev both : ℕ → Bool
     both f = partly.test f || list_any (nat_eq f) made.emptied_files
 
-    -- all of it was garbage at the begin
+    -- All of it was garbage at the begin.
     both_garbage : (f : ℕ) → both f ≡ true → Garbage old.world f
     both_garbage f e = elim (or_cases (partly.test f) (list_any (nat_eq f) made.emptied_files) e) [
       | inl before ↦ partly.of_garbage f before
       | inr now ↦ among (Garbage old.world) f made.emptied_files made.of_garbage now
     ]
 
-    -- to purge it all at once leads to the same world
+    -- To purge it all at once leads to the same world.
     both_purged : Purges both old.world new.world
     both_purged = purges_both partly.test (λ f. list_any (nat_eq f) made.emptied_files) old.world m.world new.world partly.purged made.purged
 
-    -- where no garbage of the begin is live, all of it was purged
+    -- Where no garbage of the begin is live, all of it was purged.
     all_purged : (test : ℕ → Bool) → ((f : ℕ) → (test f ≡ true) ↔ Garbage old.world f) → ((f : ℕ) → Garbage old.world f → ¬ (IsLive new.world f)) → Purges test old.world new.world
     all_purged test is_garbage none =
         let dead = purges_dead test new.world (settled-settles (emptied both old.world) new.world both_purged) (λ f e. none f ((is_garbage f).0 e)) in
@@ -121,7 +121,7 @@ module _ (old m new : Machine) (b : ℕ) (partly : IsPartly old m) where
             | inr every ↦ every
           ]) (λ e. ap (λ c. both f || c) e ∙ or-true (both f))
 
-  -- after a slice the pass runs on, or it is over
+  -- After a slice the pass runs on, or it is over.
   partly_on : (r : Reply) → Step m (event.Slice b) r new → IsPartly old new ⊎ (new.pass ≡ Idle)
   partly_on r h = elim (slice-by old.world partly.spent b m new r (subst (λ p. GoesOn p m b r new) partly.runs h)) [
     | inl refused ↦ inl (subst (IsPartly old) (sym refused.1) partly)
@@ -131,7 +131,7 @@ module _ (old m new : Machine) (b : ℕ) (partly : IsPartly old m) where
     ]
   ]
 
-  -- a slice that is done ends where a whole pass does
+  -- A slice that is done ends where a whole pass does.
   partly_done : (pass count : ℕ) → Step m (event.Slice b) (reply.Done pass count) new → PassesWhole Idle old (reply.Done pass count) new
   partly_done pass count h = elim (slice-by old.world partly.spent b m new (reply.Done pass count) (subst (λ p. GoesOn p m b (reply.Done pass count) new) partly.runs h)) [
     | inl refused ↦ absurd (done_refused pass count EINVAL refused.0)
@@ -153,15 +153,15 @@ module _ (old m new : Machine) (b : ℕ) (partly : IsPartly old m) where
     ]
   ]
 
--- where no pass runs, slices change nothing
+-- Where no pass runs, slices change nothing.
 idle_on : (m new : Machine) (b : ℕ) (r : Reply) → m.pass ≡ Idle → Step m (event.Slice b) r new → new.pass ≡ Idle
 idle_on m new b r idle h = ap (λ n. n.pass) (subst (λ p. GoesOn p m b r new) idle h).1 ∙ idle
 
--- so none is done
+-- So none is done.
 idle_done : (m new : Machine) (b pass count : ℕ) → m.pass ≡ Idle → Step m (event.Slice b) (reply.Done pass count) new → ⊥
 idle_done m new b pass count idle h = done_refused pass count EIDLE (subst (λ q. GoesOn q m b (reply.Done pass count) new) idle h).0
 
--- slices leave the pass so far as it is, or over
+-- Slices leave the pass so far as it is, or over.
 slices_on : (old m new : Machine) (slices : List RunEntry) → All (λ (e : RunEntry). IsSlice e.0) slices → IsPartly old m ⊎ (m.pass ≡ Idle) → Run m slices new → IsPartly old new ⊎ (new.pass ≡ Idle)
 slices_on old m new [] are at run = subst (λ n. IsPartly old n ⊎ (n.pass ≡ Idle)) (sym run) at
 slices_on old m new (e ∷ es) are at run =
@@ -174,7 +174,7 @@ slices_on old m new (e ∷ es) are at run =
       by (event.Slice b) is h (inr idle) = inr (idle_on m run.0 b e.1 idle h)
       by event.Pass is h at = absurd is
 
--- what began is no pass while one ran
+-- What began is no pass while one ran.
 begun_idle : (p : Pass) (old m : Machine) (number : ℕ) → Begins p old (reply.Started number) m → (p ≡ Idle) × (m ≡ begun old)
 begun_idle Idle old m number h = (refl, h.1)
 begun_idle (Running w spent) old m number h = absurd (started_refused number EBUSY h.0)
@@ -189,7 +189,7 @@ slices_are_a_pass old new slices started b pass count settled are run =
       | inr idle ↦ absurd (idle_done last.0 new b pass count idle last.2)
     ])
 
--- what passes the test is left of a list that has it
+-- What passes the test is left of a list that has it.
 left_in : (t : ℕ → Bool) (f : ℕ) → t f ≡ true → (xs : List ℕ) → list_any (eq_by_cmp nat_cmp f) xs ≡ true → list_any (nat_eq f) (filter t xs) ≡ true
 left_in t f is [] e = absurd (false≢true e)
 left_in t f is (x ∷ xs) e = by (left_in t f is xs) (t x) refl (or_cases (eq_by_cmp nat_cmp f x) (list_any (eq_by_cmp nat_cmp f) xs) e) where
@@ -200,7 +200,7 @@ left_in t f is (x ∷ xs) e = by (left_in t f is xs) (t x) refl (or_cases (eq_by
   by rest false p (inl here) = absurd (false≢true (sym p ∙ ap t (sym (same_number f x here)) ∙ is))
   by rest false p (inr later) = rest later
 
--- what is left passes the test
+-- What is left passes the test.
 all_left : (P : ℕ → Type 0) (t : ℕ → Bool) → ((f : ℕ) → t f ≡ true → P f) → (xs : List ℕ) → All P (filter t xs)
 all_left P t passes [] = All-nil P
 all_left P t passes (x ∷ xs) = by (all_left P t passes xs) (t x) refl where
@@ -208,7 +208,7 @@ all_left P t passes (x ∷ xs) = by (all_left P t passes xs) (t x) refl where
   by rest true e = All-cons P x (filter t xs) (passes x e) rest
   by rest false e = rest
 
--- at most as many keys are left as there are entries
+-- At most as many keys are left as there are entries.
 few_left : (t : ℕ → Bool) (es : List (ℕ × File)) → length (filter t (each (λ e. e.0) es)) ≤ length es
 few_left t [] = omega arith
 few_left t (e ∷ es) = by (t e.0) (few_left t es) where
@@ -216,11 +216,11 @@ few_left t (e ∷ es) = by (t e.0) (few_left t es) where
   by true less = omega (arith, less)
   by false less = omega (arith, less)
 
--- what is done has its pass's number
+-- What is done has its pass's number.
 same_number_done : (p q n k : ℕ) → reply.Done p n ≡ reply.Done q k → p ≡ q
 same_number_done p q n k e = cc
 
--- a slice of the largest budget may empty all garbage
+-- A slice of the largest budget may empty all garbage.
 slice_of_all : (old new : Machine) (pass count : ℕ) → IsSound old.world → PassesWhole Idle old (reply.Done pass count) new → Slices old.world old.world 0 MAX_BUDGET (next_pass old.last_pass) (reply.Done pass count) new.world new.pass
 slice_of_all old new pass count sound h =
     let files = filter h.0.test (map.keys old.world.files) in
@@ -237,7 +237,7 @@ slice_of_all old new pass count sound h =
           (λ e. left_in h.0.test f e (map.keys old.world.files) (sym (map.contains_key-keys old.world.files f) ∙ ((h.0.is_garbage f).0 e).0))
           (among (λ g. h.0.test g ≡ true) f (filter h.0.test (map.keys old.world.files)) (all_left (λ g. h.0.test g ≡ true) h.0.test (λ g e. e) (map.keys old.world.files)))
 
--- so one slice does what a whole pass does
+-- So one slice does what a whole pass does.
 sliced_by : (p : Pass) (old new : Machine) (pass count : ℕ) → IsSound old.world → PassesWhole p old (reply.Done pass count) new
     → (mid : Machine) × Begins p old (reply.Started pass) mid × Run mid ((event.Slice MAX_BUDGET, reply.Done pass count) ∷ []) new
 sliced_by Idle old new pass count sound h =
@@ -248,7 +248,7 @@ sliced_by (Running w spent) old new pass count sound h = absurd (done_refused pa
 pub pass_is_one_slice : PassIsOneSlice
 pass_is_one_slice old new pass count sound h = sliced_by old.pass old new pass count sound h
 
--- two whole passes give the same reply
+-- Two whole passes give the same reply.
 same_reply : (p : Pass) (old new other : Machine) (r s : Reply) → PassesWhole p old r new → PassesWhole p old s other → r ≡ s
 same_reply Idle old new other r s x y = x.0.answered ∙ ap (reply.Done (next_pass old.last_pass)) (garbage_counts_once old.world x.0.count y.0.count x.0.counted y.0.counted) ∙ sym y.0.answered
 same_reply (Running w spent) old new other r s x y = x.0 ∙ sym y.0

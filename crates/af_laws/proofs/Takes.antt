@@ -30,7 +30,7 @@ drop_past xs ys c h =
     let whole : length xs + (c - length xs) ≡ c = omega (arith, h) in
     ap (λ k. drop k (xs ++ ys)) (sym whole) ∙ sym (drop-drop (c - length xs) (length xs) (xs ++ ys)) ∙ ap (drop (c - length xs)) (drop_at xs ys (length xs) refl)
 
--- the bytes that are left
+-- The bytes that are left.
 pub joined-cut : (q : List Message) (c : ℕ) → joined (cut c q) ≡ drop c (joined q)
 joined-cut [] c = sym (drop_all {X = ℕ} c [] (omega arith))
 joined-cut (m ∷ q) c = by (joined-cut q (c - length m.bytes)) (nat_le (length m.bytes) c) refl (nat_lt 0 c) refl where
@@ -49,7 +49,7 @@ stream_keeps_bytes q n = by (find has_files q) where
   by None = all (min n (before q))
   by (Some m) = all (min n (before q + length m.bytes))
 
--- the first message with files is one of all
+-- The first message with files is one of all.
 pub first_within : (q : List Message) (m : Message) → find has_files q ≡ Some m → before q + length m.bytes ≤ length (joined q)
 first_within [] m e = absurd (none_some m e)
 first_within (x ∷ q) m e = elim (cases_Bool (has_files x)) [

@@ -22,9 +22,9 @@ use Rattle.af_base.proofs.SettledWorlds.{get-without, live-without, stays}
 use Rattle.af_laws.proofs.Chains.{holder_live, not_emptied, not_gone, purging_keeps_reached, reached_emptied}
 use Rattle.af_laws.specs.Purging.{PassLeavesNoGarbage, PassReleasesItsGarbage, PassSparesTheReached, PassWithoutProcessesLeavesNothing, SparesReached}
 
--- a world of which some is purged, and nothing that is reached
+-- A world of which some is purged, and nothing that is reached.
 module _ (old new : World) (test : ℕ → Bool) (apart : (f : ℕ) → test f ≡ true → ¬ (Reached old f)) (purged : Purges test old new) where
-  -- what is reached is what it was, but for a peer that has hung up
+  -- What is reached is what it was, but for a peer that has hung up.
   same_file : (f : ℕ) → Reached old f → map.get new.files f ≡ option_map (file_without purged.0) (map.get old.files f)
   same_file f r =
       ap (λ w. map.get w.files f) purged.2 ∙ get-without purged.0 (emptied test old) f
@@ -55,18 +55,18 @@ module _ (old new : World) (test : ℕ → Bool) (apart : (f : ℕ) → test f �
     backlog (Some Plain) = refl
     backlog (Some (AsSocket s)) = refl
 
--- a world whose garbage is purged
+-- A world whose garbage is purged.
 module _ (old new : World) (test : ℕ → Bool) (garbage : (f : ℕ) → (test f ≡ true) ↔ Garbage old f) (purged : Purges test old new) where
   is_garbage : (f : ℕ) → test f ≡ true → Garbage old f
   is_garbage f e = (garbage f).0 e
 
-  -- only garbage holds garbage, and that was emptied
+  -- Only garbage holds garbage, and that was emptied.
   goes : (f : ℕ) → Garbage old f → Unheld (emptied test old) f
   goes f g = Goes f (live-emptied test old f ∙ g.0) (λ t. g.1 (ByTable f t)) (λ s h.
       let from = from_emptied test old s f h in
       absurd (false≢true (sym from.0 ∙ (garbage s).1 (holder_live old s f from.1, λ r. g.1 (BySocket s f r from.1)))))
 
-  -- what is live stayed, and was live
+  -- What is live stayed, and was live.
   stayed : (f : ℕ) → IsLive new f → (purged.0 f ≡ false) × IsLive old f
   stayed f l =
       let left = stays _ _ (sym (ap (λ w. is_some (map.get w.files f)) purged.2 ∙ live-without purged.0 (emptied test old) f) ∙ l) in
@@ -78,7 +78,7 @@ module _ (old new : World) (test : ℕ → Bool) (garbage : (f : ℕ) → (test 
   none_left : (f : ℕ) → ¬ (Garbage new f)
   none_left f g = released f ((stayed f g.0).1, λ r. g.1 ((purging_keeps_reached old new test is_garbage purged f).0 r)) g.0
 
--- where nothing changes
+-- Where nothing changes.
 pub spares_all : (old new : Machine) → new ≡ old → SparesReached old.world new.world
 spares_all old new e = subst (λ m. SparesReached old.world m.world) (sym e) (record { tables = refl; live = λ f r l. l; queues = λ f r. refl; backlogs = λ f r. refl })
 
@@ -89,7 +89,7 @@ spares_by (Running begun spent) old new r h = spares_all old new h.1
 pub pass_spares_the_reached : PassSparesTheReached
 pass_spares_the_reached old new r h = spares_by old.pass old new r h
 
--- who is done is not refused
+-- Who is done is not refused.
 done_refused : (pass count : ℕ) (e : Errno) → reply.Done pass count ≡ reply.Refused e → ⊥
 done_refused pass count e d = cc
 

@@ -15,8 +15,8 @@ use Rattle.af_steps.proofs.FoldedReplies.{does-step, refuses-step}
 use Rattle.af_layer.proofs.Starts.{refuses-start, starts-step}
 use Rattle.af_layer.specs.Shared.{IsReplyTo, TellsReply, TellsStep}
 
--- the machine that the lock holds, that which a call begins at, which is the same, and that which
--- it ends at
+-- The machine that the lock holds, that which a call begins at, which is the same, and that which
+-- it ends at.
 module _ (held old new : Machine) (sound : IsSound held.world) (same : old ≡ held) where
   -- The call begins at a sound machine.
   begins_sound : IsSound old.world

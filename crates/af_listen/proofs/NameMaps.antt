@@ -44,7 +44,7 @@ changed es fs k w at others q = looked fs q ∙ by (pointwise nat_eq k q) refl �
         ∙ sym (looked es q) ∙ ap (λ b. cond b w (get (named es) q)) (sym p)
 
 module _ {S : Type 0} where
-  -- the map's look-up is the hash map's
+  -- The map's look-up is the hash map's.
   pub name_looked : (m : HashMap (Vec ℕ) ℕ S) (q : List ℕ) → get (named m.entries) q ≡ hash.get_by (has q) m
   name_looked m q = looked m.entries q
 
@@ -56,5 +56,5 @@ module _ {S : Type 0} where
   name_removed m n k h = same_map nat_list_cmp_total (slice_cmp-IsAntisymmetric nat_cmp-IsAntisymmetric) _ _ (λ q.
       changed m.entries n.entries k None h.1 h.3 q ∙ sym (get-remove nat_list_cmp_total (named m.entries) k q))
 
--- what changes of a hash map of names do to its map
+-- What changes of a hash map of names do to its map.
 pub ruleset name_changes = (name_looked, name_inserted, name_removed)

@@ -11,11 +11,11 @@ use Rattle.af_table.specs.Slots.{table_of, NoneFrom}
 use Rattle.af_table.specs.Free.{free_from}
 use Rattle.af_table.proofs.Tables.{open_as_marked}
 
--- those of len numbers from k on that do not pass the test
+-- Those of len numbers from k on that do not pass the test.
 abbrev left : ℕ → ℕ → (ℕ → Bool) → List ℕ
 left k len s = filter (λ q. not (s q)) (range_with_len k len)
 
--- numbers that pass are left out
+-- Numbers that pass are left out.
 left_past : (d k len : ℕ) (s : ℕ → Bool) → ((q : ℕ) → k ≤ q → q < k + d → s q ≡ true) → d ≤ len → left k len s ≡ left (k + d) (len - d) s
 left_past zero k len s h le = let same : k ≡ k + 0 = omega arith in let all : len ≡ len - 0 = omega arith in (λ i. left (same i) (all i) s)
 left_past (suc d) k zero s h le = absurd (omega arith)
@@ -26,7 +26,7 @@ left_past (suc d) k (suc len) s h le =
     ∙ left_past d (k + 1) len s (λ q low high. h q (omega arith) (omega arith)) (omega arith)
     ∙ (λ i. left (next i) (fewer i) s)
 
--- the first that does not is the head
+-- The first that does not is the head.
 left_first : (k n m len : ℕ) (s : ℕ → Bool) → k ≤ n → len ≡ (n - k) + suc m → s n ≡ false → ((q : ℕ) → k ≤ q → q < n → s q ≡ true) → left k len s ≡ n ∷ left (n + 1) m s
 left_first k n m len s le e none below =
     let here : k + (n - k) ≡ n = omega arith in
@@ -59,12 +59,12 @@ pub free_all : (p : Process) → free_from 0 p ≡ free_numbers p
 unfolding free_from
 free_all p = let all : p.limit - 0 ≡ p.limit = omega arith in ap (λ n. left 0 n (map.contains_key p.table)) all
 
--- the lowest free number
+-- The lowest free number.
 pub free_head : (p : Process) (o : Option ℕ) → IfSome o (λ n. free_from 0 p ≡ n ∷ free_from (n + 1) p) → IfNone o (free_from 0 p ≡ []) → o ≡ slice_get (free_numbers p) 0
 free_head p None some none = ap (λ l. slice_get l 0) (sym none ∙ free_all p)
 free_head p (Some n) some none = ap (λ l. slice_get l 0) (sym some ∙ free_all p)
 
--- the two lowest
+-- The two lowest.
 pub free_two : (p : Process) (a b : ℕ) → free_from 0 p ≡ a ∷ free_from (a + 1) p → free_from (a + 1) p ≡ b ∷ free_from (b + 1) p → lowest_free 2 p ≡ a ∷ b ∷ []
 free_two p a b first second = ap (take 2) (sym (free_all p) ∙ first ∙ ap (λ l. a ∷ l) second)
 
@@ -76,15 +76,15 @@ free_no_two p none = let few : length (free_numbers p) ≡ 0 = ap length (sym (f
 pub free_only_one : (p : Process) (a : ℕ) → free_from 0 p ≡ a ∷ free_from (a + 1) p → free_from (a + 1) p ≡ [] → length (free_numbers p) < 2
 free_only_one p a first none = let few : length (free_numbers p) ≡ 1 = ap length (sym (free_all p) ∙ first ∙ ap (λ l. a ∷ l) none) in omega arith
 
--- one found more
+-- One found more.
 pub free_pushed : (p : Process) (ns : List ℕ) (k n : ℕ) → ns ++ free_from k p ≡ free_numbers p → free_from k p ≡ n ∷ free_from (n + 1) p → (ns ++ n ∷ []) ++ free_from (n + 1) p ≡ free_numbers p
 free_pushed p ns k n all next = append_assoc ns (n ∷ []) (free_from (n + 1) p) ∙ ap (λ l. ns ++ l) (sym next) ∙ all
 
--- as many as are wanted
+-- As many as are wanted.
 pub free_enough : (p : Process) (ns : List ℕ) (k count : ℕ) → ns ++ free_from k p ≡ free_numbers p → length ns ≡ count → ns ≡ lowest_free count p
 free_enough p ns k count all full = sym (ap (take count) (sym all) ∙ take-append-le count ns (free_from k p) (omega arith) ∙ take_all count ns (omega arith))
 
--- all, if there are no others
+-- All, if there are no others.
 pub free_short : (p : Process) (ns : List ℕ) (k count : ℕ) → ns ++ free_from k p ≡ free_numbers p → free_from k p ≡ [] → length ns ≤ count → ns ≡ lowest_free count p
 free_short p ns k count all none fits = sym (ap (take count) (sym all ∙ ap (λ l. ns ++ l) none ∙ append-nil ns) ∙ take_all count ns fits)
 

@@ -54,31 +54,31 @@ tied : (k q : ℕ) → nat_eq k q ≡ eq_by_cmp nat_cmp q k
 tied k q = nat_eq_equiv.symm k q ∙ sym (unsigned_tied q k)
 
 module _ {X Y S : Type 0} (f : X → Y) where
-  -- taking a part commutes with putting in,
+  -- Taking a part commutes with putting in.
   part_inserted : (m n : HashMap ℕ X S) (k : ℕ) (v : X) → hash.Updates nat_eq m n k (Some v) → part_of f n.entries ≡ map.insert (part_of f m.entries) k (f v)
   part_inserted m n k v h = same_map nat_cmp_total nat_cmp-IsAntisymmetric _ _ (λ q.
       part_at f n.entries q ∙ ap (option_map f) (h.0 q) ∙ mapped f (nat_eq k q) v (hash.get nat_eq m q)
       ∙ (λ i. cond (tied k q i) (Some (f v)) (sym (part_at f m.entries q) i))
       ∙ sym (get-insert nat_cmp_total (part_of f m.entries) k (f v) q))
 
-  -- with taking out,
+  -- It commutes with taking out.
   part_removed : (m n : HashMap ℕ X S) (k : ℕ) → hash.Updates nat_eq m n k None → part_of f n.entries ≡ map.remove (part_of f m.entries) k
   part_removed m n k h = same_map nat_cmp_total nat_cmp-IsAntisymmetric _ _ (λ q.
       part_at f n.entries q ∙ ap (option_map f) (h.0 q) ∙ without f (nat_eq k q) (hash.get nat_eq m q)
       ∙ (λ i. cond (tied k q i) None (sym (part_at f m.entries q) i))
       ∙ sym (get-remove nat_cmp_total (part_of f m.entries) k q))
 
-  -- with a change,
+  -- It commutes with a change.
   part_changed : (g : Y → Y) (m n : HashMap ℕ X S) (k : ℕ) (x v : X) → Some x ≡ hash.get nat_eq m k → f v ≡ g (f x) → hash.Updates nat_eq m n k (Some v) → part_of f n.entries ≡ change_at g (part_of f m.entries) k
   part_changed g m n k x v was e h =
       part_inserted m n k v h ∙ ap (map.insert (part_of f m.entries) k) e
       ∙ ap (λ o. option_map_or (λ y. map.insert (part_of f m.entries) k (g y)) o (part_of f m.entries)) (ap (option_map f) was ∙ sym (part_at f m.entries k))
 
-  -- and with a change where there is no key
+  -- It commutes with a change where there is no key.
   part_unchanged : (g : Y → Y) (m : HashMap ℕ X S) (k : ℕ) → hash.get nat_eq m k ≡ None → part_of f m.entries ≡ change_at g (part_of f m.entries) k
   part_unchanged g m k was = ap (λ o. option_map_or (λ y. map.insert (part_of f m.entries) k (g y)) o (part_of f m.entries)) (sym (part_at f m.entries k ∙ ap (option_map f) was))
 
-  -- a change of other parts is none of this one
+  -- A change of other parts is none of this one.
   part_kept : (m n : HashMap ℕ X S) (k : ℕ) (x v : X) → Some x ≡ hash.get nat_eq m k → f v ≡ f x → hash.Updates nat_eq m n k (Some v) → part_of f n.entries ≡ part_of f m.entries
   part_kept m n k x v was e h = same_map nat_cmp_total nat_cmp-IsAntisymmetric _ _ (λ q.
       part_at f n.entries q ∙ ap (option_map f) (h.0 q) ∙ by q (nat_eq k q) refl ∙ sym (part_at f m.entries q)) where
@@ -87,7 +87,7 @@ module _ {X Y S : Type 0} (f : X → Y) where
         by q false apart = refl
 
 module _ {S : Type 0} where
-  -- the value at each pid
+  -- The value at each pid.
   pub process_at_key : (m : HashMap ℕ ProcessView S) (q : ℕ) → map.get (processes_of m.entries) q ≡ option_map (λ h. h.process) (hash.get nat_eq m q)
   unfolding processes_of
   process_at_key m q = part_at (λ h. h.process) m.entries q
@@ -147,11 +147,11 @@ module _ {S : Type 0} where
   unfolding processes_of
   processes_kept m n k x v was e h = part_kept (λ h. h.process) m n k x v was e h
 
-  -- the row of a process that was made longer
+  -- The row of a process that was made longer.
   pub row_made : (m n : HashMap ℕ ProcessView S) (k : ℕ) (v : ProcessView) → hash.Updates nat_eq m n k (Some v) → map.get (rows_of n.entries) k ≡ Some v.row
   row_made m n k v h = rows_there n k v (sym h.1)
 
-  -- and the others
+  -- And the others.
   pub rows_grown : (m n : HashMap ℕ ProcessView S) (k : ℕ) (x v : ProcessView) → Some x ≡ hash.get nat_eq m k → x.row ≤ v.row → hash.Updates nat_eq m n k (Some v)
       → (q : ℕ) → unwrap_or (map.get (rows_of m.entries) q) 0 ≤ unwrap_or (map.get (rows_of n.entries) q) 0
   unfolding rows_of
@@ -160,7 +160,7 @@ module _ {S : Type 0} where
     by true same = subst (λ o. unwrap_or o 0 ≤ v.row) (sym (part_at (λ h. h.row) m.entries q ∙ ap (option_map (λ h. h.row)) (ap (hash.get nat_eq m) (sym (eqb-true k q same)) ∙ sym was))) le
     by false apart = subst (λ o. unwrap_or o 0 ≤ unwrap_or (option_map (λ y. y.row) (hash.get nat_eq m q)) 0) (sym (part_at (λ y. y.row) m.entries q)) (omega arith)
 
-  -- as many processes as entries
+  -- As many processes as entries.
   pub process_count : (m : HashMap ℕ ProcessView S) → hash.IsUnique nat_eq m → map.len (processes_of m.entries) ≡ hash.hash_map_len m
   unfolding processes_of
   process_count m h = part_of_len (λ h. h.process) m.entries h
@@ -177,7 +177,7 @@ no_rows es e = ap (part_of (λ h. h.row)) e
 
 pub ruleset part_changes = (processes_there, rows_there, processes_none, rows_none, processes_inserted, rows_inserted, processes_removed, rows_removed, processes_changed, processes_unchanged, no_processes, no_rows)
 
--- what more room does to them
+-- What more room does to them.
 pub ruleset room_changes = (processes_there, processes_none, rows_there, rows_none, row_made)
 
 pub ruleset part_len = (process_count)

@@ -20,7 +20,7 @@ use Rattle.af_table.specs.Slots.{ProcessView}
 use Rattle.af_table.specs.Procs.{processes_of, rows_of}
 use Rattle.af_table.proofs.Parts.{processes_there, rows_there, processes_inserted, rows_inserted, processes_changed, processes_kept, rows_kept, rows_grown, row_made}
 
--- the first key that is equal to this one is this one
+-- The first key that is equal to this one is this one.
 first_is : (ks : List ℕ) (pid : ℕ) → position_or_len (nat_eq pid) ks < length ks → slice_get ks (position_or_len (nat_eq pid) ks) ≡ Some pid
 first_is [] pid h = absurd (omega arith)
 first_is (k ∷ ks) pid h = by (nat_eq pid k) refl (first_is ks pid) h where
@@ -38,7 +38,7 @@ position_is ks pid o e = subst (λ r. IfSome r (λ i. slice_get ks i ≡ Some pi
   by true low = first_is ks pid (ltb-true _ _ low)
   by false high = tt
 
--- an index with a key has an entry
+-- An index with a key has an entry.
 pub entry_known : (es : List (ℕ × ProcessView)) (i k : ℕ) → slice_get (keys_of es) i ≡ Some k → IsSome (slice_get es i)
 entry_known es i k there = by (slice_get es i) refl where
   by : (o : Option (ℕ × ProcessView)) → slice_get es i ≡ o → IsSome o
@@ -50,7 +50,7 @@ same_some : (k l : ℕ) → Some k ≡ Some l → k ≡ l
 same_some k l e = cc
 
 module _ {S : Type 0} (m : HashMap ℕ ProcessView S) (index pid key : ℕ) (h : ProcessView) (there : slice_get (hash.keys m) index ≡ Some pid) (at : slice_get m.entries index ≡ Some (key, h)) where
-  -- the pid there is this one
+  -- The pid there is this one.
   pub pid_there : key ≡ pid
   pid_there = same_some key pid (sym (slice_get-map (λ e. e.0) m.entries index ∙ ap (option_map (λ e. e.0)) at) ∙ there)
 
@@ -77,7 +77,7 @@ module _ {S : Type 0} (m : HashMap ℕ ProcessView S) (index pid key : ℕ) (h :
     pub is_there : map.get (processes_of m.entries) pid ≡ Some h.process
     is_there = processes_there m pid h process_there
 
-    -- a process is written there
+    -- A process is written there.
     module _ (w : ProcessView) where
       written : hash.Updates nat_eq m (with_value_at m index w) pid (Some w)
       written = updates-with_value_at m index w nat_eq_equiv unique pid h entry_there
@@ -85,7 +85,7 @@ module _ {S : Type 0} (m : HashMap ℕ ProcessView S) (index pid key : ℕ) (h :
       pub processes_written : (g : Process → Process) → w ≡ record h { process = g h.process } → processes_of (with_value_at m index w).entries ≡ change_at g (processes_of m.entries) pid
       processes_written g e = processes_changed g m (with_value_at m index w) pid h w process_there e written
 
-      -- it is at the pid then, and the others stay
+      -- It is at the pid then, and the others stay.
       pub processes_put : processes_of (with_value_at m index w).entries ≡ map.insert (processes_of m.entries) pid w.process
       processes_put = processes_inserted m (with_value_at m index w) pid w written
 

@@ -14,12 +14,12 @@ use Rattle.af_table.specs.Bits.{is_set, is_taken, IsPlace, HasNoPlace}
 same_number : (q n : ℕ) → q / 64 ≡ n / 64 → q % 64 ≡ n % 64 → q ≡ n
 same_number q n e f = omega arith
 
--- where two bits are the same, either both are set or none is
+-- Where two bits are the same, either both are set or none is.
 same_bit : (a b : ℕ) → a ≡ b → nat_eq a 1 ≡ nat_eq b 1
 same_bit a b e = ap (λ x. nat_eq x 1) e
 
 module _ (ws : List ℕ) (n q x : ℕ) (long : n / 64 < length ws) where
-  -- a word is changed so that its bit n % 64 is b, and its others stay
+  -- A word is changed so that its bit n % 64 is b, and its others stay.
   changed_bit : (b : Bool) → is_set x (n % 64) ≡ b → ((i : ℕ) → i < 64 → i ≢ n % 64 → is_set x i ≡ is_set (slice_index ws (n / 64)) i) → is_taken (slice_set ws (n / 64) x) q ≡ cond (nat_eq q n) b (is_taken ws q)
   changed_bit b here there = by (nat_eq q n) refl where
     other : (r : Bool) → nat_eq (q / 64) (n / 64) ≡ r → (q ≡ n → ⊥) → is_taken (slice_set ws (n / 64) x) q ≡ is_taken ws q
@@ -45,7 +45,7 @@ clear_bit ws n q h l =
     let low : n % 64 < 64 = omega arith in
     changed_bit ws n q _ (omega arith) false (same_bit _ 0 (bit_at_clear_same w64 (slice_index ws (n / 64)) (n % 64) low)) (λ i small apart. same_bit _ _ (bit_at_clear_other w64 (slice_index ws (n / 64)) (n % 64) low i small apart))
 
--- the word with its bits below k cleared
+-- The word with its bits below k cleared.
 abbrev pub high_of : ℕ → ℕ → ℕ
 high_of word k = bit_and word (18446744073709551615 * 2 ^ k % 18446744073709551616)
 
@@ -69,7 +69,7 @@ high_from word k i h le lt = high_bit word k i h ∙ ap (min (bit_at word i)) (b
 high_below : (word k i : ℕ) → k < 64 → i < k → bit_at (high_of word k) i ≡ 0
 high_below word k i h lt = high_bit word k i h ∙ ap (min (bit_at word i)) (bit_at_mask_below k 64 i lt) ∙ min_zero (bit_at word i)
 
--- the lowest bit that is set there
+-- The lowest bit that is set there.
 pub place_found : (word k : ℕ) → k < 64 → word < 2 ^ 64 → high_of word k ≢ 0 → IsPlace word k true (trailing_zeros w64 (high_of word k))
 place_found word k h fits some =
     let b = bit_at-trailing_zeros w64 (high_of word k) (positive (high_of word k) some) (omega (arith, and_le_l word (18446744073709551615 * 2 ^ k % 18446744073709551616))) in
@@ -98,7 +98,7 @@ turned zero h = refl
 turned (suc zero) h = refl
 turned (suc (suc b)) h = absurd (omega arith)
 
--- the complement of a word
+-- The complement of a word.
 pub set_of_not : (word q : ℕ) → word < 2 ^ 64 → q < 64 → is_set (18446744073709551615 - word) q ≡ not (is_set word q)
 set_of_not word q fits h = same_bit _ _ (bit_at_not w64 word q fits h) ∙ turned (bit_at word q) (bit_at-lt word q)
 
@@ -107,7 +107,7 @@ twice : (b : Bool) → not (not b) ≡ b
 twice true = refl
 twice false = refl
 
--- a place whose bit is set in the complement has a clear one in the word
+-- A place whose bit is set in the complement has a clear one in the word.
 place_of_not : (word k n : ℕ) → word < 2 ^ 64 → IsPlace (18446744073709551615 - word) k true n → IsPlace word k false n
 place_of_not word k n fits h = record {
   found = sym (twice (is_set word n)) ∙ ap not (sym (set_of_not word n fits h.low) ∙ h.found);
@@ -125,11 +125,11 @@ places_of_not word k b (Some n) e fits h = subst (λ r. IsPlace word k r n) (sym
 pub no_place_of_not : (word k : ℕ) → word < 2 ^ 64 → HasNoPlace (18446744073709551615 - word) k true → HasNoPlace word k false
 no_place_of_not word k fits h = λ q le lt. sym (twice (is_set word q)) ∙ ap not (sym (set_of_not word q fits lt) ∙ h q le lt)
 
--- a number below 2 ^ m has no bit from m on
+-- A number below 2 ^ m has no bit from m on.
 word_end : (word m q : ℕ) → word < 2 ^ m → m ≤ q → is_set word q ≡ false
 word_end word m q fits le = same_bit (bit_at word q) 0 (bit_at_above word m q fits le)
 
--- nothing is taken behind the highest bit of the last word that is not 0
+-- Nothing is taken behind the highest bit of the last word that is not 0.
 pub none_behind : (ws : List ℕ) (i q : ℕ) → slice_index ws i < 2 ^ 64 → ((r : ℕ) → 64 * (i + 1) ≤ r → is_taken ws r ≡ false) → 64 * (i + 1) - leading_zeros w64 (slice_index ws i) ≤ q → is_taken ws q ≡ false
 none_behind ws i q fits above le =
     let l = leading_length 64 (slice_index ws i) fits in
@@ -141,7 +141,7 @@ none_behind ws i q fits above le =
           ap (λ j. is_set (slice_index ws j) (q % 64)) word ∙ word_end (slice_index ws i) m (q % 64) low (omega arith)
       by m total low false e = above q (omega (arith, ltb-false q (64 * (i + 1)) e))
 
--- nor in a word that is 0
+-- Nor in a word that is 0.
 pub none_in_zero : (ws : List ℕ) (i q : ℕ) → slice_index ws i ≡ 0 → ((r : ℕ) → 64 * (i + 1) ≤ r → is_taken ws r ≡ false) → 64 * i ≤ q → is_taken ws q ≡ false
 none_in_zero ws i q empty above le = by (nat_lt q (64 * (i + 1))) refl where
   by : (b : Bool) → nat_lt q (64 * (i + 1)) ≡ b → is_taken ws q ≡ false
@@ -151,7 +151,7 @@ none_in_zero ws i q empty above le = by (nat_lt q (64 * (i + 1))) refl where
       ap (λ j. is_set (slice_index ws j) (q % 64)) word ∙ same_bit _ 0 (ap (λ w. bit_at w (q % 64)) empty ∙ bit_at-zero (q % 64))
   by false e = above q (omega (arith, ltb-false q (64 * (i + 1)) e))
 
--- nor behind the words
+-- Nor behind the words.
 pub none_past : (ws : List ℕ) (q : ℕ) → length ws ≤ q / 64 → is_taken ws q ≡ false
 none_past ws q h = same_bit _ 0 (ap (λ w. bit_at w (q % 64)) (get_or_past ws (q / 64) 0 h) ∙ bit_at-zero (q % 64))
 

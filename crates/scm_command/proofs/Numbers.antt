@@ -23,7 +23,7 @@ or_empty None = []
 pub one_number : (rows : List Row) (name : Text) (least most n m : ℕ) → HasNumber rows name least most n → HasNumber rows name least most m → n ≡ m
 one_number rows name least most n m a b = a.value ∙ ap (λ text. digits_value 10 (without_leading_plus text)) (ap or_empty (sym a.found ∙ b.found)) ∙ sym b.value
 
--- a reader of numbers that reads as u32 does, and what it read of an option
+-- A reader of numbers that reads as u32 does, and what it read of an option.
 module _ {E : Type 0} (gives : List ℕ → Result ℕ E → Type 0) (reads : (t : List ℕ) (x : Result ℕ E) → gives t x → ParsesUnsigned 32 10 t x)
     (f : Found) (name : Text) (r : Option ℕ) (none : one_text f name ≡ None → r ≡ None) (value : (t : List ℕ) → one_text f name ≡ Some t → ReadsOne gives t r) where
   -- The number read is the option's, if it is within the bounds.

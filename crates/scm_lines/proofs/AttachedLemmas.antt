@@ -8,7 +8,7 @@ abbrev pub items_before : List ℕ → Option (List ℕ) → Option (List ℕ)
 items_before front None = None
 items_before front (Some items) = Some (front ++ items)
 
--- one more item
+-- One more item.
 pub items_before_more : (front : List ℕ) (word : List ℕ) (words : List (List ℕ)) (item : List ℕ) → item_of word ≡ Some item
     → items_before front (items_of (word ∷ words)) ≡ items_before (front ++ item) (items_of words)
 items_before_more front word words item h = rw h (by_rest (items_of words))
@@ -17,7 +17,7 @@ items_before_more front word words item h = rw h (by_rest (items_of words))
     by_rest None = refl
     by_rest (Some items) = ap Some (sym (append_assoc front item items))
 
--- too many items
+-- Too many items.
 pub items_before_over : (front : List ℕ) (rest : Option (List ℕ)) → 1024 < length front → at_most 1024 (items_before front rest) ≡ None
 items_before_over front None h = refl
 items_before_over front (Some items) h = grind (arith, common_steps, length-append)

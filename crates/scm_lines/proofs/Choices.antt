@@ -8,7 +8,7 @@ use Rattle.scm_lines.specs.Words.{at_end}
 use Rattle.scm_lines.specs.Payload.{at_most}
 use Rattle.scm_lines.specs.Words.{◌>>=◌}
 
--- the outcome of a test
+-- The outcome of a test.
 pub chosen : {A : Type 0} (b : Bool) (x y z : A) → cond b x y ≡ z → ((b ≡ true) × (x ≡ z)) ⊎ ((b ≡ false) × (y ≡ z))
 chosen true x y z e = inl (refl, e)
 chosen false x y z e = inr (refl, e)

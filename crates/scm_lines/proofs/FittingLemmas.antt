@@ -10,7 +10,7 @@ use Rattle.scm_lines.specs.Attached.{item_of, items_of, joined}
 
 -- ---- bytes that fail a test
 
--- a position is found exactly if some item fails, for a test of all in order
+-- A position is found exactly if some item fails, for a test of all in order.
 found_where_not : (test : ℕ → Bool) (all : List ℕ → Bool) → all [] ≡ true → ((b : ℕ) (bytes : List ℕ) → all (b ∷ bytes) ≡ (test b && all bytes))
     → (bytes : List ℕ) → is_some (position (λ b. not (test b)) bytes) ≡ not (all bytes)
 found_where_not test all none more [] = rw none refl
@@ -21,15 +21,15 @@ found_where_not test all none more (b ∷ bytes) = rw (more b bytes) (by (test b
     by true e before = rw e (grind (arith, common_steps, before))
     by false e before = rw e (grind (arith, common_steps))
 
--- a byte is found that is not printable exactly where not all are
+-- A byte is found that is not printable exactly where not all are.
 pub unprintable_found : (bytes : List ℕ) → is_some (position (λ b. not (is_printable b)) bytes) ≡ not (all_printable bytes)
 unprintable_found = found_where_not is_printable all_printable refl (λ b bytes. refl)
 
--- a byte is found that is no digit exactly where not all are
+-- A byte is found that is no digit exactly where not all are.
 pub other_found : (word : List ℕ) → is_some (position (λ b. not (is_digit b)) word) ≡ not (all_digits word)
 other_found = found_where_not is_digit all_digits refl (λ b bytes. refl)
 
--- a word with another byte than digits is no number for that
+-- A word with another byte than digits is no number for that.
 pub reason_other : (word : List ℕ) → true ≡ not (all_digits word) → number_reason word ≡ reason.NotANumber
 reason_other word h = by (all_digits word) h
   where
@@ -37,7 +37,7 @@ reason_other word h = by (all_digits word) h
     by true e = cc
     by false e = refl
 
--- a word of digits is no number for its zero in front or its value
+-- A word of digits is no number for its zero in front or its value.
 pub reason_digits : (word : List ℕ) → false ≡ not (all_digits word) → number_reason word ≡ digits_reason word
 reason_digits word h = by (all_digits word) h
   where
@@ -47,17 +47,17 @@ reason_digits word h = by (all_digits word) h
 
 -- ---- how many
 
--- the length of a list plus a number
+-- The length of a list plus a number.
 abbrev pub counted : ℕ → Option (List ℕ) → Option ℕ
 counted n None = None
 counted n (Some items) = Some (n + length items)
 
--- one more byte
+-- One more byte.
 pub counted_byte : (n b : ℕ) (rest : Option (List ℕ)) → counted n (byte_before (Some b) rest) ≡ counted (n + 1) rest
 counted_byte n b None = refl
 counted_byte n b (Some bytes) = ap Some (grind arith)
 
--- the items of one more word
+-- The items of one more word.
 pub counted_item : (n : ℕ) (word : List ℕ) (words : List (List ℕ)) (item : List ℕ) → item_of word ≡ Some item
     → counted n (items_of (word ∷ words)) ≡ counted (n + length item) (items_of words)
 counted_item n word words item h = rw h (by_rest (items_of words))
@@ -66,28 +66,28 @@ counted_item n word words item h = rw h (by_rest (items_of words))
     by_rest None = refl
     by_rest (Some items) = ap Some (grind (arith, length-append))
 
--- a list that is too long, by a count of its front
+-- A list that is too long, by a count of its front.
 counted_over_most : (most n : ℕ) (rest whole : Option (List ℕ)) → counted n rest ≡ counted 0 whole → most < n → at_most most whole ≡ None
 counted_over_most most n rest None e h = refl
 counted_over_most most n None (Some items) e h = cc
 counted_over_most most n (Some others) (Some items) e h = grind (arith, common_steps)
 
--- a list that is not too long
+-- A list that is not too long.
 counted_few : (most n : ℕ) (whole : Option (List ℕ)) → counted n (Some []) ≡ counted 0 whole → n ≤ most → false ≡ is_none (at_most most whole)
 counted_few most n None e h = cc
 counted_few most n (Some items) e h = grind (arith, common_steps)
 
--- too many items
+-- Too many items.
 pub counted_over : (n : ℕ) (rest whole : Option (List ℕ)) → counted n rest ≡ counted 0 whole → 1024 < n → at_most 1024 whole ≡ None
 counted_over = counted_over_most 1024
 
--- a word for too many bytes, by a count of all of them
+-- A word for too many bytes, by a count of all of them.
 pub spelled_over : (n : ℕ) (rest word : List ℕ) → length rest ≡ 0 → counted n (unescape rest) ≡ counted 0 (unescape word) → 65537 < n
     → true ≡ is_none (at_most 65537 (unescape word))
 spelled_over n [] word empty e over = ap is_none (sym (counted_over_most 65537 n (Some []) (unescape word) e over))
 spelled_over n (b ∷ rest) word empty e over = absurd (omega arith)
 
--- a word for few enough bytes
+-- A word for few enough bytes.
 pub spelled_few : (n : ℕ) (rest word : List ℕ) → length rest ≡ 0 → counted n (unescape rest) ≡ counted 0 (unescape word) → n ≤ 65537
     → false ≡ is_none (at_most 65537 (unescape word))
 spelled_few n [] word empty e few = counted_few 65537 n (unescape word) e few

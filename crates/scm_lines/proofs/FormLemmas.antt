@@ -20,12 +20,12 @@ use Rattle.scm_lines.proofs.WordsPrintable.{items_printable, number_printable, p
 
 -- ---- words
 
--- this fact holds of the meaning of each word of a table
+-- This fact holds of the meaning of each word of a table.
 abbrev pub Holds : {A : Type 0} → (List ℕ → A → Type 0) → List (List ℕ × A) → Type 0
 Holds P [] = Unit {0}
 Holds P (entry ∷ table) = P entry.0 entry.1 × Holds P table
 
--- so it holds of the meaning that is found for a word
+-- So it holds of the meaning that is found for a word.
 pub meaning_said : {A : Type 0} (P : List ℕ → A → Type 0) (table : List (List ℕ × A)) → Holds P table → (word : List ℕ) (x : A) → meaning table word ≡ Some x → P word x
 meaning_said P [] all word x e = cc
 meaning_said {A} P (entry ∷ table) (first, others) word x e = by_test (bytes_eq entry.0 word) refl e (meaning_said P table others word x)
@@ -120,7 +120,7 @@ form_printable (k ◂ form) (word ∷ words) x (v, (first, others)) = both_true 
 
 -- ---- tables
 
--- what is found by a keyword has it
+-- What is found by a keyword has it.
 pub named_said : {K A : Type 0} (row : K → FormRow A) (keys : List K) (word : List ℕ) (k : K) → named row keys word ≡ Some k → word ≡ (row k).0
 named_said row [] word k e = cc
 named_said row (key ∷ keys) word k e = elim (chosen (bytes_eq (row key).0 word) (Some key) (named row keys word) (Some k) e) [
@@ -144,7 +144,7 @@ pub row_printable : {K A : Type 0} (row : K → FormRow A) → ((k : K) → all_
     → SaysRow row word words x → words_printable (word ∷ words) ≡ true
 row_printable row all word words x (k, is, says) = both_true (ap all_printable is ∙ all k) (form_printable (row k).1 words x says)
 
--- each keyword of a table passes a test
+-- Each keyword of a table passes a test.
 abbrev pub keys_pass : {K A : Type 0} → (List ℕ → Bool) → (K → FormRow A) → List K → Bool
 keys_pass test row [] = true
 keys_pass test row (key ∷ keys) = test (row key).0 && keys_pass test row keys
@@ -157,7 +157,7 @@ other_word test key word passes fails = by (bytes_eq key word) refl
     by true same = absurd (false≢true (sym fails ∙ ap test (sym (same_word key word same)) ∙ passes))
     by false other = refl
 
--- so a word that fails it is none
+-- So a word that fails it is none.
 pub no_key : {K A : Type 0} (test : List ℕ → Bool) (row : K → FormRow A) (keys : List K) (word : List ℕ) → keys_pass test row keys ≡ true → test word ≡ false → named row keys word ≡ None
 no_key test row [] word pass fails = refl
 no_key test row (key ∷ keys) word pass fails =

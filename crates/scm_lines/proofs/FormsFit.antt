@@ -18,7 +18,7 @@ use Rattle.scm_lines.specs.declared.keywords.Verb.TheVariants as verb
 
 -- ---- forms
 
--- the kind of word that is wanted
+-- The kind of word that is wanted.
 abbrev kind_of : Wanted → Kind
 kind_of wanted.Number = number
 kind_of wanted.Type = sockets
@@ -26,7 +26,7 @@ kind_of wanted.Name = name
 kind_of wanted.Bytes = payload
 kind_of wanted.Two = two
 
--- the form has the words that are wanted
+-- The form has the words that are wanted.
 abbrev HasWords : {A : Type 0} → Form A → List Wanted → Last → Type 0
 HasWords (end makes) [] last.Nothing = Unit {0}
 HasWords (privilege makes) [] last.Privilege = Unit {0}
@@ -92,7 +92,7 @@ words_fit {A} (k ◂ form) (first ∷ others) ending (is, has) (word ∷ words) 
 
 -- ---- rows
 
--- the words of a verb's row
+-- The words of a verb's row.
 abbrev step_words : Verb → List Wanted × Last
 step_words verb.Send = (wanted.Number ∷ wanted.Bytes ∷ [], last.Items)
 step_words verb.Recv = (wanted.Number ∷ wanted.Number ∷ wanted.Number ∷ [], last.Nothing)
@@ -130,11 +130,11 @@ step_has verb.Listen = (refl, λ on. (refl, λ backlog. tt))
 step_has verb.Peek = (refl, λ on. (refl, λ max_bytes. (refl, λ max_fds. tt)))
 step_has verb.Limit = (refl, λ nofile. tt)
 
--- so words that do not fit are read as no step
+-- So words that do not fit are read as no step.
 pub step_fits : (v : Verb) (words : List (List ℕ)) → not (fits_words (step_words v).0 (step_words v).1 words) ≡ is_none (read_form (step_row v).1 words)
 step_fits v words = ap not (words_fit (step_row v).1 (step_words v).0 (step_words v).1 (step_has v) words) ∙ none_not_some (read_form (step_row v).1 words)
 
--- the words of a keyword's row
+-- The words of a keyword's row.
 abbrev line_words : Keyword → List Wanted × Last
 line_words keyword.Spawn = (wanted.Number ∷ wanted.Number ∷ [], last.Privilege)
 line_words keyword.Begin = ([], last.Nothing)
@@ -156,6 +156,6 @@ line_has keyword.Totals = tt
 line_has keyword.Check = tt
 line_has keyword.Version = (refl, λ v. tt)
 
--- so words that do not fit are read as no line
+-- So words that do not fit are read as no line.
 pub line_fits : (k : Keyword) (words : List (List ℕ)) → not (fits_words (line_words k).0 (line_words k).1 words) ≡ is_none (read_form (line_row k).1 words)
 line_fits k words = ap not (words_fit (line_row k).1 (line_words k).0 (line_words k).1 (line_has k) words) ∙ none_not_some (read_form (line_row k).1 words)

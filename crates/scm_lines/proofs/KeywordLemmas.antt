@@ -20,7 +20,7 @@ pub keyword_found : (k : Keyword) → named line_row keywords (line_row k).0 ≡
 keyword_found keyword.Spawn = refl
 keyword_found other = refl
 
--- each keyword is printable
+-- Each keyword is printable.
 pub verb_printable : (v : Verb) → all_printable (step_row v).0 ≡ true
 verb_printable verb.Open = refl
 verb_printable other = refl
@@ -30,28 +30,28 @@ pub keyword_printable : (k : Keyword) → all_printable (line_row k).0 ≡ true
 keyword_printable keyword.Spawn = refl
 keyword_printable other = refl
 
--- no keyword is a number
+-- No keyword is a number.
 pub keyword_letters : (k : Keyword) → number_of (line_row k).0 ≡ None
 keyword_letters keyword.Spawn = refl
 keyword_letters other = refl
 
--- no keyword begins a comment
+-- No keyword begins a comment.
 pub keyword_plain : (k : Keyword) → begins_comment (line_row k).0 ≡ false
 keyword_plain keyword.Spawn = refl
 keyword_plain other = refl
 
--- verbs of five letters begin with c or l
+-- Verbs of five letters begin with c or l.
 pub no_five : (word : List ℕ) → 5 ≤ length word → length word < 6 → get_or word 0 0 ≢ 99 → get_or word 0 0 ≢ 108 → None ≡ named step_row verbs word
 no_five word long short c l = sym (no_key (λ text. nat_lt (length text) 5 || nat_lt 5 (length text) || (get_or text 0 0 == 99) || (get_or text 0 0 == 108)) step_row verbs word refl (grind (arith, common_steps)))
 
--- verbs of six begin with a, l or s
+-- Verbs of six begin with a, l or s.
 pub no_six : (word : List ℕ) → 6 ≤ length word → length word < 7 → get_or word 0 0 ≢ 97 → get_or word 0 0 ≢ 108 → get_or word 0 0 ≢ 115 → None ≡ named step_row verbs word
 no_six word long short a l s = sym (no_key (λ text. nat_lt (length text) 6 || nat_lt 6 (length text) || (get_or text 0 0 == 97) || (get_or text 0 0 == 108) || (get_or text 0 0 == 115)) step_row verbs word refl (grind (arith, common_steps)))
 
--- verbs of seven begin with c
+-- Verbs of seven begin with c.
 pub no_seven : (word : List ℕ) → 7 ≤ length word → length word < 8 → get_or word 0 0 ≢ 99 → None ≡ named step_row verbs word
 no_seven word long short c = sym (no_key (λ text. nat_lt (length text) 7 || nat_lt 7 (length text) || (get_or text 0 0 == 99)) step_row verbs word refl (grind (arith, common_steps)))
 
--- no verb has eight or more
+-- No verb has eight or more.
 pub no_eight : (word : List ℕ) → 8 ≤ length word → None ≡ named step_row verbs word
 no_eight word long = sym (no_key (λ text. nat_lt (length text) 8) step_row verbs word refl (grind (arith, common_steps)))

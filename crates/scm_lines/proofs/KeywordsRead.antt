@@ -12,13 +12,13 @@ use Rattle.scm_lines.proofs.FormLemmas.{named_said}
 use Rattle.scm_lines.proofs.KeywordLemmas.{keyword_letters, keyword_plain}
 use Rattle.scm_lines.proofs.LineLemmas.{is_comment_of, line_said_by_words}
 
--- words that a keyword begins say what its row reads
+-- Words that a keyword begins say what its row reads.
 words_row : (words more : List (List ℕ)) (word : List ℕ) (k : Keyword) → words ≡ word ∷ more → Some k ≡ named line_row keywords word
     → words_say words ≡ read_form (line_row k).1 more
 unfolding form_of
 words_row words more word k parted is = rw (parted, ap number_of (named_said line_row keywords word k (sym is)) ∙ keyword_letters k, ← is) refl
 
--- so a line is read by the row of its keyword, where the version has the line
+-- So a line is read by the row of its keyword, where the version has the line.
 pub read_by_keyword : (v : Version) (bytes word : List ℕ) (more : List (List ℕ)) (k : Keyword)
     → length bytes ≤ MAX_LINE → words_of bytes ≡ word ∷ more → Some k ≡ named line_row keywords word
     → read_in v bytes ≡ allowed_in v (read_form (line_row k).1 more)

@@ -82,7 +82,7 @@ line_said bytes said e = elim (chosen (nat_lt MAX_LINE (length bytes)) None _ _ 
       | inr (f, e2) ↦ let (printable, e3) = allowed (all_printable bytes) _ said e2 in inr (f, printable, words_said (words_of bytes) said e3)
     ]
 
--- a line within the limit passes its test
+-- A line within the limit passes its test.
 within_line : (n : ℕ) → n ≤ MAX_LINE → nat_lt MAX_LINE n ≡ false
 within_line n h = grind (arith, common_steps)
 
@@ -98,12 +98,12 @@ line_read bytes said (short, which) =
 
 -- ---- lines by their words
 
--- the first word begins with #
+-- The first word begins with #.
 abbrev pub is_comment_of : List (List ℕ) → Bool
 is_comment_of [] = false
 is_comment_of (word ∷ words) = begins_comment word
 
--- a comment is known by its first word
+-- A comment is known by its first word.
 pub comment_by_word : (bytes : List ℕ) → is_comment bytes ≡ is_comment_of (words_of bytes)
 comment_by_word [] = refl
 comment_by_word (b ∷ bytes) = by_blank (is_blank b) (comment_by_word bytes)
@@ -121,7 +121,7 @@ comment_by_word (b ∷ bytes) = by_blank (is_blank b) (comment_by_word bytes)
     by_blank true rest = rest
     by_blank false rest = by_end (ends_word bytes)
 
--- what is read has printable bytes
+-- What is read has printable bytes.
 printable_alone : (bytes : List ℕ) → cond (all_printable bytes) (words_say (words_of bytes)) None ≡ words_say (words_of bytes)
 printable_alone bytes = by (words_say (words_of bytes)) refl
   where
@@ -133,7 +133,7 @@ printable_alone bytes = by (words_say (words_of bytes)) refl
     by None e = either (all_printable bytes) None
     by (Some said) e = ap (λ b. cond b (Some said) None) (line_printable bytes ∙ says_printable (words_of bytes) said (words_said (words_of bytes) said e))
 
--- so a line is read by its words alone
+-- So a line is read by its words alone.
 pub line_by_words : (bytes : List ℕ) → line_of bytes
     ≡ cond (nat_lt MAX_LINE (length bytes)) None (cond (is_comment_of (words_of bytes)) (Some line.Silence) (words_say (words_of bytes)))
 unfolding line_of
@@ -141,7 +141,7 @@ line_by_words bytes =
     ap (λ (o : Option Line). cond (nat_lt MAX_LINE (length bytes)) None (cond (is_comment bytes) (Some line.Silence) o)) (printable_alone bytes)
     ∙ ap (λ b. cond (nat_lt MAX_LINE (length bytes)) None (cond b (Some line.Silence) (words_say (words_of bytes)))) (comment_by_word bytes)
 
--- a short line that is no comment says what its words say
+-- A short line that is no comment says what its words say.
 pub line_said_by_words : (bytes : List ℕ) → length bytes ≤ MAX_LINE → is_comment_of (words_of bytes) ≡ false → line_of bytes ≡ words_say (words_of bytes)
 line_said_by_words bytes short other =
     line_by_words bytes

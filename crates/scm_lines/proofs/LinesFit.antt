@@ -17,28 +17,28 @@ within n h = grind (arith, common_steps)
 beyond : (n : ℕ) → MAX_LINE < n → nat_lt MAX_LINE n ≡ true
 beyond n h = grind (arith, common_steps)
 
--- a line of too many bytes cannot be read
+-- A line of too many bytes cannot be read.
 pub too_long : (v : Version) (bytes : List ℕ) → MAX_LINE < length bytes → true ≡ is_none (read_in v bytes)
 unfolding line_of
 too_long v bytes h = rw (beyond (length bytes) h) refl
 
--- a line without words can be read
+-- A line without words can be read.
 pub silent : (v : Version) (bytes : List ℕ) → length bytes ≤ MAX_LINE → words_of bytes ≡ [] → false ≡ is_none (read_in v bytes)
 silent v bytes short none = rw (line_by_words bytes, within (length bytes) short, none) refl
 
--- so can a comment
+-- So can a comment.
 pub comment : (v : Version) (bytes word : List ℕ) (words : List (List ℕ)) → length bytes ≤ MAX_LINE → words_of bytes ≡ word ∷ words → begins_comment word ≡ true
     → false ≡ is_none (read_in v bytes)
 comment v bytes word words short parted begins = rw (line_by_words bytes, within (length bytes) short, parted, begins) refl
 
--- no other line can that has a byte that is not printable
+-- No other line can that has a byte that is not printable.
 pub not_printable : (v : Version) (bytes word : List ℕ) (words : List (List ℕ)) → length bytes ≤ MAX_LINE → words_of bytes ≡ word ∷ words → begins_comment word ≡ false
     → all_printable bytes ≡ false → true ≡ is_none (read_in v bytes)
 unfolding line_of
 not_printable v bytes word words short parted other fails =
     rw (within (length bytes) short, comment_by_word bytes, parted, other, fails) refl
 
--- it can where its words are of a form that the version has
+-- It can where its words are of a form that the version has.
 pub by_form : (v : Version) (bytes word : List ℕ) (words : List (List ℕ)) → length bytes ≤ MAX_LINE → words_of bytes ≡ word ∷ words → begins_comment word ≡ false
     → is_none (read_in v bytes) ≡ is_none (form_in v word words)
 unfolding form_in

@@ -21,7 +21,7 @@ use Rattle.scm_lines.proofs.NumberLemmas.{number_digits, number_said}
 use Rattle.scm_lines.proofs.LineLemmas.{is_comment_of, line_said_by_words}
 use Rattle.scm_lines.proofs.VersionsFit.{made, verb_makes}
 
--- what a number begins is no comment
+-- What a number begins is no comment.
 not_comment : (w : List ℕ) (n : ℕ) → number_of w ≡ Some n → begins_comment w ≡ false
 not_comment [] n e = refl
 not_comment (b ∷ bytes) n e = above b (split_and (is_digit b) (all_digits bytes) (number_digits (b ∷ bytes) n (number_said (b ∷ bytes) n e))).0
@@ -29,7 +29,7 @@ not_comment (b ∷ bytes) n e = above b (split_and (is_digit b) (all_digits byte
     above : (b : ℕ) → is_digit b ≡ true → (b == 35) ≡ false
     above b h = grind (arith, common_steps)
 
--- a number is found, and these words behind it
+-- A number is found, and these words behind it.
 abbrev Counts : Option (ℕ × List (List ℕ)) → ℕ → List (List ℕ) → Type 0
 Counts found pid words = ◌≡◌ {A = Option (ℕ × List (List ℕ))} (Some (pid, words)) found
 
@@ -42,11 +42,11 @@ words_plain (w ∷ others) words pid e = by (number_of w) refl e
     by None is e = cc
     by (Some m) is e = not_comment w m is
 
--- the line of a process that does this
+-- The line of a process that does this.
 abbrev does_line : ℕ → Step → Line
 does_line pid does = line.Event (event.Proc pid does)
 
--- words that a number begins say what the process does
+-- Words that a number begins say what the process does.
 words_process : (ws words : List (List ℕ)) (pid : ℕ) → Counts (number_in ws) pid words → words_say ws ≡ option_map (does_line pid) (step_of words)
 unfolding form_of
 words_process [] words pid e = cc
@@ -56,19 +56,19 @@ words_process (w ∷ others) words pid e = by (number_of w) e
     by None e = cc
     by (Some m) e = subst (λ (t : ℕ × List (List ℕ)). option_map (does_line m) (step_of others) ≡ option_map (does_line t.0) (step_of t.1)) (sym (same_Some _ _ e)) refl
 
--- the verb says by which row
+-- The verb says by which row.
 words_verb : (word : List ℕ) (words more : List (List ℕ)) (k : Verb) → words ≡ word ∷ more → Some k ≡ named step_row verbs word
     → step_of words ≡ read_form (step_row k).1 more
 unfolding step_of
 words_verb word words more k parted is = rw (parted, ← is) refl
 
--- what the version has stays
+-- What the version has stays.
 passes : (v : Version) (pid : ℕ) (k : Verb) (r : Option Step) → ((does : Step) → r ≡ Some does → (not (is_later does) || is_second v) ≡ has_verb v k) → has_verb v k ≡ true
     → (option_map (does_line pid) r >>= λ said. cond (has_line v said) (Some said) None) ≡ option_map (does_line pid) r
 passes v pid k None same has = refl
 passes v pid k (Some does) same has = rw (same does refl, has) refl
 
--- so a line is read by the row of its verb, where the version has the verb
+-- So a line is read by the row of its verb, where the version has the verb.
 pub read_by_verb : (v : Version) (bytes word : List ℕ) (words more : List (List ℕ)) (pid : ℕ) (k : Verb)
     → length bytes ≤ MAX_LINE → Counts (number_in (words_of bytes)) pid words
     → words ≡ word ∷ more → Some k ≡ named step_row verbs word → has_verb v k ≡ true

@@ -22,14 +22,14 @@ use Rattle.scm_lines.proofs.Choices.{bound, ended, mapped}
 
 -- ---- what a form makes
 
--- all that the form makes passes
+-- All that the form makes passes.
 abbrev AllMake : {A : Type 0} → (A → Type 0) → Form A → Type 0
 AllMake P (end x) = P x
 AllMake P (privilege makes) = (granted : Bool) → P (makes granted)
 AllMake P (items makes) = (fds : List ℕ) → P (makes fds)
 AllMake P (k ◂ form) = (v : Value k) → AllMake P (form v)
 
--- so what is read by it passes
+-- So what is read by it passes.
 pub made : {A : Type 0} (P : A → Type 0) (form : Form A) → AllMake P form → (words : List (List ℕ)) (x : A) → read_form form words ≡ Some x → P x
 made P (end y) all words x e = subst P (ended y x words e).1 all
 made P (privilege makes) all words x e = let (granted, (e1, is)) = mapped makes (privilege_of words) x e in subst P is (all granted)
@@ -37,7 +37,7 @@ made P (items makes) all words x e = let (fds, (e1, is)) = mapped makes (attache
 made {A} P (k ◂ form) all words x e =
     let (found, (e1, e2)) = bound (value_in k words) (λ found. read_form (form found.0) found.1) x e in made P (form found.0) (all found.0) found.1 x e2
 
--- nothing is there
+-- Nothing is there.
 pub none_of : (r : Option ℕ) → false ≡ is_some r → None ≡ r
 none_of None e = refl
 none_of (Some x) e = cc
@@ -56,7 +56,7 @@ or_true false = refl
 
 -- ---- verbs
 
--- the steps of a verb are of version 2 where the verb is
+-- The steps of a verb are of version 2 where the verb is.
 pub verb_makes : (v : Version) (k : Verb) → AllMake (λ does. (not (is_later does) || is_second v) ≡ has_verb v k) (step_row k).1
 verb_makes v verb.Send = λ on bytes fds. refl
 verb_makes v verb.Recv = λ on max_bytes max_fds. refl
@@ -75,17 +75,17 @@ verb_makes v verb.Listen = λ on backlog. refl
 verb_makes v verb.Peek = λ on max_bytes max_fds. refl
 verb_makes v verb.Limit = λ nofile. refl
 
--- no word behind the process's number says no step
+-- No word behind the process's number says no step.
 pub step_in_none : (v : Version) → true ≡ is_none (step_in v [])
 unfolding step_in step_of
 step_in_none v = refl
 
--- a word that is no verb says no step
+-- A word that is no verb says no step.
 pub step_in_other : (v : Version) (word : List ℕ) (words : List (List ℕ)) → None ≡ named step_row verbs word → true ≡ is_none (step_in v (word ∷ words))
 unfolding step_in step_of
 step_in_other v word words other = rw (← other) refl
 
--- a verb says a step where its words are read, and the version has it
+-- A verb says a step where its words are read, and the version has it.
 step_in_named : (v : Version) (word : List ℕ) (words : List (List ℕ)) (k : Verb) → Some k ≡ named step_row verbs word
     → is_none (step_in v (word ∷ words)) ≡ (is_none (read_form (step_row k).1 words) || not (has_verb v k))
 unfolding step_in step_of
@@ -100,19 +100,19 @@ step_in_named v word words k is = rw (← is) (by (read_form (step_row k).1 word
         by_version true = refl
         by_version false = refl
 
--- a verb's misfit is the step's, where there is one or the version has the verb
+-- A verb's misfit is the step's, where there is one or the version has the verb.
 pub step_misfit : (v : Version) (word : List ℕ) (words line : List (List ℕ)) (k : Verb) (misfit : Bool) → line ≡ word ∷ words → Some k ≡ named step_row verbs word
     → misfit ≡ is_none (read_form (step_row k).1 words) → (misfit ≡ true) ⊎ (has_verb v k ≡ true) → misfit ≡ is_none (step_in v line)
 step_misfit v word words line k misfit parted is exact either = rw (parted, step_in_named v word words k is, ← exact) (unless misfit (has_verb v k) either)
 
--- a step of another version is none
+-- A step of another version is none.
 pub step_late : (v : Version) (word : List ℕ) (words line : List (List ℕ)) (k : Verb) → line ≡ word ∷ words → Some k ≡ named step_row verbs word
     → has_verb v k ≡ false → true ≡ is_none (step_in v line)
 step_late v word words line k parted is late = rw (parted, step_in_named v word words k is, late) (or_true (is_none (read_form (step_row k).1 words)))
 
 -- ---- keywords
 
--- the lines of a keyword are of a version where the keyword is
+-- The lines of a keyword are of a version where the keyword is.
 keyword_makes : (v : Version) (k : Keyword) → AllMake (λ said. has_line v said ≡ has_keyword v k) (line_row k).1
 keyword_makes v keyword.Spawn = λ uid nofile granted. refl
 keyword_makes v keyword.Begin = refl
@@ -123,7 +123,7 @@ keyword_makes v keyword.Totals = refl
 keyword_makes v keyword.Check = refl
 keyword_makes v keyword.Version = λ two. refl
 
--- a process's number begins a line where its step is one
+-- A process's number begins a line where its step is one.
 pub form_in_process : (v : Version) (word : List ℕ) (words : List (List ℕ)) (pid : ℕ) → Some pid ≡ number_of word
     → is_none (form_in v word words) ≡ is_none (step_in v words)
 unfolding form_in form_of step_in
@@ -138,13 +138,13 @@ form_in_process v word words pid is = rw (← is) (by (step_of words))
         by_version true = refl
         by_version false = refl
 
--- a word that is neither a number nor a keyword begins no line
+-- A word that is neither a number nor a keyword begins no line.
 pub form_in_other : (v : Version) (word : List ℕ) (words : List (List ℕ)) → None ≡ number_of word → None ≡ named line_row keywords word
     → true ≡ is_none (form_in v word words)
 unfolding form_in form_of
 form_in_other v word words no_number other = rw (← no_number, ← other) refl
 
--- a keyword begins a line where its words are read, and the version has it
+-- A keyword begins a line where its words are read, and the version has it.
 form_in_named : (v : Version) (word : List ℕ) (words : List (List ℕ)) (k : Keyword) → None ≡ number_of word → Some k ≡ named line_row keywords word
     → is_none (form_in v word words) ≡ (is_none (read_form (line_row k).1 words) || not (has_keyword v k))
 unfolding form_in form_of
@@ -160,12 +160,12 @@ form_in_named v word words k no_number is =
         by_version true = refl
         by_version false = refl
 
--- a keyword's misfit is the line's, where there is one or the version has the keyword
+-- A keyword's misfit is the line's, where there is one or the version has the keyword.
 pub form_misfit : (v : Version) (word : List ℕ) (words : List (List ℕ)) (k : Keyword) (misfit : Bool) → None ≡ number_of word → Some k ≡ named line_row keywords word
     → misfit ≡ is_none (read_form (line_row k).1 words) → (misfit ≡ true) ⊎ (has_keyword v k ≡ true) → misfit ≡ is_none (form_in v word words)
 form_misfit v word words k misfit no_number is exact either = rw (form_in_named v word words k no_number is, ← exact) (unless misfit (has_keyword v k) either)
 
--- a line of another version is none
+-- A line of another version is none.
 pub form_late : (v : Version) (word : List ℕ) (words : List (List ℕ)) (k : Keyword) → None ≡ number_of word → Some k ≡ named line_row keywords word
     → has_keyword v k ≡ false → true ≡ is_none (form_in v word words)
 form_late v word words k no_number is late = rw (form_in_named v word words k no_number is, late) (or_true (is_none (read_form (line_row k).1 words)))

@@ -2,12 +2,12 @@
 use Rattle.std.proofs.Common.{◌≡◌, ℕ, List, [], ◌∷◌, ◌++◌, Bool, true, false, cond, refl, sym, ap, append_assoc}
 use Rattle.scm_lines.specs.Words.{is_blank, ends_word, onto_word, words_of}
 
--- the front of a word before the words of the rest
+-- The front of a word before the words of the rest.
 abbrev pub front_of_word : List ℕ → List (List ℕ) → List (List ℕ)
 front_of_word front [] = front ∷ []
 front_of_word front (word ∷ words) = (front ++ word) ∷ words
 
--- the words where a word has begun with this front
+-- The words where a word has begun with this front.
 abbrev pub words_after : List ℕ → List ℕ → List (List ℕ)
 words_after front rest = cond (ends_word rest) (front ∷ words_of rest) (front_of_word front (words_of rest))
 

@@ -23,16 +23,16 @@ words_printable (word ∷ words) = all_printable word && words_printable words
 
 -- ---- a line and its words
 
--- a space and a tab are printable
+-- A space and a tab are printable.
 blank_printable : (b : ℕ) → is_blank b ≡ true → byte_printable b ≡ true
 blank_printable b h = grind (arith, common_steps)
 
--- a byte in front of the first word
+-- A byte in front of the first word.
 onto_printable : (b : ℕ) (words : List (List ℕ)) → words_printable (onto_word b words) ≡ (byte_printable b && words_printable words)
 onto_printable b [] = and_assoc (byte_printable b) true true
 onto_printable b (word ∷ words) = and_assoc (byte_printable b) (all_printable word) (words_printable words)
 
--- the bytes of a line are printable where its words are
+-- The bytes of a line are printable where its words are.
 pub line_printable : (bytes : List ℕ) → all_printable bytes ≡ words_printable (words_of bytes)
 line_printable [] = refl
 line_printable (b ∷ bytes) = by_blank (is_blank b) refl (line_printable bytes)
@@ -49,26 +49,26 @@ line_printable (b ∷ bytes) = by_blank (is_blank b) refl (line_printable bytes)
 
 -- ---- the words that are no names
 
--- a byte of a range of printable ones
+-- A byte of a range of printable ones.
 between_printable : (low high b : ℕ) → 32 ≤ low → high ≤ 126 → (nat_le low b && nat_le b high) ≡ true → byte_printable b ≡ true
 between_printable low high b h k within = grind (arith, common_steps)
 
--- digits are printable
+-- Digits are printable.
 digits_printable : (word : List ℕ) → all_digits word ≡ true → all_printable word ≡ true
 digits_printable [] h = refl
 digits_printable (b ∷ word) h =
     let (digit, digits) = split_and (is_digit b) (all_digits word) h in
     both_true (between_printable 48 57 b (omega arith) (omega arith) digit) (digits_printable word digits)
 
--- so are the digits of a number
+-- So are the digits of a number.
 pub number_printable : (word : List ℕ) (n : ℕ) → IsNumber word n → all_printable word ≡ true
 number_printable word n number = digits_printable word (number_digits word n number)
 
--- so is a character that means itself
+-- So is a character that means itself.
 plain_printable : (b : ℕ) → is_plain b ≡ true → byte_printable b ≡ true
 plain_printable b h = grind (arith, common_steps)
 
--- so is a hexadecimal digit
+-- So is a hexadecimal digit.
 hex_printable : (b v : ℕ) → hex_value b ≡ Some v → byte_printable b ≡ true
 hex_printable b v e = elim (chosen (is_digit b) _ _ _ e) [
   | inl (digit, e1) ↦ between_printable 48 57 b (omega arith) (omega arith) digit
@@ -78,7 +78,7 @@ hex_printable b v e = elim (chosen (is_digit b) _ _ _ e) [
   ]
 ]
 
--- so is a word that spells bytes
+-- So is a word that spells bytes.
 spelt_printable : (word bytes : List ℕ) → Spells word bytes → all_printable word ≡ true
 spelt_printable word [] e = rw e refl
 spelt_printable word (b ∷ bytes) (rest, (byte, more)) = elim byte [
@@ -88,31 +88,31 @@ spelt_printable word (b ∷ bytes) (rest, (byte, more)) = elim byte [
       rw e digits
 ]
 
--- so is a word for the bytes of a message
+-- So is a word for the bytes of a message.
 pub payload_printable : (word bytes : List ℕ) → IsPayload word bytes → all_printable word ≡ true
 payload_printable word bytes (short, inl (digits, (n, e, number, copies))) = rw e (number_printable digits n number)
 payload_printable word bytes (short, inr (some, spelt)) = spelt_printable word bytes spelt
 
--- so are two printable parts together
+-- So are two printable parts together.
 joined_printable : (front back : List ℕ) → all_printable front ≡ true → all_printable back ≡ true → all_printable (front ++ back) ≡ true
 joined_printable [] back h k = k
 joined_printable (b ∷ front) back h k =
     let (byte, bytes) = split_and (byte_printable b) (all_printable front) h in
     both_true byte (joined_printable front back bytes k)
 
--- so is an item
+-- So is an item.
 item_printable : (word fds : List ℕ) → IsItem word fds → all_printable word ≡ true
 item_printable word fds (inl (n, (number, e))) = number_printable word n number
 item_printable word fds (inr (front, back, (n, k, w, m, l, some, few, e))) =
     rw w (joined_printable front (42 ∷ back) (number_printable front n m) (number_printable back k l))
 
--- so are items
+-- So are items.
 pub items_printable : (words : List (List ℕ)) (fds : List ℕ) → AreItems words fds → words_printable words ≡ true
 items_printable [] fds e = refl
 items_printable (word ∷ words) fds (first, others, (item, items, e)) =
     both_true (item_printable word first item) (items_printable words others items)
 
--- so is the name of a type
+-- So is the name of a type.
 pub type_printable : (kind : SockType) → all_printable (type_name kind) ≡ true
 type_printable Stream = refl
 type_printable Seqpacket = refl

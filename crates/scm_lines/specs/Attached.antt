@@ -4,7 +4,7 @@ use Rattle.std.specs.Option.{option_map}
 use Rattle.scm_lines.specs.Numbers.{number_of}
 use Rattle.scm_lines.specs.Payload.{at_most}
 
--- n, k times, for k from 1 to 1024.
+-- N, k times, for k from 1 to 1024.
 abbrev pub copies_of : ℕ → ℕ → Option (List ℕ)
 copies_of n k = if nat_le 1 k && nat_le k 1024 then Some (replicate k n) else None
 

@@ -70,7 +70,7 @@ through (b ∷ input) = by_test (b == 10) refl (through input)
       ),
     )
 
--- a line before its line feed
+-- A line before its line feed.
 line_ended : (x : List ℕ) → line_in (x ++ 10 ∷ []) ≡ strip_carriage_return x
 line_ended x =
     let size : length (x ++ 10 ∷ []) ≡ length x + 1 = length-append x (10 ∷ []) in
@@ -78,7 +78,7 @@ line_ended x =
     let some : nat_lt 0 (length (x ++ 10 ∷ [])) ≡ true = grind (arith, common_steps, size) in
     rw (some, front, get_or-append_seam x 10 [] 0, take-append_seam x (10 ∷ [])) refl
 
--- bytes without a line feed
+-- Bytes without a line feed.
 line_open : (x : List ℕ) → NoFeed x → line_in x ≡ x
 line_open x none = by (nat_lt 0 (length x)) refl
   where
@@ -88,7 +88,7 @@ line_open x none = by (nat_lt 0 (length x)) refl
         let last : (get_or x (length x - 1) 0 == 10) ≡ false = All-get_or (λ b. (b == 10) ≡ false) x (length x - 1) 0 (grind (arith, common_steps, e)) none in
         rw last refl
 
--- nothing is read only of an input without bytes
+-- Nothing is read only of an input without bytes.
 pub nothing_read : (input : List ℕ) → length (take_through 10 input) ≡ 0 → input ≡ []
 nothing_read [] e = refl
 nothing_read (b ∷ input) e = absurd (by (b == 10) e)
@@ -97,7 +97,7 @@ nothing_read (b ∷ input) e = absurd (by (b == 10) e)
     by true e = omega (arith, e)
     by false e = omega (arith, e)
 
--- what is read is the first line, with its end
+-- What is read is the first line, with its end.
 pub first_read : (input : List ℕ) → 0 < length (take_through 10 input) → lines input ≡ line_in (take_through 10 input) ∷ lines (drop_through 10 input)
 first_read input some =
     let (x, (none, which)) = through input in

@@ -27,7 +27,7 @@ pub record Leads (style : Style) (input : List ℕ) (left before after : Option 
   pub wrote : Appends before after written
   pub leads : (text : List ℕ) (new : Point) → Plays style n point (lines rest) text new → Plays style 1 first_point (lines input) (written ++ text) new
 
--- one line before others
+-- One line before others.
 one_more : (style : Style) (n : ℕ) (old mid new : Point) (line : List ℕ) (others : List (List ℕ)) (answer text : List ℕ) → Answers old line answer mid
     → Plays style (n + 1) mid others text new → Plays style n old (line ∷ others) (prompt_text style n ++ (entry_text style n line answer ++ text)) new
 one_more style n old mid new line others answer text (inl does) later = record {
@@ -41,11 +41,11 @@ one_more style n old mid new line others answer text (inr tells) later = record 
   plays = (mid, answer, text, refl, inr (tells, later.plays));
 }
 
--- nothing was played yet
+-- Nothing was played yet.
 pub leads_first : (style : Style) (input : List ℕ) (left : Option (List ℕ)) (now : Option (List ℕ)) → left ≡ Some input → Leads style input left now now 1 first_point
 leads_first style input left now e = record { rest = input; leaves = e; written = []; wrote = Appends-nil now; leads = λ text new plays. plays }
 
--- one line more was played
+-- One line more was played.
 pub leads_more : (style : Style) (input : List ℕ) (was left before mid after : Option (List ℕ)) (n : ℕ) (old new : Point) → Leads style input was before mid n old
     → ((rest : List ℕ) → was ≡ Some rest → Goes style n rest left mid after old new) → Leads style input left before after (n + 1) new
 leads_more style input was left before mid after n old new l step =
@@ -65,7 +65,7 @@ leads_more style input was left before mid after n old new l step =
           ∙ sym (append_assoc l.written shown text)) whole;
     }
 
--- no line is left
+-- No line is left.
 pub played_all : (style : Style) (input : List ℕ) (was left before mid after : Option (List ℕ)) (n : ℕ) (old : Point) → Leads style input was before mid n old
     → ((rest : List ℕ) → was ≡ Some rest → IsOver style n rest left mid after) → Played style input before after
 played_all style input was left before mid after n old l step =
@@ -82,12 +82,12 @@ played_all style input was left before mid after n old l step =
       wrote = Appends-trans before mid after l.written (prompt_text style n) l.wrote over.wrote;
     }
 
--- then the reader has nothing left
+-- Then the reader has nothing left.
 pub over_left : (style : Style) (input : List ℕ) (was left before mid after : Option (List ℕ)) (n : ℕ) (old : Point) → Leads style input was before mid n old
     → ((rest : List ℕ) → was ≡ Some rest → IsOver style n rest left mid after) → left ≡ Some []
 over_left style input was left before mid after n old l step = let over = step l.rest l.leaves in over.leaves
 
--- the answers to the lines that can be read are a run of these
+-- The answers to the lines that can be read are a run of these.
 pub run_of_played : (style : Style) (n : ℕ) (old : Point) (script read : List (List ℕ)) (replies text : List ℕ) (new : Point) → PlayText style n old script read replies text new
     → (events : ℕ) × RunText old read events replies new
 run_of_played style n old [] read replies text new (none, silent, shown, same) =
@@ -101,7 +101,7 @@ run_of_played style n old (bytes ∷ others) read replies text new (mid, answer,
 
 -- ---- one line
 
--- a line that was read with its end is played where its text is written
+-- A line that was read with its end is played where its text is written.
 pub line_played : {E : Type 0} (r : Result (Unit {0}) E) (style : Style) (n : ℕ) (old new : Point) (line read text shown : List ℕ) (before after : Option (List ℕ)) → line ≡ line_in read
     → shown ≡ text → (answer : List ℕ) × (text ≡ entry_text style n line answer) × Answers old line answer new → OnOk r (Appends before after shown)
     → OnOk r ((answer : List ℕ) × Answers old (line_in read) answer new × Appends before after (entry_text style n (line_in read) answer))
@@ -112,7 +112,7 @@ line_played (Ok x) style n old new line read text shown before after is same (an
   subst (λ (t : List ℕ). Appends before after t) (same ∙ made ∙ ap (λ l. entry_text style n l answer) is) wrote,
 )
 
--- so the first line of the input is
+-- So the first line of the input is.
 pub line_goes : (style : Style) (n : ℕ) (old new : Point) (input read : List ℕ) (left before mid after : Option (List ℕ)) → read ≡ take_through 10 input → 0 < length read
     → left ≡ Some (drop_through 10 input) → Appends before mid (prompt_text style n)
     → (answer : List ℕ) × Answers old (line_in read) answer new × Appends mid after (entry_text style n (line_in read) answer) → Goes style n input left before after old new
@@ -126,7 +126,7 @@ line_goes style n old new input read left before mid after is some leaves prompt
   wrote = Appends-trans before mid after (prompt_text style n) (entry_text style n (line_in read) answer) prompted wrote;
 }
 
--- no line was read
+-- No line was read.
 pub line_over : (style : Style) (n : ℕ) (input read : List ℕ) (left before after : Option (List ℕ)) → read ≡ take_through 10 input → length read ≡ 0
     → left ≡ Some (drop_through 10 input) → Appends before after (prompt_text style n) → IsOver style n input left before after
 line_over style n input read left before after is none leaves prompted =

@@ -101,7 +101,7 @@ seats-weaker n P Q seats follows had = record { count = had.count; numbers = had
 two-more : (n : ℕ) → n + 1 + 1 ≡ n + 2
 two-more n = omega arith
 
--- the seats as they were, with the last one apart
+-- The seats as they were, with the last one apart.
 module _ (n : ℕ) (all opened : List SeatView) (first : SeatView) (fresh : AreFresh (n + 2) all) (split : all ≡ opened ++ first ∷ []) where
   -- The last one, and those before it.
   apart : AreFresh (n + 1) opened × (first.number ≡ n + 1 + 1) × (first.list ≡ [])
@@ -208,7 +208,7 @@ module _ (workers steps seed budget : ℕ) (b book : BookView) (is : book ≡ ta
         let next : workers + 1 + 1 ≡ workers + 2 = omega arith in
         ap (λ n. of_seat n b.log) (sym next) ∙ (has (workers + 1) (omega arith)).1 refl
 
-  -- what was done before
+  -- What was done before.
   module _ (old : BookView) (done : ℕ) (went : Continues workers steps seed budget done old) (seats : b.seats ≡ old.seats) (begins : b.start ≡ old.machine) where
     -- All logs so far.
     whole : List Entry

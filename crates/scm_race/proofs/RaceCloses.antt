@@ -28,7 +28,7 @@ part-at b seats whole i lt =
 pub all_new : (events : List Event) → (list : List Pair) → WentOn [] events list → events_of list ≡ events
 all_new events list went = ap events_of went.1 ∙ went.2
 
--- the seats of a race: those that were driven, and the last one
+-- The seats of a race: those that were driven, and the last one.
 module _ (workers steps seed budget : ℕ) (b : BookView) (opened driven : List SeatView) (last : SeatView)
     (count : length opened ≡ workers + 1)
     (fresh : (i : ℕ) → i < workers + 1 → slice_index_or opened i nobody ≡ record { number = i + 1; list = [] })

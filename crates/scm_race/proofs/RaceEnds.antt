@@ -10,8 +10,8 @@ use Rattle.scm_race.proofs.SeatEntries.{counted}
 use Rattle.scm_race.proofs.RaceCloses.{raced}
 use Rattle.scm_race.proofs.ScriptLength.{script-count}
 
--- all seats as they were opened; those that were driven, before and after; the last one when it was
--- opened, after the start and at the end; and all as they were handed in
+-- All seats as they were opened; those that were driven, before and after; the last one when it was
+-- opened, after the start and at the end; and all as they were handed in.
 module _ (workers steps seed budget : ℕ) (b : BookView) (all opened driven handed : List SeatView) (first started last : SeatView)
     (count : length all ≡ workers + 2)
     (each : (i : ℕ) (other : SeatView) → i < workers + 2 → slice_index_or all i other ≡ record { number = i + 1; list = [] })

@@ -17,7 +17,7 @@ use Rattle.scm_run.specs.Script.{IsCut, NoFeed, ended_by_feed}
 
 -- ---- whole lines
 
--- each list has a first part
+-- Each list has a first part.
 parts : (p : ℕ → Bool) (xs : List ℕ) → (y : List ℕ) × ((more : List (List ℕ)) × (slice_split p xs ≡ y ∷ more))
 parts p [] = ([], ([], refl))
 parts p (x ∷ xs) = by_test (p x) (slice_split p xs)
@@ -27,18 +27,18 @@ parts p (x ∷ xs) = by_test (p x) (slice_split p xs)
     by_test false [] = (x ∷ [], ([], refl))
     by_test false (r ∷ rest) = (x ∷ r, (rest, refl))
 
--- a part before another ends with a line feed
+-- A part before another ends with a line feed.
 first_part : (w : List ℕ) (others : List (List ℕ)) (y : List ℕ) (more : List (List ℕ)) → others ≡ y ∷ more
     → lines_of_parts (w ∷ others) ≡ strip_carriage_return w ∷ lines_of_parts others
 first_part w others y more e = rw e refl
 
--- a line feed ends the first line
+-- A line feed ends the first line.
 pub line-front : (w rest : List ℕ) → NoFeed w → lines (w ++ 10 ∷ rest) ≡ strip_carriage_return w ∷ lines rest
 line-front w rest here =
     let (y, (more, e)) = parts (λ b. b == 10) rest in
     ap lines_of_parts (slice_split_at (λ b. b == 10) w 10 rest here refl) ∙ first_part w (slice_split (λ b. b == 10) rest) y more e
 
--- whole lines come first
+-- Whole lines come first.
 pub lines-front : (whole : List (List ℕ)) (rest : List ℕ) → AllByRecursion NoFeed whole
     → lines (flat_map ended_by_feed whole ++ rest) ≡ map strip_carriage_return whole ++ lines rest
 lines-front [] rest h = refl
@@ -52,7 +52,7 @@ all_end : (whole : List (List ℕ)) (rest : List ℕ) → AllByRecursion NoFeed 
 all_end [] rest all h = (h, tt)
 all_end (w ∷ whole) rest (here, others) h = (here, all_end whole rest others h)
 
--- the line feed ends a line
+-- The line feed ends a line.
 pub cut_end : (taken : List ℕ) (whole : List (List ℕ)) (rest : List ℕ) → IsCut taken whole rest → IsCut (taken ++ 10 ∷ []) (whole ++ rest ∷ []) []
 cut_end taken whole rest cut = record {
   joined = ap (λ t. t ++ 10 ∷ []) cut.joined ∙ append_assoc (flat_map ended_by_feed whole) rest (10 ∷ []) ∙ flat_map_more ended_by_feed [] whole rest
@@ -61,7 +61,7 @@ cut_end taken whole rest cut = record {
   open_end = All-nil (λ x. (x == 10) ≡ false);
 }
 
--- other bytes go on with the line
+-- Other bytes go on with the line.
 pub cut_more : (taken : List ℕ) (whole : List (List ℕ)) (rest bs : List ℕ) → IsCut taken whole rest → NoFeed bs → IsCut (taken ++ bs) whole (rest ++ bs)
 cut_more taken whole rest bs cut h = record {
   joined = rw (cut.joined) (append_assoc (flat_map ended_by_feed whole) rest bs);
@@ -69,19 +69,19 @@ cut_more taken whole rest bs cut h = record {
   open_end = All-append (λ x. (x == 10) ≡ false) rest bs cut.open_end h;
 }
 
--- the first lines of an input that begins so
+-- The first lines of an input that begins so.
 pub front_lines : (taken : List ℕ) (whole : List (List ℕ)) (rest more : List ℕ) → IsCut taken whole rest → lines (taken ++ more) ≡ map strip_carriage_return whole ++ lines (rest ++ more)
 front_lines taken whole rest more cut =
     ap (λ t. lines (t ++ more)) cut.joined ∙ ap lines (append_assoc (flat_map ended_by_feed whole) rest more) ∙ lines-front whole (rest ++ more) cut.each
 
--- the lines of an input that has a line feed here
+-- The lines of an input that has a line feed here.
 pub ended_lines : (taken : List ℕ) (whole : List (List ℕ)) (rest more : List ℕ) → IsCut taken whole rest
     → lines ((taken ++ 10 ∷ []) ++ more) ≡ (map strip_carriage_return whole ++ strip_carriage_return rest ∷ []) ++ lines more
 ended_lines taken whole rest more cut =
     front_lines (taken ++ 10 ∷ []) (whole ++ rest ∷ []) [] more (cut_end taken whole rest cut)
     ∙ ap (λ l. l ++ lines more) (map-append strip_carriage_return whole (rest ∷ []))
 
--- the lines before the unfinished one
+-- The lines before the unfinished one.
 pub firsts : (taken : List ℕ) (whole : List (List ℕ)) (rest more : List ℕ) (n : ℕ) → IsCut taken whole rest → n ≡ length whole
     → take n (lines (taken ++ more)) ≡ map strip_carriage_return whole
 firsts taken whole rest more n cut counted =
@@ -93,7 +93,7 @@ pub slice_get_at : (xs : List (List ℕ)) (y : List ℕ) (ys : List (List ℕ)) 
 slice_get_at [] y ys = refl
 slice_get_at (x ∷ xs) y ys = slice_get_at xs y ys
 
--- the line that ends here
+-- The line that ends here.
 pub line_at : (taken : List ℕ) (whole : List (List ℕ)) (rest more : List ℕ) (n : ℕ) → IsCut taken whole rest → n ≡ length whole
     → slice_get (lines ((taken ++ 10 ∷ []) ++ more)) n ≡ Some (strip_carriage_return rest)
 line_at taken whole rest more n cut counted =
@@ -108,7 +108,7 @@ line_at taken whole rest more n cut counted =
 is_ten : (b : ℕ) → (b == 10) ≡ true → b ≡ 10
 is_ten b e = grind (arith, common_steps)
 
--- the bytes before the first line feed, if there is one
+-- The bytes before the first line feed, if there is one.
 pub first_cut : (bs : List ℕ) → (x : List ℕ) × (NoFeed x × ((bs ≡ x) ⊎ ((r : List ℕ) × (bs ≡ x ++ 10 ∷ r))))
 first_cut [] = ([], (All-nil (λ c. (c == 10) ≡ false), inl refl))
 first_cut (b ∷ bs) = by_test (b == 10) refl (first_cut bs)
@@ -119,19 +119,19 @@ first_cut (b ∷ bs) = by_test (b == 10) refl (first_cut bs)
     by_test false e (x, (none, inl h)) = (b ∷ x, (All-cons (λ c. (c == 10) ≡ false) b x e none, inl (ap (λ l. b ∷ l) h)))
     by_test false e (x, (none, inr (r, h))) = (b ∷ x, (All-cons (λ c. (c == 10) ≡ false) b x e none, inr (r, ap (λ l. b ∷ l) h)))
 
--- bytes with no line feed are the last line
+-- Bytes with no line feed are the last line.
 pub last_line : (rest : List ℕ) → NoFeed rest → 0 < length rest → lines rest ≡ rest ∷ []
 last_line rest none some = ap lines_of_parts (slice_split_none (λ b. b == 10) rest none) ∙ single rest some
   where
     single : (xs : List ℕ) → 0 < length xs → lines_of_parts (xs ∷ []) ≡ xs ∷ []
     single xs h = let t : (length xs == 0) ≡ false = grind (arith, common_steps) in rw t refl
 
--- a line that is too long cannot be read
+-- A line that is too long cannot be read.
 long_line : (bytes : List ℕ) → MAX_LINE < length bytes → line_of bytes ≡ None
 unfolding line_of
 long_line bytes h = grind (arith, common_steps)
 
--- nor can it in any version
+-- Nor can it in any version.
 long_read : (v : Version) (bytes : List ℕ) → MAX_LINE < length bytes → read_in v bytes ≡ None
 long_read v bytes h = ap (λ o. o >>= λ said. cond (has_line v said) (Some said) None) (long_line bytes h)
 
@@ -151,12 +151,12 @@ strip_shorter bytes = grind (arith, common_steps)
 long_bare : (bytes : List ℕ) → may_fit bytes ≡ false → MAX_LINE < length bytes
 long_bare bytes over = omega (arith, past_limit bytes over, strip_shorter bytes)
 
--- whatever follows on the line, it is too long
+-- Whatever follows on the line, it is too long.
 long_stripped : (bad x : List ℕ) → may_fit bad ≡ false → MAX_LINE < length (strip_carriage_return (bad ++ x))
 long_stripped bad [] over = rw (append-nil bad) (past_limit bad over)
 long_stripped bad (a ∷ x) over = strip_long (bad ++ a ∷ x) (omega (arith, long_bare bad over, length-append bad (a ∷ x)))
 
--- the line that begins so cannot be read
+-- The line that begins so cannot be read.
 pub long_first : (v : Version) (bad more : List ℕ) → NoFeed bad → may_fit bad ≡ false
     → (line : List ℕ) × ((others : List (List ℕ)) × ((lines (bad ++ more) ≡ line ∷ others) × (read_in v line ≡ None)))
 long_first v bad more none over =
@@ -191,11 +191,11 @@ not_true : (b : Bool) → ¬ (b ≡ true) → b ≡ false
 not_true true never = absurd (never refl)
 not_true false never = refl
 
--- where there is none, there is none
+-- Where there is none, there is none.
 pub NoFeed-all : (bytes : List ℕ) → IsFirstByte (is_byte 10) bytes None → NoFeed bytes
 NoFeed-all bytes nowhere = All-from_get_or (λ b. (b == 10) ≡ false) bytes 0 (λ k low. not_true (slice_index bytes k == 10) (nowhere k (omega arith) low))
 
--- the bytes up to a line feed, it, and those after it
+-- The bytes up to a line feed, it, and those after it.
 pub around : (bytes : List ℕ) (at : ℕ) → IsFirstByte (is_byte 10) bytes (Some at) → bytes ≡ ended_by_feed (take at bytes) ++ drop (at + 1) bytes
 around bytes at (first, here) =
     let high : at < length bytes = first.high in

@@ -16,7 +16,7 @@ use Rattle.scm_run.specs.declared.fault.RunFault.{RunFault}
 use Rattle.scm_run.specs.declared.fault.RunFault.TheVariants as fault
 use Rattle.scm_run.proofs.LinesLemmas.{all_lines, cut_end, cut_more, firsts, front_lines, last_line, line_at, long_first, slice_get_at}
 
--- a run is extended by one line
+-- A run is extended by one line.
 pub RunText-more : (old mid new : Point) (script : List (List ℕ)) (events k : ℕ) (text out bytes : List ℕ)
     → RunText old script events text mid → LineText mid bytes k out new → RunText old (script ++ bytes ∷ []) (events + k) (text ++ out) new
 RunText-more old mid new [] events k text out bytes (none, empty, same) does =
@@ -136,7 +136,7 @@ end_ok taken before mid after old left k point ran done =
       wrote = Appends-trans before mid after ran.written front ran.wrote done.moves.wrote;
     }
 
--- all text of the lines that were run is written
+-- All text of the lines that were run is written.
 pub run_some : (taken text : List ℕ) (before last : Option (List ℕ)) (old : RunProgress) → Runs taken text old → Appends before last text → FaultIn taken before last fault.Memory
 run_some taken text before last old run wrote = λ more. record {
   count = length run.whole;
@@ -149,7 +149,7 @@ run_some taken text before last old run wrote = λ more. record {
   };
 }
 
--- a beginning of it is
+-- A beginning of it is.
 pub run_cut : (taken text : List ℕ) (before last : Option (List ℕ)) (old : RunProgress) → Runs taken text old → AppendsFront before last text → FaultIn taken before last fault.Write
 run_cut taken text before last old run wrote = λ more. record {
   count = length run.whole;
@@ -182,7 +182,7 @@ run_bad taken text before last old run bad wrote = λ more.
       };
     }
 
--- nothing was taken
+-- Nothing was taken.
 pub ran_nothing : (before : Option (List ℕ)) → Ran [] before before nothing_read
 ran_nothing before = record {
   written = [];
@@ -195,18 +195,18 @@ ran_nothing before = record {
   wrote = Appends-nil before;
 }
 
--- memory was refused before the next line
+-- Memory was refused before the next line.
 pub ran_stops : (taken : List ℕ) (before mid after : Option (List ℕ)) (old : RunProgress) (left : List ℕ) → Ran taken before mid old → WritesFront old.gathered left mid after
     → Halts (FaultIn taken before) before after left fault.Memory
 ran_stops taken before mid after old left ran m = waits (FaultIn taken before) before mid after ran.written old.gathered left fault.Memory ran.wrote m
     (λ last a. run_some taken _ before last old ran.runs a) (λ last a. run_cut taken _ before last old ran.runs a)
 
--- the same, for a run that these bytes extend
+-- The same, for a run that these bytes extend.
 pub ran_refused : (taken bs : List ℕ) (before mid : Option (List ℕ)) (old : RunProgress) → Ran taken before mid old → Halts (FaultIn (taken ++ bs) before) before mid old.gathered fault.Memory
 ran_refused taken bs before mid old ran =
     halts_as (FaultIn taken before) (FaultIn (taken ++ bs) before) before mid old.gathered fault.Memory (fault_later taken bs before) (ran_stops taken before mid mid old old.gathered ran (still old.gathered mid))
 
--- the line that ends here was not done
+-- The line that ends here was not done.
 pub end_stops : (taken : List ℕ) (before mid after : Option (List ℕ)) (old : RunProgress) (left : List ℕ) (f : RunFault) → Ran taken before mid old
     → LineStops old.point.version (strip_carriage_return old.pending) (old.done + 1) old.gathered left mid after f
     → Halts (FaultIn (taken ++ 10 ∷ []) before) before after left f
@@ -219,7 +219,7 @@ end_stops taken before mid after old left fault.Write ran part =
 end_stops taken before mid after old left fault.Memory ran m =
     halts_as (FaultIn taken before) (FaultIn (taken ++ 10 ∷ []) before) before after left fault.Memory (fault_later taken (10 ∷ []) before) (ran_stops taken before mid after old left ran m)
 
--- the unfinished line with these bytes
+-- The unfinished line with these bytes.
 pub whole_line : (old new back line : List ℕ) → (0 < length old → new ≡ old ++ back) → (old ≡ [] → new ≡ [])
     → (0 < length new → line ≡ new) → (new ≡ [] → line ≡ back) → line ≡ old ++ back
 whole_line [] new back line begun empty some none = none (empty refl)
@@ -227,7 +227,7 @@ whole_line (b ∷ old) new back line begun empty some none =
     let joined = begun (omega arith) in
     some (rw joined (omega (arith, length-append (b ∷ old) back))) ∙ joined
 
--- a line that was begun ends after these bytes
+-- A line that was begun ends after these bytes.
 pub end_ok_after : (taken back : List ℕ) (before mid after : Option (List ℕ)) (old : RunProgress) (left : List ℕ) (k : ℕ) (point : Point) → NoFeed back → Ran taken before mid old
     → LineDone old.point (strip_carriage_return (old.pending ++ back)) old.gathered left mid after k point
     → Ran (taken ++ ended_by_feed back) before after (record { point = point; pending = []; gathered = left; events = old.events + k; done = old.done + 1 })
@@ -243,7 +243,7 @@ end_stops_after taken back before mid after old left f free ran stops =
     subst (λ t. Halts (FaultIn t before) before after left f) (append_assoc taken back (10 ∷ []))
     (end_stops (taken ++ back) before mid after (longer old back) left f (ran_more taken back before mid old ran free) stops)
 
--- a fault is so however these bytes go on
+-- A fault is so however these bytes go on.
 pub halts_longer : (taken front line more bytes : List ℕ) (before after : Option (List ℕ)) (gathered : List ℕ) (f : RunFault) → bytes ≡ front ++ (line ++ more)
     → Halts (FaultIn ((taken ++ front) ++ line) before) before after gathered f → Halts (FaultIn (taken ++ bytes) before) before after gathered f
 halts_longer taken front line more bytes before after gathered f joined h =
@@ -252,7 +252,7 @@ halts_longer taken front line more bytes before after gathered f joined h =
     subst (λ t. Halts (FaultIn t before) before after gathered f) whole
     (halts_as (FaultIn ((taken ++ front) ++ line) before) (FaultIn (((taken ++ front) ++ line) ++ more) before) before after gathered f (fault_later ((taken ++ front) ++ line) more before) h)
 
--- what is kept of the bytes stops the run
+-- What is kept of the bytes stops the run.
 pub keep_stops : (rest bytes front : List ℕ) (first now : Option (List ℕ)) (begun old new : RunProgress) (r : Result ⊤ RunFault) → bytes ≡ front ++ rest
     → ((taken : List ℕ) (before : Option (List ℕ)) → Ran taken before first begun → Ran (taken ++ front) before now old)
     → IfErr r (λ f. (taken : List ℕ) (before after : Option (List ℕ)) → Ran taken before after old → Halts (FaultIn (taken ++ rest) before) before after new.gathered f)
@@ -341,7 +341,7 @@ finish_ok taken before mid after old left k n point ran some done =
       wrote = Appends-trans before mid after ran.written front ran.wrote done.moves.wrote;
     }
 
--- the input ends here
+-- The input ends here.
 here : (taken : List ℕ) (before last : Option (List ℕ)) (f : RunFault) → FaultIn taken before last f → FaultAt taken before last f
 here taken before last f h = subst (λ t. FaultAt t before last f) (append-nil taken) (h [])
 
@@ -368,7 +368,7 @@ finish_bad taken text before last old run some unread wrote =
       };
     }
 
--- memory was refused before the last line
+-- Memory was refused before the last line.
 pub finish_refused : (taken : List ℕ) (before mid after : Option (List ℕ)) (old : RunProgress) (left : List ℕ) → Ran taken before mid old → WritesFront old.gathered left mid after
     → Halts (FaultAt taken before) before after left fault.Memory
 finish_refused taken before mid after old left ran m =
@@ -378,7 +378,7 @@ finish_refused taken before mid after old left ran m =
 pub finish_still : (taken : List ℕ) (before mid : Option (List ℕ)) (old : RunProgress) → Ran taken before mid old → Halts (FaultAt taken before) before mid old.gathered fault.Memory
 finish_still taken before mid old ran = finish_refused taken before mid mid old old.gathered ran (still old.gathered mid)
 
--- the last line was not done
+-- The last line was not done.
 pub finish_stops : (taken : List ℕ) (before mid after : Option (List ℕ)) (old : RunProgress) (left : List ℕ) (f : RunFault) → Ran taken before mid old → 0 < length old.pending
     → LineStops old.point.version old.pending (old.done + 1) old.gathered left mid after f → Halts (FaultAt taken before) before after left f
 finish_stops taken before mid after old left (fault.Unreadable n) ran some (number, bad, m) = waits (FaultAt taken before) before mid after ran.written old.gathered left (fault.Unreadable n) ran.wrote m
@@ -389,7 +389,7 @@ finish_stops taken before mid after old left fault.Write ran some part =
     here taken before after fault.Write (run_cut taken _ before after old ran.runs (Appends-front before mid after ran.written old.gathered ran.wrote part))
 finish_stops taken before mid after old left fault.Memory ran some m = finish_refused taken before mid after old left ran m
 
--- all lines were run, and all their text is written
+-- All lines were run, and all their text is written.
 pub all_out : (taken : List ℕ) (before mid after : Option (List ℕ)) (old : RunProgress) → RanAll taken before mid old → Appends mid after old.gathered → Wrote (lines taken) old.events before after
 all_out taken before mid after old ran wrote = record {
   text = ran.written ++ old.gathered;
@@ -398,7 +398,7 @@ all_out taken before mid after old ran wrote = record {
   wrote = Appends-trans before mid after ran.written old.gathered ran.wrote wrote;
 }
 
--- or a beginning of it
+-- Or a beginning of it.
 pub all_part : (taken : List ℕ) (before mid after : Option (List ℕ)) (old : RunProgress) → RanAll taken before mid old → AppendsFront mid after old.gathered → FaultAt taken before after fault.Write
 all_part taken before mid after old ran part =
     let all : take (length (lines taken)) (lines taken) ≡ lines taken = take_all (length (lines taken)) (lines taken) (omega arith) in
@@ -434,7 +434,7 @@ pub told_any : (told : Option (List ℕ)) → (input : List ℕ) × Tells told i
 told_any None = ([], tt)
 told_any (Some xs) = (xs, refl)
 
--- no line was run
+-- No line was run.
 pub nothing_ran : (input : List ℕ) (before : Option (List ℕ)) → RanFirst input before before
 nothing_ran input before = record {
   count = 0;
@@ -463,13 +463,13 @@ pub stops_at_end : (told left before mid after : Option (List ℕ)) (bytes : Lis
 stops_at_end told left before mid after bytes old (Ok n) p q ran h = tt
 stops_at_end told left before mid after bytes old (Err f) p q ran h = stops_at told left before after bytes f (told_all told left bytes p q) (h bytes before ran)
 
--- all text is written where none is gathered
+-- All text is written where none is gathered.
 written_all : (taken : List ℕ) (before mid : Option (List ℕ)) (old : RunProgress) → Ran taken before mid old → old.gathered ≡ [] → (text : List ℕ) × Runs taken text old × Appends before mid text
 written_all taken before mid old ran none =
     let same : ran.written ++ old.gathered ≡ ran.written = ap (λ g. ran.written ++ g) none ∙ append-nil ran.written in
     (ran.written, subst (λ t. Runs taken t old) same ran.runs, ran.wrote)
 
--- the run was too long
+-- The run was too long.
 pub stops_late : (told left before mid : Option (List ℕ)) (bytes : List ℕ) (old : RunProgress) → Consumes told left bytes → Ran bytes before mid old → old.gathered ≡ []
     → (input : List ℕ) × (Tells told input × RanFirst input before mid)
 stops_late told left before mid bytes old p ran none =
@@ -477,7 +477,7 @@ stops_late told left before mid bytes old p ran none =
     let (text, run, wrote) = written_all bytes before mid old ran none in
     (bytes ++ more, (t, run_some bytes text before mid old run wrote more))
 
--- reading failed: the lines whose end was read were run
+-- Reading failed: the lines whose end was read were run.
 pub stops_as_read : (told left before after : Option (List ℕ)) (taken : List ℕ) (state : RunProgress) → Consumes told left taken → Ran taken before after state → state.gathered ≡ [] → RanAsRead told left before after
 stops_as_read told left before after taken state consumed ran none =
     let (text, run, wrote) = written_all taken before after state ran none in

@@ -2,6 +2,6 @@ use Rattle.std.proofs.Common.{◌≡◌, ◌≤◌, length, take}
 use Rattle.std.specs.Vec.{vec_capacity, vec_len}
 use Rattle.af_table.proofs.process.copy_files.Given as goal
 
--- the first files are copied, and there is room for the others
+-- The first files are copied, and there is room for the others.
 abbrev pub invariant-loop-file : goal.invariant-loop-file
 invariant-loop-file l = record { done : l.copies.items ≡ take l.file-index l.files; count : vec_len l.copies ≡ l.file-index; room : length l.files ≤ vec_capacity l.copies }

@@ -8,7 +8,7 @@ moves_front : (all done rest : List ℕ) (n : ℕ) → all ≡ done ++ rest → 
 moves_front all done rest n e =
     e ∙ ap (λ l. done ++ l) (sym (take-append-drop n rest)) ∙ sym (append_assoc done (take n rest) (drop n rest)) ∙ ap (λ l. (done ++ take n rest) ++ l) (sym (take_rest rest n))
 
--- a write of no bytes
+-- A write of no bytes.
 stays : (a b c : Option (List ℕ)) (done rest : List ℕ) (n : ℕ) → n ≡ 0 → Appends a b done → Appends b c (take n rest) → Appends a c done
 stays a b c done rest n none first second =
     let nothing = ap (λ (k : ℕ). take k rest) none in
