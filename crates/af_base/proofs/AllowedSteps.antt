@@ -22,7 +22,7 @@ accepted o frugal answer effect old new e s = subst (λ x. Outcome x frugal answ
   by true = (refl, s)
   by false = inl (refl, s)
 
--- What a map has after a change at one key.
+-- The values of a map after a change at one key.
 pub get-change_at : {X : Type 0} (g : X → X) (m : Map X) (k q : ℕ) → map.get (change_at g m k) q ≡ option_map (λ x. cond (eq_by_cmp nat_cmp q k) (g x) x) (map.get m q)
 get-change_at {X = X} g m k q = by (map.get m k) refl (nat_cmp q k) refl where
   each : (b : Bool) → b ≡ false → (o : Option X) → o ≡ option_map (λ x. cond b (g x) x) o

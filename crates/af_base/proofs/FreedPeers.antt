@@ -37,7 +37,7 @@ same : (o : Option File) → o ≡ option_map (λ x. x) o
 same None = refl
 same (Some x) = refl
 
--- What a number has after a file is freed: nothing if it is that file, hung up if it is the peer.
+-- The file of a number after one is freed: none if it is that one, hung up if it is the peer.
 get-drop_with : (t : State) (f : ℕ) (m : Map File) (q : ℕ) → map.get (drop_with t f m) q ≡ option_map (λ x. cond (is_peer t q) (hang_up x) x) (cond (eq_by_cmp nat_cmp q f) None (map.get m q))
 get-drop_with (state.Connected p) f m q = get-change_at hang_up (map.remove m f) p q ∙ ap (option_map (λ x. cond (eq_by_cmp nat_cmp q p) (hang_up x) x)) (map.get-remove nat_cmp_total m f q)
 get-drop_with state.Idle f m q = map.get-remove nat_cmp_total m f q ∙ same _

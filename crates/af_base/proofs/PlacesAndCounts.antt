@@ -33,7 +33,7 @@ count-length f (x ∷ xs) = omega (arith, count-cons f x xs, one-most f x, count
 one-same : (f x : ℕ) → f ≡ x → one f x ≡ 1
 one-same f x e = ap {B = ℕ} (λ b. cond b 1 0) (eq-eqb f x e)
 
--- What is counted is there.
+-- A file with a count above 0 is in the list.
 pub Contains-count : (f : ℕ) (xs : List ℕ) → 0 < count_in f xs → Contains xs f
 Contains-count f [] h = absurd (omega (arith, h))
 Contains-count f (x ∷ xs) h =
@@ -42,7 +42,7 @@ Contains-count f (x ∷ xs) h =
       | false ↦ λ e. let at = Contains-count f xs (omega (arith, h, count-cons f x xs, ap {B = ℕ} (λ b. cond b 1 0) e)) in (suc at.0, omega (arith, at.1), at.2)
     ] refl
 
--- What is there is counted.
+-- A file in the list has a count above 0.
 pub count-Contains : (f : ℕ) (xs : List ℕ) → Contains xs f → 0 < count_in f xs
 count-Contains f xs h = at xs h.0 h.1 h.2 where
   at : (xs : List ℕ) (k : ℕ) → k < length xs → slice_index_or xs k f ≡ f → 0 < count_in f xs
@@ -68,7 +68,7 @@ module _ {X : Type 0} where
   none_some : (x : X) → None ≡ Some x → ⊥
   none_some x e = false≢true (ap (λ o. option_map_or (λ _. true) o false) e)
 
-  -- What a later entry has at k is what the map has there.
+  -- A value in a later entry is that of the map.
   pub later : (e : ℕ × X) (es : List (ℕ × X)) (k : ℕ) (x : X) → T (below_all nat_cmp e.0 es) → find nat_cmp k es ≡ Some x → (o : Ordering) → nat_cmp k e.0 ≡ o → cond (is_eq o) (Some e.1) (find nat_cmp k es) ≡ Some x
   later e es k x h is Equal p = absurd (none_some x (sym (ap (λ q. find nat_cmp q es) (nat_cmp-IsAntisymmetric _ _ p) ∙ none_below e.0 es h) ∙ is))
   later e es k x h is Less p = is

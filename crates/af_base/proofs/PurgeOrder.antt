@@ -41,7 +41,7 @@ in_first : (b : Bool) (xs : List ℕ) (x : ℕ) → Contains (cond b [] xs) x �
 in_first true xs x h = absurd (omega (arith, h.1))
 in_first false xs x h = (refl, h)
 
--- What holds where some are emptied.
+-- A socket that holds a file after some are emptied is not among them, and held it before.
 pub from_emptied : (t : ℕ → Bool) (w : World) (s f : ℕ) → Holds (emptied t w) s f → (t s ≡ false) × Holds w s f
 from_emptied t w s f h = in_first (t s) (held_by w s) f (subst (λ xs. Contains xs f) (held-emptied t w s) h)
 
@@ -61,7 +61,7 @@ emptied-without t g w = ap (λ fs. record w { files = fs }) (map.same_map nat_cm
       each q true false (Some (AsSocket s)) = refl
       each q false false (Some x) = refl
 
--- What was emptied may be emptied again.
+-- To empty some files and then others is to empty both at once.
 pub emptied-emptied : (t u : ℕ → Bool) (w : World) → emptied u (emptied t w) ≡ emptied (λ f. t f || u f) w
 emptied-emptied t u w = ap (λ fs. record w { files = fs }) (map.same_map nat_cmp_total nat_cmp-IsAntisymmetric _ _ (λ q.
     get-emptied u (emptied t w) q ∙ ap (option_map (λ x. if u q then empty_file x else x)) (get-emptied t w q) ∙ each (t q) (u q) (map.get w.files q) ∙ sym (get-emptied (λ f. t f || u f) w q))) where

@@ -218,7 +218,7 @@ found-carried (x ∷ q) m f e h = elim (cases_Bool (has_files x)) [
   | inr t ↦ Contains-append_right x.attached (attached_in q) f (found-carried q m f (sym (find-later x q t) ∙ e) h)
 ]
 
--- What is left after a cut was there.
+-- A file that is left after a cut was in the queue.
 cut-carried : (c : ℕ) (q : List Message) (f : ℕ) → Contains (attached_in (cut c q)) f → Contains (attached_in q) f
 cut-carried c [] f h = h
 cut-carried c (m ∷ q) f h = by (cut-carried (c - length m.bytes) q f) (nat_le (length m.bytes) c) (nat_lt 0 c) h where
@@ -230,7 +230,7 @@ cut-carried c (m ∷ q) f h = by (cut-carried (c - length m.bytes) q f) (nat_le 
   by rest false true h = later h
   by rest false false h = h
 
--- What is taken and what is left were in the queue.
+-- A file that is taken or left was in the queue.
 pub taken-before : (kind : SockType) (q : List Message) (n f : ℕ) → Contains ((take_from kind q n).attached ++ attached_in (take_from kind q n).rest) f → Contains (attached_in q) f
 taken-before Seqpacket [] n f h = h
 taken-before Seqpacket (m ∷ q) n f h = h

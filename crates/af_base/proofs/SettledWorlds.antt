@@ -93,7 +93,7 @@ live-without gone w f = ap is_some (get-without gone w f) ∙ each (gone f) (map
 pub none_in : (x : ℕ) → ¬ (Contains [] x)
 none_in x h = omega (arith, h.1)
 
--- What is live without the freed files was live, and is not freed.
+-- A file that is live after others are freed was live, and is not among them.
 pub stays : (b c : Bool) → cond (not b) c false ≡ true → (b ≡ false) × (c ≡ true)
 stays true c e = absurd (false≢true e)
 stays false c e = (refl, e)

@@ -41,7 +41,7 @@ module _ {X : Type 0} where
   sum_of_values f [] = refl
   sum_of_values f (e ∷ es) = sum_by-cons (λ x. f x.1) e es ∙ ap (λ n. f e.1 + n) (sum_of_values f es) ∙ sym (sum_by-cons f e.1 (values_of es))
 
-  -- What its values add up to is what the tree's values add up to.
+  -- The values of the map add up to the same as the tree's.
   pub nat_total : (f : X → ℕ) (m : BTreeMap ℕ X) → tree.IsOrdered nat_cmp m → total_of f (map.from_entries m.entries) ≡ sum_by f (tree.values m)
   nat_total f m h = ap (sum_by (λ e. f e.1)) (nat_entries m h) ∙ sum_of_values f m.entries
 

@@ -65,5 +65,5 @@ insert_same m k v is = same_map nat_cmp_total nat_cmp-IsAntisymmetric _ _ (λ q.
   put_back q Less p = refl
   put_back q Greater p = refl
 
--- What changes of a tree do to its map.
+-- The changes of a tree, as changes of its map.
 pub ruleset changes = (nat_looked, nat_inserted, nat_removed, nat_changed, nat_unchanged, insert_same)

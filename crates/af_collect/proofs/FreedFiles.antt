@@ -25,7 +25,7 @@ module _ (w : World) (f : ℕ) (peers : AreMutual w) where
     by (state.Connected p) e = absurd (none p e)
     by state.HungUp e = ap (λ t. record w { files = drop_with t f w.files }) (sym e)
 
--- What is this socket.
+-- A file that has this socket is this socket.
 pub socket_is : (x : File) (s : Socket) → socket_of x ≡ Some s → x ≡ AsSocket s
 socket_is Plain s e = cc
 socket_is (AsSocket r) s e = ap AsSocket (some_same r s e)

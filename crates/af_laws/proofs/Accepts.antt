@@ -75,7 +75,7 @@ module _ (w : World) (p n : ℕ) (name : List ℕ) (sound : IsSound w) (fits : r
   listener_there : map.get w.files l ≡ Some (AsSocket listener)
   listener_there = listener-there w name row.rest.rest.rest.rest.here
 
-  -- Who listens is not who connects.
+  -- The listener is not the client.
   listens : not (is_listening listener.state) ≡ false → is_listening client.state ≡ false → ¬ (listener ≡ client)
   listens hears deaf same = false≢true (sym hears ∙ ap not (ap (λ x. is_listening x.state) same ∙ deaf))
 
@@ -100,7 +100,7 @@ module _ (w : World) (p n : ℕ) (name : List ℕ) (sound : IsSound w) (fits : r
         count-cons f e [],
       )
 
-  -- What is counted of queues alone stays.
+  -- A sum over queues alone stays.
   queues_now : (F : List Message → ℕ) → F [] ≡ 0 → total_of (λ y. F (queue_of y)) now.files ≡ total_of (λ y. F (queue_of y)) w.files
   queues_now F none =
       let before : option_map_or (λ y. F (queue_of y)) (map.get w.files e) 0 ≡ 0 = ap (λ o. option_map_or (λ y. F (queue_of y)) o 0) (fresh_file w e sound.whole (omega arith)) in

@@ -48,7 +48,7 @@ settled_alike w now live same settled = settled-counted now (λ f l. let held = 
 unchanged : (w : World) → SameCounts w w
 unchanged w = record { references = λ f. refl; in_flight = λ f. refl; in_backlogs = λ f. refl; charges = λ u. refl; all = refl }
 
--- What is settled after a step is its effect.
+-- A settled effect is the world after the step.
 module _ (now old new : World) (settled : IsSettled now) where
   is_effect : Settles now new → new ≡ now
   is_effect t = (settled_stays now new settled).0 t

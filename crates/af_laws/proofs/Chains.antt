@@ -22,7 +22,7 @@ use Rattle.af_base.proofs.SettledWorlds.{from_without, none_in, to_without}
 use Rattle.af_base.proofs.AllowedSteps.{get-change_at}
 use Rattle.af_laws.specs.Reaching.{GroupsOfTheirOwnAreGarbage, InstallKeepsReached, NothingInFlightIsNoGarbage, PlacesKeepReached, PurgingKeepsReached, ReachedIsHeld, SendKeepsReached, SettlingKeepsReached}
 
--- What holds something is live.
+-- A socket that holds a file is live.
 pub holder_live : (w : World) (s f : ℕ) → Holds w s f → IsLive w s
 holder_live w s f h = by (map.get w.files s) h where
   by : (o : Option File) → Contains (option_map_or contents o []) f → is_some o ≡ true
@@ -89,7 +89,7 @@ purging_keeps_reached w new test garbage t f = (
   purging_reaches_nothing w new test t f,
 )
 
--- What the tables have after one was changed.
+-- The entries of the tables after one was changed.
 pub table-with_table : (w : World) (p : ℕ) (g : Map ℕ → Map ℕ) (k m : ℕ) → table_at (with_table w p g) k m ≡ option_map_or (λ q. cond (eq_by_cmp nat_cmp k p) (map.get (g q.table) m) (map.get q.table m)) (map.get w.processes k) None
 table-with_table w p g k m = ap (λ o. option_map_or (λ q. map.get q.table m) o None) (get-change_at (λ q. record q { table = g q.table }) w.processes p k) ∙ each (eq_by_cmp nat_cmp k p) (map.get w.processes k) where
   each : (b : Bool) (o : Option Process) → option_map_or (λ q. map.get q.table m) (option_map (λ q. cond b (record q { table = g q.table }) q) o) None ≡ option_map_or (λ q. cond b (map.get (g q.table) m) (map.get q.table m)) o None

@@ -103,7 +103,7 @@ is_refused (reply.Started n) = false
 is_refused reply.Working = false
 is_refused (reply.Done n m) = false
 
--- What a receive answers is none.
+-- The answer of a receive is no refusal.
 either : (b : Bool) (bytes fds : List ℕ) (trunc ctrunc : Bool) → is_refused (cond b reply.End (reply.Got bytes fds trunc ctrunc)) ≡ false
 unfolding is_refused
 either true bytes fds trunc ctrunc = refl
@@ -166,7 +166,7 @@ pub number_is_done : (n : ℕ) → is_refused (reply.Fd n) ≡ false
 unfolding is_refused
 number_is_done n = refl
 
--- What is not refused comes of the effect.
+-- An event that is not refused has its answer, and the effect settles.
 pub outcome_done : (o : Option Errno) (frugal : Bool) (answer : Reply) (now old : World) (r : Reply) (new : World) → is_refused r ≡ false → Outcome o frugal answer now old r new → (o ≡ None) × (r ≡ answer) × Settles now new
 unfolding is_refused
 outcome_done (Some e) frugal answer now old r new given h = absurd (false≢true (sym given ∙ ap is_refused h.0))

@@ -27,7 +27,7 @@ module _ (test : ℕ → Bool) where
   abbrev step : Bool → ℕ → ℕ → List ℕ
   step b a n = cond b (a ∷ passing (a + 1) n) (passing (a + 1) n)
 
-  -- What passes is in the range, and passes.
+  -- A number that passes is in the range, and passes the test.
   is_passing : (a n k : ℕ) → Contains (passing a n) k → (a ≤ k) × (k < a + n) × (test k ≡ true)
   is_passing a zero k h = absurd (omega (arith, h.1))
   is_passing a (suc n) k h = by (test a) refl (is_passing (a + 1) n k) h where

@@ -56,7 +56,7 @@ from_places old _ (Adds w x c blank) =
     record { tables = k.tables; holders = λ q f h. k.holders q f (held-blank w x blank q f h); next = omega (arith, low) }
 from_places old _ (Sets w s g c gain) = let k = from_places old w c in record { tables = k.tables; holders = λ q f h. elim (gain q f h) [ inl y ↦ k.holders q f y | inr y ↦ inr y ]; next = k.next }
 
--- What changes lead to.
+-- A change of a whole world leads to the world after it.
 changes_lead : (old now : World) → IsWhole old → Changed old now → Leads old now
 changes_lead old now whole c = let k = from_places old now c.places in reached_or_new old now whole k.tables k.holders
 

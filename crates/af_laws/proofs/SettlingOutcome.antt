@@ -85,7 +85,7 @@ settles_within (suc n) ks w among few = elim (unplaced_or_not w ks) [
       (rest.0, settles_first w found.0 found.1 unplaced.0 unplaced.1 rest.0 rest.1)
 ]
 
--- What is live is among the keys.
+-- A live file is among the keys.
 pub among_keys : (w : World) (f : ℕ) → IsLive w f → Contains (map.keys w.files) f
 among_keys w f live = found (map.keys w.files) (sym (map.contains_key-keys w.files f) ∙ live) where
   found : (ks : List ℕ) → list_any (eq_by_cmp nat_cmp f) ks ≡ true → Contains ks f

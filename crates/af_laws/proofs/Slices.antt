@@ -34,7 +34,7 @@ use Rattle.af_laws.proofs.Logs.{replies_determine}
 use Rattle.af_laws.proofs.WholePasses.{released, spared, spares_all}
 use Rattle.af_laws.specs.Purging.{IsSlice, PassHasOneOutcome, PassIsOneSlice, SlicesAreAPass, SlicesSpareTheReached}
 
--- Who is done is not refused.
+-- A pass that is done is not refused.
 done_refused : (pass count : ℕ) (e : Errno) → reply.Done pass count ≡ reply.Refused e → ⊥
 done_refused pass count e d = cc
 
@@ -46,7 +46,7 @@ done_working pass count d = cc
 started_refused : (n : ℕ) (e : Errno) → reply.Started n ≡ reply.Refused e → ⊥
 started_refused n e d = cc
 
--- What is true of all is true of what is among them.
+-- A fact of all files of a list is one of each.
 among : (P : ℕ → Type 0) (f : ℕ) (xs : List ℕ) → All P xs → list_any (nat_eq f) xs ≡ true → P f
 among P f [] all e = absurd (false≢true e)
 among P f (x ∷ xs) all e = elim (or_cases (nat_eq f x) (list_any (nat_eq f) xs) e) [
@@ -95,7 +95,7 @@ partly_begun old settled = record {
 
 module _ (old m new : Machine) (b : ℕ) (partly : IsPartly old m) where
   module _ (r : Reply) (made : Slices old.world m.world partly.spent b m.last_pass r new.world new.pass) where
-    -- What was purged before, and what the slice purges.
+    -- The files that were purged before, and those that the slice purges.
     abbrev both : ℕ → Bool
     both f = partly.test f || list_any (nat_eq f) made.emptied_files
 
@@ -174,7 +174,7 @@ slices_on old m new (e ∷ es) are at run =
       by (event.Slice b) is h (inr idle) = inr (idle_on m run.0 b e.1 idle h)
       by event.Pass is h at = absurd is
 
--- What began is no pass while one ran.
+-- A pass that began did so while none ran.
 begun_idle : (p : Pass) (old m : Machine) (number : ℕ) → Begins p old (reply.Started number) m → (p ≡ Idle) × (m ≡ begun old)
 begun_idle Idle old m number h = (refl, h.1)
 begun_idle (Running w spent) old m number h = absurd (started_refused number EBUSY h.0)
@@ -189,7 +189,7 @@ slices_are_a_pass old new slices started b pass count settled are run =
       | inr idle ↦ absurd (idle_done last.0 new b pass count idle last.2)
     ])
 
--- What passes the test is left of a list that has it.
+-- A file in a list that passes the test is left.
 left_in : (t : ℕ → Bool) (f : ℕ) → t f ≡ true → (xs : List ℕ) → list_any (eq_by_cmp nat_cmp f) xs ≡ true → list_any (nat_eq f) (filter t xs) ≡ true
 left_in t f is [] e = absurd (false≢true e)
 left_in t f is (x ∷ xs) e = by (left_in t f is xs) (t x) refl (or_cases (eq_by_cmp nat_cmp f x) (list_any (eq_by_cmp nat_cmp f) xs) e) where
@@ -200,7 +200,7 @@ left_in t f is (x ∷ xs) e = by (left_in t f is xs) (t x) refl (or_cases (eq_by
   by rest false p (inl here) = absurd (false≢true (sym p ∙ ap t (sym (same_number f x here)) ∙ is))
   by rest false p (inr later) = rest later
 
--- What is left passes the test.
+-- Each file that is left passes the test.
 all_left : (P : ℕ → Type 0) (t : ℕ → Bool) → ((f : ℕ) → t f ≡ true → P f) → (xs : List ℕ) → All P (filter t xs)
 all_left P t passes [] = All-nil P
 all_left P t passes (x ∷ xs) = by (all_left P t passes xs) (t x) refl where
@@ -216,7 +216,7 @@ few_left t (e ∷ es) = by (t e.0) (few_left t es) where
   by true less = omega (arith, less)
   by false less = omega (arith, less)
 
--- What is done has its pass's number.
+-- Equal answers of passes have equal numbers.
 same_number_done : (p q n k : ℕ) → reply.Done p n ≡ reply.Done q k → p ≡ q
 same_number_done p q n k e = cc
 

@@ -24,7 +24,7 @@ use Rattle.af_laws.specs.Purging.{PassLeavesNoGarbage, PassReleasesItsGarbage, P
 
 -- A world of which some is purged, and nothing that is reached.
 module _ (old new : World) (test : ℕ → Bool) (apart : (f : ℕ) → test f ≡ true → ¬ (Reached old f)) (purged : Purges test old new) where
-  -- What is reached is what it was, but for a peer that has hung up.
+  -- A file that is reached is as it was, but for a peer that has hung up.
   same_file : (f : ℕ) → Reached old f → map.get new.files f ≡ option_map (file_without purged.0) (map.get old.files f)
   same_file f r =
       ap (λ w. map.get w.files f) purged.2 ∙ get-without purged.0 (emptied test old) f
@@ -66,7 +66,7 @@ module _ (old new : World) (test : ℕ → Bool) (garbage : (f : ℕ) → (test 
       let from = from_emptied test old s f h in
       absurd (false≢true (sym from.0 ∙ (garbage s).1 (holder_live old s f from.1, λ r. g.1 (BySocket s f r from.1)))))
 
-  -- What is live stayed, and was live.
+  -- A file that is live was live, and was not freed.
   stayed : (f : ℕ) → IsLive new f → (purged.0 f ≡ false) × IsLive old f
   stayed f l =
       let left = stays _ _ (sym (ap (λ w. is_some (map.get w.files f)) purged.2 ∙ live-without purged.0 (emptied test old) f) ∙ l) in
@@ -89,7 +89,7 @@ spares_by (Running begun spent) old new r h = spares_all old new h.1
 pub pass_spares_the_reached : PassSparesTheReached
 pass_spares_the_reached old new r h = spares_by old.pass old new r h
 
--- Who is done is not refused.
+-- A pass that is done is not refused.
 done_refused : (pass count : ℕ) (e : Errno) → reply.Done pass count ≡ reply.Refused e → ⊥
 done_refused pass count e d = cc
 

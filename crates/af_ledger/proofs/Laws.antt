@@ -170,7 +170,7 @@ users-held Table f k = refl
 users-held (Queue u) f k = keys-recharged (λ n. n + 1) u k.users
 users-held Backlog f k = refl
 
--- A reference that goes leaves the users as they are.
+-- A reference that is dropped leaves the users as they are.
 pub users-dropped : (p : Place) (f : ℕ) (k : Tally) → keys_of (without_ref p f k).users ≡ keys_of k.users
 users-dropped Table f k = refl
 users-dropped (Queue u) f k = keys-recharged (λ n. n - 1) u k.users

@@ -56,5 +56,5 @@ module _ {S : Type 0} where
   name_removed m n k h = same_map nat_list_cmp_total (slice_cmp-IsAntisymmetric nat_cmp-IsAntisymmetric) _ _ (λ q.
       changed m.entries n.entries k None h.1 h.3 q ∙ sym (get-remove nat_list_cmp_total (named m.entries) k q))
 
--- What changes of a hash map of names do to its map.
+-- The changes of a hash map of names, as changes of its map.
 pub ruleset name_changes = (name_looked, name_inserted, name_removed)

@@ -177,7 +177,7 @@ no_rows es e = ap (part_of (λ h. h.row)) e
 
 pub ruleset part_changes = (processes_there, rows_there, processes_none, rows_none, processes_inserted, rows_inserted, processes_removed, rows_removed, processes_changed, processes_unchanged, no_processes, no_rows)
 
--- What more room does to them.
+-- The effect of more room on them.
 pub ruleset room_changes = (processes_there, processes_none, rows_there, rows_none, row_made)
 
 pub ruleset part_len = (process_count)

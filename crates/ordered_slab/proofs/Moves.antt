@@ -12,11 +12,11 @@ use Rattle.ordered_slab.specs.declared.order.OrderRow.{OrderRow}
 use Rattle.ordered_slab.specs.Rows.{live_of, row_at, AreRows, IsLiveAt}
 use Rattle.ordered_slab.proofs.Rows.{or_else, or_none, held, same, nowhere, somewhere, append_held, live_place, mark_held, push_held, row_before, row_last, each_push, rise_push, rise_front, rise_last, set_same, set_number, set_rise, set_up, still_live, still_dead}
 
--- What a map has after an insertion.
+-- The values of a map after an insertion.
 with_number : (m : Map ℕ) (n k q : ℕ) → cond (nat_eq q n) (Some k) (map.get m q) ≡ map.get (map.insert m n k) q
 with_number m n k q = sym (get-insert nat_cmp_total m n k q ∙ ap (λ b. cond b (Some k) (map.get m q)) (unsigned_tied q n))
 
--- What a map has after a removal.
+-- The values of a map after a removal.
 without_number : (m : Map ℕ) (n q : ℕ) → cond (nat_eq q n) None (map.get m q) ≡ map.get (map.remove m n) q
 without_number m n q = sym (get-remove nat_cmp_total m n q ∙ ap (λ b. cond b None (map.get m q)) (unsigned_tied q n))
 

@@ -120,7 +120,7 @@ form_printable (k ◂ form) (word ∷ words) x (v, (first, others)) = both_true 
 
 -- ---- tables
 
--- What is found by a keyword has it.
+-- A row that is found by a keyword has it.
 pub named_said : {K A : Type 0} (row : K → FormRow A) (keys : List K) (word : List ℕ) (k : K) → named row keys word ≡ Some k → word ≡ (row k).0
 named_said row [] word k e = cc
 named_said row (key ∷ keys) word k e = elim (chosen (bytes_eq (row key).0 word) (Some key) (named row keys word) (Some k) e) [

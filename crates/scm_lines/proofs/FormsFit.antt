@@ -50,7 +50,7 @@ word_fits wanted.Two word = by (bytes_eq word (codes "2"))
     by true = refl
     by false = refl
 
--- What is not there is none.
+-- An option is none exactly if it has no value.
 none_not_some : {A : Type 0} (r : Option A) → not (is_some r) ≡ is_none r
 none_not_some None = refl
 none_not_some (Some x) = refl

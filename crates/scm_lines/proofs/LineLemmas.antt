@@ -121,7 +121,7 @@ comment_by_word (b ∷ bytes) = by_blank (is_blank b) (comment_by_word bytes)
     by_blank true rest = rest
     by_blank false rest = by_end (ends_word bytes)
 
--- What is read has printable bytes.
+-- Words that are read have printable bytes.
 printable_alone : (bytes : List ℕ) → cond (all_printable bytes) (words_say (words_of bytes)) None ≡ words_say (words_of bytes)
 printable_alone bytes = by (words_say (words_of bytes)) refl
   where

@@ -21,7 +21,7 @@ use Rattle.scm_lines.proofs.NumberLemmas.{number_digits, number_said}
 use Rattle.scm_lines.proofs.LineLemmas.{is_comment_of, line_said_by_words}
 use Rattle.scm_lines.proofs.VersionsFit.{made, verb_makes}
 
--- What a number begins is no comment.
+-- A line that begins with a number is no comment.
 not_comment : (w : List ℕ) (n : ℕ) → number_of w ≡ Some n → begins_comment w ≡ false
 not_comment [] n e = refl
 not_comment (b ∷ bytes) n e = above b (split_and (is_digit b) (all_digits bytes) (number_digits (b ∷ bytes) n (number_said (b ∷ bytes) n e))).0
@@ -62,7 +62,7 @@ words_verb : (word : List ℕ) (words more : List (List ℕ)) (k : Verb) → wor
 unfolding step_of
 words_verb word words more k parted is = rw (parted, ← is) refl
 
--- What the version has stays.
+-- A step of a verb that the version has is read.
 passes : (v : Version) (pid : ℕ) (k : Verb) (r : Option Step) → ((does : Step) → r ≡ Some does → (not (is_later does) || is_second v) ≡ has_verb v k) → has_verb v k ≡ true
     → (option_map (does_line pid) r >>= λ said. cond (has_line v said) (Some said) None) ≡ option_map (does_line pid) r
 passes v pid k None same has = refl

@@ -36,7 +36,7 @@ first_has (line.Event (event.Slice budget)) e = refl
 first_has (line.Event event.Pass) e = refl
 first_has (line.Report report) e = refl
 
--- What was found is what is read, where the script may have it.
+-- A line that was found is read where the script may have it.
 found_said : (found said : Line) (b : Bool) → has_line version.First found ≡ b → (if b then Some found else None) ≡ Some said → is_of_first said ≡ true
 found_said found said true has e = subst (λ x. is_of_first x ≡ true) (same_Some found said e) (first_has found has)
 found_said found said false has e = absurd (none-some said e)
@@ -46,7 +46,7 @@ pub first_in_any : (v : Version) (bytes : List ℕ) (said : Line) → is_of_firs
 first_in_any v bytes said first e =
     ap (λ (o : Option Line). o >>= λ s. if has_line v s then Some s else None) e ∙ ap (λ (b : Bool). if b then Some said else None) (has_first v said first)
 
--- What is read in a script of version 1 is a line of version 1.
+-- A line that is read in a script of version 1 is one of version 1.
 pub first_alone : (bytes : List ℕ) (said : Line) → read_in version.First bytes ≡ Some said → is_of_first said ≡ true
 first_alone bytes said = by (line_of bytes) where
   by : (o : Option Line) → (o >>= λ s. if has_line version.First s then Some s else None) ≡ Some said → is_of_first said ≡ true

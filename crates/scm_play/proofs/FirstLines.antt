@@ -97,7 +97,7 @@ nothing_read (b ∷ input) e = absurd (by (b == 10) e)
     by true e = omega (arith, e)
     by false e = omega (arith, e)
 
--- What is read is the first line, with its end.
+-- The bytes that are read are the first line, with its end.
 pub first_read : (input : List ℕ) → 0 < length (take_through 10 input) → lines input ≡ line_in (take_through 10 input) ∷ lines (drop_through 10 input)
 first_read input some =
     let (x, (none, which)) = through input in

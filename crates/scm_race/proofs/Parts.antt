@@ -208,7 +208,7 @@ module _ (workers steps seed budget : ℕ) (b book : BookView) (is : book ≡ ta
         let next : workers + 1 + 1 ≡ workers + 2 = omega arith in
         ap (λ n. of_seat n b.log) (sym next) ∙ (has (workers + 1) (omega arith)).1 refl
 
-  -- What was done before.
+  -- The parts that were done before.
   module _ (old : BookView) (done : ℕ) (went : Continues workers steps seed budget done old) (seats : b.seats ≡ old.seats) (begins : b.start ≡ old.machine) where
     -- All logs so far.
     whole : List Entry

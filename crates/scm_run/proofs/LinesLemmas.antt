@@ -186,7 +186,7 @@ all_lines taken whole rest cut = ap lines cut.joined ∙ lines-front whole rest 
 
 -- ---- the bytes of a chunk
 
--- What is not true is false.
+-- A test that is not true is false.
 not_true : (b : Bool) → ¬ (b ≡ true) → b ≡ false
 not_true true never = absurd (never refl)
 not_true false never = refl

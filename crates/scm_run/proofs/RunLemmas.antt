@@ -252,7 +252,7 @@ halts_longer taken front line more bytes before after gathered f joined h =
     subst (λ t. Halts (FaultIn t before) before after gathered f) whole
     (halts_as (FaultIn ((taken ++ front) ++ line) before) (FaultIn (((taken ++ front) ++ line) ++ more) before) before after gathered f (fault_later ((taken ++ front) ++ line) more before) h)
 
--- What is kept of the bytes stops the run.
+-- A run stops where it keeps the rest of the bytes.
 pub keep_stops : (rest bytes front : List ℕ) (first now : Option (List ℕ)) (begun old new : RunProgress) (r : Result ⊤ RunFault) → bytes ≡ front ++ rest
     → ((taken : List ℕ) (before : Option (List ℕ)) → Ran taken before first begun → Ran (taken ++ front) before now old)
     → IfErr r (λ f. (taken : List ℕ) (before after : Option (List ℕ)) → Ran taken before after old → Halts (FaultIn (taken ++ rest) before) before after new.gathered f)
@@ -415,13 +415,13 @@ all_part taken before mid after old ran part =
 
 -- ---- what the reader tells
 
--- What was read is the beginning of the input.
+-- The bytes that were read begin the input.
 pub told_input : (told left : Option (List ℕ)) (taken : List ℕ) → Consumes told left taken → (more : List ℕ) × Tells told (taken ++ more)
 told_input None left taken p = ([], tt)
 told_input (Some xs) None taken p = absurd p
 told_input (Some xs) (Some ys) taken p = (ys, p)
 
--- What was read to the end is the whole input.
+-- The bytes that were read to the end are the whole input.
 pub told_all : (told left : Option (List ℕ)) (taken : List ℕ) → Consumes told left taken → IsAtEnd left → Tells told taken
 told_all None left taken p q = tt
 told_all (Some xs) None taken p q = absurd p
@@ -457,7 +457,7 @@ stops_at told left before after bytes fault.Read t h = absurd h
 stops_at told left before after bytes fault.Write t h = (bytes, t, h)
 stops_at told left before after bytes fault.Memory t h = (bytes, t, h)
 
--- What ends a run whose reader is at its end ends the run of the script.
+-- A fault of a run whose reader is at its end is one of the script.
 pub stops_at_end : (told left before mid after : Option (List ℕ)) (bytes : List ℕ) (old : RunProgress) (r : Result ℕ RunFault) → Consumes told left bytes → IsAtEnd left → Ran bytes before mid old
     → IfErr r (λ f. (taken : List ℕ) (first : Option (List ℕ)) → Ran taken first mid old → FaultAt taken first after f) → IfErr r (StopsBy told left before after)
 stops_at_end told left before mid after bytes old (Ok n) p q ran h = tt

@@ -4,7 +4,7 @@ use Rattle.af_base.specs.Table.{free_numbers}
 use Rattle.af_table.specs.Free.{free_from}
 use Rattle.af_table.proofs.process.Process.lowest_free.Given as goal
 
--- What was found and what is left are all that are free, and there is room for all that are wanted
+-- The numbers found and those left are all that are free, and there is room for all that are wanted
 -- once one was found.
 abbrev pub invariant-loop : goal.invariant-loop
 invariant-loop l = record {
