@@ -14,6 +14,7 @@ pub mod Receives
 pub mod TableFills
 pub mod ProcessTables
 pub mod ReplacedDescriptors
+pub mod ClosedDescriptors
 pub mod FirstPlace
 pub mod LiveSockets
 pub mod SocketStates

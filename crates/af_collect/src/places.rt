@@ -3,23 +3,26 @@
 //! `release` frees it.
 ghost use Rattle.std.specs.Prelude.{◌≡◌, ◌<◌, ◌≤◌, ◌+◌, ◌∷◌, ◌^◌, [], ℕ, None, IsTrue, IfOk};
 ghost use Rattle.std.specs.Prelude.{IfSome, OnOk, OnErr, length, map, drop, false, is_none, is_some};
-ghost use Rattle.std.specs.Prelude.{true};
+ghost use Rattle.std.specs.Prelude.{Some, true};
 ghost use Rattle.std.specs.List.{zip, All, Contains};
 ghost use Rattle.std.specs.FinMap as finmap;
 ghost use Rattle.af_base.specs.World as world;
+ghost use Rattle.af_base.specs.World.{World};
 ghost use Rattle.af_base.specs.Places.{queue_at, table_at};
 ghost use Rattle.af_base.specs.Changes.{install, install_all, push_message, uninstall, with_queue};
 ghost use Rattle.af_base.specs.Counts.{total};
 ghost use Rattle.af_base.specs.Refusals.{process_at, socket_at};
 ghost use Rattle.af_base.specs.Table.{lowest_free};
-ghost use Rattle.af_base.specs.Whole.{IsMessageWithin};
+ghost use Rattle.af_base.specs.Unheld.{Settles};
+ghost use Rattle.af_base.specs.Whole.{IsMessageWithin, IsSound};
 ghost use Rattle.af_collect.specs.Limits.{IsBelowLimit, IsOfProcess};
 ghost use Rattle.af_collect.specs.Receiving.{taken_at};
 ghost use Rattle.af_collect.specs.Keeping.{NotBegunGarbage};
 ghost use Rattle.af_collect.specs.Losing.{vacated, without_descriptor};
 ghost use Rattle.af_collect.specs.StoreView.{room_at};
+ghost use Rattle.af_desc.specs.FilesView as desc;
 ghost use Rattle.af_desc.specs.FilesView.{received_of};
-ghost use Rattle.af_ledger.specs.Counted.{IsCounted};
+ghost use Rattle.af_ledger.specs.Counted.{places_in, IsCounted};
 ghost use Rattle.af_ledger.specs.Tally.{count_in_map};
 ghost use Rattle.af_ledger.specs.declared.place.Place.TheVariants.{Table};
 
@@ -112,6 +115,49 @@ impl Store {
             return false;
         };
         drop_descriptor(&self.parts.progress, &mut places.files, &file);
+        true
+    }
+
+    /// Closes a descriptor of a process, if it is open, and frees the files that are unreferenced
+    /// then: `close_at` and `release`. Returns whether it was open. Takes no memory.
+    #[inline(always)]
+    pub fn close(&mut self, pid: Pid, fd: Fd) -> bool
+        ensures open { result ≡ is_some (table_at self.old.world pid fd) }
+        ensures settles { result ≡ true
+            → Settles (uninstall self.old.world pid fd) self.new.world }
+        ensures sound { result ≡ true → IsSound self.new.world }
+        ensures rows { self.new.rows ≡ self.old.rows }
+        ensures since { self.new.since ≡ self.old.since }
+        ensures pass { self.new.pass ≡ self.old.pass }
+        ensures progress { self.new.progress
+            ≡ record self.old.progress { reclaimed = self.new.progress.reclaimed } }
+        ensures unchanged { result ≡ false → self.new ≡ self.old }
+    {
+        if !self.close_and_free(pid, fd) {
+            return false;
+        }
+        self.release();
+        true
+    }
+
+    /// Closes a descriptor of a process, if it is open, and frees its file, if one look tells that
+    /// the file holds nothing. Returns whether it was open.
+    #[inline(always)]
+    fn close_and_free(&mut self, pid: Pid, fd: Fd) -> bool
+        ensures open { result ≡ is_some (table_at self.old.world pid fd) }
+        ensures settles { result ≡ true → (end : World) → Settles self.new.world end
+            → Settles (uninstall self.old.world pid fd) end }
+        ensures rest { self.new ≡ record self.old {
+          world = self.new.world;
+          marks = self.new.marks;
+        } }
+        ensures unchanged { result ≡ false → self.new ≡ self.old }
+    {
+        let places = &mut self.parts.places;
+        let Some(file) = places.procs.take_out(pid, fd) else {
+            return false;
+        };
+        lose_descriptor(&self.parts.progress, &mut places.files, &file);
         true
     }
 
@@ -255,4 +301,22 @@ fn drop_replaced(progress: &PassProgress, files: &mut Files, was: Option<FileRef
     if let Some(was) = was {
         drop_descriptor(progress, files, &was);
     }
+}
+
+/// Drops the reference of a descriptor to a file, which is marked first, while marking; a plain file
+/// without another reference may be removed at once. Returns whether it was. Takes no memory.
+#[inline(always)]
+fn lose_descriptor(progress: &PassProgress, files: &mut Files, file: &FileRef) -> bool
+    requires { IsCounted Table (count_in_map files.old.counts file.now) }
+    ensures removed { result ≡ true → files.new
+        ≡ desc.without file.now (without_descriptor progress.now.stage file.now files.old) }
+    ensures plain { result ≡ true → finmap.get files.old.files file.now ≡ Some world.Plain }
+    ensures last { result ≡ true → places_in (count_in_map files.old.counts file.now) ≡ 1 }
+    ensures kept { result ≡ false
+        → files.new ≡ without_descriptor progress.now.stage file.now files.old }
+{
+    if matches!(progress.stage, Stage::Marking) {
+        files.shade(file);
+    }
+    files.drop_descriptor(file)
 }

@@ -1,9 +1,11 @@
 //! How many places hold each file, and which files are unreferenced.
-ghost use Rattle.std.specs.Prelude.{◌≡◌, ◌<◌, ℕ, false, true, IfSome, IfNone, IsTrue};
+ghost use Rattle.std.specs.Prelude.{◌≡◌, ◌<◌, ℕ, false, true, IfSome, IfNone, IsTrue, Some};
 ghost use Rattle.std.specs.FinMap as map;
+ghost use Rattle.af_base.specs.World.{Plain};
 ghost use Rattle.af_ledger.specs.Counted.{places_in, IsCountable, IsCounted};
 ghost use Rattle.af_ledger.specs.Tally.{count_in_map, is_unreferenced};
-ghost use Rattle.af_desc.specs.FilesView.{with_embryo, with_file_ref, without_embryo};
+ghost use Rattle.af_ledger.specs.declared.place.Place.TheVariants.{Table};
+ghost use Rattle.af_desc.specs.FilesView.{with_embryo, with_file_ref, without, without_embryo};
 ghost use Rattle.af_desc.specs.FilesView.{without_file_ref};
 
 use crate::files::Files;
@@ -126,6 +128,29 @@ impl Files {
         if last {
             self.unreferenced.push_reserved(file.duplicate());
         }
+    }
+
+    /// Drops the reference of a descriptor to a file, which has one. With its last reference, a
+    /// plain file is removed at once, unless a running pass may have to mark it; any other file
+    /// becomes unreferenced. Returns whether it was removed. Takes no memory.
+    #[inline(always)]
+    pub fn drop_descriptor(&mut self, file: &FileRef) -> bool
+        requires { IsCounted Table (count_in_map self.old.counts file.now) }
+        ensures removed { result ≡ true
+            → self.new ≡ without file.now (without_file_ref Table file.now self.old) }
+        ensures plain { result ≡ true → map.get self.old.files file.now ≡ Some Plain }
+        ensures last { result ≡ true → places_in (count_in_map self.old.counts file.now) ≡ 1 }
+        ensures kept { result ≡ false → self.new ≡ without_file_ref Table file.now self.old }
+    {
+        let Some(plain) = self.rows.sub_descriptor(file) else {
+            return false;
+        };
+        if plain && file.ino().0 >= self.bound && self.grey.is_empty() {
+            self.rows.remove(file, self.epoch);
+            return true;
+        }
+        self.unreferenced.push_reserved(file.duplicate());
+        false
     }
 }
 

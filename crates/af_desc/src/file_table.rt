@@ -1,6 +1,6 @@
 //! One row for each file.
 ghost use Rattle.std.specs.Prelude.{◌≡◌, ℕ, ◌+◌, ◌≤◌, ◌<◌, ◌∷◌, [], false, None, IsTrue, IsOk};
-ghost use Rattle.std.specs.Prelude.{IfSome, IfNone, IfErr, IfOk, OnOk, OnErr, drop, is_none};
+ghost use Rattle.std.specs.Prelude.{Some, IfSome, IfNone, IfErr, IfOk, OnOk, OnErr, drop, is_none};
 ghost use Rattle.std.specs.Prelude.{if◌then◌else◌, is_some, length, nat_eq, option_copied, true};
 ghost use Rattle.std.specs.FinMap as map;
 ghost use Rattle.std.specs.Option.{option_map_or};
@@ -8,8 +8,10 @@ ghost use Rattle.af_base.specs.Changes.{connected, dequeued, listening, pushed, 
 ghost use Rattle.af_base.specs.Places.{backlog_in, held_in, queue_in};
 ghost use Rattle.af_base.specs.Refusals.{room_of};
 ghost use Rattle.af_base.specs.Whole.{IsMessageWithin};
+ghost use Rattle.af_base.specs.World.{Plain};
 ghost use Rattle.af_ledger.specs.Counted.{fewer, more, places_in, IsCountable, IsCounted};
 ghost use Rattle.af_ledger.specs.Tally.{count_in_map};
+ghost use Rattle.af_ledger.specs.declared.place.Place.TheVariants.{Table};
 ghost use Rattle.af_desc.specs.FilesView.{hung_up, popped, received_from, received_of, socket_in};
 ghost use Rattle.af_desc.specs.FileTableView.{with_entry, with_socket, with_socket_and_room};
 ghost use Rattle.af_desc.specs.FileTableView.{without_entry};
@@ -391,6 +393,30 @@ impl FileTable {
         let row = self.rows.get_mut(file).unwrap();
         row.count.sub(place);
         row.count.is_none()
+    }
+
+    /// Drops the place of one descriptor of a file, which has one. If that was its last place,
+    /// returns whether the file is a plain one. Takes no memory.
+    #[inline(always)]
+    #[tactic(auto, using(crate::proofs::TrackedTableView::chains, ordered_slab::proofs::Parts::parts, ordered_slab::proofs::Values::lent, af_ledger::proofs::Unreferenced::counted))]
+    pub fn sub_descriptor(&mut self, file: &FileRef) -> Option<bool>
+        requires { IsCounted Table (count_in_map self.old.counts file.now) }
+        ensures counts { self.new ≡ record self.old {
+          counts = map.insert self.old.counts file.now
+              (fewer Table (count_in_map self.old.counts file.now));
+        } }
+        ensures len { map.len self.new.counts ≡ map.len self.old.counts }
+        ensures last { is_some result
+            ≡ nat_eq (places_in (count_in_map self.old.counts file.now)) 1 }
+        ensures plain { result ≡ Some true → map.get self.old.files file.now ≡ Some Plain }
+    {
+        let row = self.rows.get_mut(file).unwrap();
+        row.count.sub(&Place::Table);
+        if row.count.is_none() {
+            Some(row.endpoint.is_none())
+        } else {
+            None
+        }
     }
 
     /// Returns the mark of a file, if it is known.

@@ -2,16 +2,17 @@
 ghost use Rattle.std.specs.Prelude.{◌≡◌, ℕ, ◌+◌, ◌≤◌, ◌<◌, ◌∷◌, [], true, false, None, IsTrue};
 ghost use Rattle.std.specs.Prelude.{IsOk, IfSome, IfNone, IfErr, IfOk, OnOk, OnErr, drop, is_none};
 ghost use Rattle.std.specs.Prelude.{if◌then◌else◌, is_some, length, nat_eq, option_copied, cond};
-ghost use Rattle.std.specs.Prelude.{vec_capacity};
+ghost use Rattle.std.specs.Prelude.{Some, vec_capacity};
 ghost use Rattle.std.specs.FinMap as map;
 ghost use Rattle.af_base.specs.Changes.{connected, dequeued, listening, pushed, queued, with_name};
 ghost use Rattle.af_base.specs.Counts.{count_in};
 ghost use Rattle.af_base.specs.Places.{backlog_in, held_in, queue_in};
 ghost use Rattle.af_base.specs.Refusals.{room_of};
 ghost use Rattle.af_base.specs.Whole.{IsMessageWithin};
-ghost use Rattle.af_base.specs.World.{untold};
+ghost use Rattle.af_base.specs.World.{Plain, untold};
 ghost use Rattle.af_ledger.specs.Counted.{fewer, more, places_in, IsCountable, IsCounted};
 ghost use Rattle.af_ledger.specs.Tally.{count_in_map};
+ghost use Rattle.af_ledger.specs.declared.place.Place.TheVariants.{Table};
 ghost use Rattle.af_mark.specs.Grey.{black_mark, grey_mark};
 ghost use Rattle.af_desc.specs.FilesView.{hung_up, popped, received_from, received_of, socket_in};
 ghost use Rattle.af_desc.specs.Holding.{IsContents};
@@ -403,6 +404,23 @@ impl TrackedTable {
         ensures last { result ≡ nat_eq (places_in (count_in_map self.old.counts file.now)) 1 }
     {
         self.table.sub_place(place, file)
+    }
+
+    /// Drops the place of one descriptor of a file, which has one. If that was its last place,
+    /// returns whether the file is a plain one. Takes no memory.
+    #[inline(always)]
+    pub fn sub_descriptor(&mut self, file: &FileRef) -> Option<bool>
+        requires { IsCounted Table (count_in_map self.old.counts file.now) }
+        ensures counts { self.new ≡ record self.old {
+          counts = map.insert self.old.counts file.now
+              (fewer Table (count_in_map self.old.counts file.now));
+        } }
+        ensures len { map.len self.new.counts ≡ map.len self.old.counts }
+        ensures last { is_some result
+            ≡ nat_eq (places_in (count_in_map self.old.counts file.now)) 1 }
+        ensures plain { result ≡ Some true → map.get self.old.files file.now ≡ Some Plain }
+    {
+        self.table.sub_descriptor(file)
     }
 
     /// Returns the mark of a file, if it is known.

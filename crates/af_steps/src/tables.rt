@@ -87,11 +87,10 @@ impl Engine {
         ensures done { OnOk result (Does self.old pid (Step.Close fd) Reply.Ok self.new) }
         ensures refused { IfErr result (λ e. Refuses self.old pid (Step.Close fd) e self.new) }
     {
-        if !self.store.close_at(pid, fd) {
+        if !self.store.close(pid, fd) {
             self.store.holdings().procs().find(pid).ok_or(Errno::ESRCH)?;
             return Err(Errno::EBADF);
         }
-        self.store.release();
         Ok(())
     }
 

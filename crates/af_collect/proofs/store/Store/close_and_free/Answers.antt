@@ -1,0 +1,70 @@
+use Rattle.std.proofs.Common.{◌∙◌, ◌≡◌, Bool, true, false, ap, refl, sym, subst}
+use Rattle.af_base.specs.Changes.{uninstall}
+use Rattle.af_base.specs.Unheld.{Settles}
+use Rattle.af_base.specs.World.{World}
+use Rattle.af_desc.specs.FilesView.{FilesView}
+use Rattle.af_collect.specs.HoldingsView.{world_of}
+use Rattle.af_collect.specs.contracts.holdings.Holdings.{the_view}
+use Rattle.af_collect.proofs.ClosedDescriptors.{counted-closed, seen-unopened, settles-freed, stands-closed, stands-freed, stands-unopened, world-closed, world-freed}
+use Rattle.af_collect.proofs.StoreInvariant.{BothInvariants, seen-world, stood}
+use Rattle.af_collect.proofs.store.Store.close_and_free.Goals as goal
+
+-- Where the descriptor was not open, the invariants are as they were.
+neither : (c : goal.In_default) → BothInvariants c.self.inside.parts c.take_out.new.self c.places.inside.files c.places.inside.ledger
+neither c = stands-unopened c.self.inside.parts c.places.inside c.args.pid c.args.fd (sym c.take_out.ensures.value ∙ c.in_default.is) c.take_out.new.self c.take_out.ensures.processes c.take_out.ensures.next (stood c.self.inside.parts c.places.inside c.places.view_is c.places.invariant c.self.invariant)
+
+pub invariant_of-places : goal.invariant_of-places
+invariant_of-places c = (neither c).0
+
+pub invariant_of-self : goal.invariant_of-self
+invariant_of-self c = (neither c).1
+
+pub returns-in_default-clause-unchanged : goal.returns-in_default-clause-unchanged
+returns-in_default-clause-unchanged c = λ _. seen-unopened c.self.inside.parts c.places.inside c.args.pid c.args.fd (sym c.take_out.ensures.value ∙ c.in_default.is) c.take_out.new.self c.take_out.ensures.processes c.take_out.ensures.next _ c.places.view_is c.self.view_is c.take_out.ensures.rows
+
+pub lose_descriptor-requires : goal.lose_descriptor-requires
+lose_descriptor-requires c = counted-closed c.self.inside.parts c.places.inside (stood c.self.inside.parts c.places.inside c.places.view_is c.places.invariant c.self.invariant) c.args.pid c.args.fd c.in-Some.file (sym c.take_out.ensures.value ∙ c.in-Some.is)
+
+-- The invariants hold with these files, and what is left to go is what was before.
+abbrev Serves : goal.After-lose_descriptor → FilesView → Type 0
+Serves c fs = BothInvariants c.self.inside.parts c.take_out.new.self fs c.places.inside.ledger
+    × ((end : World) → Settles (world_of c.take_out.new.self fs c.places.inside.ledger) end → Settles (uninstall (the_view c.places.inside).world c.args.pid c.args.fd) end)
+
+-- So it is where the file is gone, and where it has a reference less.
+lost : (c : goal.After-lose_descriptor) → Serves c c.lose_descriptor.new.files
+lost c = by c.lose_descriptor.result refl where
+  by : (b : Bool) → c.lose_descriptor.result ≡ b → Serves c c.lose_descriptor.new.files
+  by true e =
+      let p = c.self.inside.parts in
+      let h = c.places.inside in
+      let was = stood p h c.places.view_is c.places.invariant c.self.invariant in
+      let found = sym c.take_out.ensures.value ∙ c.in-Some.is in
+      let done = c.lose_descriptor.ensures in
+      let t = c.take_out.ensures in
+      let gone = world-freed p h was c.args.pid c.args.fd c.in-Some.file found c.take_out.new.self t.processes t.next (done.plain e) (done.last e) in
+      subst (Serves c) (sym (done.removed e)) (
+        stands-freed p h was c.args.pid c.args.fd c.in-Some.file found c.take_out.new.self t.processes t.next (done.plain e) (done.last e),
+        λ end s. settles-freed p h was c.args.pid c.args.fd c.in-Some.file found c.take_out.new.self t.processes t.next (done.plain e) (done.last e) end (subst (λ w. Settles w end) gone s),
+      )
+  by false e =
+      let p = c.self.inside.parts in
+      let h = c.places.inside in
+      let was = stood p h c.places.view_is c.places.invariant c.self.invariant in
+      let found = sym c.take_out.ensures.value ∙ c.in-Some.is in
+      let t = c.take_out.ensures in
+      let closed = world-closed p h was c.args.pid c.args.fd c.in-Some.file found c.take_out.new.self t.processes t.next in
+      subst (Serves c) (sym (c.lose_descriptor.ensures.kept e)) (
+        stands-closed p h was c.args.pid c.args.fd c.in-Some.file found c.take_out.new.self t.processes t.next,
+        λ end. subst (λ w. Settles w end) closed,
+      )
+
+pub invariant_of-places-2 : goal.invariant_of-places-2
+invariant_of-places-2 c = (lost c).0.0
+
+pub invariant_of-self-2 : goal.invariant_of-self-2
+invariant_of-self-2 c = (lost c).0.1
+
+pub returns-clause-settles : goal.returns-clause-settles
+returns-clause-settles c = λ _ end s.
+    let back = seen-world c.self.inside.parts c.places.inside _ c.places.view_is c.self.view_is in
+    subst (λ (w : World). Settles (uninstall w c.args.pid c.args.fd) end) (sym back) ((lost c).1 end s)

@@ -1,0 +1,93 @@
+use Rattle.std.proofs.Common.{rules, ◌≡◌, ◌-◌, ◌++◌, ◌∷◌, [], ℕ, Bool, true, false, List, length, arith, refl, sym, ap, ◌∙◌, subst, cond, nat_eq}
+use Rattle.std.specs.Prelude.{Some, is_some, vec_capacity}
+use Rattle.std.specs.FinMap as map
+use Rattle.std.specs.Option.{option_and_then, option_map_or}
+use Rattle.std.proofs.lemmas.List.Sums.{sum_by-append}
+use Rattle.af_base.specs.Counts.{count_in, one}
+use Rattle.af_base.specs.World.{Map}
+use Rattle.af_base.proofs.PlacesAndCounts.{count-cons}
+use Rattle.af_ledger.specs.Counted.{IsCounted, places_in}
+use Rattle.af_ledger.specs.Tally.{AreUnreferenced, count_in_map}
+use Rattle.af_ledger.specs.declared.place.Place.TheVariants.{Table}
+use Rattle.af_ledger.proofs.Unreferenced.{lowered-kept, lowered-pushed}
+use Rattle.af_mark.specs.Grey.{AreGrey}
+use Rattle.af_mark.specs.MarksView.{is_grey_color}
+use Rattle.af_mark.specs.declared.color.Color.{Color}
+use Rattle.af_desc.specs.FilesView.{FilesInvariant, FilesView, name_of, without, without_file_ref}
+use Rattle.af_desc.proofs.Embryos.{counted-fewer}
+use Rattle.af_desc.proofs.FileNames.{named-gone}
+use Rattle.af_desc.proofs.FilesInvariant.{filed-counted, filed-removed, seen, seen-without}
+use Rattle.af_desc.proofs.Whites.{white-gone}
+use Rattle.af_desc.proofs.files.Files.drop_descriptor.Goals.{After-sub_descriptor}
+use Rattle.af_desc.proofs.files.Files.drop_descriptor.Goals as goal
+
+-- Where the list of grey files is empty, none is grey.
+none-grey : (colors : Map Color) (fs : List ℕ) (f : ℕ) → length fs ≡ 0 → AreGrey colors fs → option_map_or is_grey_color (map.get colors f) false ≡ false
+none-grey colors fs f none h = by (option_map_or is_grey_color (map.get colors f) false) (sym (h f) ∙ ap (count_in f) (empty fs none)) where
+  empty : (fs : List ℕ) → length fs ≡ 0 → fs ≡ []
+  empty [] e = refl
+  empty (g ∷ gs) e = absurd (omega (arith, e))
+
+  by : (b : Bool) → cond {A = ℕ} b 1 0 ≡ 0 → b ≡ false
+  by true e = absurd (omega (arith, e))
+  by false e = refl
+
+-- Without its last element the list is the one before.
+struck-last : (fs : List ℕ) (k f : ℕ) → count_in f fs ≡ count_in f (fs ++ k ∷ []) - one f k
+struck-last fs k f = let more = sum_by-append (one f) fs (k ∷ []) in let last = count-cons f k [] in omega (arith, more, last)
+
+-- The file had the place that it loses.
+counted : (c : After-sub_descriptor) → IsCounted Table (count_in_map c.self.inside.rows.counts c.args.file.now)
+counted c = subst (λ (v : FilesView). IsCounted Table (count_in_map v.counts c.args.file.now)) (sym c.self.view_is) c.requires
+
+-- Where it was the last, the file may be listed as unreferenced.
+listed : (c : After-sub_descriptor) → nat_eq (places_in (count_in_map c.self.inside.rows.counts c.args.file.now)) 1 ≡ true → FilesInvariant c.sub_descriptor.new.self (c.self.inside.unreferenced.items ++ c.args.file.now ∷ []) (vec_capacity c.self.inside.unreferenced) c.self.inside.names c.self.inside.next c.self.inside.epoch c.self.inside.grey.items (vec_capacity c.self.inside.grey) c.self.inside.embryos c.self.inside.bound c.self.inside.white
+listed c last =
+    let a = c.self.inside in
+    let one = c.sub_descriptor.ensures in
+    filed-counted a.rows _ _ _ _ _ _ _ _ c.self.invariant _ _ _ one.counts (lowered-pushed a.rows.counts _ a.unreferenced.items c.args.file.now c.self.invariant.unreferenced_listed Table refl (counted c) last).0 one.len (omega arith) _ (counted-fewer a.rows.counts c.args.file.now Table a.embryos a.embryos refl (counted c) c.self.invariant.backlogged)
+
+pub invariant_of-self : goal.invariant_of-self
+invariant_of-self c =
+    let a = c.self.inside in
+    let had = counted (goal.at.invariant_of-self c).After-sub_descriptor in
+    let one = c.sub_descriptor.ensures in
+    filed-counted a.rows _ _ _ _ _ _ _ _ c.self.invariant _ a.unreferenced.items (vec_capacity a.unreferenced) one.counts (lowered-kept a.rows.counts _ a.unreferenced.items c.args.file.now c.self.invariant.unreferenced_listed Table refl had (sym one.last ∙ ap is_some c.in_default.is)) one.len (omega arith) _ (counted-fewer a.rows.counts c.args.file.now Table a.embryos a.embryos refl had c.self.invariant.backlogged)
+
+pub push_reserved-requires : goal.push_reserved-requires
+push_reserved-requires c =
+    let a = c.self.inside in
+    let one = c.sub_descriptor.ensures in
+    let low = (lowered-pushed a.rows.counts _ a.unreferenced.items c.args.file.now c.self.invariant.unreferenced_listed Table (ap (λ r. r.counts) one.counts) (counted (goal.at.push_reserved-requires c).After-sub_descriptor) (sym one.last ∙ ap is_some c.in-Some.is)).1 in
+    let fits = c.self.invariant.fits in
+    omega (arith, low, fits, one.len, a.unreferenced.ok.0)
+
+pub invariant_of-self-2 : goal.invariant_of-self-2
+invariant_of-self-2 c =
+    let a = c.self.inside in
+    let had = counted (goal.at.invariant_of-self-2 c).After-sub_descriptor in
+    let one = c.sub_descriptor.ensures in
+    let pushed = (lowered-pushed a.rows.counts _ a.unreferenced.items c.args.file.now c.self.invariant.unreferenced_listed Table refl had (sym one.last ∙ ap is_some c.in-Some.is)).0 in
+    let items : c.push_reserved.new.self.items ≡ a.unreferenced.items ++ c.args.file.now ∷ [] = search rules in
+    filed-counted a.rows _ _ _ _ _ _ _ _ c.self.invariant _ c.push_reserved.new.self.items (vec_capacity c.push_reserved.new.self) one.counts (subst (AreUnreferenced _) (sym items) pushed) one.len (omega (arith, c.push_reserved.ensures.capacity)) _ (counted-fewer a.rows.counts c.args.file.now Table a.embryos a.embryos refl had c.self.invariant.backlogged)
+
+pub invariant_of-self-then-is_empty : goal.invariant_of-self-then-is_empty
+invariant_of-self-then-is_empty c =
+    let a = c.self.inside in
+    let k = c.args.file.now in
+    let one = c.sub_descriptor.ensures in
+    let rows = c.sub_descriptor.new.self in
+    let h = listed (goal.at.invariant_of-self-then-is_empty c).After-sub_descriptor (sym one.last ∙ ap is_some c.in-Some.is) in
+    let none : length a.grey.items ≡ 0 = search rules in
+    let plain = ap (λ r. map.get r.files k) one.counts ∙ one.plain (c.in-Some.is ∙ ap Some c.if-plain.true) in
+    let few = (white-gone rows.marks rows.marks a.epoch a.bound a.next a.white h.whites k k _ _ refl refl refl).1 in
+    filed-removed rows c.remove.new.self _ _ _ _ _ _ _ h k a.names a.unreferenced.items (vec_capacity a.unreferenced) c.remove.ensures.removed c.remove.ensures.space
+    (named-gone a.names rows.files h.named k (ap (option_and_then name_of) plain)) (struck-last a.unreferenced.items k) (omega arith) (none-grey _ a.grey.items k none h.listed.1) a.white (omega (arith, few))
+
+pub returns-then-is_empty-clause-removed : goal.returns-then-is_empty-clause-removed
+returns-then-is_empty-clause-removed c = λ _.
+    let a = c.self.inside in
+    let k = c.args.file.now in
+    let rows = c.sub_descriptor.new.self in
+    ap (λ r. seen a.epoch a.bound r a.next) c.remove.ensures.removed ∙ seen-without a.epoch a.bound rows a.next c.remove.new.self.room c.remove.new.self.space k
+    ∙ ap (λ r. without k (seen a.epoch a.bound r a.next)) c.sub_descriptor.ensures.counts ∙ ap (λ (v : FilesView). without k (without_file_ref Table k v)) c.self.view_is
