@@ -1,6 +1,6 @@
 //! Changes of the references of single descriptors and messages. Each is one change of the world,
 //! and keeps the counts in step with it. An unreferenced file stays, with all that it holds, until
-//! `release` frees it.
+//! `release` frees it; only `close` may remove a file that holds nothing at once.
 ghost use Rattle.std.specs.Prelude.{◌≡◌, ◌<◌, ◌≤◌, ◌+◌, ◌∷◌, ◌^◌, [], ℕ, None, IsTrue, IfOk};
 ghost use Rattle.std.specs.Prelude.{IfSome, OnOk, OnErr, length, map, drop, false, is_none, is_some};
 ghost use Rattle.std.specs.Prelude.{Some, true};
@@ -119,7 +119,8 @@ impl Store {
     }
 
     /// Closes a descriptor of a process, if it is open, and frees the files that are unreferenced
-    /// then: `close_at` and `release`. Returns whether it was open. Takes no memory.
+    /// then (close(2)): `close_at` and `release`, by one look at a plain file that is closed for
+    /// the last time. Returns whether the descriptor was open. Takes no memory.
     #[inline(always)]
     pub fn close(&mut self, pid: Pid, fd: Fd) -> bool
         ensures open { result ≡ is_some (table_at self.old.world pid fd) }
@@ -140,8 +141,8 @@ impl Store {
         true
     }
 
-    /// Closes a descriptor of a process, if it is open, and frees its file, if one look tells that
-    /// the file holds nothing. Returns whether it was open.
+    /// Closes a descriptor of a process, if it is open, and may remove its file at once, if that
+    /// holds nothing. Returns whether the descriptor was open. Takes no memory.
     #[inline(always)]
     fn close_and_free(&mut self, pid: Pid, fd: Fd) -> bool
         ensures open { result ≡ is_some (table_at self.old.world pid fd) }

@@ -1,4 +1,4 @@
-use Rattle.std.proofs.Common.{◌∙◌, ◌≡◌, Bool, true, false, ap, refl, sym, subst}
+use Rattle.std.proofs.Common.{◌∙◌, ◌≡◌, Bool, true, false, refl, sym, subst}
 use Rattle.af_base.specs.Changes.{uninstall}
 use Rattle.af_base.specs.Unheld.{Settles}
 use Rattle.af_base.specs.World.{World}
