@@ -1,13 +1,16 @@
 -- A process that is lent, and written back.
-use Rattle.std.proofs.Common.{◌≡◌, ℕ, refl, sym, ap, ◌∙◌}
+use Rattle.std.proofs.Common.{◌≡◌, ℕ, refl, sym, ap, ◌∙◌, subst}
 use Rattle.std.specs.Prelude.{Err, Ok, OnErr, Result, Some}
 use Rattle.std.specs.Option.{option_map_or}
 use Rattle.std.specs.FinMap as map
 use Rattle.af_base.specs.World.{Map, Process}
 use Rattle.af_base.specs.Changes.{change_at}
 use Rattle.af_base.proofs.Trees.{insert_same}
+use Rattle.af_desc.specs.FilesView.{FilesView}
 use Rattle.af_ledger.specs.Tally.{kept_of}
+use Rattle.af_table.specs.Lending.{with_process}
 use Rattle.af_table.specs.Procs.{Procs}
+use Rattle.af_table.specs.Slots.{ProcessView}
 use Rattle.af_collect.proofs.Exact.{world-is}
 use Rattle.af_collect.proofs.StoreInvariant.{BothInvariants, both-same, shown}
 use Rattle.af_collect.specs.HoldingsView.{world_of}
@@ -39,3 +42,18 @@ module _ (p : Collector) (h : Inside) (procs : Procs) (processes : procs.process
 pub at-error : {T E : Type 0} {P : Type 0} (r : Result T E) → P → OnErr r P
 at-error (Ok t) holds = tt
 at-error (Err e) holds = holds
+
+module _ (p : Collector) (h : Inside) (pid : ℕ) (q : ProcessView) (at : map.get h.procs.processes pid ≡ Some q.process) (fs : FilesView) (files : fs ≡ h.files) where
+  abbrev lent : Procs
+  lent = with_process h.procs pid q
+
+  back : lent.processes ≡ h.procs.processes
+  back = back-same h.procs.processes pid q.process q.process at refl
+
+  -- Where it is written back as it was, and no file changes, the invariants hold as before.
+  pub stands-lent : BothInvariants p h.procs h.files h.ledger → BothInvariants p lent fs h.ledger
+  stands-lent was = subst (λ f. BothInvariants p lent f h.ledger) (sym files) (stands-same p h lent back refl was)
+
+  -- And an error tells a caller of no change, but for the room in tables.
+  pub error-lent : {T E : Type 0} (r : Result T E) (o : StoreView) → the_view h ≡ p.places → shown p p.places ≡ o → OnErr r (shown p (the_view (record h { procs = lent; files = fs })) ≡ record o { rows = lent.rows })
+  error-lent r o opened is = at-error r (ap (λ f. shown p (the_view (record h { procs = lent; files = f }))) files ∙ seen-same p h lent back refl o opened is)

@@ -30,7 +30,7 @@ use Rattle.af_ledger.specs.Tally.{Tally, count_in_map, kept_of, with_ref, with_r
 use Rattle.af_ledger.specs.declared.count.Count.{Count}
 use Rattle.af_ledger.specs.declared.place.Place.{Place}
 use Rattle.af_ledger.specs.declared.place.Place.TheVariants.{Backlog, Table}
-use Rattle.af_desc.specs.FilesView.{changed, entered, paired}
+use Rattle.af_desc.specs.FilesView.{FilesView, changed, entered, paired}
 use Rattle.af_mark.specs.MarksView.{born, is_marked}
 use Rattle.af_table.specs.Procs.{Procs}
 use Rattle.af_collect.specs.Agreement.{IsExact}
@@ -40,6 +40,7 @@ use Rattle.af_collect.proofs.Exact.{exact-install, exact-install_all, exact-pair
 use Rattle.af_collect.proofs.ProcessTables.{insert_twice}
 use Rattle.af_collect.proofs.Sends.{is-socket}
 use Rattle.af_collect.specs.Keeping.{below}
+use Rattle.af_collect.specs.StoreView.{StoreView}
 use Rattle.af_collect.proofs.NewFilePlaces.{below-add_file}
 use Rattle.af_collect.proofs.TablePlaces.{covers_install, covers_install_lowest, moves_install, moves_install_files}
 use Rattle.af_collect.proofs.SocketChanges.{covers_queued, covers_same, moves_queued, moves_same}
@@ -47,12 +48,20 @@ use Rattle.af_collect.specs.contracts.holdings.Holdings.{the_view}
 use Rattle.af_collect.specs.declared.holdings.Holdings.TheInside.{Inside}
 use Rattle.af_collect.specs.declared.parts.Collector.{Collector}
 use Rattle.af_collect.proofs.PlaceChanges.{kept_made, kept_socket, kept_tables, made_spared}
-use Rattle.af_collect.proofs.StoreInvariant.{BothInvariants, both-same}
+use Rattle.af_collect.proofs.StoreInvariant.{BothInvariants, both-same, seen-world, shown}
 
 -- The needs of a connect: room for a file, a client that was never connected, and a listener with
 -- room for an embryo (connect(2)).
 abbrev pub Connects : World → ℕ → ℕ → Type 0
 Connects w s l = (is_full w 1 ≡ false) × (is_none (socket_at w s) ≡ false) × IfSome (socket_at w s) (λ x. x.state ≡ state.Idle) × (is_none (socket_at w l) ≡ false) × IfSome (socket_at w l) (λ x. length x.backlog < room_of x.state)
+
+-- The needs of a new file: room for it, a process, and a free descriptor below its limit (open(2)).
+abbrev pub Opens : World → ℕ → ℕ → Type 0
+Opens w pid fd = (is_full w 1 ≡ false) × IsTrue (map.contains_key w.processes pid) × IsBelowLimit w pid fd × (table_at w pid fd ≡ None)
+
+-- The needs of two: room for both, a process, and its two lowest free descriptors (socketpair(2)).
+abbrev pub Pairs : World → ℕ → ℕ → ℕ → Type 0
+Pairs w pid lower higher = (is_full w 2 ≡ false) × IsTrue (map.contains_key w.processes pid) × (lower ∷ higher ∷ [] ≡ lowest_free 2 (process_at w pid))
 
 -- One of two is the first or the second.
 of_two : (a b f : ℕ) → Contains (a ∷ b ∷ []) f → (f ≡ a) ⊎ (f ≡ b)
@@ -110,27 +119,31 @@ module _ (p : Collector) (h : Inside) (was : BothInvariants p h.procs h.files h.
   begun = p.begun.value.world
 
   -- A file more, which holds nothing, at a free number.
-  pub stands-made : (x : File) → contents x ≡ [] → IsExact (add_file w x) (record k { counts = map.insert k.counts n uncounted }) → (pid fd : ℕ) → IsTrue (map.contains_key w.processes pid) → IsBelowLimit w pid fd → table_at w pid fd ≡ None
-      → (procs : Procs) (f : ℕ) → procs.processes ≡ change_at (installed fd f) h.procs.processes pid → procs.next_pid ≡ h.procs.next_pid → f ≡ n → BothInvariants p procs (entered Table x h.files) h.ledger
-  stands-made x empty exact pid fd there limit free procs f processes next is =
+  pub stands-made : (o : StoreView) → the_view h ≡ p.places → shown p p.places ≡ o → (pid fd : ℕ) → Opens o.world pid fd → (x : File) → contents x ≡ [] → (is_full w 1 ≡ false → IsExact w k → IsExact (add_file w x) (record k { counts = map.insert k.counts n uncounted }))
+      → (procs : Procs) (f : ℕ) → procs.processes ≡ change_at (installed fd f) h.procs.processes pid → procs.next_pid ≡ h.procs.next_pid → f ≡ n → (fs : FilesView) → fs ≡ entered Table x h.files → BothInvariants p procs fs h.ledger
+  stands-made o opened seen pid fd needs x empty exact procs f processes next is fs files =
       let v = add_file w x in
       let q = process_at w pid in
-      let at = process-there w pid (ap not there) in
+      let asked : Opens w pid fd = subst (λ u. Opens u pid fd) (seen-world p h o opened seen) needs in
+      let at = process-there w pid (ap not asked.1) in
       let made : Tally = record k { counts = map.insert k.counts n uncounted } in
-      both-same _ (install v pid fd n) _ (with_ref Table n made) _ (born n h.files.marks)
+      let known = exact asked.0 was.0 in
+      subst (λ u. BothInvariants p procs u h.ledger) (sym files)
+      (both-same _ (install v pid fd n) _ (with_ref Table n made) _ (born n h.files.marks)
       (world-is _ _ (processes ∙ ap (λ g. change_at (installed fd g) h.procs.processes pid) is) refl refl next refl) (ap (λ m. kept_of m h.ledger) (entered-held Table h.files.counts n)) refl
-      (exact-install v pid fd n q made at (sym (there-table w pid fd q at) ∙ free) (below-most v pid fd q exact.within at (limit q at)) (ap is_some (insert-here w.files n x)) exact)
-      (kept_tables (install v pid fd n) refl refl (λ e. moves_install begun v pid fd n (made_spared was.1 e n (omega arith))) (λ _. covers_install begun v pid fd n (is_marked (born n h.files.marks)) (below p.progress.visited) free)
-      (kept_made x empty was.0.whole.files_numbered was.1))
+      (exact-install v pid fd n q made at (sym (there-table w pid fd q at) ∙ asked.3) (below-most v pid fd q known.within at (asked.2 q at)) (ap is_some (insert-here w.files n x)) known)
+      (kept_tables (install v pid fd n) refl refl (λ e. moves_install begun v pid fd n (made_spared was.1 e n (omega arith))) (λ _. covers_install begun v pid fd n (is_marked (born n h.files.marks)) (below p.progress.visited) asked.3)
+      (kept_made x empty was.0.whole.files_numbered was.1)))
 
   -- Two sockets more, connected to each other, at the two lowest free numbers.
-  pub stands-pair : (kind : SockType) → is_full w 2 ≡ false → (pid lower higher : ℕ) → IsTrue (map.contains_key w.processes pid) → lower ∷ higher ∷ [] ≡ lowest_free 2 (process_at w pid)
-      → (procs : Procs) → procs.processes ≡ (install (install w pid lower n) pid higher (n + 1)).processes → procs.next_pid ≡ h.procs.next_pid → BothInvariants p procs (paired Table kind h.files) h.ledger
-  stands-pair kind fits pid lower higher there lowest procs processes next =
+  pub stands-pair : (o : StoreView) → the_view h ≡ p.places → shown p p.places ≡ o → (kind : SockType) (pid lower higher : ℕ) → Pairs o.world pid lower higher
+      → (procs : Procs) → procs.processes ≡ (install (install w pid lower n) pid higher (n + 1)).processes → procs.next_pid ≡ h.procs.next_pid → (files : FilesView) → files ≡ paired Table kind h.files → BothInvariants p procs files h.ledger
+  stands-pair o opened seen kind pid lower higher needs procs processes next files is =
       let v = with_pair w kind in
       let ns = lower ∷ higher ∷ [] in
       let fs = n ∷ (n + 1) ∷ [] in
       let q = process_at w pid in
+      let asked : Pairs w pid lower higher = subst (λ u. Pairs u pid lower higher) (seen-world p h o opened seen) needs in
       let one = AsSocket (connected_socket kind (n + 1)) in
       let two = AsSocket (connected_socket kind n) in
       let made : Tally = record k { counts = map.insert (map.insert k.counts n uncounted) (n + 1) uncounted } in
@@ -141,11 +154,12 @@ module _ (p : Collector) (h : Inside) (was : BothInvariants p h.procs h.files h.
       let first : IsLive v n = ap is_some (insert-other (add_file w one).files (n + 1) two n apart ∙ insert-here w.files n one) in
       let live : (f : ℕ) → Contains fs f → IsLive v f = λ f c. elim (of_two n (n + 1) f c) [ inl e ↦ subst (IsLive v) (sym e) first | inr e ↦ subst (IsLive v) (sym e) last ] in
       let later : (f : ℕ) → Contains fs f → n ≤ f = λ f c. elim (of_two n (n + 1) f c) [ inl e ↦ omega (arith, e) | inr e ↦ omega (arith, e) ] in
-      both-same _ (install_all v pid (zip ns fs)) _ (with_refs Table fs made) _ (born (n + 1) (born n h.files.marks))
+      subst (λ u. BothInvariants p procs u h.ledger) (sym is)
+      (both-same _ (install_all v pid (zip ns fs)) _ (with_refs Table fs made) _ (born (n + 1) (born n h.files.marks))
       (world-is _ _ processes refl refl next refl) (ap (λ m. kept_of m h.ledger) (pair-held Table h.files.counts n (n + 1) apart other)) refl
-      (exact-install_all v pid q ns fs made (process-there w pid (ap not there)) (subst (AreFree q) (sym lowest) (free-lowest_free 2 q)) live (exact-pair w kind k fits was.0))
-      (kept_tables (install_all v pid (zip ns fs)) refl refl (λ e. moves_install_files begun v pid ns fs (λ f c. made_spared was.1 e f (later f c))) (λ _. covers_install_lowest begun v pid ns fs (is_marked (born (n + 1) (born n h.files.marks))) (below p.progress.visited) there (2, lowest))
-      (kept_made two refl (below-add_file w one numbered) (kept_made one refl numbered was.1)))
+      (exact-install_all v pid q ns fs made (process-there w pid (ap not asked.1)) (subst (AreFree q) (sym asked.2) (free-lowest_free 2 q)) live (exact-pair w kind k asked.0 was.0))
+      (kept_tables (install_all v pid (zip ns fs)) refl refl (λ e. moves_install_files begun v pid ns fs (λ f c. made_spared was.1 e f (later f c))) (λ _. covers_install_lowest begun v pid ns fs (is_marked (born (n + 1) (born n h.files.marks))) (below p.progress.visited) asked.1 (2, asked.2))
+      (kept_made two refl (below-add_file w one numbered) (kept_made one refl numbered was.1))))
 
   -- A socket that was never connected has no room for embryos.
   no_room : (o : Option Socket) → is_none o ≡ false → IfSome o (λ x. x.state ≡ state.Idle) → ¬ (IfSome o (λ x. length x.backlog < room_of x.state))

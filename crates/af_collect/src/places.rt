@@ -92,8 +92,7 @@ impl Store {
         ensures err { OnErr result (self.new ≡ record self.old { rows = self.new.rows }) }
     {
         let places = &mut self.parts.places;
-        let process = places.procs.find_mut(pid).unwrap();
-        process.make_room()?;
+        let process = places.procs.find_with_room(pid)?;
         let was = process.replace(fd, file.duplicate());
         drop_replaced(&self.parts.progress, &mut places.files, was);
         places.files.hold(&Place::Table, &file);

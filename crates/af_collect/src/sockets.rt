@@ -62,8 +62,7 @@ impl Store {
         ensures err { OnErr result (self.new ≡ record self.old { rows = self.new.rows }) }
     {
         let places = &mut self.parts.places;
-        let process = places.procs.find_mut(pid).unwrap();
-        process.make_room()?;
+        let process = places.procs.find_with_room(pid)?;
         let file = places.files.make_sock(kind, &Place::Table)?;
         process.install(fd, file);
         Ok(())

@@ -243,8 +243,7 @@ impl Store {
         ensures err { OnErr result (self.new ≡ record self.old { rows = self.new.rows }) }
     {
         let places = &mut self.parts.places;
-        let process = places.procs.find_mut(pid).unwrap();
-        process.make_room()?;
+        let process = places.procs.find_with_room(pid)?;
         let file = places.files.make_plain(&Place::Table)?;
         process.install(fd, file);
         Ok(())
@@ -302,8 +301,7 @@ impl Store {
         ensures err { OnErr result (self.new ≡ record self.old { rows = self.new.rows }) }
     {
         let places = &mut self.parts.places;
-        let process = places.procs.find_mut(pid).unwrap();
-        process.make_room()?;
+        let process = places.procs.find_with_room(pid)?;
         let (first, second) = places.files.make_two(kind, &Place::Table)?;
         process.install(lower, first);
         process.install(higher, second);

@@ -1,7 +1,7 @@
 -- The processes after a borrow of one ends. Definitions that name no manual page are of this
 -- project's profile (docs/PROFILE.md).
-use Rattle.std.specs.Prelude.{ℕ, Option}
-use Rattle.std.specs.Borrow.{Fml, LendsIf, MutBor}
+use Rattle.std.specs.Prelude.{ℕ, Option, Result}
+use Rattle.std.specs.Borrow.{Fml, LendsIf, LendsIfOk, MutBor}
 use Rattle.std.specs.FinMap as map
 use Rattle.af_table.specs.Procs.{Procs}
 use Rattle.af_table.specs.Slots.{ProcessView}
@@ -18,3 +18,7 @@ with_process s p v = record s {
 -- Once the borrow r ends, p is the last process written through r; at `None` all is as it was.
 abbrev pub lends_process : MutBor Procs → ℕ → Option (MutBor ProcessView) → Fml
 lends_process s p r = LendsIf procs.the_row process.the_row s r (with_process s.now p) s.now
+
+-- The same of a result; at an error all is as it was.
+abbrev pub lends_with_room : {E : Type 0} → MutBor Procs → ℕ → Result (MutBor ProcessView) E → Fml
+lends_with_room s p r = LendsIfOk procs.the_row process.the_row s r (with_process s.now p) s.now

@@ -45,7 +45,7 @@ impl Model for Procs {
 
 impl Procs {
     ghost use Rattle.std.specs.Borrow.{sem};
-    ghost use Rattle.af_table.specs.Lending.{lends_process};
+    ghost use Rattle.af_table.specs.Lending.{lends_process, lends_with_room};
 
     /// Makes an empty table of processes; pids begin at 1. Takes no memory.
     #[tactic(auto, using(crate::proofs::Parts::part_changes))]
@@ -102,6 +102,23 @@ impl Procs {
         let index = self.hints.find(&self.processes, pid)?;
         let (_, process) = self.processes.pair_mut(index);
         Some(process)
+    }
+
+    /// Lends a known process to write to, with room for each descriptor below its limit. On an error
+    /// nothing has changed.
+    #[inline(always)]
+    #[tactic(auto, using(crate::proofs::Parts::part_changes))]
+    pub fn find_with_room(&mut self, pid: Pid) -> Result<&mut Process, AllocError>
+        requires { IsTrue (map.contains_key self.old.processes pid) }
+        ensures* writes_back { sem 𝓛 (lends_with_room self.entry pid result) }
+        ensures there { IfOk result (λ p. map.get self.old.processes pid ≡ Some p.now.process) }
+        ensures room { IfOk result (λ p. p.now.process.limit ≤ p.now.row) }
+        ensures ready { (process_in self.old.processes pid).limit ≤ row_in self.old.rows pid
+            → IsOk result }
+    {
+        let process = self.find_mut(pid).unwrap();
+        process.make_room()?;
+        Ok(process)
     }
 
     /// Returns the user of the process, its limit on descriptors, and whether it is privileged, so
