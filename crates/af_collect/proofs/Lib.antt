@@ -12,6 +12,7 @@ pub mod PlainLists
 pub mod Sends
 pub mod Receives
 pub mod TableFills
+pub mod CountChanges
 pub mod ProcessTables
 pub mod ReplacedDescriptors
 pub mod ClosedDescriptors
@@ -44,6 +45,7 @@ pub mod LostFiles
 pub mod PlaceChanges
 pub mod NewFiles
 pub mod StoreInvariant
+pub mod ReceiveNeeds
 pub mod LentProcesses
 pub mod Replacements
 pub mod VisiblePass

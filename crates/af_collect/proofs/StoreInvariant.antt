@@ -1,12 +1,10 @@
 -- The invariant of a store: its counts are exact, and the invariant of the pass holds.
-use Rattle.std.proofs.Common.{◌≡◌, ℕ, Bool, List, false, ap, sym, ◌∙◌, subst}
-use Rattle.std.specs.Prelude.{Err, IsTrue, Ok, OnErr, OnOk, Result, is_none}
+use Rattle.std.proofs.Common.{◌≡◌, ℕ, Bool, ap, sym, ◌∙◌, subst}
+use Rattle.std.specs.Prelude.{Err, Ok, OnErr, OnOk, Result}
 use Rattle.std.specs.FinMap as map
 use Rattle.af_base.specs.World.{AsSocket, Socket, World}
 use Rattle.af_base.specs.Changes.{with_socket}
 use Rattle.af_base.specs.Places.{contents}
-use Rattle.af_base.specs.Refusals.{process_at, socket_at}
-use Rattle.af_base.specs.Table.{lowest_free}
 use Rattle.af_desc.specs.FilesView.{FilesView, changed}
 use Rattle.af_ledger.specs.Tally.{LedgerView, Tally, kept_of}
 use Rattle.af_mark.specs.MarksView.{MarksView, is_marked}
@@ -71,7 +69,3 @@ seen-moved p h o f m b opened is = ap {A = HoldingsView} {B = StoreView} (λ t. 
 -- And a caller sees that world.
 pub seen-world : (p : Collector) (h : Inside) (o : StoreView) → the_view h ≡ p.places → shown p p.places ≡ o → o.world ≡ (the_view h).world
 seen-world p h o opened is = sym (ap (λ (t : HoldingsView). t.world) opened ∙ ap (λ (t : StoreView). t.world) is)
-
--- The requirements of a receive: a socket, a process, and its lowest free descriptors (recvmsg(2)).
-abbrev pub Receives : World → ℕ → ℕ → List ℕ → Type 0
-Receives w s p ns = (is_none (socket_at w s) ≡ false) × IsTrue (map.contains_key w.processes p) × ((k : ℕ) × (ns ≡ lowest_free k (process_at w p)))

@@ -1,22 +1,21 @@
 //! Changes of the references of single descriptors and messages. Each is one change of the world,
 //! and keeps the counts in step with it. An unreferenced file stays, with all that it holds, until
 //! `release` frees it; only `close` may remove a file that holds nothing at once.
-ghost use Rattle.std.specs.Prelude.{◌≡◌, ◌<◌, ◌≤◌, ◌+◌, ◌∷◌, ◌^◌, [], ℕ, None, IsTrue, IfOk};
-ghost use Rattle.std.specs.Prelude.{IfSome, OnOk, OnErr, length, map, drop, false, is_none, is_some};
+ghost use Rattle.std.specs.Prelude.{◌≡◌, ◌<◌, ◌≤◌, ◌+◌, ℕ, None, IsTrue, IfOk};
+ghost use Rattle.std.specs.Prelude.{IfSome, OnOk, OnErr, length, false, is_none, is_some};
 ghost use Rattle.std.specs.Prelude.{Some, true};
-ghost use Rattle.std.specs.List.{zip, All, Contains};
+ghost use Rattle.std.specs.List.{zip, Contains};
 ghost use Rattle.std.specs.FinMap as finmap;
 ghost use Rattle.af_base.specs.World as world;
 ghost use Rattle.af_base.specs.World.{World};
 ghost use Rattle.af_base.specs.Places.{queue_at, table_at};
 ghost use Rattle.af_base.specs.Changes.{install, install_all, push_message, uninstall, with_queue};
 ghost use Rattle.af_base.specs.Counts.{total};
-ghost use Rattle.af_base.specs.Refusals.{process_at, socket_at};
-ghost use Rattle.af_base.specs.Table.{lowest_free};
+ghost use Rattle.af_base.specs.Refusals.{socket_at};
 ghost use Rattle.af_base.specs.Unheld.{Settles};
 ghost use Rattle.af_base.specs.Whole.{IsMessageWithin, IsSound};
 ghost use Rattle.af_collect.specs.Limits.{IsBelowLimit, IsOfProcess};
-ghost use Rattle.af_collect.specs.Receiving.{taken_at};
+ghost use Rattle.af_collect.specs.Receiving.{CanReceive, taken_at};
 ghost use Rattle.af_collect.specs.Keeping.{NotBegunGarbage};
 ghost use Rattle.af_collect.specs.Losing.{vacated, without_descriptor};
 ghost use Rattle.af_collect.specs.StoreView.{room_at};
@@ -209,12 +208,7 @@ impl Store {
         pid: Pid,
         fds: &[Fd],
     ) -> Result<Taken, AllocError>
-        requires some { 0 < max }
-        requires spared { NotBegunGarbage self.old.pass socket.now }
-        requires socket { is_none (socket_at self.old.world socket.now) ≡ false }
-        requires there { IsTrue (finmap.contains_key self.old.world.processes pid) }
-        requires free { (k : ℕ) × (fds.now ≡ lowest_free k (process_at self.old.world pid)) }
-        requires row { All (λ n. n < room_at self.old pid) fds.now }
+        requires { CanReceive self.old socket.now max pid fds.now }
         ensures taken { IfOk result (λ t.
             t ≡ received_of (socket_at self.old.world socket.now) max) }
         ensures world { OnOk result (self.new ≡ record self.old {
@@ -251,12 +245,7 @@ impl Store {
         pid: Pid,
         fds: &[Fd],
     ) -> Result<Taken, AllocError>
-        requires some { 0 < max }
-        requires spared { NotBegunGarbage self.old.pass socket.now }
-        requires socket { is_none (socket_at self.old.world socket.now) ≡ false }
-        requires there { IsTrue (finmap.contains_key self.old.world.processes pid) }
-        requires free { (k : ℕ) × (fds.now ≡ lowest_free k (process_at self.old.world pid)) }
-        requires row { All (λ n. n < room_at self.old pid) fds.now }
+        requires { CanReceive self.old socket.now max pid fds.now }
         ensures seen { IfOk result (λ t.
             t ≡ received_of (socket_at self.old.world socket.now) max) }
         ensures world { OnOk result (self.new ≡ record self.old {

@@ -17,7 +17,6 @@ use af_table::{Process, Procs};
 
 /// Installs files at these descriptors of a process, in order, as long as there are both. Each
 /// descriptor has room, and each file has counts.
-#[inline(always)]
 pub fn table_in_all(
     procs: &mut Procs,
     files: &mut Files,
@@ -25,26 +24,6 @@ pub fn table_in_all(
     fds: &[Fd],
     attached: &[FileRef],
 )
-    requires row { All (λ n. n < row_in procs.old.rows pid) fds.now }
-    requires known { (f : ℕ) → Contains attached.now f
-        → IsTrue (map.contains_key files.old.counts f) }
-    requires fits { (f : ℕ)
-        → (count_in_map files.old.counts f).tabled + length attached.now < 2 ^ 31 }
-    ensures processes { procs.new.processes
-        ≡ filled procs.old.processes pid (zip fds.now attached.now) }
-    ensures rows { procs.new.rows ≡ procs.old.rows }
-    ensures next { procs.new.next_pid ≡ procs.old.next_pid }
-    ensures kept { (c : LedgerView) → kept_of files.new.counts c ≡ with_refs Place.Table
-        (mapped (λ e. e.1) (zip fds.now attached.now)) (kept_of files.old.counts c) }
-    ensures rest { files.new ≡ record files.old { counts = files.new.counts } }
-{
-    if !fds.is_empty() {
-        table_in_each(procs, files, pid, fds, attached);
-    }
-}
-
-/// Installs these files likewise, in a function that a receive without files does not call.
-fn table_in_each(procs: &mut Procs, files: &mut Files, pid: Pid, fds: &[Fd], attached: &[FileRef])
     requires row { All (λ n. n < row_in procs.old.rows pid) fds.now }
     requires known { (f : ℕ) → Contains attached.now f
         → IsTrue (map.contains_key files.old.counts f) }

@@ -1,11 +1,10 @@
-use Rattle.std.proofs.Common.{◌≡◌, arith, take, sym, ap, ◌∙◌, subst}
+use Rattle.std.proofs.Common.{arith, sym, ap, ◌∙◌, subst}
 use Rattle.std.specs.FinMap as map
-use Rattle.std.proofs.lemmas.List.{take_all}
-use Rattle.af_desc.specs.FilesView.{FilesView}
 use Rattle.af_ledger.specs.Counted.{IsCounted, fewer}
 use Rattle.af_ledger.specs.Tally.{Tally, count_in_map, kept_of, without_refs}
 use Rattle.af_ledger.specs.declared.place.Place.TheVariants.{Queue}
 use Rattle.af_ledger.proofs.ManyPlaces.{freed-dropped_all, dropped-more, drop-next}
+use Rattle.af_collect.proofs.CountChanges.{changed-all, counts-alone}
 use Rattle.af_collect.proofs.messages.uncharge_message.Goals as goal
 
 pub drop_one-requires : goal.drop_one-requires
@@ -13,23 +12,18 @@ drop_one-requires c = subst (λ m. IsCounted (Queue c.args.user) (count_in_map m
 
 pub loop-file-preserved : goal.loop-file-preserved
 loop-file-preserved c =
-    let k = kept_of c.args.files.now.counts c.args.ledger.now in
     let f = c.file-item.result in
-    let one = c.drop_one.ensures in
     let before = c.loop-file.invariant in
     record {
-      counts = ap (λ v. v.counts) one ∙ ap (λ m. map.insert m f (fewer (Queue c.args.user) (count_in_map m f))) before.counts
-          ∙ ap (λ (l : Tally). l.counts) (sym (dropped-more (Queue c.args.user) c.args.attached.now c.loop-file.file-index f k c.loop-file-test.true c.file-item.is));
-      rest = one ∙ ap {A = FilesView} {B = FilesView} (λ v. record v { counts = map.insert c.loop-file.files.counts f (fewer (Queue c.args.user) (count_in_map c.loop-file.files.counts f)) }) before.rest
-          ∙ ap {B = FilesView} (λ m. record c.args.files.now { counts = m }) (sym (ap (λ v. v.counts) one));
+      counts = ap (λ v. v.counts) c.drop_one.ensures ∙ ap (λ m. map.insert m f (fewer (Queue c.args.user) (count_in_map m f))) before.counts
+          ∙ ap (λ (l : Tally). l.counts) (sym (dropped-more (Queue c.args.user) c.args.attached.now c.loop-file.file-index f (kept_of c.args.files.now.counts c.args.ledger.now) c.loop-file-test.true c.file-item.is));
+      rest = counts-alone c.args.files.now _ _ _ c.drop_one.ensures before.rest;
     }
 
 pub returns : goal.returns
 returns c =
     let k = kept_of c.args.files.now.counts c.args.ledger.now in
-    let all : take c.loop-file.file-index c.args.attached.now ≡ c.args.attached.now = take_all c.loop-file.file-index c.args.attached.now (omega (arith, c.loop-file-test.false)) in
     record {
-      kept = ap {B = Tally} (λ m. kept_of m c.uncharge.new.self) c.loop-file.invariant.counts ∙ ap {B = Tally} (λ fs. kept_of (without_refs (Queue c.args.user) fs k).counts c.uncharge.new.self) all
-          ∙ ap {B = Tally} (kept_of (without_refs (Queue c.args.user) c.args.attached.now k).counts) c.uncharge.ensures ∙ freed-dropped_all c.args.user c.args.attached.now k;
+      kept = changed-all (without_refs (Queue c.args.user)) c.args.attached.now c.loop-file.file-index k _ _ _ (omega (arith, c.loop-file-test.false)) c.loop-file.invariant.counts c.uncharge.ensures (freed-dropped_all c.args.user c.args.attached.now k);
       rest = c.loop-file.invariant.rest;
     }

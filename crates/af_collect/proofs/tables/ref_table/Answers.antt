@@ -1,8 +1,8 @@
-use Rattle.std.proofs.Common.{◌≡◌, ◌<◌, ◌+◌, length, refl, sym, ap, subst, ◌∙◌, arith}
+use Rattle.std.proofs.Common.{◌≡◌, ◌+◌, length, refl, sym, ap, subst, ◌∙◌, arith}
 use Rattle.std.specs.FinMap as map
 use Rattle.std.proofs.lemmas.Option.{slice_get_read}
-use Rattle.af_desc.specs.FilesView.{FilesView}
 use Rattle.af_ledger.specs.Tally.{kept_of}
+use Rattle.af_collect.proofs.CountChanges.{counts-alone}
 use Rattle.af_collect.proofs.ProcessTables.{Joining, joining-done, joining-fits, joining-held, joining-more, joining-none, joining-past}
 use Rattle.af_collect.proofs.tables.ref_table.Goals as goal
 
@@ -39,7 +39,7 @@ loop-file-preserved c =
     let is = ap (map.get c.args.process.now.process.table) here ∙ c.run_from-front.ensures.«open» c.loop-file.file-index c.loop-file-test.true ∙ slice_get_read _ _ _ _ refl c.loop-file-test.true c.file-item.is in
     record {
       joining = λ w ch joins. subst (Joining w q _) (sym (ap (λ v. kept_of v.counts ch) one)) (joining-more w q c.loop-file.file-index (kept_of c.loop-file.files.counts ch) (c.loop-file.invariant.joining w ch joins) (kept_of c.args.files.now.counts ch) joins c.file-item.result is);
-      rest = one ∙ ap {B = FilesView} (λ x. record c.loop-file.files { counts = x }) (sym (ap (λ v. v.counts) one)) ∙ ap {A = FilesView} {B = FilesView} (λ v. record v { counts = c.hold_again.new.self.counts }) c.loop-file.invariant.rest;
+      rest = counts-alone c.args.files.now _ _ _ one c.loop-file.invariant.rest;
     }
 
 pub loop-fd-init : goal.loop-fd-init
@@ -79,7 +79,7 @@ loop-fd-preserved c =
       joining = λ w ch joins.
           let part = joining-past w q c.loop-fd.from (kept_of c.loop-fd.files.counts ch) (c.loop-fd.invariant.joining w ch joins) _ e.reached e.least in
           subst (λ n. Joining w q (n + 1) (kept_of c.hold_again-in-Some.new.self.counts ch)) (sym c.fd.view_is) (subst (Joining w q _) (sym (ap (λ v. kept_of v.counts ch) one)) (joining-more w q _ (kept_of c.loop-fd.files.counts ch) part (kept_of c.args.files.now.counts ch) joins _ e.«open»));
-      rest = one ∙ ap {B = FilesView} (λ x. record c.loop-fd.files { counts = x }) (sym (ap (λ v. v.counts) one)) ∙ ap {A = FilesView} {B = FilesView} (λ v. record v { counts = c.hold_again-in-Some.new.self.counts }) c.loop-fd.invariant.rest;
+      rest = counts-alone c.args.files.now _ _ _ one c.loop-fd.invariant.rest;
       low = omega (arith, e.low, c.fd.view_is);
     }
 

@@ -1,34 +1,24 @@
-use Rattle.std.proofs.Common.{◌∙◌, ◌≡◌, ap, arith, false, refl, subst, sym}
-use Rattle.std.specs.List.{Contains, zip}
-use Rattle.std.specs.Prelude.{is_none}
+use Rattle.std.proofs.Common.{◌∙◌, ◌≡◌, ap, refl, sym}
+use Rattle.std.specs.List.{zip}
 use Rattle.af_base.specs.Changes.{install_all}
-use Rattle.af_base.specs.Refusals.{socket_at}
-use Rattle.af_base.specs.World.{World}
 use Rattle.af_ledger.specs.Tally.{kept_of}
 use Rattle.af_collect.specs.Receiving.{taken_at}
 use Rattle.af_collect.specs.HoldingsView.{filled}
-use Rattle.af_collect.proofs.Bounds.{tabled-most}
 use Rattle.af_collect.proofs.Exact.{exact-same, install-filled, world-is}
-use Rattle.af_collect.proofs.Receives.{counted, exact-tabled, received-live, received_at, tabled}
-use Rattle.af_collect.specs.Keeping.{NotBegunGarbage}
-use Rattle.af_collect.specs.StoreView.{StoreView}
+use Rattle.af_collect.proofs.Receives.{counted, exact-tabled, received_at, tabled}
 use Rattle.af_collect.specs.contracts.holdings.Holdings.{the_view}
 use Rattle.af_collect.proofs.PlaceChanges.{kept_peeked}
-use Rattle.af_collect.proofs.StoreInvariant.{Receives, BothInvariants, both-same, seen-changed, seen-world, shown, stood}
+use Rattle.af_collect.proofs.ReceiveNeeds.{files-fit, files-known, receives-within, spared-within}
+use Rattle.af_collect.proofs.StoreInvariant.{BothInvariants, both-same, seen-changed, shown, stood}
 use Rattle.af_collect.proofs.store.Store.peek_msg.Goals as goal
 
 pub table_in_all-requires-clause-known : goal.table_in_all-requires-clause-known
-table_in_all-requires-clause-known c = λ f there.
-    let h = c.places.inside in
-    let w = (the_view h).world in
-    let s = c.args.socket.now in
-    let back = seen-world c.self.inside.parts c.places.inside _ c.places.view_is c.self.view_is in
-    let socket = subst (λ (v : World). is_none (socket_at v s) ≡ false) back c.requires.socket in
-    let attached = c.attached.ensures.value ∙ ap (λ t. t.message.attached) c.in_ok-seen.ensures in
-    c.places.invariant.counted f ∙ received-live w s c.args.max (kept_of h.files.counts h.ledger) c.places.invariant c.requires.some socket f (subst (λ l. Contains l f) attached there)
+table_in_all-requires-clause-known c = files-known c.self.inside.parts c.places.inside _ c.places.view_is c.self.view_is c.args.socket.now c.args.max c.args.pid c.args.fds.now c.requires
+    c.places.invariant _ refl _ (c.attached.ensures.value ∙ ap (λ t. t.message.attached) c.in_ok-seen.ensures)
 
 pub table_in_all-requires-clause-fits : goal.table_in_all-requires-clause-fits
-table_in_all-requires-clause-fits c = λ f. let few = c.attached.ensures.bound in omega (arith, few, tabled-most (the_view c.places.inside).world f (kept_of c.places.inside.files.counts c.places.inside.ledger) c.places.invariant.within c.places.invariant.agrees)
+table_in_all-requires-clause-fits c = files-fit c.self.inside.parts c.places.inside _ c.places.view_is c.self.view_is c.args.socket.now c.args.max c.args.pid c.args.fds.now c.requires
+    c.places.invariant _ refl _ (c.attached.ensures.value ∙ ap (λ t. t.message.attached) c.in_ok-seen.ensures) c.attached.ensures.bound
 
 -- The world when the files are in the table.
 seen : (c : goal.After-table_in_all) → let w = (the_view c.places.inside).world in let taken = taken_at w c.args.socket.now c.args.max in
@@ -52,15 +42,13 @@ both c =
     let pid = c.args.pid in
     let fds = c.args.fds.now in
     let was = stood p h c.places.view_is c.places.invariant c.self.invariant in
-    let back = seen-world c.self.inside.parts c.places.inside _ c.places.view_is c.self.view_is in
-    let r = subst (λ (v : World). Receives v s pid fds) back (c.requires.socket, c.requires.there, c.requires.free) in
-    let spared = subst (λ (t : StoreView). NotBegunGarbage t.pass s) (sym c.self.view_is) c.requires.spared in
+    let r = receives-within c.self.inside.parts c.places.inside _ c.places.view_is c.self.view_is c.args.socket.now c.args.max c.args.pid c.args.fds.now c.requires in
     let all = zip fds (taken_at w s max).attached in
     let attached = c.attached.ensures.value ∙ ap (λ t. t.message.attached) c.in_ok-seen.ensures in
     let kept = c.table_in_all.ensures.kept h.ledger ∙ ap (counted k fds) attached in
     both-same _ (install_all w pid all) _ _ _ _ (seen c) kept (ap (λ v. v.marks) c.table_in_all.ensures.rest)
     (exact-same _ _ _ _ (install-filled w pid all) refl (exact-tabled w s max k was.0 c.requires.some r.0 pid fds r.1 r.2))
-    (kept_peeked was.0 s max r.0 p.progress.looked pid fds spared r.1 r.2 was.1)
+    (kept_peeked was.0 s max r.0 p.progress.looked pid fds (spared-within c.self.inside.parts c.places.inside _ c.places.view_is c.self.view_is c.args.socket.now c.args.max c.args.pid c.args.fds.now c.requires) r.1 r.2 was.1)
 
 pub invariant_of-places : goal.invariant_of-places
 invariant_of-places c = (both c).0

@@ -1,40 +1,32 @@
-use Rattle.std.proofs.Common.{map as mapped, ◌∙◌, ◌≡◌, ap, arith, false, refl, subst, sym}
+use Rattle.std.proofs.Common.{map as mapped, ◌∙◌, ◌≡◌, ap, refl, subst, sym}
 use Rattle.std.specs.FinMap as map
-use Rattle.std.specs.List.{Contains, zip}
+use Rattle.std.specs.List.{zip}
 use Rattle.std.specs.Map.{keys_of}
-use Rattle.std.specs.Prelude.{is_none}
 use Rattle.af_base.specs.Changes.{install_all, with_queue, with_socket}
-use Rattle.af_base.specs.Refusals.{socket_at}
 use Rattle.af_base.specs.World.{World}
 use Rattle.af_desc.specs.FilesView.{received_from}
-use Rattle.af_ledger.specs.Tally.{CanDropAll, count_in_map, kept_of, without_refs}
+use Rattle.af_ledger.specs.Tally.{CanDropAll, kept_of, without_refs}
 use Rattle.af_ledger.specs.declared.place.Place.TheVariants.{Queue}
 use Rattle.af_ledger.proofs.ManyPlaces.{users-dropped_all}
 use Rattle.af_collect.specs.Receiving.{taken_at}
 use Rattle.af_collect.specs.HoldingsView.{filled}
-use Rattle.af_collect.proofs.Bounds.{tabled-most}
 use Rattle.af_collect.proofs.Exact.{exact-same, install-filled, users-filled, world-is}
-use Rattle.af_collect.proofs.Receives.{can-drop-received, counted, exact-received, received-live, received_at, tabled}
+use Rattle.af_collect.proofs.Receives.{can-drop-received, counted, exact-received, received_at, tabled}
 use Rattle.af_collect.proofs.TakenMessages.{taken_queue}
-use Rattle.af_collect.specs.Keeping.{NotBegunGarbage, shaded_in}
-use Rattle.af_collect.specs.StoreView.{StoreView}
+use Rattle.af_collect.specs.Keeping.{shaded_in}
 use Rattle.af_collect.specs.contracts.holdings.Holdings.{the_view}
 use Rattle.af_collect.proofs.PlaceChanges.{kept_taken}
-use Rattle.af_collect.proofs.StoreInvariant.{Receives, BothInvariants, both-same, seen-moved, seen-world, shown, stood}
+use Rattle.af_collect.proofs.ReceiveNeeds.{files-fit, files-known, receives-within, spared-within}
+use Rattle.af_collect.proofs.StoreInvariant.{BothInvariants, both-same, seen-moved, shown, stood}
 use Rattle.af_collect.proofs.store.Store.take_msg.Goals as goal
 
 pub table_in_all-requires-clause-known : goal.table_in_all-requires-clause-known
-table_in_all-requires-clause-known c = λ f there.
-    let h = c.places.inside in
-    let w = (the_view h).world in
-    let s = c.args.socket.now in
-    let back = seen-world c.self.inside.parts c.places.inside _ c.places.view_is c.self.view_is in
-    let socket = subst (λ (v : World). is_none (socket_at v s) ≡ false) back c.requires.socket in
-    let attached = c.attached-attached.ensures.value ∙ ap (λ t. t.message.attached) c.in_ok-taken.ensures.taken in
-    ap (λ v. map.contains_key v.counts f) c.in_ok-taken.ensures.ok ∙ c.places.invariant.counted f ∙ received-live w s c.args.max (kept_of h.files.counts h.ledger) c.places.invariant c.requires.some socket f (subst (λ l. Contains l f) attached there)
+table_in_all-requires-clause-known c = files-known c.self.inside.parts c.places.inside _ c.places.view_is c.self.view_is c.args.socket.now c.args.max c.args.pid c.args.fds.now c.requires
+    c.places.invariant _ (ap (λ v. v.counts) c.in_ok-taken.ensures.ok) _ (c.attached-attached.ensures.value ∙ ap (λ t. t.message.attached) c.in_ok-taken.ensures.taken)
 
 pub table_in_all-requires-clause-fits : goal.table_in_all-requires-clause-fits
-table_in_all-requires-clause-fits c = λ f. let few = c.attached-attached.ensures.bound in omega (arith, few, ap (λ v. (count_in_map v.counts f).tabled) c.in_ok-taken.ensures.ok, tabled-most (the_view c.places.inside).world f (kept_of c.places.inside.files.counts c.places.inside.ledger) c.places.invariant.within c.places.invariant.agrees)
+table_in_all-requires-clause-fits c = files-fit c.self.inside.parts c.places.inside _ c.places.view_is c.self.view_is c.args.socket.now c.args.max c.args.pid c.args.fds.now c.requires
+    c.places.invariant _ (ap (λ v. v.counts) c.in_ok-taken.ensures.ok) _ (c.attached-attached.ensures.value ∙ ap (λ t. t.message.attached) c.in_ok-taken.ensures.taken) c.attached-attached.ensures.bound
 
 pub uncharge_message-requires : goal.uncharge_message-requires
 uncharge_message-requires c =
@@ -44,8 +36,7 @@ uncharge_message-requires c =
     let s = c.args.socket.now in
     let pid = c.args.pid in
     let fds = c.args.fds.now in
-    let back = seen-world c.self.inside.parts c.places.inside _ c.places.view_is c.self.view_is in
-    let r = subst (λ (v : World). Receives v s pid fds) back (c.requires.socket, c.requires.there, c.requires.free) in
+    let r = receives-within c.self.inside.parts c.places.inside _ c.places.view_is c.self.view_is c.args.socket.now c.args.max c.args.pid c.args.fds.now c.requires in
     let can = can-drop-received w s c.args.max k c.places.invariant c.requires.some r.0 pid fds r.1 r.2 in
     let m = received_at w s c.args.max in
     let taken = c.in_ok-taken.ensures.taken in
@@ -97,16 +88,14 @@ both c =
     let pid = c.args.pid in
     let fds = c.args.fds.now in
     let was = stood p h c.places.view_is c.places.invariant c.self.invariant in
-    let back = seen-world c.self.inside.parts c.places.inside _ c.places.view_is c.self.view_is in
-    let r = subst (λ (v : World). Receives v s pid fds) back (c.requires.socket, c.requires.there, c.requires.free) in
-    let spared = subst (λ (t : StoreView). NotBegunGarbage t.pass s) (sym c.self.view_is) c.requires.spared in
+    let r = receives-within c.self.inside.parts c.places.inside _ c.places.view_is c.self.view_is c.args.socket.now c.args.max c.args.pid c.args.fds.now c.requires in
     let t = taken_at w s max in
     let files = c.attached-attached.ensures.value ∙ ap (λ o. o.message.attached) c.in_ok-taken.ensures.taken in
     let before = ap (λ v. v.marks) c.uncharge_message.ensures.rest ∙ ap (λ v. v.marks) c.table_in_all.ensures.rest ∙ ap (λ v. v.marks) c.in_ok-taken.ensures.ok in
     let marks = ap (λ v. v.marks) c.shade_taken.ensures ∙ (λ i. shaded_in p.progress.stage (files i) (before i)) in
     both-same _ (install_all (with_queue w s t.rest) pid (zip fds t.attached)) _ _ _ _ (received c) (left c) marks
     (exact-same _ _ _ _ (install-filled (with_queue w s t.rest) pid (zip fds t.attached)) refl (exact-received w s max k was.0 c.requires.some r.0 pid fds r.1 r.2))
-    (kept_taken was.0 s max r.0 p.progress.looked pid fds spared r.1 r.2 was.1)
+    (kept_taken was.0 s max r.0 p.progress.looked pid fds (spared-within c.self.inside.parts c.places.inside _ c.places.view_is c.self.view_is c.args.socket.now c.args.max c.args.pid c.args.fds.now c.requires) r.1 r.2 was.1)
 
 pub invariant_of-places-2 : goal.invariant_of-places-2
 invariant_of-places-2 c = (both c).0

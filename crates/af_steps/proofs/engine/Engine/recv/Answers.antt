@@ -30,9 +30,14 @@ pub returns-then-len-eq0-clause-done : goal.returns-then-len-eq0-clause-done
 returns-then-len-eq0-clause-done c =
     recv-end c.self.view_is (has (goal.at.returns-then-len-eq0-clause-done c).In_ok-process) c.args.max_bytes c.args.max_fds (search rules) (sym (c.len.ensures.value ∙ ap length c.queue.ensures) ∙ c.if-len-eq0.true) c.self.invariant.0
 
-pub take_msg-requires-clause-row : goal.take_msg-requires-clause-row
-take_msg-requires-clause-row c =
-    numbers-below (has (goal.at.take_msg-requires-clause-row c).In_ok-process).number.process c.deref.result.now c.min.result _ (search rules) (λ some. c.in_ok-room_for.ensures.row (omega (arith, some, c.deref.ensures.len, c.len.ensures)))
-
-pub take_msg-requires-clause-spared : goal.take_msg-requires-clause-spared
-take_msg-requires-clause-spared c = subst (λ s. NotBegunGarbage s c.in_ok-process.file) (sym c.room_for.ensures.pass) (c.lemma_is_spared.ensures c.in_ok-process.file (held (has (goal.at.take_msg-requires-clause-spared c).In_ok-process).number))
+pub take_msg-requires : goal.take_msg-requires
+take_msg-requires c =
+    let number = (has (goal.at.take_msg-requires c).In_ok-process).number in
+    record {
+      some = search rules;
+      spared = subst (λ s. NotBegunGarbage s c.in_ok-process.file) (sym c.room_for.ensures.pass) (c.lemma_is_spared.ensures c.in_ok-process.file (held number));
+      socket = search rules;
+      there = search rules;
+      free = search rules;
+      row = numbers-below number.process c.deref.result.now c.min.result _ (search rules) (λ some. c.in_ok-room_for.ensures.row (omega (arith, some, c.deref.ensures.len, c.len.ensures)));
+    }

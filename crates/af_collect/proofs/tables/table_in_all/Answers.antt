@@ -13,8 +13,9 @@ use Rattle.af_ledger.specs.declared.place.Place.TheVariants.{Table}
 use Rattle.af_ledger.proofs.Laws.{has-held, tabled-tabled}
 use Rattle.af_table.specs.Procs.{row_in}
 use Rattle.af_collect.specs.HoldingsView.{filled}
+use Rattle.af_collect.proofs.CountChanges.{counts-alone}
 use Rattle.af_collect.proofs.TableFills.{no-files, no-numbers}
-use Rattle.af_collect.proofs.tables.table_in_each.Goals as goal
+use Rattle.af_collect.proofs.tables.table_in_all.Goals as goal
 
 pub loop-fd-init : goal.loop-fd-init
 loop-fd-init c =
@@ -57,7 +58,7 @@ loop-fd-preserved c =
     record {
       processes = ap (λ P. filled P c.args.pid (zip ns fs)) (c.install.ensures.processes ∙ ap (λ x. change_at (installed n x) c.loop-fd.procs.processes c.args.pid) c.duplicate.ensures) ∙ sym (λ i. filled c.loop-fd.procs.processes c.args.pid (zip (steps.0 i) (steps.1 i))) ∙ k.processes;
       kept = λ ch. ap (λ (v : FilesView). with_refs Table (map (λ e. e.1) (zip ns fs)) (kept_of v.counts ch)) one ∙ sym (λ i. with_refs Table (map (λ e. e.1) (zip (steps.0 i) (steps.1 i))) (kept_of c.loop-fd.files.counts ch)) ∙ k.kept ch;
-      rest = one ∙ ap {B = FilesView} (λ x. record c.loop-fd.files { counts = x }) (sym (ap (λ v. v.counts) one)) ∙ ap {A = FilesView} {B = FilesView} (λ v. record v { counts = c.hold.new.self.counts }) k.rest;
+      rest = counts-alone c.args.files.now _ _ _ one k.rest;
       rows = c.install.ensures.rows ∙ k.rows;
       next = c.install.ensures.next ∙ k.next;
       row = subst (λ (r : Map ℕ). All (λ m. m < row_in r c.args.pid) ns) (sym c.install.ensures.rows) (All-rest low n ns (n ∷ ns) refl (subst (All low) steps.0 k.row));

@@ -7,7 +7,7 @@ use Rattle.af_ledger.specs.Tally.{LedgerView, count_in_map, kept_of, with_refs}
 use Rattle.af_ledger.specs.declared.place.Place.TheVariants.{Table}
 use Rattle.af_table.specs.Procs.{row_in}
 use Rattle.af_collect.specs.HoldingsView.{filled}
-use Rattle.af_collect.proofs.tables.table_in_each.Given as goal
+use Rattle.af_collect.proofs.tables.table_in_all.Given as goal
 
 abbrev pub invariant-loop-fd : goal.invariant-loop-fd
 invariant-loop-fd l =

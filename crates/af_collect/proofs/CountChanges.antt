@@ -1,0 +1,17 @@
+-- Files of which the counts alone change, one after the other.
+use Rattle.std.proofs.Common.{◌≡◌, ◌≤◌, ℕ, List, length, take, ap, sym, ◌∙◌}
+use Rattle.std.proofs.lemmas.List.{take_all}
+use Rattle.af_base.specs.World.{Map}
+use Rattle.af_desc.specs.FilesView.{FilesView}
+use Rattle.af_ledger.specs.Tally.{LedgerView, Tally, kept_of}
+use Rattle.af_ledger.specs.declared.count.Count.{Count}
+
+-- Where the counts alone changed before, and change once more, the counts alone have changed.
+pub counts-alone : (start before after : FilesView) (m : Map Count) → after ≡ record before { counts = m } → before ≡ record start { counts = before.counts } → after ≡ record start { counts = after.counts }
+counts-alone start before after m one rest =
+    one ∙ ap {A = FilesView} {B = FilesView} (λ v. record v { counts = m }) rest ∙ ap {B = FilesView} (λ x. record start { counts = x }) (sym (ap (λ v. v.counts) one))
+
+-- Once each file has its change, and the ledger that of all, all is as after that change of all.
+pub changed-all : (to : List ℕ → Tally → Tally) (fs : List ℕ) (i : ℕ) (k : Tally) (counts : Map Count) (l n : LedgerView) → length fs ≤ i → counts ≡ (to (take i fs) k).counts → l ≡ n → kept_of (to fs k).counts n ≡ to fs k → kept_of counts l ≡ to fs k
+changed-all to fs i k counts l n past each ledger all =
+    ap (λ m. kept_of m l) each ∙ ap (λ gs. kept_of (to gs k).counts l) (take_all i fs past) ∙ ap (kept_of (to fs k).counts) ledger ∙ all
