@@ -5,13 +5,15 @@ use Rattle.ordered_slab.proofs.Rows.{held, at_place, nowhere}
 use Rattle.ordered_slab.proofs.Searches.{passed, read_here}
 use Rattle.ordered_slab.proofs.order.next_in.Goals as goal
 
--- The row that is answered.
+-- The position that the search found is before the end.
 inside : (c : goal.After-new) → c.first_live-at.result < length c.args.rows.now
 inside c = let e = c.first_live-at.ensures.end in let n = c.if-at-rows.false in omega arith
 
+-- The row that was read is the one that the search found.
 answered : (c : goal.After-new) → c.index-rows-at.result ≡ row_at c.args.rows.now c.first_live-at.result
 answered c = read_here c.args.rows.now c.first_live-at.result c.index-rows-at.result (inside c) c.index-rows-at.is
 
+-- The number that is returned is that of the found row.
 number : (c : goal.After-new) → c.new.result ≡ (row_at c.args.rows.now c.first_live-at.result).ino
 number c = c.new.ensures ∙ ap (λ r. r.ino) (answered c)
 

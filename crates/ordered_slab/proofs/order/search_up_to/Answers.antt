@@ -8,10 +8,11 @@ use Rattle.ordered_slab.proofs.Searches.{beyond, climb, read_here, rising, up_to
 use Rattle.ordered_slab.proofs.order.search_up_to.Goals.{Then-eq}
 use Rattle.ordered_slab.proofs.order.search_up_to.Goals as goal
 
--- The row at the place that was told has this number.
+-- The computed position is among the rows.
 within : (c : Then-eq) → c.saturating_sub-until.result - 1 < length c.args.rows.now
 within c = let some = c.if-until-gt0.true in let all = c.saturating_sub-until.ensures in omega (arith, some, all)
 
+-- The number that was read is that of the row at the computed position.
 stands : (c : Then-eq) → c.index-rows-until.result.ino ≡ (row_at c.args.rows.now (c.saturating_sub-until.result - 1)).ino
 stands c = ap (λ r. r.ino) (read_here c.args.rows.now (c.saturating_sub-until.result - 1) c.index-rows-until.result (within c) c.index-rows-until.is)
 

@@ -17,11 +17,13 @@ returns-in-None-clause-keys c =
 live_last : (c : goal.After-take_last) → IsLiveAt (c.take_last.new.self.items ++ c.take_last.result ∷ []) c.args.ino c.in-Some-Unpacked.at
 live_last c = subst (λ rows. IsLiveAt rows c.args.ino c.in-Some-Unpacked.at) (c.deref-2.ensures.value ∙ c.take_last.ensures.items) (rw c.in-Some-Unpacked.field-0-is at c.in-Some-Unpacked.ensures.place)
 
+-- The row that was popped has this number and its key.
 last_row : (c : goal.After-take_last) → c.take_last.result ≡ record { ino = c.args.ino; key = Some (live_last c).0 }
 last_row c =
     let at : c.in-Some-Unpacked.at ≡ length c.take_last.new.self.items = omega (arith, ap length c.take_last.ensures.items, length_push c.take_last.new.self.items c.take_last.result) in
     last_is c.take_last.new.self.items c.take_last.result c.args.ino c.in-Some-Unpacked.at (live_last c) at
 
+-- The packed rows and the rows before the pop are in order, as the invariant says.
 whole : (c : goal.After-take_last) → AreRows c.self.inside.packed.items (c.take_last.new.self.items ++ c.take_last.result ∷ []) c.self.inside.read c.self.inside.last
 whole c = subst (λ rows. AreRows c.self.inside.packed.items rows c.self.inside.read c.self.inside.last) c.take_last.ensures.items c.self.invariant.0
 

@@ -25,6 +25,7 @@ use Rattle.scm_c.specs.contracts.handle.Handle.from_raw.Key.{name as #self}
 use Rattle.scm_c.proofs.handle.Handle.from_raw.Statement.{statement}
 use Rattle.scm_c.proofs.handle.Handle.from_raw.Code as code
 
+-- The body meets its contract: the handle shows the engine of the pointer.
 pub from_raw_spec : {M : Type 1} → statement M
 from_raw_spec 𝓤 𝓛 𝓜 𝓡 wired =
     let H = 𝓛.H in let 𝓣 = tables 𝓤 H 𝓜 𝓡 𝓡.env in let En = ended in let c = clauses 𝓛 𝓜.mem 𝓡.returns in let fn = code.function in let P : RattleType = RawBox Eng Heap HeapLaws ghosts in

@@ -31,6 +31,7 @@ use Rattle.scm_c.proofs.handle.Handle.into_raw.Statement.{statement}
 use Rattle.scm_c.proofs.handle.Handle.into_raw.Code as code
 use Rattle.std.proofs.option.Made.{Some-of, none_of}
 
+-- The body meets its contract: it returns the engine that the handle shows, or none for null.
 pub into_raw_spec : {M : Type 1} → statement M
 into_raw_spec 𝓤 𝓛 𝓜 𝓡 wired =
     let H = 𝓛.H in let 𝓣 = tables 𝓤 H 𝓜 𝓡 𝓡.env in let En = ended in let c = clauses 𝓛 𝓜.mem 𝓡.returns in let fn = code.function in let P : RattleType = Handle in

@@ -39,6 +39,7 @@ use Rattle.scm_c.specs.contracts.raw_box.RawBox.into_box.Key.{name as #self}
 use Rattle.scm_c.proofs.raw_box.RawBox.into_box.Statement.{statement}
 use Rattle.scm_c.proofs.raw_box.RawBox.into_box.Code as code
 
+-- The body meets its contract: the box has the value that the pointer had.
 pub into_box_spec : {M : Type 1} → statement M
 into_box_spec 𝓤 𝓛 𝓜 𝓡 wired T A L LA g d dx dd allocator glue glued =
     let H = 𝓛.H in let 𝓣 = tables 𝓤 H 𝓜 𝓡 𝓡.env in let R : RattleType = param 0 T in let Z : RattleType = param 1 A in let LZ = param_laws 1 A LA in let En = ended T A g d dx dd in let c = clauses T A g d dx dd 𝓛 𝓜.mem 𝓡.returns in
