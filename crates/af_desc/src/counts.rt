@@ -19,7 +19,7 @@ impl Files {
     fn count_at(&self, file: &FileRef) -> Count
         ensures { result ≡ count_in_map self.now.counts file.now }
     {
-        match self.rows.count(file) {
+        match self.rows.table.count(file) {
             Some(count) => *count,
             None => Count::none(),
         }
@@ -29,7 +29,7 @@ impl Files {
     fn count(&self, ino: Ino) -> Count
         ensures { result ≡ count_in_map self.now.counts ino }
     {
-        match self.rows.find(ino) {
+        match self.rows.table.find(ino) {
             Some(file) => self.count_at(&file),
             None => Count::none(),
         }

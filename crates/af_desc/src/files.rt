@@ -137,7 +137,7 @@ impl Files {
         ensures there { IfSome result (λ f. (f ≡ ino) × IsTrue (is_live self.now ino)) }
         ensures none { IfNone result (is_live self.now ino ≡ false) }
     {
-        self.rows.find(ino)
+        self.rows.table.find(ino)
     }
 
     /// Returns the socket that the file is; `None` for a plain or unknown file.
@@ -145,7 +145,7 @@ impl Files {
     pub fn socket(&self, file: &FileRef) -> Option<Socket<'_>>
         ensures { result ≡ socket_in self.now.files file.now }
     {
-        self.rows.socket(file)
+        self.rows.table.socket(file)
     }
 
     /// Returns the socket of this abstract name, if there is one (unix(7)): one look-up, for any
@@ -168,7 +168,7 @@ impl Files {
         ensures none { IfNone result ((q : ℕ) → ino < q → is_live self.now q ≡ false) }
         ensures begins { is_live self.now 0 ≡ false }
     {
-        self.rows.next_after(ino, at)
+        self.rows.table.next_after(ino, at)
     }
 
     /// Makes a file, under the next number, with this place as its first reference. Reserves room
@@ -296,7 +296,7 @@ impl Files {
         ensures succeeds { self.old.message_room ≡ true → IsOk result }
         ensures rest { self.new ≡ record self.old { message_room = self.new.message_room } }
     {
-        self.rows.room_for_message()
+        self.rows.table.room_for_message()
     }
 
     /// Appends a message to the queue of that socket, which is not full. For a plain or unknown

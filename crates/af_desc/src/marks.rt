@@ -134,7 +134,7 @@ impl Files {
         let Some(_) = self.next_grey() else {
             return;
         };
-        let Some(mark) = self.rows.mark(file) else {
+        let Some(mark) = self.rows.table.mark(file) else {
             return;
         };
         if mark.is_grey_in(self.epoch) {
@@ -164,7 +164,7 @@ impl Files {
     fn color(&self, file: &FileRef) -> Option<Color>
         ensures { result ≡ map.get self.now.marks.colors file.now }
     {
-        let mark = self.rows.mark(file)?;
+        let mark = self.rows.table.mark(file)?;
         Some(mark.color_in(self.epoch))
     }
 
@@ -204,7 +204,7 @@ fn remove_listed(rows: &mut TrackedTable, grey: &mut Vec<FileRef>, ino: Ino, at:
 fn set_hint(rows: &mut TrackedTable, file: &FileRef, at: u32)
     ensures { rows.new ≡ record rows.old { marks = change_at (placed at) rows.old.marks file.now } }
 {
-    if let Some(mark) = rows.mark(file) {
+    if let Some(mark) = rows.table.mark(file) {
         let Mark { epoch, color, .. } = mark;
         rows.set_mark(file, Mark { epoch, color, at });
     }
@@ -242,7 +242,7 @@ fn clear_all_marks(rows: &mut TrackedTable)
 {
     let mut last = Ino(0);
     let mut near = 0;
-    while let Some((file, at)) = rows.next_after(last, near) {
+    while let Some((file, at)) = rows.table.next_after(last, near) {
         // Each file has a mark.
         rows.lemma_are_one();
         rows.set_mark(&file, Mark::none());

@@ -1,7 +1,7 @@
 //! The rows of all files, and beside them the lists of freed files and changed sockets.
 ghost use Rattle.std.specs.Prelude.{◌≡◌, ℕ, ◌+◌, ◌≤◌, ◌<◌, ◌∷◌, [], true, false, None, IsTrue};
 ghost use Rattle.std.specs.Prelude.{IsOk, IfSome, IfNone, IfErr, IfOk, OnOk, OnErr, drop, is_none};
-ghost use Rattle.std.specs.Prelude.{if◌then◌else◌, is_some, length, nat_eq, option_copied, cond};
+ghost use Rattle.std.specs.Prelude.{if◌then◌else◌, is_some, length, nat_eq, cond};
 ghost use Rattle.std.specs.Prelude.{Some, vec_capacity};
 ghost use Rattle.std.specs.FinMap as map;
 ghost use Rattle.af_base.specs.Changes.{connected, dequeued, listening, pushed, queued, with_name};
@@ -23,12 +23,12 @@ ghost use Rattle.af_desc.specs.Told.{IsDirtyList, MakesDirty};
 
 use crate::contents::Contents;
 use crate::file_table::FileTable;
-use crate::socket::{Endpoint, Socket};
+use crate::socket::Endpoint;
 use af_base::file_list::swap_remove_file;
 use af_base::ids::{FileRef, Ino};
 use af_base::items::Items;
 use af_base::limits::MAX_MESSAGES;
-use af_ledger::{Count, Place};
+use af_ledger::Place;
 use af_mark::{Mark, clamp_index};
 use af_queue::{Msg, Taken};
 use std::alloc::{AllocError, Global};
@@ -40,7 +40,9 @@ use std::snapshot::Snapshot;
 /// the files as they were then, and not the lists.
 #[derive(Drop)]
 pub struct TrackedTable {
-    table: FileTable,
+    /// The rows. `Files` reads them here; a change that a list may have to show is a call of this
+    /// type.
+    pub(crate) table: FileTable,
     /// For how many files in all there is room in each list of files that is kept, here and in
     /// `Files`.
     space: usize,
@@ -235,22 +237,6 @@ impl TrackedTable {
         self.table.remove(file, epoch)
     }
 
-    /// Returns the socket that a file is; `None` for a plain or unknown file.
-    #[inline(always)]
-    pub fn socket(&self, file: &FileRef) -> Option<Socket<'_>>
-        ensures { result ≡ socket_in self.now.files file.now }
-    {
-        self.table.socket(file)
-    }
-
-    /// Returns the counts of a file, if it is known.
-    #[inline(always)]
-    pub fn count(&self, file: &FileRef) -> Option<&Count>
-        ensures { option_copied result ≡ map.get self.now.counts file.now }
-    {
-        self.table.count(file)
-    }
-
     /// Sets the hint of a new socket to the key of its peer.
     #[inline(always)]
     pub fn set_peer_hint(&mut self, file: &FileRef, peer: &FileRef)
@@ -323,15 +309,6 @@ impl TrackedTable {
         let embryo = self.table.dequeue(file)?;
         add_dirty(self.tells_changed, &mut self.table, &mut self.changed, file);
         Some(embryo)
-    }
-
-    /// Makes room for one message more, so that the next `push_message` cannot fail.
-    pub fn room_for_message(&mut self) -> Result<(), AllocError>
-        ensures ok { OnOk result (self.new.message_room ≡ true) }
-        ensures succeeds { self.old.message_room ≡ true → IsOk result }
-        ensures rest { self.new ≡ record self.old { message_room = self.new.message_room } }
-    {
-        self.table.room_for_message()
     }
 
     /// Appends a message to the queue of that socket, which is not full. For a plain or unknown
@@ -423,14 +400,6 @@ impl TrackedTable {
         self.table.sub_descriptor(file)
     }
 
-    /// Returns the mark of a file, if it is known.
-    #[inline(always)]
-    pub fn mark(&self, file: &FileRef) -> Option<Mark>
-        ensures { result ≡ map.get self.now.marks file.now }
-    {
-        self.table.mark(file)
-    }
-
     /// Sets the mark of a file, which is known. Takes no memory.
     #[inline(always)]
     pub fn set_mark(&mut self, file: &FileRef, mark: Mark)
@@ -489,31 +458,6 @@ impl TrackedTable {
         ensures { (f : ℕ) → map.contains_key self.now.marks f ≡ map.contains_key self.now.files f }
     {
         self.table.lemma_are_one();
-    }
-
-    /// Returns the key of the row of a number, if there is one, by a search. A `FileRef` needs
-    /// none.
-    pub fn find(&self, ino: Ino) -> Option<FileRef>
-        ensures there { IfSome result (λ f.
-            (f ≡ ino) × IsTrue (map.contains_key self.now.files ino)) }
-        ensures none { IfNone result (map.contains_key self.now.files ino ≡ false) }
-        ensures uncounted { IfNone result (map.contains_key self.now.counts ino ≡ false) }
-    {
-        self.table.find(ino)
-    }
-
-    /// Returns the least number above this one that has a row, if there is one, and its position in
-    /// the order. This number need not have a row. Behind the last answer it needs no search.
-    #[inline(always)]
-    pub fn next_after(&self, ino: Ino, at: usize) -> Option<(FileRef, usize)>
-        ensures above { IfSome result (λ n. ino < n.0) }
-        ensures there { IfSome result (λ n. IsTrue (map.contains_key self.now.files n.0)) }
-        ensures least { IfSome result (λ n.
-            (q : ℕ) → ino < q → q < n.0 → map.contains_key self.now.files q ≡ false) }
-        ensures none { IfNone result
-            ((q : ℕ) → ino < q → map.contains_key self.now.files q ≡ false) }
-    {
-        self.table.next_after(ino, at)
     }
 
     /// Tells from now on which files are freed. Both lists are empty then. On an error nothing has

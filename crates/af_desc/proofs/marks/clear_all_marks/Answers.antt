@@ -12,9 +12,11 @@ pub loop-file-smaller : goal.loop-file-smaller
 loop-file-smaller c =
     let files = c.loop-file.rows.files in
     let next = c.in-Some.ensures in
+    let same = ap (λ r. r.files) c.rows.view_is in
     subst (λ n. length (above n (map.entries c.set_mark.new.self.files)) < length (above c.loop-file.last (map.entries files))) (sym c.ino-last.ensures)
     (subst (λ m. length (above c.in-Some.file (map.entries m)) < length (above c.loop-file.last (map.entries files))) (sym (ap (λ r. r.files) c.set_mark.ensures.set))
-    (fewer_above files files refl c.loop-file.last c.in-Some.file next.above next.there next.least))
+    (subst (λ fs. length (above c.in-Some.file (map.entries fs)) < length (above c.loop-file.last (map.entries fs))) same
+    (fewer_above _ _ refl c.loop-file.last c.in-Some.file next.above next.there next.least)))
 
 -- One file more has a mark of no pass.
 pub loop-file-preserved : goal.loop-file-preserved
@@ -25,9 +27,10 @@ loop-file-preserved c =
     let i = c.loop-file.invariant in
     let set = c.set_mark.ensures.set in
     let is = ap (λ r. r.marks) set ∙ ap (map.insert m n) c.none.ensures in
-    let there = c.lemma_are_one.ensures n ∙ next.there in
+    let same = ap (λ r. r.files) c.rows.view_is in
+    let there = c.lemma_are_one.ensures n ∙ sym (ap (λ fs. map.contains_key fs n) same) ∙ next.there in
     record {
-      washed = subst (AreWashed c.set_mark.new.self.marks) (sym c.ino-last.ensures) (subst (λ o. AreWashed o n) (sym is) (washed_next m n c.loop-file.last (λ q over under. c.lemma_are_one.ensures q ∙ next.least q over under) i.washed));
+      washed = subst (AreWashed c.set_mark.new.self.marks) (sym c.ino-last.ensures) (subst (λ o. AreWashed o n) (sym is) (washed_next m n c.loop-file.last (λ q over under. c.lemma_are_one.ensures q ∙ sym (ap (λ fs. map.contains_key fs q) same) ∙ next.least q over under) i.washed));
       known = λ f. ap (λ o. map.contains_key o f) is ∙ washed_known m n there f ∙ i.known f;
       len = c.set_mark.ensures.len ∙ i.len;
       rest = set ∙ ap (λ (r : TrackedTableView). record r { marks = map.insert m n c.none.result }) i.rest ∙ ap (λ (o : Map Mark). record c.args.rows.now { marks = o }) (sym (ap (λ r. r.marks) set));
