@@ -143,10 +143,10 @@ impl<T> OrderedSlab<T> {
         let key = file.key();
         // A way out of its own, so that the entry is looked at once.
         if stands_at(&self.slab, key, file.ino()) {
-            return Some(self.slab[key].value_mut());
+            return Some(&mut self.slab[key].value);
         }
         let key = self.order.key_of(file.ino())?;
-        Some(self.slab[key].value_mut())
+        Some(&mut self.slab[key].value)
     }
 
     /// Returns a reference to the value of this number, if there is one, by a search. A look-up by

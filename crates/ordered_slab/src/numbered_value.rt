@@ -28,20 +28,6 @@ pub struct NumberedValue<T> {
     pub value: T,
 }
 
-impl<T> NumberedValue<T> {
-    ghost use Rattle.std.specs.Borrow.{sem};
-    ghost use Rattle.ordered_slab.specs.Lending.{lends_value};
-
-    /// Lends the value of the number, to write to.
-    #[inline(always)]
-    pub fn value_mut(&mut self) -> &mut T
-        ensures* writes_back { sem 𝓛 (lends_value T.row self.entry result) }
-        ensures value { result.now ≡ self.old.value }
-    {
-        &mut self.value
-    }
-}
-
 /// Returns whether the entry at this key is this number's.
 #[inline(always)]
 pub fn stands_at<T>(slab: &Slab<NumberedValue<T>>, key: usize, ino: Ino) -> bool

@@ -1,5 +1,5 @@
 -- A write through the reference changes the value of this number alone.
-use Rattle.std.proofs.Common.{◌≡◌, ◌-◌, ◌≤◌, ◌∙◌, ℕ, inl, refl, sym, ap, subst}
+use Rattle.std.proofs.Common.{◌≡◌, ◌-◌, ◌≤◌, ◌∙◌, ◌⊎◌, ℕ, inl, refl, sym, ap, subst}
 use Rattle.std.specs.Prelude.{Some, min}
 use Rattle.std.specs.FinMap as map
 use Rattle.slab.specs.Slab as slab
@@ -34,6 +34,10 @@ lent : {V : Type 0} (a : OrderedSlabView V) (m : Map ℕ) (s : Slab (NumberedVal
     → record { values = values_of m s; last = last; room = room } ≡ a → v ≡ x.value → Some v ≡ map.get a.values f
 lent a m s last room f k x v h was at view is = ap Some is ∙ sym (there m s f k x x h was at) ∙ ap (λ a. map.get a.values f) view
 
+-- The same borrow, whose end is said in another way.
+same_borrow : {N W S : Type 0} (n : N) (x y : W → S) → x ≡ y → ◌≡◌ {A = (N × (W → S)) ⊎ S} (inl (n, x)) (inl (n, y))
+same_borrow n x y e = λ i. inl (n, e i)
+
 pub invariant_of-self-lent : goal.invariant_of-self-lent
 invariant_of-self-lent g c w =
     let was = ap (map.get c.self.inside.order.keys) (sym c.ino.ensures) ∙ stood c.self.inside.order.keys c.self.inside.slab c.self.invariant.0 _ _ (c.stands_at.ensures c.if-stands_at.true) in
@@ -52,10 +56,10 @@ returns-then-stands_at g c =
     let f = c.args.file.now in
     let was = ap (map.get m) (sym c.ino.ensures) ∙ stood m s c.self.invariant.0 _ _ (c.stands_at.ensures c.if-stands_at.true) in
     let at = c.index_mut.ensures.value in (
-      (λ i. inl (c.value_mut.result.ghost_name, λ w. written _ m s c.self.inside.order.last c.self.inside.order.room f _ x w c.self.invariant.0 was at c.self.view_is i)),
+      same_borrow _ _ _ (λ i w. written _ m s c.self.inside.order.last c.self.inside.order.room f _ x w c.self.invariant.0 was at c.self.view_is i),
       record {
         writes_back = tt;
-        value = lent _ m s _ _ f _ x _ c.self.invariant.0 was at c.self.view_is c.value_mut.ensures.value;
+        value = lent _ m s _ _ f _ x _ c.self.invariant.0 was at c.self.view_is refl;
       },
     )
 
@@ -67,9 +71,9 @@ returns g c =
     let f = c.args.file.now in
     let was = ap (map.get m) (sym c.ino-2.ensures) ∙ sym c.key_of.ensures ∙ c.in_ok-key.was in
     let at = c.index_mut-2.ensures.value in (
-      (λ i. inl (c.value_mut-2.result.ghost_name, λ w. written _ m s c.self.inside.order.last c.self.inside.order.room f _ x w c.self.invariant.0 was at c.self.view_is i)),
+      same_borrow _ _ _ (λ i w. written _ m s c.self.inside.order.last c.self.inside.order.room f _ x w c.self.invariant.0 was at c.self.view_is i),
       record {
         writes_back = tt;
-        value = lent _ m s _ _ f _ x _ c.self.invariant.0 was at c.self.view_is c.value_mut-2.ensures.value;
+        value = lent _ m s _ _ f _ x _ c.self.invariant.0 was at c.self.view_is refl;
       },
     )
