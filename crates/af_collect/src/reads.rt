@@ -1,7 +1,7 @@
 //! The parts, lent for reading, and the counts that are kept. None takes memory.
 ghost use Rattle.std.specs.Prelude.{◌≡◌, ℕ, IfErr, None, OnOk, Some, length, slice_get, true};
 ghost use Rattle.af_base.specs.Counts.{charged, inflight, refs, tabled, total};
-ghost use Rattle.af_base.specs.Refusals.{first_fit, on_charge};
+ghost use Rattle.af_base.specs.Refusals.{first_fit, on_charge, socket_at};
 ghost use Rattle.af_base.specs.Places.{InTable};
 ghost use Rattle.af_base.specs.Whole.{IsSound, IsWhole, IsWithin};
 ghost use Rattle.af_base.specs.World.{IsLive};
@@ -9,7 +9,7 @@ ghost use Rattle.af_base.specs.World.{IsLive};
 use crate::holdings::Holdings;
 use af_base::errno::Errno;
 use af_base::ids::{FileRef, Ino, Uid};
-use af_desc::Files;
+use af_desc::{Files, Socket};
 use af_table::Procs;
 
 impl Holdings {
@@ -32,6 +32,14 @@ impl Holdings {
         ensures since { result.now.since ≡ self.now.since }
     {
         &self.files
+    }
+
+    /// Returns the socket that a file is; `None` for a plain or unknown file.
+    #[inline(always)]
+    pub fn socket(&self, file: &FileRef) -> Option<Socket<'_>>
+        ensures { result ≡ socket_at self.now.world file.now }
+    {
+        self.files.socket(file)
     }
 
     /// Does nothing at run time. Shows that at every moment, between any two calls, the world is

@@ -81,7 +81,7 @@ impl Holdings {
         ensures some { result ≡ false → 0 < places_at self.now.world file.now }
         ensures none { result ≡ true → places_at self.now.world file.now ≡ 0 }
     {
-        match self.files().socket(file) {
+        match self.socket(file) {
             Some(socket) => socket.queue().len() == 0 && socket.embryos() == 0,
             None => true,
         }

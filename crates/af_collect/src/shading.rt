@@ -3,7 +3,6 @@
 ghost use Rattle.std.specs.Prelude.{◌≡◌, ◌≤◌, ◌*◌, [], drop, length, slice_get, take};
 ghost use Rattle.std.specs.Option.{option_map_or};
 ghost use Rattle.af_base.specs.Places.{attached_in, backlog_at, held_by, queue_at};
-ghost use Rattle.af_base.specs.Refusals.{socket_at};
 ghost use Rattle.af_collect.specs.Keeping.{first_held, shaded_all, shaded_in};
 ghost use Rattle.af_desc.specs.Holding.{IsContents};
 ghost use Rattle.af_collect.specs.StoreView.{Shades, first_attached};
@@ -12,7 +11,7 @@ use crate::holdings::Holdings;
 use crate::progress::{PassProgress, Stage};
 use af_base::ids::FileRef;
 use af_base::limits::{MAX_MESSAGES, SCM_MAX_FD};
-use af_desc::{Contents, Files, Socket};
+use af_desc::{Contents, Files};
 use af_queue::BATCH;
 use arrayvec::ArrayVec;
 
@@ -151,7 +150,7 @@ pub fn shade_embryo(places: &mut Holdings, file: &FileRef, at: usize)
 fn messages(places: &Holdings, file: &FileRef) -> usize
     ensures { result ≡ length (queue_at places.now.world file.now) }
 {
-    match socket(places, file) {
+    match places.socket(file) {
         Some(socket) => socket.queue().len(),
         None => 0,
     }
@@ -162,7 +161,7 @@ fn messages(places: &Holdings, file: &FileRef) -> usize
 fn embryos(places: &Holdings, file: &FileRef) -> usize
     ensures { result ≡ length (backlog_at places.now.world file.now) }
 {
-    let Some(socket) = socket(places, file) else {
+    let Some(socket) = places.socket(file) else {
         return 0;
     };
     match socket.backlog() {
@@ -179,7 +178,7 @@ fn attached_from(places: &Holdings, file: &FileRef, from: usize) -> ArrayVec<Fil
     ensures few { length (attached_in (queue_at places.now.world file.now))
         ≤ MAX_MESSAGES * SCM_MAX_FD }
 {
-    match socket(places, file) {
+    match places.socket(file) {
         Some(socket) => socket.queue().attached_from(from),
         None => ArrayVec::new(),
     }
@@ -190,7 +189,7 @@ fn attached_from(places: &Holdings, file: &FileRef, from: usize) -> ArrayVec<Fil
 fn first_attached<'a>(places: &'a Holdings, file: &FileRef) -> &'a [FileRef]
     ensures { result.now ≡ first_attached places.now.world file.now }
 {
-    let Some(socket) = socket(places, file) else {
+    let Some(socket) = places.socket(file) else {
         return &[];
     };
     match socket.queue().first() {
@@ -204,14 +203,6 @@ fn first_attached<'a>(places: &'a Holdings, file: &FileRef) -> &'a [FileRef]
 fn embryo_at(places: &Holdings, file: &FileRef, at: usize) -> Option<FileRef>
     ensures { result ≡ slice_get (backlog_at places.now.world file.now) at }
 {
-    let embryo = socket(places, file)?.backlog()?.files().get(at)?;
+    let embryo = places.socket(file)?.backlog()?.files().get(at)?;
     Some(embryo.duplicate())
-}
-
-/// Returns the socket; `None` for a plain or unknown file.
-#[inline(always)]
-fn socket<'a>(places: &'a Holdings, file: &FileRef) -> Option<Socket<'a>>
-    ensures { result ≡ socket_at places.now.world file.now }
-{
-    places.files().socket(file)
 }

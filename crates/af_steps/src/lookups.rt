@@ -2,7 +2,7 @@
 ghost use Rattle.std.specs.Prelude.{◌≡◌, ◌++◌, None, Some, false, IfErr, IfOk, OnOk, slice_get};
 ghost use Rattle.std.specs.FinMap as map;
 ghost use Rattle.af_base.specs.Refusals.{at_socket, first_fit, is_full, on_process, process_at};
-ghost use Rattle.af_base.specs.Refusals.{refusal, socket_at};
+ghost use Rattle.af_base.specs.Refusals.{refusal};
 ghost use Rattle.af_base.specs.Table.{free_numbers};
 ghost use Rattle.af_steps.specs.Found.{HasProcess, HasSocket};
 
@@ -40,16 +40,9 @@ pub fn socket_on(store: &Store, pid: Pid, on: Fd) -> Result<(&Process, FileRef, 
     ensures refused { IfErr result (λ e. first_fit (on_process
         (map.get store.now.world.processes pid) ++ at_socket store.now.world pid on) ≡ Some e) }
 {
-    let process = store.holdings().procs().find(pid).ok_or(Errno::ESRCH)?;
+    let holdings = store.holdings();
+    let process = holdings.procs().find(pid).ok_or(Errno::ESRCH)?;
     let file = process.lookup(on).ok_or(Errno::EBADF)?;
-    let socket = socket_at(store, &file).ok_or(Errno::ENOTSOCK)?;
+    let socket = holdings.socket(&file).ok_or(Errno::ENOTSOCK)?;
     Ok((process, file, socket))
-}
-
-/// Returns the socket; `None` for a plain or unknown file.
-#[inline(always)]
-pub fn socket_at<'a>(store: &'a Store, file: &FileRef) -> Option<Socket<'a>>
-    ensures { result ≡ socket_at store.now.world file.now }
-{
-    store.holdings().files().socket(file)
 }

@@ -1,7 +1,6 @@
 //! Steps that send and receive.
 ghost use Rattle.std.specs.Prelude.{◌≡◌, ◌≤◌, Some, None, IfOk, IfErr, OnOk, length, filter_map};
 ghost use Rattle.std.specs.Prelude.{is_none, nat_lt};
-ghost use Rattle.std.specs.List.{list_any};
 ghost use Rattle.std.specs.FinMap as map;
 ghost use Rattle.af_base.specs.Changes.{push_message};
 ghost use Rattle.af_base.specs.Pass.{SamePass};
@@ -13,7 +12,7 @@ ghost use Rattle.af_steps.specs.Outcome.{Does, Refuses, got_reply};
 ghost use Rattle.af_steps.specs.Posted.{HasRoom, message_in};
 
 use crate::engine::Engine;
-use crate::lookups::{socket_at, socket_on};
+use crate::lookups::socket_on;
 use af_base::errno::Errno;
 use af_base::events::{Reply, State, Step};
 use af_base::ids::{Fd, FileRef, Pid, Uid};
@@ -121,13 +120,11 @@ impl Engine {
         let (process, file, socket) = socket_on(&self.store, pid, on)?;
         check_parts(process, bytes, attach)?;
         let peer = peer_of(&socket)?;
-        let user = process.user();
-        let (limit, privileged) = (process.limit(), process.is_privileged());
-        self.store
-            .holdings()
-            .may_send(user, limit, privileged, attach.len())?;
+        let (user, limit, privileged) = process.who();
+        let holdings = self.store.holdings();
+        holdings.may_send(user, limit, privileged, attach.len())?;
         // The peer of a connected socket is a live socket.
-        if socket_at(&self.store, &peer).unwrap().queue().len() >= MAX_MESSAGES {
+        if holdings.socket(&peer).unwrap().queue().len() >= MAX_MESSAGES {
             return Err(Errno::EAGAIN);
         }
         let attached = files_at(self.alloc, process, attach)?;
@@ -245,17 +242,12 @@ fn check_parts(process: &Process, bytes: &[u8], attach: &[Fd]) -> Result<(), Err
     if bytes.len() > MAX_BYTES {
         return Err(Errno::EMSGSIZE);
     }
-    if any_free(process, attach) {
-        return Err(Errno::EBADF);
+    for fd in attach {
+        if process.lookup(*fd).is_none() {
+            return Err(Errno::EBADF);
+        }
     }
     Ok(())
-}
-
-/// Returns whether one of these descriptors of the process is free.
-fn any_free(process: &Process, fds: &[Fd]) -> bool
-    ensures { result ≡ list_any (λ n. is_none (map.get process.now.process.table n)) fds.now }
-{
-    fds.iter().any(|fd| process.lookup(*fd).is_none())
 }
 
 /// Returns the peer that a socket sends to, or why it cannot.

@@ -8,7 +8,6 @@ ghost use Rattle.af_base.specs.Refusals.{peer_of};
 ghost use Rattle.af_base.specs.World.{IsLive};
 
 use crate::engine::Engine;
-use crate::lookups::socket_at;
 use crate::messages::check_receive;
 use crate::sockets::check_accept;
 use af_base::errno::Errno;
@@ -75,7 +74,7 @@ fn writes(store: &Store, socket: &Socket) -> bool
 fn has_room(store: &Store, file: &FileRef) -> bool
     ensures { result ≡ nat_lt (length (queue_at store.now.world file.now)) MAX_MESSAGES }
 {
-    match socket_at(store, file) {
+    match store.holdings().socket(file) {
         Some(socket) => socket.queue().len() < MAX_MESSAGES,
         None => true,
     }

@@ -7,7 +7,7 @@ ghost use Rattle.af_base.specs.Refusals.{on_listener};
 ghost use Rattle.af_steps.specs.Outcome.{Does, Refuses};
 
 use crate::engine::Engine;
-use crate::lookups::{place_for_file, socket_at, socket_on};
+use crate::lookups::{place_for_file, socket_on};
 use af_base::errno::Errno;
 use af_base::events::{Reply, SockType, State, Step};
 use af_base::ids::{Fd, Pid};
@@ -94,7 +94,7 @@ impl Engine {
             .find_name(name)
             .ok_or(Errno::ECONNREFUSED)?;
         let kind = client.kind();
-        check_listener(&socket_at(&self.store, &listener).unwrap(), kind)?;
+        check_listener(&self.store.holdings().socket(&listener).unwrap(), kind)?;
         if self.store.holdings().files().is_full(1) {
             return Err(Errno::ENFILE);
         }

@@ -36,9 +36,10 @@ impl Hints {
         ensures there { IfSome result (λ i. slice_get (keys processes.now) i ≡ Some pid) }
         ensures none { IfNone result (get nat_eq processes.now pid ≡ None) }
     {
-        match self.hinted_index(processes, pid) {
-            Some(index) => Some(index),
-            None => search(processes, pid),
+        let hint = self.places[pid.0 as usize % HINTS];
+        match processes.get_index(hint) {
+            Some((there, _)) if *there == pid => Some(hint),
+            _ => search(processes, pid),
         }
     }
 
@@ -48,23 +49,14 @@ impl Hints {
         ensures there { IfSome result (λ i. slice_get (keys processes.now) i ≡ Some pid) }
         ensures none { IfNone result (get nat_eq processes.now pid ≡ None) }
     {
-        if let Some(index) = self.hinted_index(processes, pid) {
-            return Some(index);
-        }
-        let index = search(processes, pid)?;
-        self.set(pid, index);
-        Some(index)
-    }
-
-    /// Returns the hint, if the process of this pid is there.
-    #[inline(always)]
-    fn hinted_index(&self, processes: &IndexMap<Pid, Process>, pid: Pid) -> Option<usize>
-        ensures { IfSome result (λ i. slice_get (keys processes.now) i ≡ Some pid) }
-    {
         let hint = self.places[pid.0 as usize % HINTS];
         match processes.get_index(hint) {
             Some((there, _)) if *there == pid => Some(hint),
-            _ => None,
+            _ => {
+                let index = search(processes, pid)?;
+                self.set(pid, index);
+                Some(index)
+            }
         }
     }
 }

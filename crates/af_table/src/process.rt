@@ -104,12 +104,14 @@ impl Process {
         self.limit
     }
 
-    /// Returns whether it is exempt from the bound on its user's descriptors in flight (unix(7),
-    /// CAP_SYS_RESOURCE).
-    pub fn is_privileged(&self) -> bool
-        ensures { result ≡ self.now.process.privileged }
+    /// Returns its user, its limit on descriptors, and whether it is privileged, so exempt from the
+    /// bound on its user's descriptors in flight (unix(7), CAP_SYS_RESOURCE).
+    pub fn who(&self) -> (Uid, u32, bool)
+        ensures user { result.0 ≡ self.now.process.user }
+        ensures limit { result.1 ≡ self.now.process.limit }
+        ensures privileged { result.2 ≡ self.now.process.privileged }
     {
-        self.privileged
+        (self.user, self.limit, self.privileged)
     }
 
     /// Returns the file of the descriptor, if it is open.

@@ -127,8 +127,7 @@ impl Procs {
     pub fn who(&self, pid: Pid) -> Option<(Uid, u32, bool)>
         ensures { result ≡ who_in self.now.processes pid }
     {
-        let process = self.find(pid)?;
-        Some((process.user(), process.limit(), process.is_privileged()))
+        Some(self.find(pid)?.who())
     }
 
     /// Returns the lowest free number of the process (open(2)). Returns `None` where all numbers

@@ -55,8 +55,8 @@ unwrap-requires c =
     let w = c.self.inside.store.world in
     let g = c.in_ok-listener.listener in
     let has : named w.files c.args.name.now ≡ Some g = search rules in
-    let there = ap is_none c.socket_at.ensures ∙ listener-is w c.args.name.now g has in
-    some-by c.socket_at.result (λ none. false≢true (sym there ∙ ap is_none none))
+    let there = ap is_none (c.socket.ensures ∙ ap (λ v. socket_at v g) c.holdings-2.ensures.world) ∙ listener-is w c.args.name.now g has in
+    some-by c.socket.result (λ none. false≢true (sym there ∙ ap is_none none))
 
 pub make_embryo-requires : goal.make_embryo-requires
 make_embryo-requires c =

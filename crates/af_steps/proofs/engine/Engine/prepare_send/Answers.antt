@@ -1,5 +1,5 @@
 use Rattle.std.proofs.Common.{ℕ, ◌≡◌, ◌<◌, ◌∷◌, [], true, false, length, refl, sym, ap, ◌∙◌, subst, ◌++◌}
-use Rattle.std.specs.Prelude.{None, Some, Err, is_none, nat_le}
+use Rattle.std.specs.Prelude.{None, Option, Some, Err, is_none, nat_le}
 use Rattle.std.proofs.lemmas.Bool.{le-leb, lt-leb}
 use Rattle.af_base.specs.declared.errno.Errno.TheVariants.{EAGAIN, ENOMEM}
 use Rattle.af_base.specs.declared.events.Step.TheVariants as step
@@ -8,7 +8,7 @@ use Rattle.af_base.specs.Counts.{charged, total}
 use Rattle.af_base.specs.Pass.{Machine}
 use Rattle.af_base.specs.Places.{queue_at, table_at}
 use Rattle.af_base.specs.Refusals.{first_fit, refusal, on_charge, socket_at, on_parts, on_peer, on_room, peer_of, process_at, socket_on}
-use Rattle.af_base.specs.World.{Message}
+use Rattle.af_base.specs.World.{Message, Socket, World}
 use Rattle.af_steps.specs.Posted.{HasRoom, message_in}
 use Rattle.af_steps.specs.Found.{HasSocket}
 use Rattle.af_steps.proofs.LookupRows.{is_process, queue-is, no-socket}
@@ -34,9 +34,13 @@ has c = c.in_ok-process.ensures.found
 
 -- The charge was tested by what the process and the holdings have.
 charge : (c : After-may_send) (found : HasSocket c.self.inside.store.world c.args.pid c.in_ok-process.process.now.process c.args.on c.in_ok-process.file c.in_ok-process.socket)
-    → first_fit (charges found c.args.bytes.now c.args.attach.now) ≡ first_fit (on_charge (charged c.holdings.result.now.world c.user-user.result) (total c.holdings.result.now.world) c.limit-limit.result c.is_privileged-privileged.result (length c.args.attach.now))
+    → first_fit (charges found c.args.bytes.now c.args.attach.now) ≡ first_fit (on_charge (charged c.holdings-holdings.result.now.world c.who-user.result.0) (total c.holdings-holdings.result.now.world) c.who-user.result.1 c.who-user.result.2 (length c.args.attach.now))
 charge c found =
-    λ i. first_fit (on_charge (charged (sym c.holdings.ensures.world i) (sym c.user-user.ensures i)) (total (sym c.holdings.ensures.world i)) (sym c.limit-limit.ensures.value i) (sym c.is_privileged-privileged.ensures i) (length c.args.attach.now))
+    λ i. first_fit (on_charge (charged (sym c.holdings-holdings.ensures.world i) (sym c.who-user.ensures.user i)) (total (sym c.holdings-holdings.ensures.world i)) (sym c.who-user.ensures.limit i) (sym c.who-user.ensures.privileged i) (length c.args.attach.now))
+
+-- The socket that a look-up finds is that of the world.
+heard : (w v : World) (p : ℕ) (o : Option Socket) (y : Socket) → v ≡ w → o ≡ socket_at v p → o ≡ Some y → socket_at w p ≡ Some y
+heard w v p o y same is some = sym (is ∙ ap (λ u. socket_at u p) same) ∙ some
 
 -- The queue of the peer has room.
 low : (c : After-files_at) → length c.unwrap.result.queue < MAX_MESSAGES
@@ -48,7 +52,7 @@ fits : (c : After-files_at) (found : HasSocket c.self.inside.store.world c.args.
 fits c found paid =
     let y = c.unwrap.result in
     let room : nat_le MAX_MESSAGES (length y.queue) ≡ false = lt-leb MAX_MESSAGES (length y.queue) (low c) in
-    after-charge found c.args.bytes.now c.args.attach.now c.in_ok-check_parts.ensures.ok c.in_ok-peer.ensures.ok paid c.in_ok-peer.peer y c.in_ok-peer.ensures.peer (sym c.socket_at.ensures ∙ c.unwrap.ensures) ∙ ap (λ b. first_fit ((b, EAGAIN) ∷ [])) room
+    after-charge found c.args.bytes.now c.args.attach.now c.in_ok-check_parts.ensures.ok c.in_ok-peer.ensures.ok paid c.in_ok-peer.peer y c.in_ok-peer.ensures.peer (heard _ _ _ _ _ c.holdings-holdings.ensures.world c.socket.ensures c.unwrap.ensures) ∙ ap (λ b. first_fit ((b, EAGAIN) ∷ [])) room
 
 pub returns-in_err-check_parts-clause-refused : goal.returns-in_err-check_parts-clause-refused
 returns-in_err-check_parts-clause-refused c =
@@ -76,7 +80,7 @@ returns-then-len-ge-MAX_MESSAGES-clause-refused c =
     let found = has at.In_ok-process in
     let y = c.unwrap.result in
     let full = subst (λ n. nat_le MAX_MESSAGES n ≡ true) (c.len.ensures.value ∙ ap length c.queue.ensures) (le-leb MAX_MESSAGES c.len.result c.if-len-ge-MAX_MESSAGES.true) in
-    let fits = after-charge found c.args.bytes.now c.args.attach.now c.in_ok-check_parts.ensures.ok c.in_ok-peer.ensures.ok (charge at.After-may_send found ∙ c.in_ok-may_send.ensures.ok) c.in_ok-peer.peer y c.in_ok-peer.ensures.peer (sym c.socket_at.ensures ∙ c.unwrap.ensures) ∙ ap (λ b. first_fit ((b, EAGAIN) ∷ [])) full in
+    let fits = after-charge found c.args.bytes.now c.args.attach.now c.in_ok-check_parts.ensures.ok c.in_ok-peer.ensures.ok (charge at.After-may_send found ∙ c.in_ok-may_send.ensures.ok) c.in_ok-peer.peer y c.in_ok-peer.ensures.peer (heard _ _ _ _ _ c.holdings-holdings.ensures.world c.socket.ensures c.unwrap.ensures) ∙ ap (λ b. first_fit ((b, EAGAIN) ∷ [])) full in
     refuses c.self.view_is c.args.pid (step.Send c.args.on c.args.bytes.now c.args.attach.now) {X = ℕ} c.args.self.now (Err EAGAIN) refl EAGAIN refl fits
 
 pub returns-in_err-attached-clause-refused : goal.returns-in_err-attached-clause-refused
@@ -97,16 +101,16 @@ returns-clause-room c =
     let found = has at.In_ok-process in
     let w = c.self.inside.store.world in
     let y = c.unwrap.result in
-    let m : Message = message_in (record { peer = c.in_ok-peer.peer; attached = c.in_ok-attached.attached; user = c.user-user.result }) c.args.bytes.now in
-    let is : m ≡ sent found c.args.bytes.now c.args.attach.now = λ i. record { bytes = c.args.bytes.now; attached = c.in_ok-attached.ensures.value i; user = c.user-user.ensures i } in
-    let heard : socket_at w c.in_ok-peer.peer ≡ Some y = sym c.socket_at.ensures ∙ c.unwrap.ensures in
+    let m : Message = message_in (record { peer = c.in_ok-peer.peer; attached = c.in_ok-attached.attached; user = c.who-user.result.0 }) c.args.bytes.now in
+    let is : m ≡ sent found c.args.bytes.now c.args.attach.now = λ i. record { bytes = c.args.bytes.now; attached = c.in_ok-attached.ensures.value i; user = c.who-user.ensures.user i } in
+    let there : socket_at w c.in_ok-peer.peer ≡ Some y = heard _ _ _ _ _ c.holdings-holdings.ensures.world c.socket.ensures c.unwrap.ensures in
     let process = found.number.process in
     subst (λ (x : Machine). HasRoom x.world c.in_ok-peer.peer m) c.self.view_is
     (record {
-      socket = ap is_none heard;
-      queue = subst (λ q. length q < MAX_MESSAGES) (sym (queue-is w c.in_ok-peer.peer y heard)) (low at.After-files_at);
+      socket = ap is_none there;
+      queue = subst (λ q. length q < MAX_MESSAGES) (sym (queue-is w c.in_ok-peer.peer y there)) (low at.After-files_at);
       tabled = sent-tabled found c.args.bytes.now c.args.attach.now m is;
-      user = (c.args.pid, process.there ∙ ap Some (sym (is_process process)), c.user-user.ensures ∙ ap (λ x. x.user) (sym (is_process process)));
+      user = (c.args.pid, process.there ∙ ap Some (sym (is_process process)), c.who-user.ensures.user ∙ ap (λ x. x.user) (sym (is_process process)));
       within = sent-within found c.args.bytes.now c.args.attach.now m is c.in_ok-check_parts.ensures.ok;
       flying = sent-flying found c.args.bytes.now c.args.attach.now m is (charge at.After-may_send found ∙ c.in_ok-may_send.ensures.ok);
     })
