@@ -2,6 +2,7 @@ pub mod Outcomes
 pub mod FoldedReplies
 pub mod LookupRows
 pub mod Numbers
+pub mod WaitingMessages
 pub mod EmptyReceives
 pub mod Sends
 pub mod Connections

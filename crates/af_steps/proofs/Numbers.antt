@@ -4,7 +4,7 @@ use Rattle.std.specs.Prelude.{Some, None, nat_lt, slice_get, slice_index}
 use Rattle.std.specs.FinMap as map
 use Rattle.std.specs.List.{All}
 use Rattle.std.proofs.lemmas.Bool.{le-ltb}
-use Rattle.af_base.specs.Refusals.{is_short, process_at}
+use Rattle.af_base.specs.Refusals.{is_short}
 use Rattle.af_base.specs.Steps.{free_at}
 use Rattle.af_base.specs.Table.{free_numbers, lowest_free}
 use Rattle.af_base.specs.World.{Process, World}
@@ -51,9 +51,8 @@ module _ {q : Process} {n : ℕ} (least : IsLowest q n) where
   is-free_at has = ap (λ r. slice_index (free_numbers r) 0) (is_process has) ∙ (begins (free_numbers q) n least.read).1
 
 -- The lowest free numbers are below the room that was made for them.
-pub numbers-below : {w : World} {p : ℕ} {q : Process} (has : HasProcess w p q) (ns : List ℕ) (count room : ℕ) → ns ≡ lowest_free count q → (0 < length ns → (process_at w p).limit ≤ room) → All (λ n. n < room) ns
-numbers-below {q = q} has ns count room is most k d within =
+pub numbers-below : (q : Process) (ns : List ℕ) (count room : ℕ) → ns ≡ lowest_free count q → (0 < length ns → q.limit ≤ room) → All (λ n. n < room) ns
+numbers-below q ns count room is most k d within =
     let low = (subst (AreFree q) (sym is) (free-lowest_free count q)).low k d within in
     let enough = most (omega (arith, within)) in
-    let same = ap (λ (x : Process). x.limit) (is_process has) in
-    omega (arith, low, enough, same)
+    omega (arith, low, enough)

@@ -1,7 +1,9 @@
 -- The results of an event's look-ups.
-use Rattle.std.specs.Prelude.{◌≡◌, ℕ, Some}
+use Rattle.std.specs.Prelude.{◌≡◌, ◌<◌, ℕ, IsTrue, List, Some, false, is_none, length, nat_eq}
 use Rattle.std.specs.FinMap as map
-use Rattle.af_base.specs.Refusals.{socket_at}
+use Rattle.af_base.specs.Places.{table_at}
+use Rattle.af_base.specs.Refusals.{socket_at, socket_on}
+use Rattle.af_base.specs.Steps.{got_at}
 use Rattle.af_base.specs.World.{Process, Socket, World}
 
 -- The process p is this one.
@@ -17,3 +19,13 @@ pub record HasNumber (w : World) (p : ℕ) (q : Process) (n f : ℕ) : Type 0 wh
 pub record HasSocket (w : World) (p : ℕ) (q : Process) (n f : ℕ) (x : Socket) : Type 0 where
   pub number : HasNumber w p q n f
   pub found : socket_at w f ≡ Some x
+
+-- A receive of process p at its descriptor n, of at most this many bytes and descriptors, takes
+-- from socket f, where a message waits, and installs files at these numbers (recvmsg(2)).
+pub record HasMessage (w : World) (p n bytes fds f : ℕ) (ns : List ℕ) : Type 0 where
+  pub some : 0 < bytes
+  pub there : IsTrue (map.contains_key w.processes p)
+  pub tabled : table_at w p n ≡ Some f
+  pub socket : is_none (socket_at w f) ≡ false
+  pub waiting : nat_eq (length (socket_on w p n).queue) 0 ≡ false
+  pub numbers : ns ≡ got_at w p n bytes fds

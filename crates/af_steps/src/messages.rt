@@ -1,6 +1,6 @@
 //! Steps that send and receive.
 ghost use Rattle.std.specs.Prelude.{◌≡◌, ◌≤◌, Some, None, IfOk, IfErr, OnOk, length, filter_map};
-ghost use Rattle.std.specs.Prelude.{is_none, nat_lt};
+ghost use Rattle.std.specs.Prelude.{IfNone, IfSome, is_none, nat_lt};
 ghost use Rattle.std.specs.FinMap as map;
 ghost use Rattle.af_base.specs.Changes.{push_message};
 ghost use Rattle.af_base.specs.Pass.{SamePass};
@@ -8,6 +8,7 @@ ghost use Rattle.af_base.specs.Refusals.{first_fit, on_parts, on_peer, on_receiv
 ghost use Rattle.af_base.specs.Refusals.{refusal};
 ghost use Rattle.af_base.specs.Steps.{effect};
 ghost use Rattle.af_base.specs.Unheld.{Settles};
+ghost use Rattle.af_steps.specs.Found.{HasMessage};
 ghost use Rattle.af_steps.specs.Outcome.{Does, Refuses, got_reply};
 ghost use Rattle.af_steps.specs.Posted.{HasRoom, message_in};
 
@@ -156,6 +157,40 @@ impl Engine {
         Ok(count)
     }
 
+    /// Returns the socket that a receive or a peek takes from, and the free descriptors at which it
+    /// installs files; `None` where nothing is left to receive, and the peer is gone. The refusals
+    /// are those of `recv`.
+    #[inline(always)]
+    fn prepare_receive(
+        &self,
+        pid: Pid,
+        on: Fd,
+        max_bytes: u32,
+        max_fds: u32,
+    ) -> Result<Option<(FileRef, Vec<Fd>)>, Errno>
+        ensures fits { OnOk result
+            (refusal self.now.world pid (Step.Recv on max_bytes max_fds) ≡ None) }
+        ensures message { IfOk result (λ found. IfSome found (λ r.
+            HasMessage self.now.world pid on max_bytes max_fds r.0 r.1.items)) }
+        ensures received_end { IfOk result (λ found. IfNone found
+            (Does self.now pid (Step.Recv on max_bytes max_fds) Reply.End self.now)) }
+        ensures peeked_end { IfOk result (λ found. IfNone found
+            (Does self.now pid (Step.Peek on max_bytes max_fds) Reply.End self.now)) }
+        ensures refused { IfErr result (λ e.
+            Refuses self.now pid (Step.Recv on max_bytes max_fds) e self.now) }
+    {
+        let (process, file, socket) = socket_on(&self.store, pid, on)?;
+        check_receive(&socket, max_bytes)?;
+        if socket.queue().len() == 0 {
+            return Ok(None);
+        }
+        let files = socket
+            .queue()
+            .files_in_receive(socket.kind(), max_bytes as usize);
+        let fds = process.lowest_free(self.alloc, files.min(max_fds as usize))?;
+        Ok(Some((file, fds)))
+    }
+
     /// Receives at most this many bytes and descriptors (recvmsg(2)). A packet's bytes beyond
     /// `max_bytes` are dropped (recvmsg(2), MSG_TRUNC); a stream's wait for the next receive.
     /// Descriptors beyond `max_fds` or the free numbers are closed (unix(7), SCM_RIGHTS;
@@ -175,14 +210,10 @@ impl Engine {
         ensures refused { IfErr result (λ e.
             Refuses self.old pid (Step.Recv on max_bytes max_fds) e self.new) }
     {
-        let (process, file, socket) = socket_on(&self.store, pid, on)?;
-        check_receive(&socket, max_bytes)?;
-        if socket.queue().len() == 0 {
+        let Some((file, fds)) = self.prepare_receive(pid, on, max_bytes, max_fds)? else {
             return Ok(Received::End);
-        }
+        };
         let max = max_bytes as usize;
-        let files = socket.queue().files_in_receive(socket.kind(), max);
-        let fds = process.lowest_free(self.alloc, files.min(max_fds as usize))?;
         // A file in a table is no garbage of a running pass.
         self.store.lemma_is_spared();
         self.store.room_for(pid, fds.len())?;
@@ -209,17 +240,10 @@ impl Engine {
         ensures refused { IfErr result (λ e.
             Refuses self.old pid (Step.Peek on max_bytes max_fds) e self.new) }
     {
-        let (process, file, socket) = socket_on(&self.store, pid, on)?;
-        check_receive(&socket, max_bytes)?;
-        if socket.queue().len() == 0 {
+        let Some((file, fds)) = self.prepare_receive(pid, on, max_bytes, max_fds)? else {
             return Ok(Received::End);
-        }
+        };
         let max = max_bytes as usize;
-        let count = socket
-            .queue()
-            .files_in_receive(socket.kind(), max)
-            .min(max_fds as usize);
-        let fds = process.lowest_free(self.alloc, count)?;
         // A file in a table is no garbage of a running pass.
         self.store.lemma_is_spared();
         self.store.room_for(pid, fds.len())?;
