@@ -244,11 +244,11 @@ fn clear_all_marks(rows: &mut TrackedTable)
     let mut near = 0;
     while let Some((file, at)) = rows.table.next_after(last, near) {
         // Each file has a mark.
-        rows.lemma_are_one();
+        rows.table.lemma_are_one();
         rows.set_mark(&file, Mark::none());
         last = file.ino();
         near = at;
     }
     // And nobody else has one.
-    rows.lemma_are_one();
+    rows.table.lemma_are_one();
 }

@@ -453,13 +453,6 @@ impl TrackedTable {
         self.table.scan(file, epoch)
     }
 
-    /// Does nothing at run time. Shows that all parts of a file come and go together.
-    pub fn lemma_are_one(&self)
-        ensures { (f : ℕ) → map.contains_key self.now.marks f ≡ map.contains_key self.now.files f }
-    {
-        self.table.lemma_are_one();
-    }
-
     /// Tells from now on which files are freed. Both lists are empty then. On an error nothing has
     /// changed.
     pub fn tell_released(&mut self) -> Result<(), AllocError>

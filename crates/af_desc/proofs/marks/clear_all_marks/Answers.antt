@@ -1,4 +1,4 @@
-use Rattle.std.proofs.Common.{◌<◌, refl, sym, ap, ◌∙◌, length, subst}
+use Rattle.std.proofs.Common.{ℕ, ◌≡◌, ◌<◌, refl, sym, ap, ◌∙◌, length, subst}
 use Rattle.std.specs.FinMap as map
 use Rattle.af_base.proofs.MapWalks.{above, fewer_above}
 use Rattle.af_base.specs.World.{Map}
@@ -27,10 +27,10 @@ loop-file-preserved c =
     let i = c.loop-file.invariant in
     let set = c.set_mark.ensures.set in
     let is = ap (λ r. r.marks) set ∙ ap (map.insert m n) c.none.ensures in
-    let same = ap (λ r. r.files) c.rows.view_is in
-    let there = c.lemma_are_one.ensures n ∙ sym (ap (λ fs. map.contains_key fs n) same) ∙ next.there in
+    let one : (q : ℕ) → map.contains_key m q ≡ map.contains_key c.rows.inside.table.files q = λ q. sym (ap (λ r. map.contains_key r.marks q) c.rows.view_is) ∙ c.lemma_are_one.ensures.marks q in
+    let there = one n ∙ next.there in
     record {
-      washed = subst (AreWashed c.set_mark.new.self.marks) (sym c.ino-last.ensures) (subst (λ o. AreWashed o n) (sym is) (washed_next m n c.loop-file.last (λ q over under. c.lemma_are_one.ensures q ∙ sym (ap (λ fs. map.contains_key fs q) same) ∙ next.least q over under) i.washed));
+      washed = subst (AreWashed c.set_mark.new.self.marks) (sym c.ino-last.ensures) (subst (λ o. AreWashed o n) (sym is) (washed_next m n c.loop-file.last (λ q over under. one q ∙ next.least q over under) i.washed));
       known = λ f. ap (λ o. map.contains_key o f) is ∙ washed_known m n there f ∙ i.known f;
       len = c.set_mark.ensures.len ∙ i.len;
       rest = set ∙ ap (λ (r : TrackedTableView). record r { marks = map.insert m n c.none.result }) i.rest ∙ ap (λ (o : Map Mark). record c.args.rows.now { marks = o }) (sym (ap (λ r. r.marks) set));
