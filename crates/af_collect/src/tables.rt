@@ -17,6 +17,7 @@ use af_table::{Process, Procs};
 
 /// Installs files at these descriptors of a process, in order, as long as there are both. Each
 /// descriptor has room, and each file has counts.
+#[inline(always)]
 pub fn table_in_all(
     procs: &mut Procs,
     files: &mut Files,
