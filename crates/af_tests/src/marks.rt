@@ -52,6 +52,29 @@ fn a_pass_marks(rt: HostRuntime) -> Result<(), Fail> {
     Ok(passes(&rt, &mut files)?)
 }
 
+/// Drops the one descriptor of a file. Returns whether the file went with it.
+fn is_gone(rt: &impl Abort, files: &mut Files, file: &FileRef) -> bool {
+    assert!(rt; files.tabled(file) == 1);
+    files.drop_descriptor(file)
+}
+
+/// A plain file goes at once with its last descriptor. One that a pass began with is listed.
+fn goes_at_once(rt: &impl Abort, files: &mut Files) -> Result<(), AllocError> {
+    let (first, second) = (file(rt, files)?, file(rt, files)?);
+    let gone = is_gone(rt, files, &first);
+    assert!(rt; gone && files.live() == 1 && files.next_waiting().is_none());
+    files.start_epoch();
+    let gone = is_gone(rt, files, &second);
+    assert!(rt; !gone && files.live() == 1 && files.next_waiting().is_some());
+    Ok(())
+}
+
+#[test]
+fn a_last_close_frees(rt: HostRuntime) -> Result<(), Fail> {
+    let mut files = Files::new(rt.alloc());
+    Ok(goes_at_once(&rt, &mut files)?)
+}
+
 /// A file is made, at the second trial where the first found no room. It is not marked.
 fn one_is_made(rt: &impl Abort, files: &mut Files) {
     let made = match file(rt, files) {
