@@ -292,8 +292,8 @@ fn drop_replaced(progress: &PassProgress, files: &mut Files, was: Option<FileRef
     }
 }
 
-/// Drops the reference of a descriptor to a file, which is marked first, while marking; a plain file
-/// without another reference may be removed at once. Returns whether it was. Takes no memory.
+/// Drops the reference of a descriptor to a file, which is marked first, while marking. A plain
+/// file without another reference may be removed at once. Returns whether it was. Takes no memory.
 #[inline(always)]
 fn lose_descriptor(progress: &PassProgress, files: &mut Files, file: &FileRef) -> bool
     requires { IsCounted Table (count_in_map files.old.counts file.now) }

@@ -145,6 +145,7 @@ impl Files {
         let Some(plain) = self.rows.sub_descriptor(file) else {
             return false;
         };
+        // The pass counts the files below its bound that it has still to mark, and lists the grey.
         if plain && file.ino().0 >= self.bound && self.grey.is_empty() {
             self.rows.remove(file, self.epoch);
             return true;
