@@ -156,7 +156,7 @@ impl Store {
         let Some(file) = places.procs.take_out(pid, fd) else {
             return false;
         };
-        lose_descriptor(&self.parts.progress, &mut places.files, &file);
+        drop_and_free(&self.parts.progress, &mut places.files, &file);
         true
     }
 
@@ -295,7 +295,7 @@ fn drop_replaced(progress: &PassProgress, files: &mut Files, was: Option<FileRef
 /// Drops the reference of a descriptor to a file, which is marked first, while marking. A plain
 /// file without another reference may be removed at once. Returns whether it was. Takes no memory.
 #[inline(always)]
-fn lose_descriptor(progress: &PassProgress, files: &mut Files, file: &FileRef) -> bool
+fn drop_and_free(progress: &PassProgress, files: &mut Files, file: &FileRef) -> bool
     requires { IsCounted Table (count_in_map files.old.counts file.now) }
     ensures removed { result ≡ true → files.new
         ≡ desc.without file.now (without_descriptor progress.now.stage file.now files.old) }

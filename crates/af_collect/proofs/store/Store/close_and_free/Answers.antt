@@ -22,24 +22,24 @@ invariant_of-self c = (neither c).1
 pub returns-in_default-clause-unchanged : goal.returns-in_default-clause-unchanged
 returns-in_default-clause-unchanged c = λ _. seen-unopened c.self.inside.parts c.places.inside c.args.pid c.args.fd (sym c.take_out.ensures.value ∙ c.in_default.is) c.take_out.new.self c.take_out.ensures.processes c.take_out.ensures.next _ c.places.view_is c.self.view_is c.take_out.ensures.rows
 
-pub lose_descriptor-requires : goal.lose_descriptor-requires
-lose_descriptor-requires c = counted-closed c.self.inside.parts c.places.inside (stood c.self.inside.parts c.places.inside c.places.view_is c.places.invariant c.self.invariant) c.args.pid c.args.fd c.in-Some.file (sym c.take_out.ensures.value ∙ c.in-Some.is)
+pub drop_and_free-requires : goal.drop_and_free-requires
+drop_and_free-requires c = counted-closed c.self.inside.parts c.places.inside (stood c.self.inside.parts c.places.inside c.places.view_is c.places.invariant c.self.invariant) c.args.pid c.args.fd c.in-Some.file (sym c.take_out.ensures.value ∙ c.in-Some.is)
 
 -- The invariants hold with these files, and what is left to go is what was before.
-abbrev Serves : goal.After-lose_descriptor → FilesView → Type 0
+abbrev Serves : goal.After-drop_and_free → FilesView → Type 0
 Serves c fs = BothInvariants c.self.inside.parts c.take_out.new.self fs c.places.inside.ledger
     × ((end : World) → Settles (world_of c.take_out.new.self fs c.places.inside.ledger) end → Settles (uninstall (the_view c.places.inside).world c.args.pid c.args.fd) end)
 
 -- So it is where the file is gone, and where it has a reference less.
-lost : (c : goal.After-lose_descriptor) → Serves c c.lose_descriptor.new.files
-lost c = by c.lose_descriptor.result refl where
-  by : (b : Bool) → c.lose_descriptor.result ≡ b → Serves c c.lose_descriptor.new.files
+lost : (c : goal.After-drop_and_free) → Serves c c.drop_and_free.new.files
+lost c = by c.drop_and_free.result refl where
+  by : (b : Bool) → c.drop_and_free.result ≡ b → Serves c c.drop_and_free.new.files
   by true e =
       let p = c.self.inside.parts in
       let h = c.places.inside in
       let was = stood p h c.places.view_is c.places.invariant c.self.invariant in
       let found = sym c.take_out.ensures.value ∙ c.in-Some.is in
-      let done = c.lose_descriptor.ensures in
+      let done = c.drop_and_free.ensures in
       let t = c.take_out.ensures in
       let gone = world-freed p h was c.args.pid c.args.fd c.in-Some.file found c.take_out.new.self t.processes t.next (done.plain e) (done.last e) in
       subst (Serves c) (sym (done.removed e)) (
@@ -53,7 +53,7 @@ lost c = by c.lose_descriptor.result refl where
       let found = sym c.take_out.ensures.value ∙ c.in-Some.is in
       let t = c.take_out.ensures in
       let closed = world-closed p h was c.args.pid c.args.fd c.in-Some.file found c.take_out.new.self t.processes t.next in
-      subst (Serves c) (sym (c.lose_descriptor.ensures.kept e)) (
+      subst (Serves c) (sym (c.drop_and_free.ensures.kept e)) (
         stands-closed p h was c.args.pid c.args.fd c.in-Some.file found c.take_out.new.self t.processes t.next,
         λ end. subst (λ w. Settles w end) closed,
       )
