@@ -1,4 +1,4 @@
--- A descriptor that is closed, and a plain file that goes with it: the invariants hold then.
+-- A descriptor is closed, and its plain file freed, or left without this reference: both invariants hold.
 use Rattle.std.proofs.Common.{◌≡◌, ◌&&◌, ℕ, false, [], add-zero, arith, refl, sym, ap, ◌∙◌, subst, nat_eq}
 use Rattle.std.specs.Prelude.{None, Some, is_some, unwrap_or}
 use Rattle.std.specs.Option.{option_and_then, option_map_or}
@@ -57,7 +57,7 @@ module _ (p : Collector) (h : Inside) (pid fd : ℕ) (free : table_at (the_view 
   pub seen-unopened : (o : StoreView) → the_view h ≡ p.places → shown p p.places ≡ o → procs.rows ≡ h.procs.rows → shown p (record (the_view h) { world = world_of procs h.files h.ledger; rows = procs.rows }) ≡ o
   seen-unopened o opened is rows = seen-same p h procs same-unopened next o opened is ∙ ap (λ r. record o { rows = r }) (rows ∙ ap (λ (t : HoldingsView). t.rows) opened ∙ ap (λ (t : StoreView). t.rows) is)
 
--- One that is open.
+-- A descriptor that is open.
 module _ (p : Collector) (h : Inside) (was : BothInvariants p h.procs h.files h.ledger) (pid fd f : ℕ) (is : table_at (the_view h).world pid fd ≡ Some f) where
   abbrev closed : World
   closed = uninstall (the_view h).world pid fd
@@ -79,7 +79,7 @@ module _ (p : Collector) (h : Inside) (was : BothInvariants p h.procs h.files h.
   exact-closed : IsExact closed tally
   exact-closed = exact-uninstall (the_view h).world pid fd f (kept_of h.files.counts h.ledger) is was.0
 
-  -- And what is kept of the pass is kept.
+  -- And so is the invariant of the pass.
   kept-closed : PassInvariant closed begun left.marks p.progress
   kept-closed = kept_tables closed refl refl (λ _. moves_uninstall begun (the_view h).world pid fd)
       (λ t. covers_uninstall begun (the_view h).world pid fd (is_marked left.marks) (below p.progress.visited) (marked_closed pid fd f was.0.whole is t was.1)) (kept_closed pid fd f was.0.whole is was.1)
@@ -123,6 +123,6 @@ module _ (p : Collector) (h : Inside) (was : BothInvariants p h.procs h.files h.
           (exact-gone closed f Plain tally plain refl refl unheld exact-closed)
           (subst (PassInvariant (without (nat_eq f) closed) begun (forgotten f left.marks)) uncounted-freed gone)
 
-      -- What is left to go is what was before.
+      -- It leaves the same files to be freed as before.
       pub settles-freed : (end : World) → Settles (without (nat_eq f) closed) end → Settles closed end
       settles-freed = settles-without closed f live unheld

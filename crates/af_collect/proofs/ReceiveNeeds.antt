@@ -1,4 +1,4 @@
--- What a receive asks of a store, of the world within it.
+-- A receive's requirements of a store, told of the world within it.
 use Rattle.std.proofs.Common.{◌≡◌, ◌<◌, ◌≤◌, ◌+◌, ◌^◌, ℕ, List, length, false, ap, sym, ◌∙◌, subst, arith}
 use Rattle.std.specs.Prelude.{IsTrue, is_none}
 use Rattle.std.specs.List.{Contains}
@@ -37,7 +37,7 @@ module _ (p : Collector) (h : Inside) (o : StoreView) (opened : the_view h ≡ p
   spared-within = subst (λ (t : StoreView). NotBegunGarbage t.pass s) (sym seen) asked.spared
 
   module _ (exact : AreExact h.procs h.files h.ledger) (counts : Map Count) (same : counts ≡ h.files.counts) (attached : List ℕ) (is : attached ≡ (received_at w s max).attached) where
-    -- The files that come have counts,
+    -- The received files have counts,
     pub files-known : (f : ℕ) → Contains attached f → IsTrue (map.contains_key counts f)
     files-known f among =
         ap (λ m. map.contains_key m f) same ∙ exact.counted f

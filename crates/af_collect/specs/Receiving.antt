@@ -1,4 +1,4 @@
--- A receive from a queue of the world: what it asks, and its result.
+-- A receive from a queue of the world: its requirements, and its result.
 use Rattle.std.specs.Prelude.{◌≡◌, ◌<◌, ℕ, IsTrue, List, false, is_none, unwrap_or}
 use Rattle.std.specs.List.{All}
 use Rattle.std.specs.FinMap as map
@@ -14,7 +14,7 @@ use Rattle.af_collect.specs.StoreView.{StoreView, room_at}
 abbrev pub taken_at : World → ℕ → ℕ → TakeResult
 taken_at w s n = let x = unwrap_or (socket_at w s) no_socket in take_from x.kind x.queue n
 
--- What a receive of at most n bytes from socket s asks: that the files can be installed at these
+-- A receive of at most n bytes from socket s is possible, and can install the files at these
 -- descriptors of process p, its lowest free ones, for which there is room.
 pub record CanReceive (v : StoreView) (s n p : ℕ) (fds : List ℕ) : Type 0 where
   pub some : 0 < n

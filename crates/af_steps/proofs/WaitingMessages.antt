@@ -1,4 +1,4 @@
--- A receive where a message waits: what it asks of the store is there.
+-- A receive where a message waits: the store meets its requirements.
 use Rattle.std.proofs.Common.{◌≡◌, ◌<◌, ◌≤◌, ℕ, List, length, ap, sym, ◌∙◌, subst}
 use Rattle.std.specs.Prelude.{IsTrue, is_none, min}
 use Rattle.std.specs.FinMap as map

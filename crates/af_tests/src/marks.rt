@@ -52,27 +52,28 @@ fn a_pass_marks(rt: HostRuntime) -> Result<(), Fail> {
     Ok(passes(&rt, &mut files)?)
 }
 
-/// Drops the one descriptor of a file. Returns whether the file went with it.
-fn is_gone(rt: &impl Abort, files: &mut Files, file: &FileRef) -> bool {
+/// Drops the one descriptor of a file. Returns whether this freed the file.
+fn drop_frees(rt: &impl Abort, files: &mut Files, file: &FileRef) -> bool {
     assert!(rt; files.tabled(file) == 1);
     files.drop_descriptor(file)
 }
 
-/// A plain file goes at once with its last descriptor. One that a pass began with is listed.
-fn goes_at_once(rt: &impl Abort, files: &mut Files) -> Result<(), AllocError> {
+/// Drops the last descriptor of two plain files: the first is freed at once, and the second, which a
+/// pass began with, is listed as unreferenced.
+fn free_or_list(rt: &impl Abort, files: &mut Files) -> Result<(), AllocError> {
     let (first, second) = (file(rt, files)?, file(rt, files)?);
-    let gone = is_gone(rt, files, &first);
-    assert!(rt; gone && files.live() == 1 && files.next_waiting().is_none());
+    let freed = drop_frees(rt, files, &first);
+    assert!(rt; freed && files.live() == 1 && files.next_waiting().is_none());
     files.start_epoch();
-    let gone = is_gone(rt, files, &second);
-    assert!(rt; !gone && files.live() == 1 && files.next_waiting().is_some());
+    let freed = drop_frees(rt, files, &second);
+    assert!(rt; !freed && files.live() == 1 && files.next_waiting().is_some());
     Ok(())
 }
 
 #[test]
 fn a_last_close_frees(rt: HostRuntime) -> Result<(), Fail> {
     let mut files = Files::new(rt.alloc());
-    Ok(goes_at_once(&rt, &mut files)?)
+    Ok(free_or_list(&rt, &mut files)?)
 }
 
 /// A file is made, at the second trial where the first found no room. It is not marked.
