@@ -61,7 +61,7 @@ impl Collector {
         ensures progress { self.new.progress
             ≡ record self.old.progress { reclaimed = self.new.progress.reclaimed } }
     {
-        while let Some(file) = self.places.next_waiting() {
+        while let Some(file) = self.places.next_unreferenced() {
             // Most files hold nothing, and one look tells.
             if self.places.is_bare(&file) {
                 self.take_away(&file);

@@ -104,7 +104,7 @@ impl Store {
             ≡ record self.old.progress { reclaimed = self.new.progress.reclaimed } }
     {
         // Most steps let nothing go, and then there is nothing to call.
-        let Some(_) = self.parts.places.next_waiting() else {
+        let Some(_) = self.parts.places.next_unreferenced() else {
             return;
         };
         self.parts.release();

@@ -98,12 +98,12 @@ impl Holdings {
     }
 
     /// Returns a live file that no place holds, if there is one.
-    pub(crate) fn next_waiting(&self) -> Option<FileRef>
+    pub(crate) fn next_unreferenced(&self) -> Option<FileRef>
         ensures live { IfSome result (λ f. IsLive self.now.world f) }
         ensures unheld { IfSome result (λ f. refs self.now.world f ≡ 0) }
         ensures none { IfNone result (IsSound self.now.world) }
     {
-        self.files.next_waiting()
+        self.files.next_unreferenced()
     }
 
     /// Frees an unheld and empty file, and hangs up its peer. Returns whether it was a socket that

@@ -81,7 +81,7 @@ impl Files {
 
     /// Returns a file that no place holds, if there is one.
     #[inline(always)]
-    pub fn next_waiting(&self) -> Option<FileRef>
+    pub fn next_unreferenced(&self) -> Option<FileRef>
         ensures some { IfSome result (λ f. is_unreferenced self.now.counts f ≡ true) }
         ensures none { IfNone result ((f : ℕ) → is_unreferenced self.now.counts f ≡ false) }
     {

@@ -63,10 +63,10 @@ fn drop_frees(rt: &impl Abort, files: &mut Files, file: &FileRef) -> bool {
 fn free_or_list(rt: &impl Abort, files: &mut Files) -> Result<(), AllocError> {
     let (first, second) = (file(rt, files)?, file(rt, files)?);
     let freed = drop_frees(rt, files, &first);
-    assert!(rt; freed && files.live() == 1 && files.next_waiting().is_none());
+    assert!(rt; freed && files.live() == 1 && files.next_unreferenced().is_none());
     files.start_epoch();
     let freed = drop_frees(rt, files, &second);
-    assert!(rt; !freed && files.live() == 1 && files.next_waiting().is_some());
+    assert!(rt; !freed && files.live() == 1 && files.next_unreferenced().is_some());
     Ok(())
 }
 
