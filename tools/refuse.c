@@ -1,7 +1,8 @@
-/* Stands before malloc and realloc of the C library: it counts the requests for memory, and refuses one of them.
+/* Stands before malloc and realloc of the C library: it counts the requests for memory, and refuses some of them.
 
-   REFUSE_FD is the number of an open file with two words of 64 bits: how many requests were made so far, which is
-   counted here, and which of them is refused, from 1 on; 0 refuses none. tools/stress compiles and loads this file. */
+   REFUSE_FD is the number of an open file with three words of 64 bits: how many requests were made so far, which is
+   counted here, which of them is the first refused, from 1 on (0 refuses none), and how many behind it are refused
+   too. tools/stress compiles and loads this file. */
 #define _GNU_SOURCE
 #include <dlfcn.h>
 #include <errno.h>
@@ -12,6 +13,7 @@
 struct words {
     atomic_long asked;
     long refused;
+    long more;
 };
 
 static struct words *words;
@@ -36,7 +38,10 @@ __attribute__((constructor)) static void begin(void) {
 }
 
 static int is_refused(void) {
-    if (!words || atomic_fetch_add(&words->asked, 1) + 1 != words->refused)
+    if (!words)
+        return 0;
+    long nth = atomic_fetch_add(&words->asked, 1) + 1;
+    if (!words->refused || nth < words->refused || nth > words->refused + words->more)
         return 0;
     errno = ENOMEM;
     return 1;
