@@ -1,6 +1,7 @@
 //! Numbers with a type of their own. A clause sees each as its number.
-ghost use Rattle.std.specs.Prelude.{◌≡◌};
+ghost use Rattle.std.specs.Prelude.{◌≡◌, ◌≤◌, IsTrue};
 
+use crate::limits::MAX_INO;
 use std::fmt;
 use std::marker::Model;
 
@@ -30,50 +31,67 @@ impl fmt::Display for Ino {
     }
 }
 
+/// The number of keys that a `FileRef` tells apart.
+const KEYS: u64 = 1 << 24;
+
 /// A file, and the key under which its row was found. A clause sees the number alone: the key is a
 /// hint, and each use of it compares the number.
 #[derive(Debug, Default, Drop)]
 pub struct FileRef {
-    ino: Ino,
-    key: usize,
+    /// The number times `KEYS`, plus the key: tables and messages have one word for each file.
+    word: u64,
 }
 
 impl Model for FileRef {
-    ghost use Rattle.std.specs.Prelude.{ℕ};
+    ghost use Rattle.std.specs.Prelude.{ℕ, ◌/◌};
+    ghost use Rattle.af_base.specs.declared.ids.TheConstants.{KEYS};
 
     ghost Value = { ℕ };
 
-    ghost view = { λ a. a.ino };
+    ghost view = { λ a. a.word / KEYS };
 }
 
 impl FileRef {
-    /// Makes a reference to the file of this number, whose row has this key.
+    /// Makes a reference to the file of this number, whose row has this key. A key of `KEYS` or
+    /// more is cut, and leads to a search.
+    #[inline(always)]
     pub fn new(ino: Ino, key: usize) -> FileRef
+        requires { ino ≤ MAX_INO }
         ensures { result ≡ ino }
     {
-        FileRef { ino, key }
+        FileRef {
+            word: ino.0 * KEYS + key as u64 % KEYS,
+        }
     }
 
     /// Returns its number.
+    #[inline(always)]
     pub fn ino(&self) -> Ino
         ensures { result ≡ self.now }
     {
-        self.ino
+        Ino(self.word / KEYS)
     }
 
     /// Returns the key under which the row was found. No contract rests on it.
+    #[inline(always)]
     pub fn key(&self) -> usize {
-        self.key
+        (self.word % KEYS) as usize
+    }
+
+    /// Returns whether both have the same number and key, by one comparison.
+    #[inline(always)]
+    pub fn is_same(&self, other: &FileRef) -> bool
+        ensures { IsTrue result → self.now ≡ other.now }
+    {
+        self.word == other.word
     }
 
     /// Returns another reference to the same file.
+    #[inline(always)]
     pub fn duplicate(&self) -> FileRef
         ensures { result ≡ self.now }
     {
-        FileRef {
-            ino: self.ino,
-            key: self.key,
-        }
+        FileRef { word: self.word }
     }
 }
 

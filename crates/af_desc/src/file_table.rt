@@ -24,7 +24,7 @@ use crate::file_row::FileRow;
 use crate::socket::{Endpoint, Socket};
 use af_base::ids::{FileRef, Ino};
 use af_base::items::Items;
-use af_base::limits::MAX_MESSAGES;
+use af_base::limits::{MAX_INO, MAX_MESSAGES};
 use af_ledger::{Count, Place};
 use af_mark::{Color, Mark};
 use af_queue::{Chain, Msg, Node, Queue, Taken, pool};
@@ -122,6 +122,7 @@ impl FileTable {
     pub fn push(&mut self, ino: Ino, endpoint: Option<Endpoint>, place: &Place) -> FileRef
         requires room { 0 < self.old.room }
         requires above { self.old.last < ino }
+        requires number { ino ≤ MAX_INO }
         ensures file { result ≡ ino }
         ensures pushed { self.new
             ≡ with_entry ino (file_of endpoint) place.now self.new.room self.old }

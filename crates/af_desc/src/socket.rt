@@ -10,7 +10,6 @@ use af_base::events::{SockType, State};
 use af_base::ids::FileRef;
 use af_base::items::Items;
 use af_listen::Backlog;
-use af_mark::clamp_index;
 use af_queue::Queue;
 use std::alloc::{AllocError, Global};
 use std::marker::Model;
@@ -19,11 +18,22 @@ use std::marker::Model;
 #[derive(Drop)]
 pub struct Endpoint {
     kind: SockType,
-    /// The key of the peer's row, if there is a peer: a hint.
-    peer_key: u32,
-    state: State,
+    link: Link,
     /// The parts that only a socket with a name has; most have none.
     named_parts: Option<Box<NamedParts>>,
+}
+
+/// A connection state, which finds the peer as a file. A contract sees it as a `State`.
+#[derive(Drop)]
+enum Link {
+    /// Never connected, and not listening.
+    Idle,
+    /// Waits for connections, with this backlog.
+    Listening(u32),
+    /// Connected to this live peer.
+    Connected(FileRef),
+    /// Was connected; the peer is gone.
+    HungUp,
 }
 
 /// A name, and the embryos that wait at the socket of that name: none, until it listens.
@@ -38,18 +48,19 @@ impl Model for Endpoint {
     ghost use Rattle.std.specs.Option.{option_map_or};
     ghost use Rattle.af_base.specs.Refusals.{room_of};
     ghost use Rattle.af_base.specs.World as world;
+    ghost use Rattle.af_desc.specs.Link.{state_of};
 
     ghost Value = { world.Socket };
 
     ghost view = { λ a. record {
       kind = a.kind;
-      state = a.state;
+      state = state_of a.link;
       name = option_map (λ b. b.value.name) a.named_parts;
       queue = [];
       backlog = option_map_or (λ b. b.value.backlog.waiting) a.named_parts [];
     } };
 
-    ghost invariant = { λ a. room_of a.state
+    ghost invariant = { λ a. room_of (state_of a.link)
         ≤ option_map_or (λ b. b.value.backlog.most) a.named_parts 0 };
 }
 
@@ -60,8 +71,7 @@ impl Endpoint {
     {
         Endpoint {
             kind,
-            peer_key: 0,
-            state: State::Idle,
+            link: Link::Idle,
             named_parts: None,
         }
     }
@@ -72,8 +82,7 @@ impl Endpoint {
     {
         Endpoint {
             kind,
-            peer_key: clamp_index(peer.key()),
-            state: State::Connected(peer.ino()),
+            link: Link::Connected(peer.duplicate()),
             named_parts: None,
         }
     }
@@ -101,14 +110,27 @@ impl Endpoint {
         self.kind
     }
 
+    /// Returns its connection state.
+    #[inline(always)]
+    fn state(&self) -> State
+        ensures { result ≡ self.now.state }
+    {
+        match &self.link {
+            Link::Idle => State::Idle,
+            Link::Listening(most) => State::Listening(*most),
+            Link::Connected(peer) => State::Connected(peer.ino()),
+            Link::HungUp => State::HungUp,
+        }
+    }
+
     /// Returns its peer, if it is connected and the peer is live.
     pub fn peer(&self) -> Option<FileRef>
         ensures some { IfSome result (λ peer. self.now.state ≡ State.Connected peer) }
         ensures none { IfNone result ((peer : ℕ) → ¬ (self.now.state ≡ State.Connected peer)) }
     {
-        match self.state {
-            State::Connected(ino) => Some(FileRef::new(ino, self.peer_key as usize)),
-            State::Idle | State::Listening(_) | State::HungUp => None,
+        match &self.link {
+            Link::Connected(peer) => Some(peer.duplicate()),
+            Link::Idle | Link::Listening(_) | Link::HungUp => None,
         }
     }
 
@@ -149,7 +171,7 @@ impl Endpoint {
             return Ok(());
         };
         named_parts.backlog = backlog;
-        self.state = State::Listening(most);
+        self.link = Link::Listening(most);
         Ok(())
     }
 
@@ -157,8 +179,7 @@ impl Endpoint {
     pub fn connect(&mut self, peer: &FileRef)
         ensures { self.new ≡ connected peer.now self.old }
     {
-        self.state = State::Connected(peer.ino());
-        self.peer_key = clamp_index(peer.key());
+        self.link = Link::Connected(peer.duplicate());
     }
 
     /// Appends an embryo. Takes no memory.
@@ -186,14 +207,18 @@ impl Endpoint {
     pub fn set_peer_hint(&mut self, peer: &FileRef)
         ensures { self.new ≡ self.old }
     {
-        self.peer_key = clamp_index(peer.key());
+        if let Link::Connected(known) = &mut self.link
+            && known.ino() == peer.ino()
+        {
+            *known = peer.duplicate();
+        }
     }
 
     /// Marks the peer as gone.
     pub fn hang_up(&mut self)
         ensures { self.new ≡ hung_up self.old }
     {
-        self.state = State::HungUp;
+        self.link = Link::HungUp;
     }
 }
 
@@ -234,8 +259,7 @@ impl<'a> Socket<'a> {
     pub fn state(&self) -> State
         ensures { result ≡ self.now.state }
     {
-        let endpoint = self.endpoint;
-        endpoint.state
+        self.endpoint.state()
     }
 
     /// Returns its peer, if it is connected and the peer is live.

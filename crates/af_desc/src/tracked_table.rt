@@ -27,7 +27,7 @@ use crate::socket::Endpoint;
 use af_base::file_list::swap_remove_file;
 use af_base::ids::{FileRef, Ino};
 use af_base::items::Items;
-use af_base::limits::MAX_MESSAGES;
+use af_base::limits::{MAX_INO, MAX_MESSAGES};
 use af_ledger::Place;
 use af_mark::{Mark, clamp_index};
 use af_queue::{Msg, Taken};
@@ -190,6 +190,7 @@ impl TrackedTable {
     pub fn push(&mut self, ino: Ino, endpoint: Option<Endpoint>, place: &Place) -> FileRef
         requires room { 0 < self.old.room }
         requires next { ino ≡ self.old.last + 1 }
+        requires number { ino ≤ MAX_INO }
         ensures file { result ≡ ino }
         ensures pushed { self.new
             ≡ with_row ino (file_of endpoint) place.now self.new.room self.old }

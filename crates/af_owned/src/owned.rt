@@ -123,6 +123,8 @@ impl<T> Owned<T> {
             Ok(fd) => fd,
             Err(error) => return Err((error, value)),
         };
+        // The number is in bounds, since the world is within its limits.
+        self.engine.lemma_is_sound();
         self.values.push(ino, value);
         Ok(fd)
     }

@@ -1,8 +1,9 @@
 //! Tests beyond the clauses: that memory suffices if there is some, that rows are packed, and how
 //! little the newest number leaves behind.
-ghost use Rattle.std.specs.Prelude.{◌≡◌, ◌<◌, OnOk};
+ghost use Rattle.std.specs.Prelude.{◌≡◌, ◌≤◌, ◌<◌, OnOk};
 
 use af_base::ids::{FileRef, Ino};
+use af_base::limits::MAX_INO;
 use ordered_slab::OrderedSlab;
 use std::alloc::{AllocError, Global};
 use std::process::Abort;
@@ -13,7 +14,8 @@ const MANY: u64 = 5_000;
 
 /// A value comes, once there is room for it.
 fn come(values: &mut OrderedSlab<u64>, number: u64) -> Result<(), AllocError>
-    requires { values.old.last < number }
+    requires above { values.old.last < number }
+    requires number { number ≤ MAX_INO }
     ensures { OnOk result (values.new.last ≡ number) }
 {
     values.reserve(1)?;
@@ -24,6 +26,7 @@ fn come(values: &mut OrderedSlab<u64>, number: u64) -> Result<(), AllocError>
 /// Removes the value of a number, by a hint that is hardly ever right. Returns whether it was
 /// there.
 fn go(values: &mut OrderedSlab<u64>, number: u64) -> bool
+    requires { number ≤ MAX_INO }
     ensures { values.new.last ≡ values.old.last }
 {
     values.remove(&FileRef::new(Ino(number), 3)) == Some(number)

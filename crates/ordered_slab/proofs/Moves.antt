@@ -8,7 +8,7 @@ use Rattle.std.proofs.lemmas.Bool.{eqb-true, cases_lt, false≢true}
 use Rattle.std.proofs.lemmas.List.{length-set, length_push}
 use Rattle.af_base.specs.World.{Map}
 use Rattle.af_base.proofs.Lookups.{none_some, there}
-use Rattle.ordered_slab.specs.declared.order.OrderRow.{OrderRow}
+use Rattle.ordered_slab.specs.OrderView.{OrderRowView}
 use Rattle.ordered_slab.specs.Rows.{live_of, row_at, AreRows, IsLiveAt}
 use Rattle.ordered_slab.proofs.Rows.{or_else, or_none, held, same, nowhere, somewhere, append_held, live_place, mark_held, push_held, row_before, row_last, each_push, rise_push, rise_front, rise_last, set_same, set_number, set_rise, set_up, still_live, still_dead}
 
@@ -27,7 +27,7 @@ nothing_gone m n none = same _ _ (λ q. by q (nat_eq q n) refl ∙ without_numbe
   by q true e = ap (map.get m) (eqb-true q n e) ∙ none
   by q false e = refl
 
-module _ (packed rows : List OrderRow) (read last : ℕ) (h : AreRows packed rows read last) where
+module _ (packed rows : List OrderRowView) (read last : ℕ) (h : AreRows packed rows read last) where
   abbrev both : Map ℕ
   both = live_of (packed ++ rows)
 
@@ -52,7 +52,7 @@ module _ (packed rows : List OrderRow) (read last : ℕ) (h : AreRows packed row
 
   -- A number above all that there were.
   module _ (n k : ℕ) (above : last < n) where
-    abbrev new_row : OrderRow
+    abbrev new_row : OrderRowView
     new_row = record { ino = n; key = Some k }
 
     pub new_number : map.get both n ≡ None
@@ -76,7 +76,7 @@ module _ (packed rows : List OrderRow) (read last : ℕ) (h : AreRows packed row
     }
 
   -- A row that dies among the others.
-  module _ (n at : ℕ) (x : IsLiveAt rows n at) (d : OrderRow) (number : d.ino ≡ n) (gone : d.key ≡ None) where
+  module _ (n at : ℕ) (x : IsLiveAt rows n at) (d : OrderRowView) (number : d.ino ≡ n) (gone : d.key ≡ None) where
     its_number : d.ino ≡ (row_at rows at).ino
     its_number = number ∙ sym (ap (λ r. r.ino) x.2)
 
@@ -98,7 +98,7 @@ module _ (packed rows : List OrderRow) (read last : ℕ) (h : AreRows packed row
     }
 
   -- A row that dies among the packed ones.
-  module _ (n at : ℕ) (x : IsLiveAt packed n at) (d : OrderRow) (number : d.ino ≡ n) (gone : d.key ≡ None) where
+  module _ (n at : ℕ) (x : IsLiveAt packed n at) (d : OrderRowView) (number : d.ino ≡ n) (gone : d.key ≡ None) where
     same_number : d.ino ≡ (row_at packed at).ino
     same_number = number ∙ sym (ap (λ r. r.ino) x.2)
 
@@ -120,8 +120,8 @@ module _ (packed rows : List OrderRow) (read last : ℕ) (h : AreRows packed row
     }
 
   -- The first row that was not read is moved.
-  module _ (n : ℕ) (x : IsLiveAt rows n read) (d : OrderRow) (number : d.ino ≡ n) (gone : d.key ≡ None) where
-    abbrev moved : OrderRow
+  module _ (n : ℕ) (x : IsLiveAt rows n read) (d : OrderRowView) (number : d.ino ≡ n) (gone : d.key ≡ None) where
+    abbrev moved : OrderRowView
     moved = record { ino = n; key = Some x.0 }
 
     pub move_keys : live_of ((packed ++ moved ∷ []) ++ set rows read d) ≡ both
@@ -194,11 +194,11 @@ module _ (packed rows : List OrderRow) (read last : ℕ) (h : AreRows packed row
     by y (Some k) e = let z = somewhere rows q k e in let m = h.below y.0 z.0 k y.1 z.1 z.3 in absurd (omega (arith, y.2, z.2))
 
 -- The row at the last place.
-pub last_is : (front : List OrderRow) (r : OrderRow) (n at : ℕ) (x : IsLiveAt (front ++ r ∷ []) n at) → at ≡ length front → r ≡ record { ino = n; key = Some x.0 }
+pub last_is : (front : List OrderRowView) (r : OrderRowView) (n at : ℕ) (x : IsLiveAt (front ++ r ∷ []) n at) → at ≡ length front → r ≡ record { ino = n; key = Some x.0 }
 last_is front r n at x e = sym (row_last front r) ∙ ap (row_at (front ++ r ∷ [])) (sym e) ∙ x.2
 
 -- The last row is removed.
-module _ (packed front : List OrderRow) (r : OrderRow) (read last k : ℕ) (h : AreRows packed (front ++ r ∷ []) read last) (live : r.key ≡ Some k) where
+module _ (packed front : List OrderRowView) (r : OrderRowView) (read last k : ℕ) (h : AreRows packed (front ++ r ∷ []) read last) (live : r.key ≡ Some k) where
   last_live : IsLiveAt (front ++ r ∷ []) r.ino (length front)
   last_live = (k, (let long = length_push front r in omega arith), row_last front r ∙ (λ i. record { ino = r.ino; key = live i }))
 
@@ -218,7 +218,7 @@ module _ (packed front : List OrderRow) (r : OrderRow) (read last k : ℕ) (h : 
   pop_rows = record {
     packed_rise = h.packed_rise;
     rows_rise = rise_front front r h.rows_rise;
-    below = λ i j k li lj e. subst (λ (x : OrderRow). (row_at packed i).ino < x.ino) (row_before front r j lj) (h.below i j k li (omega (arith, long)) (ap (λ x. x.key) (row_before front r j lj) ∙ e));
+    below = λ i j k li lj e. subst (λ (x : OrderRowView). (row_at packed i).ino < x.ino) (row_before front r j lj) (h.below i j k li (omega (arith, long)) (ap (λ x. x.key) (row_before front r j lj) ∙ e));
     within = elim (cases_lt (length front) read) [
       | inl m ↦ absurd (none_some k (sym (ap (λ x. x.key) (sym (row_last front r)) ∙ h.dead (length front) m) ∙ live))
       | inr m ↦ m
@@ -228,7 +228,7 @@ module _ (packed front : List OrderRow) (r : OrderRow) (read last k : ℕ) (h : 
       | inr m ↦ absurd (none_some k (sym (ap (λ x. x.key) (sym (row_last front r)) ∙ h.dead (length front) (omega arith)) ∙ live))
     ];
     packed_up = h.packed_up;
-    rows_up = λ i l. subst (λ (x : OrderRow). x.ino ≤ last) (row_before front r i l) (h.rows_up i (omega (arith, long)));
+    rows_up = λ i l. subst (λ (x : OrderRowView). x.ino ≤ last) (row_before front r i l) (h.rows_up i (omega (arith, long)));
   } where
     long : length (front ++ r ∷ []) ≡ length front + 1
     long = length_push front r

@@ -10,7 +10,7 @@ use Rattle.std.proofs.lemmas.Bool.{eqb-true, eqb-false, eq-eqb, cases_lt}
 use Rattle.std.proofs.lemmas.List.{length-set, length_push, get_or-set_same, get_or-set_other, get_or_append_left, get_or_push}
 use Rattle.af_base.specs.World.{Map}
 use Rattle.af_base.proofs.Lookups.{none_some, told_apart}
-use Rattle.ordered_slab.specs.declared.order.OrderRow.{OrderRow}
+use Rattle.ordered_slab.specs.OrderView.{OrderRowView}
 use Rattle.ordered_slab.specs.Rows.{live_of, row_at, Rise, AllUpTo}
 
 -- The first option, or else the second.
@@ -18,7 +18,7 @@ abbrev pub or_else : Option ℕ → Option ℕ → Option ℕ
 or_else o p = option_map_or Some o p
 
 -- The key of a number.
-abbrev pub held : List OrderRow → ℕ → Option ℕ
+abbrev pub held : List OrderRowView → ℕ → Option ℕ
 held rows q = map.get (live_of rows) q
 
 -- Two maps that have the same at each number.
@@ -36,30 +36,30 @@ or_none None = refl
 or_none (Some k) = refl
 
 -- A row more in front.
-row_held : (r : OrderRow) (rows : List OrderRow) (q : ℕ) → held (r ∷ rows) q ≡ cond (nat_eq q r.ino) (or_else r.key (held rows q)) (held rows q)
+row_held : (r : OrderRowView) (rows : List OrderRowView) (q : ℕ) → held (r ∷ rows) q ≡ cond (nat_eq q r.ino) (or_else r.key (held rows q)) (held rows q)
 row_held r rows q = by r.key where
   by : (o : Option ℕ) → map.get (option_map_or (map.insert (live_of rows) r.ino) o (live_of rows)) q ≡ cond (nat_eq q r.ino) (or_else o (held rows q)) (held rows q)
   by None = either_way (nat_eq q r.ino) (held rows q)
   by (Some k) = get-insert nat_cmp_total (live_of rows) r.ino k q ∙ ap (λ b. cond b (Some k) (held rows q)) (unsigned_tied q r.ino)
 
 -- A row in front holds its own number, if it is live.
-row_here : (r : OrderRow) (rows : List OrderRow) (q : ℕ) → nat_eq q r.ino ≡ true → held (r ∷ rows) q ≡ or_else r.key (held rows q)
+row_here : (r : OrderRowView) (rows : List OrderRowView) (q : ℕ) → nat_eq q r.ino ≡ true → held (r ∷ rows) q ≡ or_else r.key (held rows q)
 row_here r rows q e = row_held r rows q ∙ ap (λ b. cond b (or_else r.key (held rows q)) (held rows q)) e
 
 -- A row in front changes nothing of other numbers.
-row_other : (r : OrderRow) (rows : List OrderRow) (q : ℕ) → nat_eq q r.ino ≡ false → held (r ∷ rows) q ≡ held rows q
+row_other : (r : OrderRowView) (rows : List OrderRowView) (q : ℕ) → nat_eq q r.ino ≡ false → held (r ∷ rows) q ≡ held rows q
 row_other r rows q e = row_held r rows q ∙ ap (λ b. cond b (or_else r.key (held rows q)) (held rows q)) e
 
 -- A number that no row has is not held.
-pub nowhere : (rows : List OrderRow) (q : ℕ) → ((i : ℕ) → i < length rows → (row_at rows i).ino ≡ q → ⊥) → held rows q ≡ None
+pub nowhere : (rows : List OrderRowView) (q : ℕ) → ((i : ℕ) → i < length rows → (row_at rows i).ino ≡ q → ⊥) → held rows q ≡ None
 nowhere [] q h = get-empty nat_cmp q
 nowhere (r ∷ rows) q h = row_other r rows q (told_apart q r.ino (λ e. h 0 (omega arith) (sym e))) ∙ nowhere rows q (λ i l. h (suc i) (omega arith))
 
 -- A number that is held is held in a row.
-pub somewhere : (rows : List OrderRow) (q k : ℕ) → held rows q ≡ Some k → (i : ℕ) × (i < length rows) × ((row_at rows i).ino ≡ q) × ((row_at rows i).key ≡ Some k)
+pub somewhere : (rows : List OrderRowView) (q k : ℕ) → held rows q ≡ Some k → (i : ℕ) × (i < length rows) × ((row_at rows i).ino ≡ q) × ((row_at rows i).key ≡ Some k)
 somewhere [] q k e = absurd (none_some k (sym (get-empty nat_cmp q) ∙ e))
 somewhere (r ∷ rows) q k e = by (somewhere rows q k) (nat_eq q r.ino) refl r.key refl where
-  Found : List OrderRow → Type 0
+  Found : List OrderRowView → Type 0
   Found xs = (i : ℕ) × (i < length xs) × ((row_at xs i).ino ≡ q) × ((row_at xs i).key ≡ Some k)
 
   deeper : Found rows → Found (r ∷ rows)
@@ -71,7 +71,7 @@ somewhere (r ∷ rows) q k e = by (somewhere rows q k) (nat_eq q r.ino) refl r.k
   by more true f (Some j) g = (0, omega arith, sym (eqb-true q r.ino f), g ∙ ap (λ o. or_else o (held rows q)) (sym g) ∙ sym (row_here r rows q f) ∙ e)
 
 -- The numbers of two lists together.
-pub append_held : (xs ys : List OrderRow) (q : ℕ) → held (xs ++ ys) q ≡ or_else (held xs q) (held ys q)
+pub append_held : (xs ys : List OrderRowView) (q : ℕ) → held (xs ++ ys) q ≡ or_else (held xs q) (held ys q)
 append_held [] ys q = ap (λ o. or_else o (held ys q)) (sym (get-empty nat_cmp q))
 append_held (r ∷ xs) ys q = by (append_held xs ys q) (nat_eq q r.ino) refl r.key refl where
   by : held (xs ++ ys) q ≡ or_else (held xs q) (held ys q) → (b : Bool) → nat_eq q r.ino ≡ b → (o : Option ℕ) → r.key ≡ o → held (r ∷ (xs ++ ys)) q ≡ or_else (held (r ∷ xs) q) (held ys q)
@@ -84,19 +84,19 @@ append_held (r ∷ xs) ys q = by (append_held xs ys q) (nat_eq q r.ino) refl r.k
       ∙ ap (λ o. or_else o (held ys q)) (ap (λ o. or_else o (held xs q)) (sym f) ∙ sym (row_here r xs q e))
 
 -- The rows behind the first rise above it.
-rise_rest : (r : OrderRow) (rows : List OrderRow) → Rise (r ∷ rows) → Rise rows
+rise_rest : (r : OrderRowView) (rows : List OrderRowView) → Rise (r ∷ rows) → Rise rows
 rise_rest r rows h i j l m = h (suc i) (suc j) (omega arith) (omega arith)
 
 -- Each row is above the first one.
-above_first : (r : OrderRow) (rows : List OrderRow) → Rise (r ∷ rows) → (i : ℕ) → i < length rows → r.ino < (row_at rows i).ino
+above_first : (r : OrderRowView) (rows : List OrderRowView) → Rise (r ∷ rows) → (i : ℕ) → i < length rows → r.ino < (row_at rows i).ino
 above_first r rows h i l = h 0 (suc i) (omega arith) (omega arith)
 
 -- No row behind the first has its number.
-first_alone : (r : OrderRow) (rows : List OrderRow) → Rise (r ∷ rows) → held rows r.ino ≡ None
+first_alone : (r : OrderRowView) (rows : List OrderRowView) → Rise (r ∷ rows) → held rows r.ino ≡ None
 first_alone r rows h = nowhere rows r.ino (λ i l e. let m = above_first r rows h i l in omega arith)
 
 -- Each position has the key of that row's number.
-pub at_place : (rows : List OrderRow) → Rise rows → (i : ℕ) → i < length rows → held rows (row_at rows i).ino ≡ (row_at rows i).key
+pub at_place : (rows : List OrderRowView) → Rise rows → (i : ℕ) → i < length rows → held rows (row_at rows i).ino ≡ (row_at rows i).key
 at_place [] h i l = absurd (omega arith)
 at_place (r ∷ rows) h zero l = row_here r rows r.ino (eq-eqb r.ino r.ino refl) ∙ ap (or_else r.key) (first_alone r rows h) ∙ or_none r.key
 at_place (r ∷ rows) h (suc i) l =
@@ -104,15 +104,15 @@ at_place (r ∷ rows) h (suc i) l =
     row_other r rows (row_at rows i).ino (told_apart (row_at rows i).ino r.ino (λ e. omega arith)) ∙ at_place rows (rise_rest r rows h) i (omega arith)
 
 -- The number of a live row is held under its key.
-pub live_place : (rows : List OrderRow) → Rise rows → (n i k : ℕ) → i < length rows → row_at rows i ≡ record { ino = n; key = Some k } → held rows n ≡ Some k
+pub live_place : (rows : List OrderRowView) → Rise rows → (n i k : ℕ) → i < length rows → row_at rows i ≡ record { ino = n; key = Some k } → held rows n ≡ Some k
 live_place rows h n i k l e = ap (held rows) (sym (ap (λ r. r.ino) e)) ∙ at_place rows h i l ∙ ap (λ r. r.key) e
 
 -- A row dies in place.
-module _ (d : OrderRow) (dead : d.key ≡ None) where
-  dead_front : (rows : List OrderRow) (q : ℕ) → held (d ∷ rows) q ≡ held rows q
+module _ (d : OrderRowView) (dead : d.key ≡ None) where
+  dead_front : (rows : List OrderRowView) (q : ℕ) → held (d ∷ rows) q ≡ held rows q
   dead_front rows q = ap (λ o. map.get (option_map_or (map.insert (live_of rows) d.ino) o (live_of rows)) q) dead
 
-  pub mark_held : (rows : List OrderRow) → Rise rows → (i : ℕ) → i < length rows → d.ino ≡ (row_at rows i).ino → (q : ℕ) → held (set rows i d) q ≡ cond (nat_eq q d.ino) None (held rows q)
+  pub mark_held : (rows : List OrderRowView) → Rise rows → (i : ℕ) → i < length rows → d.ino ≡ (row_at rows i).ino → (q : ℕ) → held (set rows i d) q ≡ cond (nat_eq q d.ino) None (held rows q)
   mark_held [] h i l e q = absurd (omega arith)
   mark_held (r ∷ rows) h zero l e q = dead_front rows q ∙ by (nat_eq q d.ino) refl where
     by : (b : Bool) → nat_eq q d.ino ≡ b → held rows q ≡ cond b None (held (r ∷ rows) q)
@@ -128,19 +128,19 @@ module _ (d : OrderRow) (dead : d.key ≡ None) where
         ∙ sym (row_here r rows q f) ∙ ap (λ b. cond b None (held (r ∷ rows) q)) (sym apart)
 
 -- A last row more.
-pub push_held : (rows : List OrderRow) (r : OrderRow) (q : ℕ) → held (rows ++ r ∷ []) q ≡ or_else (held rows q) (cond (nat_eq q r.ino) r.key None)
+pub push_held : (rows : List OrderRowView) (r : OrderRowView) (q : ℕ) → held (rows ++ r ∷ []) q ≡ or_else (held rows q) (cond (nat_eq q r.ino) r.key None)
 push_held rows r q = append_held rows (r ∷ []) q ∙ ap (or_else (held rows q)) (row_held r [] q ∙ ap (λ o. cond (nat_eq q r.ino) (or_else r.key o) o) (get-empty nat_cmp q) ∙ ap (λ o. cond (nat_eq q r.ino) o None) (or_none r.key))
 
 -- A row added at the end leaves those in front.
-pub row_before : (rows : List OrderRow) (r : OrderRow) (i : ℕ) → i < length rows → row_at (rows ++ r ∷ []) i ≡ row_at rows i
+pub row_before : (rows : List OrderRowView) (r : OrderRowView) (i : ℕ) → i < length rows → row_at (rows ++ r ∷ []) i ≡ row_at rows i
 row_before rows r i l = get_or_append_left rows (r ∷ []) (record { ino = 0; key = None }) i l
 
 -- And it is the last.
-pub row_last : (rows : List OrderRow) (r : OrderRow) → row_at (rows ++ r ∷ []) (length rows) ≡ r
+pub row_last : (rows : List OrderRowView) (r : OrderRowView) → row_at (rows ++ r ∷ []) (length rows) ≡ r
 row_last rows r = get_or_push rows r (record { ino = 0; key = None }) (length rows) refl
 
 -- A fact of each row and of one more is a fact of all.
-pub each_push : (P : OrderRow → Type 0) (rows : List OrderRow) (r : OrderRow) → ((i : ℕ) → i < length rows → P (row_at rows i)) → P r → (i : ℕ) → i < length (rows ++ r ∷ []) → P (row_at (rows ++ r ∷ []) i)
+pub each_push : (P : OrderRowView → Type 0) (rows : List OrderRowView) (r : OrderRowView) → ((i : ℕ) → i < length rows → P (row_at rows i)) → P r → (i : ℕ) → i < length (rows ++ r ∷ []) → P (row_at (rows ++ r ∷ []) i)
 each_push P rows r h p i l = elim (cases_lt i (length rows)) [
   | inl m ↦ subst P (sym (row_before rows r i m)) (h i m)
   | inr m ↦
@@ -150,7 +150,7 @@ each_push P rows r h p i l = elim (cases_lt i (length rows)) [
 ]
 
 -- Rows still rise with one more that is above all.
-pub rise_push : (rows : List OrderRow) (r : OrderRow) → Rise rows → ((i : ℕ) → i < length rows → (row_at rows i).ino < r.ino) → Rise (rows ++ r ∷ [])
+pub rise_push : (rows : List OrderRowView) (r : OrderRowView) → Rise rows → ((i : ℕ) → i < length rows → (row_at rows i).ino < r.ino) → Rise (rows ++ r ∷ [])
 rise_push rows r h below i j l m = elim (cases_lt j (length rows)) [
   | inl n ↦ let o = h i j l n in omega (arith, ap (λ r. r.ino) (row_before rows r i (omega arith)), ap (λ r. r.ino) (row_before rows r j n))
   | inr n ↦
@@ -161,21 +161,21 @@ rise_push rows r h below i j l m = elim (cases_lt j (length rows)) [
 ]
 
 -- Rows without the last one still rise.
-pub rise_front : (rows : List OrderRow) (r : OrderRow) → Rise (rows ++ r ∷ []) → Rise rows
+pub rise_front : (rows : List OrderRowView) (r : OrderRowView) → Rise (rows ++ r ∷ []) → Rise rows
 rise_front rows r h i j l m =
     let long = length_push rows r in
     let o = h i j l (omega arith) in
     omega (arith, ap (λ r. r.ino) (row_before rows r i (omega arith)), ap (λ r. r.ino) (row_before rows r j m))
 
 -- The last row is above all others.
-pub rise_last : (rows : List OrderRow) (r : OrderRow) → Rise (rows ++ r ∷ []) → (i : ℕ) → i < length rows → (row_at rows i).ino < r.ino
+pub rise_last : (rows : List OrderRowView) (r : OrderRowView) → Rise (rows ++ r ∷ []) → (i : ℕ) → i < length rows → (row_at rows i).ino < r.ino
 rise_last rows r h i l =
     let long = length_push rows r in
     let o = h i (length rows) l (omega arith) in
     omega (arith, ap (λ r. r.ino) (row_before rows r i l), ap (λ r. r.ino) (row_last rows r))
 
 -- A row with its number in the place of another.
-module _ (rows : List OrderRow) (at : ℕ) (d : OrderRow) (there : at < length rows) (number : d.ino ≡ (row_at rows at).ino) where
+module _ (rows : List OrderRowView) (at : ℕ) (d : OrderRowView) (there : at < length rows) (number : d.ino ≡ (row_at rows at).ino) where
   pub set_same : row_at (set rows at d) at ≡ d
   set_same = get_or-set_same rows at d (record { ino = 0; key = None }) there
 

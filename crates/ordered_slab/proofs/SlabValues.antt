@@ -72,7 +72,7 @@ module _ {V : Type 0} where
   -- And leaves all in place.
   pub grown_in_place : (m : Map ℕ) (s t : Slab (NumberedValue V)) → t.slots ≡ s.slots → AreInPlace m s → AreInPlace m t
   grown_in_place m s t ss h = record {
-    kept = λ q k at. ap (λ xs. option_map (λ x. x.ino) (slice_index_or xs k None)) ss ∙ h.kept q k at;
+    kept = λ q k at. ap (λ xs. option_map (λ x. x.file) (slice_index_or xs k None)) ss ∙ h.kept q k at;
     found = λ k x at. h.found k x (ap (λ xs. slice_index_or xs k None) (sym ss) ∙ at);
     many = ap map.len (values_grown m s t ss) ∙ h.many ∙ ap (count_by is_some) (sym ss);
   }
@@ -88,7 +88,7 @@ module _ {V : Type 0} where
 module _ {V : Type 0} (m : Map ℕ) (s : Slab (NumberedValue V)) (h : AreInPlace m s) where
   -- A number's key is not empty.
   pub missing : (q k : ℕ) → map.get m q ≡ Some k → slab.get s k ≡ None → ⊥
-  missing q k at none = none_some q (sym (ap (option_map (λ x. x.ino)) none) ∙ h.kept q k at)
+  missing q k at none = none_some q (sym (ap (option_map (λ x. x.file)) none) ∙ h.kept q k at)
 
   pub keyed : (q k : ℕ) → map.get m q ≡ Some k → slab.ContainsKey s k
   keyed q k at = by (slab.get s k) refl where
@@ -98,22 +98,22 @@ module _ {V : Type 0} (m : Map ℕ) (s : Slab (NumberedValue V)) (h : AreInPlace
 
   -- No two numbers have one key.
   own : (f key : ℕ) → map.get m f ≡ Some key → (q k : ℕ) → (f ≡ q → ⊥) → map.get m q ≡ Some k → k ≡ key → ⊥
-  own f key was q k apart at e = apart (some_same f q (sym (h.kept f key was) ∙ ap (λ j. option_map (λ x. x.ino) (slab.get s j)) (sym e) ∙ h.kept q k at))
+  own f key was q k apart at e = apart (some_same f q (sym (h.kept f key was) ∙ ap (λ j. option_map (λ x. x.file) (slab.get s j)) (sym e) ∙ h.kept q k at))
 
   -- No number has an empty key.
   empty : (f key : ℕ) → slab.get s key ≡ None → (q k : ℕ) → (f ≡ q → ⊥) → map.get m q ≡ Some k → k ≡ key → ⊥
   empty f key vacant q k _ at e = missing q k at (ap (slab.get s) e ∙ vacant)
 
   -- The number at a key is that key's.
-  pub hinted : (f key : ℕ) (x : NumberedValue V) → slab.get s key ≡ Some x → x.ino ≡ f → Some key ≡ map.get m f
+  pub hinted : (f key : ℕ) (x : NumberedValue V) → slab.get s key ≡ Some x → x.file ≡ f → Some key ≡ map.get m f
   hinted f key x at e = sym (h.found key x at) ∙ ap (map.get m) e
 
   -- And so it has this key.
-  pub stood : (f key : ℕ) → option_map (λ x. x.ino) (slab.get s key) ≡ Some f → map.get m f ≡ Some key
+  pub stood : (f key : ℕ) → option_map (λ x. x.file) (slab.get s key) ≡ Some f → map.get m f ≡ Some key
   stood f key here = by (slab.get s key) refl here where
-    by : (o : Option (NumberedValue V)) → slab.get s key ≡ o → option_map (λ x. x.ino) o ≡ Some f → map.get m f ≡ Some key
+    by : (o : Option (NumberedValue V)) → slab.get s key ≡ o → option_map (λ x. x.file) o ≡ Some f → map.get m f ≡ Some key
     by None at none = absurd (none_some f none)
-    by (Some x) at is = sym (hinted f key x at (some_same x.ino f is))
+    by (Some x) at is = sym (hinted f key x at (some_same x.file f is))
 
 -- The numbers change at f alone, and the slab at a key that no other number has.
 module _ {V : Type 0} (m n : Map ℕ) (s t : Slab (NumberedValue V)) (f key : ℕ) (w : Option ℕ) (x : Option (NumberedValue V))
@@ -137,30 +137,30 @@ module _ {V : Type 0} (m n : Map ℕ) (s t : Slab (NumberedValue V)) (f key : �
     by false e = ap (under t) (other_key q e) ∙ other_value q e _ refl ∙ sym (looked m s q)
 
   -- And all are in place, if f is.
-  in_place_then : AreInPlace m s → ((k : ℕ) → w ≡ Some k → option_map (λ x. x.ino) (slab.get t k) ≡ Some f)
-      → ((y : NumberedValue V) → x ≡ Some y → (y.ino ≡ f) × (w ≡ Some key)) → ((k : ℕ) → map.get m f ≡ Some k → k ≡ key)
+  in_place_then : AreInPlace m s → ((k : ℕ) → w ≡ Some k → option_map (λ x. x.file) (slab.get t k) ≡ Some f)
+      → ((y : NumberedValue V) → x ≡ Some y → (y.file ≡ f) × (w ≡ Some key)) → ((k : ℕ) → map.get m f ≡ Some k → k ≡ key)
       → map.len (values_of n t) ≡ slab.slab_len t → AreInPlace n t
   in_place_then h here there only many = record {
     kept = λ q k at. kept q k at (nat_eq f q) refl;
     found = λ k y at. found k y at (nat_eq k key) refl;
     many = many;
   } where
-    kept : (q k : ℕ) → map.get n q ≡ Some k → (b : Bool) → nat_eq f q ≡ b → option_map (λ x. x.ino) (slab.get t k) ≡ Some q
+    kept : (q k : ℕ) → map.get n q ≡ Some k → (b : Bool) → nat_eq f q ≡ b → option_map (λ x. x.file) (slab.get t k) ≡ Some q
     kept q k at true e = here k (sym (keys q ∙ ap (λ b. cond b w (map.get m q)) e) ∙ at) ∙ ap Some (eqb-true f q e)
-    kept q k at false e = let was = sym (other_key q e) ∙ at in ap (option_map (λ x. x.ino)) (other_entry q k e was) ∙ h.kept q k was
+    kept q k at false e = let was = sym (other_key q e) ∙ at in ap (option_map (λ x. x.file)) (other_entry q k e was) ∙ h.kept q k was
 
-    elsewhere : (k : ℕ) (y : NumberedValue V) → (k ≡ key → ⊥) → map.get m y.ino ≡ Some k → (b : Bool) → nat_eq f y.ino ≡ b → map.get n y.ino ≡ Some k
-    elsewhere k y far was true e = absurd (far (only k (ap (map.get m) (eqb-true f y.ino e) ∙ was)))
-    elsewhere k y far was false e = other_key y.ino e ∙ was
+    elsewhere : (k : ℕ) (y : NumberedValue V) → (k ≡ key → ⊥) → map.get m y.file ≡ Some k → (b : Bool) → nat_eq f y.file ≡ b → map.get n y.file ≡ Some k
+    elsewhere k y far was true e = absurd (far (only k (ap (map.get m) (eqb-true f y.file e) ∙ was)))
+    elsewhere k y far was false e = other_key y.file e ∙ was
 
-    found : (k : ℕ) (y : NumberedValue V) → slab.get t k ≡ Some y → (b : Bool) → nat_eq k key ≡ b → map.get n y.ino ≡ Some k
+    found : (k : ℕ) (y : NumberedValue V) → slab.get t k ≡ Some y → (b : Bool) → nat_eq k key ≡ b → map.get n y.file ≡ Some k
     found k y at true e =
         let same_key = eqb-true k key e in
         let is = there y (sym slots.changed ∙ ap (slab.get t) (sym same_key) ∙ at) in
-        keys y.ino ∙ ap (λ b. cond b w (map.get m y.ino)) (eq-eqb f y.ino (sym is.0)) ∙ is.1 ∙ ap Some (sym same_key)
+        keys y.file ∙ ap (λ b. cond b w (map.get m y.file)) (eq-eqb f y.file (sym is.0)) ∙ is.1 ∙ ap Some (sym same_key)
     found k y at false e =
         let far = eqb-false k key e in
-        elsewhere k y far (h.found k y (sym (slots.others k far) ∙ at)) (nat_eq f y.ino) refl
+        elsewhere k y far (h.found k y (sym (slots.others k far) ∙ at)) (nat_eq f y.file) refl
 
 module _ {V : Type 0} where
   -- A map with a value at f, and one without f.
@@ -184,10 +184,10 @@ module _ {V : Type 0} (m n : Map ℕ) (s t : Slab (NumberedValue V)) (f key : �
   pub put_new : map.contains_key (values_of m s) f ≡ false
   put_new = ap is_some (looked m s f ∙ ap (under s) new)
 
-  pub put_in_place : x.ino ≡ f → slab.slab_len t ≡ slab.slab_len s + 1 → AreInPlace n t
+  pub put_in_place : x.file ≡ f → slab.slab_len t ≡ slab.slab_len s + 1 → AreInPlace n t
   put_in_place ino more = in_place_then m n s t f key (Some key) (Some x) put_keys writes (empty m s h f key vacant) h
-      (λ k is. ap (λ j. option_map (λ x. x.ino) (slab.get t j)) (sym (some_same key k is)) ∙ ap (option_map (λ x. x.ino)) writes.changed ∙ ap Some ino)
-      (λ y is. (ap (λ x. x.ino) (sym (some_same x y is)) ∙ ino, refl))
+      (λ k is. ap (λ j. option_map (λ x. x.file) (slab.get t j)) (sym (some_same key k is)) ∙ ap (option_map (λ x. x.file)) writes.changed ∙ ap Some ino)
+      (λ y is. (ap (λ x. x.file) (sym (some_same x y is)) ∙ ino, refl))
       (λ k was. absurd (none_some k (sym new ∙ was)))
       (ap map.len put_values ∙ map.len-insert nat_cmp_total (values_of m s) f x.value ∙ ap (λ b. cond b (map.len (values_of m s)) (map.len (values_of m s) + 1)) put_new ∙ ap (λ l. l + 1) h.many ∙ sym more)
 
@@ -262,21 +262,21 @@ module _ {V : Type 0} (m : Map ℕ) (s : Slab (NumberedValue V)) (f key : ℕ) (
       let both = sum_by-set weight s.slots key (Some y) None (within s.slots key x at) in
       omega (arith, one, both)
 
-  pub write_in_place : y.ino ≡ x.ino → AreInPlace m (slab.with_value s key y)
+  pub write_in_place : y.file ≡ x.file → AreInPlace m (slab.with_value s key y)
   write_in_place ino = in_place_then m m s (slab.with_value s key y) f key (Some key) (Some y) stays wrote (own m s h f key was) h
-      (λ k is. ap (λ j. option_map (λ x. x.ino) (slab.get (slab.with_value s key y) j)) (sym (some_same key k is)) ∙ ap (option_map (λ x. x.ino)) wrote.changed ∙ ap Some number)
-      (λ z is. (ap (λ x. x.ino) (sym (some_same y z is)) ∙ number, refl)) (λ k also. some_same k key (sym also ∙ was)) (ap map.len write_values ∙ map.len-insert nat_cmp_total (values_of m s) f y.value
+      (λ k is. ap (λ j. option_map (λ x. x.file) (slab.get (slab.with_value s key y) j)) (sym (some_same key k is)) ∙ ap (option_map (λ x. x.file)) wrote.changed ∙ ap Some number)
+      (λ z is. (ap (λ x. x.file) (sym (some_same y z is)) ∙ number, refl)) (λ k also. some_same k key (sym also ∙ was)) (ap map.len write_values ∙ map.len-insert nat_cmp_total (values_of m s) f y.value
       ∙ ap (λ o. cond (is_some o) (map.len (values_of m s)) (map.len (values_of m s) + 1)) there ∙ h.many ∙ sym write_len) where
-        number : y.ino ≡ f
-        number = ino ∙ some_same x.ino f (sym (ap (option_map (λ x. x.ino)) at) ∙ h.kept f key was)
+        number : y.file ≡ f
+        number = ino ∙ some_same x.file f (sym (ap (option_map (λ x. x.file)) at) ∙ h.kept f key was)
 
 -- A hint that is written beside a value changes no value.
 module _ {V : Type 0} (m : Map ℕ) (s : Slab (NumberedValue V)) (key : ℕ) (x y : NumberedValue V) (h : AreInPlace m s) (at : slab.get s key ≡ Some x) where
   pub noted : y.value ≡ x.value → values_of m (slab.with_value s key y) ≡ values_of m s
-  noted e = write_same m s x.ino key x y h (h.found key x at) at e
+  noted e = write_same m s x.file key x y h (h.found key x at) at e
 
-  pub noted_in_place : y.ino ≡ x.ino → AreInPlace m (slab.with_value s key y)
-  noted_in_place e = write_in_place m s x.ino key x y h (h.found key x at) at e
+  pub noted_in_place : y.file ≡ x.file → AreInPlace m (slab.with_value s key y)
+  noted_in_place e = write_in_place m s x.file key x y h (h.found key x at) at e
 
 -- Look-ups.
 pub ruleset finds = (looked, missing, keyed, hinted, stood)

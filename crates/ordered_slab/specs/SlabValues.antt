@@ -30,6 +30,6 @@ values_of m s = values_from m (map.keys m) s
 -- many values as entries: no two numbers share a key, and a key that is used again is never taken
 -- for the old one.
 pub record AreInPlace {V : Type 0} (m : Map ℕ) (s : Slab (NumberedValue V)) : Type 0 where
-  pub kept : (q k : ℕ) → map.get m q ≡ Some k → option_map (λ x. x.ino) (slab.get s k) ≡ Some q
-  pub found : (k : ℕ) (x : NumberedValue V) → slab.get s k ≡ Some x → map.get m x.ino ≡ Some k
+  pub kept : (q k : ℕ) → map.get m q ≡ Some k → option_map (λ x. x.file) (slab.get s k) ≡ Some q
+  pub found : (k : ℕ) (x : NumberedValue V) → slab.get s k ≡ Some x → map.get m x.file ≡ Some k
   pub many : map.len (values_of m s) ≡ slab.slab_len s

@@ -8,6 +8,7 @@ ghost use Rattle.std.specs.Borrow.{sem};
 use crate::numbered_value::{NumberedValue, put, reserve, stands_at, take};
 use crate::order::Order;
 use af_base::ids::{FileRef, Ino};
+use af_base::limits::MAX_INO;
 use slab::Slab;
 use std::alloc::{AllocError, Global};
 use std::marker::Model;
@@ -90,6 +91,7 @@ impl<T> OrderedSlab<T> {
     pub fn push(&mut self, ino: Ino, value: T) -> FileRef
         requires room { 0 < self.old.room }
         requires above { self.old.last < ino }
+        requires number { ino ≤ MAX_INO }
         ensures file { result ≡ ino }
         ensures pushed { self.new ≡ record self.old {
           values = map.insert self.old.values ino value;
@@ -124,7 +126,7 @@ impl<T> OrderedSlab<T> {
         ensures { option_copied result ≡ map.get self.now.values file.now }
     {
         if let Some(entry) = self.slab.get(file.key())
-            && entry.ino == file.ino()
+            && entry.file.is_same(file)
         {
             return Some(&entry.value);
         }
@@ -142,7 +144,7 @@ impl<T> OrderedSlab<T> {
     {
         let key = file.key();
         // A way out of its own, so that the entry is looked at once.
-        if stands_at(&self.slab, key, file.ino()) {
+        if stands_at(&self.slab, key, file) {
             return Some(&mut self.slab[key].value);
         }
         let key = self.order.key_of(file.ino())?;

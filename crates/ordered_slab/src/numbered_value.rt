@@ -10,6 +10,7 @@ ghost use Rattle.ordered_slab.specs.SlabValues.{AreInPlace, values_of};
 
 use crate::order::Order;
 use af_base::ids::{FileRef, Ino};
+use af_base::limits::MAX_INO;
 use slab::Slab;
 use std::alloc::AllocError;
 
@@ -20,21 +21,21 @@ const PACKED_AT_ONCE: usize = 4;
 /// taken for the old one.
 #[derive(Drop)]
 pub struct NumberedValue<T> {
-    /// Its number.
-    pub ino: Ino,
+    /// Its number, with its key.
+    pub file: FileRef,
     /// Its place in the order: a hint.
     pub at: usize,
     /// The value of the number.
     pub value: T,
 }
 
-/// Returns whether the entry at this key is this number's.
+/// Returns whether the entry at this key is this file's.
 #[inline(always)]
-pub fn stands_at<T>(slab: &Slab<NumberedValue<T>>, key: usize, ino: Ino) -> bool
-    ensures { IsTrue result → option_map (λ x. x.ino) (slots.get slab.now key) ≡ Some ino }
+pub fn stands_at<T>(slab: &Slab<NumberedValue<T>>, key: usize, file: &FileRef) -> bool
+    ensures { IsTrue result → option_map (λ x. x.file) (slots.get slab.now key) ≡ Some file.now }
 {
     match slab.get(key) {
-        Some(entry) => entry.ino == ino,
+        Some(entry) => entry.file.is_same(file),
         None => false,
     }
 }
@@ -48,11 +49,10 @@ fn key_of<T>(order: &Order, slab: &Slab<NumberedValue<T>>, file: &FileRef) -> Op
     ensures { result ≡ map.get order.now.keys file.now }
 {
     let key = file.key();
-    let ino = file.ino();
-    if stands_at(slab, key, ino) {
+    if stands_at(slab, key, file) {
         return Some(key);
     }
-    order.key_of(ino)
+    order.key_of(file.ino())
 }
 
 /// Reserves room for this many values more: then `put` needs no memory for them. Changes no value,
@@ -83,6 +83,7 @@ pub fn put<T>(order: &mut Order, slab: &mut Slab<NumberedValue<T>>, ino: Ino, va
     requires room { 0 < order.old.room }
     requires slots { HasRoomFor slab.old 1 }
     requires above { order.old.last < ino }
+    requires number { ino ≤ MAX_INO }
     ensures file { result ≡ ino }
     ensures values { values_of order.new.keys slab.new
         ≡ map.insert (values_of order.old.keys slab.old) ino value }
@@ -94,10 +95,16 @@ pub fn put<T>(order: &mut Order, slab: &mut Slab<NumberedValue<T>>, ino: Ino, va
     ensures capacity { slab.new.capacity ≡ slab.old.capacity }
 {
     pack(order, slab);
-    let key = slab.vacant_key();
-    let at = order.push(ino, key);
-    slab.insert_reserved(NumberedValue { ino, at, value });
-    FileRef::new(ino, key)
+    let file = FileRef::new(ino, slab.vacant_key());
+    let key = slab.insert_reserved(NumberedValue {
+        file: file.duplicate(),
+        at: order.next_position(),
+        value,
+    });
+    // So a key is never the largest number.
+    prove!(key < slab.capacity());
+    order.push(ino, key);
+    file
 }
 
 /// Performs one bounded step of packing. The set of numbers does not change.

@@ -4,12 +4,13 @@
 //! has read is dead. When all was read, the two lists change places. So a number is live in
 //! `packed` or in the part of `rows` that was not read, and a look-up asks both.
 ghost use Rattle.std.specs.Prelude.{◌≡◌, ℕ, ◌+◌, ◌≤◌, ◌<◌, length, false, None, IsTrue, IsOk};
-ghost use Rattle.std.specs.Prelude.{IfSome, IfNone, OnOk, OnErr, ◌++◌, ◌≢◌};
+ghost use Rattle.std.specs.Prelude.{IfSome, IfNone, OnOk, OnErr, Some, ◌++◌, ◌≢◌, is_some, IsSome};
 ghost use Rattle.std.specs.FinMap as map;
 ghost use Rattle.ordered_slab.specs.OrderView.{OrderView};
 ghost use Rattle.ordered_slab.specs.Rows.{live_of, row_at, Rise, IsLiveAt, IsPosition};
 
 use af_base::ids::{FileRef, Ino};
+use af_base::limits::MAX_INO;
 use std::alloc::{AllocError, Global};
 use std::marker::Model;
 use std::mem;
@@ -20,12 +21,103 @@ const LEAST_DEAD: usize = 64;
 /// At most this many dead rows are passed over in one step of packing.
 const PASSED_AT_ONCE: usize = 16;
 
+/// The key of a dead row. No slab has a value under it.
+const NO_KEY: usize = usize::MAX;
+
 /// A number and the key under which it is to be found. A row with no key is dead: its number is
 /// gone, or was moved.
-#[derive(Clone, Copy, Drop)]
+#[derive(Drop)]
 struct OrderRow {
     ino: Ino,
-    key: Option<usize>,
+    /// The key, or `NO_KEY`: an `Option` would take eight bytes more.
+    key: usize,
+}
+
+impl Model for OrderRow {
+    ghost use Rattle.std.specs.Prelude.{◌≤◌, None, Some, if◌then◌else◌, nat_eq};
+    ghost use Rattle.af_base.specs.declared.limits.TheConstants.{MAX_INO};
+    ghost use Rattle.ordered_slab.specs.OrderView.{OrderRowView};
+    ghost use Rattle.ordered_slab.specs.declared.order.TheConstants.{NO_KEY};
+
+    ghost Value = { OrderRowView };
+
+    ghost view = { λ a. record {
+      ino = a.ino;
+      key = if nat_eq a.key NO_KEY then None else Some a.key;
+    } };
+
+    ghost invariant = { λ a. a.ino ≤ MAX_INO };
+}
+
+impl OrderRow {
+    /// Makes a live row.
+    #[inline(always)]
+    fn new(ino: Ino, key: usize) -> OrderRow
+        requires number { ino ≤ MAX_INO }
+        requires key { key < NO_KEY }
+        ensures { result ≡ record { ino = ino; key = Some key } }
+    {
+        OrderRow { ino, key }
+    }
+
+    /// Returns its number.
+    #[inline(always)]
+    fn number(&self) -> Ino
+        ensures { result ≡ self.now.ino }
+    {
+        self.ino
+    }
+
+    /// Returns its key, if it is live.
+    #[inline(always)]
+    fn key(&self) -> Option<usize>
+        ensures key { result ≡ self.now.key }
+        ensures number { self.now.ino ≤ MAX_INO }
+    {
+        if self.key == NO_KEY {
+            None
+        } else {
+            Some(self.key)
+        }
+    }
+
+    /// Returns whether it is live.
+    #[inline(always)]
+    fn is_live(&self) -> bool
+        ensures { result ≡ is_some self.now.key }
+    {
+        self.key != NO_KEY
+    }
+
+    /// Returns a reference to its number, with its key as a hint.
+    #[inline(always)]
+    fn file(&self) -> FileRef
+        ensures { result ≡ self.now.ino }
+    {
+        FileRef::new(self.ino, self.key)
+    }
+
+    /// Returns the same row once more.
+    #[inline(always)]
+    fn duplicate(&self) -> OrderRow
+        ensures { result ≡ self.now }
+    {
+        OrderRow {
+            ino: self.ino,
+            key: self.key,
+        }
+    }
+
+    /// Makes it dead, and returns its key, if it was live.
+    #[inline(always)]
+    fn take_key(&mut self) -> Option<usize>
+        ensures key { result ≡ self.old.key }
+        ensures dead { self.new ≡ record self.old { key = None } }
+    {
+        let key = self.key();
+        self.key = NO_KEY;
+        key
+    }
 }
 
 /// The position of a row.
@@ -112,24 +204,26 @@ impl Order {
         self.packed.capacity().min(self.rows.capacity()) - self.rows.len()
     }
 
-    /// Adds a number, above all earlier ones, with its key. Returns its position, which `remove`
-    /// takes as a hint. There is room for it.
+    /// Returns the position of the next number, which `remove` takes as a hint.
     #[inline(always)]
-    pub fn push(&mut self, ino: Ino, key: usize) -> usize
+    pub fn next_position(&self) -> usize {
+        self.rows.len()
+    }
+
+    /// Adds a number, above all earlier ones, with its key. There is room for it.
+    #[inline(always)]
+    pub fn push(&mut self, ino: Ino, key: usize)
         requires room { 0 < self.old.room }
         requires above { self.old.last < ino }
+        requires number { ino ≤ MAX_INO }
+        requires key { key < NO_KEY }
         ensures keys { self.new.keys ≡ map.insert self.old.keys ino key }
         ensures new { map.get self.old.keys ino ≡ None }
         ensures last { self.new.last ≡ ino }
         ensures room { self.old.room ≤ self.new.room + 1 }
     {
-        let at = self.rows.len();
-        self.rows.push_reserved(OrderRow {
-            ino,
-            key: Some(key),
-        });
+        self.rows.push_reserved(OrderRow::new(ino, key));
         self.last = ino.0;
-        at
     }
 
     /// Removes the number, and returns its key. The position is a hint. Takes no memory.
@@ -143,14 +237,14 @@ impl Order {
         match place_of(&self.packed, &self.rows, ino, at) {
             Some(Position::Unpacked(at)) => {
                 if at + 1 == self.rows.len() {
-                    return self.rows.take_last().key;
+                    return self.rows.take_last().key();
                 }
                 self.dead = self.dead.saturating_add(1);
-                self.rows[at].key.take()
+                self.rows[at].take_key()
             }
             Some(Position::Packed(at)) => {
                 self.dead = self.dead.saturating_add(1);
-                self.packed[at].key.take()
+                self.packed[at].take_key()
             }
             None => None,
         }
@@ -160,7 +254,8 @@ impl Order {
     #[cold]
     #[inline(never)]
     pub fn key_of(&self, ino: Ino) -> Option<usize>
-        ensures { result ≡ map.get self.now.keys ino }
+        ensures key { result ≡ map.get self.now.keys ino }
+        ensures number { IsSome result → ino ≤ MAX_INO }
     {
         match key_in(&self.packed, ino) {
             Some(key) => Some(key),
@@ -247,13 +342,11 @@ impl Order {
         if self.read >= self.rows.len() {
             return None;
         }
-        let row = self.rows[self.read];
-        let Some(key) = row.key else {
-            return None;
-        };
+        let row = self.rows[self.read].duplicate();
+        let key = row.key()?;
         let at = self.packed.len();
         self.packed.push_reserved(row);
-        self.rows[self.read].key = None;
+        self.rows[self.read].take_key();
         self.read += 1;
         self.dead = self.dead.saturating_add(1);
         Some((key, at))
@@ -289,7 +382,7 @@ fn is_live_at(rows: &[OrderRow], ino: Ino, at: usize) -> bool
     ensures { IsTrue result → IsLiveAt rows.now ino at }
 {
     match rows.get(at) {
-        Some(row) => row.ino == ino && row.key.is_some(),
+        Some(row) => row.ino == ino && row.is_live(),
         None => false,
     }
 }
@@ -302,13 +395,7 @@ fn find(rows: &[OrderRow], ino: Ino) -> Option<usize>
     ensures none { IfNone result (map.get (live_of rows.now) ino ≡ None) }
 {
     match rows.binary_search_by_key(&ino.0, |row| row.ino.0) {
-        Ok(at) => {
-            if rows[at].key.is_some() {
-                Some(at)
-            } else {
-                None
-            }
-        }
+        Ok(at) => { if rows[at].is_live() { Some(at) } else { None } }
         Err(_) => None,
     }
 }
@@ -316,10 +403,11 @@ fn find(rows: &[OrderRow], ino: Ino) -> Option<usize>
 /// Returns the key of the number among these rows.
 fn key_in(rows: &[OrderRow], ino: Ino) -> Option<usize>
     requires { Rise rows.now }
-    ensures { result ≡ map.get (live_of rows.now) ino }
+    ensures key { result ≡ map.get (live_of rows.now) ino }
+    ensures number { IsSome result → ino ≤ MAX_INO }
 {
     match find(rows, ino) {
-        Some(at) => rows[at].key,
+        Some(at) => rows[at].key(),
         None => None,
     }
 }
@@ -335,7 +423,7 @@ fn first_live(rows: &[OrderRow], from: usize, end: usize) -> usize
     ensures live { result < end → (row_at rows.now result).key ≢ None }
 {
     for at in from..end {
-        if rows[at].key.is_some() {
+        if rows[at].is_live() {
             return at;
         }
     }
@@ -363,11 +451,7 @@ fn next_in(rows: &[OrderRow], ino: Ino, at: usize) -> Option<(FileRef, usize)>
     if at == rows.len() {
         return None;
     }
-    let row = rows[at];
-    match row.key {
-        Some(key) => Some((FileRef::new(row.ino, key), at)),
-        None => None,
-    }
+    Some((rows[at].file(), at))
 }
 
 /// Returns how many rows have a number up to this one. Tries this position first, before a search.
@@ -379,7 +463,7 @@ fn rows_up_to(rows: &[OrderRow], ino: Ino, at: usize) -> usize
     ensures beyond { (i : ℕ) → result ≤ i → i < length rows.now → ino < (row_at rows.now i).ino }
 {
     if let Some(row) = rows.get(at)
-        && row.ino == ino
+        && row.number() == ino
     {
         return at + 1;
     }
@@ -400,7 +484,7 @@ fn search_up_to(rows: &[OrderRow], ino: Ino) -> usize
         let until = rows
             .len()
             .saturating_sub(end.0.saturating_sub(number) as usize);
-        if until > 0 && rows[until - 1].ino == ino {
+        if until > 0 && rows[until - 1].number() == ino {
             return until;
         }
     }

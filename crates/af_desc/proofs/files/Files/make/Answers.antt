@@ -10,7 +10,11 @@ pub push-file-requires : goal.push-file-requires
 push-file-requires c =
     let low = c.self.invariant.last in
     let room = c.in_ok-reserve.ensures.room in
-    record { room = omega (arith, room); next = omega (arith, low, ap (λ r. r.last) c.reserve.ensures.rows) }
+    record {
+      room = omega (arith, room);
+      next = omega (arith, low, ap (λ r. r.last) c.reserve.ensures.rows);
+      number = omega (arith, c.requires.number, ap (λ a. a.next) c.self.view_is);
+    }
 
 pub invariant_of-self : goal.invariant_of-self
 invariant_of-self c =

@@ -15,12 +15,20 @@ pub push-first-requires : goal.push-first-requires
 push-first-requires c =
     let low = c.self.invariant.last in
     let room = c.in_ok-reserve.ensures.room in
-    record { room = omega (arith, room); next = omega (arith, low, ap (λ r. r.last) c.reserve.ensures.rows) }
+    record {
+      room = omega (arith, room);
+      next = omega (arith, low, ap (λ r. r.last) c.reserve.ensures.rows);
+      number = search (rules, arith);
+    }
 
 pub push-second-requires : goal.push-second-requires
 push-second-requires c =
     let room = c.in_ok-reserve.ensures.room in
-    record { room = omega (arith, room, c.push-first.ensures.room); next = omega (arith, ap (λ r. r.last) c.push-first.ensures.pushed) }
+    record {
+      room = omega (arith, room, c.push-first.ensures.room);
+      next = omega (arith, ap (λ r. r.last) c.push-first.ensures.pushed);
+      number = search (rules, arith);
+    }
 
 pub invariant_of-self : goal.invariant_of-self
 invariant_of-self c =

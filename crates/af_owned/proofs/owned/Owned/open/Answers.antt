@@ -1,9 +1,20 @@
-use Rattle.std.proofs.Common.{◌≡◌, ◌∙◌, ap, subst, sym}
+use Rattle.std.proofs.Common.{rules, ◌≡◌, ◌∙◌, ap, subst, sym, arith}
 use Rattle.std.specs.FinMap as map
+use Rattle.af_base.specs.World.{World}
 use Rattle.ordered_slab.specs.OrderedSlabView.{OrderedSlabView}
 use Rattle.af_owned.specs.OwnedView.{AreOwned}
 use Rattle.af_owned.proofs.KeptValues.{owned-open}
 use Rattle.af_owned.proofs.owned.Owned.open.Goals as goal
+
+pub push-requires : goal.push-requires
+push-requires g c =
+    let next = ap (λ (w : World). w.next_ino) c.in-Ok.ensures.done.2.2 in
+    let inos = c.lemma_is_sound.ensures.within.inos in
+    record {
+      room = search (rules, arith);
+      above = search (rules, arith);
+      number = omega (arith, next, inos, c.next_ino-ino.ensures);
+    }
 
 pub invariant_of-self-2 : goal.invariant_of-self-2
 invariant_of-self-2 g c =

@@ -40,12 +40,12 @@ same_borrow n x y e = λ i. inl (n, e i)
 
 pub invariant_of-self-lent : goal.invariant_of-self-lent
 invariant_of-self-lent g c w =
-    let was = ap (map.get c.self.inside.order.keys) (sym c.ino.ensures) ∙ stood c.self.inside.order.keys c.self.inside.slab c.self.invariant.0 _ _ (c.stands_at.ensures c.if-stands_at.true) in
+    let was = stood c.self.inside.order.keys c.self.inside.slab c.self.invariant.0 _ _ (c.stands_at.ensures c.if-stands_at.true) in
     kept c.self.inside.order.keys c.self.inside.slab c.args.file.now _ c.index_mut.result.now w c.self.invariant was c.index_mut.ensures.value
 
 pub invariant_of-self-lent-2 : goal.invariant_of-self-lent-2
 invariant_of-self-lent-2 g c w =
-    let was = ap (map.get c.self.inside.order.keys) (sym c.ino-2.ensures) ∙ sym c.key_of.ensures ∙ c.in_ok-key.was in
+    let was = ap (map.get c.self.inside.order.keys) (sym c.ino.ensures) ∙ sym c.key_of.ensures.key ∙ c.in_ok-key.was in
     kept c.self.inside.order.keys c.self.inside.slab c.args.file.now c.in_ok-key.key c.index_mut-2.result.now w c.self.invariant was c.index_mut-2.ensures.value
 
 pub returns-then-stands_at : goal.returns-then-stands_at
@@ -54,7 +54,7 @@ returns-then-stands_at g c =
     let s = c.self.inside.slab in
     let x = c.index_mut.result.now in
     let f = c.args.file.now in
-    let was = ap (map.get m) (sym c.ino.ensures) ∙ stood m s c.self.invariant.0 _ _ (c.stands_at.ensures c.if-stands_at.true) in
+    let was = stood m s c.self.invariant.0 _ _ (c.stands_at.ensures c.if-stands_at.true) in
     let at = c.index_mut.ensures.value in (
       same_borrow _ _ _ (λ i w. written _ m s c.self.inside.order.last c.self.inside.order.room f _ x w c.self.invariant.0 was at c.self.view_is i),
       record {
@@ -69,7 +69,7 @@ returns g c =
     let s = c.self.inside.slab in
     let x = c.index_mut-2.result.now in
     let f = c.args.file.now in
-    let was = ap (map.get m) (sym c.ino-2.ensures) ∙ sym c.key_of.ensures ∙ c.in_ok-key.was in
+    let was = ap (map.get m) (sym c.ino.ensures) ∙ sym c.key_of.ensures.key ∙ c.in_ok-key.was in
     let at = c.index_mut-2.ensures.value in (
       same_borrow _ _ _ (λ i w. written _ m s c.self.inside.order.last c.self.inside.order.room f _ x w c.self.invariant.0 was at c.self.view_is i),
       record {

@@ -14,17 +14,17 @@ returns-in-None-clause-keys c =
     nothing_gone c.args.self.now.keys c.args.ino (ap (λ a. map.get a.keys c.args.ino) (sym c.self.view_is) ∙ none)
 
 -- It is live in the last row.
-live_last : (c : goal.After-take_last) → IsLiveAt (c.take_last.new.self.items ++ c.take_last.result ∷ []) c.args.ino c.in-Some-Unpacked.at
+live_last : (c : goal.After-key) → IsLiveAt (c.take_last.new.self.items ++ c.take_last.result ∷ []) c.args.ino c.in-Some-Unpacked.at
 live_last c = subst (λ rows. IsLiveAt rows c.args.ino c.in-Some-Unpacked.at) (c.deref-2.ensures.value ∙ c.take_last.ensures.items) (rw c.in-Some-Unpacked.field-0-is at c.in-Some-Unpacked.ensures.place)
 
 -- The row that was popped has this number and its key.
-last_row : (c : goal.After-take_last) → c.take_last.result ≡ record { ino = c.args.ino; key = Some (live_last c).0 }
+last_row : (c : goal.After-key) → c.take_last.result ≡ record { ino = c.args.ino; key = Some (live_last c).0 }
 last_row c =
     let at : c.in-Some-Unpacked.at ≡ length c.take_last.new.self.items = omega (arith, ap length c.take_last.ensures.items, length_push c.take_last.new.self.items c.take_last.result) in
     last_is c.take_last.new.self.items c.take_last.result c.args.ino c.in-Some-Unpacked.at (live_last c) at
 
 -- The packed rows and the rows before the pop are in order, as the invariant says.
-whole : (c : goal.After-take_last) → AreRows c.self.inside.packed.items (c.take_last.new.self.items ++ c.take_last.result ∷ []) c.self.inside.read c.self.inside.last
+whole : (c : goal.After-key) → AreRows c.self.inside.packed.items (c.take_last.new.self.items ++ c.take_last.result ∷ []) c.self.inside.read c.self.inside.last
 whole c = subst (λ rows. AreRows c.self.inside.packed.items rows c.self.inside.read c.self.inside.last) c.take_last.ensures.items c.self.invariant.0
 
 pub invariant_of-self : goal.invariant_of-self
@@ -34,7 +34,7 @@ invariant_of-self c =
 
 pub returns-then-at-len-clause-value : goal.returns-then-at-len-clause-value
 returns-then-at-len-clause-value c =
-    ap (λ r. r.key) (last_row c)
+    c.key.ensures.key ∙ ap (λ r. r.key) (last_row c)
     ∙ waiting_key c.self.inside.packed.items (c.take_last.new.self.items ++ c.take_last.result ∷ []) c.self.inside.read c.self.inside.last (whole c) c.args.ino c.in-Some-Unpacked.at (live_last c)
     ∙ ap (λ rows. map.get (live_of (c.self.inside.packed.items ++ rows)) c.args.ino) (sym c.take_last.ensures.items)
     ∙ ap (λ a. map.get a.keys c.args.ino) c.self.view_is
@@ -53,19 +53,19 @@ waiting c = subst (λ rows. IsLiveAt rows c.args.ino c.in-Some-Unpacked.at) c.de
 pub invariant_of-self-in-Some-Unpacked : goal.invariant_of-self-in-Some-Unpacked
 invariant_of-self-in-Some-Unpacked c =
     let number = read_number c.self.inside.rows.items c.args.ino c.in-Some-Unpacked.at c.index_mut.result.now (waiting c) c.index_mut.ensures.value in
-    let marked = mark_waiting_rows c.self.inside.packed.items c.self.inside.rows.items c.self.inside.read c.self.inside.last c.self.invariant.0 c.args.ino c.in-Some-Unpacked.at (waiting c) (record { ino = c.index_mut.result.now.ino; key = c.take.new.self }) number c.take.ensures.after in
+    let marked = mark_waiting_rows c.self.inside.packed.items c.self.inside.rows.items c.self.inside.read c.self.inside.last c.self.invariant.0 c.args.ino c.in-Some-Unpacked.at (waiting c) c.take_key.new.self (ap (λ r. r.ino) c.take_key.ensures.dead ∙ number) (ap (λ r. r.key) c.take_key.ensures.dead) in
     (marked, c.self.invariant.1, search (rules, arith))
 
 pub returns-else-at-len-clause-value : goal.returns-else-at-len-clause-value
 returns-else-at-len-clause-value c =
-    c.take.ensures.value ∙ read_key c.self.inside.rows.items c.args.ino c.in-Some-Unpacked.at c.index_mut.result.now (waiting c) c.index_mut.ensures.value
+    c.take_key.ensures.key ∙ read_key c.self.inside.rows.items c.args.ino c.in-Some-Unpacked.at c.index_mut.result.now (waiting c) c.index_mut.ensures.value
     ∙ waiting_key c.self.inside.packed.items c.self.inside.rows.items c.self.inside.read c.self.inside.last c.self.invariant.0 c.args.ino c.in-Some-Unpacked.at (waiting c)
     ∙ ap (λ a. map.get a.keys c.args.ino) c.self.view_is
 
 pub returns-else-at-len-clause-keys : goal.returns-else-at-len-clause-keys
 returns-else-at-len-clause-keys c =
     let number = read_number c.self.inside.rows.items c.args.ino c.in-Some-Unpacked.at c.index_mut.result.now (waiting c) c.index_mut.ensures.value in
-    mark_waiting c.self.inside.packed.items c.self.inside.rows.items c.self.inside.read c.self.inside.last c.self.invariant.0 c.args.ino c.in-Some-Unpacked.at (waiting c) (record { ino = c.index_mut.result.now.ino; key = c.take.new.self }) number c.take.ensures.after
+    mark_waiting c.self.inside.packed.items c.self.inside.rows.items c.self.inside.read c.self.inside.last c.self.invariant.0 c.args.ino c.in-Some-Unpacked.at (waiting c) c.take_key.new.self (ap (λ r. r.ino) c.take_key.ensures.dead ∙ number) (ap (λ r. r.key) c.take_key.ensures.dead)
     ∙ ap (λ a. map.remove a.keys c.args.ino) c.self.view_is
 
 -- It is live among the packed ones.
@@ -75,17 +75,17 @@ packed c = subst (λ rows. IsLiveAt rows c.args.ino c.in-Some-Packed.at) c.deref
 pub invariant_of-self-in-Some-Packed : goal.invariant_of-self-in-Some-Packed
 invariant_of-self-in-Some-Packed c =
     let number = read_number c.self.inside.packed.items c.args.ino c.in-Some-Packed.at c.index_mut-in-Some-Packed.result.now (packed c) c.index_mut-in-Some-Packed.ensures.value in
-    let marked = mark_packed_rows c.self.inside.packed.items c.self.inside.rows.items c.self.inside.read c.self.inside.last c.self.invariant.0 c.args.ino c.in-Some-Packed.at (packed c) (record { ino = c.index_mut-in-Some-Packed.result.now.ino; key = c.take-in-Some-Packed.new.self }) number c.take-in-Some-Packed.ensures.after in
+    let marked = mark_packed_rows c.self.inside.packed.items c.self.inside.rows.items c.self.inside.read c.self.inside.last c.self.invariant.0 c.args.ino c.in-Some-Packed.at (packed c) c.take_key-in-Some-Packed.new.self (ap (λ r. r.ino) c.take_key-in-Some-Packed.ensures.dead ∙ number) (ap (λ r. r.key) c.take_key-in-Some-Packed.ensures.dead) in
     (marked, search (rules, arith), search (rules, arith))
 
 pub returns-in-Some-Packed-clause-value : goal.returns-in-Some-Packed-clause-value
 returns-in-Some-Packed-clause-value c =
-    c.take-in-Some-Packed.ensures.value ∙ read_key c.self.inside.packed.items c.args.ino c.in-Some-Packed.at c.index_mut-in-Some-Packed.result.now (packed c) c.index_mut-in-Some-Packed.ensures.value
+    c.take_key-in-Some-Packed.ensures.key ∙ read_key c.self.inside.packed.items c.args.ino c.in-Some-Packed.at c.index_mut-in-Some-Packed.result.now (packed c) c.index_mut-in-Some-Packed.ensures.value
     ∙ packed_key c.self.inside.packed.items c.self.inside.rows.items c.self.inside.read c.self.inside.last c.self.invariant.0 c.args.ino c.in-Some-Packed.at (packed c)
     ∙ ap (λ a. map.get a.keys c.args.ino) c.self.view_is
 
 pub returns-in-Some-Packed-clause-keys : goal.returns-in-Some-Packed-clause-keys
 returns-in-Some-Packed-clause-keys c =
     let number = read_number c.self.inside.packed.items c.args.ino c.in-Some-Packed.at c.index_mut-in-Some-Packed.result.now (packed c) c.index_mut-in-Some-Packed.ensures.value in
-    mark_packed c.self.inside.packed.items c.self.inside.rows.items c.self.inside.read c.self.inside.last c.self.invariant.0 c.args.ino c.in-Some-Packed.at (packed c) (record { ino = c.index_mut-in-Some-Packed.result.now.ino; key = c.take-in-Some-Packed.new.self }) number c.take-in-Some-Packed.ensures.after
+    mark_packed c.self.inside.packed.items c.self.inside.rows.items c.self.inside.read c.self.inside.last c.self.invariant.0 c.args.ino c.in-Some-Packed.at (packed c) c.take_key-in-Some-Packed.new.self (ap (λ r. r.ino) c.take_key-in-Some-Packed.ensures.dead ∙ number) (ap (λ r. r.key) c.take_key-in-Some-Packed.ensures.dead)
     ∙ ap (λ a. map.remove a.keys c.args.ino) c.self.view_is
