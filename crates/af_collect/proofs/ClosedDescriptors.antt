@@ -1,20 +1,18 @@
--- A descriptor is closed, and its plain file freed, or left without this reference: both invariants hold.
+-- A descriptor is closed, and its file freed, or left without this reference: both invariants hold.
 use Rattle.std.proofs.Common.{◌≡◌, ◌&&◌, ℕ, false, [], add-zero, arith, refl, sym, ap, ◌∙◌, subst, nat_eq}
+use Rattle.std.proofs.Math.Bool.{and-false}
 use Rattle.std.specs.Prelude.{None, Some, is_some, unwrap_or}
-use Rattle.std.specs.Option.{option_and_then, option_map_or}
+use Rattle.std.specs.Option.{option_map_or}
 use Rattle.std.specs.FinMap as map
-use Rattle.af_base.specs.declared.events.State.TheVariants as state
 use Rattle.af_base.specs.Changes.{uninstall}
 use Rattle.af_base.specs.Counts.{refs}
-use Rattle.af_base.specs.Places.{contents, table_at}
-use Rattle.af_base.specs.Refusals.{socket_of}
+use Rattle.af_base.specs.Places.{contents, held_in, queue_in, queue_of, table_at}
+use Rattle.af_base.specs.Refusals.{socket_at}
 use Rattle.af_base.specs.Unheld.{Settles, without}
-use Rattle.af_base.specs.Whole.{state_of}
-use Rattle.af_base.specs.World.{IsLive, Plain, World}
-use Rattle.af_base.proofs.Lookups.{insert-here}
+use Rattle.af_base.specs.World.{IsLive, World}
+use Rattle.af_base.proofs.Lookups.{insert-here, there}
 use Rattle.af_base.proofs.PlacesAndCounts.{held_by_none}
 use Rattle.af_base.proofs.SettledPlaces.{settles-without}
-use Rattle.af_base.proofs.StaysWhole.{not_connected}
 use Rattle.af_desc.specs.FilesView as desc
 use Rattle.af_desc.specs.FilesView.{FilesView}
 use Rattle.af_ledger.specs.Counted.{IsCounted, fewer, places_in, uncounted}
@@ -33,7 +31,7 @@ use Rattle.af_collect.specs.declared.parts.Collector.{Collector}
 use Rattle.af_collect.proofs.Agreement.{agrees-refs}
 use Rattle.af_collect.proofs.Bounds.{can-drop-table}
 use Rattle.af_collect.proofs.Exact.{exact-gone, exact-uninstall, world-is}
-use Rattle.af_collect.proofs.FreedFiles.{gone_alone}
+use Rattle.af_collect.proofs.FreedFiles.{gone_end}
 use Rattle.af_collect.proofs.LentProcesses.{seen-same, stands-same}
 use Rattle.af_collect.proofs.LostFiles.{kept_closed, marked_closed}
 use Rattle.af_collect.proofs.PassChanges.{kept_gone}
@@ -93,9 +91,9 @@ module _ (p : Collector) (h : Inside) (was : BothInvariants p h.procs h.files h.
     pub stands-closed : BothInvariants p procs left h.ledger
     stands-closed = both-same _ closed _ tally _ left.marks world-closed refl refl exact-closed kept-closed
 
-    module _ (plain : map.get h.files.files f ≡ Some Plain) (last : places_in (count_in_map h.files.counts f) ≡ 1) where
+    module _ (silent : queue_in h.files.files f ≡ []) (bare : held_in h.files.files f ≡ []) (spared : is_unmarked left.marks f ≡ false) (last : places_in (count_in_map h.files.counts f) ≡ 1) where
       live : IsLive closed f
-      live = ap is_some plain
+      live = was.0.whole.tables_live f (pid, fd, is)
 
       -- No place holds the file any more.
       unheld : refs closed f ≡ 0
@@ -105,22 +103,24 @@ module _ (p : Collector) (h : Inside) (was : BothInvariants p h.procs h.files h.
           omega (arith, had, now, last, agrees-refs closed tally exact-closed.agrees f)
 
       -- The world is the one without the file then.
-      pub world-freed : world_of procs (desc.without f left) h.ledger ≡ without (nat_eq f) closed
-      world-freed = world-is _ _ processes refl refl next refl ∙ gone_alone closed f exact-closed.whole.peers (λ q e. not_connected state.Idle q refl (sym (ap (λ o. option_map_or state_of o state.Idle) plain) ∙ e))
+      pub world-freed : world_of procs (desc.freed f left) h.ledger ≡ without (nat_eq f) closed
+      world-freed = world-is _ _ processes refl refl next refl ∙ gone_end closed f exact-closed.whole.peers
 
       -- It is not counted as garbage.
       uncounted-freed : counted closed left.marks f p.progress ≡ p.progress
       uncounted-freed =
-          sym (counted_gone closed left.marks p.progress f false (kept-closed.known f ∙ live) (sym (ap (λ o. is_some (option_and_then socket_of o) && is_unmarked left.marks f) plain)))
+          sym (counted_gone closed left.marks p.progress f false (kept-closed.known f ∙ live) (sym (ap (λ b. is_some (socket_at closed f) && b) spared ∙ and-false (is_some (socket_at closed f)))))
           ∙ ap (λ r. record p.progress { reclaimed = r }) (add-zero p.progress.reclaimed)
 
       -- Both invariants hold without it.
-      pub stands-freed : BothInvariants p procs (desc.without f left) h.ledger
+      pub stands-freed : BothInvariants p procs (desc.freed f left) h.ledger
       stands-freed =
           let no = held_by_none closed f unheld in
-          let gone = kept_gone closed begun left.marks p.progress f live no.0 no.1 (ap (λ o. option_map_or contents o []) plain) kept-closed in
+          let x = there (map.get h.files.files f) live in
+          let none = sym (ap (λ o. option_map_or contents o []) x.1) ∙ bare in
+          let gone = kept_gone closed begun left.marks p.progress f live no.0 no.1 bare kept-closed in
           both-same _ (without (nat_eq f) closed) _ (record tally { counts = map.remove tally.counts f }) _ (forgotten f left.marks) world-freed refl refl
-          (exact-gone closed f Plain tally plain refl refl unheld exact-closed)
+          (exact-gone closed f x.0 tally x.1 none (sym (ap (λ o. option_map_or queue_of o []) x.1) ∙ silent) unheld exact-closed)
           (subst (PassInvariant (without (nat_eq f) closed) begun (forgotten f left.marks)) uncounted-freed gone)
 
       -- It leaves the same files to be freed as before.

@@ -1,29 +1,34 @@
 -- A file is freed: the code's map of files becomes that of the world without it.
 use Rattle.std.proofs.Common.{◌≡◌, ℕ, Bool, refl, sym, ap, ◌∙◌, nat_eq}
-use Rattle.std.specs.Prelude.{Some}
+use Rattle.std.specs.Prelude.{None, Option, Some}
+use Rattle.std.specs.Option.{option_and_then, option_map_or}
 use Rattle.std.specs.FinMap as map
 use Rattle.af_base.specs.declared.events.State.{State}
 use Rattle.af_base.specs.declared.events.State.TheVariants as state
-use Rattle.af_base.specs.World.{World, File, Socket, Plain, AsSocket}
+use Rattle.af_base.specs.World.{World, File, Map, Socket, Plain, AsSocket}
 use Rattle.af_base.specs.Places.{backlog_of}
-use Rattle.af_base.specs.Changes.{with_socket}
 use Rattle.af_base.specs.Refusals.{socket_of}
 use Rattle.af_base.specs.Unheld.{file_without, without}
-use Rattle.af_base.specs.Whole.{AreMutual, state_at}
+use Rattle.af_base.specs.Whole.{AreMutual, state_of}
 use Rattle.af_base.proofs.Lookups.{some_same}
 use Rattle.af_base.proofs.FreedPeers.{without_one, drop_with}
+use Rattle.af_desc.specs.FilesView.{after_end, after_hangup, socket_in}
 
-module _ (w : World) (f : ℕ) (peers : AreMutual w) where
-  pub gone_connected : (p : ℕ) → state_at w f ≡ state.Connected p → with_socket (record w { files = map.remove w.files f }) p (λ s. record s { state = state.HungUp }) ≡ without (nat_eq f) w
-  gone_connected p e = sym (without_one w f peers ∙ ap (λ t. record w { files = drop_with t f w.files }) e)
+-- The files without one of them, whose peer has hung up, are those of the world without it.
+module _ (m : Map File) (f : ℕ) where
+  by-state : (t : State) → after_hangup t (map.remove m f) ≡ drop_with t f m
+  by-state state.Idle = refl
+  by-state (state.Listening b) = refl
+  by-state (state.Connected p) = refl
+  by-state state.HungUp = refl
 
-  pub gone_alone : ((p : ℕ) → state_at w f ≡ state.Connected p → ⊥) → record w { files = map.remove w.files f } ≡ without (nat_eq f) w
-  gone_alone none = by (state_at w f) refl ∙ sym (without_one w f peers) where
-    by : (t : State) → state_at w f ≡ t → record w { files = map.remove w.files f } ≡ record w { files = drop_with (state_at w f) f w.files }
-    by state.Idle e = ap (λ t. record w { files = drop_with t f w.files }) (sym e)
-    by (state.Listening b) e = ap (λ t. record w { files = drop_with t f w.files }) (sym e)
-    by (state.Connected p) e = absurd (none p e)
-    by state.HungUp e = ap (λ t. record w { files = drop_with t f w.files }) (sym e)
+  by-file : (o : Option File) → after_end (option_and_then socket_of o) (map.remove m f) ≡ drop_with (option_map_or state_of o state.Idle) f m
+  by-file None = refl
+  by-file (Some Plain) = refl
+  by-file (Some (AsSocket s)) = by-state s.state
+
+pub gone_end : (w : World) (f : ℕ) → AreMutual w → record w { files = after_end (socket_in w.files f) (map.remove w.files f) } ≡ without (nat_eq f) w
+gone_end w f peers = ap (λ fs. record w { files = fs }) (by-file w.files f (map.get w.files f)) ∙ sym (without_one w f peers)
 
 -- A file that has this socket is this socket.
 pub socket_is : (x : File) (s : Socket) → socket_of x ≡ Some s → x ≡ AsSocket s

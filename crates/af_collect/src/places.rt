@@ -3,12 +3,12 @@
 //! `release` frees it; only `close` may remove a file that holds nothing at once.
 ghost use Rattle.std.specs.Prelude.{◌≡◌, ◌<◌, ◌≤◌, ◌+◌, ℕ, None, IsTrue, IfOk};
 ghost use Rattle.std.specs.Prelude.{IfSome, OnOk, OnErr, length, false, is_none, is_some};
-ghost use Rattle.std.specs.Prelude.{Some, true};
+ghost use Rattle.std.specs.Prelude.{[], true};
 ghost use Rattle.std.specs.List.{zip, Contains};
 ghost use Rattle.std.specs.FinMap as finmap;
 ghost use Rattle.af_base.specs.World as world;
 ghost use Rattle.af_base.specs.World.{World};
-ghost use Rattle.af_base.specs.Places.{queue_at, table_at};
+ghost use Rattle.af_base.specs.Places.{held_in, queue_at, queue_in, table_at};
 ghost use Rattle.af_base.specs.Changes.{install, install_all, push_message, uninstall, with_queue};
 ghost use Rattle.af_base.specs.Counts.{total};
 ghost use Rattle.af_base.specs.Refusals.{socket_at};
@@ -19,11 +19,11 @@ ghost use Rattle.af_collect.specs.Receiving.{CanReceive, taken_at};
 ghost use Rattle.af_collect.specs.Keeping.{NotBegunGarbage};
 ghost use Rattle.af_collect.specs.Losing.{vacated, without_descriptor};
 ghost use Rattle.af_collect.specs.StoreView.{room_at};
-ghost use Rattle.af_desc.specs.FilesView as desc;
-ghost use Rattle.af_desc.specs.FilesView.{received_of};
+ghost use Rattle.af_desc.specs.FilesView.{freed, received_of};
 ghost use Rattle.af_ledger.specs.Counted.{places_in, IsCounted};
 ghost use Rattle.af_ledger.specs.Tally.{count_in_map};
 ghost use Rattle.af_ledger.specs.declared.place.Place.TheVariants.{Table};
+ghost use Rattle.af_mark.specs.MarksView.{is_unmarked};
 
 use crate::messages::{charge_message, uncharge_message};
 use crate::progress::{PassProgress, Stage};
@@ -117,8 +117,8 @@ impl Store {
     }
 
     /// Closes a descriptor of a process, if it is open, and frees the files that are unreferenced
-    /// then (close(2)): `close_at` and `release`, by one look at a plain file that is closed for
-    /// the last time. Returns whether the descriptor was open. Takes no memory.
+    /// then (close(2)): `close_at` and `release`, by one look at a file that holds nothing and
+    /// is closed for the last time. Returns whether the descriptor was open. Takes no memory.
     #[inline(always)]
     pub fn close(&mut self, pid: Pid, fd: Fd) -> bool
         ensures open { result ≡ is_some (table_at self.old.world pid fd) }
@@ -292,14 +292,18 @@ fn drop_replaced(progress: &PassProgress, files: &mut Files, was: Option<FileRef
     }
 }
 
-/// Drops the reference of a descriptor to a file, which is marked first, while marking. A plain
-/// file without another reference may be removed at once. Returns whether it was. Takes no memory.
+/// Drops the reference of a descriptor to a file, which is marked first, while marking. A file
+/// without another reference that holds nothing may be removed at once. Returns whether it was.
+/// Takes no memory.
 #[inline(always)]
 fn drop_and_free(progress: &PassProgress, files: &mut Files, file: &FileRef) -> bool
     requires { IsCounted Table (count_in_map files.old.counts file.now) }
     ensures removed { result ≡ true → files.new
-        ≡ desc.without file.now (without_descriptor progress.now.stage file.now files.old) }
-    ensures plain { result ≡ true → finmap.get files.old.files file.now ≡ Some world.Plain }
+        ≡ freed file.now (without_descriptor progress.now.stage file.now files.old) }
+    ensures silent { result ≡ true → queue_in files.old.files file.now ≡ [] }
+    ensures bare { result ≡ true → held_in files.old.files file.now ≡ [] }
+    ensures unmarked { result ≡ true → is_unmarked
+        (without_descriptor progress.now.stage file.now files.old).marks file.now ≡ false }
     ensures last { result ≡ true → places_in (count_in_map files.old.counts file.now) ≡ 1 }
     ensures kept { result ≡ false
         → files.new ≡ without_descriptor progress.now.stage file.now files.old }

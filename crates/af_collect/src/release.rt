@@ -1,21 +1,20 @@
 //! The freeing of unheld files, one file and one place at a time, without memory.
 ghost use Rattle.std.specs.Prelude.{◌≡◌, ◌<◌, [], IfSome, IfNone, IsTrue, drop, false, length};
 ghost use Rattle.std.specs.Prelude.{nat_eq, true};
-ghost use Rattle.af_base.specs.World.{IsLive, World};
+ghost use Rattle.af_base.specs.World.{IsLive};
 ghost use Rattle.af_base.specs.Counts.{refs};
 ghost use Rattle.af_base.specs.Changes.{dequeued, with_queue, with_socket};
-ghost use Rattle.af_base.specs.Places.{backlog_at, held_by, queue_at, queue_in};
+ghost use Rattle.af_base.specs.Places.{backlog_at, held_by, queue_at};
 ghost use Rattle.af_base.specs.Pass.{emptied};
 ghost use Rattle.af_base.specs.Unheld.{without};
 ghost use Rattle.af_desc.specs.FilesView as desc;
-ghost use Rattle.af_base.specs.Whole.{AreMutual, IsSound};
+ghost use Rattle.af_base.specs.Whole.{IsSound};
 ghost use Rattle.af_collect.specs.Losing.{places_at, without_place};
 ghost use Rattle.af_mark.specs.MarksView.{forgotten};
 
 use crate::holdings::Holdings;
 use crate::messages::uncharge_message;
 use af_base::ids::FileRef;
-use af_desc::Files;
 use af_ledger::Place;
 
 impl Holdings {
@@ -120,23 +119,6 @@ impl Holdings {
         ensures unmarked { result
             ≡ desc.is_unmarked_socket self.old.world.files self.old.marks file.now }
     {
-        remove(&mut self.files, file)
+        self.files.remove(file)
     }
-}
-
-/// Frees a file whose queue is empty, and hangs up its peer. Returns whether it was a socket that
-/// the pass had still to mark.
-fn remove(files: &mut Files, file: &FileRef) -> bool
-    requires silent { queue_in files.old.files file.now ≡ [] }
-    ensures gone { (w : World) → w.files ≡ files.old.files → AreMutual w
-        → record w { files = files.new.files } ≡ without (nat_eq file.now) w }
-    ensures rest { files.new
-        ≡ record (desc.without file.now files.old) { files = files.new.files } }
-    ensures unmarked { result ≡ desc.is_unmarked_socket files.old.files files.old.marks file.now }
-{
-    let (peer, unmarked) = files.remove(file);
-    if let Some(peer) = peer {
-        files.hang_up(&peer);
-    }
-    unmarked
 }

@@ -1,6 +1,6 @@
 -- Files under numbers that are never used again. Definitions that name no manual page are this
 -- project's own.
-use Rattle.std.specs.Prelude.{◌≡◌, ◌↔◌, ◌&&◌, ◌<◌, ◌≤◌, ℕ, ◌+◌, ◌-◌, ◌^◌, Bool, List, Option, Some, drop, false, is_some, nat_lt, unwrap_or, if◌then◌else◌}
+use Rattle.std.specs.Prelude.{◌≡◌, ◌↔◌, ◌&&◌, ◌<◌, ◌≤◌, ℕ, ◌+◌, ◌-◌, ◌^◌, Bool, List, None, Option, Some, drop, false, is_some, nat_lt, unwrap_or, if◌then◌else◌}
 use Rattle.std.specs.Option.{option_and_then, option_map_or}
 use Rattle.af_base.specs.declared.events.SockType.{SockType}
 use Rattle.std.specs.FinMap as map
@@ -12,7 +12,6 @@ use Rattle.af_base.specs.Counts.{total_of}
 use Rattle.af_base.specs.Refusals.{is_full_of, no_socket, socket_of}
 use Rattle.af_base.specs.Steps.{connected_socket}
 use Rattle.af_base.specs.Take.{take_from}
-use Rattle.af_base.specs.Whole.{state_of}
 use Rattle.af_ledger.specs.Counted.{fewer, more, uncounted}
 use Rattle.af_ledger.specs.Tally.{AreUnreferenced, count_in_map}
 use Rattle.af_ledger.specs.declared.count.Count.{Count}
@@ -98,9 +97,21 @@ socket_in files f = option_and_then socket_of (map.get files f)
 abbrev pub is_unmarked_socket : Map File → MarksView → ℕ → Bool
 is_unmarked_socket files m f = is_some (socket_in files f) && is_unmarked m f
 
--- The peer state of the file f of these; a plain file and an unknown one have none.
-abbrev pub state_in : Map File → ℕ → State
-state_in files f = option_map_or state_of (map.get files f) state.Idle
+-- These files after a socket of this state is gone: its peer has hung up (unix(7), EPIPE).
+abbrev pub after_hangup : State → Map File → Map File
+after_hangup state.Idle files = files
+after_hangup (state.Listening b) files = files
+after_hangup (state.Connected peer) files = change_socket_at hung_up files peer
+after_hangup state.HungUp files = files
+
+-- The same after this file is gone, which may be a socket.
+abbrev pub after_end : Option Socket → Map File → Map File
+after_end None files = files
+after_end (Some s) files = after_hangup s.state files
+
+-- A file less, whose peer has hung up.
+abbrev pub freed : ℕ → FilesView → FilesView
+freed f v = record (without f v) { files = after_end (socket_in v.files f) (map.remove v.files f) }
 
 -- The result of a receive of at most n bytes from a socket, if there is one (recvmsg(2)).
 abbrev pub received_of : Option Socket → ℕ → TakenView

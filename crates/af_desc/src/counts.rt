@@ -1,12 +1,13 @@
 //! How many places hold each file, and which files are unreferenced.
-ghost use Rattle.std.specs.Prelude.{◌≡◌, ◌<◌, ℕ, false, true, IfSome, IfNone, IsTrue, Some};
+ghost use Rattle.std.specs.Prelude.{◌≡◌, ◌<◌, ℕ, [], false, true, IfSome, IfNone, IsTrue};
 ghost use Rattle.std.specs.FinMap as map;
-ghost use Rattle.af_base.specs.World.{Plain};
+ghost use Rattle.af_base.specs.Places.{held_in, queue_in};
 ghost use Rattle.af_ledger.specs.Counted.{places_in, IsCountable, IsCounted};
 ghost use Rattle.af_ledger.specs.Tally.{count_in_map, is_unreferenced};
 ghost use Rattle.af_ledger.specs.declared.place.Place.TheVariants.{Table};
-ghost use Rattle.af_desc.specs.FilesView.{with_embryo, with_file_ref, without, without_embryo};
+ghost use Rattle.af_desc.specs.FilesView.{freed, with_embryo, with_file_ref, without_embryo};
 ghost use Rattle.af_desc.specs.FilesView.{without_file_ref};
+ghost use Rattle.af_mark.specs.MarksView.{is_unmarked};
 
 use crate::files::Files;
 use af_base::file_list::swap_remove_file;
@@ -131,23 +132,27 @@ impl Files {
     }
 
     /// Drops the reference of a descriptor to a file, which has one. With its last reference, a
-    /// plain file is removed at once, unless a running pass may have to mark it; any other file
-    /// becomes unreferenced. Returns whether it was removed. Takes no memory.
+    /// file that has no name and holds nothing is removed at once, and its peer has hung up, unless
+    /// a running pass may have to mark the file; any other becomes unreferenced. Returns whether it
+    /// was removed. Takes no memory.
     #[inline(always)]
     pub fn drop_descriptor(&mut self, file: &FileRef) -> bool
         requires { IsCounted Table (count_in_map self.old.counts file.now) }
         ensures removed { result ≡ true
-            → self.new ≡ without file.now (without_file_ref Table file.now self.old) }
-        ensures plain { result ≡ true → map.get self.old.files file.now ≡ Some Plain }
+            → self.new ≡ freed file.now (without_file_ref Table file.now self.old) }
+        ensures silent { result ≡ true → queue_in self.old.files file.now ≡ [] }
+        ensures bare { result ≡ true → held_in self.old.files file.now ≡ [] }
+        ensures unmarked { result ≡ true → is_unmarked self.old.marks file.now ≡ false }
         ensures last { result ≡ true → places_in (count_in_map self.old.counts file.now) ≡ 1 }
         ensures kept { result ≡ false → self.new ≡ without_file_ref Table file.now self.old }
     {
-        let Some(plain) = self.rows.sub_descriptor(file) else {
+        let Some(bare) = self.rows.sub_descriptor(file) else {
             return false;
         };
         // The pass counts the files below its bound that it has still to mark, and lists the grey.
-        if plain && file.ino().0 >= self.bound && self.grey.is_empty() {
-            self.rows.remove(file, self.epoch);
+        if bare && file.ino().0 >= self.bound && self.grey.is_empty() {
+            let (endpoint, _) = self.rows.remove(file, self.epoch);
+            self.hang_up_peer(&endpoint);
             return true;
         }
         self.unreferenced.push_reserved(file.duplicate());

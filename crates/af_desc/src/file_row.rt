@@ -1,12 +1,12 @@
 //! The row of one file.
 ghost use Rattle.std.specs.Prelude.{◌≡◌, ◌<◌, ◌∷◌, [], ℕ, IfSome, IfNone, IfOk, OnOk, OnErr, drop};
-ghost use Rattle.std.specs.Prelude.{length, nat_lt, true};
+ghost use Rattle.std.specs.Prelude.{None, length, nat_lt, true};
 ghost use Rattle.af_base.specs.Changes.{file_with, pushed};
 ghost use Rattle.af_base.specs.Places.{contents, queue_of};
 ghost use Rattle.af_base.specs.Refusals.{socket_of};
 ghost use Rattle.af_base.specs.Whole.{IsMessageWithin};
 ghost use Rattle.af_queue.specs.Chains.{has_room, IsChain, SameElsewhere};
-ghost use Rattle.af_desc.specs.FilesView.{popped, received_from, received_of};
+ghost use Rattle.af_desc.specs.FilesView.{name_of, popped, received_from, received_of};
 ghost use Rattle.af_desc.specs.Holding.{IsContents};
 ghost use Rattle.af_desc.specs.TrackedTableView.{file_in};
 
@@ -58,6 +58,20 @@ impl FileRow {
             }
         }
         Contents::Nothing
+    }
+
+    /// Returns whether it has no name and its queue is empty: then it holds nothing.
+    #[inline(always)]
+    pub fn is_bare(&self, nodes: &Slab<Node>) -> bool
+        requires chain { (owner : ℕ) × IsChain nodes.now self.now.chain owner }
+        ensures nameless { result ≡ true → name_of (file_in nodes.now self.now) ≡ None }
+        ensures silent { result ≡ true → queue_of (file_in nodes.now self.now) ≡ [] }
+        ensures bare { result ≡ true → contents (file_in nodes.now self.now) ≡ [] }
+    {
+        match &self.endpoint {
+            Some(endpoint) => { endpoint.is_nameless() && Queue::of(nodes, &self.chain).len() == 0 }
+            None => true,
+        }
     }
 
     /// Returns whether it is dirty.

@@ -8,11 +8,11 @@ ghost use Rattle.af_base.specs.Changes.{connected, dequeued, listening, pushed, 
 ghost use Rattle.af_base.specs.Places.{backlog_in, held_in, queue_in};
 ghost use Rattle.af_base.specs.Refusals.{room_of};
 ghost use Rattle.af_base.specs.Whole.{IsMessageWithin};
-ghost use Rattle.af_base.specs.World.{Plain};
 ghost use Rattle.af_ledger.specs.Counted.{fewer, more, places_in, IsCountable, IsCounted};
 ghost use Rattle.af_ledger.specs.Tally.{count_in_map};
 ghost use Rattle.af_ledger.specs.declared.place.Place.TheVariants.{Table};
-ghost use Rattle.af_desc.specs.FilesView.{hung_up, popped, received_from, received_of, socket_in};
+ghost use Rattle.af_desc.specs.FilesView.{hung_up, name_in, popped, received_from, received_of};
+ghost use Rattle.af_desc.specs.FilesView.{socket_in};
 ghost use Rattle.af_desc.specs.FileTableView.{with_entry, with_socket, with_socket_and_room};
 ghost use Rattle.af_desc.specs.FileTableView.{without_entry};
 ghost use Rattle.af_desc.specs.Holding.{IsContents};
@@ -397,7 +397,7 @@ impl FileTable {
     }
 
     /// Drops the place of one descriptor of a file, which has one. If that was its last place,
-    /// returns whether the file is a plain one. Takes no memory.
+    /// returns whether the file has no name and holds nothing. Takes no memory.
     #[inline(always)]
     #[tactic(auto, using(crate::proofs::TrackedTableView::chains, ordered_slab::proofs::Parts::parts, ordered_slab::proofs::Values::lent, af_ledger::proofs::Unreferenced::counted))]
     pub fn sub_descriptor(&mut self, file: &FileRef) -> Option<bool>
@@ -409,12 +409,14 @@ impl FileTable {
         ensures len { map.len self.new.counts ≡ map.len self.old.counts }
         ensures last { is_some result
             ≡ nat_eq (places_in (count_in_map self.old.counts file.now)) 1 }
-        ensures plain { result ≡ Some true → map.get self.old.files file.now ≡ Some Plain }
+        ensures nameless { result ≡ Some true → name_in self.old.files file.now ≡ None }
+        ensures silent { result ≡ Some true → queue_in self.old.files file.now ≡ [] }
+        ensures bare { result ≡ Some true → held_in self.old.files file.now ≡ [] }
     {
         let row = self.rows.get_mut(file).unwrap();
         row.count.sub(&Place::Table);
         if row.count.is_none() {
-            Some(row.endpoint.is_none())
+            Some(row.is_bare(&self.nodes))
         } else {
             None
         }

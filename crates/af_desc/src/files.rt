@@ -14,15 +14,15 @@ ghost use Rattle.af_base.specs.World.{untold};
 ghost use Rattle.af_mark.specs.MarksView.{is_grey, is_unmarked};
 ghost use Rattle.af_desc.specs.TrackedTableView.{file_of};
 ghost use Rattle.af_base.specs.Told.{AreChanged, AreReleased};
-ghost use Rattle.af_desc.specs.FilesView.{AreNamed, changed, changed_queue, entered, hung_up};
-ghost use Rattle.af_desc.specs.FilesView.{is_full, is_live, is_unmarked_socket, name_of, paired};
-ghost use Rattle.af_desc.specs.FilesView.{popped, received_from, received_of, socket_in, state_in};
+ghost use Rattle.af_desc.specs.FilesView.{AreNamed, after_end, changed, changed_queue, entered};
+ghost use Rattle.af_desc.specs.FilesView.{freed, is_full, is_live, is_unmarked_socket, name_of};
+ghost use Rattle.af_desc.specs.FilesView.{paired, popped, received_from, received_of, socket_in};
 ghost use Rattle.af_desc.specs.FilesView.{without};
 
 use crate::counts::with_embryo;
 use crate::socket::{Endpoint, Socket};
 use crate::tracked_table::{TrackedTable, widen};
-use af_base::events::{SockType, State};
+use af_base::events::SockType;
 use af_base::file_list::swap_remove_file;
 use af_base::ids::{FileRef, Ino};
 use af_base::items::Items;
@@ -241,25 +241,20 @@ impl Files {
         Ok((first, second))
     }
 
-    /// Removes a file whose queue is empty; ignores an unknown file. Its number is never used
-    /// again, and its name is free. Returns its peer, and whether it was a socket that the pass had
-    /// still to mark. Takes no memory.
+    /// Removes a file whose queue is empty, and hangs up its peer; ignores an unknown file. Its
+    /// number is never used again, and its name is free. Returns whether it was a socket that the
+    /// pass had still to mark. Takes no memory.
     #[inline(always)]
     #[tactic(auto, using(af_mark::proofs::GreyList::gone))]
-    pub fn remove(&mut self, file: &FileRef) -> (Option<FileRef>, bool)
+    pub fn remove(&mut self, file: &FileRef) -> bool
         requires silent { queue_in self.old.files file.now ≡ [] }
-        ensures peer { IfSome result.0 (λ p. state_in self.old.files file.now ≡ State.Connected p) }
-        ensures alone { IfNone result.0
-            ((p : ℕ) → ¬ (state_in self.old.files file.now ≡ State.Connected p)) }
-        ensures unmarked { result.1 ≡ is_unmarked_socket self.old.files self.old.marks file.now }
-        ensures gone { self.new ≡ without file.now self.old }
+        ensures unmarked { result ≡ is_unmarked_socket self.old.files self.old.marks file.now }
+        ensures gone { self.new ≡ freed file.now self.old }
     {
         self.blacken(file);
         let (endpoint, unmarked) = self.take_out(file);
-        match endpoint {
-            Some(endpoint) => (endpoint.peer(), unmarked),
-            None => (None, false),
-        }
+        self.hang_up_peer(&endpoint);
+        endpoint.is_some() && unmarked
     }
 
     /// Removes a file that is not grey, and returns its socket, and whether the pass had still to
@@ -281,12 +276,17 @@ impl Files {
         (endpoint, unmarked)
     }
 
-    /// Marks the peer of that socket as gone. Ignores a plain or unknown file. Takes no memory.
+    /// Hangs up the peer of a socket that is gone, if it had one. Takes no memory.
     #[inline(always)]
-    pub fn hang_up(&mut self, file: &FileRef)
-        ensures { self.new ≡ changed hung_up file.now self.old }
+    pub(crate) fn hang_up_peer(&mut self, gone: &Option<Endpoint>)
+        ensures { self.new ≡ record self.old { files = after_end gone.now self.old.files } }
     {
-        self.rows.hang_up(file);
+        let Some(endpoint) = gone else {
+            return;
+        };
+        if let Some(peer) = endpoint.peer() {
+            self.rows.hang_up(&peer);
+        }
     }
 
     /// Makes room for one message more, so that the next `push` cannot fail. On an error no file

@@ -98,7 +98,8 @@ impl Endpoint {
     /// Returns whether it has no name. If so, no embryo waits in its backlog.
     #[inline(always)]
     pub fn is_nameless(&self) -> bool
-        ensures { result ≡ true → self.now.backlog ≡ [] }
+        ensures name { result ≡ is_none self.now.name }
+        ensures backlog { result ≡ true → self.now.backlog ≡ [] }
     {
         self.named_parts.is_none()
     }

@@ -9,12 +9,13 @@ ghost use Rattle.af_base.specs.Counts.{count_in};
 ghost use Rattle.af_base.specs.Places.{backlog_in, held_in, queue_in};
 ghost use Rattle.af_base.specs.Refusals.{room_of};
 ghost use Rattle.af_base.specs.Whole.{IsMessageWithin};
-ghost use Rattle.af_base.specs.World.{Plain, untold};
+ghost use Rattle.af_base.specs.World.{untold};
 ghost use Rattle.af_ledger.specs.Counted.{fewer, more, places_in, IsCountable, IsCounted};
 ghost use Rattle.af_ledger.specs.Tally.{count_in_map};
 ghost use Rattle.af_ledger.specs.declared.place.Place.TheVariants.{Table};
 ghost use Rattle.af_mark.specs.Grey.{black_mark, grey_mark};
-ghost use Rattle.af_desc.specs.FilesView.{hung_up, popped, received_from, received_of, socket_in};
+ghost use Rattle.af_desc.specs.FilesView.{hung_up, name_in, popped, received_from, received_of};
+ghost use Rattle.af_desc.specs.FilesView.{socket_in};
 ghost use Rattle.af_desc.specs.Holding.{IsContents};
 ghost use Rattle.af_desc.specs.TrackedTableView.{file_of, is_due, is_white_in, with_row};
 ghost use Rattle.af_desc.specs.TrackedTableView.{with_socket, with_socket_and_room, without_row};
@@ -385,7 +386,7 @@ impl TrackedTable {
     }
 
     /// Drops the place of one descriptor of a file, which has one. If that was its last place,
-    /// returns whether the file is a plain one. Takes no memory.
+    /// returns whether the file has no name and holds nothing. Takes no memory.
     #[inline(always)]
     pub fn sub_descriptor(&mut self, file: &FileRef) -> Option<bool>
         requires { IsCounted Table (count_in_map self.old.counts file.now) }
@@ -396,7 +397,9 @@ impl TrackedTable {
         ensures len { map.len self.new.counts ≡ map.len self.old.counts }
         ensures last { is_some result
             ≡ nat_eq (places_in (count_in_map self.old.counts file.now)) 1 }
-        ensures plain { result ≡ Some true → map.get self.old.files file.now ≡ Some Plain }
+        ensures nameless { result ≡ Some true → name_in self.old.files file.now ≡ None }
+        ensures silent { result ≡ Some true → queue_in self.old.files file.now ≡ [] }
+        ensures bare { result ≡ Some true → held_in self.old.files file.now ≡ [] }
     {
         self.table.sub_descriptor(file)
     }

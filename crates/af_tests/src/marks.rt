@@ -1,6 +1,7 @@
 //! Tests beyond the clauses: that ample memory suffices, and that a second try does after a
 //! refusal.
 
+use af_base::events::{SockType, State};
 use af_base::ids::{FileRef, Ino};
 use af_desc::Files;
 use af_ledger::Place;
@@ -74,6 +75,23 @@ fn free_or_list(rt: &impl Abort, files: &mut Files) -> Result<(), AllocError> {
 fn a_last_close_frees(rt: HostRuntime) -> Result<(), Fail> {
     let mut files = Files::new(rt.alloc());
     Ok(free_or_list(&rt, &mut files)?)
+}
+
+/// Closes one of two connected sockets: it is freed at once, and the other has hung up.
+fn close_one_end(rt: &impl Abort, files: &mut Files) -> Result<(), AllocError> {
+    assert!(rt; !files.is_full(2));
+    let (first, second) = files.make_two(SockType::Stream, &Place::Table)?;
+    let freed = drop_frees(rt, files, &first);
+    assert!(rt; freed && files.live() == 1 && files.next_unreferenced().is_none());
+    let other = files.socket(&second);
+    assert!(rt; other.is_some_and(|socket| matches!(socket.state(), State::HungUp)));
+    Ok(())
+}
+
+#[test]
+fn a_last_close_frees_a_socket(rt: HostRuntime) -> Result<(), Fail> {
+    let mut files = Files::new(rt.alloc());
+    Ok(close_one_end(&rt, &mut files)?)
 }
 
 /// A file is made, at the second trial where the first found no room. It is not marked.

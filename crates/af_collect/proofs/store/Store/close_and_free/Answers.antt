@@ -41,10 +41,10 @@ lost c = by c.drop_and_free.result refl where
       let found = sym c.take_out.ensures.value ∙ c.in-Some.is in
       let done = c.drop_and_free.ensures in
       let t = c.take_out.ensures in
-      let gone = world-freed p h was c.args.pid c.args.fd c.in-Some.file found c.take_out.new.self t.processes t.next (done.plain e) (done.last e) in
+      let gone = world-freed p h was c.args.pid c.args.fd c.in-Some.file found c.take_out.new.self t.processes t.next (done.silent e) (done.bare e) (done.unmarked e) (done.last e) in
       subst (Serves c) (sym (done.removed e)) (
-        stands-freed p h was c.args.pid c.args.fd c.in-Some.file found c.take_out.new.self t.processes t.next (done.plain e) (done.last e),
-        λ end s. settles-freed p h was c.args.pid c.args.fd c.in-Some.file found c.take_out.new.self t.processes t.next (done.plain e) (done.last e) end (subst (λ w. Settles w end) gone s),
+        stands-freed p h was c.args.pid c.args.fd c.in-Some.file found c.take_out.new.self t.processes t.next (done.silent e) (done.bare e) (done.unmarked e) (done.last e),
+        λ end s. settles-freed p h was c.args.pid c.args.fd c.in-Some.file found c.take_out.new.self t.processes t.next (done.silent e) (done.bare e) (done.unmarked e) (done.last e) end (subst (λ w. Settles w end) gone s),
       )
   by false e =
       let p = c.self.inside.parts in

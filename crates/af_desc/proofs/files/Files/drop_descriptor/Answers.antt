@@ -1,7 +1,7 @@
 use Rattle.std.proofs.Common.{rules, ◌≡◌, ◌-◌, ◌++◌, ◌∷◌, [], ℕ, Bool, true, false, List, length, arith, refl, sym, ap, ◌∙◌, subst, cond, nat_eq}
 use Rattle.std.specs.Prelude.{Some, is_some, vec_capacity}
 use Rattle.std.specs.FinMap as map
-use Rattle.std.specs.Option.{option_and_then, option_map_or}
+use Rattle.std.specs.Option.{option_map_or}
 use Rattle.std.proofs.lemmas.List.Sums.{sum_by-append}
 use Rattle.af_base.specs.Counts.{count_in, one}
 use Rattle.af_base.specs.World.{Map}
@@ -13,9 +13,9 @@ use Rattle.af_ledger.proofs.Unreferenced.{lowered-kept, lowered-pushed}
 use Rattle.af_mark.specs.Grey.{AreGrey}
 use Rattle.af_mark.specs.MarksView.{is_grey_color}
 use Rattle.af_mark.specs.declared.color.Color.{Color}
-use Rattle.af_desc.specs.FilesView.{FilesInvariant, FilesView, name_of, without, without_file_ref}
+use Rattle.af_desc.specs.FilesView.{FilesInvariant, FilesView, after_end, freed, name_in, socket_in, without, without_file_ref}
 use Rattle.af_desc.proofs.Embryos.{counted-fewer}
-use Rattle.af_desc.proofs.FileNames.{named-gone}
+use Rattle.af_desc.proofs.FileNames.{name-at, named-gone}
 use Rattle.af_desc.proofs.FilesInvariant.{filed-counted, filed-removed, seen, seen-without}
 use Rattle.af_desc.proofs.Whites.{white-gone}
 use Rattle.af_desc.proofs.files.Files.drop_descriptor.Goals.{After-sub_descriptor}
@@ -79,15 +79,18 @@ invariant_of-self-then-is_empty c =
     let rows = c.sub_descriptor.new.self in
     let h = listed (goal.at.invariant_of-self-then-is_empty c).After-sub_descriptor (sym one.last ∙ ap is_some c.in-Some.is) in
     let none : length a.grey.items ≡ 0 = search rules in
-    let plain = ap (λ r. map.get r.files k) one.counts ∙ one.plain (c.in-Some.is ∙ ap Some c.if-plain.true) in
+    let nameless = ap (λ r. name_in r.files k) one.counts ∙ one.nameless (c.in-Some.is ∙ ap Some c.if-bare.true) in
     let few = (white-gone rows.marks rows.marks a.epoch a.bound a.next a.white h.whites k k _ _ refl refl refl).1 in
-    filed-removed rows c.remove.new.self _ _ _ _ _ _ _ h k a.names a.unreferenced.items (vec_capacity a.unreferenced) c.remove.ensures.removed c.remove.ensures.space
-    (named-gone a.names rows.files h.named k (ap (option_and_then name_of) plain)) (struck-last a.unreferenced.items k) (omega arith) (none-grey _ a.grey.items k none h.listed.1) a.white (omega (arith, few))
+    filed-removed rows c.remove-endpoint.new.self _ _ _ _ _ _ _ h k a.names a.unreferenced.items (vec_capacity a.unreferenced) c.remove-endpoint.ensures.removed c.remove-endpoint.ensures.space
+    (named-gone a.names rows.files h.named k (sym (name-at rows.files k (map.get rows.files k) refl) ∙ nameless)) (struck-last a.unreferenced.items k) (omega arith) (none-grey _ a.grey.items k none h.listed.1) a.white (omega (arith, few))
 
 pub returns-then-is_empty-clause-removed : goal.returns-then-is_empty-clause-removed
 returns-then-is_empty-clause-removed c = λ _.
     let a = c.self.inside in
     let k = c.args.file.now in
     let rows = c.sub_descriptor.new.self in
-    ap (λ r. seen a.epoch a.bound r a.next) c.remove.ensures.removed ∙ seen-without a.epoch a.bound rows a.next c.remove.new.self.room c.remove.new.self.space k
-    ∙ ap (λ r. without k (seen a.epoch a.bound r a.next)) c.sub_descriptor.ensures.counts ∙ ap (λ (v : FilesView). without k (without_file_ref Table k v)) c.self.view_is
+    let gone = ap (λ r. seen a.epoch a.bound r a.next) c.remove-endpoint.ensures.removed ∙ seen-without a.epoch a.bound rows a.next c.remove-endpoint.new.self.room c.remove-endpoint.new.self.space k in
+    let left = ap (λ r. seen a.epoch a.bound r a.next) c.sub_descriptor.ensures.counts ∙ ap (without_file_ref Table k) c.self.view_is in
+    c.hang_up_peer.ensures ∙ ap (λ (v : FilesView). record v { files = after_end c.remove-endpoint.result.0 v.files }) gone
+    ∙ ap {B = FilesView} (λ o. record (without k (seen a.epoch a.bound rows a.next)) { files = after_end o (map.remove rows.files k) }) c.remove-endpoint.ensures.socket
+    ∙ ap (freed k) left
