@@ -323,9 +323,10 @@ impl Store {
         ensures err { OnErr result (self.new ≡ self.old) }
     {
         let places = &mut self.parts.places;
-        let child = places.procs.copy_for_fork(pid)?;
-        ref_table(&mut places.files, &child);
-        Ok(places.procs.add(child))
+        let child = places.procs.fork(pid)?;
+        let process = places.procs.find(child).unwrap();
+        ref_table(&mut places.files, process);
+        Ok(child)
     }
 
     /// Ends a process, and frees all its descriptors. Takes no memory.

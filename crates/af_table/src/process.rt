@@ -73,10 +73,10 @@ impl Process {
         }
     }
 
-    /// Copies the process, with all its open descriptors. The slots of the copy end behind its last
-    /// open one.
+    /// Copies the process, with all its open descriptors. The memory of this row, which may have
+    /// files of another process, is used for its slots; they end behind its last open one.
     #[tactic(auto, using(crate::proofs::Tables::table_changes))]
-    pub(crate) fn copy(&self, alloc: Global) -> Result<Process, AllocError>
+    pub(crate) fn copy(&self, row: Vec<FileRef>) -> Result<Process, AllocError>
         ensures { IfOk result (λ p. p.process ≡ self.now.process) }
     {
         let used = self.slots.len().min(self.taken.end() as usize);
@@ -84,7 +84,7 @@ impl Process {
             user: self.user,
             limit: self.limit,
             privileged: self.privileged,
-            slots: copy_files(alloc, &self.slots[..used])?,
+            slots: copy_files(row, &self.slots[..used])?,
             taken: self.taken,
         })
     }
@@ -299,13 +299,14 @@ impl Process {
     }
 }
 
-/// Copies the files into a list of just that length.
-fn copy_files(alloc: Global, files: &[FileRef]) -> Result<Vec<FileRef>, AllocError>
+/// Returns the row with copies of these files in place of what it had.
+fn copy_files(mut row: Vec<FileRef>, files: &[FileRef]) -> Result<Vec<FileRef>, AllocError>
     ensures { IfOk result (λ copies. copies.items ≡ files.now) }
 {
-    let mut copies = Vec::with_capacity(alloc, files.len())?;
+    row.clear();
+    row.reserve_exact(files.len())?;
     for file in files {
-        copies.push_reserved(file.duplicate());
+        row.push_reserved(file.duplicate());
     }
-    Ok(copies)
+    Ok(row)
 }

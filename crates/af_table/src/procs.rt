@@ -14,6 +14,7 @@ use af_base::limits::{MAX_NOFILE, MAX_PID};
 use indexmap::IndexMap;
 use std::alloc::{AllocError, Global};
 use std::marker::Model;
+use std::mem;
 
 /// The processes with their tables.
 #[derive(Drop)]
@@ -21,6 +22,8 @@ pub struct Procs {
     pub(crate) processes: IndexMap<Pid, Process>,
     hints: Hints,
     next_pid: u32,
+    /// The slots of the last process that ended: memory for the next fork.
+    spare_row: Vec<FileRef>,
     pub(crate) alloc: Global,
 }
 
@@ -58,6 +61,7 @@ impl Procs {
             processes: IndexMap::new(alloc),
             hints: Hints::new(),
             next_pid: 1,
+            spare_row: Vec::new(alloc),
             alloc,
         }
     }
@@ -178,7 +182,7 @@ impl Procs {
     /// Adds the process under the next pid. There is room for it.
     #[inline(always)]
     #[tactic(auto, using(crate::proofs::Parts::part_changes))]
-    pub fn add(&mut self, process: Process) -> Pid
+    fn add(&mut self, process: Process) -> Pid
         requires room { 0 < self.old.room }
         requires next { self.old.next_pid ≤ MAX_PID }
         ensures pid { result ≡ self.old.next_pid }
@@ -212,23 +216,26 @@ impl Procs {
         self.add(process)
     }
 
-    /// Copies the process, for a fork: of the same user, with the same limit and privilege, and
-    /// with all its open descriptors. The copy is to be added, for which there is room then; room
-    /// for further descriptors is not reserved. No process changes, also on an error.
+    /// Starts a process by a fork: of the same user, with the same limit and privilege, and with the
+    /// same open descriptors. Returns its pid. Room for further descriptors is not reserved. On an
+    /// error no process changes.
     #[tactic(auto, using(crate::proofs::Parts::part_changes))]
-    pub fn copy_for_fork(&mut self, pid: Pid) -> Result<Process, AllocError>
-        requires { IsTrue (map.contains_key self.old.processes pid) }
-        ensures copy { IfOk result (λ p. p.process ≡ process_in self.old.processes pid) }
-        ensures processes { self.new.processes ≡ self.old.processes }
-        ensures rows { self.new.rows ≡ self.old.rows }
-        ensures next { self.new.next_pid ≡ self.old.next_pid }
-        ensures ok { OnOk result (0 < self.new.room) }
-        ensures room { self.old.room ≤ self.new.room }
+    pub fn fork(&mut self, pid: Pid) -> Result<Pid, AllocError>
+        requires there { IsTrue (map.contains_key self.old.processes pid) }
+        requires next { self.old.next_pid ≤ MAX_PID }
+        ensures pid { IfOk result (λ child. child ≡ self.old.next_pid) }
+        ensures next { OnOk result (self.new.next_pid ≡ self.old.next_pid + 1) }
+        ensures processes { OnOk result (self.new.processes
+            ≡ map.insert self.old.processes self.old.next_pid
+            (process_in self.old.processes pid)) }
+        ensures err { OnErr result (self.new ≡ record self.old { room = self.new.room }) }
     {
         self.room_to_spawn()?;
+        let row = mem::replace(&mut self.spare_row, Vec::new(self.alloc));
         let index = self.hints.find(&self.processes, pid).unwrap();
         let (_, parent) = self.processes.get_index(index).unwrap();
-        parent.copy(self.alloc)
+        let child = parent.copy(row)?;
+        Ok(self.add(child))
     }
 
     /// Reserves room to install at every descriptor of the process below its limit, if more than 0
@@ -329,24 +336,36 @@ impl Procs {
         process.take_out(fd)
     }
 
-    /// Removes the process, whose pid is never used again, and returns it with its open
-    /// descriptors, so that the caller drops their references; `next_open` lists them. Changes
-    /// nothing for an unknown process. Takes no memory.
+    /// Removes the process, whose pid is never used again. Returns whether it was known. The caller
+    /// drops the references of its open descriptors before. Takes no memory, and keeps that of its
+    /// slots for the next fork.
     #[tactic(auto, using(crate::proofs::Parts::part_changes))]
-    pub fn remove(&mut self, pid: Pid) -> Option<Process>
-        ensures there { IfSome result (λ p. map.get self.old.processes pid ≡ Some p.process) }
-        ensures none { IfNone result (map.get self.old.processes pid ≡ None) }
+    pub fn remove(&mut self, pid: Pid) -> bool
+        ensures known { result ≡ map.contains_key self.old.processes pid }
         ensures processes { self.new.processes ≡ map.remove self.old.processes pid }
         ensures rows { self.new.rows ≡ map.remove self.old.rows pid }
         ensures next { self.new.next_pid ≡ self.old.next_pid }
         ensures room { self.old.room ≤ self.new.room }
     {
-        let index = self.hints.find(&self.processes, pid)?;
+        let Some(index) = self.hints.find(&self.processes, pid) else {
+            return false;
+        };
         // The last process takes its index.
         let last = self.processes.len() - 1;
         let (moved, _) = self.processes.get_index(last).unwrap();
         self.hints.set(*moved, index);
         let (_, gone) = self.processes.swap_remove_index(index).unwrap();
-        Some(gone)
+        self.keep_row(gone.slots);
+        true
+    }
+
+    /// Keeps this row for the next fork, if it has more room than the one that is kept.
+    #[inline(always)]
+    fn keep_row(&mut self, row: Vec<FileRef>)
+        ensures { self.new ≡ self.old }
+    {
+        if row.capacity() > self.spare_row.capacity() {
+            self.spare_row = row;
+        }
     }
 }

@@ -18,7 +18,7 @@ fn come_and_go(rt: &impl Abort, procs: &mut Procs) -> Result<(), Fail>
     }
     for pid in 1..=600 {
         if pid % 3 == 0 {
-            assert!(rt; procs.remove(Pid(pid)).is_some());
+            assert!(rt; procs.remove(Pid(pid)));
         }
     }
     for pid in 1..=600 {

@@ -1,19 +1,21 @@
 use Rattle.std.proofs.Common.{◌≡◌, ap, nat_eq, subst, sym, ◌∙◌, Some}
-use Rattle.std.specs.Prelude.{IfOk, IfSome, slice_get, unwrap_or}
+use Rattle.std.specs.Prelude.{IfSome, slice_get, unwrap_or}
+use Rattle.std.specs.FinMap as map
 use Rattle.std.specs.HashMap as hash
 use Rattle.std.specs.Map.Iter.{deref_pair}
 use Rattle.std.specs.Option.{option_map}
 use Rattle.af_base.specs.Refusals.{no_process, process_in}
 use Rattle.af_table.proofs.Places.{process_found}
-use Rattle.af_table.proofs.procs.Procs.copy_for_fork.Goals as goal
+use Rattle.af_table.proofs.procs.Procs.fork.Goals as goal
 
-pub returns-clause-copy : goal.returns-clause-copy
-returns-clause-copy c =
+pub returns-clause-processes : goal.returns-clause-processes
+returns-clause-processes c =
     let m = c.self.inside.processes in
     let there = subst (λ o. IfSome o (λ i. slice_get (hash.keys m) i ≡ Some c.args.pid)) c.unwrap-index.ensures c.find.ensures.there in
     let at = sym c.get_index.ensures.entry ∙ ap (option_map deref_pair) c.unwrap.ensures in
     let got = subst (λ o. IfSome o (λ p. hash.get nat_eq m p.0.now ≡ Some p.1.now)) c.unwrap.ensures c.get_index.ensures.value in
     let parent = process_found m c.unwrap-index.result c.args.pid _ _ there at got in
     let same = ap (λ s. s.processes) c.self.view_is ∙ c.in_ok-room_to_spawn.ensures.processes in
-    let found = sym (ap (λ o. unwrap_or o no_process) parent) ∙ ap (λ ps. process_in ps c.args.pid) same in
-    subst (λ q. IfOk c.copy.result (λ p. p.process ≡ q)) found c.copy.ensures
+    let next = ap (λ s. s.next_pid) c.self.view_is ∙ c.in_ok-room_to_spawn.ensures.next in
+    let child = c.in_ok-child.ensures ∙ sym (ap (λ o. unwrap_or o no_process) parent) ∙ ap (λ ps. process_in ps c.args.pid) same in
+    c.add.ensures.processes ∙ (λ i. map.insert (same i) (next i) (child i))
