@@ -3,7 +3,7 @@ use Rattle.std.proofs.Common.{◌≡◌, ◌<◌, ◌≤◌, ℕ, ◌+◌, ◌-�
 use Rattle.std.specs.Prelude.{Option, Some, None, nat_le, nat_lt}
 use Rattle.std.specs.Option.{option_map_or}
 use Rattle.std.specs.List.{AllByRecursion, find, slice_get}
-use Rattle.std.proofs.lemmas.Bool.{cases_Bool, le-leb, le-ltb, leb-false, leb-true, lt-leb, lt-ltb, ltb-false, ltb-true}
+use Rattle.std.proofs.lemmas.Bool.{cases_Bool, le-leb, le-ltb, leb-false, leb-true, lt-leb, lt-ltb, ltb-false, ltb-true, or_right}
 use Rattle.std.proofs.lemmas.List.{length-append, length-take, take-append-le}
 use Rattle.af_base.specs.declared.events.SockType.TheVariants.{Seqpacket, Stream}
 use Rattle.af_base.specs.World.{Message}
@@ -212,6 +212,23 @@ part-received q n k bytes files user some have is copied taken sent =
     (λ i. record { message = record { bytes = copied i; attached = taken i; user = sent i }; trunc = false })
     ∙ (λ i. record { message = record { bytes = take (is i) (joined q); attached = option_map_or (λ m. m.attached) (message_at (is i) q) []; user = sender_at (is i) q }; trunc = false })
     ∙ ap (λ fs. record { message = record { bytes = take (stream_cut n q) (joined q); attached = fs; user = sender_at (stream_cut n q) q }; trunc = false }) (files-at n q some have) ∙ sym (stream-received q n some have)
+
+-- A receive that ends within the first message takes as much as it asks for.
+pub front-cut : (q : List Message) (n : ℕ) → n < option_map_or (λ m. length m.bytes) (slice_get q 0) 0 → n ≡ stream_cut n q
+front-cut [] n part = absurd (omega (arith, part))
+front-cut (m ∷ q) n part = let e = or_right (has_files m) (nat_le n (length m.bytes)) (le-leb n (length m.bytes) (omega (arith, part))) in omega (arith, part, stream_cut-front m q n e)
+
+-- It gives the first bytes of that message, and its files.
+pub front-received : (q : List Message) (n : ℕ) (bytes files : List ℕ) (user : ℕ) → 0 < n → HaveBytes q → n < option_map_or (λ m. length m.bytes) (slice_get q 0) 0
+    → bytes ≡ option_map_or (λ m. take n m.bytes) (slice_get q 0) [] → files ≡ option_map_or (λ m. m.attached) (slice_get q 0) [] → user ≡ option_map_or (λ m. m.user) (slice_get q 0) 0
+    → record { message = record { bytes = bytes; attached = files; user = user }; trunc = false } ≡ received Stream q n
+front-received [] n bytes files user some have part copied taken sent = absurd (omega (arith, part))
+front-received (m ∷ q) n bytes files user some have part copied taken sent =
+    let at = at-front m q n (omega (arith, part)) in
+    part-received (m ∷ q) n n bytes files user some have (front-cut (m ∷ q) n part)
+    (copied ∙ sym (take-append-le n m.bytes (joined q) (omega (arith, part))))
+    (taken ∙ sym (ap (λ o. option_map_or (λ m. m.attached) o []) at))
+    (sent ∙ sym (ap (λ o. option_map_or (λ m. m.user) o 0) at))
 
 -- How many files come.
 pub stream-files : (q : List Message) (n : ℕ) → 0 < n → HaveBytes q → length (files_in n q) ≡ length (take_stream q n).attached

@@ -105,6 +105,14 @@ impl Msg {
         mem::replace(&mut self.attached, SmallVec::new(alloc))
     }
 
+    /// Copies its first bytes: this many, or all if it has fewer.
+    #[inline(always)]
+    pub(crate) fn copy_front(&self, alloc: Global, count: usize) -> Result<Vec<u8>, AllocError>
+        ensures { IfOk result (λ v. v.items ≡ take count self.now.bytes) }
+    {
+        Vec::from_slice(alloc, &self.bytes()[..count.min(self.len())])
+    }
+
     /// Copies its attached files. One needs no memory.
     pub(crate) fn copy_attached(&self, alloc: Global) -> Result<Attached, AllocError>
         ensures value { IfOk result (λ files. files.items ≡ self.now.attached) }
@@ -133,7 +141,7 @@ impl Msg {
           trunc = nat_lt max (length self.now.bytes);
         }) }
     {
-        let bytes = self.bytes()[..max.min(self.len())].to_vec(alloc)?;
+        let bytes = self.copy_front(alloc, max)?;
         let attached = self.copy_attached(alloc)?;
         Ok(Taken::new(bytes, attached, self.user(), self.len() > max))
     }

@@ -176,6 +176,14 @@ fn take_stream(
     ensures unchanged { OnErr result (nodes.new ≡ nodes.old) }
 {
     let queue = Queue::of(nodes, chain);
+    // Most receives end within the first message.
+    if let Some(first) = queue.first()
+        && max < first.len()
+    {
+        let bytes = first.copy_front(alloc, max)?;
+        let (attached, user) = shorten_first(nodes, chain, owner, alloc, max);
+        return Ok(Taken::new(bytes, attached, user, false));
+    }
     let (count, _) = queue.stream_cut(max);
     if queue.front_len() == count {
         return Ok(take_packet(nodes, chain, owner, alloc, count));
