@@ -1,10 +1,15 @@
 //! The whole picture.
-ghost use Rattle.std.specs.Prelude.{IfOk};
-ghost use Rattle.af_graph.specs.Graph.{IsGraph};
+ghost use Rattle.std.specs.Prelude.{◌≡◌, IfOk, OnOk};
+ghost use Rattle.std.specs.List.Sorted.{IsStrictlyIncreasing};
+ghost use Rattle.af_base.specs.Bare.{bare};
+ghost use Rattle.af_report.specs.Texts.{AppendsText};
+ghost use Rattle.af_graph.specs.Graph.{graph_text, IsGraph};
 
 use crate::contents::push_all_waiting;
 use crate::files::push_files;
 use crate::processes::push_processes;
+use af_base::ids::Ino;
+use af_base::listing::Listing;
 use af_plain::garbage;
 use af_steps::Engine;
 use std::alloc::{AllocError, Global};
@@ -20,10 +25,26 @@ pub fn graph(alloc: Global, engine: &Engine) -> Result<Vec<u8>, AllocError>
     let listing = engine.listing()?;
     let lost = garbage(alloc, &listing)?;
     let mut text = String::new(alloc);
-    text.push_str("digraph world {\nrankdir=LR\n")?;
-    push_processes(&mut text, listing.tables())?;
-    push_files(&mut text, engine, lost.as_slice())?;
-    push_all_waiting(&mut text, listing.files())?;
-    text.push_str("}\n")?;
+    push_world(&mut text, engine, &listing, lost.as_slice())?;
     Ok(text.into_bytes())
+}
+
+/// Appends the picture of the engine's world, of which this is the listing. The lost files, a list
+/// that rises, have the colour of garbage.
+fn push_world(
+    text: &mut String,
+    engine: &Engine,
+    listing: &Listing,
+    lost: &[Ino],
+) -> Result<(), AllocError>
+    requires listed { listing.now ≡ bare engine.now.world }
+    requires rises { IsStrictlyIncreasing lost.now }
+    ensures { OnOk result (AppendsText text.old text.new (graph_text engine.now.world lost.now)) }
+{
+    text.push_str("digraph world {\nrankdir=LR\n")?;
+    push_processes(text, listing.tables())?;
+    push_files(text, engine, lost)?;
+    push_all_waiting(text, listing.files())?;
+    text.push_str("}\n")?;
+    Ok(())
 }
