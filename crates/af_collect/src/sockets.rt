@@ -144,6 +144,7 @@ impl Store {
 
     /// Moves the first embryo of a listener out of its backlog and into a table, at a free
     /// descriptor for which there is room (accept(2)). Takes no memory.
+    #[inline(always)]
     pub fn take_embryo(&mut self, listener: &FileRef, pid: Pid, fd: Fd)
         requires there { IsTrue (finmap.contains_key self.old.world.processes pid) }
         requires row { fd < room_at self.old pid }
@@ -160,9 +161,7 @@ impl Store {
         self.parts.shade_embryo(listener);
         let places = &mut self.parts.places;
         let embryo = places.files.dequeue(listener).unwrap();
-        // Into the table first, so that it does not wait in between.
-        places.files.hold(&Place::Table, &embryo);
-        places.files.drop_one(&Place::Backlog, &embryo);
+        places.files.move_to_table(&embryo);
         places.procs.install(pid, fd, embryo);
     }
 }

@@ -1,7 +1,7 @@
 -- Files under numbers that are never used again. Definitions that name no manual page are this
 -- project's own.
 use Rattle.std.specs.Prelude.{◌≡◌, ◌↔◌, ◌&&◌, ◌<◌, ◌≤◌, ℕ, ◌+◌, ◌-◌, ◌^◌, Bool, List, None, Option, Some, drop, false, is_some, nat_lt, unwrap_or, if◌then◌else◌}
-use Rattle.std.specs.Option.{option_and_then, option_map_or}
+use Rattle.std.specs.Option.{option_and_then}
 use Rattle.af_base.specs.declared.events.SockType.{SockType}
 use Rattle.std.specs.FinMap as map
 use Rattle.af_base.specs.declared.events.State.{State}
@@ -72,6 +72,12 @@ with_file_ref p f v = record v { counts = map.insert v.counts f (more p (count_i
 -- A place of this kind less holds the file.
 abbrev pub without_file_ref : Place → ℕ → FilesView → FilesView
 without_file_ref p f v = record v { counts = map.insert v.counts f (fewer p (count_in_map v.counts f)) }
+
+-- The file's place in a backlog is one in a table (accept(2)).
+abbrev pub with_moved_ref : ℕ → FilesView → FilesView
+with_moved_ref f v = record v {
+  counts = map.insert v.counts f (fewer Backlog (more Table (count_in_map v.counts f)));
+}
 
 -- The file f is changed, if it is a socket.
 abbrev pub changed : (Socket → Socket) → ℕ → FilesView → FilesView

@@ -150,6 +150,7 @@ impl Files {
 
     /// Returns the socket of this abstract name, if there is one (unix(7)): one look-up, for any
     /// number of names.
+    #[inline(always)]
     pub fn find_name(&self, name: &[u8]) -> Option<FileRef>
         ensures { result ≡ named self.now.files name.now }
     {

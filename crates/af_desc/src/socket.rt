@@ -195,6 +195,7 @@ impl Endpoint {
     }
 
     /// Removes the first embryo, if there is one. Takes no memory.
+    #[inline(always)]
     pub fn dequeue(&mut self) -> Option<FileRef>
         ensures some { IfSome result (λ f. self.old.backlog ≡ f ∷ drop 1 self.old.backlog) }
         ensures none { IfNone result (self.old.backlog ≡ []) }

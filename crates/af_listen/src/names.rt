@@ -36,6 +36,7 @@ impl Names {
     }
 
     /// Returns the file that has the name, if there is one.
+    #[inline(always)]
     #[tactic(auto, using(crate::proofs::NameMaps::name_changes))]
     pub fn find(&self, name: &[u8]) -> Option<FileRef>
         ensures { result ≡ map.get self.now name.now }

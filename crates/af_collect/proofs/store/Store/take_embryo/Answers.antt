@@ -9,15 +9,15 @@ use Rattle.af_base.specs.World.{World}
 use Rattle.af_base.proofs.PlaceMoves.{there-table}
 use Rattle.af_base.proofs.SoundSteps.{process-there}
 use Rattle.af_base.proofs.StaysWithin.{below-most}
-use Rattle.af_desc.specs.FilesView.{FilesView, with_file_ref, without_file_ref}
+use Rattle.af_desc.specs.FilesView.{FilesView, with_moved_ref}
 use Rattle.af_ledger.specs.Counted.{IsCountable, IsCounted}
 use Rattle.af_ledger.specs.Tally.{count_in_map, kept_of}
 use Rattle.af_ledger.specs.declared.place.Place.TheVariants.{Backlog, Table}
 use Rattle.af_mark.specs.MarksView.{is_marked}
 use Rattle.af_collect.specs.Limits.{IsBelowLimit}
 use Rattle.af_collect.specs.HoldingsView.{HoldingsView}
-use Rattle.af_collect.proofs.Accepts.{can-drop-first, embryo-taken, exact-accepted, live-first}
-use Rattle.af_collect.proofs.Bounds.{can-hold-table}
+use Rattle.af_collect.proofs.Accepts.{embryo-taken, exact-accepted, moved-is}
+use Rattle.af_collect.proofs.Bounds.{can-drop-backlog, can-hold-table}
 use Rattle.af_collect.proofs.Exact.{world-is}
 use Rattle.af_collect.specs.Keeping.{NotBegunGarbage, below, is_running, pass_of}
 use Rattle.af_collect.proofs.TablePlaces.{covers_install, moves_install}
@@ -31,35 +31,22 @@ use Rattle.af_collect.proofs.PlaceChanges.{kept_socket, kept_tables}
 use Rattle.af_collect.proofs.StoreInvariant.{BothInvariants, both-same, stood}
 use Rattle.af_collect.proofs.store.Store.take_embryo.Goals as goal
 
-pub hold-requires-clause-known : goal.hold-requires-clause-known
-hold-requires-clause-known c =
+pub move_to_table-requires-clause-waiting : goal.move_to_table-requires-clause-waiting
+move_to_table-requires-clause-waiting c =
     let h = c.places.inside in
     let w = (the_view h).world in
     let s = c.args.listener.now in
     let f = c.unwrap-embryo.result in
     let x = embryo-taken w s f c.dequeue.result c.unwrap-embryo.ensures c.dequeue.ensures.some in
-    ap (λ v. map.contains_key v.counts f) c.dequeue.ensures.rest ∙ c.places.invariant.counted f ∙ live-first w s f x.0 (kept_of h.files.counts h.ledger) x.1 x.2 c.places.invariant
+    subst (λ (v : FilesView). IsCounted Backlog (count_in_map v.counts f)) (sym c.dequeue.ensures.rest) (can-drop-backlog w s f x.0 (kept_of h.files.counts h.ledger) x.1 x.2 c.places.invariant.agrees).0
 
-pub hold-requires-clause-countable : goal.hold-requires-clause-countable
-hold-requires-clause-countable c =
+pub move_to_table-requires-clause-countable : goal.move_to_table-requires-clause-countable
+move_to_table-requires-clause-countable c =
     let h = c.places.inside in
     let f = c.unwrap-embryo.result in
     subst (λ (v : FilesView). IsCountable Table (count_in_map v.counts f)) (sym c.dequeue.ensures.rest) (can-hold-table (the_view h).world f (kept_of h.files.counts h.ledger) c.places.invariant.within c.places.invariant.agrees).0
 
-pub drop_one-requires : goal.drop_one-requires
-drop_one-requires c =
-    let h = c.places.inside in
-    let w = (the_view h).world in
-    let s = c.args.listener.now in
-    let pid = c.args.pid in
-    let f = c.unwrap-embryo.result in
-    let back = sym (ap (λ (t : HoldingsView). t.world) c.places.view_is ∙ ap (λ (o : Collector). o.places.world) c.shade_embryo.ensures.frame ∙ ap (λ (t : StoreView). t.world) c.self.view_is) in
-    let x = embryo-taken w s f c.dequeue.result c.unwrap-embryo.ensures c.dequeue.ensures.some in
-    let there = process-there w pid (ap not (subst (λ (v : World). IsTrue (map.contains_key v.processes pid)) back c.requires.there)) in
-    let free = sym (there-table w pid c.args.fd (process_at w pid) there) ∙ subst (λ (v : World). table_at v pid c.args.fd ≡ None) back c.requires.free in
-    subst (λ (v : FilesView). IsCounted Backlog (count_in_map v.counts f)) (sym (c.hold.ensures ∙ ap (with_file_ref Table f) c.dequeue.ensures.rest)) (can-drop-first w s f x.0 (kept_of h.files.counts h.ledger) x.1 x.2 c.places.invariant pid c.args.fd (process_at w pid) there free).0
-
-both : (c : goal.After-install) → BothInvariants c.shade_embryo.new.self c.install.new.self c.drop_one.new.self c.places.inside.ledger
+both : (c : goal.After-install) → BothInvariants c.shade_embryo.new.self c.install.new.self c.move_to_table.new.self c.places.inside.ledger
 both c =
     let q = c.shade_embryo.new.self in
     let h = c.places.inside in
@@ -77,7 +64,7 @@ both c =
     let free = subst (λ (v : World). table_at v pid fd ≡ None) back c.requires.free in
     let none = sym (there-table w pid fd (process_at w pid) there) ∙ free in
     let low = below-most w pid fd (process_at w pid) was.0.within there (subst (λ (v : World). IsBelowLimit v pid fd) back c.requires.limit (process_at w pid) there) in
-    let files = c.drop_one.ensures ∙ ap (without_file_ref Backlog f) (c.hold.ensures ∙ ap (with_file_ref Table f) c.dequeue.ensures.rest) in
+    let files = c.move_to_table.ensures ∙ ap (with_moved_ref f) c.dequeue.ensures.rest ∙ moved-is f _ in
     let spared = subst (λ (o : Collector). NotBegunGarbage (pass_of o.progress.stage o.begun.value.world o.progress.looked) s) (sym e.frame) (subst (λ (t : StoreView). NotBegunGarbage t.pass s) (sym c.self.view_is) c.requires.spared) in
     let shaded = subst (λ (o : Collector). MarksAll (λ g. slice_get (backlog_at o.places.world s) 0 ≡ Some g) o q) (sym e.frame) e.marked in
     let marked = subst (λ (t : HoldingsView). MarksAll (λ g. slice_get (backlog_at t.world s) 0 ≡ Some g) q (record q { places = t })) (sym c.places.view_is) shaded in

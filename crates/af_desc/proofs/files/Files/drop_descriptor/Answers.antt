@@ -13,7 +13,7 @@ use Rattle.af_ledger.proofs.Unreferenced.{lowered-kept, lowered-pushed}
 use Rattle.af_mark.specs.Grey.{AreGrey}
 use Rattle.af_mark.specs.MarksView.{is_grey_color}
 use Rattle.af_mark.specs.declared.color.Color.{Color}
-use Rattle.af_desc.specs.FilesView.{FilesInvariant, FilesView, after_end, freed, name_in, socket_in, without, without_file_ref}
+use Rattle.af_desc.specs.FilesView.{FilesInvariant, FilesView, after_end, freed, name_in, without, without_file_ref}
 use Rattle.af_desc.proofs.Embryos.{counted-fewer}
 use Rattle.af_desc.proofs.FileNames.{name-at, named-gone}
 use Rattle.af_desc.proofs.FilesInvariant.{filed-counted, filed-removed, seen, seen-without}
