@@ -1,6 +1,6 @@
 //! The processes by pid.
 ghost use Rattle.std.specs.Prelude.{◌≡◌, ℕ, ◌+◌, ◌≤◌, ◌<◌, IsTrue, IfSome, IfNone, IfOk, OnOk};
-ghost use Rattle.std.specs.Prelude.{OnErr, IsOk};
+ghost use Rattle.std.specs.Prelude.{◌≢◌, OnErr, IsOk};
 ghost use Rattle.std.specs.FinMap as map;
 ghost use Rattle.af_base.specs.Changes.{change_at, installed, limited, taken_out};
 ghost use Rattle.af_base.specs.Places.{number_in};
@@ -22,7 +22,7 @@ pub struct Procs {
     pub(crate) processes: IndexMap<Pid, Process>,
     hints: Hints,
     next_pid: u32,
-    /// The slots of the last process that ended: memory for the next fork.
+    /// The slots of a process that ended: memory for the next fork.
     spare_row: Vec<FileRef>,
     pub(crate) alloc: Global,
 }
@@ -228,6 +228,9 @@ impl Procs {
         ensures processes { OnOk result (self.new.processes
             ≡ map.insert self.old.processes self.old.next_pid
             (process_in self.old.processes pid)) }
+        ensures rows { OnOk result ((q : ℕ) → q ≢ self.old.next_pid
+            → row_in self.new.rows q ≡ row_in self.old.rows q) }
+        ensures room { self.old.room ≤ self.new.room + 1 }
         ensures err { OnErr result (self.new ≡ record self.old { room = self.new.room }) }
     {
         self.room_to_spawn()?;

@@ -5,6 +5,8 @@ use Rattle.std.specs.HashMap as hash
 use Rattle.std.specs.Map.Iter.{deref_pair}
 use Rattle.std.specs.Option.{option_map}
 use Rattle.af_base.specs.Refusals.{no_process, process_in}
+use Rattle.af_base.proofs.Lookups.{insert-other, told_apart}
+use Rattle.af_table.specs.Procs.{row_in}
 use Rattle.af_table.proofs.Places.{process_found}
 use Rattle.af_table.proofs.procs.Procs.fork.Goals as goal
 
@@ -19,3 +21,11 @@ returns-clause-processes c =
     let next = ap (λ s. s.next_pid) c.self.view_is ∙ c.in_ok-room_to_spawn.ensures.next in
     let child = c.in_ok-child.ensures ∙ sym (ap (λ o. unwrap_or o no_process) parent) ∙ ap (λ ps. process_in ps c.args.pid) same in
     c.add.ensures.processes ∙ (λ i. map.insert (same i) (next i) (child i))
+
+pub returns-clause-rows : goal.returns-clause-rows
+returns-clause-rows c = λ q apart.
+    let old = c.args.self.now in
+    let same = ap (λ s. s.rows) c.self.view_is ∙ c.in_ok-room_to_spawn.ensures.rows in
+    let next = ap (λ s. s.next_pid) c.self.view_is ∙ c.in_ok-room_to_spawn.ensures.next in
+    ap (λ m. row_in m q) (c.add.ensures.rows ∙ (λ i. map.insert (same i) (next i) c.in_ok-child.child.row))
+    ∙ ap (λ o. unwrap_or o 0) (insert-other old.rows old.next_pid c.in_ok-child.child.row q (told_apart q old.next_pid apart))
