@@ -3,7 +3,7 @@ ghost use Rattle.std.specs.Prelude.{◌≡◌};
 
 use crate::errno::Errno;
 use crate::ids::{Fd, Ino, Pid, Uid};
-use crate::items::Items;
+use crate::items::{Bytes, Fds};
 
 /// A socket's type: how it keeps the borders between messages (unix(7)).
 #[derive(Clone, Copy, Debug, PartialEq, Eq)]
@@ -50,7 +50,7 @@ pub enum Step {
     /// bind(2) of a socket to an abstract name (unix(7)).
     Bind {
         on: Fd,
-        name: Items<u8>,
+        name: Bytes,
     },
     /// listen(2), with this backlog.
     Listen {
@@ -60,15 +60,15 @@ pub enum Step {
     /// connect(2) to the listener of this abstract name.
     Connect {
         on: Fd,
-        name: Items<u8>,
+        name: Bytes,
     },
     /// accept(2) of the first embryo of a listener.
     Accept(Fd),
     /// sendmsg(2) with SCM_RIGHTS: bytes, and the descriptors whose files are attached.
     Send {
         on: Fd,
-        bytes: Items<u8>,
-        attach: Items<Fd>,
+        bytes: Bytes,
+        attach: Fds,
     },
     /// recvmsg(2), with room for this many bytes and descriptors.
     Recv {
@@ -122,8 +122,8 @@ pub enum Reply {
     Sent(u32),
     /// The bytes and descriptors of a receive or peek, and where they were installed.
     Got {
-        bytes: Items<u8>,
-        fds: Items<Fd>,
+        bytes: Bytes,
+        fds: Fds,
         /// Bytes of the message were dropped (MSG_TRUNC).
         trunc: bool,
         /// Descriptors of the message were not installed (MSG_CTRUNC).

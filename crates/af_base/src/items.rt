@@ -1,17 +1,26 @@
-//! A `Vec` that a clause sees as its list.
-ghost use Rattle.std.specs.Prelude.{◌≡◌, ◌↔◌, IsTrue, List, [], length};
+//! A list that a clause sees as its list.
+ghost use Rattle.std.specs.Prelude.{◌≡◌, ◌↔◌, ◌+◌, ◌≤◌, IfOk, IsTrue, [], drop, length, take};
 
-use std::alloc::AllocError;
+use crate::ids::Fd;
+use smallvec::SmallVec;
+use std::alloc::{AllocError, Global};
+use std::default::MadeWith;
 use std::hash::{Hash, Hasher};
 use std::marker::Model;
 
-/// Items in order, as the bytes of a message or the descriptors that go with it.
+/// The bytes of a message or of a name: up to 16 lie in the value.
+pub type Bytes = Items<u8, 16>;
+
+/// The descriptors that go with a message: up to 4 lie in the value.
+pub type Fds = Items<Fd, 4>;
+
+/// Items in order. Up to `N` lie in the value, and more in an allocation.
 #[derive(Debug, Drop)]
-pub struct Items<T> {
-    items: Vec<T>,
+pub struct Items<T, const N: usize> {
+    items: SmallVec<T, N>,
 }
 
-impl<T> Model for Items<T> {
+impl<T, const N: usize> Model for Items<T, N> {
     ghost use Rattle.std.specs.Prelude.{List};
 
     ghost Value = { List T };
@@ -19,23 +28,17 @@ impl<T> Model for Items<T> {
     ghost view = { λ a. a.items.items };
 }
 
-impl<T> Items<T> {
+impl<T, const N: usize> Items<T, N> {
     /// Makes a list of these items. Takes no memory.
-    pub fn of(items: Vec<T>) -> Items<T>
+    #[inline(always)]
+    pub fn of_small(items: SmallVec<T, N>) -> Items<T, N>
         ensures { result ≡ items.items }
     {
         Items { items }
     }
 
-    /// Returns the items as a vector. Takes no memory.
-    pub fn into_vec(self) -> Vec<T>
-        ensures { result.items ≡ self }
-    {
-        let Items { items } = self;
-        items
-    }
-
     /// Returns all items, in order.
+    #[inline(always)]
     pub fn as_slice(&self) -> &[T]
         ensures { result.now ≡ self.now }
     {
@@ -43,6 +46,7 @@ impl<T> Items<T> {
     }
 
     /// Returns how many items there are.
+    #[inline(always)]
     pub fn len(&self) -> usize
         ensures { result ≡ length self.now }
     {
@@ -57,7 +61,38 @@ impl<T> Items<T> {
     }
 }
 
-impl<T: PartialEq> PartialEq for Items<T> {
+impl<T: MadeWith<Global> + Copy, const N: usize> Items<T, N> {
+    /// Makes a list of these items. Takes no memory.
+    pub fn of(items: Vec<T>) -> Items<T, N>
+        ensures { result ≡ items.items }
+    {
+        Items {
+            items: SmallVec::from_vec(items),
+        }
+    }
+
+    /// Returns the items as a vector. Takes memory only if they lie in the value.
+    pub fn into_vec(self) -> Result<Vec<T>, AllocError>
+        ensures { IfOk result (λ v. v.items ≡ self) }
+    {
+        let Items { items } = self;
+        items.into_vec().map_err(|_| AllocError)
+    }
+
+    /// Keeps this many items from that position on, and drops the others. Takes no memory.
+    #[inline(always)]
+    pub fn keep(&mut self, from: usize, count: usize)
+        requires { from + count ≤ length self.old }
+        ensures { self.new ≡ take count (drop from self.old) }
+    {
+        if count < self.len() {
+            self.items.as_mut_slice().copy_within(from..from + count, 0);
+            self.items.truncate(count);
+        }
+    }
+}
+
+impl<T: PartialEq, const N: usize> PartialEq for Items<T, N> {
     ghost use Rattle.std.specs.Cmp.Lexicographic.{pointwise, lists_per};
 
     ghost eq = { λ x y. pointwise T.eq x y };
@@ -65,28 +100,28 @@ impl<T: PartialEq> PartialEq for Items<T> {
     ghost laws = { lists_per T.laws };
 
     fn eq(&self, other: &Self) -> bool {
-        self.items == other.items
+        self.as_slice() == other.as_slice()
     }
 }
 
-impl<T: Eq> Eq for Items<T> {
+impl<T: Eq, const N: usize> Eq for Items<T, N> {
     ghost use Rattle.std.specs.Cmp.Lexicographic.{lists_equiv};
 
     ghost laws = { lists_equiv T.Eq.laws };
 }
 
-/// A copy has the same items. It takes memory, unless there are none.
-impl<T: Copy> Clone for Items<T> {
+/// A copy has the same items. It takes no memory if they fit in the value.
+impl<T: MadeWith<Global> + Copy, const N: usize> Clone for Items<T, N> {
     ghost is_clone = { λ x y. y ≡ x };
 
-    fn clone(&self) -> Result<Items<T>, AllocError> {
-        let items = Vec::from_slice(*self.items.allocator(), self.as_slice())?;
+    fn clone(&self) -> Result<Items<T, N>, AllocError> {
+        let items = SmallVec::from_slice(*self.items.allocator(), self.as_slice())?;
         Ok(Items { items })
     }
 }
 
 /// Bytes are hashed as one write, behind their number, and not one by one.
-impl Hash for Items<u8> {
+impl<const N: usize> Hash for Items<u8, N> {
     ghost use Rattle.std.specs.Prelude.{[], ◌∷◌, ◌++◌, length};
     ghost use Rattle.std.proofs.Common.{ap};
     ghost use Rattle.std.specs.Cmp.Lexicographic.{bytes_decides};

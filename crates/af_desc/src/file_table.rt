@@ -23,7 +23,7 @@ use crate::contents::Contents;
 use crate::file_row::FileRow;
 use crate::socket::{Endpoint, Socket};
 use af_base::ids::{FileRef, Ino};
-use af_base::items::Items;
+use af_base::items::Bytes;
 use af_base::limits::{MAX_INO, MAX_MESSAGES};
 use af_ledger::{Count, Place};
 use af_mark::{Color, Mark};
@@ -236,7 +236,7 @@ impl FileTable {
     /// Gives that socket, which has no name, this one. On an error nothing has changed.
     #[inline(always)]
     #[tactic(auto, using(crate::proofs::TrackedTableView::rows, ordered_slab::proofs::Parts::parts))]
-    pub fn bind(&mut self, file: &FileRef, alloc: Global, name: Items<u8>) -> Result<(), AllocError>
+    pub fn bind(&mut self, file: &FileRef, alloc: Global, name: Bytes) -> Result<(), AllocError>
         requires { IfSome (socket_in self.old.files file.now) (λ s. s.name ≡ None) }
         ensures ok { OnOk result (self.new ≡ with_socket self.old file.now (with_name name)) }
         ensures err { OnErr result (self.new ≡ self.old) }

@@ -8,7 +8,7 @@ ghost use Rattle.af_desc.specs.FilesView.{hung_up};
 
 use af_base::events::{SockType, State};
 use af_base::ids::FileRef;
-use af_base::items::Items;
+use af_base::items::Bytes;
 use af_listen::Backlog;
 use af_queue::Queue;
 use std::alloc::{AllocError, Global};
@@ -39,7 +39,7 @@ enum Link {
 /// A name, and the embryos that wait at the socket of that name: none, until it listens.
 #[derive(Drop)]
 struct NamedParts {
-    name: Items<u8>,
+    name: Bytes,
     backlog: Backlog,
 }
 
@@ -136,7 +136,7 @@ impl Endpoint {
     }
 
     /// Returns its abstract name, if it has one (unix(7)).
-    pub fn name(&self) -> Option<&Items<u8>>
+    pub fn name(&self) -> Option<&Bytes>
         ensures { option_copied result ≡ self.now.name }
     {
         match &self.named_parts {
@@ -146,7 +146,7 @@ impl Endpoint {
     }
 
     /// Sets its name. On an error nothing has changed.
-    pub fn bind(&mut self, alloc: Global, name: Items<u8>) -> Result<(), AllocError>
+    pub fn bind(&mut self, alloc: Global, name: Bytes) -> Result<(), AllocError>
         requires { self.old.name ≡ None }
         ensures ok { OnOk result (self.new ≡ with_name name self.old) }
         ensures err { OnErr result (self.new ≡ self.old) }
@@ -283,7 +283,7 @@ impl<'a> Socket<'a> {
 
     /// Returns its abstract name, if it has one (unix(7)).
     #[inline(always)]
-    pub fn name(&self) -> Option<&'a Items<u8>>
+    pub fn name(&self) -> Option<&'a Bytes>
         ensures { option_copied result ≡ self.now.name }
     {
         self.endpoint.name()

@@ -27,7 +27,7 @@ use crate::file_table::FileTable;
 use crate::socket::Endpoint;
 use af_base::file_list::swap_remove_file;
 use af_base::ids::{FileRef, Ino};
-use af_base::items::Items;
+use af_base::items::Bytes;
 use af_base::limits::{MAX_INO, MAX_MESSAGES};
 use af_ledger::Place;
 use af_mark::{Mark, clamp_index};
@@ -267,7 +267,7 @@ impl TrackedTable {
 
     /// Gives that socket, which has no name, this one. On an error nothing has changed.
     #[inline(always)]
-    pub fn bind(&mut self, file: &FileRef, alloc: Global, name: Items<u8>) -> Result<(), AllocError>
+    pub fn bind(&mut self, file: &FileRef, alloc: Global, name: Bytes) -> Result<(), AllocError>
         requires { IfSome (socket_in self.old.files file.now) (λ s. s.name ≡ None) }
         ensures ok { OnOk result (self.new ≡ with_socket self.old file.now (with_name name)) }
         ensures err { OnErr result (self.new ≡ self.old) }

@@ -10,7 +10,7 @@ use crate::backoff;
 use af_base::errno::Errno;
 use af_base::events::{Event, Reply, SockType, Step};
 use af_base::ids::{Fd, Pid, Uid};
-use af_base::items::Items;
+use af_base::items::{Bytes, Fds};
 use af_steps::{Engine, Finished, Progress, Received};
 use std::alloc::{AllocError, Global};
 use std::sync::{Mutex, MutexGuard, Wait};
@@ -212,7 +212,7 @@ impl Shared {
         rt: &R,
         pid: Pid,
         on: Fd,
-        bytes: Items<u8>,
+        bytes: Bytes,
         attach: &[Fd],
     ) -> Result<u32, Errno>
         ensures { TellsStep pid (Step.Send on bytes attach.now) Reply.Sent result }

@@ -8,7 +8,7 @@ use crate::owned::Owned;
 use af_base::errno::Errno;
 use af_base::events::{Reply, SockType, Step};
 use af_base::ids::{Fd, Pid, Uid};
-use af_base::items::Items;
+use af_base::items::{Bytes, Fds};
 use af_steps::{Finished, Progress, Received};
 
 impl<T> Owned<T> {
@@ -188,7 +188,7 @@ impl<T> Owned<T> {
         &mut self,
         pid: Pid,
         on: Fd,
-        bytes: Items<u8>,
+        bytes: Bytes,
         attach: &[Fd],
     ) -> Result<u32, Errno>
         ensures done { IfOk result (λ count. Does self.old.machine pid

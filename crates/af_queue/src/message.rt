@@ -4,6 +4,7 @@ ghost use Rattle.smallvec.specs.SmallVec.{small_vec_len};
 
 use crate::taken::Taken;
 use af_base::ids::{FileRef, Uid};
+use af_base::items::{Bytes, Items};
 use af_base::limits::{MAX_BYTES, SCM_MAX_FD};
 use smallvec::SmallVec;
 use std::alloc::{AllocError, Global};
@@ -16,7 +17,7 @@ pub type Attached = SmallVec<FileRef, 1>;
 /// A message in a queue: its bytes, the files that travel with it, and who is charged for them.
 #[derive(Drop)]
 pub struct Msg {
-    bytes: Vec<u8>,
+    bytes: Bytes,
     /// How many of its first bytes were received before.
     begin: u32,
     user: Uid,
@@ -24,7 +25,7 @@ pub struct Msg {
 }
 
 impl Model for Msg {
-    ghost use Rattle.std.specs.Prelude.{◌≤◌, vec_len, drop};
+    ghost use Rattle.std.specs.Prelude.{◌≤◌, drop, length};
     ghost use Rattle.smallvec.specs.SmallVec.{small_vec_len};
     ghost use Rattle.af_base.specs.World as world;
     ghost use Rattle.af_base.specs.declared.limits.TheConstants.{MAX_BYTES, SCM_MAX_FD};
@@ -32,22 +33,22 @@ impl Model for Msg {
     ghost Value = { world.Message };
 
     ghost view = { λ a. record {
-      bytes = drop a.begin a.bytes.items;
+      bytes = drop a.begin a.bytes;
       attached = a.attached.items;
       user = a.user;
     } };
 
-    ghost invariant = { λ a. (a.begin ≤ vec_len a.bytes) × (vec_len a.bytes ≤ MAX_BYTES)
+    ghost invariant = { λ a. (a.begin ≤ length a.bytes) × (length a.bytes ≤ MAX_BYTES)
         × (small_vec_len a.attached ≤ SCM_MAX_FD) };
 }
 
 impl Msg {
     /// Makes a message of these parts, at most 65,536 bytes and 253 files. Takes no memory.
     #[inline(always)]
-    pub fn new(bytes: Vec<u8>, attached: Attached, user: Uid) -> Msg
-        requires long { length bytes.items ≤ MAX_BYTES }
+    pub fn new(bytes: Bytes, attached: Attached, user: Uid) -> Msg
+        requires long { length bytes ≤ MAX_BYTES }
         requires few { small_vec_len attached ≤ SCM_MAX_FD }
-        ensures { result ≡ record { bytes = bytes.items; attached = attached.items; user = user } }
+        ensures { result ≡ record { bytes = bytes; attached = attached.items; user = user } }
     {
         Msg {
             bytes,
@@ -62,7 +63,7 @@ impl Msg {
     pub fn bytes(&self) -> &[u8]
         ensures { result.now ≡ self.now.bytes }
     {
-        &self.bytes[self.begin as usize..]
+        &self.bytes.as_slice()[self.begin as usize..]
     }
 
     /// Returns how many bytes those are.
@@ -107,10 +108,11 @@ impl Msg {
 
     /// Copies its first bytes: this many, or all if it has fewer.
     #[inline(always)]
-    pub(crate) fn copy_front(&self, alloc: Global, count: usize) -> Result<Vec<u8>, AllocError>
-        ensures { IfOk result (λ v. v.items ≡ take count self.now.bytes) }
+    pub(crate) fn copy_front(&self, alloc: Global, count: usize) -> Result<Bytes, AllocError>
+        ensures { IfOk result (λ front. front ≡ take count self.now.bytes) }
     {
-        Vec::from_slice(alloc, &self.bytes()[..count.min(self.len())])
+        let front = &self.bytes()[..count.min(self.len())];
+        Ok(Items::of_small(SmallVec::from_slice(alloc, front)?))
     }
 
     /// Copies its attached files. One needs no memory.
@@ -155,18 +157,13 @@ impl Msg {
         } }
     {
         let len = self.len();
-        let kept = len.min(max);
         let Msg {
             mut bytes,
             begin,
             user,
             attached,
         } = self;
-        let begin = begin as usize;
-        if begin > 0 {
-            bytes.copy_within(begin..begin + kept, 0);
-        }
-        bytes.truncate(kept);
+        bytes.keep(begin as usize, len.min(max));
         Taken::new(bytes, attached, user, len > max)
     }
 }

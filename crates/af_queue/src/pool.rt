@@ -16,6 +16,7 @@ use crate::queue::Queue;
 use crate::taken::Taken;
 use af_base::events::SockType;
 use af_base::ids::{Ino, Uid};
+use af_base::items::Items;
 use af_base::limits::{MAX_MESSAGES, SCM_MAX_FD};
 use slab::Slab;
 use smallvec::SmallVec;
@@ -190,7 +191,7 @@ fn take_stream(
     }
     let bytes = queue.copy(alloc, count)?;
     let (attached, user) = cut(nodes, chain, owner, alloc, count);
-    Ok(Taken::new(bytes, attached, user, false))
+    Ok(Taken::new(Items::of(bytes), attached, user, false))
 }
 
 /// Removes this many of the first bytes, and the files of the message that has the last of them.

@@ -14,6 +14,7 @@ use crate::message::Msg;
 use crate::taken::Taken;
 use af_base::events::SockType;
 use af_base::ids::{FileRef, Uid};
+use af_base::items::Items;
 use af_base::limits::{MAX_MESSAGES, SCM_MAX_FD};
 use arrayvec::ArrayVec;
 use slab::Slab;
@@ -184,7 +185,7 @@ impl<'a> Queue<'a> {
             Some(last) => (last.copy_attached(alloc)?, last.user()),
             None => (SmallVec::new(alloc), Uid(0)),
         };
-        Ok(Taken::new(bytes, attached, user, false))
+        Ok(Taken::new(Items::of(bytes), attached, user, false))
     }
 
     /// Returns the message that has this byte, counted from 1.

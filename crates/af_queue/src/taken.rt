@@ -5,6 +5,7 @@ ghost use Rattle.af_queue.specs.TakenView.{nothing_received};
 
 use crate::message::Attached;
 use af_base::ids::{FileRef, Uid};
+use af_base::items::{Bytes, Items};
 use af_base::limits::SCM_MAX_FD;
 use smallvec::SmallVec;
 use std::alloc::Global;
@@ -13,7 +14,7 @@ use std::marker::Model;
 /// The result of a receive: a message of its own, and whether bytes were dropped.
 #[derive(Drop)]
 pub struct Taken {
-    bytes: Vec<u8>,
+    bytes: Bytes,
     attached: Attached,
     user: Uid,
     trunc: bool,
@@ -28,7 +29,7 @@ impl Model for Taken {
     ghost Value = { TakenView };
 
     ghost view = { λ a. record {
-      message = record { bytes = a.bytes.items; attached = a.attached.items; user = a.user };
+      message = record { bytes = a.bytes; attached = a.attached.items; user = a.user };
       trunc = a.trunc;
     } };
 
@@ -38,10 +39,10 @@ impl Model for Taken {
 impl Taken {
     /// Makes a result of these parts.
     #[inline(always)]
-    pub(crate) fn new(bytes: Vec<u8>, attached: Attached, user: Uid, trunc: bool) -> Taken
+    pub(crate) fn new(bytes: Bytes, attached: Attached, user: Uid, trunc: bool) -> Taken
         requires few { small_vec_len attached ≤ SCM_MAX_FD }
         ensures { result ≡ record {
-          message = record { bytes = bytes.items; attached = attached.items; user = user };
+          message = record { bytes = bytes; attached = attached.items; user = user };
           trunc = trunc;
         } }
     {
@@ -57,7 +58,8 @@ impl Taken {
     pub fn nothing(alloc: Global) -> Taken
         ensures { result ≡ nothing_received }
     {
-        Taken::new(Vec::new(alloc), SmallVec::new(alloc), Uid(0), false)
+        let bytes = Items::of_small(SmallVec::new(alloc));
+        Taken::new(bytes, SmallVec::new(alloc), Uid(0), false)
     }
 
     /// Returns the received files.
@@ -87,8 +89,8 @@ impl Taken {
 
     /// Returns the received bytes.
     #[inline(always)]
-    pub fn into_bytes(self) -> Vec<u8>
-        ensures { result.items ≡ self.message.bytes }
+    pub fn into_bytes(self) -> Bytes
+        ensures { result ≡ self.message.bytes }
     {
         self.bytes
     }

@@ -17,7 +17,7 @@ use crate::lookups::socket_on;
 use af_base::errno::Errno;
 use af_base::events::{Reply, State, Step};
 use af_base::ids::{Fd, FileRef, Pid, Uid};
-use af_base::items::Items;
+use af_base::items::{Bytes, Fds, Items};
 use af_base::limits::{MAX_BYTES, MAX_MESSAGES, SCM_MAX_FD};
 use af_desc::Socket;
 use af_queue::{Attached, Msg, Taken};
@@ -30,8 +30,8 @@ use std::alloc::{AllocError, Global};
 pub enum Received {
     /// Bytes, and the numbers at which descriptors were installed.
     Got {
-        bytes: Items<u8>,
-        fds: Items<Fd>,
+        bytes: Bytes,
+        fds: Fds,
         /// Bytes of the message were dropped (MSG_TRUNC).
         trunc: bool,
         /// Descriptors of the message were not installed (MSG_CTRUNC).
@@ -84,7 +84,7 @@ impl Engine {
             Refuses self.old pid (Step.Send on bytes.now attach.now) e self.new) }
     {
         let envelope = self.prepare_send(pid, on, bytes, attach)?;
-        let bytes = bytes.to_vec(self.alloc)?;
+        let bytes = Items::of_small(SmallVec::from_slice(self.alloc, bytes)?);
         self.commit_send(envelope, bytes)
     }
 
@@ -94,7 +94,7 @@ impl Engine {
         &mut self,
         pid: Pid,
         on: Fd,
-        bytes: Items<u8>,
+        bytes: Bytes,
         attach: &[Fd],
     ) -> Result<u32, Errno>
         ensures done { IfOk result (λ count.
@@ -103,7 +103,7 @@ impl Engine {
             Refuses self.old pid (Step.Send on bytes attach.now) e self.new) }
     {
         let envelope = self.prepare_send(pid, on, bytes.as_slice(), attach)?;
-        self.commit_send(envelope, bytes.into_vec())
+        self.commit_send(envelope, bytes)
     }
 
     /// Returns the queue, the files and the charge of the message, or why it cannot be sent.
@@ -139,11 +139,11 @@ impl Engine {
     /// Appends the bytes to the queue that the envelope names, and returns how many they are. If
     /// memory is refused, nothing has changed.
     #[inline(always)]
-    fn commit_send(&mut self, envelope: Envelope, bytes: Vec<u8>) -> Result<u32, Errno>
-        requires { HasRoom self.old.world envelope.peer (message_in envelope bytes.items) }
-        ensures count { IfOk result (λ count. count ≡ length bytes.items) }
+    fn commit_send(&mut self, envelope: Envelope, bytes: Bytes) -> Result<u32, Errno>
+        requires { HasRoom self.old.world envelope.peer (message_in envelope bytes) }
+        ensures count { IfOk result (λ count. count ≡ length bytes) }
         ensures settles { OnOk result (Settles (push_message self.old.world envelope.peer
-            (message_in envelope bytes.items)) self.new.world) }
+            (message_in envelope bytes)) self.new.world) }
         ensures pass { OnOk result (SamePass self.old self.new) }
         ensures err { IfErr result (λ e. (e ≡ Errno.ENOMEM) × (self.new ≡ self.old)) }
     {
@@ -167,11 +167,11 @@ impl Engine {
         on: Fd,
         max_bytes: u32,
         max_fds: u32,
-    ) -> Result<Option<(FileRef, Vec<Fd>)>, Errno>
+    ) -> Result<Option<(FileRef, Fds)>, Errno>
         ensures fits { OnOk result
             (refusal self.now.world pid (Step.Recv on max_bytes max_fds) ≡ None) }
         ensures message { IfOk result (λ found. IfSome found (λ r.
-            HasMessage self.now.world pid on max_bytes max_fds r.0 r.1.items)) }
+            HasMessage self.now.world pid on max_bytes max_fds r.0 r.1)) }
         ensures received_end { IfOk result (λ found. IfNone found
             (Does self.now pid (Step.Recv on max_bytes max_fds) Reply.End self.now)) }
         ensures peeked_end { IfOk result (λ found. IfNone found
@@ -217,7 +217,7 @@ impl Engine {
         // A file in a table is no garbage of a running pass.
         self.store.lemma_is_spared();
         self.store.room_for(pid, fds.len())?;
-        let taken = self.store.take_msg(&file, max, pid, &fds)?;
+        let taken = self.store.take_msg(&file, max, pid, fds.as_slice())?;
         self.store.release();
         Ok(receive_answer(taken, fds))
     }
@@ -247,7 +247,7 @@ impl Engine {
         // A file in a table is no garbage of a running pass.
         self.store.lemma_is_spared();
         self.store.room_for(pid, fds.len())?;
-        let seen = self.store.peek_msg(&file, max, pid, &fds)?;
+        let seen = self.store.peek_msg(&file, max, pid, fds.as_slice())?;
         self.store.release();
         Ok(receive_answer(seen, fds))
     }
@@ -324,15 +324,15 @@ fn files_at(alloc: Global, process: &Process, fds: &[Fd]) -> Result<Attached, Al
 /// Returns the answer to a receive or a peek, whose first files were installed at these
 /// descriptors.
 #[inline(always)]
-fn receive_answer(taken: Taken, fds: Vec<Fd>) -> Received
-    ensures { result ≡ Received.Got taken.message.bytes fds.items taken.trunc
-        (nat_lt (length fds.items) (length taken.message.attached)) }
+fn receive_answer(taken: Taken, fds: Fds) -> Received
+    ensures { result ≡ Received.Got taken.message.bytes fds taken.trunc
+        (nat_lt (length fds) (length taken.message.attached)) }
 {
     let trunc = taken.trunc();
     let ctrunc = taken.attached().len() > fds.len();
     Received::Got {
-        bytes: Items::of(taken.into_bytes()),
-        fds: Items::of(fds),
+        bytes: taken.into_bytes(),
+        fds,
         trunc,
         ctrunc,
     }

@@ -78,7 +78,10 @@ impl Engine {
     pub(crate) fn recv_reply(&mut self, pid: Pid, on: Fd, max_bytes: u32, max_fds: u32) -> Reply
         ensures { Answers self.old pid (Recv on max_bytes max_fds) result self.new }
     {
-        reply_of(self.recv(pid, on, max_bytes, max_fds))
+        match self.recv(pid, on, max_bytes, max_fds) {
+            Ok(received) => Reply::from(received),
+            Err(error) => Reply::Refused(error),
+        }
     }
 
     /// Peeks at a message.
@@ -86,6 +89,9 @@ impl Engine {
     pub(crate) fn peek_reply(&mut self, pid: Pid, on: Fd, max_bytes: u32, max_fds: u32) -> Reply
         ensures { Answers self.old pid (Peek on max_bytes max_fds) result self.new }
     {
-        reply_of(self.peek(pid, on, max_bytes, max_fds))
+        match self.peek(pid, on, max_bytes, max_fds) {
+            Ok(received) => Reply::from(received),
+            Err(error) => Reply::Refused(error),
+        }
     }
 }

@@ -8,7 +8,9 @@ ghost use Rattle.af_table.specs.Free.{free_from};
 
 use crate::bits::Bits;
 use af_base::ids::{Fd, FileRef, Ino, Uid};
+use af_base::items::Fds;
 use af_base::limits::MAX_NOFILE;
+use smallvec::SmallVec;
 use std::alloc::{AllocError, Global};
 use std::marker::Model;
 use std::mem;
@@ -244,15 +246,15 @@ impl Process {
     /// memory for the list alone, and none for an empty list.
     #[inline(always)]
     #[tactic(auto, using(crate::proofs::FreeNumbers::free_lists))]
-    pub fn lowest_free(&self, alloc: Global, count: usize) -> Result<Vec<Fd>, AllocError>
-        ensures value { IfOk result (λ fds. fds.items ≡ lowest_free count self.now.process) }
+    pub fn lowest_free(&self, alloc: Global, count: usize) -> Result<Fds, AllocError>
+        ensures value { IfOk result (λ fds. fds ≡ lowest_free count self.now.process) }
         ensures none { length (lowest_free count self.now.process) ≡ 0 → IsOk result }
     {
-        let mut fds = Vec::new(alloc);
+        let mut fds = SmallVec::new(alloc);
         let mut from = 0;
         for _ in 0..count {
             let Some(fd) = self.next_free(from) else {
-                return Ok(fds);
+                return Ok(Fds::of_small(fds));
             };
             // Room for all at once, but none where no number is free.
             if fds.is_empty() {
@@ -261,7 +263,7 @@ impl Process {
             fds.push_reserved(fd);
             from = fd.0 + 1;
         }
-        Ok(fds)
+        Ok(Fds::of_small(fds))
     }
 
     /// Returns the least open descriptor from this one on, with its file, if there is one. A walk

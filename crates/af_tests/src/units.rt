@@ -5,6 +5,7 @@ ghost use Rattle.std.specs.Prelude.{◌≡◌, ◌∷◌, [], IfOk};
 use af_base::errno::Errno;
 use af_base::events::SockType;
 use af_base::ids::{Fd, FileRef, Ino, Pid, Uid};
+use af_base::items::Items;
 use af_collect::Store;
 use af_queue::{Attached, Msg};
 use smallvec::SmallVec;
@@ -59,7 +60,11 @@ fn carry_itself(store: &mut Store, alloc: Global, pid: Pid, on: Fd) -> Result<()
         return Err(Errno::EAGAIN);
     }
     let user = process.user();
-    let message = Msg::new(b"x".to_vec(alloc)?, just(alloc, file.duplicate())?, user);
+    let message = Msg::new(
+        Items::of(b"x".to_vec(alloc)?),
+        just(alloc, file.duplicate())?,
+        user,
+    );
     store.room_for_message()?;
     store.put_msg(&file, message);
     store.release();

@@ -26,7 +26,7 @@ use crate::payload::payload;
 use crate::words::{all_printable, first_word, is_end};
 use af_base::events::{Event, SockType, Step};
 use af_base::ids::{Fd, Pid, Uid};
-use af_base::items::Items;
+use af_base::items::{Bytes, Items};
 use std::alloc::Global;
 
 // ---- words
@@ -156,7 +156,7 @@ pub fn accept(rest: &[u8]) -> Option<Fd>
 
 /// Reads `P send N BYTES ITEMS..`.
 #[inline(always)]
-pub fn send(alloc: Global, rest: &[u8]) -> Result<(Fd, Items<u8>, Descriptors), LineFault>
+pub fn send(alloc: Global, rest: &[u8]) -> Result<(Fd, Bytes, Descriptors), LineFault>
     ensures ok { IfOk result (λ found. read_form (step_row verb.Send).1 (words_of rest.now)
         ≡ Some (step.Send found.0 found.1 found.2.items)) }
     ensures err { IfErr result (λ f. f ≡ fault.Unreadable

@@ -5,7 +5,7 @@ ghost use Rattle.scm_lines.specs.Payload.{is_plain, hex_value, unescape, byte_be
 
 use crate::fault::LineFault;
 use crate::numbers::number;
-use af_base::items::Items;
+use af_base::items::{Bytes, Items};
 use std::alloc::Global;
 
 /// The most bytes of a word: one more than a message may have, so that a script can ask for a
@@ -54,7 +54,7 @@ pub fn first_byte(word: &[u8]) -> Option<(u8, &[u8])>
 /// has characters.
 #[inline(always)]
 #[tactic(auto, using(crate::proofs::PayloadLemmas::bytes_before_more))]
-fn unescape_word(alloc: Global, word: &[u8]) -> Result<Items<u8>, LineFault>
+fn unescape_word(alloc: Global, word: &[u8]) -> Result<Bytes, LineFault>
     ensures { Reads (unescape word.now) result }
 {
     let mut bytes = Vec::with_capacity(alloc, word.len())?;
@@ -68,7 +68,7 @@ fn unescape_word(alloc: Global, word: &[u8]) -> Result<Items<u8>, LineFault>
 }
 
 /// Makes as many letters x as the digits behind a `*` say.
-fn letters(alloc: Global, digits: &[u8]) -> Result<Items<u8>, LineFault>
+fn letters(alloc: Global, digits: &[u8]) -> Result<Bytes, LineFault>
     ensures { Reads (payload_of (42 ∷ digits.now)) result }
 {
     let count = number(digits).ok_or(LineFault::Unreadable)? as usize;
@@ -80,7 +80,7 @@ fn letters(alloc: Global, digits: &[u8]) -> Result<Items<u8>, LineFault>
 
 /// Reads the bytes of a word: `*` and how many letters x, or the bytes by their characters.
 #[inline(always)]
-pub fn payload(alloc: Global, word: &[u8]) -> Result<Items<u8>, LineFault>
+pub fn payload(alloc: Global, word: &[u8]) -> Result<Bytes, LineFault>
     ensures { Reads (payload_of word.now) result }
 {
     let bytes = match word {

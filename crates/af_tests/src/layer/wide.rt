@@ -3,7 +3,7 @@ use super::bench::{LayerOutcome, Play, end_of, step};
 use af_base::errno::Errno;
 use af_base::events::{Event, Reply, SockType, Step};
 use af_base::ids::{Fd, Uid};
-use af_base::items::Items;
+use af_base::items::{Bytes, Items};
 use af_layer::{Layer, OpenGate, Seat, Turns, drive};
 use std::alloc::{AllocError, Global};
 use std::sync::Wait;
@@ -31,7 +31,7 @@ fn spawn_all<R: Wait>(rt: &R, layer: &Layer, seat: &mut Seat) -> bool {
 }
 
 /// The name that a listener has.
-fn name(alloc: Global) -> Result<Items<u8>, AllocError> {
+fn name(alloc: Global) -> Result<Bytes, AllocError> {
     Ok(Items::of(b"listener".to_vec(alloc)?))
 }
 

@@ -2,7 +2,7 @@
 use af_base::errno::Errno;
 use af_base::events::{Event, Reply, SockType, Step};
 use af_base::ids::{Fd, Pid, Uid};
-use af_base::items::Items;
+use af_base::items::{Bytes, Fds, Items};
 use af_steps::Engine;
 use std::alloc::{AllocError, Global};
 use std::process::Abort;
@@ -156,11 +156,11 @@ pub fn reply_of(alloc: Global, answer: Answer) -> Result<Reply, AllocError> {
     })
 }
 
-fn bytes_of(alloc: Global, bytes: &[u8]) -> Result<Items<u8>, AllocError> {
+fn bytes_of(alloc: Global, bytes: &[u8]) -> Result<Bytes, AllocError> {
     Ok(Items::of(bytes.to_vec(alloc)?))
 }
 
-fn fds_of(alloc: Global, fds: &[u32]) -> Result<Items<Fd>, AllocError> {
+fn fds_of(alloc: Global, fds: &[u32]) -> Result<Fds, AllocError> {
     let mut items = Vec::new(alloc);
     for fd in fds {
         items.push(Fd(*fd))?;

@@ -20,9 +20,9 @@ pub struct Registers {
 #[derive(Debug, Drop)]
 pub struct Memory {
     /// The bytes of a message: a send reads them, and a receive writes them (`msg_iov`).
-    pub bytes: Items<u8>,
+    pub bytes: Bytes,
     /// Its descriptors (`msg_control`; cmsg(3), SCM_RIGHTS).
-    pub fds: Items<Fd>,
+    pub fds: Fds,
     /// The two numbers that a socketpair(2) writes (`sv`).
     pub pair: (Fd, Fd),
 }

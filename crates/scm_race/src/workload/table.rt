@@ -5,7 +5,7 @@ ghost use Rattle.scm_race.specs.Table.{type_of};
 
 use af_base::events::{Event, SockType, Step};
 use af_base::ids::{Fd, Pid};
-use af_base::items::Items;
+use af_base::items::{Bytes, Fds, Items};
 use std::alloc::{AllocError, Global};
 
 /// The most workers of a race.
@@ -44,14 +44,14 @@ fn type_of(number: u32) -> SockType
 }
 
 /// Makes the abstract name of a worker's listener (unix(7)): `w` and the worker's number.
-pub fn listener_name(alloc: Global, worker: u32) -> Result<Items<u8>, AllocError>
+pub fn listener_name(alloc: Global, worker: u32) -> Result<Bytes, AllocError>
     ensures { IfOk result (λ name. name ≡ name_of worker) }
 {
     Ok(Items::of(format!(in alloc; "w{worker}")?.into_bytes()))
 }
 
 /// Makes the list of a message's descriptors.
-fn attached(alloc: Global, extra: u32, first: Fd, second: Fd) -> Result<Items<Fd>, AllocError>
+fn attached(alloc: Global, extra: u32, first: Fd, second: Fd) -> Result<Fds, AllocError>
     ensures { IfOk result (λ fds. fds ≡ attached_of extra first second) }
 {
     let fds = match extra {

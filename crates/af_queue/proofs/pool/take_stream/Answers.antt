@@ -63,7 +63,7 @@ returns-2-clause-taken c =
     let q = messages_of c.args.nodes.now c.args.chain.now in
     let have = have-bytes q (subst AreWithin c.of-queue.ensures c.stream_cut-count.ensures.within) in
     let count = c.stream_cut-count.ensures.bytes ∙ ap (stream_cut c.args.max) c.of-queue.ensures in
-    let copied = c.in_ok-bytes-2.ensures ∙ ap (λ q. take c.stream_cut-count.result.0 (joined q)) c.of-queue.ensures in
+    let copied = c.of.ensures ∙ c.in_ok-bytes-2.ensures ∙ ap (λ q. take c.stream_cut-count.result.0 (joined q)) c.of-queue.ensures in
     c.new-2.ensures ∙ part-received q c.args.max c.stream_cut-count.result.0 _ _ _ c.requires.some have count copied c.cut-attached.ensures.files c.cut-attached.ensures.user
 
 pub returns-2-clause-rest : goal.returns-2-clause-rest

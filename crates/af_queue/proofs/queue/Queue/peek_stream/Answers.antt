@@ -18,4 +18,4 @@ returns c =
       | in-None w ↦ search rules
     ] in
     c.new-2.ensures
-    ∙ part-received q c.args.max k _ _ _ c.requires (have-bytes q c.stream_cut-count.ensures.within) c.stream_cut-count.ensures.bytes c.in_ok-bytes.ensures files user
+    ∙ part-received q c.args.max k _ _ _ c.requires (have-bytes q c.stream_cut-count.ensures.within) c.stream_cut-count.ensures.bytes (c.of.ensures ∙ c.in_ok-bytes.ensures) files user

@@ -16,12 +16,12 @@ carried inside old m given shown is tabled f h = subst (λ (x : Machine). InTabl
 pub put_msg-requires-clause-live : goal.put_msg-requires-clause-live
 put_msg-requires-clause-live c =
     λ f h. subst (λ (s : StoreView). IsLive s.world f) (sym c.room_for_message.ensures.rest)
-    (c.self.invariant.0.whole.tables_live f (carried (record { world = c.self.inside.store.world; pass = c.self.inside.store.pass; last_pass = c.self.inside.last_pass; since = c.self.inside.store.since }) c.args.self.now c.new-message.result (record { bytes = c.args.bytes.items; attached = c.args.envelope.attached.items; user = c.args.envelope.user }) c.self.view_is c.new-message.ensures c.requires.tabled f h))
+    (c.self.invariant.0.whole.tables_live f (carried (record { world = c.self.inside.store.world; pass = c.self.inside.store.pass; last_pass = c.self.inside.last_pass; since = c.self.inside.store.since }) c.args.self.now c.new-message.result (record { bytes = c.args.bytes; attached = c.args.envelope.attached.items; user = c.args.envelope.user }) c.self.view_is c.new-message.ensures c.requires.tabled f h))
 
 pub put_msg-requires-clause-spared : goal.put_msg-requires-clause-spared
 put_msg-requires-clause-spared c =
     λ f h. subst (λ (s : StoreView). NotBegunGarbage s.pass f) (sym c.room_for_message.ensures.rest)
-    (c.lemma_is_spared.ensures f (carried (record { world = c.self.inside.store.world; pass = c.self.inside.store.pass; last_pass = c.self.inside.last_pass; since = c.self.inside.store.since }) c.args.self.now c.new-message.result (record { bytes = c.args.bytes.items; attached = c.args.envelope.attached.items; user = c.args.envelope.user }) c.self.view_is c.new-message.ensures c.requires.tabled f h))
+    (c.lemma_is_spared.ensures f (carried (record { world = c.self.inside.store.world; pass = c.self.inside.store.pass; last_pass = c.self.inside.last_pass; since = c.self.inside.store.since }) c.args.self.now c.new-message.result (record { bytes = c.args.bytes; attached = c.args.envelope.attached.items; user = c.args.envelope.user }) c.self.view_is c.new-message.ensures c.requires.tabled f h))
 
 pub returns-clause-settles : goal.returns-clause-settles
 returns-clause-settles c =

@@ -1,5 +1,4 @@
 use Rattle.std.proofs.Common.{◌≡◌, ◌≤◌, ◌<◌, ◌++◌, length}
-use Rattle.std.specs.Prelude.{vec_capacity}
 use Rattle.af_base.specs.Table.{free_numbers}
 use Rattle.af_table.specs.Free.{free_from}
 use Rattle.af_table.proofs.process.Process.lowest_free.Given as goal
@@ -10,5 +9,5 @@ abbrev pub invariant-loop : goal.invariant-loop
 invariant-loop l = record {
   all : l.fds.items ++ free_from l.from l.self.process ≡ free_numbers l.self.process;
   many : length l.fds.items ≡ l.counter;
-  room : 0 < length l.fds.items → l.count ≤ vec_capacity l.fds;
+  room : 0 < length l.fds.items → l.count ≤ l.fds.capacity;
 }
