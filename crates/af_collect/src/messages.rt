@@ -25,6 +25,7 @@ pub fn charge_message(files: &mut Files, ledger: &mut Ledger, user: Uid, attache
 }
 
 /// Drops one place in a queue for each of these files, and the user's charge.
+#[inline(always)]
 pub fn uncharge_message(files: &mut Files, ledger: &mut Ledger, user: Uid, attached: &[FileRef])
     requires { CanDropAll user attached.now (kept_of files.old.counts ledger.old) }
     ensures kept { kept_of files.new.counts ledger.new
