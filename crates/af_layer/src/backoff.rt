@@ -1,16 +1,24 @@
-//! A lock by exponential backoff.
+//! A lock from which a thread that finds it taken stays away.
 //!
 //! A call holds the lock for some tens of nanoseconds. A thread that looks at it again at once, or
 //! is woken for it, takes the engine's cache lines from the thread that works. So it stays away for
 //! longer each time, and then finds the lock free with all that others had to do done.
 use std::hint::spin_loop;
+use std::sync::atomic::AtomicU64;
 use std::sync::{Mutex, MutexGuard, Wait};
+use std::time::Duration;
 
 /// The pauses of the processor before a thread looks at the lock for the second time.
 const FIRST_PAUSES: u32 = 64;
 
-/// How often a thread looks again, each time after four times as many pauses, before it sleeps.
-const LOOKS: u32 = 5;
+/// How often a thread looks again, each time after four times as many pauses, before it naps.
+const LOOKS: u32 = 4;
+
+/// How long a nap is, in microseconds. The system adds some fifty.
+const NAP: u64 = 200;
+
+/// How often a thread naps and looks, before it sleeps until it is woken.
+const NAPS: u32 = 50;
 
 /// Waits for the lock, as [`Mutex::lock`] does.
 #[inline(always)]
@@ -35,5 +43,17 @@ fn lock_later<'a, T, R: Wait>(mutex: &'a Mutex<T>, rt: &R) -> MutexGuard<'a, T> 
         }
         pauses = pauses.saturating_mul(4);
     }
+    for _ in 0..NAPS {
+        nap(rt);
+        if let Some(guard) = mutex.try_lock() {
+            return guard;
+        }
+    }
     mutex.lock(rt)
+}
+
+/// Leaves the processor to others for the time of a nap. Nobody wakes the thread, since a wake-up
+/// costs the one that works a call of the system.
+fn nap<R: Wait>(rt: &R) {
+    AtomicU64::new(0).park_timeout(rt, 0, Duration::from_micros(NAP));
 }
