@@ -36,7 +36,7 @@ pub mod report;
 pub use af_base::errno::Errno;
 pub use af_base::events::{Event, Reply, SockType, State, Step};
 pub use af_base::ids::{Fd, FileRef, Ino, Pid, Uid};
-pub use af_base::items::Items;
+pub use af_base::items::{Bytes, Fds, Items};
 pub use af_base::limits;
 pub use af_base::listing::{
     ListedFile, ListedMessage, ListedNumber, ListedSocket, ListedTable, Listing,
