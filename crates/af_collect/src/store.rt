@@ -323,7 +323,7 @@ impl Store {
         ensures err { OnErr result (self.new ≡ self.old) }
     {
         let places = &mut self.parts.places;
-        let child = places.procs.fork(pid)?;
+        let child = places.procs.copy_for_fork(pid)?;
         let process = places.procs.find(child).unwrap();
         ref_table(&mut places.files, process);
         Ok(child)

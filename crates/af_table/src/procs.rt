@@ -220,7 +220,7 @@ impl Procs {
     /// same open descriptors. Returns its pid. Room for further descriptors is not reserved. On an
     /// error no process changes.
     #[tactic(auto, using(crate::proofs::Parts::part_changes))]
-    pub fn fork(&mut self, pid: Pid) -> Result<Pid, AllocError>
+    pub fn copy_for_fork(&mut self, pid: Pid) -> Result<Pid, AllocError>
         requires there { IsTrue (map.contains_key self.old.processes pid) }
         requires next { self.old.next_pid ≤ MAX_PID }
         ensures pid { IfOk result (λ child. child ≡ self.old.next_pid) }

@@ -48,12 +48,12 @@ ref_table-requires c =
     let there = subst (λ (v : World). IsTrue (map.contains_key v.processes c.args.pid)) back c.requires.there in
     let e = c.in_ok-child.ensures in
     let q = c.unwrap-process.result.now.process in
-    let found = subst (λ o. IfSome o (λ p. map.get c.fork.new.self.processes c.in_ok-child.child ≡ Some p.now.process)) c.unwrap-process.ensures c.find.ensures.there in
+    let found = subst (λ o. IfSome o (λ p. map.get c.copy_for_fork.new.self.processes c.in_ok-child.child ≡ Some p.now.process)) c.unwrap-process.ensures c.find.ensures.there in
     let is = child-is w _ c.args.pid c.in_ok-child.child e.processes e.pid q found in
     let at = process-there w c.args.pid (ap not there) ∙ ap Some (sym is) in
     (w, h.ledger, c.args.pid, at, joins-copy w c.args.pid q (kept_of h.files.counts h.ledger) room there is c.places.invariant)
 
-both : (c : goal.After-ref_table) → BothInvariants c.self.inside.parts c.fork.new.self c.ref_table.new.files c.places.inside.ledger
+both : (c : goal.After-ref_table) → BothInvariants c.self.inside.parts c.copy_for_fork.new.self c.ref_table.new.files c.places.inside.ledger
 both c =
     let p = c.self.inside.parts in
     let h = c.places.inside in
@@ -67,7 +67,7 @@ both c =
     let child = process_at w pid in
     let e = c.in_ok-child.ensures in
     let q = c.unwrap-process.result.now.process in
-    let found = subst (λ o. IfSome o (λ p. map.get c.fork.new.self.processes c.in_ok-child.child ≡ Some p.now.process)) c.unwrap-process.ensures c.find.ensures.there in
+    let found = subst (λ o. IfSome o (λ p. map.get c.copy_for_fork.new.self.processes c.in_ok-child.child ≡ Some p.now.process)) c.unwrap-process.ensures c.find.ensures.there in
     let is = child-is w _ pid c.in_ok-child.child e.processes e.pid q found in
     let exact = c.ref_table.ensures.exact w h.ledger (joins-copy w pid q (kept_of h.files.counts h.ledger) room there is was.0) in
     let rest = c.ref_table.ensures.rest in

@@ -8,7 +8,7 @@ use Rattle.af_base.specs.Refusals.{no_process, process_in}
 use Rattle.af_base.proofs.Lookups.{insert-other, told_apart}
 use Rattle.af_table.specs.Procs.{row_in}
 use Rattle.af_table.proofs.Places.{process_found}
-use Rattle.af_table.proofs.procs.Procs.fork.Goals as goal
+use Rattle.af_table.proofs.procs.Procs.copy_for_fork.Goals as goal
 
 pub returns-clause-processes : goal.returns-clause-processes
 returns-clause-processes c =
