@@ -48,6 +48,7 @@ pub fn item(word: &[u8]) -> Option<(Fd, usize)>
 }
 
 /// Appends copies of a descriptor.
+#[inline(always)]
 fn push_copies(fds: &mut Descriptors, fd: Fd, copies: usize) -> Result<(), AllocError>
     ensures { OnOk result (fds.new.items ≡ fds.old.items ++ replicate copies fd) }
 {

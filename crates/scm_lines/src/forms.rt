@@ -27,6 +27,7 @@ use crate::words::{all_printable, first_word, is_end};
 use af_base::events::{Event, SockType, Step};
 use af_base::ids::{Fd, Pid, Uid};
 use af_base::items::{Bytes, Items};
+use smallvec::SmallVec;
 use std::alloc::Global;
 
 // ---- words
@@ -211,7 +212,7 @@ fn bind_step(alloc: Global, rest: &[u8]) -> Result<Step, LineFault>
     let Some((on, name)) = bind(rest) else {
         return Err(LineFault::Unreadable);
     };
-    let name = Items::of(name.to_vec(alloc)?);
+    let name = Items::of_small(SmallVec::from_slice(alloc, name)?);
     Ok(Step::Bind { on, name })
 }
 
@@ -222,7 +223,7 @@ fn connect_step(alloc: Global, rest: &[u8]) -> Result<Step, LineFault>
     let Some((on, name)) = connect(rest) else {
         return Err(LineFault::Unreadable);
     };
-    let name = Items::of(name.to_vec(alloc)?);
+    let name = Items::of_small(SmallVec::from_slice(alloc, name)?);
     Ok(Step::Connect { on, name })
 }
 
@@ -231,7 +232,7 @@ fn send_step(alloc: Global, rest: &[u8]) -> Result<Step, LineFault>
     ensures { Reads (read_form (step_row verb.Send).1 (words_of rest.now)) result }
 {
     let (on, bytes, attach) = send(alloc, rest)?;
-    let attach = Items::of(attach.into_vec()?);
+    let attach = Items::of_small(attach);
     Ok(Step::Send { on, bytes, attach })
 }
 

@@ -6,6 +6,7 @@ ghost use Rattle.scm_lines.specs.Payload.{is_plain, hex_value, unescape, byte_be
 use crate::fault::LineFault;
 use crate::numbers::number;
 use af_base::items::{Bytes, Items};
+use smallvec::SmallVec;
 use std::alloc::Global;
 
 /// The most bytes of a word: one more than a message may have, so that a script can ask for a
@@ -50,21 +51,23 @@ pub fn first_byte(word: &[u8]) -> Option<(u8, &[u8])>
     }
 }
 
-/// Reads the bytes of a word's characters, into a vector with room for as many bytes as the word
-/// has characters.
+/// Reads the bytes of a word's characters, into a list with room for as many bytes as the word has
+/// characters.
 #[inline(always)]
 #[tactic(auto, using(crate::proofs::PayloadLemmas::bytes_before_more))]
 fn unescape_word(alloc: Global, word: &[u8]) -> Result<Bytes, LineFault>
     ensures { Reads (unescape word.now) result }
 {
-    let mut bytes = Vec::with_capacity(alloc, word.len())?;
+    let mut bytes = SmallVec::with_capacity(alloc, word.len())?;
     let mut rest = word;
     while !rest.is_empty() {
-        let (byte, tail) = first_byte(rest).ok_or(LineFault::Unreadable)?;
+        let Some((byte, tail)) = first_byte(rest) else {
+            return Err(LineFault::Unreadable);
+        };
         bytes.push_reserved(byte);
         rest = tail;
     }
-    Ok(Items::of(bytes))
+    Ok(Items::of_small(bytes))
 }
 
 /// Makes as many letters x as the digits behind a `*` say.

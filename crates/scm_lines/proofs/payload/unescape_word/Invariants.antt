@@ -1,4 +1,5 @@
-use Rattle.std.proofs.Common.{◌≡◌, ◌≤◌, ◌+◌, length, vec_capacity, vec_len}
+use Rattle.std.proofs.Common.{◌≡◌, ◌≤◌, ◌+◌, length}
+use Rattle.smallvec.specs.SmallVec.{small_vec_len}
 use Rattle.scm_lines.specs.Payload.{unescape}
 use Rattle.scm_lines.proofs.PayloadLemmas.{bytes_before}
 use Rattle.scm_lines.proofs.payload.unescape_word.Given as goal
@@ -6,7 +7,7 @@ use Rattle.scm_lines.proofs.payload.unescape_word.Given as goal
 abbrev pub invariant-loop-rest : goal.invariant-loop-rest
 invariant-loop-rest l = record {
   said : bytes_before l.bytes.items (unescape l.rest) ≡ unescape l.word;
-  room : vec_len l.bytes + length l.rest ≤ vec_capacity l.bytes;
+  room : small_vec_len l.bytes + length l.rest ≤ l.bytes.capacity;
 }
 
 abbrev pub decreases-loop-rest : goal.decreases-loop-rest
