@@ -77,11 +77,18 @@ fn collect(alloc: Global, engine: &mut Handle, event: &Event, out: &mut CFinishe
     let Some(reply) = reply_to(alloc, engine, event) else {
         return NO_ENGINE;
     };
-    if let Reply::Done { pass, reclaimed } = &reply {
+    write_finished(&reply, out);
+    code(&reply)
+}
+
+/// Writes what the reply says of a pass that is over, if it is.
+fn write_finished(reply: &Reply, out: &mut CFinished)
+    ensures { out.new ≡ finished_written reply.now out.old }
+{
+    if let Reply::Done { pass, reclaimed } = reply {
         *out = CFinished {
             pass: *pass,
             reclaimed: *reclaimed,
         };
     }
-    code(&reply)
 }

@@ -13,7 +13,7 @@ use crate::workload::{Source, make_script};
 use af_base::errno::Errno;
 use af_base::events::{Event, Reply};
 use af_base::ids::{Pid, Uid};
-use af_layer::{Layer, Origin, Seat};
+use af_layer::{EventReply, Layer, Origin, Seat};
 use std::alloc::{AllocError, Global};
 use std::sync::Wait;
 
@@ -31,6 +31,18 @@ fn spawn_of(worker: u32) -> Event
         uid: Uid(FIRST_USER + worker % 2),
         nofile: NOFILE,
         privileged: false,
+    }
+}
+
+/// Returns whether the worker's process has started, or which fault it is, by the reply.
+fn check_start(start: &EventReply, worker: u32) -> Result<(), RaceFault>
+    ensures started { OnOk result (start.now.1 ≡ answer.Pid worker) }
+    ensures fault { IfErr result (λ fault. fault ≡ of_spawn start.now.1) }
+{
+    match *start.reply() {
+        Reply::Pid(pid) if pid == Pid(worker) => Ok(()),
+        Reply::Refused(Errno::ENOMEM) => Err(RaceFault::Memory),
+        _ => Err(RaceFault::Failed),
     }
 }
 
@@ -53,11 +65,7 @@ fn start_process<R: Wait, O: Origin>(
     let Some(last) = main.list().last() else {
         return Err(RaceFault::Failed);
     };
-    match *last.reply() {
-        Reply::Pid(pid) if pid == Pid(worker) => Ok(()),
-        Reply::Refused(Errno::ENOMEM) => Err(RaceFault::Memory),
-        _ => Err(RaceFault::Failed),
-    }
+    check_start(last, worker)
 }
 
 /// Starts a process for each worker, from the first worker on.

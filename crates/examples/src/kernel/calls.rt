@@ -3,7 +3,7 @@ ghost use Rattle.examples.specs.Calls.{Answers, asked, pair_asked, recv_asked, s
 
 use crate::kernel::linux;
 use crate::kernel::linux::{answer_of, refusal};
-use jaywardrobe::{Engine, Fd, Items, Pid, Received};
+use jaywardrobe::{Bytes, Engine, Fd, Fds, Items, Pid, Received};
 use std::alloc::{AllocError, Global};
 
 /// The registers of a process when it calls (syscall(2)): the number of the call, and its first
