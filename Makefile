@@ -4,7 +4,7 @@
 # make build     prove and build the program alone: crates/scmgc/out/scmgc
 # make check     before a commit: compare events and the header, prove what has changed and all above it, play the cases
 # make bindings  write the header, its manual page and the bindings for Rust, after a change of a call, an error or a limit
-# make test      the gate: proofs from nothing, tests, cases, C and Rust, walks, wrong bodies: 40 minutes on four cores
+# make test      the gate: proofs from nothing, tests, cases, C and Rust, walks, wrong bodies: an hour on four cores
 # make walks     random scripts and edited lines by the proved program, compared with a plain engine and a reader in Python
 # make stress    each request for memory refused in turn, and the largest worlds, by the proved program and tests
 # make bench     nanoseconds for each event, over named workloads, and calls a second from threads
