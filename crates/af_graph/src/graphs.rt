@@ -29,8 +29,8 @@ pub fn graph(alloc: Global, engine: &Engine) -> Result<Vec<u8>, AllocError>
     Ok(text.into_bytes())
 }
 
-/// Appends the picture of the engine's world, of which this is the listing. The lost files, a list
-/// that rises, have the colour of garbage.
+/// Appends the picture of the engine's world, whose listing this is. The lost files, in rising
+/// order, have the colour of garbage.
 fn push_world(
     text: &mut String,
     engine: &Engine,

@@ -77,7 +77,7 @@ fn a_last_close_frees(rt: HostRuntime) -> Result<(), Fail> {
     Ok(free_or_list(&rt, &mut files)?)
 }
 
-/// Closes one of two connected sockets: it is freed at once, and the other has hung up.
+/// Closes one of two connected sockets, which is freed at once and hangs up the other.
 fn close_one_end(rt: &impl Abort, files: &mut Files) -> Result<(), AllocError> {
     assert!(rt; !files.is_full(2));
     let (first, second) = files.make_two(SockType::Stream, &Place::Table)?;

@@ -11,12 +11,12 @@ last_new front new last list found grew =
     let len : length front + 1 - 1 ≡ length front = omega arith in
     found new ∙ ap (λ l. get_or l (length l - 1) new) grew ∙ ap (λ n. get_or (front ++ new ∷ []) n new) (ap (λ n. n - 1) (length-append front (new ∷ [])) ∙ len) ∙ get_or-append_seam front new [] new
 
--- What follows from a value.
+-- Maps the fact about a value along an implication.
 on_ok : {T E : Type 0} {P Q : Type 0} → (r : Result T E) → (P → Q) → OnOk r P → OnOk r Q
 on_ok (Ok _) f p = f p
 on_ok (Err _) f p = p
 
--- What follows from an error.
+-- Maps the fact about an error along an implication.
 if_err : {T E : Type 0} {P Q : E → Type 0} → (r : Result T E) → ((e : E) → P e → Q e) → IfErr r P → IfErr r Q
 if_err (Ok _) f p = p
 if_err (Err e) f p = f e p

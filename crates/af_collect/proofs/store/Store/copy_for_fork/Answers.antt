@@ -19,7 +19,7 @@ use Rattle.af_collect.proofs.PlaceChanges.{kept_tables}
 use Rattle.af_collect.proofs.StoreInvariant.{BothInvariants, both-same, seen-world, stood}
 use Rattle.af_collect.proofs.store.Store.copy_for_fork.Goals as goal
 
--- What is there is found.
+-- A look-up finds a process that is there.
 found-some : {X Y : Type 0} (at : Option Y) (y : Y) → at ≡ Some y → (o : Option X) → IfNone o (at ≡ None) → IsSome o
 found-some at y is None none = absurd (none_some y (sym none ∙ is))
 found-some at y is (Some x) none = refl
