@@ -32,7 +32,7 @@ impl fmt::Display for Ino {
 }
 
 /// The number of keys that a `FileRef` tells apart.
-const KEYS: u64 = 1 << 24;
+const KEYS: u64 = 1 << 16;
 
 /// A file, and the key under which its row was found. A clause sees the number alone: the key is a
 /// hint, and each use of it compares the number.

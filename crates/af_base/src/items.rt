@@ -15,9 +15,18 @@ pub type Bytes = Items<u8, 16>;
 pub type Fds = Items<Fd, 4>;
 
 /// Items in order. Up to `N` lie in the value, and more in an allocation.
-#[derive(Debug, Drop)]
+#[derive(Debug)]
 pub struct Items<T, const N: usize> {
     items: SmallVec<T, N>,
+}
+
+/// It is written out, and not derived, so that what owns a list has one call where it drops it, and
+/// not one way for each place where items may lie.
+impl<T: Drop, const N: usize> Drop for Items<T, N> {
+    #[inline(always)]
+    fn drop(self) {
+        let Items { items: _ } = self;
+    }
 }
 
 impl<T, const N: usize> Model for Items<T, N> {
