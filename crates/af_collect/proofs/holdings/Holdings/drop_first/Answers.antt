@@ -33,11 +33,11 @@ uncharge_message-requires c =
     (subst (λ u. CanDropAll u c.attached.result.now (kept_of c.self.inside.files.counts c.self.inside.ledger)) (sym c.user.ensures) (subst (λ fs. CanDropAll m.user fs (kept_of c.self.inside.files.counts c.self.inside.ledger)) (sym c.attached.ensures.value) can))
 
 -- The ledger afterwards.
-dropped : (c : goal.Joined-message-2) → kept_of c.uncharge_message.new.files.counts c.uncharge_message.new.ledger ≡ without_refs (Queue c.in-Some.message.user) c.in-Some.message.attached (kept_of c.self.inside.files.counts c.self.inside.ledger)
+dropped : (c : goal.Joined-message) → kept_of c.uncharge_message.new.files.counts c.uncharge_message.new.ledger ≡ without_refs (Queue c.in-Some.message.user) c.in-Some.message.attached (kept_of c.self.inside.files.counts c.self.inside.ledger)
 dropped c = c.uncharge_message.ensures.kept ∙ (λ i. without_refs (Queue (c.user.ensures i)) (c.attached.ensures.value i) (kept_of (c.pop.ensures.rest i).counts c.self.inside.ledger))
 
 -- The world afterwards.
-shed : (c : goal.Joined-message-2) → (the_view (record c.self.inside { files = c.uncharge_message.new.files; ledger = c.uncharge_message.new.ledger })).world ≡ with_queue (the_view c.self.inside).world c.args.file.now (drop 1 (queue_at (the_view c.self.inside).world c.args.file.now))
+shed : (c : goal.Joined-message) → (the_view (record c.self.inside { files = c.uncharge_message.new.files; ledger = c.uncharge_message.new.ledger })).world ≡ with_queue (the_view c.self.inside).world c.args.file.now (drop 1 (queue_at (the_view c.self.inside).world c.args.file.now))
 shed c =
     let w = (the_view c.self.inside).world in
     let m = c.in-Some.message in
