@@ -3,7 +3,7 @@
 //! A packing reads `rows` from the front, and moves each live row to the end of `packed`; what it
 //! has read is dead. When all was read, the two lists change places. So a number is live in
 //! `packed` or in the part of `rows` that was not read, and a look-up asks both.
-ghost use Rattle.std.specs.Prelude.{◌≡◌, ℕ, ◌+◌, ◌≤◌, ◌<◌, length, false, None, IsTrue, IsOk};
+ghost use Rattle.std.specs.Prelude.{◌≡◌, ℕ, ◌+◌, ◌≤◌, ◌<◌, length, false, true, None, IsTrue, IsOk};
 ghost use Rattle.std.specs.Prelude.{IfSome, IfNone, OnOk, OnErr, Some, ◌++◌, ◌≢◌, is_some, IsSome};
 ghost use Rattle.std.specs.FinMap as map;
 ghost use Rattle.ordered_slab.specs.OrderView.{OrderView};
@@ -28,13 +28,14 @@ const NO_KEY: usize = usize::MAX;
 /// gone, or was moved.
 #[derive(Drop)]
 struct OrderRow {
-    ino: Ino,
+    /// The number, with the key as a hint, as a walk returns it.
+    file: FileRef,
     /// The key, or `NO_KEY`: an `Option` would take eight bytes more.
     key: usize,
 }
 
 impl Model for OrderRow {
-    ghost use Rattle.std.specs.Prelude.{◌≤◌, None, Some, if◌then◌else◌, nat_eq};
+    ghost use Rattle.std.specs.Prelude.{◌≤◌, ◌<◌, None, Some, if◌then◌else◌, nat_eq};
     ghost use Rattle.af_base.specs.declared.limits.TheConstants.{MAX_INO};
     ghost use Rattle.ordered_slab.specs.OrderView.{OrderRowView};
     ghost use Rattle.ordered_slab.specs.declared.order.TheConstants.{NO_KEY};
@@ -42,30 +43,33 @@ impl Model for OrderRow {
     ghost Value = { OrderRowView };
 
     ghost view = { λ a. record {
-      ino = a.ino;
+      ino = a.file;
       key = if nat_eq a.key NO_KEY then None else Some a.key;
     } };
 
-    ghost invariant = { λ a. a.ino ≤ MAX_INO };
+    ghost invariant = { λ a. (0 < a.file) × (a.file ≤ MAX_INO) };
 }
 
 impl OrderRow {
     /// Makes a live row.
     #[inline(always)]
     fn new(ino: Ino, key: usize) -> OrderRow
+        requires some { 0 < ino }
         requires number { ino ≤ MAX_INO }
         requires key { key < NO_KEY }
         ensures { result ≡ record { ino = ino; key = Some key } }
     {
-        OrderRow { ino, key }
+        let file = FileRef::new(ino, key);
+        OrderRow { file, key }
     }
 
-    /// Returns its number.
+    /// Returns its number, which is not 0.
     #[inline(always)]
     fn number(&self) -> Ino
-        ensures { result ≡ self.now.ino }
+        ensures number { result ≡ self.now.ino }
+        ensures some { 0 < result }
     {
-        self.ino
+        self.file.ino()
     }
 
     /// Returns its key, if it is live.
@@ -94,7 +98,7 @@ impl OrderRow {
     fn file(&self) -> FileRef
         ensures { result ≡ self.now.ino }
     {
-        FileRef::new(self.ino, self.key)
+        self.file.duplicate()
     }
 
     /// Returns the same row once more.
@@ -103,7 +107,7 @@ impl OrderRow {
         ensures { result ≡ self.now }
     {
         OrderRow {
-            ino: self.ino,
+            file: self.file.duplicate(),
             key: self.key,
         }
     }
@@ -263,10 +267,31 @@ impl Order {
         }
     }
 
-    /// Returns the least number above this one, if there is one, with its key as a hint, and its
-    /// position for the next call. This number need not be known. The position passed in is a hint.
+    /// Returns the least number above this one, if there is one, with its key as a hint, and the
+    /// position behind it for the next call. This number need not be known. The position passed in
+    /// is a hint.
     #[inline(always)]
     pub fn next_after(&self, ino: Ino, at: usize) -> Option<(FileRef, usize)>
+        ensures above { IfSome result (λ n. ino < n.0) }
+        ensures there { IfSome result (λ n. IsTrue (map.contains_key self.now.keys n.0)) }
+        ensures least { IfSome result (λ n.
+            (q : ℕ) → ino < q → q < n.0 → map.contains_key self.now.keys q ≡ false) }
+        ensures none { IfNone result
+            ((q : ℕ) → ino < q → map.contains_key self.now.keys q ≡ false) }
+    {
+        // Most numbers are consecutive: then one look at one row is enough.
+        if let Some(row) = self.rows.get(at)
+            && row.number().0 - 1 == ino.0
+            && row.is_live()
+        {
+            return Some((row.file(), at + 1));
+        }
+        self.search_next(ino, at)
+    }
+
+    /// Returns the same, where the numbers are not consecutive.
+    #[inline(never)]
+    fn search_next(&self, ino: Ino, at: usize) -> Option<(FileRef, usize)>
         ensures above { IfSome result (λ n. ino < n.0) }
         ensures there { IfSome result (λ n. IsTrue (map.contains_key self.now.keys n.0)) }
         ensures least { IfSome result (λ n.
@@ -382,7 +407,7 @@ fn is_live_at(rows: &[OrderRow], ino: Ino, at: usize) -> bool
     ensures { IsTrue result → IsLiveAt rows.now ino at }
 {
     match rows.get(at) {
-        Some(row) => row.ino == ino && row.is_live(),
+        Some(row) => row.number() == ino && row.is_live(),
         None => false,
     }
 }
@@ -394,7 +419,7 @@ fn find(rows: &[OrderRow], ino: Ino) -> Option<usize>
     ensures place { IfSome result (IsLiveAt rows.now ino) }
     ensures none { IfNone result (map.get (live_of rows.now) ino ≡ None) }
 {
-    match rows.binary_search_by_key(&ino.0, |row| row.ino.0) {
+    match rows.binary_search_by_key(&ino.0, |row| row.number().0) {
         Ok(at) => { if rows[at].is_live() { Some(at) } else { None } }
         Err(_) => None,
     }
@@ -430,8 +455,8 @@ fn first_live(rows: &[OrderRow], from: usize, end: usize) -> usize
     end
 }
 
-/// Returns the least live number above this one among these rows, and its position. This one's
-/// position is a hint.
+/// Returns the least live number above this one among these rows, and the position behind it. The
+/// position behind this one is a hint.
 #[inline(always)]
 fn next_in(rows: &[OrderRow], ino: Ino, at: usize) -> Option<(FileRef, usize)>
     requires { Rise rows.now }
@@ -442,51 +467,50 @@ fn next_in(rows: &[OrderRow], ino: Ino, at: usize) -> Option<(FileRef, usize)>
     ensures none { IfNone result
         ((q : ℕ) → ino < q → map.contains_key (live_of rows.now) q ≡ false) }
 {
-    // Mostly nothing is being packed.
-    if rows.is_empty() {
-        return None;
-    }
     let from = rows_up_to(rows, ino, at);
     let at = first_live(rows, from, rows.len());
     if at == rows.len() {
         return None;
     }
-    Some((rows[at].file(), at))
+    Some((rows[at].file(), at + 1))
 }
 
-/// Returns how many rows have a number up to this one. Tries this position first, before a search.
-#[inline(always)]
+/// Returns how many rows have a number up to this one. Tries this position first. Most numbers are
+/// consecutive, so next it computes the position from the number of the last row.
 fn rows_up_to(rows: &[OrderRow], ino: Ino, at: usize) -> usize
     requires { Rise rows.now }
     ensures bound { result ≤ length rows.now }
     ensures up_to { (i : ℕ) → i < result → (row_at rows.now i).ino ≤ ino }
     ensures beyond { (i : ℕ) → result ≤ i → i < length rows.now → ino < (row_at rows.now i).ino }
 {
-    if let Some(row) = rows.get(at)
-        && row.number() == ino
-    {
-        return at + 1;
+    if is_behind(rows, ino, at) {
+        return at;
     }
-    search_up_to(rows, ino)
-}
-
-/// Returns the same by a search. Most numbers are consecutive, so it first computes the position
-/// from the number of the last row.
-fn search_up_to(rows: &[OrderRow], ino: Ino) -> usize
-    requires { Rise rows.now }
-    ensures bound { result ≤ length rows.now }
-    ensures up_to { (i : ℕ) → i < result → (row_at rows.now i).ino ≤ ino }
-    ensures beyond { (i : ℕ) → result ≤ i → i < length rows.now → ino < (row_at rows.now i).ino }
-{
     let number = ino.0;
     if let Some(last) = rows.last() {
-        let end = last.ino;
-        let until = rows
-            .len()
-            .saturating_sub(end.0.saturating_sub(number) as usize);
-        if until > 0 && rows[until - 1].number() == ino {
+        let above = last.number().0.saturating_sub(number);
+        let until = rows.len().saturating_sub(above as usize);
+        if is_behind(rows, ino, until) {
             return until;
         }
     }
-    rows.partition_point(|row| row.ino.0 <= number)
+    rows.partition_point(|row| row.number().0 <= number)
+}
+
+/// Returns whether the row before this position has this number.
+#[inline(always)]
+fn is_behind(rows: &[OrderRow], ino: Ino, at: usize) -> bool
+    requires { Rise rows.now }
+    ensures bound { result ≡ true → at ≤ length rows.now }
+    ensures up_to { result ≡ true → (i : ℕ) → i < at → (row_at rows.now i).ino ≤ ino }
+    ensures beyond { result ≡ true
+        → (i : ℕ) → at ≤ i → i < length rows.now → ino < (row_at rows.now i).ino }
+{
+    if at == 0 {
+        return false;
+    }
+    match rows.get(at - 1) {
+        Some(row) => row.number() == ino,
+        None => false,
+    }
 }
