@@ -197,38 +197,49 @@ module _ (packed rows : List OrderRowView) (read last : ℕ) (h : AreRows packed
 pub last_is : (front : List OrderRowView) (r : OrderRowView) (n at : ℕ) (x : IsLiveAt (front ++ r ∷ []) n at) → at ≡ length front → r ≡ record { ino = n; key = Some x.0 }
 last_is front r n at x e = sym (row_last front r) ∙ ap (row_at (front ++ r ∷ [])) (sym e) ∙ x.2
 
--- The last row is removed.
-module _ (packed front : List OrderRowView) (r : OrderRowView) (read last k : ℕ) (h : AreRows packed (front ++ r ∷ []) read last) (live : r.key ≡ Some k) where
-  last_live : IsLiveAt (front ++ r ∷ []) r.ino (length front)
-  last_live = (k, (let long = length_push front r in omega arith), row_last front r ∙ (λ i. record { ino = r.ino; key = live i }))
+-- The last row is removed: a live one, or a dead one that was not read.
+module _ (packed front : List OrderRowView) (r : OrderRowView) (read last : ℕ) (h : AreRows packed (front ++ r ∷ []) read last) where
+  long : length (front ++ r ∷ []) ≡ length front + 1
+  long = length_push front r
 
-  pub pop_keys : live_of (packed ++ front) ≡ map.remove (live_of (packed ++ (front ++ r ∷ []))) r.ino
-  pop_keys = same _ _ (λ q.
-      append_held packed front q ∙ by q (nat_eq q r.ino) refl
-      ∙ ap (cond (nat_eq q r.ino) None) (sym (append_held packed (front ++ r ∷ []) q ∙ ap (or_else (held packed q)) (push_held front r q)))
-      ∙ without_number (live_of (packed ++ (front ++ r ∷ []))) r.ino q) where
-        by : (q : ℕ) (b : Bool) → nat_eq q r.ino ≡ b → or_else (held packed q) (held front q) ≡ cond b None (or_else (held packed q) (or_else (held front q) (cond b r.key None)))
-        by q true e =
-            let s = eqb-true q r.ino e in
-            ap (λ o. or_else o (held front q)) (ap (held packed) s ∙ not_packed packed (front ++ r ∷ []) read last h r.ino (length front) last_live)
-            ∙ ap (held front) s ∙ nowhere front r.ino (λ i l e. let m = rise_last front r h.rows_rise i l in omega arith)
-        by q false e = ap (or_else (held packed q)) (sym (or_none (held front q)))
+  -- No row that was read is live.
+  pub live_unread : (k : ℕ) → r.key ≡ Some k → read ≤ length front
+  live_unread k live = elim (cases_lt (length front) read) [
+    | inl m ↦ absurd (none_some k (sym (ap (λ x. x.key) (sym (row_last front r)) ∙ h.dead (length front) m) ∙ live))
+    | inr m ↦ m
+  ]
 
-  pub pop_rows : AreRows packed front read last
-  pop_rows = record {
+  pub pop_rows : read ≤ length front → AreRows packed front read last
+  pop_rows unread = record {
     packed_rise = h.packed_rise;
     rows_rise = rise_front front r h.rows_rise;
     below = λ i j k li lj e. subst (λ (x : OrderRowView). (row_at packed i).ino < x.ino) (row_before front r j lj) (h.below i j k li (omega (arith, long)) (ap (λ x. x.key) (row_before front r j lj) ∙ e));
-    within = elim (cases_lt (length front) read) [
-      | inl m ↦ absurd (none_some k (sym (ap (λ x. x.key) (sym (row_last front r)) ∙ h.dead (length front) m) ∙ live))
-      | inr m ↦ m
-    ];
-    dead = λ j l. elim (cases_lt j (length front)) [
-      | inl m ↦ ap (λ x. x.key) (sym (row_before front r j m)) ∙ h.dead j l
-      | inr m ↦ absurd (none_some k (sym (ap (λ x. x.key) (sym (row_last front r)) ∙ h.dead (length front) (omega arith)) ∙ live))
-    ];
+    within = unread;
+    dead = λ j l. ap (λ x. x.key) (sym (row_before front r j (omega (arith, unread, l)))) ∙ h.dead j l;
     packed_up = h.packed_up;
     rows_up = λ i l. subst (λ (x : OrderRowView). x.ino ≤ last) (row_before front r i l) (h.rows_up i (omega (arith, long)));
-  } where
-    long : length (front ++ r ∷ []) ≡ length front + 1
-    long = length_push front r
+  }
+
+  pub pop_dead_keys : r.key ≡ None → live_of (packed ++ front) ≡ live_of (packed ++ (front ++ r ∷ []))
+  pop_dead_keys gone = same _ _ (λ q. append_held packed front q
+      ∙ ap (or_else (held packed q)) (sym (push_held front r q ∙ ap (or_else (held front q)) (by (nat_eq q r.ino)) ∙ or_none (held front q)))
+      ∙ sym (append_held packed (front ++ r ∷ []) q)) where
+        by : (b : Bool) → cond b r.key None ≡ None
+        by true = gone
+        by false = refl
+
+  module _ (k : ℕ) (live : r.key ≡ Some k) where
+    last_live : IsLiveAt (front ++ r ∷ []) r.ino (length front)
+    last_live = (k, omega (arith, long), row_last front r ∙ (λ i. record { ino = r.ino; key = live i }))
+
+    pub pop_keys : live_of (packed ++ front) ≡ map.remove (live_of (packed ++ (front ++ r ∷ []))) r.ino
+    pop_keys = same _ _ (λ q.
+        append_held packed front q ∙ by q (nat_eq q r.ino) refl
+        ∙ ap (cond (nat_eq q r.ino) None) (sym (append_held packed (front ++ r ∷ []) q ∙ ap (or_else (held packed q)) (push_held front r q)))
+        ∙ without_number (live_of (packed ++ (front ++ r ∷ []))) r.ino q) where
+          by : (q : ℕ) (b : Bool) → nat_eq q r.ino ≡ b → or_else (held packed q) (held front q) ≡ cond b None (or_else (held packed q) (or_else (held front q) (cond b r.key None)))
+          by q true e =
+              let s = eqb-true q r.ino e in
+              ap (λ o. or_else o (held front q)) (ap (held packed) s ∙ not_packed packed (front ++ r ∷ []) read last h r.ino (length front) last_live)
+              ∙ ap (held front) s ∙ nowhere front r.ino (λ i l e. let m = rise_last front r h.rows_rise i l in omega arith)
+          by q false e = ap (or_else (held packed q)) (sym (or_none (held front q)))

@@ -241,7 +241,9 @@ impl Order {
         match place_of(&self.packed, &self.rows, ino, at) {
             Some(Position::Unpacked(at)) => {
                 if at + 1 == self.rows.len() {
-                    return self.rows.take_last().key();
+                    let key = self.rows.take_last().key();
+                    self.pop_dead();
+                    return key;
                 }
                 self.dead = self.dead.saturating_add(1);
                 self.rows[at].take_key()
@@ -251,6 +253,19 @@ impl Order {
                 self.packed[at].take_key()
             }
             None => None,
+        }
+    }
+
+    /// Takes the last row away, if it is dead and no packing has read it.
+    #[inline(always)]
+    fn pop_dead(&mut self)
+        ensures keys { self.new.keys ≡ self.old.keys }
+        ensures last { self.new.last ≡ self.old.last }
+        ensures room { self.old.room ≤ self.new.room }
+    {
+        if self.read < self.rows.len() && !self.rows[self.rows.len() - 1].is_live() {
+            self.rows.take_last();
+            self.dead = self.dead.saturating_sub(1);
         }
     }
 
@@ -483,34 +498,35 @@ fn rows_up_to(rows: &[OrderRow], ino: Ino, at: usize) -> usize
     ensures up_to { (i : ℕ) → i < result → (row_at rows.now i).ino ≤ ino }
     ensures beyond { (i : ℕ) → result ≤ i → i < length rows.now → ino < (row_at rows.now i).ino }
 {
-    if is_behind(rows, ino, at) {
+    if is_between(rows, ino, at) {
         return at;
     }
     let number = ino.0;
     if let Some(last) = rows.last() {
         let above = last.number().0.saturating_sub(number);
         let until = rows.len().saturating_sub(above as usize);
-        if is_behind(rows, ino, until) {
+        if is_between(rows, ino, until) {
             return until;
         }
     }
     rows.partition_point(|row| row.number().0 <= number)
 }
 
-/// Returns whether the row before this position has this number.
+/// Returns whether the row before this position has a number up to this one, and the row at it one
+/// above, as far as there are such rows.
 #[inline(always)]
-fn is_behind(rows: &[OrderRow], ino: Ino, at: usize) -> bool
+fn is_between(rows: &[OrderRow], ino: Ino, at: usize) -> bool
     requires { Rise rows.now }
     ensures bound { result ≡ true → at ≤ length rows.now }
     ensures up_to { result ≡ true → (i : ℕ) → i < at → (row_at rows.now i).ino ≤ ino }
     ensures beyond { result ≡ true
         → (i : ℕ) → at ≤ i → i < length rows.now → ino < (row_at rows.now i).ino }
 {
-    if at == 0 {
+    if at > rows.len() {
         return false;
     }
-    match rows.get(at - 1) {
-        Some(row) => row.number() == ino,
-        None => false,
+    if at > 0 && ino < rows[at - 1].number() {
+        return false;
     }
+    at == rows.len() || ino < rows[at].number()
 }

@@ -4,7 +4,8 @@ use Rattle.std.specs.FinMap as map
 use Rattle.std.proofs.lemmas.List.{length_push}
 use Rattle.ordered_slab.specs.Rows.{live_of, AreRows, IsLiveAt}
 use Rattle.ordered_slab.proofs.Searches.{read_number, read_key}
-use Rattle.ordered_slab.proofs.Moves.{nothing_gone, waiting_key, packed_key, mark_waiting, mark_waiting_rows, mark_packed, mark_packed_rows, last_is, pop_keys, pop_rows}
+use Rattle.ordered_slab.proofs.Moves.{nothing_gone, waiting_key, packed_key, mark_waiting, mark_waiting_rows, mark_packed, mark_packed_rows, last_is, live_unread, pop_keys, pop_rows}
+use Rattle.ordered_slab.proofs.order.Order.remove.Goals.{After-key-key}
 use Rattle.ordered_slab.proofs.order.Order.remove.Goals as goal
 
 -- The number is nowhere.
@@ -14,35 +15,40 @@ returns-in-None-clause-keys c =
     nothing_gone c.args.self.now.keys c.args.ino (ap (λ a. map.get a.keys c.args.ino) (sym c.self.view_is) ∙ none)
 
 -- It is live in the last row.
-live_last : (c : goal.After-key) → IsLiveAt (c.take_last.new.self.items ++ c.take_last.result ∷ []) c.args.ino c.in-Some-Unpacked.at
+live_last : (c : After-key-key) → IsLiveAt (c.take_last.new.self.items ++ c.take_last.result ∷ []) c.args.ino c.in-Some-Unpacked.at
 live_last c = subst (λ rows. IsLiveAt rows c.args.ino c.in-Some-Unpacked.at) (c.deref-2.ensures.value ∙ c.take_last.ensures.items) (rw c.in-Some-Unpacked.field-0-is at c.in-Some-Unpacked.ensures.place)
 
 -- The row that was popped has this number and its key.
-last_row : (c : goal.After-key) → c.take_last.result ≡ record { ino = c.args.ino; key = Some (live_last c).0 }
+last_row : (c : After-key-key) → c.take_last.result ≡ record { ino = c.args.ino; key = Some (live_last c).0 }
 last_row c =
     let at : c.in-Some-Unpacked.at ≡ length c.take_last.new.self.items = omega (arith, ap length c.take_last.ensures.items, length_push c.take_last.new.self.items c.take_last.result) in
     last_is c.take_last.new.self.items c.take_last.result c.args.ino c.in-Some-Unpacked.at (live_last c) at
 
 -- The packed rows and the rows before the pop are in order, as the invariant says.
-whole : (c : goal.After-key) → AreRows c.self.inside.packed.items (c.take_last.new.self.items ++ c.take_last.result ∷ []) c.self.inside.read c.self.inside.last
+whole : (c : After-key-key) → AreRows c.self.inside.packed.items (c.take_last.new.self.items ++ c.take_last.result ∷ []) c.self.inside.read c.self.inside.last
 whole c = subst (λ rows. AreRows c.self.inside.packed.items rows c.self.inside.read c.self.inside.last) c.take_last.ensures.items c.self.invariant.0
 
 pub invariant_of-self : goal.invariant_of-self
 invariant_of-self c =
-    let popped = pop_rows c.self.inside.packed.items c.take_last.new.self.items c.take_last.result c.self.inside.read c.self.inside.last (live_last c).0 (whole c) (ap (λ r. r.key) (last_row c)) in
+    let live = ap (λ r. r.key) (last_row c) in
+    let unread = live_unread c.self.inside.packed.items c.take_last.new.self.items c.take_last.result c.self.inside.read c.self.inside.last (whole c) (live_last c).0 live in
+    let popped = pop_rows c.self.inside.packed.items c.take_last.new.self.items c.take_last.result c.self.inside.read c.self.inside.last (whole c) unread in
     (popped, c.self.invariant.1, search (rules, arith))
 
 pub returns-then-at-len-clause-value : goal.returns-then-at-len-clause-value
 returns-then-at-len-clause-value c =
-    c.key.ensures.key ∙ ap (λ r. r.key) (last_row c)
-    ∙ waiting_key c.self.inside.packed.items (c.take_last.new.self.items ++ c.take_last.result ∷ []) c.self.inside.read c.self.inside.last (whole c) c.args.ino c.in-Some-Unpacked.at (live_last c)
+    let at = (goal.at.returns-then-at-len-clause-value c).After-key-key in
+    c.key-key.ensures.key ∙ ap (λ r. r.key) (last_row at)
+    ∙ waiting_key c.self.inside.packed.items (c.take_last.new.self.items ++ c.take_last.result ∷ []) c.self.inside.read c.self.inside.last (whole at) c.args.ino c.in-Some-Unpacked.at (live_last at)
     ∙ ap (λ rows. map.get (live_of (c.self.inside.packed.items ++ rows)) c.args.ino) (sym c.take_last.ensures.items)
     ∙ ap (λ a. map.get a.keys c.args.ino) c.self.view_is
 
 pub returns-then-at-len-clause-keys : goal.returns-then-at-len-clause-keys
 returns-then-at-len-clause-keys c =
-    pop_keys c.self.inside.packed.items c.take_last.new.self.items c.take_last.result c.self.inside.read c.self.inside.last (live_last c).0 (whole c) (ap (λ r. r.key) (last_row c))
-    ∙ ap (map.remove _) (ap (λ r. r.ino) (last_row c))
+    let at = (goal.at.returns-then-at-len-clause-keys c).After-key-key in
+    c.pop_dead.ensures.keys
+    ∙ pop_keys c.self.inside.packed.items c.take_last.new.self.items c.take_last.result c.self.inside.read c.self.inside.last (whole at) (live_last at).0 (ap (λ r. r.key) (last_row at))
+    ∙ ap (map.remove _) (ap (λ r. r.ino) (last_row at))
     ∙ ap (λ rows. map.remove (live_of (c.self.inside.packed.items ++ rows)) c.args.ino) (sym c.take_last.ensures.items)
     ∙ ap (λ a. map.remove a.keys c.args.ino) c.self.view_is
 
