@@ -27,7 +27,7 @@ pub struct Collector {
     /// The holdings when the pass began: for contracts alone.
     pub begun: Snapshot<Holdings>,
     pub progress: PassProgress,
-    /// The position in the order of the file that a pass visited or swept last: a hint.
+    /// The position in the order behind the file that a pass visited or swept last: a hint.
     pub order_hint: usize,
 }
 

@@ -31,6 +31,7 @@ impl Collector {
     {
         self.begun = Snapshot::of(&self.places);
         self.places.start_epoch();
+        self.order_hint = 0;
         self.progress = PassProgress {
             stage: Stage::Marking,
             visited: 0,
@@ -137,6 +138,7 @@ impl Collector {
         if self.scan() {
             return 1;
         }
+        self.order_hint = 0;
         self.progress.visited = self.places.files().bound().0;
         self.progress.stage = Stage::Sweeping;
         0
