@@ -1,5 +1,6 @@
 //! The likely index of a process, by its pid.
 ghost use Rattle.std.specs.Prelude.{◌≡◌, nat_eq, slice_get, Some, None, IfSome, IfNone};
+ghost use Rattle.std.specs.Prelude.{option_copied};
 ghost use Rattle.indexmap.specs.IndexMap.{keys, get};
 
 use crate::process::Process;
@@ -29,21 +30,19 @@ impl Hints {
         self.places[pid.0 as usize % HINTS] = index;
     }
 
-    /// Returns the index of the process of this pid, if it is known. Asks the map only if another
-    /// process is at the hint.
+    /// Returns the process of this pid, if it is known. Asks the map only if another process is at
+    /// the hint.
     #[inline(always)]
-    pub fn index_of(&self, processes: &IndexMap<Pid, Process>, pid: Pid) -> Option<usize>
-        ensures there { IfSome result (λ i. slice_get (keys processes.now) i ≡ Some pid) }
-        ensures none { IfNone result (get nat_eq processes.now pid ≡ None) }
+    pub fn get<'a>(&self, processes: &'a IndexMap<Pid, Process>, pid: Pid) -> Option<&'a Process>
+        ensures { option_copied result ≡ get nat_eq processes.now pid }
     {
-        let hint = self.places[pid.0 as usize % HINTS];
-        match processes.get_index(hint) {
-            Some((there, _)) if *there == pid => Some(hint),
+        match processes.get_index(self.places[pid.0 as usize % HINTS]) {
+            Some((there, process)) if *there == pid => Some(process),
             _ => search(processes, pid),
         }
     }
 
-    /// Returns the same, and keeps the map's answer, so that the next look-up need not ask it.
+    /// Returns its index, and keeps the map's answer, so that the next look-up need not ask it.
     #[inline(always)]
     pub fn find(&mut self, processes: &IndexMap<Pid, Process>, pid: Pid) -> Option<usize>
         ensures there { IfSome result (λ i. slice_get (keys processes.now) i ≡ Some pid) }
@@ -53,7 +52,7 @@ impl Hints {
         match processes.get_index(hint) {
             Some((there, _)) if *there == pid => Some(hint),
             _ => {
-                let index = search(processes, pid)?;
+                let index = search_index(processes, pid)?;
                 self.set(pid, index);
                 Some(index)
             }
@@ -61,10 +60,19 @@ impl Hints {
     }
 }
 
-/// Asks the map for the index of the process of this pid, apart from the way of most events.
+/// Asks the map for the process of this pid, apart from the way of most events.
 #[cold]
 #[inline(never)]
-fn search(processes: &IndexMap<Pid, Process>, pid: Pid) -> Option<usize>
+fn search(processes: &IndexMap<Pid, Process>, pid: Pid) -> Option<&Process>
+    ensures { option_copied result ≡ get nat_eq processes.now pid }
+{
+    processes.get(&pid)
+}
+
+/// Asks the map for its index.
+#[cold]
+#[inline(never)]
+fn search_index(processes: &IndexMap<Pid, Process>, pid: Pid) -> Option<usize>
     ensures there { IfSome result (λ i. slice_get (keys processes.now) i ≡ Some pid) }
     ensures none { IfNone result (get nat_eq processes.now pid ≡ None) }
 {

@@ -89,9 +89,7 @@ impl Procs {
         ensures row { IfSome result (λ p. map.get self.now.rows pid ≡ Some p.now.row) }
         ensures none { IfNone result (map.get self.now.processes pid ≡ None) }
     {
-        let index = self.hints.index_of(&self.processes, pid)?;
-        let (_, process) = self.processes.get_index(index).unwrap();
-        Some(process)
+        self.hints.get(&self.processes, pid)
     }
 
     /// Lends the process of that pid to write to, if it is known.
