@@ -52,7 +52,7 @@ impl Bits {
     }
 
     /// Returns the least number from `from` on and below `end` that is in the set, or that is not.
-    /// Looks at each word once, but for the first, and at none beyond.
+    /// Looks at each word once, and at none beyond.
     #[inline(always)]
     pub fn next(&self, from: u32, end: u32, taken: bool) -> Option<u32>
         requires { end ≤ MAX_NOFILE }
@@ -64,16 +64,15 @@ impl Bits {
         ensures none { IfNone result
             ((q : ℕ) → from ≤ q → q < end → is_taken self.now.words q ≡ not taken) }
     {
-        // Most tables have no gaps: a walk over what is taken finds the very number.
-        if taken && from < end && self.has(from) {
-            return Some(from);
-        }
-        for i in from / u64::BITS..end.div_ceil(u64::BITS) {
-            let word = self.words[i as usize];
-            if let Some(bit) = place_from(word, from.saturating_sub(u64::BITS * i), taken) {
+        let mut i = from / u64::BITS;
+        let mut low = from % u64::BITS;
+        while u64::BITS * i < end {
+            if let Some(bit) = place_from(self.words[i as usize], low, taken) {
                 let n = u64::BITS * i + bit;
                 return if n < end { Some(n) } else { None };
             }
+            i += 1;
+            low = 0;
         }
         None
     }
