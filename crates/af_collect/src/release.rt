@@ -29,15 +29,10 @@ impl Holdings {
         ensures some { IsTrue result → 0 < length (queue_at self.old.world file.now) }
         ensures none { result ≡ false → queue_at self.old.world file.now ≡ [] }
     {
-        let Some(message) = self.files.pop(file) else {
+        let Some((attached, user)) = self.files.pop(file) else {
             return false;
         };
-        uncharge_message(
-            &mut self.files,
-            &mut self.ledger,
-            message.user(),
-            message.attached(),
-        );
+        uncharge_message(&mut self.files, &mut self.ledger, user, attached.as_slice());
         true
     }
 

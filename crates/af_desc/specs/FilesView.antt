@@ -1,12 +1,12 @@
 -- Files under numbers that are never used again. Definitions that name no manual page are this
 -- project's own.
-use Rattle.std.specs.Prelude.{◌≡◌, ◌↔◌, ◌&&◌, ◌<◌, ◌≤◌, ℕ, ◌+◌, ◌-◌, ◌^◌, Bool, List, None, Option, Some, drop, false, is_some, nat_lt, unwrap_or, if◌then◌else◌}
+use Rattle.std.specs.Prelude.{◌∷◌, ◌≡◌, ◌↔◌, ◌&&◌, ◌<◌, ◌≤◌, ℕ, ◌+◌, ◌-◌, ◌^◌, Bool, List, None, Option, Some, drop, false, is_some, nat_lt, unwrap_or, if◌then◌else◌}
 use Rattle.std.specs.Option.{option_and_then}
 use Rattle.af_base.specs.declared.events.SockType.{SockType}
 use Rattle.std.specs.FinMap as map
 use Rattle.af_base.specs.declared.events.State.{State}
 use Rattle.af_base.specs.declared.events.State.TheVariants as state
-use Rattle.af_base.specs.World.{AsSocket, File, Map, Since, Socket}
+use Rattle.af_base.specs.World.{AsSocket, File, Map, Message, Since, Socket}
 use Rattle.af_base.specs.Changes.{change_socket_at}
 use Rattle.af_base.specs.Counts.{total_of}
 use Rattle.af_base.specs.Refusals.{is_full_of, no_socket, socket_of}
@@ -94,6 +94,10 @@ hung_up s = record s { state = state.HungUp }
 -- A socket whose first message is out of its queue (recvmsg(2)).
 abbrev pub popped : Socket → Socket
 popped s = record s { queue = drop 1 s.queue }
+
+-- These files and this user are those of the first message of a queue.
+abbrev pub IsFirst : List ℕ → ℕ → List Message → Type 0
+IsFirst files user queue = (bytes : List ℕ) × (queue ≡ record { bytes = bytes; attached = files; user = user } ∷ drop 1 queue)
 
 -- The socket of this number among these files.
 abbrev pub socket_in : Map File → ℕ → Option Socket

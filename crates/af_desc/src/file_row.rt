@@ -1,22 +1,22 @@
 //! The row of one file.
-ghost use Rattle.std.specs.Prelude.{◌≡◌, ◌<◌, ◌∷◌, [], ℕ, IfSome, IfNone, IfOk, OnOk, OnErr, drop};
+ghost use Rattle.std.specs.Prelude.{◌≡◌, ◌<◌, [], ℕ, IfSome, IfNone, IfOk, OnOk, OnErr};
 ghost use Rattle.std.specs.Prelude.{None, length, nat_lt, true};
 ghost use Rattle.af_base.specs.Changes.{file_with, pushed};
 ghost use Rattle.af_base.specs.Places.{contents, queue_of};
 ghost use Rattle.af_base.specs.Refusals.{socket_of};
 ghost use Rattle.af_base.specs.Whole.{IsMessageWithin};
 ghost use Rattle.af_queue.specs.Chains.{has_room, IsChain, SameElsewhere};
-ghost use Rattle.af_desc.specs.FilesView.{name_of, popped, received_from, received_of};
+ghost use Rattle.af_desc.specs.FilesView.{IsFirst, name_of, popped, received_from, received_of};
 ghost use Rattle.af_desc.specs.Holding.{IsContents};
 ghost use Rattle.af_desc.specs.TrackedTableView.{file_in};
 
 use crate::contents::Contents;
 use crate::socket::Endpoint;
-use af_base::ids::Ino;
+use af_base::ids::{Ino, Uid};
 use af_base::limits::MAX_MESSAGES;
 use af_ledger::Count;
 use af_mark::Mark;
-use af_queue::{Chain, Msg, Node, Queue, Taken, pool};
+use af_queue::{Attached, Chain, Msg, Node, Queue, Taken, pool};
 use slab::Slab;
 use std::alloc::{AllocError, Global};
 
@@ -128,12 +128,13 @@ impl FileRow {
         }
     }
 
-    /// Removes the first message from its queue, if there is one. Takes no memory.
+    /// Removes the first message from its queue, if there is one. Returns its files, and the user
+    /// who is charged for them. Takes no memory.
     #[inline(always)]
-    pub fn pop(&mut self, nodes: &mut Slab<Node>, owner: Ino) -> Option<Msg>
+    pub fn pop(&mut self, nodes: &mut Slab<Node>, owner: Ino) -> Option<(Attached, Uid)>
         requires chain { IsChain nodes.old self.old.chain owner }
-        ensures some { IfSome result (λ m. queue_of (file_in nodes.old self.old)
-            ≡ m ∷ drop 1 (queue_of (file_in nodes.old self.old))) }
+        ensures some { IfSome result (λ first.
+            IsFirst first.0.items first.1 (queue_of (file_in nodes.old self.old))) }
         ensures none { IfNone result (queue_of (file_in nodes.old self.old) ≡ []) }
         ensures file { file_in nodes.new self.new ≡ file_with popped (file_in nodes.old self.old) }
         ensures chain { IsChain nodes.new self.new.chain owner }
@@ -143,7 +144,8 @@ impl FileRow {
         let Some(_) = &self.endpoint else {
             return None;
         };
-        pool::pop(nodes, &mut self.chain, owner)
+        let message = pool::pop(nodes, &mut self.chain, owner)?;
+        Some(message.into_parts())
     }
 
     /// Takes from its queue what a receive of at most this many bytes gives (recvmsg(2)); nothing

@@ -11,8 +11,8 @@ ghost use Rattle.af_base.specs.Whole.{IsMessageWithin};
 ghost use Rattle.af_ledger.specs.Counted.{fewer, more, places_in, IsCountable, IsCounted};
 ghost use Rattle.af_ledger.specs.Tally.{count_in_map};
 ghost use Rattle.af_ledger.specs.declared.place.Place.TheVariants.{Backlog, Table};
-ghost use Rattle.af_desc.specs.FilesView.{hung_up, name_in, popped, received_from, received_of};
-ghost use Rattle.af_desc.specs.FilesView.{socket_in};
+ghost use Rattle.af_desc.specs.FilesView.{IsFirst, hung_up, name_in, popped, received_from};
+ghost use Rattle.af_desc.specs.FilesView.{received_of, socket_in};
 ghost use Rattle.af_desc.specs.FileTableView.{with_entry, with_socket, with_socket_and_room};
 ghost use Rattle.af_desc.specs.FileTableView.{without_entry};
 ghost use Rattle.af_desc.specs.Holding.{IsContents};
@@ -22,12 +22,12 @@ ghost use Rattle.af_mark.specs.Grey.{black_mark, grey_mark};
 use crate::contents::Contents;
 use crate::file_row::FileRow;
 use crate::socket::{Endpoint, Socket};
-use af_base::ids::{FileRef, Ino};
+use af_base::ids::{FileRef, Ino, Uid};
 use af_base::items::Bytes;
 use af_base::limits::{MAX_INO, MAX_MESSAGES};
 use af_ledger::{Count, Place};
 use af_mark::{Color, Mark};
-use af_queue::{Chain, Msg, Node, Queue, Taken, pool};
+use af_queue::{Attached, Chain, Msg, Node, Queue, Taken, pool};
 use ordered_slab::OrderedSlab;
 use slab::Slab;
 use std::alloc::{AllocError, Global};
@@ -329,12 +329,13 @@ impl FileTable {
         }
     }
 
-    /// Removes the first message from the queue of that socket, if there is one. Takes no memory.
+    /// Removes the first message from the queue of that socket, if there is one. Returns its files,
+    /// and the user who is charged for them. Takes no memory.
     #[inline(always)]
     #[tactic(auto, using(crate::proofs::TrackedTableView::messages, ordered_slab::proofs::Parts::parts))]
-    pub fn pop_message(&mut self, file: &FileRef) -> Option<Msg>
-        ensures some { IfSome result (λ m.
-            queue_in self.old.files file.now ≡ m ∷ drop 1 (queue_in self.old.files file.now)) }
+    pub fn pop_message(&mut self, file: &FileRef) -> Option<(Attached, Uid)>
+        ensures some { IfSome result (λ first.
+            IsFirst first.0.items first.1 (queue_in self.old.files file.now)) }
         ensures none { IfNone result (queue_in self.old.files file.now ≡ []) }
         ensures rest { self.new
             ≡ with_socket_and_room self.old file.now popped self.new.message_room }

@@ -14,7 +14,7 @@ ghost use Rattle.af_base.specs.World.{untold};
 ghost use Rattle.af_mark.specs.MarksView.{is_grey, is_unmarked};
 ghost use Rattle.af_desc.specs.TrackedTableView.{file_of};
 ghost use Rattle.af_base.specs.Told.{AreChanged, AreReleased};
-ghost use Rattle.af_desc.specs.FilesView.{AreNamed, after_end, changed, changed_queue, entered};
+ghost use Rattle.af_desc.specs.FilesView.{AreNamed, IsFirst, after_end, changed, changed_queue, entered};
 ghost use Rattle.af_desc.specs.FilesView.{freed, is_full, is_live, is_unmarked_socket, name_of};
 ghost use Rattle.af_desc.specs.FilesView.{paired, popped, received_from, received_of, socket_in};
 ghost use Rattle.af_desc.specs.FilesView.{without};
@@ -24,12 +24,12 @@ use crate::socket::{Endpoint, Socket};
 use crate::tracked_table::{TrackedTable, widen};
 use af_base::events::SockType;
 use af_base::file_list::swap_remove_file;
-use af_base::ids::{FileRef, Ino};
+use af_base::ids::{FileRef, Ino, Uid};
 use af_base::items::Items;
 use af_base::limits::{MAX_FILES, MAX_INO, MAX_MESSAGES};
 use af_ledger::Place;
 use af_listen::Names;
-use af_queue::{Msg, Taken};
+use af_queue::{Attached, Msg, Taken};
 use std::alloc::{AllocError, Global};
 use std::marker::Model;
 
@@ -336,11 +336,12 @@ impl Files {
         self.rows.take(file, self.alloc, max)
     }
 
-    /// Removes the first message from the queue of that socket, if there is one. Takes no memory.
+    /// Removes the first message from the queue of that socket, if there is one. Returns its files,
+    /// and the user who is charged for them. Takes no memory.
     #[inline(always)]
-    pub fn pop(&mut self, file: &FileRef) -> Option<Msg>
-        ensures some { IfSome result (λ m.
-            queue_in self.old.files file.now ≡ m ∷ drop 1 (queue_in self.old.files file.now)) }
+    pub fn pop(&mut self, file: &FileRef) -> Option<(Attached, Uid)>
+        ensures some { IfSome result (λ first.
+            IsFirst first.0.items first.1 (queue_in self.old.files file.now)) }
         ensures none { IfNone result (queue_in self.old.files file.now ≡ []) }
         ensures rest { self.new ≡ changed_queue popped file.now self.new.message_room self.old }
     {

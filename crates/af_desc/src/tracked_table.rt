@@ -14,8 +14,8 @@ ghost use Rattle.af_ledger.specs.Counted.{fewer, more, places_in, IsCountable, I
 ghost use Rattle.af_ledger.specs.Tally.{count_in_map};
 ghost use Rattle.af_ledger.specs.declared.place.Place.TheVariants.{Backlog, Table};
 ghost use Rattle.af_mark.specs.Grey.{black_mark, grey_mark};
-ghost use Rattle.af_desc.specs.FilesView.{hung_up, name_in, popped, received_from, received_of};
-ghost use Rattle.af_desc.specs.FilesView.{socket_in};
+ghost use Rattle.af_desc.specs.FilesView.{IsFirst, hung_up, name_in, popped, received_from};
+ghost use Rattle.af_desc.specs.FilesView.{received_of, socket_in};
 ghost use Rattle.af_desc.specs.Holding.{IsContents};
 ghost use Rattle.af_desc.specs.TrackedTableView.{file_of, is_due, is_white_in, with_row};
 ghost use Rattle.af_desc.specs.TrackedTableView.{with_socket, with_socket_and_room, without_row};
@@ -26,12 +26,12 @@ use crate::contents::Contents;
 use crate::file_table::FileTable;
 use crate::socket::Endpoint;
 use af_base::file_list::swap_remove_file;
-use af_base::ids::{FileRef, Ino};
+use af_base::ids::{FileRef, Ino, Uid};
 use af_base::items::Bytes;
 use af_base::limits::{MAX_INO, MAX_MESSAGES};
 use af_ledger::Place;
 use af_mark::{Mark, clamp_index};
-use af_queue::{Msg, Taken};
+use af_queue::{Attached, Msg, Taken};
 use std::alloc::{AllocError, Global};
 use std::marker::Model;
 use std::snapshot::Snapshot;
@@ -327,18 +327,19 @@ impl TrackedTable {
         self.table.push_message(file, message);
     }
 
-    /// Removes the first message from the queue of that socket, if there is one. Takes no memory.
+    /// Removes the first message from the queue of that socket, if there is one. Returns its files,
+    /// and the user who is charged for them. Takes no memory.
     #[inline(always)]
-    pub fn pop_message(&mut self, file: &FileRef) -> Option<Msg>
-        ensures some { IfSome result (λ m.
-            queue_in self.old.files file.now ≡ m ∷ drop 1 (queue_in self.old.files file.now)) }
+    pub fn pop_message(&mut self, file: &FileRef) -> Option<(Attached, Uid)>
+        ensures some { IfSome result (λ first.
+            IsFirst first.0.items first.1 (queue_in self.old.files file.now)) }
         ensures none { IfNone result (queue_in self.old.files file.now ≡ []) }
         ensures rest { self.new
             ≡ with_socket_and_room self.old file.now popped self.new.message_room }
     {
-        let message = self.table.pop_message(file)?;
+        let first = self.table.pop_message(file)?;
         add_dirty(self.tells_changed, &mut self.table, &mut self.changed, file);
-        Some(message)
+        Some(first)
     }
 
     /// Takes from the queue of that socket what a receive of at most this many bytes gives

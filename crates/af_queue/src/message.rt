@@ -128,7 +128,8 @@ impl Msg {
     }
 
     /// Returns its attached files, and the user who is charged for them. Takes no memory.
-    pub(crate) fn into_parts(self) -> (Attached, Uid)
+    #[inline(always)]
+    pub fn into_parts(self) -> (Attached, Uid)
         ensures files { result.0.items ≡ self.attached }
         ensures bound { small_vec_len result.0 ≤ SCM_MAX_FD }
         ensures user { result.1 ≡ self.user }

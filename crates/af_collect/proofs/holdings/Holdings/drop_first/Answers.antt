@@ -2,6 +2,7 @@ use Rattle.std.proofs.Common.{◌≡◌, [], drop, refl, sym, ap, ◌∙◌, sub
 use Rattle.std.specs.Map.{keys_of}
 use Rattle.af_base.specs.Places.{queue_at}
 use Rattle.af_base.specs.Changes.{with_queue, with_socket}
+use Rattle.af_base.specs.World.{Message}
 use Rattle.af_desc.specs.FilesView.{FilesView, popped}
 use Rattle.af_ledger.specs.Tally.{CanDropAll, kept_of, without_refs}
 use Rattle.af_ledger.specs.declared.place.Place.TheVariants.{Queue}
@@ -24,32 +25,34 @@ invariant_of-self c =
 
 pub uncharge_message-requires : goal.uncharge_message-requires
 uncharge_message-requires c =
-    let w = (the_view c.self.inside).world in
-    let m = c.in-Some.message in
-    let rest = drop 1 (queue_at w c.args.file.now) in
-    let x = first-shed w c.args.file.now m rest c.self.invariant.within c.in-Some.ensures.some in
-    let can = can-drop-all w c.args.file.now m rest x.0 (kept_of c.self.inside.files.counts c.self.inside.ledger) x.1 x.2 c.self.invariant.agrees in
-    subst (λ (v : FilesView). CanDropAll c.user.result c.attached.result.now (kept_of v.counts c.self.inside.ledger)) (sym c.pop.ensures.rest)
-    (subst (λ u. CanDropAll u c.attached.result.now (kept_of c.self.inside.files.counts c.self.inside.ledger)) (sym c.user.ensures) (subst (λ fs. CanDropAll m.user fs (kept_of c.self.inside.files.counts c.self.inside.ledger)) (sym c.attached.ensures.value) can))
+    let h = c.self.inside in
+    let w = (the_view h).world in
+    let first = c.in-Some.ensures.some in
+    let user = c.in-Some.user in
+    let m : Message = record { bytes = first.0; attached = c.in-Some.attached.items; user = user } in
+    let x = first-shed w c.args.file.now m (drop 1 (queue_at w c.args.file.now)) c.self.invariant.within first.1 in
+    let can = can-drop-all w c.args.file.now m (drop 1 (queue_at w c.args.file.now)) x.0 (kept_of h.files.counts h.ledger) x.1 x.2 c.self.invariant.agrees in
+    subst (λ (v : FilesView). CanDropAll user c.as_slice.result.now (kept_of v.counts h.ledger)) (sym c.pop.ensures.rest)
+    (subst (λ fs. CanDropAll user fs (kept_of h.files.counts h.ledger)) (sym c.as_slice.ensures) can)
 
 -- The ledger afterwards.
-dropped : (c : goal.Joined-message) → kept_of c.uncharge_message.new.files.counts c.uncharge_message.new.ledger ≡ without_refs (Queue c.in-Some.message.user) c.in-Some.message.attached (kept_of c.self.inside.files.counts c.self.inside.ledger)
-dropped c = c.uncharge_message.ensures.kept ∙ (λ i. without_refs (Queue (c.user.ensures i)) (c.attached.ensures.value i) (kept_of (c.pop.ensures.rest i).counts c.self.inside.ledger))
+dropped : (c : goal.Joined-attached) → kept_of c.uncharge_message.new.files.counts c.uncharge_message.new.ledger ≡ without_refs (Queue c.in-Some.user) c.in-Some.attached.items (kept_of c.self.inside.files.counts c.self.inside.ledger)
+dropped c = c.uncharge_message.ensures.kept ∙ (λ i. without_refs (Queue c.in-Some.user) (c.as_slice.ensures i) (kept_of (c.pop.ensures.rest i).counts c.self.inside.ledger))
 
 -- The world afterwards.
-shed : (c : goal.Joined-message) → (the_view (record c.self.inside { files = c.uncharge_message.new.files; ledger = c.uncharge_message.new.ledger })).world ≡ with_queue (the_view c.self.inside).world c.args.file.now (drop 1 (queue_at (the_view c.self.inside).world c.args.file.now))
+shed : (c : goal.Joined-attached) → (the_view (record c.self.inside { files = c.uncharge_message.new.files; ledger = c.uncharge_message.new.ledger })).world ≡ with_queue (the_view c.self.inside).world c.args.file.now (drop 1 (queue_at (the_view c.self.inside).world c.args.file.now))
 shed c =
     let w = (the_view c.self.inside).world in
-    let m = c.in-Some.message in
     let rest = c.uncharge_message.ensures.rest ∙ ap {A = FilesView} {B = FilesView} (λ v. record v { counts = c.uncharge_message.new.files.counts }) c.pop.ensures.rest in
-    world-is _ (with_socket w c.args.file.now popped) refl (ap (λ v. v.files) rest) (ap (λ v. v.next) rest) refl (ap (λ k. keys_of k.users) (dropped c) ∙ users-dropped_all m.user m.attached (kept_of c.self.inside.files.counts c.self.inside.ledger)) ∙ popped_queue w c.args.file.now
+    world-is _ (with_socket w c.args.file.now popped) refl (ap (λ v. v.files) rest) (ap (λ v. v.next) rest) refl (ap (λ k. keys_of k.users) (dropped c) ∙ users-dropped_all c.in-Some.user c.in-Some.attached.items (kept_of c.self.inside.files.counts c.self.inside.ledger)) ∙ popped_queue w c.args.file.now
 
 pub invariant_of-self-2 : goal.invariant_of-self-2
 invariant_of-self-2 c =
     let w = (the_view c.self.inside).world in
-    let m = c.in-Some.message in
+    let first = c.in-Some.ensures.some in
+    let m : Message = record { bytes = first.0; attached = c.in-Some.attached.items; user = c.in-Some.user } in
     let rest = drop 1 (queue_at w c.args.file.now) in
-    let x = first-shed w c.args.file.now m rest c.self.invariant.within c.in-Some.ensures.some in
+    let x = first-shed w c.args.file.now m rest c.self.invariant.within first.1 in
     exact-same _ _ _ _ (shed c) (dropped c) (exact-shed w c.args.file.now m rest x.0 (kept_of c.self.inside.files.counts c.self.inside.ledger) x.1 x.2 c.self.invariant)
 
 pub returns-clause-world : goal.returns-clause-world

@@ -7,7 +7,7 @@ use Rattle.af_desc.proofs.tracked_table.TrackedTable.pop_message.Goals as goal
 pub invariant_of-self : goal.invariant_of-self
 invariant_of-self c =
     let kept = room-kept c.self.inside.table c.pop_message.new.self _ _ (ap rooms c.pop_message.ensures.rest) (c.self.invariant.2, c.self.invariant.3) in
-    (told-silent c.self.inside.table c.pop_message.new.self _ _ _ _ _ _ c.args.file.now _ c.self.invariant.0 c.in_err-message.ensures.none c.pop_message.ensures.rest, c.self.invariant.1, kept.0, kept.1)
+    (told-silent c.self.inside.table c.pop_message.new.self _ _ _ _ _ _ c.args.file.now _ c.self.invariant.0 c.in_err-first.ensures.none c.pop_message.ensures.rest, c.self.invariant.1, kept.0, kept.1)
 
 pub invariant_of-self-2 : goal.invariant_of-self-2
 invariant_of-self-2 c =
