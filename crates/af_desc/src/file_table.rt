@@ -188,21 +188,6 @@ impl FileTable {
         Some(&row.count)
     }
 
-    /// Sets the hint of a new socket to the key of its peer.
-    #[inline(always)]
-    #[tactic(auto, using(crate::proofs::TrackedTableView::rows, ordered_slab::proofs::Parts::parts))]
-    pub fn set_peer_hint(&mut self, file: &FileRef, peer: &FileRef)
-        ensures { self.new ≡ self.old }
-    {
-        let Some(row) = self.rows.get_mut(file) else {
-            return;
-        };
-        let Some(endpoint) = &mut row.endpoint else {
-            return;
-        };
-        endpoint.set_peer_hint(peer);
-    }
-
     /// Marks the peer of that socket as gone.
     #[inline(always)]
     #[tactic(auto, using(crate::proofs::TrackedTableView::rows, ordered_slab::proofs::Parts::parts))]

@@ -229,15 +229,13 @@ impl Files {
         ensures err { OnErr result (self.new ≡ self.old) }
     {
         reserve(&mut self.rows, &mut self.unreferenced, &mut self.grey, 2)?;
-        let (lower, higher) = (Ino(self.next), Ino(self.next + 1));
-        // The key of the second is set once its row exists.
-        let endpoint = Endpoint::new_connected(kind, &FileRef::new(higher, 0));
-        let first = self.rows.push(lower, Some(endpoint), place);
+        let idle = Endpoint::new_idle(kind);
+        let first = self.rows.push(Ino(self.next), Some(idle), place);
         self.embryos = with_embryo(self.embryos, place);
         let endpoint = Endpoint::new_connected(kind, &first);
-        let second = self.rows.push(higher, Some(endpoint), place);
+        let second = self.rows.push(Ino(self.next + 1), Some(endpoint), place);
         self.embryos = with_embryo(self.embryos, place);
-        self.rows.set_peer_hint(&first, &second);
+        self.rows.connect(&first, &second);
         self.next += 2;
         Ok((first, second))
     }

@@ -205,17 +205,6 @@ impl Endpoint {
         named_parts.backlog.dequeue()
     }
 
-    /// Sets the hint of the peer's key. No contract sees it.
-    pub fn set_peer_hint(&mut self, peer: &FileRef)
-        ensures { self.new ≡ self.old }
-    {
-        if let Link::Connected(known) = &mut self.link
-            && known.ino() == peer.ino()
-        {
-            *known = peer.duplicate();
-        }
-    }
-
     /// Marks the peer as gone.
     pub fn hang_up(&mut self)
         ensures { self.new ≡ hung_up self.old }

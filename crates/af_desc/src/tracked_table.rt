@@ -239,14 +239,6 @@ impl TrackedTable {
         self.table.remove(file, epoch)
     }
 
-    /// Sets the hint of a new socket to the key of its peer.
-    #[inline(always)]
-    pub fn set_peer_hint(&mut self, file: &FileRef, peer: &FileRef)
-        ensures { self.new ≡ self.old }
-    {
-        self.table.set_peer_hint(file, peer);
-    }
-
     /// Marks the peer of that socket as gone.
     #[inline(always)]
     pub fn hang_up(&mut self, file: &FileRef)
