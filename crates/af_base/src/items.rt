@@ -1,5 +1,5 @@
 //! A list that a clause sees as its list.
-ghost use Rattle.std.specs.Prelude.{◌≡◌, ◌↔◌, ◌+◌, ◌≤◌, IfOk, IsTrue, [], drop, length, take};
+ghost use Rattle.std.specs.Prelude.{◌≡◌, ◌↔◌, ◌+◌, ◌≤◌, ◌∷◌, ◌++◌, IfOk, IsTrue, OnErr, OnOk, [], drop, length, take};
 
 use crate::ids::Fd;
 use smallvec::SmallVec;
@@ -86,6 +86,38 @@ impl<T: MadeWith<Global> + Copy, const N: usize> Items<T, N> {
     {
         let Items { items } = self;
         items.into_vec().map_err(|_| AllocError)
+    }
+
+    /// Makes an empty list. Takes no memory.
+    #[inline(always)]
+    pub fn new(alloc: Global) -> Items<T, N>
+        ensures { result ≡ [] }
+    {
+        Items {
+            items: SmallVec::new(alloc),
+        }
+    }
+
+    /// Appends an item. Takes memory only if it does not fit.
+    #[inline(always)]
+    pub fn push(&mut self, item: T) -> Result<(), AllocError>
+        ensures ok { OnOk result (self.new ≡ self.old ++ item ∷ []) }
+        ensures err { OnErr result (self.new ≡ self.old) }
+    {
+        if self.items.len() == self.items.capacity() {
+            self.items.reserve(1)?;
+        }
+        self.items.push_reserved(item);
+        Ok(())
+    }
+
+    /// Appends copies of these items. Takes memory only if they do not fit.
+    #[inline(always)]
+    pub fn extend_from_slice(&mut self, items: &[T]) -> Result<(), AllocError>
+        ensures ok { OnOk result (self.new ≡ self.old ++ items.now) }
+        ensures err { OnErr result (self.new ≡ self.old) }
+    {
+        self.items.extend_from_slice(items)
     }
 
     /// Keeps this many items from that position on, and drops the others. Takes no memory.

@@ -24,6 +24,7 @@ ghost use Rattle.af_ledger.specs.Counted.{places_in, IsCounted};
 ghost use Rattle.af_ledger.specs.Tally.{count_in_map};
 ghost use Rattle.af_ledger.specs.declared.place.Place.TheVariants.{Table};
 ghost use Rattle.af_mark.specs.MarksView.{is_unmarked};
+ghost use Rattle.af_queue.specs.TakenView.{nothing_received};
 
 use crate::messages::{charge_message, uncharge_message};
 use crate::progress::{PassProgress, Stage};
@@ -198,19 +199,21 @@ impl Store {
         places.files.push(socket, message);
     }
 
-    /// Takes from a queue what a receive of at most `max` bytes gives (recvmsg(2)): installs its
-    /// first files at these descriptors, the lowest free ones, and drops all its places in the
-    /// queue. Takes memory before any change: on an error nothing has changed.
+    /// Takes from a queue, into an empty result, what a receive of at most `max` bytes gives
+    /// (recvmsg(2)): installs its first files at these descriptors, the lowest free ones, and drops
+    /// all its places in the queue. Takes memory before any change: on an error nothing has changed.
     pub fn take_msg(
         &mut self,
         socket: &FileRef,
         max: usize,
         pid: Pid,
         fds: &[Fd],
-    ) -> Result<Taken, AllocError>
-        requires { CanReceive self.old socket.now max pid fds.now }
-        ensures taken { IfOk result (λ t.
-            t ≡ received_of (socket_at self.old.world socket.now) max) }
+        taken: &mut Taken,
+    ) -> Result<(), AllocError>
+        requires can { CanReceive self.old socket.now max pid fds.now }
+        requires empty { taken.old ≡ nothing_received }
+        ensures taken { OnOk result
+            (taken.new ≡ received_of (socket_at self.old.world socket.now) max) }
         ensures world { OnOk result (self.new ≡ record self.old {
           world = install_all
               (with_queue self.old.world socket.now (taken_at self.old.world socket.now max).rest)
@@ -221,7 +224,7 @@ impl Store {
         ensures err { OnErr result (self.new ≡ self.old) }
     {
         let places = &mut self.parts.places;
-        let taken = places.files.take(socket, max)?;
+        places.files.take(socket, max, taken)?;
         let attached = taken.attached();
         // Into the table first, so that no file waits in between.
         table_in_all(&mut places.procs, &mut places.files, pid, fds, attached);
@@ -232,7 +235,7 @@ impl Store {
             attached,
         );
         shade_taken(&self.parts.progress, &mut places.files, attached);
-        Ok(taken)
+        Ok(())
     }
 
     /// Copies what a receive of at most `max` bytes would take from a queue, which stays as it is

@@ -6,6 +6,7 @@ ghost use Rattle.af_base.specs.Places.{contents, queue_of};
 ghost use Rattle.af_base.specs.Refusals.{socket_of};
 ghost use Rattle.af_base.specs.Whole.{IsMessageWithin};
 ghost use Rattle.af_queue.specs.Chains.{has_room, IsChain, SameElsewhere};
+ghost use Rattle.af_queue.specs.TakenView.{nothing_received};
 ghost use Rattle.af_desc.specs.FilesView.{IsFirst, name_of, popped, received_from, received_of};
 ghost use Rattle.af_desc.specs.Holding.{IsContents};
 ghost use Rattle.af_desc.specs.TrackedTableView.{file_in};
@@ -157,11 +158,13 @@ impl FileRow {
         owner: Ino,
         alloc: Global,
         max: usize,
-    ) -> Result<Taken, AllocError>
+        taken: &mut Taken,
+    ) -> Result<(), AllocError>
         requires chain { IsChain nodes.old self.old.chain owner }
         requires some { 0 < max }
-        ensures taken { IfOk result (λ t.
-            t ≡ received_of (socket_of (file_in nodes.old self.old)) max) }
+        requires empty { taken.old ≡ nothing_received }
+        ensures taken { OnOk result
+            (taken.new ≡ received_of (socket_of (file_in nodes.old self.old)) max) }
         ensures file { OnOk result (file_in nodes.new self.new
             ≡ file_with (received_from max) (file_in nodes.old self.old)) }
         ensures err { OnErr result (file_in nodes.new self.new ≡ file_in nodes.old self.old) }
@@ -171,9 +174,9 @@ impl FileRow {
         ensures rest { self.new ≡ record self.old { chain = self.new.chain } }
     {
         let Some(endpoint) = &self.endpoint else {
-            return Ok(Taken::nothing(alloc));
+            return Ok(());
         };
         let kind = endpoint.kind();
-        pool::take(nodes, &mut self.chain, owner, alloc, kind, max)
+        pool::take(nodes, &mut self.chain, owner, alloc, kind, max, taken)
     }
 }

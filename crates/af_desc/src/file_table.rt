@@ -18,6 +18,7 @@ ghost use Rattle.af_desc.specs.FileTableView.{without_entry};
 ghost use Rattle.af_desc.specs.Holding.{IsContents};
 ghost use Rattle.af_desc.specs.TrackedTableView.{file_of, is_due, is_white_in};
 ghost use Rattle.af_mark.specs.Grey.{black_mark, grey_mark};
+ghost use Rattle.af_queue.specs.TakenView.{nothing_received};
 
 use crate::contents::Contents;
 use crate::file_row::FileRow;
@@ -333,17 +334,25 @@ impl FileTable {
     /// (recvmsg(2)); nothing for a plain or unknown file. On an error nothing has changed.
     #[inline(always)]
     #[tactic(auto, using(crate::proofs::TrackedTableView::messages, ordered_slab::proofs::Parts::parts))]
-    pub fn take(&mut self, file: &FileRef, alloc: Global, max: usize) -> Result<Taken, AllocError>
-        requires { 0 < max }
-        ensures taken { IfOk result (λ t. t ≡ received_of (socket_in self.old.files file.now) max) }
+    pub fn take(
+        &mut self,
+        file: &FileRef,
+        alloc: Global,
+        max: usize,
+        taken: &mut Taken,
+    ) -> Result<(), AllocError>
+        requires some { 0 < max }
+        requires empty { taken.old ≡ nothing_received }
+        ensures taken { OnOk result
+            (taken.new ≡ received_of (socket_in self.old.files file.now) max) }
         ensures rest { OnOk result (self.new
             ≡ with_socket_and_room self.old file.now (received_from max) self.new.message_room) }
         ensures err { OnErr result (self.new ≡ self.old) }
     {
         let Some(row) = self.rows.get_mut(file) else {
-            return Ok(Taken::nothing(alloc));
+            return Ok(());
         };
-        row.take(&mut self.nodes, file.ino(), alloc, max)
+        row.take(&mut self.nodes, file.ino(), alloc, max, taken)
     }
 
     /// Adds one place of a file, which is known. Returns whether it had none. Takes no memory.

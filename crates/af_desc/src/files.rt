@@ -18,6 +18,7 @@ ghost use Rattle.af_desc.specs.FilesView.{AreNamed, IsFirst, after_end, changed,
 ghost use Rattle.af_desc.specs.FilesView.{freed, is_full, is_live, is_unmarked_socket, name_of};
 ghost use Rattle.af_desc.specs.FilesView.{paired, popped, received_from, received_of, socket_in};
 ghost use Rattle.af_desc.specs.FilesView.{without};
+ghost use Rattle.af_queue.specs.TakenView.{nothing_received};
 
 use crate::counts::with_embryo;
 use crate::socket::{Endpoint, Socket};
@@ -324,14 +325,17 @@ impl Files {
 
     /// Takes from the queue of that socket what a receive of at most this many bytes gives
     /// (recvmsg(2)); nothing for a plain or unknown file. On an error nothing has changed.
-    pub fn take(&mut self, file: &FileRef, max: usize) -> Result<Taken, AllocError>
-        requires { 0 < max }
-        ensures taken { IfOk result (λ t. t ≡ received_of (socket_in self.old.files file.now) max) }
+    #[inline(always)]
+    pub fn take(&mut self, file: &FileRef, max: usize, taken: &mut Taken) -> Result<(), AllocError>
+        requires some { 0 < max }
+        requires empty { taken.old ≡ nothing_received }
+        ensures taken { OnOk result
+            (taken.new ≡ received_of (socket_in self.old.files file.now) max) }
         ensures ok { OnOk result
             (self.new ≡ changed_queue (received_from max) file.now self.new.message_room self.old) }
         ensures err { OnErr result (self.new ≡ self.old) }
     {
-        self.rows.take(file, self.alloc, max)
+        self.rows.take(file, self.alloc, max, taken)
     }
 
     /// Removes the first message from the queue of that socket, if there is one. Returns its files,

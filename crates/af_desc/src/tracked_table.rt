@@ -21,6 +21,7 @@ ghost use Rattle.af_desc.specs.TrackedTableView.{file_of, is_due, is_white_in, w
 ghost use Rattle.af_desc.specs.TrackedTableView.{with_socket, with_socket_and_room, without_row};
 ghost use Rattle.af_base.specs.Told.{AreChanged, AreReleased};
 ghost use Rattle.af_desc.specs.Told.{IsDirtyList, MakesDirty};
+ghost use Rattle.af_queue.specs.TakenView.{nothing_received};
 
 use crate::contents::Contents;
 use crate::file_table::FileTable;
@@ -337,16 +338,24 @@ impl TrackedTable {
     /// Takes from the queue of that socket what a receive of at most this many bytes gives
     /// (recvmsg(2)); nothing for a plain or unknown file. On an error nothing has changed.
     #[inline(always)]
-    pub fn take(&mut self, file: &FileRef, alloc: Global, max: usize) -> Result<Taken, AllocError>
-        requires { 0 < max }
-        ensures taken { IfOk result (λ t. t ≡ received_of (socket_in self.old.files file.now) max) }
+    pub fn take(
+        &mut self,
+        file: &FileRef,
+        alloc: Global,
+        max: usize,
+        taken: &mut Taken,
+    ) -> Result<(), AllocError>
+        requires some { 0 < max }
+        requires empty { taken.old ≡ nothing_received }
+        ensures taken { OnOk result
+            (taken.new ≡ received_of (socket_in self.old.files file.now) max) }
         ensures rest { OnOk result (self.new
             ≡ with_socket_and_room self.old file.now (received_from max) self.new.message_room) }
         ensures err { OnErr result (self.new ≡ self.old) }
     {
-        let taken = self.table.take(file, alloc, max)?;
+        self.table.take(file, alloc, max, taken)?;
         add_dirty(self.tells_changed, &mut self.table, &mut self.changed, file);
-        Ok(taken)
+        Ok(())
     }
 
     /// Adds one place of a file, which is known. Returns whether it had none. Takes no memory.

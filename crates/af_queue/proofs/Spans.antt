@@ -10,7 +10,7 @@ use Rattle.af_base.specs.World.{Message}
 use Rattle.af_base.specs.Take.{cut, has_files, joined, take_stream}
 use Rattle.af_base.specs.Whole.{IsMessageWithin}
 use Rattle.af_base.proofs.ReceivedFiles.{HaveBytes, before, before-here, before-later, cut_none, find-here, find-later, no_files, up_to}
-use Rattle.af_queue.specs.TakenView.{message_at, received, sender_at}
+use Rattle.af_queue.specs.TakenView.{TakenView, message_at, received, sender_at, with_files_of}
 use Rattle.af_queue.specs.Streams.{files_in, stream_cut}
 
 -- Where the first message with files ends, or all bytes do.
@@ -213,22 +213,36 @@ part-received q n k bytes files user some have is copied taken sent =
     ∙ (λ i. record { message = record { bytes = take (is i) (joined q); attached = option_map_or (λ m. m.attached) (message_at (is i) q) []; user = sender_at (is i) q }; trunc = false })
     ∙ ap (λ fs. record { message = record { bytes = take (stream_cut n q) (joined q); attached = fs; user = sender_at (stream_cut n q) q }; trunc = false }) (files-at n q some have) ∙ sym (stream-received q n some have)
 
+-- These bytes, without files or a sender.
+abbrev alone : List ℕ → TakenView
+alone bytes = record { message = record { bytes = bytes; attached = []; user = 0 }; trunc = false }
+
+-- The bytes, with the files and the sender of a message, if there is one.
+with-files : (o : Option Message) (bytes : List ℕ) → option_map_or (λ m. with_files_of m (alone bytes)) o (alone bytes)
+    ≡ record { message = record { bytes = bytes; attached = option_map_or (λ m. m.attached) o []; user = option_map_or (λ m. m.user) o 0 }; trunc = false }
+with-files None bytes = refl
+with-files (Some m) bytes = refl
+
+-- Copied bytes with the files of the message that has the last of them are those received.
+pub part-filled : (q : List Message) (n k : ℕ) (t u : TakenView) (bytes : List ℕ) → 0 < n → HaveBytes q → k ≡ stream_cut n q → bytes ≡ take k (joined q) → t ≡ alone bytes → u ≡ option_map_or (λ m. with_files_of m t) (message_at k q) t
+    → u ≡ received Stream q n
+part-filled q n k t u bytes some have is copied alone taken =
+    taken ∙ ap (λ v. option_map_or (λ m. with_files_of m v) (message_at k q) v) alone ∙ with-files (message_at k q) bytes ∙ part-received q n k bytes _ _ some have is copied refl refl
+
 -- A receive that ends within the first message takes as much as it asks for.
 pub front-cut : (q : List Message) (n : ℕ) → n < option_map_or (λ m. length m.bytes) (slice_get q 0) 0 → n ≡ stream_cut n q
 front-cut [] n part = absurd (omega (arith, part))
 front-cut (m ∷ q) n part = let e = or_right (has_files m) (nat_le n (length m.bytes)) (le-leb n (length m.bytes) (omega (arith, part))) in omega (arith, part, stream_cut-front m q n e)
 
 -- It gives the first bytes of that message, and its files.
-pub front-received : (q : List Message) (n : ℕ) (bytes files : List ℕ) (user : ℕ) → 0 < n → HaveBytes q → n < option_map_or (λ m. length m.bytes) (slice_get q 0) 0
-    → bytes ≡ option_map_or (λ m. take n m.bytes) (slice_get q 0) [] → files ≡ option_map_or (λ m. m.attached) (slice_get q 0) [] → user ≡ option_map_or (λ m. m.user) (slice_get q 0) 0
-    → record { message = record { bytes = bytes; attached = files; user = user }; trunc = false } ≡ received Stream q n
-front-received [] n bytes files user some have part copied taken sent = absurd (omega (arith, part))
-front-received (m ∷ q) n bytes files user some have part copied taken sent =
-    let at = at-front m q n (omega (arith, part)) in
-    part-received (m ∷ q) n n bytes files user some have (front-cut (m ∷ q) n part)
-    (copied ∙ sym (take-append-le n m.bytes (joined q) (omega (arith, part))))
-    (taken ∙ sym (ap (λ o. option_map_or (λ m. m.attached) o []) at))
-    (sent ∙ sym (ap (λ o. option_map_or (λ m. m.user) o 0) at))
+pub front-filled : (q : List Message) (n : ℕ) (t u : TakenView) (bytes : List ℕ) → 0 < n → HaveBytes q → n < option_map_or (λ m. length m.bytes) (slice_get q 0) 0
+    → bytes ≡ option_map_or (λ m. take n m.bytes) (slice_get q 0) [] → t ≡ alone bytes → u ≡ option_map_or (λ m. with_files_of m t) (slice_get q 0) t
+    → u ≡ received Stream q n
+front-filled [] n t u bytes some have part copied is taken = absurd (omega (arith, part))
+front-filled (m ∷ q) n t u bytes some have part copied is taken =
+    part-filled (m ∷ q) n n t u bytes some have (front-cut (m ∷ q) n part)
+    (copied ∙ sym (take-append-le n m.bytes (joined q) (omega (arith, part)))) is
+    (taken ∙ sym (ap (λ o. option_map_or (λ m. with_files_of m t) o t) (at-front m q n (omega (arith, part)))))
 
 -- How many files come.
 pub stream-files : (q : List Message) (n : ℕ) → 0 < n → HaveBytes q → length (files_in n q) ≡ length (take_stream q n).attached

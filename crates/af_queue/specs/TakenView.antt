@@ -16,6 +16,10 @@ pub record TakenView : Type 0 where
 abbrev pub nothing_received : TakenView
 nothing_received = record { message = record { bytes = []; attached = []; user = 0 }; trunc = false }
 
+-- A result with the files of that message, and its sender as the user charged for them.
+abbrev pub with_files_of : Message → TakenView → TakenView
+with_files_of m t = record t { message = record t.message { attached = m.attached; user = m.user } }
+
 -- The message that has the c-th byte of a queue, counted from 1.
 abbrev pub message_at : ℕ → List Message → Option Message
 message_at c [] = None

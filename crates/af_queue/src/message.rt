@@ -91,24 +91,29 @@ impl Msg {
         self.user
     }
 
-    /// Removes its first bytes, and its files, which it returns. Takes no memory.
-    pub(crate) fn shorten(&mut self, alloc: Global, bytes: usize) -> Attached
+    /// Removes its first bytes. Takes no memory.
+    #[inline(always)]
+    pub(crate) fn drop_front(&mut self, bytes: usize)
         requires { bytes ≤ length self.old.bytes }
-        ensures files { result.items ≡ self.old.attached }
-        ensures bound { small_vec_len result ≤ SCM_MAX_FD }
-        ensures rest { self.new ≡ record self.old {
-          bytes = drop bytes self.old.bytes;
-          attached = [];
-        } }
+        ensures { self.new ≡ record self.old { bytes = drop bytes self.old.bytes } }
     {
         let begin = self.begin as usize + bytes;
         self.begin = begin as u32;
-        mem::replace(&mut self.attached, SmallVec::new(alloc))
+    }
+
+    /// Exchanges its attached files for these. Takes no memory.
+    #[inline(always)]
+    pub(crate) fn swap_attached(&mut self, files: &mut Attached)
+        requires few { small_vec_len files.old ≤ SCM_MAX_FD }
+        ensures files { files.new.items ≡ self.old.attached }
+        ensures bound { small_vec_len files.new ≤ SCM_MAX_FD }
+        ensures rest { self.new ≡ record self.old { attached = files.old.items } }
+    {
+        mem::swap(&mut self.attached, files);
     }
 
     /// Copies its first bytes: this many, or all if it has fewer.
-    #[inline(always)]
-    pub(crate) fn copy_front(&self, alloc: Global, count: usize) -> Result<Bytes, AllocError>
+    fn copy_front(&self, alloc: Global, count: usize) -> Result<Bytes, AllocError>
         ensures { IfOk result (λ front. front ≡ take count self.now.bytes) }
     {
         let front = &self.bytes()[..count.min(self.len())];
@@ -149,10 +154,10 @@ impl Msg {
         Ok(Taken::new(bytes, attached, self.user(), self.len() > max))
     }
 
-    /// Returns what a receive of at most this many bytes takes of it as a packet. Takes no memory.
+    /// Gives a receive of at most this many bytes what it takes of it as a packet. Takes no memory.
     #[inline(always)]
-    pub(crate) fn into_taken(self, max: usize) -> Taken
-        ensures { result ≡ record {
+    pub(crate) fn give(self, max: usize, taken: &mut Taken)
+        ensures { taken.new ≡ record {
           message = record self { bytes = take max self.bytes };
           trunc = nat_lt max (length self.bytes);
         } }
@@ -165,6 +170,6 @@ impl Msg {
             attached,
         } = self;
         bytes.keep(begin as usize, len.min(max));
-        Taken::new(bytes, attached, user, len > max)
+        *taken = Taken::new(bytes, attached, user, len > max);
     }
 }

@@ -3,23 +3,22 @@ ghost use Rattle.std.specs.Prelude.{◌≡◌, ◌≢◌, ◌<◌, ◌≤◌, �
 ghost use Rattle.std.specs.Prelude.{IfOk, IsOk, OnOk, OnErr, drop, length, slice_get, true};
 ghost use Rattle.std.specs.Option.{option_map_or};
 ghost use Rattle.slab.specs.Slab as slots;
-ghost use Rattle.smallvec.specs.SmallVec.{small_vec_len};
 ghost use Rattle.af_base.specs.Take.{cut, take_from, take_stream};
 ghost use Rattle.af_base.specs.Whole.{IsMessageWithin};
 ghost use Rattle.af_queue.specs.declared.chain.Node.{Node};
 ghost use Rattle.af_queue.specs.Chains.{has_room, messages_of, IsChain, KeepsNodes, SameElsewhere};
-ghost use Rattle.af_queue.specs.TakenView.{message_at, received, sender_at};
+ghost use Rattle.af_queue.specs.TakenView.{message_at, nothing_received, received};
+ghost use Rattle.af_queue.specs.TakenView.{with_files_of};
 
 use crate::chain::{Chain, Node};
-use crate::message::{Attached, Msg};
+use crate::message::Msg;
 use crate::queue::Queue;
 use crate::taken::Taken;
 use af_base::events::SockType;
-use af_base::ids::{Ino, Uid};
+use af_base::ids::Ino;
 use af_base::items::Items;
-use af_base::limits::{MAX_MESSAGES, SCM_MAX_FD};
+use af_base::limits::MAX_MESSAGES;
 use slab::Slab;
-use smallvec::SmallVec;
 use std::alloc::{AllocError, Global};
 
 /// Makes room for one message more, so that the next `push` cannot fail. No queue changes. Fails if
@@ -114,10 +113,12 @@ pub fn take(
     alloc: Global,
     kind: SockType,
     max: usize,
-) -> Result<Taken, AllocError>
+    taken: &mut Taken,
+) -> Result<(), AllocError>
     requires chain { IsChain nodes.old chain.old owner }
     requires some { 0 < max }
-    ensures taken { IfOk result (λ t. t ≡ received kind (messages_of nodes.old chain.old) max) }
+    requires empty { taken.old ≡ nothing_received }
+    ensures taken { OnOk result (taken.new ≡ received kind (messages_of nodes.old chain.old) max) }
     ensures rest { OnOk result (messages_of nodes.new chain.new
         ≡ (take_from kind (messages_of nodes.old chain.old) max).rest) }
     ensures chain { IsChain nodes.new chain.new owner }
@@ -128,30 +129,27 @@ pub fn take(
     ensures unchanged { OnErr result (nodes.new ≡ nodes.old) }
 {
     match kind {
-        SockType::Stream => take_stream(nodes, chain, owner, alloc, max),
-        SockType::Seqpacket => Ok(take_packet(nodes, chain, owner, alloc, max)),
+        SockType::Stream => take_stream(nodes, chain, owner, alloc, max, taken),
+        SockType::Seqpacket => {
+            take_packet(nodes, chain, owner, max, taken);
+            Ok(())
+        }
     }
 }
 
 /// Takes a packet: the first message, cut to this many bytes.
 #[inline(always)]
-fn take_packet(
-    nodes: &mut Slab<Node>,
-    chain: &mut Chain,
-    owner: Ino,
-    alloc: Global,
-    max: usize,
-) -> Taken
+fn take_packet(nodes: &mut Slab<Node>, chain: &mut Chain, owner: Ino, max: usize, taken: &mut Taken)
     requires chain { IsChain nodes.old chain.old owner }
-    ensures taken { result ≡ received SockType.Seqpacket (messages_of nodes.old chain.old) max }
+    requires empty { taken.old ≡ nothing_received }
+    ensures taken { taken.new ≡ received SockType.Seqpacket (messages_of nodes.old chain.old) max }
     ensures rest { messages_of nodes.new chain.new ≡ drop 1 (messages_of nodes.old chain.old) }
     ensures chain { IsChain nodes.new chain.new owner }
     ensures others { SameElsewhere nodes.old nodes.new owner }
     ensures none_lost { KeepsNodes nodes.old chain.old nodes.new chain.new }
 {
-    match pop(nodes, chain, owner) {
-        Some(message) => message.into_taken(max),
-        None => Taken::nothing(alloc),
+    if let Some(message) = pop(nodes, chain, owner) {
+        message.give(max, taken);
     }
 }
 
@@ -162,11 +160,13 @@ fn take_stream(
     owner: Ino,
     alloc: Global,
     max: usize,
-) -> Result<Taken, AllocError>
+    taken: &mut Taken,
+) -> Result<(), AllocError>
     requires chain { IsChain nodes.old chain.old owner }
     requires some { 0 < max }
-    ensures taken { IfOk result (λ t.
-        t ≡ received SockType.Stream (messages_of nodes.old chain.old) max) }
+    requires empty { taken.old ≡ nothing_received }
+    ensures taken { OnOk result
+        (taken.new ≡ received SockType.Stream (messages_of nodes.old chain.old) max) }
     ensures rest { OnOk result (messages_of nodes.new chain.new
         ≡ (take_stream (messages_of nodes.old chain.old) max).rest) }
     ensures chain { IsChain nodes.new chain.new owner }
@@ -181,36 +181,31 @@ fn take_stream(
     if let Some(first) = queue.first()
         && max < first.len()
     {
-        let bytes = first.copy_front(alloc, max)?;
-        let (attached, user) = shorten_first(nodes, chain, owner, alloc, max);
-        return Ok(Taken::new(bytes, attached, user, false));
+        taken.copy_bytes(&first.bytes()[..max])?;
+        shorten_first(nodes, chain, owner, max, taken);
+        return Ok(());
     }
     let (count, _) = queue.stream_cut(max);
     if queue.front_len() == count {
-        return Ok(take_packet(nodes, chain, owner, alloc, count));
+        take_packet(nodes, chain, owner, count, taken);
+        return Ok(());
     }
     let bytes = queue.copy(alloc, count)?;
-    let (attached, user) = cut(nodes, chain, owner, alloc, count);
-    Ok(Taken::new(Items::of(bytes), attached, user, false))
+    taken.set_bytes(Items::of(bytes));
+    cut(nodes, chain, owner, count, taken);
+    Ok(())
 }
 
 /// Removes this many of the first bytes, and the files of the message that has the last of them.
-/// Returns these files with the user who sent them.
-fn cut(
-    nodes: &mut Slab<Node>,
-    chain: &mut Chain,
-    owner: Ino,
-    alloc: Global,
-    count: usize,
-) -> (Attached, Uid)
+/// Takes these files, with the user who sent them.
+fn cut(nodes: &mut Slab<Node>, chain: &mut Chain, owner: Ino, count: usize, taken: &mut Taken)
     requires chain { IsChain nodes.old chain.old owner }
     requires some { 0 < count }
+    requires bare { taken.old.message.attached ≡ [] }
     ensures messages { messages_of nodes.new chain.new
         ≡ cut count (messages_of nodes.old chain.old) }
-    ensures files { result.0.items
-        ≡ option_map_or (λ m. m.attached) (message_at count (messages_of nodes.old chain.old)) [] }
-    ensures bound { small_vec_len result.0 ≤ SCM_MAX_FD }
-    ensures user { result.1 ≡ sender_at count (messages_of nodes.old chain.old) }
+    ensures taken { taken.new ≡ option_map_or (λ m. with_files_of m taken.old)
+        (message_at count (messages_of nodes.old chain.old)) taken.old }
     ensures chain { IsChain nodes.new chain.new owner }
     ensures others { SameElsewhere nodes.old nodes.new owner }
     ensures none_lost { KeepsNodes nodes.old chain.old nodes.new chain.new }
@@ -219,7 +214,7 @@ fn cut(
     while let Some(rest) = drop_shorter(nodes, chain, owner, left) {
         left = rest;
     }
-    cut_first(nodes, chain, owner, alloc, left)
+    cut_first(nodes, chain, owner, left, taken);
 }
 
 /// Removes the first message, if it has fewer bytes than this. Returns how many are left to remove.
@@ -254,65 +249,49 @@ fn drop_shorter(
 }
 
 /// Removes this many bytes of the first message of this chain, which has at least as many, and its
-/// files. Returns them with the user who sent it. Removes an empty message.
-fn cut_first(
-    nodes: &mut Slab<Node>,
-    chain: &mut Chain,
-    owner: Ino,
-    alloc: Global,
-    count: usize,
-) -> (Attached, Uid)
+/// files. Takes them with the user who sent it. Removes an empty message.
+fn cut_first(nodes: &mut Slab<Node>, chain: &mut Chain, owner: Ino, count: usize, taken: &mut Taken)
     requires chain { IsChain nodes.old chain.old owner }
     requires some { 0 < count }
     requires long { IfSome (slice_get (messages_of nodes.old chain.old) 0) (λ m.
         count ≤ length m.bytes) }
+    requires bare { taken.old.message.attached ≡ [] }
     ensures messages { messages_of nodes.new chain.new
         ≡ cut count (messages_of nodes.old chain.old) }
-    ensures files { result.0.items
-        ≡ option_map_or (λ m. m.attached) (slice_get (messages_of nodes.old chain.old) 0) [] }
-    ensures bound { small_vec_len result.0 ≤ SCM_MAX_FD }
-    ensures user { result.1
-        ≡ option_map_or (λ m. m.user) (slice_get (messages_of nodes.old chain.old) 0) 0 }
+    ensures taken { taken.new ≡ option_map_or (λ m. with_files_of m taken.old)
+        (slice_get (messages_of nodes.old chain.old) 0) taken.old }
     ensures chain { IsChain nodes.new chain.new owner }
     ensures others { SameElsewhere nodes.old nodes.new owner }
     ensures none_lost { KeepsNodes nodes.old chain.old nodes.new chain.new }
 {
     if count < Queue::of(nodes, chain).front_len() {
-        return shorten_first(nodes, chain, owner, alloc, count);
+        shorten_first(nodes, chain, owner, count, taken);
+        return;
     }
-    match pop(nodes, chain, owner) {
-        Some(message) => message.into_parts(),
-        None => (SmallVec::new(alloc), Uid(0)),
+    if let Some(mut message) = pop(nodes, chain, owner) {
+        taken.take_files(&mut message);
     }
 }
 
 /// Removes this many bytes of the first message of this chain, which has more, and its files.
-/// Returns them with the user who sent it. Takes no memory.
-fn shorten_first(
-    nodes: &mut Slab<Node>,
-    chain: &Chain,
-    owner: Ino,
-    alloc: Global,
-    count: usize,
-) -> (Attached, Uid)
+/// Takes them with the user who sent it. Takes no memory.
+#[inline(always)]
+fn shorten_first(nodes: &mut Slab<Node>, chain: &Chain, owner: Ino, count: usize, taken: &mut Taken)
     requires chain { IsChain nodes.old chain.now owner }
     requires some { 0 < count }
     requires long { count
         < option_map_or (λ m. length m.bytes) (slice_get (messages_of nodes.old chain.now) 0) 0 }
+    requires bare { taken.old.message.attached ≡ [] }
     ensures messages { messages_of nodes.new chain.now
         ≡ cut count (messages_of nodes.old chain.now) }
-    ensures files { result.0.items
-        ≡ option_map_or (λ m. m.attached) (slice_get (messages_of nodes.old chain.now) 0) [] }
-    ensures bound { small_vec_len result.0 ≤ SCM_MAX_FD }
-    ensures user { result.1
-        ≡ option_map_or (λ m. m.user) (slice_get (messages_of nodes.old chain.now) 0) 0 }
+    ensures taken { taken.new ≡ option_map_or (λ m. with_files_of m taken.old)
+        (slice_get (messages_of nodes.old chain.now) 0) taken.old }
     ensures chain { IsChain nodes.new chain.now owner }
     ensures others { SameElsewhere nodes.old nodes.new owner }
     ensures none_lost { slots.slab_len nodes.new ≡ slots.slab_len nodes.old }
 {
-    let Some(node) = nodes.get_mut(chain.first as usize) else {
-        return (SmallVec::new(alloc), Uid(0));
-    };
-    let first = &mut node.message;
-    (first.shorten(alloc, count), first.user())
+    if let Some(node) = nodes.get_mut(chain.first as usize) {
+        node.message.drop_front(count);
+        taken.take_files(&mut node.message);
+    }
 }

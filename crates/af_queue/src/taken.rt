@@ -1,14 +1,14 @@
 //! The result of a receive.
-ghost use Rattle.std.specs.Prelude.{◌≡◌, ◌≤◌, length};
+ghost use Rattle.std.specs.Prelude.{◌≡◌, ◌≤◌, ◌++◌, OnErr, OnOk, [], length};
 ghost use Rattle.smallvec.specs.SmallVec.{small_vec_len};
-ghost use Rattle.af_queue.specs.TakenView.{nothing_received};
+ghost use Rattle.af_queue.specs.TakenView.{nothing_received, with_files_of};
 
-use crate::message::Attached;
+use crate::message::{Attached, Msg};
 use af_base::ids::{FileRef, Uid};
 use af_base::items::{Bytes, Items};
 use af_base::limits::SCM_MAX_FD;
 use smallvec::SmallVec;
-use std::alloc::Global;
+use std::alloc::{AllocError, Global};
 use std::marker::Model;
 
 /// The result of a receive: a message of its own, and whether bytes were dropped.
@@ -60,6 +60,37 @@ impl Taken {
     {
         let bytes = Items::of_small(SmallVec::new(alloc));
         Taken::new(bytes, SmallVec::new(alloc), Uid(0), false)
+    }
+
+    /// Appends copies of these bytes. On an error nothing has changed.
+    #[inline(always)]
+    pub(crate) fn copy_bytes(&mut self, bytes: &[u8]) -> Result<(), AllocError>
+        ensures ok { OnOk result (self.new ≡ record self.old {
+          message = record self.old.message { bytes = self.old.message.bytes ++ bytes.now };
+        }) }
+        ensures err { OnErr result (self.new ≡ self.old) }
+    {
+        self.bytes.extend_from_slice(bytes)
+    }
+
+    /// Sets its bytes.
+    #[inline(always)]
+    pub(crate) fn set_bytes(&mut self, bytes: Bytes)
+        ensures { self.new
+            ≡ record self.old { message = record self.old.message { bytes = bytes } } }
+    {
+        self.bytes = bytes;
+    }
+
+    /// Takes the files of a message, if it has none yet, and their sender. Takes no memory.
+    #[inline(always)]
+    pub(crate) fn take_files(&mut self, message: &mut Msg)
+        requires { self.old.message.attached ≡ [] }
+        ensures taken { self.new ≡ with_files_of message.old self.old }
+        ensures rest { message.new ≡ record message.old { attached = [] } }
+    {
+        self.user = message.user();
+        message.swap_attached(&mut self.attached);
     }
 
     /// Returns the received files.

@@ -1,5 +1,5 @@
 //! Steps that send and receive.
-ghost use Rattle.std.specs.Prelude.{◌≡◌, ◌≤◌, Some, None, IfOk, IfErr, OnOk, length, filter_map};
+ghost use Rattle.std.specs.Prelude.{◌≡◌, ◌≤◌, [], Some, None, IfOk, IfErr, OnOk, length, filter_map};
 ghost use Rattle.std.specs.Prelude.{IfNone, IfSome, is_none, nat_lt};
 ghost use Rattle.std.specs.FinMap as map;
 ghost use Rattle.af_base.specs.Changes.{push_message};
@@ -157,9 +157,9 @@ impl Engine {
         Ok(count)
     }
 
-    /// Returns the socket that a receive or a peek takes from, and the free descriptors at which it
-    /// installs files; `None` where nothing is left to receive, and the peer is gone. The refusals
-    /// are those of `recv`.
+    /// Returns the socket that a receive or a peek takes from, and fills an empty list with the free
+    /// descriptors at which it installs files; `None` where nothing is left to receive, and the peer
+    /// is gone. The refusals are those of `recv`.
     #[inline(always)]
     fn prepare_receive(
         &self,
@@ -167,11 +167,13 @@ impl Engine {
         on: Fd,
         max_bytes: u32,
         max_fds: u32,
-    ) -> Result<Option<(FileRef, Fds)>, Errno>
+        fds: &mut Fds,
+    ) -> Result<Option<FileRef>, Errno>
+        requires { fds.old ≡ [] }
         ensures fits { OnOk result
             (refusal self.now.world pid (Step.Recv on max_bytes max_fds) ≡ None) }
         ensures message { IfOk result (λ found. IfSome found (λ r.
-            HasMessage self.now.world pid on max_bytes max_fds r.0 r.1)) }
+            HasMessage self.now.world pid on max_bytes max_fds r fds.new)) }
         ensures received_end { IfOk result (λ found. IfNone found
             (Does self.now pid (Step.Recv on max_bytes max_fds) Reply.End self.now)) }
         ensures peeked_end { IfOk result (λ found. IfNone found
@@ -187,8 +189,8 @@ impl Engine {
         let files = socket
             .queue()
             .files_in_receive(socket.kind(), max_bytes as usize);
-        let fds = process.lowest_free(self.alloc, files.min(max_fds as usize))?;
-        Ok(Some((file, fds)))
+        process.lowest_free(files.min(max_fds as usize), fds)?;
+        Ok(Some(file))
     }
 
     /// Receives at most this many bytes and descriptors (recvmsg(2)). A packet's bytes beyond
@@ -210,14 +212,17 @@ impl Engine {
         ensures refused { IfErr result (λ e.
             Refuses self.old pid (Step.Recv on max_bytes max_fds) e self.new) }
     {
-        let Some((file, fds)) = self.prepare_receive(pid, on, max_bytes, max_fds)? else {
+        let mut fds = Fds::new(self.alloc);
+        let Some(file) = self.prepare_receive(pid, on, max_bytes, max_fds, &mut fds)? else {
             return Ok(Received::End);
         };
         let max = max_bytes as usize;
         // A file in a table is no garbage of a running pass.
         self.store.lemma_is_spared();
         self.store.room_for(pid, fds.len())?;
-        let taken = self.store.take_msg(&file, max, pid, fds.as_slice())?;
+        let mut taken = Taken::nothing(self.alloc);
+        self.store
+            .take_msg(&file, max, pid, fds.as_slice(), &mut taken)?;
         self.store.release();
         Ok(receive_answer(taken, fds))
     }
@@ -240,7 +245,8 @@ impl Engine {
         ensures refused { IfErr result (λ e.
             Refuses self.old pid (Step.Peek on max_bytes max_fds) e self.new) }
     {
-        let Some((file, fds)) = self.prepare_receive(pid, on, max_bytes, max_fds)? else {
+        let mut fds = Fds::new(self.alloc);
+        let Some(file) = self.prepare_receive(pid, on, max_bytes, max_fds, &mut fds)? else {
             return Ok(Received::End);
         };
         let max = max_bytes as usize;

@@ -10,7 +10,6 @@ use crate::bits::Bits;
 use af_base::ids::{Fd, FileRef, Ino, Uid};
 use af_base::items::Fds;
 use af_base::limits::MAX_NOFILE;
-use smallvec::SmallVec;
 use std::alloc::{AllocError, Global};
 use std::marker::Model;
 use std::mem;
@@ -242,28 +241,24 @@ impl Process {
         Some((first, second))
     }
 
-    /// Returns the lowest free descriptors, rising: this many, or all if there are fewer. Takes
-    /// memory for the list alone, and none for an empty list.
+    /// Fills an empty list with the lowest free descriptors, rising: this many, or all if there are
+    /// fewer. Takes memory only for more than fit in the value.
     #[inline(always)]
     #[tactic(auto, using(crate::proofs::FreeNumbers::free_lists))]
-    pub fn lowest_free(&self, alloc: Global, count: usize) -> Result<Fds, AllocError>
-        ensures value { IfOk result (λ fds. fds ≡ lowest_free count self.now.process) }
+    pub fn lowest_free(&self, count: usize, fds: &mut Fds) -> Result<(), AllocError>
+        requires empty { fds.old ≡ [] }
+        ensures value { OnOk result (fds.new ≡ lowest_free count self.now.process) }
         ensures none { length (lowest_free count self.now.process) ≡ 0 → IsOk result }
     {
-        let mut fds = SmallVec::new(alloc);
         let mut from = 0;
         for _ in 0..count {
             let Some(fd) = self.next_free(from) else {
-                return Ok(Fds::of_small(fds));
+                return Ok(());
             };
-            // Room for all at once, but none where no number is free.
-            if fds.is_empty() {
-                fds.reserve_exact(count)?;
-            }
-            fds.push_reserved(fd);
+            fds.push(fd)?;
             from = fd.0 + 1;
         }
-        Ok(Fds::of_small(fds))
+        Ok(())
     }
 
     /// Returns the least open descriptor from this one on, with its file, if there is one. A walk

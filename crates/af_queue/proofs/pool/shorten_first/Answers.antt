@@ -1,16 +1,19 @@
-use Rattle.std.proofs.Common.{sym, ap, ◌∙◌}
+use Rattle.std.proofs.Common.{[], sym, ap, ◌∙◌}
 use Rattle.std.specs.Option.{option_copied_mut}
+use Rattle.af_base.specs.World.{Message}
 use Rattle.af_queue.proofs.Chains.{shortened}
 use Rattle.af_queue.proofs.pool.shorten_first.Goals as goal
 
-pub returns-clause-chain : goal.returns-clause-chain
-returns-clause-chain c =
+pub returns-in-Some-clause-chain : goal.returns-in-Some-clause-chain
+returns-in-Some-clause-chain c =
     let chain = c.args.chain.now in
     let there = sym c.get_mut.ensures.value ∙ ap option_copied_mut c.in-Some.is in
-    record { few = c.requires.chain.few; path = (shortened c.args.nodes.now c.args.owner chain.last chain.first chain.len c.in-Some.node.now c.shorten.new.self c.args.count c.requires.some there c.shorten.ensures.rest c.requires.chain.path c.requires.long).0 }
+    let is = c.take_files.ensures.rest ∙ ap (λ (m : Message). record m { attached = [] }) c.drop_front.ensures in
+    record { few = c.requires.chain.few; path = (shortened c.args.nodes.now c.args.owner chain.last chain.first chain.len c.in-Some.node.now c.take_files.new.message c.args.count c.requires.some there is c.requires.chain.path c.requires.long).0 }
 
-pub returns-clause-messages : goal.returns-clause-messages
-returns-clause-messages c =
+pub returns-in-Some-clause-messages : goal.returns-in-Some-clause-messages
+returns-in-Some-clause-messages c =
     let chain = c.args.chain.now in
     let there = sym c.get_mut.ensures.value ∙ ap option_copied_mut c.in-Some.is in
-    (shortened c.args.nodes.now c.args.owner chain.last chain.first chain.len c.in-Some.node.now c.shorten.new.self c.args.count c.requires.some there c.shorten.ensures.rest c.requires.chain.path c.requires.long).1
+    let is = c.take_files.ensures.rest ∙ ap (λ (m : Message). record m { attached = [] }) c.drop_front.ensures in
+    (shortened c.args.nodes.now c.args.owner chain.last chain.first chain.len c.in-Some.node.now c.take_files.new.message c.args.count c.requires.some there is c.requires.chain.path c.requires.long).1

@@ -21,12 +21,12 @@ use Rattle.af_collect.proofs.StoreInvariant.{BothInvariants, both-same, seen-mov
 use Rattle.af_collect.proofs.store.Store.take_msg.Goals as goal
 
 pub table_in_all-requires-clause-known : goal.table_in_all-requires-clause-known
-table_in_all-requires-clause-known c = files-known c.self.inside.parts c.places.inside _ c.places.view_is c.self.view_is c.args.socket.now c.args.max c.args.pid c.args.fds.now c.requires
-    c.places.invariant _ (ap (λ v. v.counts) c.in_ok-taken.ensures.ok) _ (c.attached-attached.ensures.value ∙ ap (λ t. t.message.attached) c.in_ok-taken.ensures.taken)
+table_in_all-requires-clause-known c = files-known c.self.inside.parts c.places.inside _ c.places.view_is c.self.view_is c.args.socket.now c.args.max c.args.pid c.args.fds.now c.requires.can
+    c.places.invariant _ (ap (λ v. v.counts) c.in_ok-take.ensures.ok) _ (c.attached-attached.ensures.value ∙ ap (λ t. t.message.attached) c.in_ok-take.ensures.taken)
 
 pub table_in_all-requires-clause-fits : goal.table_in_all-requires-clause-fits
-table_in_all-requires-clause-fits c = files-fit c.self.inside.parts c.places.inside _ c.places.view_is c.self.view_is c.args.socket.now c.args.max c.args.pid c.args.fds.now c.requires
-    c.places.invariant _ (ap (λ v. v.counts) c.in_ok-taken.ensures.ok) _ (c.attached-attached.ensures.value ∙ ap (λ t. t.message.attached) c.in_ok-taken.ensures.taken) c.attached-attached.ensures.bound
+table_in_all-requires-clause-fits c = files-fit c.self.inside.parts c.places.inside _ c.places.view_is c.self.view_is c.args.socket.now c.args.max c.args.pid c.args.fds.now c.requires.can
+    c.places.invariant _ (ap (λ v. v.counts) c.in_ok-take.ensures.ok) _ (c.attached-attached.ensures.value ∙ ap (λ t. t.message.attached) c.in_ok-take.ensures.taken) c.attached-attached.ensures.bound
 
 pub uncharge_message-requires : goal.uncharge_message-requires
 uncharge_message-requires c =
@@ -36,12 +36,12 @@ uncharge_message-requires c =
     let s = c.args.socket.now in
     let pid = c.args.pid in
     let fds = c.args.fds.now in
-    let r = receives-within c.self.inside.parts c.places.inside _ c.places.view_is c.self.view_is c.args.socket.now c.args.max c.args.pid c.args.fds.now c.requires in
-    let can = can-drop-received w s c.args.max k c.places.invariant c.requires.some r.0 pid fds r.1 r.2 in
+    let r = receives-within c.self.inside.parts c.places.inside _ c.places.view_is c.self.view_is c.args.socket.now c.args.max c.args.pid c.args.fds.now c.requires.can in
+    let can = can-drop-received w s c.args.max k c.places.invariant c.requires.can.some r.0 pid fds r.1 r.2 in
     let m = received_at w s c.args.max in
-    let taken = c.in_ok-taken.ensures.taken in
+    let taken = c.in_ok-take.ensures.taken in
     let l = kept_of c.table_in_all.new.files.counts h.ledger in
-    let kept = c.table_in_all.ensures.kept h.ledger ∙ (λ i. counted (kept_of (c.in_ok-taken.ensures.ok i).counts h.ledger) fds (c.attached-attached.ensures.value i)) ∙ ap (counted k fds) (ap (λ t. t.message.attached) taken) in
+    let kept = c.table_in_all.ensures.kept h.ledger ∙ (λ i. counted (kept_of (c.in_ok-take.ensures.ok i).counts h.ledger) fds (c.attached-attached.ensures.value i)) ∙ ap (counted k fds) (ap (λ t. t.message.attached) taken) in
     let user = c.user.ensures ∙ ap (λ t. t.message.user) taken in
     let attached = c.attached-attached.ensures.value ∙ ap (λ t. t.message.attached) taken in
     subst (λ u. CanDropAll u c.attached-attached.result.now l) (sym user) (subst (λ fs. CanDropAll m.user fs l) (sym attached) (subst (CanDropAll m.user m.attached) (sym kept) can))
@@ -52,8 +52,8 @@ left : (c : goal.After-shade_taken) → let k = kept_of c.places.inside.files.co
 left c =
     let h = c.places.inside in
     let fds = c.args.fds.now in
-    let taken = c.in_ok-taken.ensures.taken in
-    let kept = c.table_in_all.ensures.kept h.ledger ∙ (λ i. counted (kept_of (c.in_ok-taken.ensures.ok i).counts h.ledger) fds (c.attached-attached.ensures.value i)) ∙ ap (counted (kept_of h.files.counts h.ledger) fds) (ap (λ t. t.message.attached) taken) in
+    let taken = c.in_ok-take.ensures.taken in
+    let kept = c.table_in_all.ensures.kept h.ledger ∙ (λ i. counted (kept_of (c.in_ok-take.ensures.ok i).counts h.ledger) fds (c.attached-attached.ensures.value i)) ∙ ap (counted (kept_of h.files.counts h.ledger) fds) (ap (λ t. t.message.attached) taken) in
     let user = c.user.ensures ∙ ap (λ t. t.message.user) taken in
     let attached = c.attached-attached.ensures.value ∙ ap (λ t. t.message.attached) taken in
     ap (λ v. kept_of v.counts c.uncharge_message.new.ledger) c.shade_taken.ensures ∙ c.uncharge_message.ensures.kept ∙ (λ i. without_refs (Queue (user i)) (attached i) (kept i))
@@ -68,12 +68,12 @@ received c =
     let m = received_at w s c.args.max in
     let t = taken_at w s c.args.max in
     let v : World = tabled w c.args.pid c.args.fds.now m.attached in
-    let attached = c.attached-attached.ensures.value ∙ ap (λ t. t.message.attached) c.in_ok-taken.ensures.taken in
+    let attached = c.attached-attached.ensures.value ∙ ap (λ t. t.message.attached) c.in_ok-take.ensures.taken in
     let processes = c.table_in_all.ensures.processes ∙ ap (λ l. filled w.processes c.args.pid (zip c.args.fds.now l)) attached in
     let k = kept_of h.files.counts h.ledger in
     let users = ap (λ l. keys_of l.users) (left c) ∙ users-dropped_all m.user m.attached (counted k c.args.fds.now m.attached) ∙ users-filled (mapped (λ e. e.1) (zip c.args.fds.now m.attached)) k in
-    let files = ap (λ v. v.files) c.shade_taken.ensures ∙ ap (λ v. v.files) c.uncharge_message.ensures.rest ∙ ap (λ v. v.files) c.table_in_all.ensures.rest ∙ ap (λ v. v.files) c.in_ok-taken.ensures.ok in
-    let next = ap (λ v. v.next) c.shade_taken.ensures ∙ ap (λ v. v.next) c.uncharge_message.ensures.rest ∙ ap (λ v. v.next) c.table_in_all.ensures.rest ∙ ap (λ v. v.next) c.in_ok-taken.ensures.ok in
+    let files = ap (λ v. v.files) c.shade_taken.ensures ∙ ap (λ v. v.files) c.uncharge_message.ensures.rest ∙ ap (λ v. v.files) c.table_in_all.ensures.rest ∙ ap (λ v. v.files) c.in_ok-take.ensures.ok in
+    let next = ap (λ v. v.next) c.shade_taken.ensures ∙ ap (λ v. v.next) c.uncharge_message.ensures.rest ∙ ap (λ v. v.next) c.table_in_all.ensures.rest ∙ ap (λ v. v.next) c.in_ok-take.ensures.ok in
     world-is _ (with_socket v s (received_from c.args.max)) processes files next c.table_in_all.ensures.next users ∙ taken_queue v s c.args.max
     ∙ sym (install-filled (with_queue w s t.rest) c.args.pid (zip c.args.fds.now t.attached))
 
@@ -88,14 +88,14 @@ both c =
     let pid = c.args.pid in
     let fds = c.args.fds.now in
     let was = stood p h c.places.view_is c.places.invariant c.self.invariant in
-    let r = receives-within c.self.inside.parts c.places.inside _ c.places.view_is c.self.view_is c.args.socket.now c.args.max c.args.pid c.args.fds.now c.requires in
+    let r = receives-within c.self.inside.parts c.places.inside _ c.places.view_is c.self.view_is c.args.socket.now c.args.max c.args.pid c.args.fds.now c.requires.can in
     let t = taken_at w s max in
-    let files = c.attached-attached.ensures.value ∙ ap (λ o. o.message.attached) c.in_ok-taken.ensures.taken in
-    let before = ap (λ v. v.marks) c.uncharge_message.ensures.rest ∙ ap (λ v. v.marks) c.table_in_all.ensures.rest ∙ ap (λ v. v.marks) c.in_ok-taken.ensures.ok in
+    let files = c.attached-attached.ensures.value ∙ ap (λ o. o.message.attached) c.in_ok-take.ensures.taken in
+    let before = ap (λ v. v.marks) c.uncharge_message.ensures.rest ∙ ap (λ v. v.marks) c.table_in_all.ensures.rest ∙ ap (λ v. v.marks) c.in_ok-take.ensures.ok in
     let marks = ap (λ v. v.marks) c.shade_taken.ensures ∙ (λ i. shaded_in p.progress.stage (files i) (before i)) in
     both-same _ (install_all (with_queue w s t.rest) pid (zip fds t.attached)) _ _ _ _ (received c) (left c) marks
-    (exact-same _ _ _ _ (install-filled (with_queue w s t.rest) pid (zip fds t.attached)) refl (exact-received w s max k was.0 c.requires.some r.0 pid fds r.1 r.2))
-    (kept_taken was.0 s max r.0 p.progress.looked pid fds (spared-within c.self.inside.parts c.places.inside _ c.places.view_is c.self.view_is c.args.socket.now c.args.max c.args.pid c.args.fds.now c.requires) r.1 r.2 was.1)
+    (exact-same _ _ _ _ (install-filled (with_queue w s t.rest) pid (zip fds t.attached)) refl (exact-received w s max k was.0 c.requires.can.some r.0 pid fds r.1 r.2))
+    (kept_taken was.0 s max r.0 p.progress.looked pid fds (spared-within c.self.inside.parts c.places.inside _ c.places.view_is c.self.view_is c.args.socket.now c.args.max c.args.pid c.args.fds.now c.requires.can) r.1 r.2 was.1)
 
 pub invariant_of-places-2 : goal.invariant_of-places-2
 invariant_of-places-2 c = (both c).0
@@ -107,6 +107,6 @@ pub returns-clause-world : goal.returns-clause-world
 returns-clause-world c =
     let p = c.self.inside.parts in
     let h = c.places.inside in
-    let since = ap (λ v. v.since) c.shade_taken.ensures ∙ ap (λ v. v.since) c.uncharge_message.ensures.rest ∙ ap (λ v. v.since) c.table_in_all.ensures.rest ∙ ap (λ v. v.since) c.in_ok-taken.ensures.ok in
+    let since = ap (λ v. v.since) c.shade_taken.ensures ∙ ap (λ v. v.since) c.uncharge_message.ensures.rest ∙ ap (λ v. v.since) c.table_in_all.ensures.rest ∙ ap (λ v. v.since) c.in_ok-take.ensures.ok in
     (λ i. shown p (record { world = received c i; rows = c.table_in_all.ensures.rows i; message_room = c.shade_taken.new.files.message_room; marks = c.shade_taken.new.files.marks; since = since i }))
     ∙ seen-moved p h _ (λ v. let t = taken_at v c.args.socket.now c.args.max in install_all (with_queue v c.args.socket.now t.rest) c.args.pid (zip c.args.fds.now t.attached)) c.shade_taken.new.files.marks c.shade_taken.new.files.message_room c.places.view_is c.self.view_is

@@ -5,6 +5,6 @@ use Rattle.af_steps.proofs.engine.Engine.peek.Goals as goal
 
 pub peek_msg-requires : goal.peek_msg-requires
 peek_msg-requires c =
-    let message : HasMessage c.self.inside.store.world c.args.pid c.args.on c.args.max_bytes c.args.max_fds c.in-Some.file c.in-Some.fds = search rules in
+    let message : HasMessage c.self.inside.store.world c.args.pid c.args.on c.args.max_bytes c.args.max_fds c.in-Some.file c.prepare_receive.new.fds = search rules in
     let room = c.in_ok-room_for.ensures in
     can-receive c.self.inside.store c.room_for.new.self message c.lemma_is_spared.ensures room.world room.pass (λ some. room.row (omega (arith, some, c.len.ensures))) c.as_slice.result.now c.as_slice.ensures
