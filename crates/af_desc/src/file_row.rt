@@ -50,15 +50,17 @@ impl FileRow {
         if !endpoint.is_nameless() {
             return Contents::Several;
         }
-        let mut queue = Queue::of(nodes, &self.chain);
-        while let Some((message, rest)) = queue.split_first() {
-            match message.attached() {
-                [] => queue = rest,
-                [file] if rest.len() == 0 => return Contents::One(file.duplicate()),
-                _ => return Contents::Several,
-            }
+        if !self.chain.has_files {
+            return Contents::Nothing;
         }
-        Contents::Nothing
+        let Some((message, rest)) = Queue::of(nodes, &self.chain).split_first() else {
+            return Contents::Nothing;
+        };
+        match message.attached() {
+            [] if rest.len() == 0 => Contents::Nothing,
+            [file] if rest.len() == 0 => Contents::One(file.duplicate()),
+            _ => Contents::Several,
+        }
     }
 
     /// Returns whether it has no name and its queue is empty: then it holds nothing.

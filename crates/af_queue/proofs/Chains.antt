@@ -1,14 +1,16 @@
 -- Messages in a slab, linked one behind another.
 use Rattle.std.proofs.Common.{◌≡◌, ◌≢◌, ℕ, zero, suc, ◌+◌, ◌-◌, ◌<◌, ◌||◌, Bool, true, false, List, [], ◌∷◌, ◌++◌, length, refl, sym, ap, ◌∙◌, subst, nat_eq, true≢false, suc-ne-zero, arith, rules}
-use Rattle.std.specs.Prelude.{Some, None, IsSome, drop}
+use Rattle.std.specs.Prelude.{Some, None, IsSome, drop, if◌then◌else◌, nat_le, nat_lt}
 use Rattle.std.specs.List.{list_any, slice_get}
 use Rattle.std.specs.Option.{option_map_or}
-use Rattle.std.proofs.lemmas.Bool.{eqb-true, eq-eqb}
+use Rattle.std.proofs.lemmas.Bool.{eqb-true, eq-eqb, ltb-false}
 use Rattle.std.proofs.lemmas.List.{length-drop}
 use Rattle.slab.specs.Slab as slots
 use Rattle.slab.specs.Slab.{SameValues, Slab, Updates}
 use Rattle.slab.proofs.SlabLemmas.{Updates-with_value}
-use Rattle.af_base.specs.Take.{cut}
+use Rattle.std.proofs.lemmas.Grind.{flat_map-append}
+use Rattle.af_base.specs.Places.{attached_in}
+use Rattle.af_base.specs.Take.{cut, has_files}
 use Rattle.af_base.specs.Whole.{IsMessageWithin}
 use Rattle.af_base.specs.World.{Message}
 use Rattle.af_base.proofs.Lookups.{none_some, some_same}
@@ -298,11 +300,14 @@ pub other_queue : (s t : Slab Node) (f o : ℕ) (c : Chain) → SameElsewhere s 
 other_queue s t f o c same off h =
     let p = h.path in
     let keeps = keeps_others s t f c.last o same off c.first c.len p in
-    (record { few = h.few; path = path_kept s t f c.last c.first c.len p keeps }, messages_kept s t f c.last c.first c.len p keeps)
+    let kept = messages_kept s t f c.last c.first c.len p keeps in
+    (record { few = h.few; path = path_kept s t f c.last c.first c.len p keeps; no_files = λ e. ap attached_in kept ∙ h.no_files e }, kept)
 
 -- Where all nodes stay, so does a queue.
 pub same_queue : (s t : Slab Node) (f : ℕ) (c : Chain) → SameValues s t → IsChain s c f → IsChain t c f × (messages_of t c ≡ messages_of s c)
-same_queue s t f c same h = (record { few = h.few; path = path_kept s t f c.last c.first c.len h.path (λ q e. same q) }, messages_kept s t f c.last c.first c.len h.path (λ q e. same q))
+same_queue s t f c same h =
+    let kept = messages_kept s t f c.last c.first c.len h.path (λ q e. same q) in
+    (record { few = h.few; path = path_kept s t f c.last c.first c.len h.path (λ q e. same q); no_files = λ e. ap attached_in kept ∙ h.no_files e }, kept)
 
 -- No message, in a queue of nothing.
 pub none_of : (s : Slab Node) (c : Chain) → c.len ≡ 0 → messages_of s c ≡ []
@@ -310,4 +315,32 @@ none_of s c e = ap (messages_from s c.first) e
 
 -- A chain of length 0 is a chain of any file.
 pub none_chain : (s : Slab Node) (c : Chain) (f : ℕ) → c.len ≡ 0 → IsChain s c f
-none_chain s c f e = record { few = omega (arith, e); path = subst (IsPath s f c.last c.first) (sym e) refl }
+none_chain s c f e = record { few = omega (arith, e); path = subst (IsPath s f c.last c.first) (sym e) refl; no_files = λ _. ap attached_in (none_of s c e) }
+
+-- Where nothing is attached to all messages, nothing is attached to those behind the first.
+pub no_files_behind : (m : Message) (q : List Message) → attached_in (m ∷ q) ≡ [] → attached_in q ≡ []
+no_files_behind m q e = by m.attached e where
+  by : (fs : List ℕ) → fs ++ attached_in q ≡ [] → attached_in q ≡ []
+  by [] none = none
+  by (f ∷ fs) none = let long = ap length none in absurd (omega (arith, long))
+
+-- Nor is anything once their first bytes are gone.
+pub no_files_cut : (n : ℕ) (q : List Message) → attached_in q ≡ [] → attached_in (cut n q) ≡ []
+no_files_cut n [] e = refl
+no_files_cut n (m ∷ q) e = by (no_files_cut (n - length m.bytes) q (no_files_behind m q e)) (nat_le (length m.bytes) n) (nat_lt 0 n) where
+  by : attached_in (cut (n - length m.bytes) q) ≡ [] → (gone some : Bool) → attached_in (if gone then cut (n - length m.bytes) q else if some then record m { bytes = drop n m.bytes; attached = [] } ∷ q else m ∷ q) ≡ []
+  by later true some = later
+  by later false true = no_files_behind m q e
+  by later false false = e
+
+-- A message has no files if the test says so.
+no_files_of : (m : Message) → has_files m ≡ false → m.attached ≡ []
+no_files_of m e = by m.attached e where
+  by : (fs : List ℕ) → nat_lt 0 (length fs) ≡ false → fs ≡ []
+  by [] none = refl
+  by (f ∷ fs) none = let few = ltb-false 0 (length (f ∷ fs)) none in absurd (omega (arith, few))
+
+-- Nor with a message more that has none.
+pub no_files_pushed : (q : List Message) (m : Message) → attached_in q ≡ [] → has_files m ≡ false → attached_in (q ++ m ∷ []) ≡ []
+no_files_pushed q m none e =
+    flat_map-append (λ m. m.attached) q (m ∷ []) ∙ ap (λ fs. fs ++ (m.attached ++ [])) none ∙ ap (λ fs. fs ++ []) (no_files_of m e)

@@ -6,6 +6,7 @@ use Rattle.std.specs.Option.{option_map_or}
 use Rattle.slab.specs.Slab as slots
 use Rattle.slab.specs.Slab.{HasRoomFor, Slab, slab_len}
 use Rattle.af_base.specs.World.{Message}
+use Rattle.af_base.specs.Places.{attached_in}
 use Rattle.af_base.specs.Whole.{IsMessageWithin}
 use Rattle.af_base.specs.declared.limits.TheConstants.{MAX_MESSAGES}
 use Rattle.af_queue.specs.declared.chain.Chain.{Chain}
@@ -38,10 +39,12 @@ IsPath s f l k (suc n) =
     × (list_any (nat_eq k) (keys_from s x.next n) ≡ false) × (n ≡ zero → k ≡ l)
     × IsMessageWithin x.message × IsPath s f l x.next n)
 
--- The nodes of a queue, 64 at most, are linked, and are that file's.
+-- The nodes of a queue, 64 at most, are linked, and are that file's. Files travel with its messages
+-- only if it says so.
 pub record IsChain (s : Slab Node) (c : Chain) (f : ℕ) : Type 0 where
   pub few : c.len ≤ MAX_MESSAGES
   pub path : IsPath s f c.last c.first c.len
+  pub no_files : c.has_files ≡ false → attached_in (messages_of s c) ≡ []
 
 -- The nodes of all other files are as they were.
 abbrev pub SameElsewhere : Slab Node → Slab Node → ℕ → Type 0

@@ -18,6 +18,8 @@ pub struct Chain {
     pub first: u32,
     pub last: u32,
     pub len: u32,
+    /// Whether files may travel with one of them: if not, nobody needs to look at them.
+    pub has_files: bool,
 }
 
 impl Chain {
@@ -29,6 +31,7 @@ impl Chain {
             first: 0,
             last: 0,
             len: 0,
+            has_files: false,
         }
     }
 }

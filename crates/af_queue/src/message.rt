@@ -1,6 +1,7 @@
 //! A message in a queue.
 ghost use Rattle.std.specs.Prelude.{◌≡◌, ◌≤◌, ◌<◌, [], IfOk, length, drop, take, nat_lt};
 ghost use Rattle.smallvec.specs.SmallVec.{small_vec_len};
+ghost use Rattle.af_base.specs.Take.{has_files};
 
 use crate::taken::Taken;
 use af_base::ids::{FileRef, Uid};
@@ -81,6 +82,14 @@ impl Msg {
         ensures bound { length result.now ≤ SCM_MAX_FD }
     {
         self.attached.as_slice()
+    }
+
+    /// Returns whether files travel with it.
+    #[inline(always)]
+    pub fn has_files(&self) -> bool
+        ensures { result ≡ has_files self.now }
+    {
+        !self.attached.is_empty()
     }
 
     /// Returns the user who is charged for its attached files.

@@ -49,6 +49,7 @@ pub fn push(nodes: &mut Slab<Node>, chain: &mut Chain, owner: Ino, message: Msg)
     ensures others { SameElsewhere nodes.old nodes.new owner }
     ensures none_lost { KeepsNodes nodes.old chain.old nodes.new chain.new }
 {
+    let has_files = message.has_files();
     let key = nodes.insert_reserved(Node {
         message,
         owner,
@@ -59,12 +60,14 @@ pub fn push(nodes: &mut Slab<Node>, chain: &mut Chain, owner: Ino, message: Msg)
             first: key,
             last: key,
             len: 1,
+            has_files,
         };
         return;
     }
     link(nodes, chain.last, key);
     chain.last = key;
     chain.len += 1;
+    chain.has_files |= has_files;
 }
 
 /// Links the node at this key to the next one.
