@@ -172,7 +172,7 @@ impl Collector {
     }
 
     /// Returns the live file with the least number from this one on, among those of the pass, and
-    /// its position in the order.
+    /// the position behind it in the order.
     #[inline(always)]
     fn next_from(&self, from: u64) -> Option<(FileRef, usize)>
         ensures live { IfSome result (λ f. IsLive self.now.places.world f.0) }

@@ -596,8 +596,9 @@ impl FileTable {
         self.rows.find(ino)
     }
 
-    /// Returns the least number above this one that has a row, if there is one, and its position in
-    /// the order. This number need not have a row. Behind the last answer it needs no search.
+    /// Returns the least number above this one that has a row, if there is one, and the position
+    /// behind it in the order. This number need not have a row. Behind the last answer it needs no
+    /// search.
     #[inline(always)]
     #[tactic(auto, using(crate::proofs::TrackedTableView::chains, ordered_slab::proofs::Parts::parts))]
     pub fn next_after(&self, ino: Ino, at: usize) -> Option<(FileRef, usize)>

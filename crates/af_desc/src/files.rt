@@ -158,9 +158,9 @@ impl Files {
         self.names.find(name)
     }
 
-    /// Returns the file with the least number above this one, if there is one, and its position in
-    /// the order; from 0 on, the least of all. This number need not be a file's. A walk passes the
-    /// last answer, and needs no search; the position is a hint.
+    /// Returns the file with the least number above this one, if there is one, and the position
+    /// behind it in the order; from 0 on, the least of all. This number need not be a file's. A
+    /// walk passes the last answer, and needs no search; the position is a hint.
     #[inline(always)]
     pub fn next_after(&self, ino: Ino, at: usize) -> Option<(FileRef, usize)>
         ensures above { IfSome result (λ n. ino < n.0) }

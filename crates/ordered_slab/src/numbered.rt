@@ -163,9 +163,9 @@ impl<T> OrderedSlab<T> {
         Some(FileRef::new(ino, key))
     }
 
-    /// Returns the least number above this one that has a value, if there is one, and its position
-    /// in the order. This number need not have a value. A walk passes the last answer, and needs no
-    /// search; the position is a hint.
+    /// Returns the least number above this one that has a value, if there is one, and the position
+    /// behind it in the order. This number need not have a value. A walk passes the last answer,
+    /// and needs no search; the position is a hint.
     #[inline(always)]
     #[tactic(auto, using(crate::proofs::SlabValues::finds))]
     pub fn next_after(&self, ino: Ino, at: usize) -> Option<(FileRef, usize)>

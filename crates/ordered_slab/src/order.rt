@@ -3,8 +3,8 @@
 //! A packing reads `rows` from the front, and moves each live row to the end of `packed`; what it
 //! has read is dead. When all was read, the two lists change places. So a number is live in
 //! `packed` or in the part of `rows` that was not read, and a look-up asks both.
-ghost use Rattle.std.specs.Prelude.{◌≡◌, ℕ, ◌+◌, ◌≤◌, ◌<◌, length, false, true, None, IsTrue, IsOk};
-ghost use Rattle.std.specs.Prelude.{IfSome, IfNone, OnOk, OnErr, Some, ◌++◌, ◌≢◌, is_some, IsSome};
+ghost use Rattle.std.specs.Prelude.{◌≡◌, ◌≢◌, ℕ, ◌+◌, ◌≤◌, ◌<◌, ◌++◌, length, false, true, is_some};
+ghost use Rattle.std.specs.Prelude.{None, Some, IsTrue, IsSome, IfSome, IfNone, IsOk, OnOk, OnErr};
 ghost use Rattle.std.specs.FinMap as map;
 ghost use Rattle.ordered_slab.specs.OrderView.{OrderView};
 ghost use Rattle.ordered_slab.specs.Rows.{live_of, row_at, Rise, IsLiveAt, IsPosition};
