@@ -1,5 +1,6 @@
 //! A list that a clause sees as its list.
-ghost use Rattle.std.specs.Prelude.{◌≡◌, ◌↔◌, ◌+◌, ◌≤◌, ◌∷◌, ◌++◌, IfOk, IsTrue, OnErr, OnOk, [], drop, length, take};
+ghost use Rattle.std.specs.Prelude.{◌≡◌, ◌↔◌, ◌+◌, ◌≤◌, ◌∷◌, ◌++◌, [], drop, length, take};
+ghost use Rattle.std.specs.Prelude.{IfOk, IsTrue, OnErr, OnOk};
 
 use crate::ids::Fd;
 use smallvec::SmallVec;

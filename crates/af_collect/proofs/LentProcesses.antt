@@ -5,6 +5,7 @@ use Rattle.std.specs.Option.{option_map_or}
 use Rattle.std.specs.FinMap as map
 use Rattle.af_base.specs.World.{Map, Process}
 use Rattle.af_base.specs.Changes.{change_at}
+use Rattle.af_base.proofs.Lookups.{insert-here}
 use Rattle.af_base.proofs.Trees.{insert_same}
 use Rattle.af_desc.specs.FilesView.{FilesView}
 use Rattle.af_ledger.specs.Tally.{kept_of}
@@ -12,6 +13,7 @@ use Rattle.af_table.specs.Lending.{with_process}
 use Rattle.af_table.specs.Procs.{Procs}
 use Rattle.af_table.specs.Slots.{ProcessView}
 use Rattle.af_collect.proofs.Exact.{world-is}
+use Rattle.af_collect.proofs.ProcessTables.{insert_twice}
 use Rattle.af_collect.proofs.StoreInvariant.{BothInvariants, both-same, shown}
 use Rattle.af_collect.specs.HoldingsView.{world_of}
 use Rattle.af_collect.specs.StoreView.{StoreView}
@@ -26,6 +28,10 @@ back-same m p q v at is = ap (map.insert m p) is ∙ insert_same m p q at
 -- Where it is written back with a change, it is changed.
 pub back-changed : (g : Process → Process) (m : Map Process) (p : ℕ) (q v : Process) → map.get m p ≡ Some q → v ≡ g q → map.insert m p v ≡ change_at g m p
 back-changed g m p q v at is = ap (map.insert m p) is ∙ sym (ap (λ o. option_map_or (λ x. map.insert m p (g x)) o m) at)
+
+-- Where a process that was written back is changed again, the last change counts.
+pub back-again : (g : Process → Process) (m : Map Process) (p : ℕ) (q v : Process) → v ≡ g q → map.insert m p v ≡ change_at g (map.insert m p q) p
+back-again g m p q v is = sym (insert_twice m p q v) ∙ back-changed g (map.insert m p q) p q v (insert-here m p q) is
 
 module _ (p : Collector) (h : Inside) (procs : Procs) (processes : procs.processes ≡ h.procs.processes) (next : procs.next_pid ≡ h.procs.next_pid) where
   -- Where the processes are as they were, the invariants hold as before.

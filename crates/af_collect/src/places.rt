@@ -201,7 +201,8 @@ impl Store {
 
     /// Takes from a queue, into an empty result, what a receive of at most `max` bytes gives
     /// (recvmsg(2)): installs its first files at these descriptors, the lowest free ones, and drops
-    /// all its places in the queue. Takes memory before any change: on an error nothing has changed.
+    /// all its places in the queue. Takes memory before any change: on an error nothing has
+    /// changed.
     pub fn take_msg(
         &mut self,
         socket: &FileRef,

@@ -15,8 +15,8 @@ use af_desc::Files;
 use af_ledger::Place;
 use af_table::{Process, Procs};
 
-/// Installs files at these descriptors of a process, in order, as long as there are both. Each
-/// descriptor has room, and each file has counts.
+/// Installs files at these descriptors of a known process, in order, as long as there are both.
+/// Each descriptor has room, and each file has counts.
 #[inline(always)]
 pub fn table_in_all(
     procs: &mut Procs,
@@ -25,6 +25,7 @@ pub fn table_in_all(
     fds: &[Fd],
     attached: &[FileRef],
 )
+    requires there { IsTrue (map.contains_key procs.old.processes pid) }
     requires row { All (λ n. n < row_in procs.old.rows pid) fds.now }
     requires known { (f : ℕ) → Contains attached.now f
         → IsTrue (map.contains_key files.old.counts f) }
@@ -38,9 +39,13 @@ pub fn table_in_all(
         (mapped (λ e. e.1) (zip fds.now attached.now)) (kept_of files.old.counts c) }
     ensures rest { files.new ≡ record files.old { counts = files.new.counts } }
 {
+    if attached.is_empty() {
+        return;
+    }
+    let process = procs.find_mut(pid).unwrap();
     for (fd, file) in fds.iter().zip(attached) {
         files.hold(&Place::Table, file);
-        procs.install(pid, *fd, file.duplicate());
+        process.install(*fd, file.duplicate());
     }
 }
 

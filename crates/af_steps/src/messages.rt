@@ -1,6 +1,6 @@
 //! Steps that send and receive.
-ghost use Rattle.std.specs.Prelude.{◌≡◌, ◌≤◌, [], Some, None, IfOk, IfErr, OnOk, length, filter_map};
-ghost use Rattle.std.specs.Prelude.{IfNone, IfSome, is_none, nat_lt};
+ghost use Rattle.std.specs.Prelude.{◌≡◌, ◌≤◌, [], Some, None, IfOk, IfErr, OnOk, length};
+ghost use Rattle.std.specs.Prelude.{IfNone, IfSome, filter_map, is_none, nat_lt};
 ghost use Rattle.std.specs.FinMap as map;
 ghost use Rattle.af_base.specs.Changes.{push_message};
 ghost use Rattle.af_base.specs.Pass.{SamePass};
@@ -157,9 +157,9 @@ impl Engine {
         Ok(count)
     }
 
-    /// Returns the socket that a receive or a peek takes from, and fills an empty list with the free
-    /// descriptors at which it installs files; `None` where nothing is left to receive, and the peer
-    /// is gone. The refusals are those of `recv`.
+    /// Returns the socket that a receive or a peek takes from, and fills an empty list with the
+    /// free descriptors at which it installs files; `None` where nothing is left to receive, and
+    /// the peer is gone. The refusals are those of `recv`.
     #[inline(always)]
     fn prepare_receive(
         &self,

@@ -12,6 +12,9 @@ use Rattle.af_collect.proofs.ReceiveNeeds.{files-fit, files-known, receives-with
 use Rattle.af_collect.proofs.StoreInvariant.{BothInvariants, both-same, seen-changed, shown, stood}
 use Rattle.af_collect.proofs.store.Store.peek_msg.Goals as goal
 
+pub table_in_all-requires-clause-there : goal.table_in_all-requires-clause-there
+table_in_all-requires-clause-there c = (receives-within c.self.inside.parts c.places.inside _ c.places.view_is c.self.view_is c.args.socket.now c.args.max c.args.pid c.args.fds.now c.requires).1
+
 pub table_in_all-requires-clause-known : goal.table_in_all-requires-clause-known
 table_in_all-requires-clause-known c = files-known c.self.inside.parts c.places.inside _ c.places.view_is c.self.view_is c.args.socket.now c.args.max c.args.pid c.args.fds.now c.requires
     c.places.invariant _ refl _ (c.attached.ensures.value ∙ ap (λ t. t.message.attached) c.in_ok-seen.ensures)
