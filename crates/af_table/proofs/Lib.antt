@@ -1,4 +1,5 @@
 pub mod Words
+pub mod Blanks
 pub mod Tables
 pub mod FreeNumbers
 pub mod Parts

@@ -12,6 +12,7 @@ use Rattle.std.proofs.lemmas.Option.{slice_get-get_or}
 use Rattle.af_base.proofs.Lookups.{told_apart, insert-here, insert-other, remove-here, remove-other}
 use Rattle.af_table.specs.Bits.{is_taken}
 use Rattle.af_table.specs.Slots.{table_from, table_of, NoneFrom}
+use Rattle.af_table.proofs.Blanks.{blank_at, blank_none, blank_cut, blank_installed, blank_taken_out}
 
 -- Nothing where neither has something.
 neither : (b : Bool) (o : Option ℕ) → o ≡ None → cond b o None ≡ None
@@ -163,14 +164,14 @@ installed ws vs fs n f h bits = same_table vs _ _ (λ q. by q (nat_eq q n) refl)
       ap (λ b. cond b (slice_get (slice_set fs n f) q) None) kept ∙ ap (λ o. cond (is_taken ws q) o None) (slice_get-set_other fs n q f (eqb-false q n e)) ∙ sym (insert-other (table_of ws fs) n f q e ∙ table_at ws fs q)
 
 -- And out of it.
-pub taken_out : (ws vs fs : List ℕ) (n : ℕ) → ((q : ℕ) → is_taken vs q ≡ cond (nat_eq q n) false (is_taken ws q)) → table_of vs fs ≡ map.remove (table_of ws fs) n
-taken_out ws vs fs n bits = same_table vs _ _ (λ q. by q (nat_eq q n) refl) where
-  by : (q : ℕ) (b : Bool) → nat_eq q n ≡ b → cond (is_taken vs q) (slice_get fs q) None ≡ map.get (map.remove (table_of ws fs) n) q
+pub taken_out : (ws vs fs : List ℕ) (n f : ℕ) → ((q : ℕ) → is_taken vs q ≡ cond (nat_eq q n) false (is_taken ws q)) → table_of vs (slice_set fs n f) ≡ map.remove (table_of ws fs) n
+taken_out ws vs fs n f bits = same_table vs _ _ (λ q. by q (nat_eq q n) refl) where
+  by : (q : ℕ) (b : Bool) → nat_eq q n ≡ b → cond (is_taken vs q) (slice_get (slice_set fs n f) q) None ≡ map.get (map.remove (table_of ws fs) n) q
   by q true e =
       let clear : is_taken vs q ≡ false = bits q ∙ ap (λ b. cond b false (is_taken ws q)) e in
-      ap (λ b. cond b (slice_get fs q) None) clear ∙ sym (ap (map.get (map.remove (table_of ws fs) n)) (eqb-true q n e) ∙ remove-here (table_of ws fs) n)
+      ap (λ b. cond b (slice_get (slice_set fs n f) q) None) clear ∙ sym (ap (map.get (map.remove (table_of ws fs) n)) (eqb-true q n e) ∙ remove-here (table_of ws fs) n)
   by q false e =
       let kept : is_taken vs q ≡ is_taken ws q = bits q ∙ ap (λ b. cond b false (is_taken ws q)) e in
-      ap (λ b. cond b (slice_get fs q) None) kept ∙ sym (remove-other (table_of ws fs) n q e ∙ table_at ws fs q)
+      ap (λ b. cond b (slice_get (slice_set fs n f) q) None) kept ∙ ap (λ o. cond (is_taken ws q) o None) (slice_get-set_other fs n q f (eqb-false q n e)) ∙ sym (remove-other (table_of ws fs) n q e ∙ table_at ws fs q)
 
-pub ruleset table_changes = (table_clear, table_set, taken_low, installed, taken_out, none_there, resized, cut, no_slots)
+pub ruleset table_changes = (table_clear, table_set, taken_low, installed, taken_out, none_there, resized, cut, no_slots, blank_at, blank_none, blank_cut, blank_installed, blank_taken_out)

@@ -1,6 +1,6 @@
 -- A table in a row of slots under bits, and a process with its table. Definitions that name no
 -- manual page are of this project's profile (docs/PROFILE.md).
-use Rattle.std.specs.Prelude.{◌≡◌, ℕ, ◌+◌, ◌≤◌, List, [], ◌∷◌, false, if◌then◌else◌}
+use Rattle.std.specs.Prelude.{◌≡◌, ℕ, ◌+◌, ◌≤◌, List, [], ◌∷◌, false, if◌then◌else◌, slice_index_or}
 use Rattle.std.specs.FinMap as map
 use Rattle.af_base.specs.World.{Map, Process}
 use Rattle.af_table.specs.Bits.{is_taken}
@@ -23,3 +23,7 @@ pub record ProcessView : Type 0 where
 -- No bit is set from n on.
 abbrev pub NoneFrom : ℕ → List ℕ → Type 0
 NoneFrom n words = (q : ℕ) → n ≤ q → is_taken words q ≡ false
+
+-- The slot of each free number is 0, which is no file's number.
+abbrev pub AreBlank : List ℕ → List ℕ → Type 0
+AreBlank words slots = (q : ℕ) → is_taken words q ≡ false → slice_index_or slots q 0 ≡ 0

@@ -1,9 +1,10 @@
 //! A process with its table.
 ghost use Rattle.std.specs.Prelude.{◌≡◌, ℕ, ◌+◌, ◌≤◌, ◌<◌, [], ◌∷◌, length, slice_get, IfSome};
-ghost use Rattle.std.specs.Prelude.{IsTrue, IfNone, IfOk, OnOk, OnErr, IsOk};
+ghost use Rattle.std.specs.Prelude.{IsTrue, IfNone, IfOk, OnOk, OnErr, IsOk, false};
 ghost use Rattle.std.specs.FinMap as map;
 ghost use Rattle.af_base.specs.Changes.{installed, limited, taken_out};
 ghost use Rattle.af_base.specs.Table.{free_numbers, lowest_free};
+ghost use Rattle.af_table.specs.Bits.{is_taken};
 ghost use Rattle.af_table.specs.Free.{free_from};
 
 use crate::bits::Bits;
@@ -15,7 +16,8 @@ use std::marker::Model;
 use std::mem;
 
 /// A process: bit n says whether descriptor n is open, and slot n has its file if it is. The slot
-/// of a free descriptor says nothing. Only `make_room` adds slots, so an install takes no memory.
+/// of a free descriptor is blank: its number is 0, which is no file's. So a slot with a file tells
+/// without its bit. Only `make_room` adds slots, so an install takes no memory.
 #[derive(Drop)]
 pub struct Process {
     user: Uid,
@@ -30,7 +32,7 @@ impl Model for Process {
     ghost use Rattle.std.specs.FinMap as map;
     ghost use Rattle.std.specs.Coded.{codes};
     ghost use Rattle.af_base.specs.declared.limits.TheConstants.{MAX_NOFILE};
-    ghost use Rattle.af_table.specs.Slots.{ProcessView, table_of, NoneFrom};
+    ghost use Rattle.af_table.specs.Slots.{ProcessView, table_of, AreBlank, NoneFrom};
 
     ghost Value = { ProcessView };
 
@@ -47,7 +49,7 @@ impl Model for Process {
     } };
 
     ghost invariant = { λ a. (vec_len a.slots ≤ MAX_NOFILE) × (a.limit ≤ MAX_NOFILE)
-        × NoneFrom (vec_len a.slots) a.taken.words };
+        × NoneFrom (vec_len a.slots) a.taken.words × AreBlank a.taken.words a.slots.items };
 }
 
 impl Process {
@@ -121,10 +123,11 @@ impl Process {
     pub fn lookup(&self, fd: Fd) -> Option<FileRef>
         ensures { result ≡ map.get self.now.process.table fd }
     {
-        if !self.taken.has(fd.0) {
+        let slot = self.slots.get(fd.0 as usize)?;
+        if !is_open(&self.taken, fd, slot) {
             return None;
         }
-        Some(self.slots[fd.0 as usize].duplicate())
+        Some(slot.duplicate())
     }
 
     /// Makes room for each descriptor below the limit, and adds none above it.
@@ -154,8 +157,7 @@ impl Process {
         ensures ok { OnOk result (self.new.row ≡ self.old.process.limit) }
         ensures err { OnErr result (self.new ≡ self.old) }
     {
-        self.slots
-            .resize_with(self.limit as usize, || FileRef::new(Ino(0), 0))
+        self.slots.resize_with(self.limit as usize, blank)
     }
 
     /// Sets its limit. Open descriptors stay open, also at or above the limit.
@@ -189,7 +191,7 @@ impl Process {
             ≡ record self.old { process = installed fd file self.old.process } }
     {
         let was = mem::replace(&mut self.slots[fd.0 as usize], file);
-        if self.taken.has(fd.0) {
+        if is_open(&self.taken, fd, &was) {
             return Some(was);
         }
         self.taken.set(fd.0);
@@ -204,6 +206,7 @@ impl Process {
         ensures taken { self.new ≡ record self.old { process = taken_out fd self.old.process } }
     {
         let was = self.lookup(fd)?;
+        self.slots[fd.0 as usize] = blank();
         self.taken.clear(fd.0);
         Some(was)
     }
@@ -294,6 +297,23 @@ impl Process {
         let behind = self.taken.next(first, end, false).unwrap_or(end);
         &self.slots[first as usize..behind as usize]
     }
+}
+
+/// Returns a blank slot.
+#[inline(always)]
+fn blank() -> FileRef
+    ensures { result ≡ 0 }
+{
+    FileRef::new(Ino(0), 0)
+}
+
+/// Returns whether the descriptor is open, which has this slot.
+#[inline(always)]
+fn is_open(taken: &Bits, fd: Fd, slot: &FileRef) -> bool
+    requires { is_taken taken.now.words fd ≡ false → slot.now ≡ 0 }
+    ensures { result ≡ is_taken taken.now.words fd }
+{
+    slot.ino().0 != 0 || taken.has(fd.0)
 }
 
 /// Returns the row with copies of these files in place of what it had.
